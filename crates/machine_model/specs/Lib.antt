@@ -1,0 +1,5 @@
+pub mod Memory
+pub mod Access
+pub mod Arithmetic
+pub mod Effects
+pub mod States

@@ -1,0 +1,10 @@
+//! What a program's machine is: its memory, what each instruction does, its states and its runs.
+#![tactic(auto)]
+
+mod access;
+mod reply;
+mod stop;
+
+pub use access::{BusFault, Rights, Width};
+pub use reply::Reply;
+pub use stop::{Cause, Stop};

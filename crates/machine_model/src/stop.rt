@@ -1,0 +1,29 @@
+//! Where a run stops.
+
+/// Why an instruction traps. The numbers are those that an ended process tells.
+#[derive(Clone, Copy, Debug, PartialEq, Eq)]
+pub enum Cause {
+    /// The word means no instruction.
+    Illegal = 1,
+    /// A jump, or a branch that is taken, to an address that is no multiple of 4.
+    MisalignedTarget = 2,
+    /// A load or a store at an address that is no multiple of its width.
+    MisalignedData = 3,
+    /// A load or a store where no page is, or where the page lacks the right.
+    PageFault = 4,
+    /// No page at the program counter, or one that may not be executed.
+    FetchFault = 5,
+    /// EBREAK.
+    Breakpoint = 6,
+}
+
+/// Where a run stops.
+#[derive(Clone, Copy, Debug, PartialEq, Eq)]
+pub enum Stop {
+    /// All instructions that it might do were done.
+    Limit,
+    /// The machine stands at a call, ECALL.
+    Call,
+    /// The machine stands at an instruction that traps.
+    Trap(Cause),
+}
