@@ -29,7 +29,7 @@ unfolding map_below
 get-map_below zero f q = get-empty nat_cmp q ∙ sym (none_below q f)
 get-map_below (suc n) f q =
     get-with_cell (map_below n f) n (f n) q (get-map_below n f n ∙ ap (λ b. cond b (f n) None) (not_below n))
-      ∙ ap (cond (q == n) (f n)) (get-map_below n f q) ∙ one_below q n f
+    ∙ ap (cond (q == n) (f n)) (get-map_below n f q) ∙ one_below q n f
 
 -- what stands at an address of a memory made from a function
 pub get-memory_of : (f : ℕ → Option Cell) (q : ℕ) → get (memory_of f) q ≡ cond (nat_lt q (2 ^ 32)) (f q) None

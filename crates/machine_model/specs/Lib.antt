@@ -3,3 +3,4 @@ pub mod Access
 pub mod Arithmetic
 pub mod Effects
 pub mod States
+pub mod Steps

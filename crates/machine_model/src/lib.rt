@@ -2,9 +2,11 @@
 #![tactic(auto)]
 
 mod access;
+mod laws;
 mod reply;
 mod stop;
 
 pub use access::{BusFault, Rights, Width};
+pub use laws::{runs, steps};
 pub use reply::Reply;
 pub use stop::{Cause, Stop};

@@ -1,0 +1,31 @@
+//! The run of a loan.
+ghost use Rattle.std.specs.Prelude.{◌≡◌};
+
+use kernel::{Done, Loan};
+
+/// Runs a lent machine, at most its quantum of instructions, and answers what came of it. It waits for nobody and takes no
+/// memory.
+pub fn run_loan(loan: Loan) -> Done
+    ensures pid { result.pid ≡ loan.pid }
+    ensures turn { result.turn ≡ loan.turn }
+    ensures quantum { result.quantum ≡ loan.quantum }
+    ensures began { result.began ≡ loan.began }
+{
+    let Loan {
+        pid,
+        turn,
+        quantum,
+        began,
+        mut machine,
+    } = loan;
+    let (count, stop) = machine.run(quantum);
+    Done {
+        pid,
+        turn,
+        quantum,
+        began,
+        machine,
+        count,
+        stop,
+    }
+}

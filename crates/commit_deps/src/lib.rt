@@ -1,0 +1,9 @@
+//! The changes on which each event rests, carried by what events write and read.
+#![tactic(auto)]
+
+mod dependencies;
+mod mark;
+
+pub use dependencies::Dependencies;
+pub use kernel_model::Carrier;
+pub use mark::{Mark, front};

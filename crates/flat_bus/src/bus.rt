@@ -1,0 +1,94 @@
+//! The memory, as a bus.
+ghost use Rattle.std.specs.Prelude.{◌≡◌, ◌+◌, ◌%◌, ◌==◌, ◌≤◌, length};
+ghost use Rattle.machine_model.specs.Access.{size, low_bytes};
+ghost use Rattle.flat_bus.specs.Bytes.{memory_of_bytes, value_of, put_in};
+
+use isa_table::Bus;
+use machine_model::{BusFault, Width};
+
+/// Sixty-four bytes from address 0 on, each of which may be read, written and executed.
+#[derive(Drop)]
+pub struct FlatBus {
+    pub bytes: [u8; 64],
+}
+
+/// Whether an address is a multiple of a width.
+fn is_aligned(at: u32, width: Width) -> bool
+    ensures { result ≡ (at % size width == 0) }
+{
+    match width {
+        Width::Byte => true,
+        Width::Half => at % 2 == 0,
+        Width::Word => at % 4 == 0,
+    }
+}
+
+/// The first address after the bytes.
+fn end(bytes: &[u8; 64]) -> u32
+    ensures len { result ≡ length bytes.now }
+    ensures value { result ≡ 64 }
+{
+    bytes.len() as u32
+}
+
+/// The number that the bytes at an address spell.
+fn read(bytes: &[u8; 64], at: u32, width: Width) -> u32
+    requires { at + size width ≤ 64 }
+    ensures { result ≡ value_of bytes.now at (size width) }
+{
+    let k = at as usize;
+    match width {
+        Width::Byte => u32::from(bytes[k]),
+        Width::Half => u32::from(bytes[k]) + 256 * u32::from(bytes[k + 1]),
+        Width::Word => {
+            u32::from(bytes[k])
+                + 256 * (u32::from(bytes[k + 1]) + 256 * (u32::from(bytes[k + 2]) + 256 * u32::from(bytes[k + 3])))
+        }
+    }
+}
+
+/// Puts the low bytes of a value at an address.
+fn write(bytes: &mut [u8; 64], at: u32, width: Width, value: u32)
+    requires { at + size width ≤ 64 }
+    ensures { bytes.new ≡ put_in bytes.old at (low_bytes (size width) value) }
+{
+    let k = at as usize;
+    match width {
+        Width::Byte => bytes[k] = (value % 256) as u8,
+        Width::Half => {
+            bytes[k] = (value % 256) as u8;
+            bytes[k + 1] = (value / 256 % 256) as u8;
+        }
+        Width::Word => {
+            bytes[k] = (value % 256) as u8;
+            bytes[k + 1] = (value / 256 % 256) as u8;
+            bytes[k + 2] = (value / 256 / 256 % 256) as u8;
+            bytes[k + 3] = (value / 256 / 256 / 256 % 256) as u8;
+        }
+    }
+}
+
+impl Bus for FlatBus {
+    ghost memory = { λ bus. memory_of_bytes bus.bytes };
+
+    fn load(&self, at: u32, width: Width) -> Result<u32, BusFault> {
+        if !is_aligned(at, width) {
+            return Err(BusFault::Misaligned);
+        }
+        if at >= end(&self.bytes) {
+            return Err(BusFault::Unmapped);
+        }
+        Ok(read(&self.bytes, at, width))
+    }
+
+    fn store(&mut self, at: u32, width: Width, value: u32) -> Result<(), BusFault> {
+        if !is_aligned(at, width) {
+            return Err(BusFault::Misaligned);
+        }
+        if at >= end(&self.bytes) {
+            return Err(BusFault::Unmapped);
+        }
+        write(&mut self.bytes, at, width, value);
+        Ok(())
+    }
+}

@@ -1,0 +1,3 @@
+-- The lemmas.
+pub mod Rows
+pub mod Spelling

@@ -1,0 +1,287 @@
+//! What each instruction does to the registers and a memory.
+ghost use Rattle.std.specs.Prelude.{◌≡◌, ◌+◌, ◌*◌, ◌%◌, ◌^◌, slice_index};
+ghost use Rattle.machine_model.specs.Access.{size};
+ghost use Rattle.machine_model.specs.Arithmetic as model;
+ghost use Rattle.machine_model.specs.Effects as effects;
+ghost use Rattle.machine_model.specs.Effects.{effect, put, fault_cause, links, branches, loads, stores, as_it_is};
+ghost use Rattle.machine_model.specs.Memory.{Memory};
+ghost use Rattle.machine_model.specs.States.{hart};
+ghost use Rattle.isa_table.specs.Executes.{Executes};
+
+use crate::arithmetic::{
+    high_product, high_product_mixed, high_product_signed, is_less_signed, moved, quotient,
+    quotient_signed, remainder, remainder_signed, shifted_right_signed, sign_extended, word_of,
+};
+use crate::bus::Bus;
+use crate::regs::Regs;
+use formats::{BranchOffset, Immediate, Instr, Reg};
+use machine_model::{BusFault, Cause, Width};
+
+/// What an instruction came to.
+#[derive(Clone, Copy, Debug, PartialEq, Eq)]
+pub enum Outcome {
+    /// It is done, and the next instruction follows.
+    Next,
+    /// It is ECALL. Nothing changed.
+    Call,
+    /// It traps. Nothing changed.
+    Trap(Cause),
+}
+
+/// The next instruction follows.
+#[inline]
+fn advance(regs: &mut Regs) -> Outcome
+    ensures answer { result ≡ Outcome.Next }
+    ensures x { regs.new.x ≡ regs.old.x }
+    ensures pc { regs.new.pc ≡ (regs.old.pc + 4) % 2 ^ 32 }
+{
+    regs.pc = regs.pc.wrapping_add(4);
+    Outcome::Next
+}
+
+/// A register gets a value, and the next instruction follows.
+#[inline]
+fn write(regs: &mut Regs, rd: Reg, value: u32) -> Outcome
+    ensures answer { result ≡ Outcome.Next }
+    ensures x { regs.new.x ≡ put regs.old.x rd value }
+    ensures pc { regs.new.pc ≡ (regs.old.pc + 4) % 2 ^ 32 }
+{
+    regs.set(rd, value);
+    advance(regs)
+}
+
+/// A register's value and an offset.
+#[inline]
+fn address(regs: &Regs, base: Reg, offset: Immediate) -> u32
+    ensures { result ≡ effects.moved (slice_index regs.now.x base) offset }
+{
+    moved(regs.get(base), offset.value())
+}
+
+/// The address of the next instruction goes to a register, and the program counter to a target.
+#[inline]
+fn link(regs: &mut Regs, rd: Reg, target: u32) -> Outcome
+    ensures { (m : Memory) → Executes
+        (links (hart regs.old.x regs.old.pc m) rd target)
+        result
+        (hart regs.old.x regs.old.pc m)
+        (hart regs.new.x regs.new.pc m) }
+{
+    let next = regs.pc.wrapping_add(4);
+    if target % 4 != 0 {
+        return Outcome::Trap(Cause::MisalignedTarget);
+    }
+    regs.set(rd, next);
+    regs.pc = target;
+    Outcome::Next
+}
+
+/// To the program counter plus an offset if the test holds, else to the next instruction.
+#[inline]
+fn branch(regs: &mut Regs, is_taken: bool, offset: BranchOffset) -> Outcome
+    ensures { (m : Memory) → Executes
+        (branches (hart regs.old.x regs.old.pc m) is_taken offset)
+        result
+        (hart regs.old.x regs.old.pc m)
+        (hart regs.new.x regs.new.pc m) }
+{
+    if !is_taken {
+        return advance(regs);
+    }
+    let target = moved(regs.pc, offset.value());
+    if target % 4 != 0 {
+        return Outcome::Trap(Cause::MisalignedTarget);
+    }
+    regs.pc = target;
+    Outcome::Next
+}
+
+/// Why an instruction traps at a fault.
+#[inline]
+fn cause_of(fault: BusFault) -> Cause
+    ensures { result ≡ fault_cause fault }
+{
+    match fault {
+        BusFault::Misaligned => Cause::MisalignedData,
+        BusFault::Unmapped | BusFault::NoRight => Cause::PageFault,
+    }
+}
+
+/// A register gets what stands at an address.
+#[inline]
+fn load<B: Bus>(regs: &mut Regs, bus: &B, rd: Reg, at: u32, width: Width) -> Outcome
+    ensures { Executes
+        (loads (hart regs.old.x regs.old.pc (B.memory bus.now)) rd at width as_it_is)
+        result
+        (hart regs.old.x regs.old.pc (B.memory bus.now))
+        (hart regs.new.x regs.new.pc (B.memory bus.now)) }
+{
+    match bus.load(at, width) {
+        Ok(value) => write(regs, rd, value),
+        Err(fault) => Outcome::Trap(cause_of(fault)),
+    }
+}
+
+/// A register gets what stands at an address, whose highest bit is a sign.
+#[inline]
+fn load_signed<B: Bus>(regs: &mut Regs, bus: &B, rd: Reg, at: u32, width: Width) -> Outcome
+    ensures { Executes
+        (loads (hart regs.old.x regs.old.pc (B.memory bus.now)) rd at width (model.sign_extended (8 * size width)))
+        result
+        (hart regs.old.x regs.old.pc (B.memory bus.now))
+        (hart regs.new.x regs.new.pc (B.memory bus.now)) }
+{
+    match bus.load(at, width) {
+        Ok(value) => write(regs, rd, sign_extended(value, width)),
+        Err(fault) => Outcome::Trap(cause_of(fault)),
+    }
+}
+
+/// The low bytes of a register go to an address.
+#[inline]
+fn store<B: Bus>(regs: &mut Regs, bus: &mut B, rs2: Reg, at: u32, width: Width) -> Outcome
+    ensures { Executes
+        (stores (hart regs.old.x regs.old.pc (B.memory bus.old)) at width (slice_index regs.old.x rs2))
+        result
+        (hart regs.old.x regs.old.pc (B.memory bus.old))
+        (hart regs.new.x regs.new.pc (B.memory bus.new)) }
+{
+    match bus.store(at, width, regs.get(rs2)) {
+        Ok(()) => advance(regs),
+        Err(fault) => Outcome::Trap(cause_of(fault)),
+    }
+}
+
+/// Does one instruction (RISC-V Unprivileged ISA 20191213, chapters 2 and 7). At a call or a trap neither the registers
+/// nor the memory changed.
+#[inline]
+pub fn exec<B: Bus>(regs: &mut Regs, bus: &mut B, i: Instr) -> Outcome
+    ensures { Executes
+        (effect i (hart regs.old.x regs.old.pc (B.memory bus.old)))
+        result
+        (hart regs.old.x regs.old.pc (B.memory bus.old))
+        (hart regs.new.x regs.new.pc (B.memory bus.new)) }
+{
+    exec_ref(regs, bus, &i)
+}
+
+/// The same of an instruction that stands in a table: faster, since an arm then reads only the fields that it uses.
+#[inline]
+#[tactic(auto, unfolding(machine_model::specs::Effects::effect))]
+pub fn exec_ref<B: Bus>(regs: &mut Regs, bus: &mut B, i: &Instr) -> Outcome
+    ensures { Executes
+        (effect i.now (hart regs.old.x regs.old.pc (B.memory bus.old)))
+        result
+        (hart regs.old.x regs.old.pc (B.memory bus.old))
+        (hart regs.new.x regs.new.pc (B.memory bus.new)) }
+{
+    match *i {
+        Instr::Lui { rd, imm } => write(regs, rd, imm.value() << 12),
+        Instr::Auipc { rd, imm } => write(regs, rd, regs.pc.wrapping_add(imm.value() << 12)),
+        Instr::Jal { rd, offset } => link(regs, rd, moved(regs.pc, offset.value())),
+        Instr::Jalr { rd, rs1, imm } => {
+            let target = address(regs, rs1, imm);
+            link(regs, rd, target - target % 2)
+        }
+        Instr::Beq { rs1, rs2, offset } => branch(regs, regs.get(rs1) == regs.get(rs2), offset),
+        Instr::Bne { rs1, rs2, offset } => branch(regs, regs.get(rs1) != regs.get(rs2), offset),
+        Instr::Blt { rs1, rs2, offset } => branch(
+            regs,
+            is_less_signed(regs.get(rs1), regs.get(rs2)),
+            offset,
+        ),
+        Instr::Bge { rs1, rs2, offset } => branch(
+            regs,
+            !is_less_signed(regs.get(rs1), regs.get(rs2)),
+            offset,
+        ),
+        Instr::Bltu { rs1, rs2, offset } => branch(regs, regs.get(rs1) < regs.get(rs2), offset),
+        Instr::Bgeu { rs1, rs2, offset } => branch(regs, regs.get(rs1) >= regs.get(rs2), offset),
+        Instr::Lb { rd, rs1, imm } => load_signed(
+            regs,
+            bus,
+            rd,
+            address(regs, rs1, imm),
+            Width::Byte,
+        ),
+        Instr::Lh { rd, rs1, imm } => load_signed(
+            regs,
+            bus,
+            rd,
+            address(regs, rs1, imm),
+            Width::Half,
+        ),
+        Instr::Lw { rd, rs1, imm } => load(regs, bus, rd, address(regs, rs1, imm), Width::Word),
+        Instr::Lbu { rd, rs1, imm } => load(regs, bus, rd, address(regs, rs1, imm), Width::Byte),
+        Instr::Lhu { rd, rs1, imm } => load(regs, bus, rd, address(regs, rs1, imm), Width::Half),
+        Instr::Sb { rs1, rs2, imm } => store(regs, bus, rs2, address(regs, rs1, imm), Width::Byte),
+        Instr::Sh { rs1, rs2, imm } => store(regs, bus, rs2, address(regs, rs1, imm), Width::Half),
+        Instr::Sw { rs1, rs2, imm } => store(regs, bus, rs2, address(regs, rs1, imm), Width::Word),
+        Instr::Addi { rd, rs1, imm } => write(regs, rd, regs.get(rs1).wrapping_add(word_of(imm))),
+        Instr::Slti { rd, rs1, imm } => write(
+            regs,
+            rd,
+            u32::from(is_less_signed(regs.get(rs1), word_of(imm))),
+        ),
+        Instr::Sltiu { rd, rs1, imm } => write(regs, rd, u32::from(regs.get(rs1) < word_of(imm))),
+        Instr::Xori { rd, rs1, imm } => write(regs, rd, regs.get(rs1) ^ word_of(imm)),
+        Instr::Ori { rd, rs1, imm } => write(regs, rd, regs.get(rs1) | word_of(imm)),
+        Instr::Andi { rd, rs1, imm } => write(regs, rd, regs.get(rs1) & word_of(imm)),
+        Instr::Slli { rd, rs1, amount } => write(regs, rd, regs.get(rs1) << amount.value()),
+        Instr::Srli { rd, rs1, amount } => write(regs, rd, regs.get(rs1) >> amount.value()),
+        Instr::Srai { rd, rs1, amount } => write(
+            regs,
+            rd,
+            shifted_right_signed(regs.get(rs1), u32::from(amount.value())),
+        ),
+        Instr::Add { rd, rs1, rs2 } => write(regs, rd, regs.get(rs1).wrapping_add(regs.get(rs2))),
+        Instr::Sub { rd, rs1, rs2 } => write(regs, rd, regs.get(rs1).wrapping_sub(regs.get(rs2))),
+        Instr::Sll { rd, rs1, rs2 } => write(regs, rd, regs.get(rs1) << (regs.get(rs2) % 32)),
+        Instr::Slt { rd, rs1, rs2 } => write(
+            regs,
+            rd,
+            u32::from(is_less_signed(regs.get(rs1), regs.get(rs2))),
+        ),
+        Instr::Sltu { rd, rs1, rs2 } => write(regs, rd, u32::from(regs.get(rs1) < regs.get(rs2))),
+        Instr::Xor { rd, rs1, rs2 } => write(regs, rd, regs.get(rs1) ^ regs.get(rs2)),
+        Instr::Srl { rd, rs1, rs2 } => write(regs, rd, regs.get(rs1) >> (regs.get(rs2) % 32)),
+        Instr::Sra { rd, rs1, rs2 } => write(
+            regs,
+            rd,
+            shifted_right_signed(regs.get(rs1), regs.get(rs2) % 32),
+        ),
+        Instr::Or { rd, rs1, rs2 } => write(regs, rd, regs.get(rs1) | regs.get(rs2)),
+        Instr::And { rd, rs1, rs2 } => write(regs, rd, regs.get(rs1) & regs.get(rs2)),
+        Instr::Mul { rd, rs1, rs2 } => write(regs, rd, regs.get(rs1).wrapping_mul(regs.get(rs2))),
+        Instr::Mulh { rd, rs1, rs2 } => write(
+            regs,
+            rd,
+            high_product_signed(regs.get(rs1), regs.get(rs2)),
+        ),
+        Instr::Mulhsu { rd, rs1, rs2 } => write(
+            regs,
+            rd,
+            high_product_mixed(regs.get(rs1), regs.get(rs2)),
+        ),
+        Instr::Mulhu { rd, rs1, rs2 } => write(
+            regs,
+            rd,
+            high_product(regs.get(rs1), regs.get(rs2)),
+        ),
+        Instr::Div { rd, rs1, rs2 } => write(
+            regs,
+            rd,
+            quotient_signed(regs.get(rs1), regs.get(rs2)),
+        ),
+        Instr::Divu { rd, rs1, rs2 } => write(regs, rd, quotient(regs.get(rs1), regs.get(rs2))),
+        Instr::Rem { rd, rs1, rs2 } => write(
+            regs,
+            rd,
+            remainder_signed(regs.get(rs1), regs.get(rs2)),
+        ),
+        Instr::Remu { rd, rs1, rs2 } => write(regs, rd, remainder(regs.get(rs1), regs.get(rs2))),
+        Instr::Fence => advance(regs),
+        Instr::Ecall => Outcome::Call,
+        Instr::Ebreak => Outcome::Trap(Cause::Breakpoint),
+    }
+}

@@ -1,0 +1,86 @@
+//! What the core answers.
+ghost use Rattle.kernel_model.specs.declared.answer.Refused.TheVariants.{OutOfMemory};
+ghost use Rattle.std.specs.Prelude.{◌≡◌};
+
+use machine_model::Stop;
+use std::alloc::AllocError;
+use thiserror::Error;
+
+/// What an Enter came to.
+#[derive(Clone, Copy, Debug, PartialEq, Eq)]
+pub enum Outcome {
+    /// The call was replied to.
+    Entered,
+    /// The call has to wait, and changed nothing.
+    Waits,
+    /// The process has ended, by a call or a trap.
+    Ended,
+}
+
+/// The answer to an accepted event. It tells a scheduler of progress, and never a reply's value or an exit's status.
+#[derive(Clone, Copy, Debug, PartialEq, Eq)]
+pub enum Answer {
+    /// A Turn ran so many instructions, and stopped there.
+    Ran {
+        count: u32,
+        stop: Stop,
+    },
+    /// An Enter was replied to.
+    Entered,
+    /// An Enter has to wait.
+    Waits,
+    /// An Enter ended its process.
+    Ended,
+    /// A Cut will commit so many changes, by so many writes.
+    Cut {
+        changes: u64,
+        writes: u64,
+    },
+    /// A write is complete, and so many changes are committed.
+    Completed {
+        committed: u64,
+    },
+    /// A write has failed.
+    Failed,
+    /// A loan's result was taken back; `outcome` is what its Enter came to, where it had one.
+    Settled {
+        count: u32,
+        stop: Stop,
+        outcome: Option<Outcome>,
+    },
+}
+
+/// Why an event is refused. The tests come in the order that each event states.
+#[derive(Clone, Copy, Debug, PartialEq, Eq, Error)]
+pub enum Refused {
+    #[error("no such process")]
+    NoProcess = 1,
+    #[error("the process has ended")]
+    Ended = 2,
+    #[error("the process is out on loan")]
+    Lent = 3,
+    #[error("the process stands at no call and no trap")]
+    NotStopped = 4,
+    #[error("a group is not yet committed")]
+    GroupInFlight = 5,
+    #[error("no change is uncommitted")]
+    NothingToCut = 6,
+    #[error("no write in flight begins there")]
+    NoSuchWrite = 7,
+    #[error("a write has failed")]
+    DiskFailed = 8,
+    #[error("out of memory")]
+    OutOfMemory = 9,
+    #[error("the result is of no loan that is out")]
+    Stranger = 10,
+    #[error("the history or the process has no room for it")]
+    Budget = 11,
+}
+
+impl From<AllocError> for Refused {
+    ghost from_gives = { λ _ e. e ≡ OutOfMemory };
+
+    fn from(_error: AllocError) -> Refused {
+        Refused::OutOfMemory
+    }
+}

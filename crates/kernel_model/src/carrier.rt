@@ -1,0 +1,20 @@
+//! What carries dependencies from one event to another.
+
+/// A carrier: what one event writes and a later one reads.
+#[derive(Clone, Copy, Debug, PartialEq, Eq)]
+pub enum Carrier {
+    /// A process, by its number.
+    Proc(u32),
+    /// A file's bytes, by the file's number.
+    File(u16),
+    /// The names of the files.
+    Names,
+    /// A pipe, by its number.
+    Pipe(u32),
+    /// The number of the next pipe.
+    Pipes,
+    /// The number of the next process.
+    Tasks,
+    /// A tape's place, by the tape's number.
+    Tape(u32),
+}

@@ -1,0 +1,7 @@
+-- The lemmas.
+pub mod Running
+pub mod Keeping
+pub mod Limits
+pub mod Decoding
+pub mod Pages
+pub mod Words

@@ -1,0 +1,6 @@
+use Rattle.std.proofs.Common.{◌≡◌, take}
+use Rattle.machine.specs.Images.{bytes_of_words}
+use Rattle.machine.proofs.image.little_endian.Given as goal
+
+abbrev pub invariant-loop-word : goal.invariant-loop-word
+invariant-loop-word l = l.bytes.items ≡ bytes_of_words (take l.word-index l.words)

@@ -1,0 +1,5 @@
+use Rattle.std.proofs.Common.{length}
+use Rattle.machine.proofs.loading.+space_of.Given as goal
+
+abbrev pub decreases-space_of : goal.decreases-space_of
+decreases-space_of l = length l.segments.now

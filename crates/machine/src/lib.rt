@@ -1,0 +1,16 @@
+//! A process's machine state: how it begins, its runs, and replies to its calls.
+#![tactic(auto)]
+
+mod decoded;
+mod fast;
+mod image;
+mod loading;
+mod machine;
+mod step;
+mod stopped;
+mod table;
+#[cfg(test)]
+mod tests;
+
+pub use image::{Image, Segment};
+pub use machine::Machine;

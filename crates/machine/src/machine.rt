@@ -1,0 +1,159 @@
+//! A process's machine.
+ghost use Rattle.std.specs.Prelude.{◌≡◌, ◌≢◌, ◌↔◌, ℕ, ◌+◌, ◌%◌, ◌<◌, ◌≤◌, ◌^◌, true, length, Some, IfOk};
+ghost use Rattle.machine_model.specs.Access.{is_writable, put_bytes};
+ghost use Rattle.machine_model.specs.Effects.{reg as register};
+ghost use Rattle.machine_model.specs.States.{run as run_from, ran, stands_at, replied};
+ghost use Rattle.machine.specs.First.{first_state, first_registers};
+ghost use Rattle.machine.specs.Kept.{Kept};
+
+use std::alloc::{AllocError, Global};
+use std::marker::Model;
+use std::sync::Arc;
+
+use formats::Reg;
+use isa_table::Regs;
+use machine_model::{Reply, Stop};
+use memory::Space;
+
+use crate::decoded::tables_of;
+use crate::fast::run_tables;
+use crate::image::Image;
+use crate::loading::space_of;
+use crate::stopped::stop_at;
+use crate::table::Table;
+
+/// A process's machine: its registers, its memory, and how many instructions it has done. Words that may not be written
+/// are decoded once, and clones share them.
+#[derive(Drop)]
+pub struct Machine {
+    regs: Regs,
+    space: Space,
+    count: u64,
+    tables: Arc<Vec<Table>>,
+}
+
+impl Model for Machine {
+    ghost use Rattle.machine_model.specs.States.{State, state_code, state, hart};
+
+    ghost Value = { State };
+
+    ghost coded = { state_code };
+
+    ghost use Rattle.machine.specs.Tables.{AllMatch};
+
+    ghost view = { λ m. state (hart m.regs.x m.regs.pc m.space) m.count };
+
+    ghost invariant = { λ m. AllMatch m.tables.value.items m.space };
+}
+
+impl Machine {
+    /// The machine in which a program begins.
+    pub fn load(alloc: Global, image: &Image) -> Result<Machine, AllocError>
+        ensures { IfOk result (λ m. m ≡ first_state image.now) }
+    {
+        let space = space_of(alloc, image.segments())?;
+        let tables = tables_of(alloc, &space, image.segments())?;
+        Ok(Machine {
+            regs: first_regs(image.entry()),
+            space,
+            count: 0,
+            tables: Arc::new(alloc, tables)?,
+        })
+    }
+
+    /// Does at most `max` instructions. Says how many were done, and why it stopped: at the limit, or where the machine
+    /// stands at a call or a trap.
+    pub fn run(&mut self, max: u32) -> (u32, Stop)
+        requires { self.old.count + max ≤ 2 ^ 40 }
+        ensures run { run_from max self.old ≡ ran result.0 self.new result.1 }
+        ensures within { result.0 ≤ max }
+        ensures count { self.new.count ≡ self.old.count + result.0 }
+        ensures limit { (result.1 ≡ Stop.Limit) ↔ (result.0 ≡ max) }
+        ensures standing { result.1 ≢ Stop.Limit → stands_at self.new ≡ Some result.1 }
+    {
+        let (done, stop) = run_tables(&mut self.regs, &mut self.space, self.tables.as_slice(), max);
+        self.count += u64::from(done);
+        (done, stop)
+    }
+
+    /// The call or trap at which the machine stands, and `None` where an instruction would be done.
+    pub fn stopped(&self) -> Option<Stop>
+        ensures { result ≡ stands_at self.now }
+    {
+        stop_at(&self.regs, &self.space)
+    }
+
+    /// Answers the call at which the machine stands: a0 is set, the bytes are placed, and the call counts as one
+    /// instruction.
+    pub fn reply(&mut self, reply: &Reply)
+        requires stands { stands_at self.old ≡ Some Stop.Call }
+        requires budget { self.old.count < 2 ^ 40 }
+        requires place { is_writable self.old.hart.memory reply.now.at (length reply.now.bytes) ≡ true }
+        ensures { self.new ≡ replied self.old reply.now }
+    {
+        place(&mut self.space, reply.at, reply.bytes.as_slice());
+        self.regs.x[10] = reply.a0;
+        self.regs.pc = self.regs.pc.wrapping_add(4);
+        self.count += 1;
+    }
+
+    /// A register's value.
+    pub fn reg(&self, r: Reg) -> u32
+        ensures { result ≡ register self.now.hart r }
+    {
+        self.regs.x[r.number() as usize]
+    }
+
+    /// The program counter, a multiple of 4.
+    pub fn pc(&self) -> u32
+        ensures { result ≡ self.now.hart.pc }
+    {
+        self.regs.pc
+    }
+
+    /// How many instructions were done, calls with a reply among them.
+    pub fn count(&self) -> u64
+        ensures { result ≡ self.now.count }
+    {
+        self.count
+    }
+
+    /// The memory.
+    pub fn space(&self) -> &Space
+        ensures { result.now ≡ self.now.hart.memory }
+    {
+        &self.space
+    }
+
+    /// A machine in the same state. Pages and decoded words that may not be written are shared with it.
+    pub fn try_clone(&self, alloc: Global) -> Result<Machine, AllocError>
+        ensures { IfOk result (λ m. m ≡ self.now) }
+    {
+        Ok(Machine {
+            regs: self.regs,
+            space: self.space.try_clone(alloc)?,
+            count: self.count,
+            tables: Arc::try_clone(&self.tables)?,
+        })
+    }
+}
+
+/// The registers at first: all 0 but the stack pointer, and the program counter at the entry.
+fn first_regs(entry: u32) -> Regs
+    requires { entry % 4 ≡ 0 }
+    ensures x { result.x ≡ first_registers }
+    ensures pc { result.pc ≡ entry }
+{
+    let mut x = [0; 32];
+    x[2] = 0x8000_0000;
+    Regs { x, pc: entry }
+}
+
+/// Puts bytes where they may be written.
+fn place(space: &mut Space, at: u32, bytes: &[u8])
+    requires { is_writable space.old at (length bytes.now) ≡ true }
+    ensures memory { space.new ≡ put_bytes space.old at bytes.now }
+    ensures kept { Kept space.old space.new }
+{
+    let _ = space.copy_out(at, bytes);
+}

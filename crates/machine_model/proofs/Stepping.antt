@@ -1,0 +1,239 @@
+-- What `next` and `run` compute is what the relations say.
+use Rattle.std.proofs.Common.{◌≡◌, ◌≢◌, ◌↔◌, ℕ, suc, zero, ◌+◌, ◌<◌, Bool, true, false, cond, refl, sym, ap, subst, ◌∙◌, arith}
+use Rattle.std.specs.Prelude.{Option, Some, None, Result, Ok, Err}
+use Rattle.formats.specs.declared.instr.Instr.{Instr}
+use Rattle.formats.specs.declared.instr.Instr.TheVariants as instr
+use Rattle.formats.specs.Meaning.{Means}
+use Rattle.formats.specs.Table.{instr_of}
+use Rattle.machine_model.specs.Access.{fetched}
+use Rattle.machine_model.specs.Effects.{Hart, Effect, Becomes, Stands, effect, load_effect, store_effect}
+use Rattle.machine_model.specs.Memory.{Memory}
+use Rattle.machine_model.specs.States.{State, state, Stepped, Goes, Halts, Ran, ran, counted, by_instr, by_fetch, next, after, by_step, run, stands_at}
+use Rattle.machine_model.specs.Steps.{Step, FetchFails, IsIllegal, InstructionStands, StandsAt, ByFetch, ByWord, ByInstruction, Runs, NextIsStep, RunIsSteps}
+use Rattle.machine_model.specs.declared.access.BusFault.{BusFault}
+use Rattle.machine_model.specs.declared.stop.Cause.{Cause}
+use Rattle.machine_model.specs.declared.stop.Cause.TheVariants as cause
+use Rattle.machine_model.specs.declared.stop.Stop.{Stop}
+use Rattle.machine_model.specs.declared.stop.Stop.TheVariants.{Limit, Call, Trap}
+
+-- the law of the instruction table
+abbrev pub Agree : Type 0
+Agree = (w : ℕ) (i : Instr) → Means w i ↔ (instr_of w ≡ Some i)
+
+goes_not : (stop : Stop) (t : State) → Halts stop ≡ Goes t → ⊥
+goes_not stop t e = cc
+
+halts_not : (t : State) (stop : Stop) → Goes t ≡ Halts stop → ⊥
+halts_not t stop e = cc
+
+same_goal : (s t : State) → Goes s ≡ Goes t → s ≡ t
+same_goal s t e = cc
+
+same_stop : (a b : Stop) → Halts a ≡ Halts b → a ≡ b
+same_stop a b e = cc
+
+effect-goes : (s t : State) (w : ℕ) (i : Instr) (e : Effect) → fetched s.hart.memory s.hart.pc ≡ Ok w → Means w i → effect i s.hart ≡ e → counted s.count e ≡ Goes t → Step s t
+effect-goes s t w i (Becomes h) f m is g =
+    let same = same_goal (state h (s.count + 1)) t g in
+    record { word = w; instruction = i; fetch = f; means = m; does = is ∙ ap (λ (x : State). Becomes x.hart) same; counts = ap (λ (x : State). x.count) (sym same) }
+effect-goes s t w i (Stands stop) f m is g = absurd (goes_not stop t g)
+
+instr-goes : Agree → (s t : State) (w : ℕ) (o : Option Instr) → fetched s.hart.memory s.hart.pc ≡ Ok w → instr_of w ≡ o → by_instr s o ≡ Goes t → Step s t
+instr-goes agree s t w None f is g = absurd (goes_not (Trap cause.Illegal) t g)
+instr-goes agree s t w (Some i) f is g = effect-goes s t w i (effect i s.hart) f ((agree w i).1 is) refl g
+
+fetch-goes : Agree → (s t : State) (r : Result ℕ BusFault) → fetched s.hart.memory s.hart.pc ≡ r → by_fetch s r ≡ Goes t → Step s t
+fetch-goes agree s t (Err fault) f g = absurd (goes_not (Trap cause.FetchFault) t g)
+fetch-goes agree s t (Ok w) f g = instr-goes agree s t w (instr_of w) f refl g
+
+next-goes : Agree → (s t : State) → next s ≡ Goes t → Step s t
+unfolding next
+next-goes agree s t g = fetch-goes agree s t (fetched s.hart.memory s.hart.pc) refl g
+
+step-next : Agree → (s t : State) → Step s t → next s ≡ Goes t
+unfolding next
+step-next agree s t step =
+    ap (by_fetch s) step.fetch
+    ∙ ap (by_instr s) ((agree step.word step.instruction).0 step.means)
+    ∙ ap (counted s.count) step.does
+    ∙ ap (λ (k : ℕ). Goes (state t.hart k)) (sym step.counts)
+
+effect-halts : (s : State) (stop : Stop) (w : ℕ) (i : Instr) (e : Effect) → fetched s.hart.memory s.hart.pc ≡ Ok w → Means w i → effect i s.hart ≡ e → counted s.count e ≡ Halts stop → StandsAt s stop
+effect-halts s stop w i (Becomes h) f m is g = absurd (halts_not (state h (s.count + 1)) stop g)
+effect-halts s stop w i (Stands own) f m is g =
+    ByInstruction (record { word = w; instruction = i; fetch = f; means = m; does = is ∙ ap (λ (x : Stop). Stands x) (same_stop own stop g) })
+
+no_instr : Agree → (w : ℕ) → instr_of w ≡ None → (i : Instr) → Means w i → ⊥
+no_instr agree w none i means = clash (sym none ∙ (agree w i).0 means)
+  where
+    clash : None ≡ Some i → ⊥
+    clash e = cc
+
+instr-halts : Agree → (s : State) (stop : Stop) (w : ℕ) (o : Option Instr) → fetched s.hart.memory s.hart.pc ≡ Ok w → instr_of w ≡ o → by_instr s o ≡ Halts stop → StandsAt s stop
+instr-halts agree s stop w None f is g =
+    ByWord (sym (same_stop (Trap cause.Illegal) stop g)) (record { word = w; fetch = f; means_none = no_instr agree w is })
+instr-halts agree s stop w (Some i) f is g = effect-halts s stop w i (effect i s.hart) f ((agree w i).1 is) refl g
+
+fetch-halts : Agree → (s : State) (stop : Stop) (r : Result ℕ BusFault) → fetched s.hart.memory s.hart.pc ≡ r → by_fetch s r ≡ Halts stop → StandsAt s stop
+fetch-halts agree s stop (Err fault) f g = ByFetch (sym (same_stop (Trap cause.FetchFault) stop g)) (record { fault = fault; fetch = f })
+fetch-halts agree s stop (Ok w) f g = instr-halts agree s stop w (instr_of w) f refl g
+
+next-halts : Agree → (s : State) (stop : Stop) → next s ≡ Halts stop → StandsAt s stop
+unfolding next
+next-halts agree s stop g = fetch-halts agree s stop (fetched s.hart.memory s.hart.pc) refl g
+
+illegal_none : Agree → (w : ℕ) → ((i : Instr) → Means w i → ⊥) → (o : Option Instr) → instr_of w ≡ o → o ≡ None
+illegal_none agree w none None is = refl
+illegal_none agree w none (Some i) is = absurd (none i ((agree w i).1 is))
+
+stands-next : Agree → (s : State) (stop : Stop) → StandsAt s stop → next s ≡ Halts stop
+unfolding next
+stands-next agree s stop (ByFetch is fails) = ap (by_fetch s) fails.fetch ∙ ap (λ (x : Stop). Halts x) (sym is)
+stands-next agree s stop (ByWord is illegal) =
+    ap (by_fetch s) illegal.fetch
+    ∙ ap (by_instr s) (illegal_none agree illegal.word illegal.means_none (instr_of illegal.word) refl)
+    ∙ ap (λ (x : Stop). Halts x) (sym is)
+stands-next agree s stop (ByInstruction own) =
+    ap (by_fetch s) own.fetch ∙ ap (by_instr s) ((agree own.word own.instruction).0 own.means) ∙ ap (counted s.count) own.does
+
+pub next-is-step : Agree → NextIsStep
+next-is-step agree s = ((λ t. (next-goes agree s t, step-next agree s t)), (λ stop. (next-halts agree s stop, stands-next agree s stop)))
+
+-- a run, by what its first state comes to next
+run-goes : (n : ℕ) (s t : State) → next s ≡ Goes t → run (suc n) s ≡ after 1 (run n t)
+unfolding run
+run-goes n s t e = ap (λ (x : Stepped). by_step x (λ t. after 1 (run n t)) (λ stop. ran 0 s stop)) e
+
+run-halts : (n : ℕ) (s : State) (stop : Stop) → next s ≡ Halts stop → run (suc n) s ≡ ran 0 s stop
+unfolding run
+run-halts n s stop e = ap (λ (x : Stepped). by_step x (λ t. after 1 (run n t)) (λ stop. ran 0 s stop)) e
+
+run-zero : (s : State) → run zero s ≡ ran 0 s Limit
+unfolding run
+run-zero s = refl
+
+-- what the law says of one run
+abbrev IsRun : ℕ → State → Ran → Type 0
+IsRun max s r = Runs r.count s r.state × ((r.stop ≡ Limit) ↔ (r.count ≡ max)) × (r.stop ≢ Limit → (r.count < max) × (stands_at r.state ≡ Some r.stop))
+
+one_more : (n : ℕ) (s t : State) (r : Ran) → Step s t → IsRun n t r → IsRun (suc n) s (after 1 r)
+one_more n s t r step is =
+    let count : suc r.count ≡ 1 + r.count = omega arith in
+    let runs : Runs (suc r.count) s r.state = (t, step, is.0) in (
+      subst (λ (k : ℕ). Runs k s r.state) count runs,
+      ((λ limit. let all : r.count ≡ n = is.1.0 limit in omega arith), (λ all. is.1.1 (omega arith))),
+      λ other. let f = is.2 other in (omega (arith, f.0), f.1),
+    )
+
+becomes_not : (h : Hart) → Becomes h ≡ Stands Limit → ⊥
+becomes_not h e = cc
+
+stands_not : (stop : Stop) → (stop ≡ Limit → ⊥) → Stands stop ≡ Stands Limit → ⊥
+stands_not stop apart e = apart (inner stop e)
+  where
+    inner : (stop : Stop) → Stands stop ≡ Stands Limit → stop ≡ Limit
+    inner stop e = cc
+
+trap_not : (c : Cause) → Stands (Trap c) ≡ Stands Limit → ⊥
+trap_not c e = stands_not (Trap c) (apart c) e
+  where
+    apart : (c : Cause) → Trap c ≡ Limit → ⊥
+    apart c e = cc
+
+call_not : Stands Call ≡ Stands Limit → ⊥
+call_not e = stands_not Call apart e
+  where
+    apart : Call ≡ Limit → ⊥
+    apart e = cc
+
+jump_not : (b : Bool) (h : Hart) → cond b (Becomes h) (Stands (Trap cause.MisalignedTarget)) ≡ Stands Limit → ⊥
+jump_not true h e = becomes_not h e
+jump_not false h e = trap_not cause.MisalignedTarget e
+
+load_not : (h : Hart) (rd : ℕ) (extended : ℕ → ℕ) (r : Result ℕ BusFault) → load_effect h rd extended r ≡ Stands Limit → ⊥
+load_not h rd extended (Ok value) e = becomes_not _ e
+load_not h rd extended (Err fault) e = trap_not _ e
+
+store_not : (h : Hart) (m : Memory) (f : Option BusFault) → store_effect h m f ≡ Stands Limit → ⊥
+store_not h m None e = becomes_not _ e
+store_not h m (Some fault) e = trap_not _ e
+
+-- no instruction stands at the limit
+effect_not : (i : Instr) (h : Hart) → effect i h ≡ Stands Limit → ⊥
+unfolding effect
+effect_not (instr.Lui rd imm) h e = becomes_not _ e
+effect_not (instr.Auipc rd imm) h e = becomes_not _ e
+effect_not (instr.Jal rd offset) h e = jump_not _ _ e
+effect_not (instr.Jalr rd rs1 imm) h e = jump_not _ _ e
+effect_not (instr.Beq rs1 rs2 offset) h e = jump_not _ _ e
+effect_not (instr.Bne rs1 rs2 offset) h e = jump_not _ _ e
+effect_not (instr.Blt rs1 rs2 offset) h e = jump_not _ _ e
+effect_not (instr.Bge rs1 rs2 offset) h e = jump_not _ _ e
+effect_not (instr.Bltu rs1 rs2 offset) h e = jump_not _ _ e
+effect_not (instr.Bgeu rs1 rs2 offset) h e = jump_not _ _ e
+effect_not (instr.Lb rd rs1 imm) h e = load_not h rd _ _ e
+effect_not (instr.Lh rd rs1 imm) h e = load_not h rd _ _ e
+effect_not (instr.Lw rd rs1 imm) h e = load_not h rd _ _ e
+effect_not (instr.Lbu rd rs1 imm) h e = load_not h rd _ _ e
+effect_not (instr.Lhu rd rs1 imm) h e = load_not h rd _ _ e
+effect_not (instr.Sb rs1 rs2 imm) h e = store_not h _ _ e
+effect_not (instr.Sh rs1 rs2 imm) h e = store_not h _ _ e
+effect_not (instr.Sw rs1 rs2 imm) h e = store_not h _ _ e
+effect_not (instr.Addi rd rs1 imm) h e = becomes_not _ e
+effect_not (instr.Slti rd rs1 imm) h e = becomes_not _ e
+effect_not (instr.Sltiu rd rs1 imm) h e = becomes_not _ e
+effect_not (instr.Xori rd rs1 imm) h e = becomes_not _ e
+effect_not (instr.Ori rd rs1 imm) h e = becomes_not _ e
+effect_not (instr.Andi rd rs1 imm) h e = becomes_not _ e
+effect_not (instr.Slli rd rs1 amount) h e = becomes_not _ e
+effect_not (instr.Srli rd rs1 amount) h e = becomes_not _ e
+effect_not (instr.Srai rd rs1 amount) h e = becomes_not _ e
+effect_not (instr.Add rd rs1 rs2) h e = becomes_not _ e
+effect_not (instr.Sub rd rs1 rs2) h e = becomes_not _ e
+effect_not (instr.Sll rd rs1 rs2) h e = becomes_not _ e
+effect_not (instr.Slt rd rs1 rs2) h e = becomes_not _ e
+effect_not (instr.Sltu rd rs1 rs2) h e = becomes_not _ e
+effect_not (instr.Xor rd rs1 rs2) h e = becomes_not _ e
+effect_not (instr.Srl rd rs1 rs2) h e = becomes_not _ e
+effect_not (instr.Sra rd rs1 rs2) h e = becomes_not _ e
+effect_not (instr.Or rd rs1 rs2) h e = becomes_not _ e
+effect_not (instr.And rd rs1 rs2) h e = becomes_not _ e
+effect_not (instr.Mul rd rs1 rs2) h e = becomes_not _ e
+effect_not (instr.Mulh rd rs1 rs2) h e = becomes_not _ e
+effect_not (instr.Mulhsu rd rs1 rs2) h e = becomes_not _ e
+effect_not (instr.Mulhu rd rs1 rs2) h e = becomes_not _ e
+effect_not (instr.Div rd rs1 rs2) h e = becomes_not _ e
+effect_not (instr.Divu rd rs1 rs2) h e = becomes_not _ e
+effect_not (instr.Rem rd rs1 rs2) h e = becomes_not _ e
+effect_not (instr.Remu rd rs1 rs2) h e = becomes_not _ e
+effect_not instr.Fence h e = becomes_not _ e
+effect_not instr.Ecall h e = call_not e
+effect_not instr.Ebreak h e = trap_not _ e
+
+trap_limit : (c : Cause) (stop : Stop) → stop ≡ Trap c → stop ≡ Limit → ⊥
+trap_limit c stop is e = clash c (sym is ∙ e)
+  where
+    clash : (c : Cause) → Trap c ≡ Limit → ⊥
+    clash c e = cc
+
+stands_limit : (s : State) (stop : Stop) → StandsAt s stop → stop ≡ Limit → ⊥
+stands_limit s stop (ByFetch is fails) e = trap_limit cause.FetchFault stop is e
+stands_limit s stop (ByWord is illegal) e = trap_limit cause.Illegal stop is e
+stands_limit s stop (ByInstruction own) e = effect_not own.instruction s.hart (own.does ∙ ap (λ (x : Stop). Stands x) e)
+
+stands-here : (s : State) (stop : Stop) → next s ≡ Halts stop → stands_at s ≡ Some stop
+stands-here s stop e = ap (λ (x : Stepped). by_step {A = Option Stop} x (λ t. None) (λ stop. Some stop)) e
+
+halted : (n : ℕ) (s : State) (stop : Stop) → (stop ≡ Limit → ⊥) → next s ≡ Halts stop → IsRun (suc n) s (ran 0 s stop)
+halted n s stop apart e =
+    (refl, ((λ limit. absurd (apart limit)), (λ all. let none : 0 ≡ suc n = all in absurd (omega arith))), λ other. (omega arith, stands-here s stop e))
+
+run-by : Agree → (n : ℕ) (s : State) → ((t : State) → IsRun n t (run n t)) → (x : Stepped) → next s ≡ x → IsRun (suc n) s (run (suc n) s)
+run-by agree n s later (Goes t) e = subst (λ (r : Ran). IsRun (suc n) s r) (sym (run-goes n s t e)) (one_more n s t (run n t) (next-goes agree s t e) (later t))
+run-by agree n s later (Halts stop) e =
+    subst (λ (r : Ran). IsRun (suc n) s r) (sym (run-halts n s stop e)) (halted n s stop (stands_limit s stop (next-halts agree s stop e)) e)
+
+pub run-is-steps : Agree → RunIsSteps
+run-is-steps agree zero s =
+    subst (λ (r : Ran). IsRun zero s r) (sym (run-zero s)) (refl, ((λ limit. refl), (λ all. refl)), λ other. absurd (other refl))
+run-is-steps agree (suc n) s = run-by agree n s (run-is-steps agree n) (next s) refl

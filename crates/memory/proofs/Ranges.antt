@@ -1,0 +1,48 @@
+-- Ranges of addresses, a byte at a time.
+use Rattle.std.proofs.Common.{◌≡◌, ℕ, suc, zero, ◌+◌, ◌-◌, ◌<◌, ◌≤◌, Bool, true, false, cond, List, [], ◌∷◌, length, drop, refl, sym, ap, ◌∙◌, arith, inl, inr}
+use Rattle.std.specs.Prelude.{◌==◌, ◌⊎◌, Option, Some, None}
+use Rattle.std.specs.FinMap.{get, insert}
+use Rattle.std.proofs.lemmas.Bool.Decides.{eqb_tells}
+use Rattle.machine_model.specs.Memory.{Memory, Cell}
+use Rattle.machine_model.specs.Access.{fault_at, range_fault, byte_of, bytes_at, with_byte, put_bytes}
+use Rattle.machine_model.specs.declared.access.Rights.{Rights}
+use Rattle.machine_model.specs.declared.access.BusFault.{BusFault}
+use Rattle.machine_model.specs.declared.access.BusFault.TheVariants.{NoRight}
+use Rattle.machine_model.proofs.Memories.{get-insert}
+
+one_more : (n i : ℕ) → i < n → n - i ≡ suc (n - (i + 1))
+one_more n i h = omega arith
+
+pub range_fault-next : (right : Rights → Bool) (m : Memory) (at n i : ℕ) → i < n → range_fault right m (at + i) (n - i) ≡ fault_at right (get m (at + i)) (range_fault right m (at + (i + 1)) (n - (i + 1)))
+range_fault-next right m at n i h = ap (range_fault right m (at + i)) (one_more n i h) ∙ ap (λ a. fault_at right (get m (at + i)) (range_fault right m a (n - (i + 1)))) (omega arith)
+
+pub bytes_at-next : (m : Memory) (at n i : ℕ) → i < n → bytes_at m (at + i) (n - i) ≡ byte_of (get m (at + i)) ∷ bytes_at m (at + (i + 1)) (n - (i + 1))
+bytes_at-next m at n i h = ap (bytes_at m (at + i)) (one_more n i h) ∙ ap (λ a. byte_of (get m (at + i)) ∷ bytes_at m a (n - (i + 1))) (omega arith)
+
+-- what is written keeps its rights
+fault_at-with_byte : (right : Rights → Bool) (m : Memory) (q b p : ℕ) (c : Option Cell) (rest : Option BusFault) → get m q ≡ c → fault_at right (get (with_byte m q b c) p) rest ≡ fault_at right (get m p) rest
+fault_at-with_byte right m q b p None rest e = refl
+fault_at-with_byte right m q b p (Some cell) rest e =
+    ap (λ c. fault_at right c rest) (get-insert m q (record { byte = b; rights = cell.rights }) p)
+    ∙ elim (eqb_tells p q) [
+      | inl f ↦ rw f.0 (ap (λ c. fault_at right c rest) (sym (ap (get m) f.1 ∙ e)))
+      | inr f ↦ rw f.0 refl
+    ]
+
+range_fault-with_byte : (right : Rights → Bool) (m : Memory) (q b p n : ℕ) → range_fault right (with_byte m q b (get m q)) p n ≡ range_fault right m p n
+range_fault-with_byte right m q b p zero = refl
+range_fault-with_byte right m q b p (suc n) =
+    fault_at-with_byte right m q b p (get m q) _ refl ∙ ap (fault_at right (get m p)) (range_fault-with_byte right m q b (p + 1) n)
+
+pub range_fault-put_bytes : (right : Rights → Bool) (bytes : List ℕ) (m : Memory) (q p n : ℕ) → range_fault right (put_bytes m q bytes) p n ≡ range_fault right m p n
+range_fault-put_bytes right [] m q p n = refl
+range_fault-put_bytes right (b ∷ bytes) m q p n = range_fault-put_bytes right bytes (with_byte m q b (get m q)) (q + 1) p n ∙ range_fault-with_byte right m q b p n
+
+-- what is allowed at a byte and behind it is allowed behind it
+pub fault_at-None : (right : Rights → Bool) (c : Option Cell) (rest : Option BusFault) → fault_at right c rest ≡ None → rest ≡ None
+fault_at-None right None rest e = absurd cc
+fault_at-None right (Some cell) rest e = by (right cell.rights) e
+  where
+    by : (b : Bool) → cond b rest (Some NoRight) ≡ None → rest ≡ None
+    by true e = e
+    by false e = absurd cc

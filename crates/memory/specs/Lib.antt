@@ -1,0 +1,3 @@
+pub mod Words
+pub mod Pages
+pub mod Copies

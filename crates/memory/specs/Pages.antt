@@ -1,0 +1,40 @@
+-- Where the pages of a process are kept: in runs of words.
+use Rattle.std.specs.Prelude.{ℕ, ◌+◌, ◌-◌, ◌*◌, ◌&&◌, Bool, true, false, nat_lt, nat_le, if◌then◌else◌, ◌/◌, ◌%◌, List, [], ◌∷◌, length, slice_index_or, slice_set, Option, Some, None}
+use Rattle.memory.specs.Words.{Word, put_in}
+use Rattle.std.specs.Simd.{first_chunks}
+use Rattle.machine_model.specs.declared.access.Rights.{Rights}
+
+-- a run of pages with one set of rights, but for the right to write: the number of its first word, and its words
+pub record Pages : Type 0 where
+  pub first : ℕ
+  pub read : Bool
+  pub execute : Bool
+  pub words : List (List ℕ)
+
+abbrev pub has_word : Pages → ℕ → Bool
+has_word p n = nat_le p.first n && nat_lt (n - p.first) (length p.words)
+
+-- the bytes of the word of a number that a run has
+abbrev pub bytes_of : Pages → ℕ → List ℕ
+bytes_of p n = slice_index_or p.words (n - p.first) []
+
+-- the word of a number that a run has
+abbrev pub word_in : Bool → Pages → ℕ → Word
+word_in write p n = record { bytes = bytes_of p n; rights = record { read = p.read; write = write; execute = p.execute } }
+
+-- the word of a number in the first run that has it
+abbrev pub word_among : Bool → List Pages → Option Word → ℕ → Option Word
+word_among write [] rest n = rest
+word_among write (p ∷ ps) rest n = if has_word p n then Some (word_in write p n) else word_among write ps rest n
+
+-- a process's words: those of its own runs may be written, and those of the shared ones not
+abbrev pub words_of : List Pages → List Pages → ℕ → Option Word
+words_of own shared n = word_among true own (word_among false shared None n) n
+
+-- a run with these bytes from an address on, in the word of that address
+abbrev pub with_bytes : Pages → ℕ → List ℕ → Pages
+with_bytes p at bytes = record { first = p.first; read = p.read; execute = p.execute; words = slice_set p.words (at / 4 - p.first) (put_in (bytes_of p (at / 4)) (at % 4) bytes) }
+
+-- the run of pages from a page on that bytes fill
+abbrev pub pages_of : ℕ → Rights → List ℕ → Pages
+pages_of page rights bytes = record { first = page * 1024; read = rights.read; execute = rights.execute; words = first_chunks 4 (length bytes / 4) bytes }

@@ -1,0 +1,14 @@
+//! Why bytes cannot be copied.
+use machine_model::BusFault;
+use thiserror::Error;
+
+/// Why bytes cannot be copied out of a space.
+#[derive(Clone, Copy, Debug, PartialEq, Eq, Error)]
+pub enum CopyFault {
+    /// A byte may not be read.
+    #[error("{0}")]
+    Fault(BusFault),
+    /// The copy does not fit in memory. It is tried only where each byte may be read.
+    #[error("out of memory")]
+    OutOfMemory,
+}

@@ -1,0 +1,15 @@
+//! A process's memory: its pages, with rights.
+#![tactic(auto)]
+
+mod bus;
+mod cloning;
+mod copying;
+mod fault;
+mod part;
+mod place;
+mod space;
+#[cfg(test)]
+mod tests;
+
+pub use fault::CopyFault;
+pub use space::Space;

@@ -1,0 +1,173 @@
+//! A run of pages as words.
+ghost use Rattle.std.specs.Prelude.{◌≡◌, ◌+◌, ◌-◌, ◌*◌, ◌%◌, ◌/◌, ◌^◌, ◌<◌, ◌≤◌, ◌==◌, Bool, Some, IfOk, length, slice_index, true};
+ghost use Rattle.machine_model.specs.Access.{size, low_bytes, to_read, to_execute};
+ghost use Rattle.memory.specs.Words.{value_in, put_in, word_taken};
+ghost use Rattle.memory.specs.Pages.{has_word, bytes_of, word_in, with_bytes, pages_of};
+
+use machine_model::{BusFault, Rights, Width};
+use std::alloc::{AllocError, Global};
+use std::marker::Model;
+
+/// A run of pages with one set of rights, as words. Whether they may be written is the right of the list that the run
+/// stands in.
+#[derive(Drop)]
+pub struct Part {
+    pub first: u32,
+    pub read: bool,
+    pub execute: bool,
+    pub words: Vec<[u8; 4]>,
+}
+
+impl Model for Part {
+    ghost use Rattle.std.specs.Prelude.{◌+◌, ◌^◌, ◌≤◌, vec_len};
+    ghost use Rattle.memory.specs.Pages.{Pages};
+
+    ghost Value = { Pages };
+
+    ghost view = { λ p. record { first = p.first; read = p.read; execute = p.execute; words = p.words.items } };
+
+    ghost invariant = { λ p. p.first + vec_len p.words ≤ 2 ^ 30 };
+}
+
+impl Part {
+    /// The pages from a page on that bytes fill.
+    pub fn new(
+        alloc: Global,
+        first_page: u32,
+        rights: Rights,
+        bytes: &[u8],
+    ) -> Result<Part, AllocError>
+        requires whole { length bytes.now % 4096 ≡ 0 }
+        requires range { 4096 * first_page + length bytes.now ≤ 2 ^ 32 }
+        ensures { IfOk result (λ p. p ≡ pages_of first_page rights bytes.now) }
+    {
+        let (words, _) = bytes.as_chunks::<4>();
+        Ok(Part {
+            first: first_page * 1024,
+            read: rights.read,
+            execute: rights.execute,
+            words: Vec::from_slice(alloc, words)?,
+        })
+    }
+
+    /// A copy of these pages.
+    pub fn try_clone(&self, alloc: Global) -> Result<Part, AllocError>
+        ensures { IfOk result (λ p. p ≡ self.now) }
+    {
+        Ok(Part {
+            first: self.first,
+            read: self.read,
+            execute: self.execute,
+            words: Vec::from_slice(alloc, self.words.as_slice())?,
+        })
+    }
+
+    /// Whether the word of a number is here.
+    #[inline]
+    pub fn has(&self, n: u32) -> bool
+        ensures { result ≡ has_word self.now n }
+    {
+        (n.wrapping_sub(self.first) as usize) < self.words.len()
+    }
+
+    /// The bytes at an address that is a multiple of the width.
+    #[inline]
+    pub fn load(&self, at: u32, width: Width) -> Result<u32, BusFault>
+        requires aligned { at % size width ≡ 0 }
+        requires here { has_word self.now (at / 4) ≡ true }
+        ensures { (write : Bool) → result ≡ word_taken to_read (Some (word_in write self.now (at / 4))) (at % 4) (size width) }
+    {
+        if !self.read {
+            return Err(BusFault::NoRight);
+        }
+        let k = (at / 4 - self.first) as usize;
+        Ok(read_word(&self.words[k], at % 4, width))
+    }
+
+    /// The byte at an address, whatever its rights.
+    pub fn byte(&self, at: u32) -> u8
+        requires { has_word self.now (at / 4) ≡ true }
+        ensures { result ≡ slice_index (bytes_of self.now (at / 4)) (at % 4) }
+    {
+        let k = (at / 4 - self.first) as usize;
+        self.words[k][(at % 4) as usize]
+    }
+
+    /// The word of a number, to be executed.
+    #[inline]
+    pub fn fetch(&self, n: u32) -> Result<u32, BusFault>
+        requires { has_word self.now n ≡ true }
+        ensures { (write : Bool) → result ≡ word_taken to_execute (Some (word_in write self.now n)) 0 4 }
+    {
+        if !self.execute {
+            return Err(BusFault::NoRight);
+        }
+        let k = (n - self.first) as usize;
+        Ok(read_word(&self.words[k], 0, Width::Word))
+    }
+
+    /// Puts the low bytes of a value at an address that is a multiple of the width.
+    #[inline]
+    pub fn store(&mut self, at: u32, width: Width, value: u32)
+        requires aligned { at % size width ≡ 0 }
+        requires here { has_word self.old (at / 4) ≡ true }
+        ensures pages { self.new ≡ with_bytes self.old at (low_bytes (size width) value) }
+        ensures four { length (bytes_of self.old (at / 4)) ≡ 4 }
+    {
+        let k = (at / 4 - self.first) as usize;
+        write_word(&mut self.words[k], at % 4, width, value);
+    }
+}
+
+/// Whether an address is a multiple of a width.
+#[inline]
+pub fn is_aligned(at: u32, width: Width) -> bool
+    ensures { result ≡ (at % size width == 0) }
+{
+    match width {
+        Width::Byte => true,
+        Width::Half => at % 2 == 0,
+        Width::Word => at % 4 == 0,
+    }
+}
+
+/// The bytes of a word at a place, little-endian.
+#[inline]
+fn read_word(word: &[u8; 4], place: u32, width: Width) -> u32
+    requires place { place < 4 }
+    requires aligned { place % size width ≡ 0 }
+    ensures { result ≡ value_in word.now place (size width) }
+{
+    match width {
+        Width::Byte => u32::from(word[place as usize]),
+        Width::Half => {
+            let k = place as usize;
+            u32::from(word[k]) + 256 * u32::from(word[k + 1])
+        }
+        Width::Word => u32::from_le_bytes(*word),
+    }
+}
+
+/// Puts the low bytes of a value at a place of a word.
+#[inline]
+fn write_word(word: &mut [u8; 4], place: u32, width: Width, value: u32)
+    requires place { place < 4 }
+    requires aligned { place % size width ≡ 0 }
+    ensures word { word.new ≡ put_in word.old place (low_bytes (size width) value) }
+    ensures four { length word.old ≡ 4 }
+{
+    match width {
+        Width::Byte => word[place as usize] = (value % 256) as u8,
+        Width::Half => {
+            let k = place as usize;
+            word[k] = (value % 256) as u8;
+            word[k + 1] = (value / 256 % 256) as u8;
+        }
+        Width::Word => {
+            word[0] = (value % 256) as u8;
+            word[1] = (value / 256 % 256) as u8;
+            word[2] = (value / 256 / 256 % 256) as u8;
+            word[3] = (value / 256 / 256 / 256 % 256) as u8;
+        }
+    }
+}

@@ -1,0 +1,95 @@
+//! The pages of a process.
+ghost use Rattle.std.specs.Prelude.{◌≡◌, ℕ, ◌+◌, ◌*◌, ◌%◌, ◌^◌, ◌<◌, ◌≤◌, None, OnOk, OnErr, length};
+ghost use Rattle.std.specs.FinMap.{get};
+ghost use Rattle.machine_model.specs.Memory.{memory_of};
+ghost use Rattle.machine_model.specs.Access.{access_fault, fetched, mapped, to_write};
+
+use crate::part::{Part, is_aligned};
+use crate::place::part_of;
+use machine_model::{BusFault, Rights, Width};
+use std::alloc::{AllocError, Global};
+use std::marker::Model;
+use std::sync::Arc;
+
+/// The pages of a process, each with its rights and 4,096 bytes. Pages that may not be written are shared with clones.
+#[derive(Drop)]
+pub struct Space {
+    pub(crate) own: Vec<Part>,
+    pub(crate) shared: Vec<Arc<Part>>,
+}
+
+impl Model for Space {
+    ghost use Rattle.std.specs.Prelude.{map};
+    ghost use Rattle.machine_model.specs.Memory.{Memory, memory_code};
+    ghost use Rattle.memory.specs.Words.{memory_of_words};
+    ghost use Rattle.memory.specs.Pages.{words_of};
+
+    ghost Value = { Memory };
+
+    ghost coded = { memory_code };
+
+    ghost view = { λ s. memory_of_words (words_of s.own.items (map (λ a. a.value) s.shared.items)) };
+}
+
+impl Space {
+    /// No pages. Takes no memory.
+    pub fn new(alloc: Global) -> Space
+        ensures { result ≡ memory_of (λ _. None) }
+    {
+        Space {
+            own: Vec::new(alloc),
+            shared: Vec::new(alloc),
+        }
+    }
+
+    /// Adds pages with the same rights, from a page on, that the bytes fill. Without memory no page is added.
+    pub fn map(
+        &mut self,
+        alloc: Global,
+        first_page: u32,
+        rights: Rights,
+        bytes: &[u8],
+    ) -> Result<(), AllocError>
+        requires whole { length bytes.now % 4096 ≡ 0 }
+        requires range { 4096 * first_page + length bytes.now ≤ 2 ^ 32 }
+        requires free { (a : ℕ) → 4096 * first_page ≤ a → a < 4096 * first_page + length bytes.now → get self.old a ≡ None }
+        ensures ok { OnOk result (self.new ≡ mapped self.old (4096 * first_page) rights bytes.now) }
+        ensures err { OnErr result (self.new ≡ self.old) }
+    {
+        let part = Part::new(alloc, first_page, rights, bytes)?;
+        if rights.write {
+            self.own.push(part)?;
+        } else {
+            self.shared.push(Arc::new(alloc, part)?)?;
+        }
+        Ok(())
+    }
+
+    /// The word at an address from which it may be executed, little-endian (ISA chapter 2).
+    #[inline]
+    pub fn fetch(&self, at: u32) -> Result<u32, BusFault>
+        ensures { result ≡ fetched self.now at }
+    {
+        if !is_aligned(at, Width::Word) {
+            return Err(BusFault::Misaligned);
+        }
+        match part_of(self.own.as_slice(), self.shared.as_slice(), at / 4) {
+            Some((part, _)) => part.fetch(at / 4),
+            None => Err(BusFault::Unmapped),
+        }
+    }
+
+    /// Why a store at an address would be refused.
+    pub fn store_fault(&self, at: u32, width: Width) -> Option<BusFault>
+        ensures { result ≡ access_fault to_write self.now at width }
+    {
+        if !is_aligned(at, width) {
+            return Some(BusFault::Misaligned);
+        }
+        match part_of(self.own.as_slice(), self.shared.as_slice(), at / 4) {
+            Some((_, true)) => None,
+            Some((_, false)) => Some(BusFault::NoRight),
+            None => Some(BusFault::Unmapped),
+        }
+    }
+}

@@ -1,0 +1,58 @@
+//! Why the program ends early.
+use kernel::BootFault;
+use std::alloc::{AllocError, AllocFailed};
+use std::io;
+use thiserror::Error;
+
+/// Why the program ends before its end. It prints as the line on standard error.
+#[derive(Debug, Drop, Error)]
+pub enum Fault {
+    /// The first line of the script that has no form, or that may not stand where it stands.
+    #[error("bench: script refused at line {line}")]
+    Script { line: usize },
+    #[error("bench: out of memory")]
+    OutOfMemory,
+    /// A file that cannot be read or is no text, or a stream that cannot be written.
+    #[error("bench: input or output failed")]
+    InputOutput,
+}
+
+impl Fault {
+    /// The exit status.
+    pub fn status(&self) -> u8 {
+        match self {
+            Fault::Script { .. } => 2,
+            Fault::OutOfMemory => 5,
+            Fault::InputOutput => 6,
+        }
+    }
+}
+
+impl From<AllocError> for Fault {
+    fn from(_error: AllocError) -> Fault {
+        Fault::OutOfMemory
+    }
+}
+
+impl<T: Drop> From<AllocFailed<T>> for Fault {
+    fn from(_failed: AllocFailed<T>) -> Fault {
+        Fault::OutOfMemory
+    }
+}
+
+impl From<BootFault> for Fault {
+    fn from(fault: BootFault) -> Fault {
+        match fault {
+            BootFault::OutOfMemory => Fault::OutOfMemory,
+        }
+    }
+}
+
+impl From<io::Error> for Fault {
+    fn from(error: io::Error) -> Fault {
+        match error.kind() {
+            io::ErrorKind::OutOfMemory => Fault::OutOfMemory,
+            _ => Fault::InputOutput,
+        }
+    }
+}

@@ -1,0 +1,66 @@
+//! The whole program.
+use crate::command::{Task, parse};
+use crate::fault::Fault;
+use crate::replay::replay;
+use clap::Error;
+use clap::error::ErrorKind;
+use std::io::{Read, Write};
+use std::rt::Files;
+use std::{fs, io};
+
+/// Does what the words ask for.
+fn run<R: Files + AllocGlobal, I: Read, O: Write>(
+    rt: &R,
+    task: Task<'_>,
+    input: &mut I,
+    out: &mut O,
+) -> Result<(), Fault> {
+    let text = match task {
+        Task::ReplayInput => io::read_to_string(rt.alloc(), input)?,
+        Task::ReplayFile(path) => fs::read_to_string(rt, path)?,
+    };
+    replay(rt.alloc(), text.as_str(), out)?;
+    out.flush()?;
+    Ok(())
+}
+
+/// The end of a run that a fault cut short: its line, and its status.
+fn end<E: Write>(fault: Fault, err: &mut E) -> u8 {
+    let status = fault.status();
+    // Where the line cannot be written either, the status still tells.
+    let _ = writeln!(err, "{fault}");
+    status
+}
+
+/// The end at a faulty command line, or at help that was asked for.
+fn end_usage<O: Write, E: Write>(error: &Error, out: &mut O, err: &mut E) -> u8 {
+    if error.kind() == ErrorKind::OutOfMemory {
+        return end(Fault::OutOfMemory, err);
+    }
+    if error.use_stderr() {
+        let _ = write!(err, "{error}");
+        return 1;
+    }
+    match write!(out, "{error}") {
+        Ok(()) => 0,
+        Err(_) => end(Fault::InputOutput, err),
+    }
+}
+
+/// The whole program: does what the words, the program's name aside, ask for, and answers the exit status. No words:
+/// replays the script on the input. What it prints goes to `out`; one line on `err` says why it ended early.
+pub fn bench<R: Files + AllocGlobal, I: Read, O: Write, E: Write>(
+    rt: &R,
+    words: &[String],
+    input: &mut I,
+    out: &mut O,
+    err: &mut E,
+) -> u8 {
+    match parse(rt.alloc(), words) {
+        Err(error) => end_usage(&error, out, err),
+        Ok(task) => match run(rt, task, input, out) {
+            Ok(()) => 0,
+            Err(fault) => end(fault, err),
+        },
+    }
+}

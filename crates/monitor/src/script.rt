@@ -1,0 +1,175 @@
+//! Scripts: programs to be booted, and what is done with them line by line.
+ghost use Rattle.std.specs.Prelude.{◌≡◌, ◌<◌, ◌≤◌, IfOk, IfSome, length, vec_len};
+
+use crate::fault::Fault;
+use hex::FromHex;
+use kernel::Event;
+use std::alloc::{AllocError, Global};
+
+/// The most programs of a script.
+const MOST_PROGRAMS: usize = 8;
+
+/// How many terminals there are.
+const TERMINALS: u32 = 8;
+
+/// The most words of a program: 60 pages.
+const MOST_WORDS: usize = 15360;
+
+/// A program of a script: its terminal, 0 to 7, and its words, 1 to 15,360, for the addresses from 0x00010000 on.
+#[derive(Drop)]
+pub struct ProgramText {
+    pub terminal: u32,
+    pub words: Vec<u32>,
+    ghost terminal_there: { terminal < 8 },
+    ghost some_words: { 0 < vec_len words },
+    ghost few_words: { vec_len words ≤ 15360 },
+}
+
+/// A line of a script that is no set-up line.
+#[derive(Clone, Copy, Debug, PartialEq, Eq)]
+pub enum Step {
+    /// An event is applied, and its answer printed.
+    Apply(Event),
+    /// What a terminal, 0 to 7, shows is printed.
+    Shown(Terminal),
+    /// The replies to a process's calls that are handed out are printed.
+    Trace(u32),
+}
+
+/// A terminal's number, 0 to 7.
+#[derive(Clone, Copy, Debug, PartialEq, Eq)]
+pub struct Terminal {
+    pub number: u32,
+    ghost there: { number < 8 },
+}
+
+/// A script: its programs in order, and its steps in order.
+#[derive(Drop)]
+pub struct Script {
+    pub programs: Vec<ProgramText>,
+    pub steps: Vec<Step>,
+}
+
+/// A line of a script that is neither empty nor a comment.
+#[derive(Drop)]
+enum Line {
+    Program(ProgramText),
+    Step(Step),
+}
+
+/// A decimal number below 2^32. Leading zeros are allowed, a sign is not.
+fn decimal(word: &str) -> Option<u32> {
+    if word.bytes().all(|byte| byte.is_ascii_digit()) {
+        word.parse::<u32>().ok()
+    } else {
+        None
+    }
+}
+
+/// A word of eight hexadecimal digits, the highest first.
+fn hexadecimal(word: &str) -> Option<u32> {
+    let bytes = <[u8; 4] as FromHex>::from_hex(word).ok()?;
+    Some(u32::from_be_bytes(bytes))
+}
+
+/// A terminal's number, in decimal.
+fn terminal_of(word: &str) -> Option<Terminal> {
+    let number = decimal(word)?;
+    if number < TERMINALS {
+        Some(Terminal { number })
+    } else {
+        None
+    }
+}
+
+/// The numbers of words of eight hexadecimal digits. None where one has no such form.
+fn numbers_of(alloc: Global, texts: &[&str]) -> Result<Option<Vec<u32>>, AllocError>
+    ensures { IfOk result (λ numbers. IfSome numbers (λ list. vec_len list ≡ length texts.now)) }
+{
+    let mut numbers = Vec::new(alloc);
+    for text in texts {
+        match hexadecimal(text) {
+            Some(number) => numbers.push(number)?,
+            None => return Ok(None),
+        }
+    }
+    Ok(Some(numbers))
+}
+
+/// The program of a line `program T WORD..`, without its first word. None where it has no such form.
+fn program_of(alloc: Global, words: &[&str]) -> Result<Option<ProgramText>, AllocError> {
+    let [first, texts @ ..] = words else {
+        return Ok(None);
+    };
+    let Some(terminal) = terminal_of(first) else {
+        return Ok(None);
+    };
+    if texts.is_empty() || texts.len() > MOST_WORDS {
+        return Ok(None);
+    }
+    match numbers_of(alloc, texts)? {
+        Some(words) => Ok(Some(ProgramText {
+            terminal: terminal.number,
+            words,
+        })),
+        None => Ok(None),
+    }
+}
+
+/// The step of a line, if it has the form of one.
+fn step_of(words: &[&str]) -> Option<Step> {
+    let step = match words {
+        ["turn", pid, n] => Step::Apply(Event::Turn {
+            pid: decimal(pid)?,
+            n: decimal(n)?,
+        }),
+        ["enter", pid] => Step::Apply(Event::Enter { pid: decimal(pid)? }),
+        ["cut"] => Step::Apply(Event::Cut),
+        ["complete", at] => Step::Apply(Event::Complete { at: decimal(at)? }),
+        ["fail", at] => Step::Apply(Event::Fail { at: decimal(at)? }),
+        ["shown", number] => Step::Shown(terminal_of(number)?),
+        ["trace", pid] => Step::Trace(decimal(pid)?),
+        _ => return None,
+    };
+    Some(step)
+}
+
+/// A line, if it has a form. Words are parted by one space each.
+fn line_of(alloc: Global, text: &str) -> Result<Option<Line>, AllocError> {
+    let words: Vec<&str> = text.split(' ').collect(alloc)?;
+    match words.as_slice() {
+        ["program", rest @ ..] => Ok(program_of(alloc, rest)?.map(|text| Line::Program(text))),
+        others => Ok(step_of(others).map(|step| Line::Step(step))),
+    }
+}
+
+impl Script {
+    /// Reads a script whole. Refused is the first line that has no form, or is a `program` line behind a line that is
+    /// none, or a ninth one; and where there is no such line, line 1 of a script without a `program` line. Lines are
+    /// counted from 1 and end at a line feed; empty ones and those that begin with `#` are skipped.
+    pub fn parse(alloc: Global, text: &str) -> Result<Script, Fault> {
+        let mut script = Script {
+            programs: Vec::new(alloc),
+            steps: Vec::new(alloc),
+        };
+        let mut number = 0usize;
+        for text in text.split('\n') {
+            number = number.saturating_add(1);
+            if text.is_empty() || text.starts_with('#') {
+                continue;
+            }
+            match line_of(alloc, text)? {
+                Some(Line::Program(program))
+                    if script.steps.is_empty() && script.programs.len() < MOST_PROGRAMS => {
+                    script.programs.push(program)?;
+                }
+                Some(Line::Step(step)) => script.steps.push(step)?,
+                _ => return Err(Fault::Script { line: number }),
+            }
+        }
+        if script.programs.is_empty() {
+            return Err(Fault::Script { line: 1 });
+        }
+        Ok(script)
+    }
+}
