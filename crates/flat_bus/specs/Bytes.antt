@@ -1,7 +1,6 @@
 -- A memory of a list of bytes, from address 0 on, with all rights.
 use Rattle.std.specs.Prelude.{ℕ, zero, suc, ◌+◌, ◌*◌, ◌^◌, true, List, [], ◌∷◌, slice_get, slice_index, slice_set, option_map}
 use Rattle.machine_model.specs.Memory.{Memory, Cell, memory_of}
-use Rattle.machine_model.specs.declared.access.Rights.{Rights}
 
 -- a byte with all rights
 abbrev pub cell_of : ℕ → Cell

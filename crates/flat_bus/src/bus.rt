@@ -36,13 +36,15 @@ fn read(bytes: &[u8; 64], at: u32, width: Width) -> u32
     requires { at + size width ≤ 64 }
     ensures { result ≡ value_of bytes.now at (size width) }
 {
-    let k = at as usize;
+    let first = at as usize;
     match width {
-        Width::Byte => u32::from(bytes[k]),
-        Width::Half => u32::from(bytes[k]) + 256 * u32::from(bytes[k + 1]),
+        Width::Byte => u32::from(bytes[first]),
+        Width::Half => u32::from(bytes[first]) + 256 * u32::from(bytes[first + 1]),
         Width::Word => {
-            u32::from(bytes[k])
-                + 256 * (u32::from(bytes[k + 1]) + 256 * (u32::from(bytes[k + 2]) + 256 * u32::from(bytes[k + 3])))
+            u32::from(bytes[first])
+                + 256
+                    * (u32::from(bytes[first + 1])
+                        + 256 * (u32::from(bytes[first + 2]) + 256 * u32::from(bytes[first + 3])))
         }
     }
 }
@@ -52,18 +54,18 @@ fn write(bytes: &mut [u8; 64], at: u32, width: Width, value: u32)
     requires { at + size width ≤ 64 }
     ensures { bytes.new ≡ put_in bytes.old at (low_bytes (size width) value) }
 {
-    let k = at as usize;
+    let first = at as usize;
     match width {
-        Width::Byte => bytes[k] = (value % 256) as u8,
+        Width::Byte => bytes[first] = (value % 256) as u8,
         Width::Half => {
-            bytes[k] = (value % 256) as u8;
-            bytes[k + 1] = (value / 256 % 256) as u8;
+            bytes[first] = (value % 256) as u8;
+            bytes[first + 1] = (value / 256 % 256) as u8;
         }
         Width::Word => {
-            bytes[k] = (value % 256) as u8;
-            bytes[k + 1] = (value / 256 % 256) as u8;
-            bytes[k + 2] = (value / 256 / 256 % 256) as u8;
-            bytes[k + 3] = (value / 256 / 256 / 256 % 256) as u8;
+            bytes[first] = (value % 256) as u8;
+            bytes[first + 1] = (value / 256 % 256) as u8;
+            bytes[first + 2] = (value / 256 / 256 % 256) as u8;
+            bytes[first + 3] = (value / 256 / 256 / 256 % 256) as u8;
         }
     }
 }

@@ -9,7 +9,7 @@ pub use bus::FlatBus;
 mod tests {
     use super::*;
     use formats::{Immediate, Instr, Reg, ShiftAmount};
-    use isa_table::{exec, Outcome, Regs};
+    use isa_table::{Outcome, Regs, exec};
     use machine_model::Cause;
 
     /// Registers with these values in x1 and x2.
@@ -37,8 +37,26 @@ mod tests {
             (Instr::Mulh { rd, rs1, rs2 }, least, least, 0x4000_0000),
             (Instr::Mulhsu { rd, rs1, rs2 }, ones, ones, ones),
             (Instr::Mulhu { rd, rs1, rs2 }, ones, ones, 0xffff_fffe),
-            (Instr::Sltiu { rd, rs1, imm: Immediate::new(-1) }, 0, 0, 1),
-            (Instr::Srai { rd, rs1, amount: ShiftAmount::new(31) }, least, 0, ones),
+            (
+                Instr::Sltiu {
+                    rd,
+                    rs1,
+                    imm: Immediate::new(-1),
+                },
+                0,
+                0,
+                1,
+            ),
+            (
+                Instr::Srai {
+                    rd,
+                    rs1,
+                    amount: ShiftAmount::new(31),
+                },
+                least,
+                0,
+                ones,
+            ),
         ] {
             let mut bus = FlatBus { bytes: [0; 64] };
             let mut regs = registers(first, second);
@@ -53,10 +71,19 @@ mod tests {
         let ra = Reg::new(1);
         for (imm, outcome, pc, link) in [
             (1, Outcome::Next, 0x0001_0010, 0x0001_0004),
-            (2, Outcome::Trap(Cause::MisalignedTarget), 0x0001_0000, 0x0001_0010),
+            (
+                2,
+                Outcome::Trap(Cause::MisalignedTarget),
+                0x0001_0000,
+                0x0001_0010,
+            ),
         ] {
             let mut bus = FlatBus { bytes: [0; 64] };
-            let jump = Instr::Jalr { rd: ra, rs1: ra, imm: Immediate::new(imm) };
+            let jump = Instr::Jalr {
+                rd: ra,
+                rs1: ra,
+                imm: Immediate::new(imm),
+            };
             let mut regs = registers(0x0001_0010, 0);
             assert_eq!(rt; exec(&mut regs, &mut bus, jump), outcome);
             let Regs { x, pc: to } = regs;
@@ -70,8 +97,16 @@ mod tests {
         let (x0, rd, rs1, imm) = (Reg::new(0), Reg::new(3), Reg::new(1), Immediate::new(0));
         for (i, at, cause) in [
             (Instr::Lw { rd, rs1, imm }, 0x8000_0000, Cause::PageFault),
-            (Instr::Lh { rd, rs1, imm }, 0x7fff_ffff, Cause::MisalignedData),
-            (Instr::Lw { rd: x0, rs1, imm }, 0x8000_0000, Cause::PageFault),
+            (
+                Instr::Lh { rd, rs1, imm },
+                0x7fff_ffff,
+                Cause::MisalignedData,
+            ),
+            (
+                Instr::Lw { rd: x0, rs1, imm },
+                0x8000_0000,
+                Cause::PageFault,
+            ),
         ] {
             let mut bus = FlatBus { bytes: [0; 64] };
             let mut regs = registers(at, 0);
@@ -83,13 +118,41 @@ mod tests {
     fn stores_and_loads(rt: HostRuntime) {
         let (rd, rs1, rs2, imm) = (Reg::new(3), Reg::new(1), Reg::new(2), Immediate::new(60));
         for (store, load, want) in [
-            (Instr::Sb { rs1, rs2, imm }, Instr::Lb { rd, rs1, imm }, 0xffff_ff83),
-            (Instr::Sb { rs1, rs2, imm }, Instr::Lbu { rd, rs1, imm }, 0x83),
-            (Instr::Sb { rs1, rs2, imm }, Instr::Lw { rd, rs1, imm }, 0x1111_1183),
-            (Instr::Sh { rs1, rs2, imm }, Instr::Lh { rd, rs1, imm }, 0xffff_8283),
-            (Instr::Sh { rs1, rs2, imm }, Instr::Lhu { rd, rs1, imm }, 0x8283),
-            (Instr::Sh { rs1, rs2, imm }, Instr::Lw { rd, rs1, imm }, 0x1111_8283),
-            (Instr::Sw { rs1, rs2, imm }, Instr::Lw { rd, rs1, imm }, 0x8081_8283),
+            (
+                Instr::Sb { rs1, rs2, imm },
+                Instr::Lb { rd, rs1, imm },
+                0xffff_ff83,
+            ),
+            (
+                Instr::Sb { rs1, rs2, imm },
+                Instr::Lbu { rd, rs1, imm },
+                0x83,
+            ),
+            (
+                Instr::Sb { rs1, rs2, imm },
+                Instr::Lw { rd, rs1, imm },
+                0x1111_1183,
+            ),
+            (
+                Instr::Sh { rs1, rs2, imm },
+                Instr::Lh { rd, rs1, imm },
+                0xffff_8283,
+            ),
+            (
+                Instr::Sh { rs1, rs2, imm },
+                Instr::Lhu { rd, rs1, imm },
+                0x8283,
+            ),
+            (
+                Instr::Sh { rs1, rs2, imm },
+                Instr::Lw { rd, rs1, imm },
+                0x1111_8283,
+            ),
+            (
+                Instr::Sw { rs1, rs2, imm },
+                Instr::Lw { rd, rs1, imm },
+                0x8081_8283,
+            ),
         ] {
             let mut bus = FlatBus { bytes: [0x11; 64] };
             let mut regs = registers(0, 0x8081_8283);

@@ -1,3 +1,3 @@
--- The lemmas.
+-- The lemmas of more than one proof.
 pub mod Rows
 pub mod Spelling

@@ -14,6 +14,7 @@ at_row : (w o f g : ℕ) → opcode w ≡ o → funct3 w ≡ f → funct7 w ≡ 
 unfolding instr_of
 at_row w o f g is_o is_f is_g = rw (← is_o, ← is_f, ← is_g) refl
 
+-- a word that means an instruction has it in the table
 pub means-instr_of : (w : ℕ) (i : Instr) → Means w i → instr_of w ≡ Some i
 unfolding row_of branch_of load_of store_of shift_of immediate_of register_of base_of alternate_of multiply_of
 means-instr_of w (instr.Lui rd imm) (o, a, b) = rw (a, b) (at_row w 0b0110111 _ _ o refl refl)
@@ -78,6 +79,7 @@ by_test P n k here next i passed failed =
 found : (w : ℕ) (i j : Instr) → Means w i → Some i ≡ Some j → Means w j
 found w i j m e = let same : i ≡ j = cc in let P : Instr → Type 0 = λ i. Means w i in subst P same m
 
+-- an illegal word has no row
 none : (P : Type 0) (i : Instr) → None ≡ Some i → P
 none P i e = absurd (cc)
 
@@ -175,6 +177,7 @@ register_of-means w i o =
     by_test _ (funct7 w) 0b0000001 _ _ i (multiply_of-means w i o) (
     none _ i)))
 
+-- what a word has in the table is what it means
 pub instr_of-means : (w : ℕ) (i : Instr) → instr_of w ≡ Some i → Means w i
 unfolding instr_of row_of
 instr_of-means w i =
@@ -188,8 +191,8 @@ instr_of-means w i =
     by_test _ (opcode w) 0b0010011 _ _ i (λ o. by_test _ (funct3 w) 0b001 _ _ i (shift_of_left-means w i o) (by_test _ (funct3 w) 0b101 _ _ i (shift_of_right-means w i o) (immediate_of-means w i o))) (
     by_test _ (opcode w) 0b0110011 _ _ i (register_of-means w i) (
     by_test _ (opcode w) 0b0001111 _ _ i (λ o. by_test _ (funct3 w) 0b000 _ _ i (λ f. found w instr.Fence i (o, f)) (none _ i)) (
-    by_test _ (w) 0x00000073 _ _ i (λ e. found w instr.Ecall i e) (
-    by_test _ (w) 0x00100073 _ _ i (λ e. found w instr.Ebreak i e) (
+    by_test _ w 0x00000073 _ _ i (λ e. found w instr.Ecall i e) (
+    by_test _ w 0x00100073 _ _ i (λ e. found w instr.Ebreak i e) (
     none _ i))))))))))))
 
 -- what an answer of the table says of the word's meaning
@@ -197,5 +200,5 @@ pub meaning_from_table : (w : ℕ) (r : Option Instr) → r ≡ instr_of w → M
 meaning_from_table w (Some i) e = instr_of-means w i (sym e)
 meaning_from_table w None e = λ i m. none _ i (e ∙ means-instr_of w i m)
 
--- for `encode`
+-- for an attribute, which cannot name a lemma with a dash
 pub ruleset means_in_table = (means-instr_of)

@@ -46,8 +46,11 @@ fn write(regs: &mut Regs, rd: Reg, value: u32) -> Outcome
     ensures x { regs.new.x ≡ put regs.old.x rd value }
     ensures pc { regs.new.pc ≡ (regs.old.pc + 4) % 2 ^ 32 }
 {
+    // Read before the write, the program counter can stay in a register of the host.
+    let next = regs.pc.wrapping_add(4);
     regs.set(rd, value);
-    advance(regs)
+    regs.pc = next;
+    Outcome::Next
 }
 
 /// A register's value and an offset.
@@ -67,11 +70,11 @@ fn link(regs: &mut Regs, rd: Reg, target: u32) -> Outcome
         (hart regs.old.x regs.old.pc m)
         (hart regs.new.x regs.new.pc m) }
 {
-    let next = regs.pc.wrapping_add(4);
+    let return_address = regs.pc.wrapping_add(4);
     if target % 4 != 0 {
         return Outcome::Trap(Cause::MisalignedTarget);
     }
-    regs.set(rd, next);
+    regs.set(rd, return_address);
     regs.pc = target;
     Outcome::Next
 }

@@ -77,7 +77,7 @@ impl Task {
             turn: done.turn,
             quantum: done.quantum,
         };
-        self.lent == Some(lending)
+        self.lent == Some(lending) && self.machine.is_same(&done.began)
     }
 }
 

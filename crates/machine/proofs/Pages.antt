@@ -1,9 +1,8 @@
 -- A program's first memory, segment by segment.
-use Rattle.std.proofs.Common.{◌≡◌, ℕ, suc, zero, ◌+◌, ◌-◌, ◌*◌, ◌/◌, ◌%◌, ◌^◌, ◌<◌, ◌≤◌, Bool, true, false, cond, leb, ltb, List, [], ◌∷◌, ◌++◌, length, get_or, replicate, take, refl, sym, ap, subst, ◌∙◌, arith, inl, inr}
-use Rattle.std.specs.Prelude.{◌⊎◌, ◌&&◌, Option, Some, None, All, drop, slice_index, slice_index_or}
+use Rattle.std.proofs.Common.{◌≡◌, ℕ, suc, zero, ◌+◌, ◌-◌, ◌*◌, ◌/◌, ◌^◌, ◌<◌, ◌≤◌, Bool, true, false, cond, leb, ltb, List, [], ◌∷◌, ◌++◌, length, get_or, replicate, take, refl, sym, ap, subst, ◌∙◌, arith, inl, inr}
+use Rattle.std.specs.Prelude.{◌&&◌, Option, Some, None, All, drop, slice_index, slice_index_or}
 use Rattle.std.specs.FinMap.{get}
 use Rattle.std.proofs.lemmas.Bool.Decides.{leb_tells, nat_tests}
-use Rattle.std.proofs.lemmas.Grind.{common_steps}
 use Rattle.std.proofs.lemmas.List.{get_or-append_right, get_or_append_left, get_or-replicate, get_or_past, take_all, take_rest, length-append, length-replicate}
 use Rattle.machine_model.specs.Memory.{Memory, Cell, memory_of}
 use Rattle.machine_model.specs.Access.{mapped, cell_with}
@@ -11,7 +10,7 @@ use Rattle.machine_model.specs.declared.access.Rights.{Rights}
 use Rattle.machine_model.proofs.Memories.{get-memory_of, same_memory}
 use Rattle.machine.specs.declared.image.Segment.{Segment}
 use Rattle.machine.specs.Images.{IsLoadable, AreAscending, first_page, last_page, page_count}
-use Rattle.machine.specs.First.{first_cell, stack_cell, byte_at, has_page}
+use Rattle.machine.specs.First.{first_cell, byte_at}
 
 zeros-at : (n k : ℕ) → slice_index (replicate n 0) k ≡ 0
 zeros-at n k =
@@ -26,7 +25,7 @@ padded-at zeros bytes rest k =
     elim (leb_tells (suc k) (zeros + length bytes)) [
       | inl f ↦ get_or_append_left (replicate zeros 0 ++ bytes) (replicate rest 0) 0 k (omega (arith, f.1, size)) ∙ front
       | inr f ↦
-        get_or-append_right (replicate zeros 0 ++ bytes) (replicate rest 0) (zeros + length bytes) k 0 size (omega (arith, f.1)) ∙ zeros-at rest (k - (zeros + length bytes))
+          get_or-append_right (replicate zeros 0 ++ bytes) (replicate rest 0) (zeros + length bytes) k 0 size (omega (arith, f.1)) ∙ zeros-at rest (k - (zeros + length bytes))
           ∙ sym (beyond (omega (arith, f.1)))
     ]
   where
@@ -70,8 +69,8 @@ get-mapped : (f : ℕ → Option Cell) (at : ℕ) (rights : Rights) (bytes : Lis
     → get (mapped (memory_of f) at rights bytes) q ≡ cond (leb at q && ltb q (at + length bytes)) (Some (cell_with rights (slice_index bytes (q - at)))) (f q)
 get-mapped f at rights bytes q small =
     get-memory_of _ q
-      ∙ ap (λ (b : Bool). cond b (cond (leb at q && ltb q (at + length bytes)) (Some (cell_with rights (slice_index bytes (q - at)))) (get (memory_of f) q)) None) (within q small)
-      ∙ ap (cond (leb at q && ltb q (at + length bytes)) (Some (cell_with rights (slice_index bytes (q - at))))) (get-memory_of f q ∙ ap (λ (b : Bool). cond b (f q) None) (within q small))
+    ∙ ap (λ (b : Bool). cond b (cond (leb at q && ltb q (at + length bytes)) (Some (cell_with rights (slice_index bytes (q - at)))) (get (memory_of f) q)) None) (within q small)
+    ∙ ap (cond (leb at q && ltb q (at + length bytes)) (Some (cell_with rights (slice_index bytes (q - at))))) (get-memory_of f q ∙ ap (λ (b : Bool). cond b (f q) None) (within q small))
 
 -- mapped memories by what stands at each address
 pub mapped-is : (f g : ℕ → Option Cell) (at : ℕ) (rights : Rights) (bytes : List ℕ)
@@ -112,11 +111,11 @@ mapped-segment s rest bytes ok size is = mapped-is (first_cell rest) (first_cell
     alike q =
         elim (leb_tells (4096 * first_page s) q) [
           | inl f ↦
-            ap (λ (b : Bool). cond (b && ltb q (4096 * first_page s + length bytes)) (Some (cell_with s.rights (slice_index bytes (q - 4096 * first_page s)))) (first_cell rest q)) (page_from (first_page s) q)
+              ap (λ (b : Bool). cond (b && ltb q (4096 * first_page s + length bytes)) (Some (cell_with s.rights (slice_index bytes (q - 4096 * first_page s)))) (first_cell rest q)) (page_from (first_page s) q)
               ∙ ap (λ (b : Bool). cond (leb (first_page s) (q / 4096) && b) (Some (cell_with s.rights (slice_index bytes (q - 4096 * first_page s)))) (first_cell rest q)) (page_to (first_page s) (last_page s) (length bytes) q (first_page-le s ok) size)
               ∙ ap (λ (byte : ℕ). cond (leb (first_page s) (q / 4096) && leb (q / 4096) (last_page s)) (Some (cell_with s.rights byte)) (first_cell rest q)) (is (q - 4096 * first_page s) ∙ ap (byte_at s) (omega (arith, f.1)))
           | inr f ↦
-            ap (λ (b : Bool). cond (b && ltb q (4096 * first_page s + length bytes)) (Some (cell_with s.rights (slice_index bytes (q - 4096 * first_page s)))) (first_cell rest q)) f.0
+              ap (λ (b : Bool). cond (b && ltb q (4096 * first_page s + length bytes)) (Some (cell_with s.rights (slice_index bytes (q - 4096 * first_page s)))) (first_cell rest q)) f.0
               ∙ sym (ap (λ (b : Bool). cond (b && leb (q / 4096) (last_page s)) (Some (cell_with s.rights (byte_at s q))) (first_cell rest q)) (sym (page_from (first_page s) q) ∙ f.0))
         ]
 
@@ -131,7 +130,7 @@ pub first_cell-below : (page : ℕ) (segments : List Segment) (a : ℕ) → All 
 first_cell-below page [] a ok up small low = grind (arith, nat_tests)
 first_cell-below page (s ∷ ss) a ok up small low =
     ap (λ (b : Bool). cond (b && leb (a / 4096) (last_page s)) (Some (cell_with s.rights (byte_at s a))) (first_cell ss a)) before
-      ∙ first_cell-below (last_page s + 1) ss a (All-tail IsLoadable s ss ok) up.1 (omega (arith, small, up.0, first_page-le s (All-head IsLoadable s ss ok))) low
+    ∙ first_cell-below (last_page s + 1) ss a (All-tail IsLoadable s ss ok) up.1 (omega (arith, small, up.0, first_page-le s (All-head IsLoadable s ss ok))) low
   where
     before : leb (first_page s) (a / 4096) ≡ false
     before = elim (leb_tells (first_page s) (a / 4096)) [ inl f ↦ absurd (omega (arith, f.1, up.0, small)) | inr f ↦ f.0 ]
@@ -166,15 +165,15 @@ segment-free segments rest s page bytes m is loadable up size from a low high =
     empty : first_cell rest a ≡ None
     empty =
         first_cell-below (last_page s + 1) rest a (All-tail IsLoadable s rest all) ascending.1
-          (omega (arith, high, size, first_page-le s ok)) (omega (arith, high, size, first_page-le s ok, ok.below, ok.present))
+        (omega (arith, high, size, first_page-le s ok)) (omega (arith, high, size, first_page-le s ok, ok.below, ok.present))
 
 -- the memory once a segment's pages are there
 pub segment-mapped : (segments rest : List Segment) (s : Segment) (bytes : List ℕ) (m new : Memory) → segments ≡ s ∷ rest → All IsLoadable segments → length bytes ≡ 4096 * page_count s → ((k : ℕ) → slice_index bytes k ≡ byte_at s (4096 * first_page s + k)) → m ≡ memory_of (first_cell rest)
     → new ≡ mapped m (4096 * first_page s) s.rights bytes → new ≡ memory_of (first_cell segments)
 segment-mapped segments rest s bytes m new is loadable size spelled from e =
     e ∙ ap (λ (x : Memory). mapped x (4096 * first_page s) s.rights bytes) from
-      ∙ mapped-segment s rest bytes (All-head IsLoadable s rest (subst (All IsLoadable) is loadable)) size spelled
-      ∙ ap (λ (list : List Segment). memory_of (first_cell list)) (sym is)
+    ∙ mapped-segment s rest bytes (All-head IsLoadable s rest (subst (All IsLoadable) is loadable)) size spelled
+    ∙ ap (λ (list : List Segment). memory_of (first_cell list)) (sym is)
 
 -- where nothing stands
 pub nothing-free : (m : Memory) → m ≡ memory_of (λ _. None) → (a : ℕ) → get m a ≡ None
@@ -189,7 +188,7 @@ pub stack-mapped : (m new : Memory) (bytes : List ℕ) → m ≡ memory_of (λ _
     → new ≡ mapped m 0x7FFFC000 (record { read = true; write = true; execute = false }) bytes → new ≡ memory_of (first_cell [])
 stack-mapped m new bytes from size is e =
     e ∙ ap (λ (x : Memory). mapped x 0x7FFFC000 (record { read = true; write = true; execute = false }) bytes) from
-      ∙ mapped-is (λ _. None) (first_cell []) 0x7FFFC000 (record { read = true; write = true; execute = false }) bytes (λ q small. alike q)
+    ∙ mapped-is (λ _. None) (first_cell []) 0x7FFFC000 (record { read = true; write = true; execute = false }) bytes (λ q small. alike q)
   where
     zero_byte : (k : ℕ) → cond (leb 0 k) 0 0 ≡ zero
     zero_byte k = elim (leb_tells 0 k) [ inl f ↦ ap (λ (b : Bool). cond b 0 0) f.0 | inr f ↦ ap (λ (b : Bool). cond b 0 0) f.0 ]
@@ -197,4 +196,4 @@ stack-mapped m new bytes from size is e =
     alike : (q : ℕ) → cond (leb 0x7FFFC000 q && ltb q (0x7FFFC000 + length bytes)) (Some (cell_with (record { read = true; write = true; execute = false }) (slice_index bytes (q - 0x7FFFC000)))) None ≡ first_cell [] q
     alike q =
         ap (λ (n : ℕ). cond (leb 0x7FFFC000 q && ltb q (0x7FFFC000 + n)) (Some (cell_with (record { read = true; write = true; execute = false }) (slice_index bytes (q - 0x7FFFC000)))) None) size
-          ∙ ap (λ (byte : ℕ). cond (leb 0x7FFFC000 q && ltb q 0x80000000) (Some (cell_with (record { read = true; write = true; execute = false }) byte)) None) (is (q - 0x7FFFC000) ∙ zero_byte (q - 0x7FFFC000))
+        ∙ ap (λ (byte : ℕ). cond (leb 0x7FFFC000 q && ltb q 0x80000000) (Some (cell_with (record { read = true; write = true; execute = false }) byte)) None) (is (q - 0x7FFFC000) ∙ zero_byte (q - 0x7FFFC000))

@@ -1,5 +1,5 @@
 -- The bytes of words.
-use Rattle.std.proofs.Common.{◌≡◌, ℕ, suc, zero, ◌+◌, ◌*◌, ◌/◌, ◌%◌, ◌^◌, ◌<◌, ◌≤◌, Bool, true, false, subst, List, [], ◌∷◌, ◌++◌, length, get_or, take, refl, sym, ap, ◌∙◌, arith}
+use Rattle.std.proofs.Common.{◌≡◌, ℕ, suc, zero, ◌+◌, ◌*◌, ◌/◌, ◌%◌, ◌^◌, ◌<◌, ◌≤◌, true, false, subst, List, [], ◌∷◌, ◌++◌, length, get_or, take, refl, sym, ap, ◌∙◌, arith}
 use Rattle.std.specs.Prelude.{All}
 use Rattle.std.specs.Int.{to_le_bytes, w32}
 use Rattle.std.proofs.lemmas.List.{append_assoc, append-nil, take_more, length-append}
@@ -12,7 +12,7 @@ low_bytes-le word =
     let second : word / 65536 ≡ word / 256 / 256 = omega arith in
     let third : word / 16777216 ≡ word / 256 / 256 / 256 = omega arith in
     ap (λ (n : ℕ). word % 256 ∷ word / 256 % 256 ∷ n % 256 ∷ word / 16777216 % 256 ∷ []) second
-      ∙ ap (λ (n : ℕ). word % 256 ∷ word / 256 % 256 ∷ word / 256 / 256 % 256 ∷ n % 256 ∷ []) third
+    ∙ ap (λ (n : ℕ). word % 256 ∷ word / 256 % 256 ∷ word / 256 / 256 % 256 ∷ n % 256 ∷ []) third
 
 bytes_of_words-push : (words : List ℕ) (word : ℕ) → bytes_of_words (words ++ word ∷ []) ≡ bytes_of_words words ++ low_bytes 4 word
 bytes_of_words-push [] word = append-nil (low_bytes 4 word)
@@ -43,7 +43,7 @@ IsProfile-words words some few = record {
   ascending = (omega arith, tt);
   small = omega (arith, few);
   aligned = refl;
-  in_code = (0, _, omega arith, refl, (refl, omega arith, omega (arith, some)))
+  in_code = (0, _, omega arith, refl, (refl, omega arith, omega (arith, some)));
 }
 
 pub IsProfile-segments : (words bytes : List ℕ) (segments : List Segment) → segments ≡ record { vaddr = 0x00010000; memsz = 4 * length words; rights = record { read = true; write = false; execute = true }; bytes = bytes } ∷ [] → bytes ≡ bytes_of_words words

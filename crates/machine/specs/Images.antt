@@ -2,7 +2,6 @@
 use Rattle.std.specs.Prelude.{◌≡◌, ℕ, ◌+◌, ◌-◌, ◌*◌, ◌/◌, ◌%◌, ◌<◌, ◌≤◌, ◌&&◌, ◌||◌, Bool, true, false, List, [], ◌∷◌, ◌++◌, length, All, Any, sum_by, refl}
 use Rattle.std.specs.Coded.{Coded, code_by, coded×, coded_ℕ, coded_bool, coded_list}
 use Rattle.machine_model.specs.Access.{low_bytes}
-use Rattle.machine_model.specs.declared.access.Rights.{Rights}
 use Rattle.machine.specs.declared.image.Segment.{Segment}
 
 -- where a program begins, and its segments
@@ -13,9 +12,9 @@ pub record Program : Type 0 where
 abbrev pub segment_code : Coded Segment
 segment_code =
     code_by (ℕ × (ℕ × ((Bool × (Bool × Bool)) × List ℕ))) (coded× coded_ℕ (coded× coded_ℕ (coded× (coded× coded_bool (coded× coded_bool coded_bool)) (coded_list coded_ℕ))))
-      (λ s. (s.vaddr, (s.memsz, ((s.rights.read, (s.rights.write, s.rights.execute)), s.bytes))))
-      (λ p. record { vaddr = p.0; memsz = p.1.0; rights = record { read = p.1.1.0.0; write = p.1.1.0.1.0; execute = p.1.1.0.1.1 }; bytes = p.1.1.1 })
-      (λ _. refl)
+    (λ s. (s.vaddr, (s.memsz, ((s.rights.read, (s.rights.write, s.rights.execute)), s.bytes))))
+    (λ p. record { vaddr = p.0; memsz = p.1.0; rights = record { read = p.1.1.0.0; write = p.1.1.0.1.0; execute = p.1.1.0.1.1 }; bytes = p.1.1.1 })
+    (λ _. refl)
 
 -- by this code a proof tells programs apart
 abbrev pub program_code : Coded Program

@@ -2,11 +2,10 @@
 ghost use Rattle.std.specs.Prelude.{◌≡◌, ◌<◌, ◌≤◌, length, IfOk};
 ghost use Rattle.machine.specs.Images.{IsProfile, bytes_of_words, program_of_words};
 
-use std::alloc::{AllocError, Global};
-use std::marker::Model;
-
 use byte_list::Bytes;
 use machine_model::Rights;
+use std::alloc::{AllocError, Global};
+use std::marker::Model;
 
 /// A run of a program's memory, with one set of rights.
 #[derive(Debug, Drop)]

@@ -4,9 +4,9 @@
 mod decoded;
 mod fast;
 mod image;
+mod instruction;
 mod loading;
 mod machine;
-mod step;
 mod stopped;
 mod table;
 #[cfg(test)]

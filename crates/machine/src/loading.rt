@@ -4,12 +4,10 @@ ghost use Rattle.machine_model.specs.Memory.{memory_of};
 ghost use Rattle.machine.specs.Images.{IsLoadable, AreAscending, first_page, page_count};
 ghost use Rattle.machine.specs.First.{first_cell, byte_at};
 
-use std::alloc::{AllocError, Global};
-
+use crate::image::Segment;
 use machine_model::Rights;
 use memory::Space;
-
-use crate::image::Segment;
+use std::alloc::{AllocError, Global};
 
 /// A page's bytes.
 const PAGE: u32 = 4096;
@@ -25,7 +23,12 @@ pub fn space_of(alloc: Global, segments: &[Segment]) -> Result<Space, AllocError
         [segment, rest @ ..] => {
             let mut space = space_of(alloc, rest)?;
             let bytes = page_bytes(alloc, segment)?;
-            space.map(alloc, segment.vaddr / PAGE, segment.rights, bytes.as_slice())?;
+            space.map(
+                alloc,
+                segment.vaddr / PAGE,
+                segment.rights,
+                bytes.as_slice(),
+            )?;
             Ok(space)
         }
     }
@@ -53,7 +56,12 @@ fn page_bytes(alloc: Global, segment: &Segment) -> Result<Vec<u8>, AllocError>
     ensures bytes { IfOk result (λ bytes. (k : ℕ) → slice_index bytes.items k ≡ byte_at segment.now (4096 * first_page segment.now + k)) }
 {
     let pages = (segment.vaddr + segment.memsz - 1) / PAGE + 1 - segment.vaddr / PAGE;
-    with_zeros(alloc, (segment.vaddr % PAGE) as usize, segment.bytes.as_slice(), (PAGE * pages) as usize)
+    with_zeros(
+        alloc,
+        (segment.vaddr % PAGE) as usize,
+        segment.bytes.as_slice(),
+        (PAGE * pages) as usize,
+    )
 }
 
 /// So many zeros, then bytes, then zeros up to a size.

@@ -1,19 +1,10 @@
 //! A process's machine.
-ghost use Rattle.std.specs.Prelude.{◌≡◌, ◌≢◌, ◌↔◌, ℕ, ◌+◌, ◌%◌, ◌<◌, ◌≤◌, ◌^◌, true, length, Some, IfOk};
+ghost use Rattle.std.specs.Prelude.{◌≡◌, ◌≢◌, ◌↔◌, ℕ, ◌+◌, ◌%◌, ◌<◌, ◌≤◌, ◌^◌, true, length, Some, IfOk, IsTrue};
 ghost use Rattle.machine_model.specs.Access.{is_writable, put_bytes};
 ghost use Rattle.machine_model.specs.Effects.{reg as register};
 ghost use Rattle.machine_model.specs.States.{run as run_from, ran, stands_at, replied};
 ghost use Rattle.machine.specs.First.{first_state, first_registers};
 ghost use Rattle.machine.specs.Kept.{Kept};
-
-use std::alloc::{AllocError, Global};
-use std::marker::Model;
-use std::sync::Arc;
-
-use formats::Reg;
-use isa_table::Regs;
-use machine_model::{Reply, Stop};
-use memory::Space;
 
 use crate::decoded::tables_of;
 use crate::fast::run_tables;
@@ -21,6 +12,13 @@ use crate::image::Image;
 use crate::loading::space_of;
 use crate::stopped::stop_at;
 use crate::table::Table;
+use formats::Reg;
+use isa_table::Regs;
+use machine_model::{Reply, Stop};
+use memory::Space;
+use std::alloc::{AllocError, Global};
+use std::marker::Model;
+use std::sync::Arc;
 
 /// A process's machine: its registers, its memory, and how many instructions it has done. Words that may not be written
 /// are decoded once, and clones share them.
@@ -106,7 +104,8 @@ impl Machine {
 
     /// The program counter, a multiple of 4.
     pub fn pc(&self) -> u32
-        ensures { result ≡ self.now.hart.pc }
+        ensures value { result ≡ self.now.hart.pc }
+        ensures aligned { result % 4 ≡ 0 }
     {
         self.regs.pc
     }
@@ -123,6 +122,13 @@ impl Machine {
         ensures { result.now ≡ self.now.hart.memory }
     {
         &self.space
+    }
+
+    /// Whether two machines are in the same state.
+    pub fn is_same(&self, other: &Machine) -> bool
+        ensures { IsTrue result ↔ (self.now ≡ other.now) }
+    {
+        self.count == other.count && self.regs == other.regs && self.space.is_same(&other.space)
     }
 
     /// A machine in the same state. Pages and decoded words that may not be written are shared with it.

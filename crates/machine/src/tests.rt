@@ -1,18 +1,21 @@
 //! Small programs, loaded and run.
-use std::test::Fail;
-
+use crate::image::Image;
+use crate::machine::Machine;
 use byte_list::Bytes;
 use formats::Reg;
 use machine_model::{Cause, Reply, Stop};
-
-use crate::image::Image;
-use crate::machine::Machine;
+use std::test::Fail;
 
 const LUI_T0_TEXT: u32 = 0x0001_02b7;
+
 const SW_T0_AT_T0: u32 = 0x0052_a023;
+
 const ADDI_T0_T0_1: u32 = 0x0012_8293;
+
 const JUMP_BACK_4: u32 = 0xffdf_f06f;
+
 const ECALL: u32 = 0x0000_0073;
+
 const EBREAK: u32 = 0x0010_0073;
 
 #[test]
@@ -41,9 +44,27 @@ fn begins_at_the_entry_with_an_empty_stack(rt: HostRuntime) -> Result<(), Fail> 
 #[test]
 fn runs_stop_where_they_should(rt: HostRuntime) -> Result<(), Fail> {
     for (words, max, done, stop, stands) in [
-        ([EBREAK, EBREAK], 5, 0, Stop::Trap(Cause::Breakpoint), Some(Stop::Trap(Cause::Breakpoint))),
-        ([LUI_T0_TEXT, SW_T0_AT_T0], 5, 1, Stop::Trap(Cause::PageFault), Some(Stop::Trap(Cause::PageFault))),
-        ([LUI_T0_TEXT, 0], 5, 1, Stop::Trap(Cause::Illegal), Some(Stop::Trap(Cause::Illegal))),
+        (
+            [EBREAK, EBREAK],
+            5,
+            0,
+            Stop::Trap(Cause::Breakpoint),
+            Some(Stop::Trap(Cause::Breakpoint)),
+        ),
+        (
+            [LUI_T0_TEXT, SW_T0_AT_T0],
+            5,
+            1,
+            Stop::Trap(Cause::PageFault),
+            Some(Stop::Trap(Cause::PageFault)),
+        ),
+        (
+            [LUI_T0_TEXT, 0],
+            5,
+            1,
+            Stop::Trap(Cause::Illegal),
+            Some(Stop::Trap(Cause::Illegal)),
+        ),
         ([LUI_T0_TEXT, ECALL], 5, 1, Stop::Call, Some(Stop::Call)),
         ([LUI_T0_TEXT, ECALL], 1, 1, Stop::Limit, Some(Stop::Call)),
         ([ADDI_T0_T0_1, JUMP_BACK_4], 1000, 1000, Stop::Limit, None),
@@ -79,7 +100,12 @@ fn replies_to_a_call(rt: HostRuntime) -> Result<(), Fail> {
     assert_eq!(rt; machine.reg(Reg::new(10)), 7);
     assert_eq!(rt; machine.pc(), 0x0001_0004);
     assert_eq!(rt; machine.count(), 1);
-    for (at, byte) in [(0x7fff_ffef, 0), (0x7fff_fff0, 1), (0x7fff_fff2, 3), (0x7fff_fff3, 0)] {
+    for (at, byte) in [
+        (0x7fff_ffef, 0),
+        (0x7fff_fff0, 1),
+        (0x7fff_fff2, 3),
+        (0x7fff_fff3, 0),
+    ] {
         assert_eq!(rt; machine.space().byte(at), Some(byte), "at {at}");
     }
     assert_eq!(rt; copy.stopped(), Some(Stop::Call));

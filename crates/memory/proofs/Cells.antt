@@ -1,10 +1,10 @@
 -- The cell at an address, and at one past the greatest.
-use Rattle.std.proofs.Common.{◌≡◌, ℕ, ◌/◌, ◌%◌, ◌^◌, ◌<◌, Bool, true, false, cond, sym, ap, ◌∙◌, refl, arith}
+use Rattle.std.proofs.Common.{◌≡◌, ℕ, ◌/◌, ◌%◌, ◌^◌, ◌<◌, cond, ap, ◌∙◌, arith}
 use Rattle.std.specs.Prelude.{nat_lt, Option, Some, None, option_map, Result, Ok, Err}
 use Rattle.std.specs.Result.{OkIff, result_ok}
 use Rattle.std.specs.FinMap.{get}
 use Rattle.std.proofs.lemmas.Bool.Decides.{nat_tests}
-use Rattle.machine_model.specs.Memory.{Memory, Cell}
+use Rattle.machine_model.specs.Memory.{Cell}
 use Rattle.machine_model.proofs.Memories.{get-memory_of}
 use Rattle.memory.specs.Words.{Word, cell_of, cell_at, memory_of_words}
 use Rattle.memory.proofs.WordAccess.{get-words}

@@ -1,6 +1,6 @@
 -- Addresses where no page is.
-use Rattle.std.proofs.Common.{◌≡◌, ℕ, ◌+◌, ◌^◌, ◌<◌, ◌≤◌, Bool, true, false, cond, List, length, ◌∙◌, ap, refl, arith, inl, inr}
-use Rattle.std.specs.Prelude.{◌&&◌, ◌⊎◌, nat_lt, nat_le, Option, Some, None}
+use Rattle.std.proofs.Common.{◌≡◌, ℕ, ◌+◌, ◌^◌, ◌<◌, ◌≤◌, Bool, true, false, cond, List, length, ◌∙◌, refl, arith, inl, inr}
+use Rattle.std.specs.Prelude.{◌&&◌, ◌⊎◌, nat_lt, nat_le, Option, None}
 use Rattle.std.specs.FinMap.{get}
 use Rattle.std.proofs.lemmas.Bool.Decides.{nat_tests}
 use Rattle.machine_model.specs.Memory.{Memory, Cell, memory_of}

@@ -1,16 +1,15 @@
 -- Pages that are added to a memory.
-use Rattle.std.proofs.Common.{◌≡◌, ℕ, suc, zero, ◌+◌, ◌-◌, ◌*◌, ◌/◌, ◌%◌, ◌^◌, ◌<◌, ◌≤◌, Bool, true, false, cond, List, [], ◌∷◌, ◌++◌, length, take, drop, refl, sym, ap, ◌∙◌, arith, map}
+use Rattle.std.proofs.Common.{◌≡◌, ℕ, suc, zero, ◌+◌, ◌-◌, ◌*◌, ◌/◌, ◌%◌, ◌^◌, ◌<◌, ◌≤◌, Bool, true, false, cond, List, [], ◌∷◌, ◌++◌, length, drop, refl, sym, ap, ◌∙◌, arith}
 use Rattle.std.specs.Prelude.{◌&&◌, nat_lt, nat_le, slice_index, slice_index_or, Option, Some, None, option_map}
 use Rattle.std.specs.Simd.{first_chunks}
 use Rattle.std.specs.FinMap.{get}
 use Rattle.std.proofs.lemmas.List.{get_or-take, get_or-drop}
 use Rattle.std.proofs.lemmas.Bool.Decides.{nat_tests}
-use Rattle.machine_model.specs.Memory.{Memory, Cell}
 use Rattle.machine_model.specs.Access.{mapped, cell_with}
 use Rattle.machine_model.specs.declared.access.Rights.{Rights}
 use Rattle.machine_model.proofs.Memories.{get-memory_of, same_memory}
 use Rattle.memory.specs.Words.{Word, cell_of, cell_at, memory_of_words}
-use Rattle.memory.specs.Pages.{Pages, has_word, bytes_of, word_in, word_among, words_of, pages_of}
+use Rattle.memory.specs.Pages.{Pages, has_word, word_in, word_among, words_of, pages_of}
 use Rattle.memory.proofs.WordAccess.{get-words, get-word}
 use Rattle.memory.proofs.Places.{no_some, has_word-range}
 

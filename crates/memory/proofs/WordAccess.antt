@@ -1,17 +1,15 @@
 -- An access over a memory by its words.
-use Rattle.std.proofs.Common.{◌≡◌, ℕ, suc, zero, ◌+◌, ◌*◌, ◌/◌, ◌%◌, ◌^◌, ◌<◌, ◌≤◌, Bool, true, false, cond, List, [], ◌∷◌, refl, sym, ap, ◌∙◌, arith, rules}
-use Rattle.std.specs.Prelude.{◌==◌, nat_lt, slice_index, Option, Some, None, option_map, Result, Ok, Err, if◌then◌else◌}
-use Rattle.std.proofs.lemmas.Grind.{common_steps}
+use Rattle.std.proofs.Common.{◌≡◌, ℕ, suc, zero, ◌+◌, ◌*◌, ◌/◌, ◌%◌, ◌^◌, ◌<◌, ◌≤◌, Bool, true, false, cond, refl, ap, ◌∙◌, arith}
+use Rattle.std.specs.Prelude.{◌==◌, nat_lt, Option, Some, None, option_map, Ok, Err}
 use Rattle.std.proofs.lemmas.Bool.Decides.{nat_tests}
 use Rattle.std.specs.FinMap.{get}
-use Rattle.machine_model.specs.Memory.{Memory, Cell, memory_of}
+use Rattle.machine_model.specs.Memory.{Cell}
 use Rattle.machine_model.proofs.Memories.{get-memory_of}
-use Rattle.machine_model.specs.Access.{size, fault_at, range_fault, access_fault, byte_of, value_at, or_fault, loaded, fetched, to_read, to_execute}
+use Rattle.machine_model.specs.Access.{size, range_fault, access_fault, value_at, or_fault, fetched, to_execute}
 use Rattle.machine_model.specs.declared.access.Rights.{Rights}
 use Rattle.machine_model.specs.declared.access.Width.{Width}
 use Rattle.machine_model.specs.declared.access.Width.TheVariants as width
-use Rattle.machine_model.specs.declared.access.BusFault.{BusFault}
-use Rattle.machine_model.specs.declared.access.BusFault.TheVariants.{Unmapped, NoRight, Misaligned}
+use Rattle.machine_model.specs.declared.access.BusFault.TheVariants.{NoRight}
 use Rattle.memory.specs.Words.{Word, cell_of, cell_at, memory_of_words, value_in, word_fault, word_taken}
 
 inside : (q : ℕ) (c : Option Cell) → q < 2 ^ 32 → cond (nat_lt q (2 ^ 32)) c None ≡ c

@@ -1,12 +1,12 @@
 -- A store over a memory by its words.
-use Rattle.std.proofs.Common.{◌≡◌, ℕ, suc, zero, ◌+◌, ◌*◌, ◌/◌, ◌%◌, ◌^◌, ◌<◌, ◌≤◌, Bool, true, false, cond, List, [], ◌∷◌, length, refl, sym, ap, ◌∙◌, arith, rules}
-use Rattle.std.specs.Prelude.{◌==◌, ◌≢◌, nat_lt, slice_index, slice_set, slice_index_or, Option, Some, None, option_map, if◌then◌else◌, ◌⊎◌}
+use Rattle.std.proofs.Common.{◌≡◌, ℕ, ◌+◌, ◌*◌, ◌/◌, ◌%◌, ◌^◌, ◌<◌, ◌≤◌, Bool, true, false, cond, List, [], ◌∷◌, length, refl, sym, ap, ◌∙◌, arith}
+use Rattle.std.specs.Prelude.{◌==◌, ◌≢◌, nat_lt, slice_index, slice_set, Option, Some, None, option_map, if◌then◌else◌}
 use Rattle.std.proofs.Common.{inl, inr}
 use Rattle.std.proofs.Math.ListN.{length-set}
 use Rattle.std.proofs.lemmas.List.{get_or-set_same, get_or-set_other}
-use Rattle.std.proofs.lemmas.Bool.Decides.{nat_tests, eqb_tells}
+use Rattle.std.proofs.lemmas.Bool.Decides.{eqb_tells}
 use Rattle.std.specs.FinMap.{get, insert}
-use Rattle.machine_model.specs.Memory.{Memory, Cell, memory_of}
+use Rattle.machine_model.specs.Memory.{Cell}
 use Rattle.machine_model.proofs.Memories.{get-memory_of, get-insert, same_memory}
 use Rattle.machine_model.specs.Access.{with_byte, put_bytes}
 use Rattle.memory.specs.Words.{Word, cell_of, cell_at, memory_of_words, put_in}

@@ -1,3 +1,4 @@
 pub mod Words
 pub mod Pages
-pub mod Copies
+pub mod Access
+pub mod CopyFault

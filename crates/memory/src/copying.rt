@@ -2,7 +2,8 @@
 ghost use Rattle.std.specs.Prelude.{◌≡◌, ◌+◌, ◌/◌, ◌%◌, ◌^◌, ◌<◌, ◌≤◌, IfOk, IfNone, IfSome, OnOk, OnErr, Some, option_map, length};
 ghost use Rattle.std.specs.FinMap.{get};
 ghost use Rattle.machine_model.specs.Access.{range_fault, or_fault, bytes_at, put_bytes, is_writable, to_read, to_write};
-ghost use Rattle.memory.specs.Copies.{right_of, fault_of};
+ghost use Rattle.memory.specs.Access.{right_of};
+ghost use Rattle.memory.specs.CopyFault.{fault_of};
 
 use crate::fault::CopyFault;
 use crate::place::part_of;
@@ -76,7 +77,7 @@ impl Space {
     }
 
     /// The byte at an address and the rights of its page.
-    fn cell(&self, at: u64) -> Option<(u8, Rights)>
+    pub(crate) fn cell(&self, at: u64) -> Option<(u8, Rights)>
         ensures cell { option_map (λ c. record { byte = c.0; rights = c.1 }) result ≡ get self.now at }
         ensures within { IfSome result (λ _. at < 2 ^ 32) }
     {

@@ -3,6 +3,7 @@
 
 mod bus;
 mod cloning;
+mod comparing;
 mod copying;
 mod fault;
 mod part;

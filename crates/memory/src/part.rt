@@ -1,5 +1,5 @@
 //! A run of pages as words.
-ghost use Rattle.std.specs.Prelude.{◌≡◌, ◌+◌, ◌-◌, ◌*◌, ◌%◌, ◌/◌, ◌^◌, ◌<◌, ◌≤◌, ◌==◌, Bool, Some, IfOk, length, slice_index, true};
+ghost use Rattle.std.specs.Prelude.{◌≡◌, ◌+◌, ◌-◌, ◌*◌, ◌%◌, ◌/◌, ◌^◌, ◌<◌, ◌≤◌, ◌==◌, Bool, Some, IfOk, IsTrue, ◌↔◌, length, slice_index, true};
 ghost use Rattle.machine_model.specs.Access.{size, low_bytes, to_read, to_execute};
 ghost use Rattle.memory.specs.Words.{value_in, put_in, word_taken};
 ghost use Rattle.memory.specs.Pages.{has_word, bytes_of, word_in, with_bytes, pages_of};
@@ -93,6 +93,16 @@ impl Part {
         self.words[k][(at % 4) as usize]
     }
 
+    /// Whether the other part is the same.
+    pub fn is_same(&self, other: &Part) -> bool
+        ensures { IsTrue result ↔ (self.now ≡ other.now) }
+    {
+        self.first == other.first
+            && self.read == other.read
+            && self.execute == other.execute
+            && are_same_words(self.words.as_slice(), other.words.as_slice())
+    }
+
     /// The word of a number, to be executed.
     #[inline]
     pub fn fetch(&self, n: u32) -> Result<u32, BusFault>
@@ -117,6 +127,13 @@ impl Part {
         let k = (at / 4 - self.first) as usize;
         write_word(&mut self.words[k], at % 4, width, value);
     }
+}
+
+/// Whether words are the same. Their bytes are compared as one slice, which is much faster than word by word.
+fn are_same_words(words: &[[u8; 4]], others: &[[u8; 4]]) -> bool
+    ensures { IsTrue result ↔ (words.now ≡ others.now) }
+{
+    words.as_flattened() == others.as_flattened()
 }
 
 /// Whether an address is a multiple of a width.

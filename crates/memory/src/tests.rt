@@ -1,5 +1,7 @@
 //! Tests over two pages.
-ghost use Rattle.std.specs.Prelude.{◌≡◌, length};
+ghost use Rattle.std.specs.Prelude.{◌≡◌, ◌+◌, ◌%◌, ◌^◌, ◌≤◌, None, IfOk, length};
+ghost use Rattle.machine_model.specs.Memory.{memory_of};
+ghost use Rattle.machine_model.specs.Access.{mapped};
 
 use crate::{CopyFault, Space};
 use isa_table::Bus;
@@ -25,6 +27,17 @@ const WRITE: Rights = Rights {
     execute: false,
 };
 
+/// The pages from page 1 on, at the address 0x1000.
+fn pages(alloc: Global, rights: Rights, bytes: &[u8]) -> Result<Space, AllocError>
+    requires whole { length bytes.now % 4096 ≡ 0 }
+    requires range { 4096 + length bytes.now ≤ 2 ^ 32 }
+    ensures { IfOk result (λ s. s ≡ mapped (memory_of (λ _. None)) 4096 rights bytes.now) }
+{
+    let mut space = Space::new(alloc);
+    space.map(alloc, 1, rights, bytes)?;
+    Ok(space)
+}
+
 /// The pages 1 and 2, from the address 0x1000 to 0x3000.
 fn two_pages(
     alloc: Global,
@@ -34,8 +47,7 @@ fn two_pages(
 ) -> Result<Space, AllocError>
     requires { length bytes.now ≡ 4096 }
 {
-    let mut space = Space::new(alloc);
-    space.map(alloc, 1, first, bytes)?;
+    let mut space = pages(alloc, first, bytes)?;
     space.map(alloc, 2, second, bytes)?;
     Ok(space)
 }
@@ -114,5 +126,21 @@ fn copies_come_back(rt: HostRuntime) -> Result<(), Fail> {
     assert_eq!(rt; space.copy_out(0x2fff, &[9, 9]), Err(BusFault::Unmapped));
     assert_eq!(rt; space.byte(0x2fff), Some(0));
     assert_eq!(rt; clone.byte(0x1ffe), Some(0));
+    Ok(())
+}
+
+#[test]
+fn same_bytes_in_other_cuts(rt: HostRuntime) -> Result<(), Fail> {
+    let mut space = two_pages(rt.alloc(), READ_WRITE, READ_WRITE, &[7; 4096])?;
+    let whole = pages(rt.alloc(), READ_WRITE, &[7; 8192])?;
+    let other_rights = two_pages(rt.alloc(), READ_WRITE, READ_EXECUTE, &[7; 4096])?;
+    let shorter = pages(rt.alloc(), READ_WRITE, &[7; 4096])?;
+    assert!(rt; space.is_same(&whole));
+    assert!(rt; space.is_same(&space.try_clone(rt.alloc())?));
+    assert!(rt; !space.is_same(&other_rights));
+    assert!(rt; !space.is_same(&shorter));
+    assert!(rt; !shorter.is_same(&space));
+    assert_eq!(rt; space.store(0x2fff, Width::Byte, 8), Ok(()));
+    assert!(rt; !space.is_same(&whole));
     Ok(())
 }

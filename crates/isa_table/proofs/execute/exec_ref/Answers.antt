@@ -1,4 +1,4 @@
--- The one arm whose test the code spells otherwise than the effect.
+-- BGEU, the one arm whose test the code spells otherwise than the effect.
 use Rattle.std.proofs.Common.{◌≡◌, ℕ, arith}
 use Rattle.std.specs.Prelude.{nat_lt, nat_le, not}
 use Rattle.std.proofs.lemmas.Bool.Decides.{nat_tests}

@@ -1,4 +1,4 @@
-use Rattle.std.proofs.Common.{◌≡◌, ℕ, List, ap, subst, sym, ◌∙◌}
+use Rattle.std.proofs.Common.{ℕ, List, ap, ◌∙◌}
 use Rattle.std.specs.Prelude.{slice_index}
 use Rattle.machine.proofs.Pages.{nothing-free, stack-mapped}
 use Rattle.machine.proofs.loading.stack.Goals as goal
@@ -9,6 +9,6 @@ map-requires-clause-free c = λ a low high. nothing-free c.new-space.result c.ne
 pub returns : goal.returns
 returns c =
     stack-mapped c.new-space.result c.map.new.self c.as_slice.result.now c.new-space.ensures
-      (c.as_slice.ensures.len ∙ c.in_ok-bytes.ensures.len)
-      (λ k. ap (λ (bytes : List ℕ). slice_index bytes k) c.as_slice.ensures.value ∙ c.in_ok-bytes.ensures.bytes k)
-      c.in_ok-map.ensures.ok
+    (c.as_slice.ensures.len ∙ c.in_ok-bytes.ensures.len)
+    (λ k. ap (λ (bytes : List ℕ). slice_index bytes k) c.as_slice.ensures.value ∙ c.in_ok-bytes.ensures.bytes k)
+    c.in_ok-map.ensures.ok

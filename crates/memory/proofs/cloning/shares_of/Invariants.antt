@@ -1,3 +1,4 @@
+-- What is shared so far.
 use Rattle.std.proofs.Common.{◌≡◌, take, map}
 use Rattle.memory.proofs.cloning.shares_of.Given as goal
 

@@ -1,6 +1,6 @@
-use Rattle.std.proofs.Common.{◌≡◌, sym, ap, ◌∙◌, None, true, false, Some, Option, map}
-use Rattle.memory.specs.Words.{Word}
-use Rattle.memory.specs.Pages.{Pages, has_word, word_in, word_among, words_of}
+-- The first part that has a word has the word of the memory.
+use Rattle.std.proofs.Common.{sym, ap, ◌∙◌, None, true, false, Some}
+use Rattle.memory.specs.Pages.{Pages, has_word, word_in}
 use Rattle.memory.proofs.Places.{among-found, among-missing, found-has, shared-found, shared-missing, shared-has}
 use Rattle.memory.proofs.place.part_of.Goals as goal
 

@@ -1,14 +1,11 @@
-use Rattle.std.proofs.Common.{◌≡◌, ◌+◌, ap, ◌∙◌, inr, arith, None}
+-- The second page is free once the first is mapped.
+use Rattle.std.proofs.Common.{ap, ◌∙◌, inr, arith, None}
 use Rattle.std.specs.FinMap.{get}
 use Rattle.machine_model.specs.Memory.{Memory, memory_of}
-use Rattle.machine_model.specs.Access.{mapped}
 use Rattle.memory.proofs.Free.{free-empty, free-mapped}
 use Rattle.memory.proofs.tests.two_pages.Goals as goal
 
 pub map-requires-clause-free : goal.map-requires-clause-free
-map-requires-clause-free c = λ a _ _. ap (λ (m : Memory). get m a) c.new-space.ensures ∙ free-empty a
-
-pub map-requires-2-clause-free : goal.map-requires-2-clause-free
-map-requires-2-clause-free c = λ a low high.
-    ap (λ (m : Memory). get m a) (c.in_ok-map.ensures.ok ∙ ap (λ (m : Memory). mapped m 4096 c.args.first c.args.bytes.now) c.new-space.ensures)
+map-requires-clause-free c = λ a low high.
+    ap (λ (m : Memory). get m a) c.in_ok-space.ensures
     ∙ free-mapped (memory_of (λ _. None)) 4096 c.args.first c.args.bytes.now a (inr (omega (arith, c.requires))) (free-empty a)

@@ -1,7 +1,8 @@
-use Rattle.std.proofs.Common.{rules, ◌≡◌, ℕ, ◌<◌, ◌≤◌, ◌%◌, ◌==◌, length, true, sym, ap, ◌∙◌, arith, refl}
-use Rattle.machine_model.specs.Access.{size, or_fault, value_at, to_read, to_write}
-use Rattle.flat_bus.specs.Bytes.{memory_of_bytes, put_in}
-use Rattle.flat_bus.proofs.ByByte.{fault-here, fault-past, loaded-here, stored-here}
+-- What a store answers and leaves.
+use Rattle.std.proofs.Common.{rules, ◌≡◌, ◌<◌, ◌≤◌, ◌%◌, ◌==◌, length, true, sym, ap, ◌∙◌, arith, refl}
+use Rattle.machine_model.specs.Access.{size, or_fault, to_write}
+use Rattle.flat_bus.specs.Bytes.{memory_of_bytes}
+use Rattle.flat_bus.proofs.ByByte.{fault-here, fault-past, stored-here}
 use Rattle.flat_bus.proofs.bus.FlatBusBus.store.Goals as goal
 
 pub returns-then-at-end-clause-answer : goal.returns-then-at-end-clause-answer

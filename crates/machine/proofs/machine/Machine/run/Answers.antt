@@ -20,4 +20,4 @@ returns-clause-limit c = (ran-is_run c.args.max _ _ (c.run_tables-done.ensures.r
 pub returns-clause-standing : goal.returns-clause-standing
 returns-clause-standing c =
     λ stopped. subst (λ (n : ℕ). stands_at (state (hart c.run_tables-done.new.regs.x c.run_tables-done.new.regs.pc c.run_tables-done.new.space) (c.self.inside.count + n)) ≡ Some c.run_tables-done.result.1) (sym c.from.ensures)
-      ((ran-is_run c.args.max _ _ (c.run_tables-done.ensures.run c.self.inside.count)).standing stopped)
+    ((ran-is_run c.args.max _ _ (c.run_tables-done.ensures.run c.self.inside.count)).standing stopped)

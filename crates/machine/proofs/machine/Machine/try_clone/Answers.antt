@@ -1,4 +1,4 @@
-use Rattle.std.proofs.Common.{◌≡◌, List, sym, ap, subst}
+use Rattle.std.proofs.Common.{List, sym, ap, subst}
 use Rattle.machine_model.specs.Memory.{Memory}
 use Rattle.machine.specs.declared.table.Table.{Table}
 use Rattle.machine.specs.Tables.{AllMatch}
@@ -7,4 +7,4 @@ use Rattle.machine.proofs.machine.Machine.try_clone.Goals as goal
 pub invariant_of-result : goal.invariant_of-result
 invariant_of-result c =
     subst (λ (m : Memory). AllMatch c.in_ok-try_clone-2.field-0.value.items m) (sym c.in_ok-try_clone.ensures)
-      (subst (λ (tables : List Table). AllMatch tables c.self.inside.space) (sym (ap (λ v. v.items) c.in_ok-try_clone-2.ensures)) c.self.invariant)
+    (subst (λ (tables : List Table). AllMatch tables c.self.inside.space) (sym (ap (λ v. v.items) c.in_ok-try_clone-2.ensures)) c.self.invariant)

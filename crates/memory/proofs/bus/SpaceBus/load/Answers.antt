@@ -1,3 +1,4 @@
+-- A load gives what stands in the word that it lies in.
 use Rattle.std.proofs.Common.{◌≡◌, ℕ, ◌/◌, ◌%◌, ◌==◌, sym, ap, ◌∙◌, None, true, Some, Option, map, rules, arith}
 use Rattle.machine_model.specs.Access.{size, loaded, to_read}
 use Rattle.memory.specs.Words.{Word}

@@ -1,4 +1,5 @@
-use Rattle.std.proofs.Common.{◌≡◌, ℕ, ◌/◌, ◌%◌, ◌==◌, sym, ap, ◌∙◌, None, Err, true, false, Some, Option, Bool, map, rules, arith, position, refl, slice_set}
+-- A store changes the word that it lies in, or says why it does not.
+use Rattle.std.proofs.Common.{◌≡◌, ℕ, ◌/◌, ◌%◌, ◌==◌, sym, ap, ◌∙◌, None, Err, true, false, Some, Option, map, rules, arith, position, refl, slice_set}
 use Rattle.machine_model.specs.Access.{size, access_fault, or_fault, stored, to_write}
 use Rattle.machine_model.specs.declared.access.BusFault.{BusFault}
 use Rattle.machine_model.specs.declared.access.BusFault.TheVariants.{Unmapped, NoRight}

@@ -1,3 +1,4 @@
+-- One more byte is copied.
 use Rattle.std.proofs.Common.{◌≡◌, ℕ, ◌+◌, ◌-◌, List, [], ◌∷◌, ◌++◌, sym, ap, ◌∙◌, refl, Some, None, Option, append_assoc}
 use Rattle.std.specs.Prelude.{option_map, unwrap_or}
 use Rattle.std.specs.FinMap.{get}

@@ -1,4 +1,5 @@
-use Rattle.std.proofs.Common.{◌≡◌, ℕ, suc, ◌+◌, ◌-◌, ◌%◌, ◌^◌, ◌<◌, List, [], ◌∷◌, length, drop, get_or, sym, ap, ◌∙◌, None, Option, arith, drop-cons}
+-- One more byte is written, and the rights stay.
+use Rattle.std.proofs.Common.{◌≡◌, ℕ, suc, ◌+◌, ◌-◌, ◌%◌, ◌^◌, List, [], ◌∷◌, length, drop, get_or, sym, ap, ◌∙◌, arith, drop-cons}
 use Rattle.std.specs.FinMap.{get}
 use Rattle.machine_model.specs.Memory.{Memory}
 use Rattle.machine_model.specs.Access.{range_fault, put_bytes, to_write}

@@ -1,3 +1,4 @@
+-- What is left to write may be written.
 use Rattle.std.proofs.Common.{◌≡◌, ◌+◌, ◌-◌, drop, length, None}
 use Rattle.machine_model.specs.Access.{range_fault, put_bytes, to_write}
 use Rattle.memory.proofs.space.Space.copy_out.Given as goal

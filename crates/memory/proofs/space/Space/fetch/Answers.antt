@@ -1,7 +1,7 @@
+-- A fetch gives the word that stands there.
 use Rattle.std.proofs.Common.{◌≡◌, ℕ, ◌/◌, ◌%◌, ◌==◌, sym, ap, ◌∙◌, None, true, Some, Option, map, rules, arith}
-use Rattle.machine_model.specs.Access.{fetched, to_execute}
-use Rattle.machine_model.specs.declared.access.Width.TheVariants as width
-use Rattle.memory.specs.Words.{Word, word_taken}
+use Rattle.machine_model.specs.Access.{fetched}
+use Rattle.memory.specs.Words.{Word}
 use Rattle.memory.specs.Pages.{word_in, words_of}
 use Rattle.memory.proofs.WordAccess.{fetched-aligned}
 use Rattle.memory.proofs.space.Space.fetch.Goals as goal

@@ -1,9 +1,10 @@
-use Rattle.std.proofs.Common.{◌≡◌, ℕ, ◌*◌, ◌++◌, ◌∷◌, [], sym, ap, ◌∙◌, true, false, Option, Bool, List, map, cond, Some}
+-- A part that is added adds its pages to the memory.
+use Rattle.std.proofs.Common.{ℕ, ◌*◌, ◌++◌, ◌∷◌, [], sym, ap, ◌∙◌, Bool, List, map, cond, Some}
 use Rattle.std.specs.FinMap.{get}
 use Rattle.std.proofs.lemmas.List.{map-append}
 use Rattle.machine_model.specs.Memory.{Memory}
 use Rattle.machine_model.specs.Access.{mapped}
-use Rattle.memory.specs.Words.{Word, memory_of_words}
+use Rattle.memory.specs.Words.{memory_of_words}
 use Rattle.memory.specs.Pages.{Pages, has_word, word_in, words_of, pages_of}
 use Rattle.memory.proofs.Mapping.{own-push, shared-push, free-words, mapped-words}
 use Rattle.memory.proofs.space.Space.map.Goals as goal

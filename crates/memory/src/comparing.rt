@@ -1,0 +1,78 @@
+//! Whether two spaces are the same.
+ghost use Rattle.std.specs.Prelude.{◌≡◌, ℕ, ◌/◌, ◌^◌, ◌<◌, ◌↔◌, IsTrue, IsSome, map, true};
+ghost use Rattle.std.specs.FinMap.{get};
+ghost use Rattle.memory.specs.Pages.{has_word};
+
+use crate::part::Part;
+use crate::space::Space;
+use std::sync::Arc;
+
+impl Space {
+    /// Whether the same bytes stand at the same addresses, with the same rights. How the pages were mapped does not
+    /// matter, but is fastest where they were mapped alike.
+    pub fn is_same(&self, other: &Space) -> bool
+        ensures { IsTrue result ↔ (self.now ≡ other.now) }
+    {
+        are_same(self.own.as_slice(), other.own.as_slice())
+            && are_same_shared(self.shared.as_slice(), other.shared.as_slice())
+            || self.is_within(other) && other.is_within(self)
+    }
+
+    /// Whether each byte of this space stands in the other too, with the same rights.
+    fn is_within(&self, other: &Space) -> bool
+        ensures { IsTrue result ↔ ((a : ℕ) → IsSome (get self.now a) → get self.now a ≡ get other.now a) }
+    {
+        for part in &self.own {
+            if !self.agrees_at(other, part) {
+                return false;
+            }
+        }
+        for part in &self.shared {
+            if !self.agrees_at(other, part) {
+                return false;
+            }
+        }
+        true
+    }
+
+    /// Whether the same stands in both at the addresses of a part.
+    fn agrees_at(&self, other: &Space, part: &Part) -> bool
+        ensures { IsTrue result ↔ ((a : ℕ) → a < 2 ^ 32 → has_word part.now (a / 4) ≡ true → get self.now a ≡ get other.now a) }
+    {
+        let first = 4 * u64::from(part.first);
+        for at in first..first + 4 * part.words.len() as u64 {
+            if self.cell(at) != other.cell(at) {
+                return false;
+            }
+        }
+        true
+    }
+}
+
+fn are_same(parts: &[Part], others: &[Part]) -> bool
+    ensures { IsTrue result ↔ (parts.now ≡ others.now) }
+{
+    if parts.len() != others.len() {
+        return false;
+    }
+    for (part, other) in parts.iter().zip(others) {
+        if !part.is_same(other) {
+            return false;
+        }
+    }
+    true
+}
+
+fn are_same_shared(parts: &[Arc<Part>], others: &[Arc<Part>]) -> bool
+    ensures { IsTrue result ↔ (map (λ a. a.value) parts.now ≡ map (λ a. a.value) others.now) }
+{
+    if parts.len() != others.len() {
+        return false;
+    }
+    for (i, part) in parts.iter().enumerate() {
+        if !part.is_same(&others[i]) {
+            return false;
+        }
+    }
+    true
+}
