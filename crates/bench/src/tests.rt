@@ -164,6 +164,18 @@ ran 0 limit
         &rt,
         "program 7 000102b7 0022a023\nturn 1 5\n",
         "ran 1 trap 4\n",
+    )?;
+    // jr t0 with t0 = 0x00010002: the target is no multiple of 4
+    expect(
+        &rt,
+        "program 7 000102b7 00228293 00028067\nturn 1 5\n",
+        "ran 2 trap 2\n",
+    )?;
+    // lh t1,1(t0) with t0 = 0x00010000: the address is no multiple of 2
+    expect(
+        &rt,
+        "program 7 000102b7 00129303\nturn 1 5\n",
+        "ran 1 trap 3\n",
     )
 }
 

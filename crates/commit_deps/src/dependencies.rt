@@ -1,15 +1,20 @@
 //! The marks of all carriers.
-ghost use Rattle.std.specs.Prelude.{◌≡◌, ◌+◌, ◌≤◌, OnOk, OnErr, vec_len, vec_capacity, length};
+ghost use Rattle.std.specs.Prelude.{◌≡◌, ℕ, ◌+◌, ◌<◌, ◌≤◌, ◌^◌, List, [], ◌∷◌, ◌++◌, OnOk, OnErr, IfSome, is_some, length};
+ghost use Rattle.std.specs.Option.{ForSome};
+ghost use Rattle.std.specs.List.{position};
+ghost use Rattle.commit_deps.specs.Keeps.{mark_of_change};
+ghost use Rattle.kernel_model.specs.Entries.{Entry, is_same};
 
 use crate::mark::Mark;
 use kernel_model::Carrier;
 use std::alloc::{AllocError, Global};
+use std::marker::Model;
 
 /// A carrier that was written, and the changes on which its writers rest.
 #[derive(Clone, Copy, Debug, PartialEq, Eq)]
 struct Marked {
-    carrier: Carrier,
-    mark: Mark,
+    pub carrier: Carrier,
+    pub mark: Mark,
 }
 
 /// What is kept of the events so far: for each carrier that some event wrote, the changes with a path to a writer of it.
@@ -18,58 +23,147 @@ pub struct Dependencies {
     marks: Vec<Marked>,
 }
 
+impl Model for Dependencies {
+    ghost use Rattle.std.specs.Prelude.{◌-◌, vec_capacity, vec_len};
+    ghost use Rattle.commit_deps.specs.Kept.{Kept};
+
+    ghost Value = { Kept };
+
+    ghost view = { λ d. record { marks = d.marks.items; room = vec_capacity d.marks - vec_len d.marks } };
+}
+
+/// The mark of an event's own change, by the change's number from 0.
+fn own_mark(change: Option<u64>) -> Mark
+    requires { ForSome change (λ k. k + 1 < 2 ^ 64) }
+    ensures { result ≡ mark_of_change change }
+{
+    match change {
+        Some(change) => Mark::of_change(change),
+        None => Mark::none(),
+    }
+}
+
 impl Dependencies {
+    ghost use Rattle.commit_deps.specs.Keeps.{Keeps, mark_at, is_written, greatest_mark, noted};
+    ghost use Rattle.commit_deps.specs.declared.dependencies.Marked.{Marked};
+    ghost use Rattle.commit_deps.specs.Marks.{IsMarkOf, reader, change_number};
+
     /// No events. Takes no memory.
-    pub fn new(alloc: Global) -> Dependencies {
+    pub fn new(alloc: Global) -> Dependencies
+        ensures { Keeps [] result.marks }
+    {
         Dependencies {
             marks: Vec::new(alloc),
         }
     }
 
-    /// The changes with a path to a writer of a carrier; None where no event wrote it.
-    pub fn of(&self, carrier: Carrier) -> Option<Mark> {
+    /// The mark that is kept of a carrier.
+    fn kept_mark(&self, carrier: Carrier) -> Option<Mark>
+        ensures { result ≡ mark_at carrier self.now.marks }
+    {
         self.marks
             .iter()
             .find(|marked| marked.carrier == carrier)
             .map(|marked| marked.mark)
     }
 
-    /// The changes on which the next event rests that reads these carriers and makes this change, by its number from 0.
-    /// Nothing is noted.
-    pub fn mark(&self, reads: &[Carrier], change: Option<u64>) -> Mark {
-        let mut mark = match change {
-            Some(change) => Mark::of_change(change),
-            None => Mark::none(),
-        };
-        for marked in &self.marks {
-            if reads.contains(&marked.carrier) {
-                mark = mark.joined(marked.mark);
-            }
-        }
-        mark
+    /// The changes on which a reader of this one carrier rests; None where no event wrote it.
+    pub fn of(&self, carrier: Carrier) -> Option<Mark>
+        ensures kept { result ≡ mark_at carrier self.now.marks }
+        ensures written { (log : List Entry) → Keeps log self.now.marks → is_some result ≡ is_written carrier log }
+        ensures reader { (log : List Entry) → Keeps log self.now.marks
+            → IfSome result (λ m. IsMarkOf m log (reader (carrier ∷ []))) }
+    {
+        self.kept_mark(carrier)
     }
 
-    /// Makes room to note so many written carriers.
-    pub fn reserve(&mut self, writes: usize) -> Result<(), AllocError> {
+    /// The greatest of a mark and those of these carriers.
+    fn greatest(&self, own: Mark, reads: &[Carrier]) -> Mark
+        ensures { result ≡ greatest_mark own reads.now self.now.marks }
+    {
+        reads.iter().fold(own, |mark, carrier| {
+            mark.joined(self.kept_mark(*carrier).unwrap_or(Mark::none()))
+        })
+    }
+
+    /// The changes on which the next event rests that reads these carriers and makes this change, by its number from 0.
+    /// Takes no memory, and notes nothing.
+    pub fn mark(&self, reads: &[Carrier], change: Option<u64>) -> Mark
+        requires { ForSome change (λ k. k + 1 < 2 ^ 64) }
+        ensures { (log : List Entry) (e : Entry) → Keeps log self.now.marks → e.reads ≡ reads.now
+            → change ≡ change_number log e → IsMarkOf result log e }
+    {
+        self.greatest(own_mark(change), reads)
+    }
+
+    /// Makes room to note so many written carriers. The marks stay, whether it succeeds or not.
+    pub fn reserve(&mut self, writes: usize) -> Result<(), AllocError>
+        ensures ok { OnOk result (writes ≤ self.new.room) }
+        ensures err { OnErr result (self.old.room < writes) }
+        ensures marks { self.new.marks ≡ self.old.marks }
+        ensures room { self.old.room ≤ self.new.room }
+    {
         self.marks.reserve(writes)
     }
 
-    /// Notes an event of this mark that writes a carrier. Takes no memory where there is room for it.
-    fn note_one(&mut self, carrier: Carrier, mark: Mark) -> Result<(), AllocError> {
-        for marked in self.marks.iter_mut() {
-            if marked.carrier == carrier {
-                marked.mark = marked.mark.joined(mark);
-                return Ok(());
-            }
-        }
-        self.marks.push(Marked { carrier, mark })?;
-        Ok(())
+    /// Where a carrier's mark is kept.
+    fn place(&self, carrier: Carrier) -> Option<usize>
+        ensures { result ≡ position (λ (marked : Marked). is_same marked.carrier carrier) self.now.marks }
+    {
+        self.marks
+            .iter()
+            .position(|marked| marked.carrier == carrier)
     }
 
-    /// Notes an event of this mark that writes these carriers.
-    pub fn note(&mut self, writes: &[Carrier], mark: Mark) {
-        for carrier in writes {
-            let _ = self.note_one(*carrier, mark);
+    /// Notes an event of this mark that writes a carrier.
+    fn note_one(&mut self, carrier: Carrier, mark: Mark)
+        requires { 0 < self.old.room }
+        ensures marks { self.new.marks ≡ noted carrier mark self.old.marks }
+        ensures room { self.old.room ≤ self.new.room + 1 }
+    {
+        match self.place(carrier) {
+            Some(at) => {
+                let marked = &mut self.marks[at];
+                marked.mark = marked.mark.joined(mark);
+            }
+            None => self.marks.push(Marked { carrier, mark }).unwrap(),
         }
+    }
+
+    /// Notes an event of this mark that writes these carriers. Takes no memory: there has to be room for all of them,
+    /// whether they were written before or not.
+    pub fn note(&mut self, writes: &[Carrier], mark: Mark)
+        requires { length writes.now ≤ self.old.room }
+        ensures keeps { (log : List Entry) (e : Entry) → Keeps log self.old.marks → IsMarkOf mark log e
+            → e.writes ≡ writes.now → Keeps (log ++ e ∷ []) self.new.marks }
+        ensures room { self.old.room ≤ self.new.room + length writes.now }
+    {
+        for carrier in writes {
+            self.note_one(*carrier, mark);
+        }
+    }
+}
+
+#[cfg(test)]
+mod tests {
+    use super::*;
+    use std::test::Fail;
+
+    // A process changes a file and then writes to a pipe; another reads the pipe, and a third only its own state.
+    #[test]
+    fn a_pipe_carries_a_change(rt: HostRuntime) -> Result<(), Fail> {
+        let mut dependencies = Dependencies::new(rt.alloc());
+        dependencies.reserve(3)?;
+        let writer = dependencies.mark(&[Carrier::Proc(1)], Some(0));
+        dependencies.note(&[Carrier::Proc(1), Carrier::File(0)], writer);
+        let sender = dependencies.mark(&[Carrier::Proc(1)], None);
+        dependencies.note(&[Carrier::Pipe(0)], sender);
+        let reader = dependencies.mark(&[Carrier::Proc(2), Carrier::Pipe(0)], None);
+        let other = dependencies.mark(&[Carrier::Proc(3)], None);
+        assert_eq!(rt; reader, Mark::of_change(0));
+        assert_eq!(rt; other, Mark::none());
+        assert_eq!(rt; dependencies.of(Carrier::Pipe(0)), Some(Mark::of_change(0)));
+        assert_eq!(rt; dependencies.of(Carrier::Proc(3)), None);
+        Ok(())
     }
 }

@@ -1,5 +1,8 @@
 //! What an event rests on.
-ghost use Rattle.std.specs.Prelude.{◌≤◌, length};
+ghost use Rattle.std.specs.Prelude.{◌≡◌, ◌+◌, ◌^◌, ◌<◌, max, nat_le};
+ghost use Rattle.std.specs.List.{prefix_len};
+
+use std::marker::Model;
 
 /// The changes on which an event rests. Changes are committed in their order, so the greatest of them says it all: the
 /// mark is how many changes have to be committed, 0 where the event rests on none.
@@ -8,28 +11,45 @@ pub struct Mark {
     needs: u64,
 }
 
+impl Model for Mark {
+    ghost use Rattle.std.specs.Prelude.{ℕ};
+
+    ghost Value = { ℕ };
+
+    ghost view = { λ m. m.needs };
+
+    ghost inverse = { λ needs. record { needs = needs } };
+}
+
 impl Mark {
     /// The mark of an event that rests on no change.
-    pub fn none() -> Mark {
+    pub fn none() -> Mark
+        ensures { result ≡ 0 }
+    {
         Mark { needs: 0 }
     }
 
     /// The mark of an event that makes a change, by the change's number from 0, and rests on no other.
-    pub fn of_change(change: u64) -> Mark {
-        Mark {
-            needs: change.saturating_add(1),
-        }
+    pub fn of_change(change: u64) -> Mark
+        requires { change + 1 < 2 ^ 64 }
+        ensures { result ≡ change + 1 }
+    {
+        Mark { needs: change + 1 }
     }
 
     /// Whether all changes on which the event rests are among the first so many.
     #[inline]
-    pub fn below(self, committed: u64) -> bool {
+    pub fn below(self, committed: u64) -> bool
+        ensures { result ≡ nat_le self committed }
+    {
         self.needs <= committed
     }
 
     /// The changes of both.
     #[inline]
-    pub fn joined(self, other: Mark) -> Mark {
+    pub fn joined(self, other: Mark) -> Mark
+        ensures { result ≡ max self other }
+    {
         Mark {
             needs: self.needs.max(other.needs),
         }
@@ -38,10 +58,32 @@ impl Mark {
 
 /// How many of these marks stand before the first that is not among the first so many changes.
 pub fn front(marks: &[Mark], committed: u64) -> usize
-    ensures { result ≤ length marks.now }
+    ensures { result ≡ prefix_len (λ mark. nat_le mark committed) marks.now }
 {
     marks
         .iter()
-        .position(|mark| !mark.below(committed))
-        .unwrap_or(marks.len())
+        .take_while(|mark| mark.below(committed))
+        .count()
+}
+
+#[cfg(test)]
+mod tests {
+    use super::*;
+    use std::test::Fail;
+
+    #[test]
+    fn the_front_grows_with_the_commits(rt: HostRuntime) -> Result<(), Fail> {
+        let second = Mark::of_change(1);
+        let marks = [
+            Mark::none(),
+            second,
+            Mark::of_change(0).joined(second),
+            Mark::of_change(4),
+            Mark::none(),
+        ];
+        for (committed, expected) in [(0, 1), (1, 1), (2, 3), (4, 3), (5, 5)] {
+            assert_eq!(rt; front(&marks, committed), expected, "at {committed}");
+        }
+        Ok(())
+    }
 }

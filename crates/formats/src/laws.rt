@@ -7,7 +7,6 @@ use crate::instr::Instr;
 
 /// The law of the instruction table: the relation, a clause a row, and the function that computes say the same of every
 /// word. It does nothing when it runs.
-
 pub fn meanings()
     ensures { (w : ℕ) (i : Instr) → Means w i ↔ (instr_of w ≡ Some i) }
 {}

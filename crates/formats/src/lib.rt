@@ -29,7 +29,15 @@ mod tests {
         assert_row(&rt, rt.alloc(), 0x02B5_0533, "mul a0,a0,a1")?;
         assert_row(&rt, rt.alloc(), 0x1234_52B7, "lui t0,0x12345")?;
         assert_row(&rt, rt.alloc(), 0x00A1_2023, "sw a0,0(sp)")?;
-        assert_row(&rt, rt.alloc(), 0xFE00_0EE3, "beq zero,zero,-4")
+        assert_row(&rt, rt.alloc(), 0xFE00_0EE3, "beq zero,zero,-4")?;
+        assert_row(&rt, rt.alloc(), 0x0080_00EF, "jal ra,8")?;
+        assert_row(&rt, rt.alloc(), 0x0010_80E7, "jalr ra,1(ra)")?;
+        assert_row(&rt, rt.alloc(), 0x41F5_5513, "srai a0,a0,31")?;
+        assert_row(&rt, rt.alloc(), 0xFFC1_2503, "lw a0,-4(sp)")?;
+        assert_row(&rt, rt.alloc(), 0x0000_0517, "auipc a0,0x0")?;
+        assert_row(&rt, rt.alloc(), 0x0FF0_000F, "fence")?;
+        assert_row(&rt, rt.alloc(), 0x0000_0073, "ecall")?;
+        assert_row(&rt, rt.alloc(), 0x0010_0073, "ebreak")
     }
 
     fn assert_row(rt: &impl Abort, alloc: Global, word: u32, text: &str) -> Result<(), AllocError> {

@@ -8,4 +8,5 @@ mod regs;
 
 pub use bus::Bus;
 pub use execute::{Outcome, exec, exec_ref};
+pub use machine_model::{BusFault, Cause, Width};
 pub use regs::Regs;

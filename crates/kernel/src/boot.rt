@@ -1,13 +1,28 @@
 //! The core, and how it is booted.
-use crate::disk::SimDisk;
+ghost use Rattle.std.specs.Prelude.{◌≡◌, ◌≤◌, ◌<◌, [], length, map, IfOk, true};
+ghost use Rattle.std.specs.List.{AllByRecursion};
+ghost use Rattle.disk_model.specs.Held.{IsHeldTo};
+ghost use Rattle.disk_model.specs.Runs.{quiet};
+ghost use Rattle.kernel_model.specs.World.{HoldsItsFiles};
+ghost use Rattle.kernel.specs.Booting.{boot_with, nothing_lent};
+ghost use Rattle.kernel.specs.First.{AreFirst, AreEmpty};
+
+use crate::screen::Screen;
 use crate::shared::Shared;
 use crate::task::Task;
+use byte_list::Bytes;
+use commit_deps::Dependencies;
+use files::FileTable;
+use group_commit::Committer;
+use kernel_model::Event;
 use machine::{Image, Machine};
+use simdisk::SimDisk;
 use std::alloc::{AllocError, Global};
+use std::marker::Model;
 use thiserror::Error;
 
-/// The most programs of a boot.
-const MOST_PROGRAMS: u32 = 8;
+/// How many terminals there are.
+const TERMINALS: usize = 8;
 
 /// A program to be booted, and the terminal, 0 to 7, for which its descriptor 1 stands.
 #[derive(Drop)]
@@ -29,51 +44,110 @@ impl From<AllocError> for BootFault {
     }
 }
 
+/// What a core was booted from.
+#[derive(Drop)]
+pub struct Booted {
+    pub programs: Vec<Program>,
+    pub tapes: Vec<Bytes>,
+    pub disk: Bytes,
+}
+
 /// The core: a kernel that commits inside each call, the history of the events that it accepted, and the disk to which
 /// the changes of files are on their way.
 #[derive(Drop)]
 pub struct Core {
     pub(crate) alloc: Global,
-    /// What the core was booted from.
-    pub(crate) programs: Vec<Program>,
-    pub(crate) tapes: Vec<Vec<u8>>,
+    pub(crate) booted: Booted,
+    pub(crate) history: Vec<Event>,
     pub(crate) tasks: Vec<Task>,
     pub(crate) shared: Shared,
     /// The number of the process that was lent last, 0 before any.
     pub(crate) last_lent: u32,
-    /// How many loans are out.
-    pub(crate) loans_out: u64,
 }
 
-/// The processes of programs, one for each, by their numbers.
-fn tasks_of(alloc: Global, programs: &[Program]) -> Result<Vec<Task>, AllocError> {
-    let mut tasks = Vec::new(alloc);
-    for (pid, program) in (1..=MOST_PROGRAMS).zip(programs) {
-        let machine = Machine::load(alloc, &program.image)?;
-        tasks.push(Task::new(alloc, pid, machine, program.terminal))?;
-    }
-    Ok(tasks)
+impl Model for Core {
+    ghost use Rattle.kernel_model.specs.Answers.{Kernel};
+    ghost use Rattle.kernel_model.specs.Codes.{kernel_code};
+
+    ghost Value = { Kernel };
+
+    ghost coded = { kernel_code };
+
+    ghost use Rattle.kernel.specs.Cores.{kernel_of, IsCore};
+
+    ghost view = { λ c. kernel_of c.booted c.history.items c.tasks.items c.last_lent };
+
+    ghost invariant = { λ c. IsCore c.booted c.history.items c.tasks.items c.shared };
 }
 
 impl Core {
-    /// Boots programs, 1 to 8, as processes 1, 2, .. in order. Process i has descriptor 0 on tape i - 1 and descriptor 1
-    /// on its program's terminal. Tapes that are not given are empty.
+    /// The core of 1 to 8 programs, which are processes 1 and up, and of the tapes that they read: program i has tape i.
+    /// The disk holds no files. Refused for want of memory alone.
     pub fn boot(
         alloc: Global,
         disk: SimDisk,
         programs: Vec<Program>,
-        tapes: Vec<Vec<u8>>,
-    ) -> Result<Core, BootFault> {
-        let tasks = tasks_of(alloc, &programs)?;
-        let shared = Shared::new(alloc, disk)?;
-        Ok(Core {
-            alloc,
+        tapes: Vec<Bytes>,
+    ) -> Result<Core, BootFault>
+        requires some { 1 ≤ length programs.items }
+        requires few { length programs.items ≤ 8 }
+        requires terminals { AllByRecursion (λ p. p.terminal < 8) programs.items }
+        requires few_tapes { length tapes.items ≤ 8 }
+        requires quiet { disk ≡ quiet disk.disk }
+        requires held { IsHeldTo disk.disk 64 [] }
+        ensures boot { IfOk result (λ core. core.boot ≡ boot_with programs.items tapes.items disk.disk) }
+        ensures history { IfOk result (λ core. core.history ≡ []) }
+        ensures lendings { IfOk result (λ core. core.lendings ≡ map nothing_lent programs.items) }
+        ensures last_lent { IfOk result (λ core. core.last_lent ≡ 0) }
+        ensures held { IfOk result (λ core. HoldsItsFiles core.boot) }
+    {
+        let bytes = Bytes::copy_of(alloc, disk.bytes())?;
+        let tasks = first_tasks(alloc, &programs)?;
+        let screens = empty_screens(alloc)?;
+        let booted = Booted {
             programs,
             tapes,
+            disk: bytes,
+        };
+        let shared = Shared {
+            dependencies: Dependencies::new(alloc),
+            changes: Vec::new(alloc),
+            files: FileTable::new(alloc),
+            screens,
+            disk: Committer::new(alloc, disk),
+        };
+        Ok(Core {
+            alloc,
+            booted,
+            history: Vec::new(alloc),
             tasks,
             shared,
             last_lent: 0,
-            loans_out: 0,
         })
     }
+}
+
+/// The tasks of these programs, processes 1 and up.
+fn first_tasks(alloc: Global, programs: &[Program]) -> Result<Vec<Task>, AllocError>
+    requires { length programs.now ≤ 8 }
+    ensures { IfOk result (λ tasks. AreFirst programs.now tasks.items) }
+{
+    let mut tasks = Vec::new(alloc);
+    for (place, program) in programs.iter().enumerate() {
+        let machine = Machine::load(alloc, &program.image)?;
+        let task = Task::new(alloc, place as u32 + 1, machine, program.terminal);
+        tasks.push(task)?;
+    }
+    Ok(tasks)
+}
+
+/// The screens of terminals 0 to 7, with no bytes.
+fn empty_screens(alloc: Global) -> Result<Vec<Screen>, AllocError>
+    ensures { IfOk result (λ screens. AreEmpty 8 screens.items) }
+{
+    let mut screens = Vec::new(alloc);
+    for _terminal in 0..TERMINALS {
+        screens.push(Screen::new(alloc))?;
+    }
+    Ok(screens)
 }

@@ -3,22 +3,21 @@
 
 mod apply;
 mod boot;
-mod disk;
-mod entering;
-mod errno;
-mod files;
-mod lending;
+mod enter;
+mod lend;
 mod loan;
 mod plan;
-mod request;
 mod screen;
+mod settle;
 mod shared;
+mod storing;
 mod task;
+mod tasks;
 mod trace;
-mod verdict;
+mod turn;
 mod views;
 
 pub use boot::{BootFault, Core, Program};
-pub use disk::SimDisk;
 pub use kernel_model::{Answer, Event, Outcome, Refused};
 pub use loan::{Done, Loan, Rejected};
+pub use simdisk::SimDisk;

@@ -1,5 +1,6 @@
 //! A terminal's bytes, and how many of them may be shown.
-ghost use Rattle.std.specs.Prelude.{◌≡◌, ◌+◌, ◌≤◌, OnOk, OnErr, vec_len, vec_capacity, length, take};
+ghost use Rattle.std.specs.Prelude.{◌≡◌, ◌+◌, ◌≤◌, ◌++◌, [], OnOk, OnErr, vec_len, vec_capacity, length, take, replicate};
+ghost use Rattle.kernel.specs.Marked.{front_of};
 
 use commit_deps::{Mark, front};
 use std::alloc::{AllocError, Global};
@@ -17,16 +18,20 @@ pub struct Screen {
 /// Appends a mark so many times. Takes no memory.
 fn push_times(marks: &mut Vec<Mark>, mark: Mark, times: usize)
     requires { vec_len marks.old + times ≤ vec_capacity marks.old }
-    ensures { vec_len marks.new ≡ vec_len marks.old + times }
+    ensures { marks.new.items ≡ marks.old.items ++ replicate times mark }
 {
-    for _ in 0..times {
+    for _done in 0..times {
         marks.push(mark).unwrap();
     }
 }
 
 impl Screen {
     /// No bytes. Takes no memory.
-    pub fn new(alloc: Global) -> Screen {
+    pub fn new(alloc: Global) -> Screen
+        ensures bytes { result.bytes.items ≡ [] }
+        ensures marks { result.marks.items ≡ [] }
+        ensures shown { result.shown ≡ 0 }
+    {
         Screen {
             bytes: Vec::new(alloc),
             marks: Vec::new(alloc),
@@ -43,7 +48,11 @@ impl Screen {
 
     /// Appends the bytes of an event of this mark. Where memory runs out nothing has changed.
     pub fn append(&mut self, bytes: &[u8], mark: Mark) -> Result<(), AllocError>
-        ensures err { OnErr result (self.new.bytes.items ≡ self.old.bytes.items) }
+        ensures bytes { OnOk result (self.new.bytes.items ≡ self.old.bytes.items ++ bytes.now) }
+        ensures marks { OnOk result (self.new.marks.items ≡ self.old.marks.items ++ replicate (length bytes.now) mark) }
+        ensures shown { self.new.shown ≡ self.old.shown }
+        ensures err_bytes { OnErr result (self.new.bytes.items ≡ self.old.bytes.items) }
+        ensures err_marks { OnErr result (self.new.marks.items ≡ self.old.marks.items) }
     {
         self.marks.reserve(bytes.len())?;
         self.bytes.extend_from_slice(bytes)?;
@@ -53,9 +62,10 @@ impl Screen {
 
     /// Moves the count of what may be shown on, over bytes that rest on the first so many changes alone.
     pub fn advance(&mut self, committed: u64)
+        ensures shown { self.new.shown ≡ front_of committed self.old.marks.items }
         ensures bytes { self.new.bytes ≡ self.old.bytes }
         ensures marks { self.new.marks ≡ self.old.marks }
     {
-        self.shown += front(&self.marks[self.shown..], committed);
+        self.shown = front(&self.marks, committed);
     }
 }

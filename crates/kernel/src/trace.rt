@@ -1,5 +1,7 @@
 //! A process's replies and its end, and how many of them are handed out.
-ghost use Rattle.std.specs.Prelude.{◌≡◌, ◌+◌, ◌<◌, ◌≤◌, OnOk, vec_len, vec_capacity, take};
+ghost use Rattle.std.specs.Prelude.{◌≡◌, ◌+◌, ◌<◌, ◌≤◌, ◌++◌, ◌∷◌, ◌==◌, ◌&&◌, [], None, OnOk, vec_len, vec_capacity, take, length, nat_le, if◌then◌else◌, Option};
+ghost use Rattle.kernel.specs.Marked.{front_of};
+ghost use Rattle.kernel.specs.Handing.{handed_end_of};
 
 use commit_deps::{Mark, front};
 use machine_model::Reply;
@@ -25,7 +27,12 @@ pub struct Trace {
 
 impl Trace {
     /// No replies, and no end. Takes no memory.
-    pub fn new(alloc: Global) -> Trace {
+    pub fn new(alloc: Global) -> Trace
+        ensures replies { result.replies.items ≡ [] }
+        ensures marks { result.marks.items ≡ [] }
+        ensures handed { result.handed ≡ 0 }
+        ensures end { result.end ≡ None }
+    {
         Trace {
             replies: Vec::new(alloc),
             marks: Vec::new(alloc),
@@ -43,7 +50,9 @@ impl Trace {
 
     /// The status with which the process ended, where all before it is handed out and it rests on the first so many
     /// changes alone.
-    pub fn handed_end(&self, committed: u64) -> Option<u32> {
+    pub fn handed_end(&self, committed: u64) -> Option<u32>
+        ensures { result ≡ handed_end_of committed self.now.handed (length self.now.replies.items) self.now.end }
+    {
         match self.end {
             Some(end) if self.handed == self.replies.len() && end.mark.below(committed) => {
                 Some(end.status)
@@ -56,6 +65,10 @@ impl Trace {
     pub fn reserve(&mut self) -> Result<(), AllocError>
         ensures replies { OnOk result (vec_len self.new.replies < vec_capacity self.new.replies) }
         ensures marks { OnOk result (vec_len self.new.marks < vec_capacity self.new.marks) }
+        ensures same_replies { self.new.replies.items ≡ self.old.replies.items }
+        ensures same_marks { self.new.marks.items ≡ self.old.marks.items }
+        ensures same_handed { self.new.handed ≡ self.old.handed }
+        ensures same_end { self.new.end ≡ self.old.end }
     {
         self.replies.reserve(1)?;
         self.marks.reserve(1)
@@ -65,13 +78,22 @@ impl Trace {
     pub fn append(&mut self, reply: Reply, mark: Mark)
         requires replies { vec_len self.old.replies < vec_capacity self.old.replies }
         requires marks { vec_len self.old.marks < vec_capacity self.old.marks }
+        ensures replies { self.new.replies.items ≡ self.old.replies.items ++ reply ∷ [] }
+        ensures marks { self.new.marks.items ≡ self.old.marks.items ++ mark ∷ [] }
+        ensures handed { self.new.handed ≡ self.old.handed }
+        ensures end { self.new.end ≡ self.old.end }
     {
         self.replies.push(reply).unwrap();
         self.marks.push(mark).unwrap();
     }
 
     /// Moves the count of what is handed out on, over replies that rest on the first so many changes alone.
-    pub fn advance(&mut self, committed: u64) {
-        self.handed += front(&self.marks[self.handed..], committed);
+    pub fn advance(&mut self, committed: u64)
+        ensures handed { self.new.handed ≡ front_of committed self.old.marks.items }
+        ensures replies { self.new.replies ≡ self.old.replies }
+        ensures marks { self.new.marks ≡ self.old.marks }
+        ensures end { self.new.end ≡ self.old.end }
+    {
+        self.handed = front(&self.marks, committed);
     }
 }

@@ -1,12 +1,18 @@
-//! The words of the kernel: its events and answers, what its descriptors stand for, and what carries dependencies.
+//! What the kernel is, apart from how it is kept: its events and answers, the table of calls, and whole runs.
 #![tactic(auto)]
 
 mod answer;
 mod carrier;
 mod descriptor;
+mod effect;
 mod event;
+mod laws;
+mod request;
 
 pub use answer::{Answer, Outcome, Refused};
 pub use carrier::Carrier;
 pub use descriptor::Descriptor;
+pub use effect::{Output, Slot};
 pub use event::Event;
+pub use laws::{files_are_folded, settled_is};
+pub use request::{Request, Verdict};

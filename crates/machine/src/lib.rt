@@ -14,3 +14,4 @@ mod tests;
 
 pub use image::{Image, Segment};
 pub use machine::Machine;
+pub use machine_model::{Cause, Reply, Stop};

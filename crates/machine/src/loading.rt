@@ -53,7 +53,8 @@ fn stack(alloc: Global) -> Result<Space, AllocError>
 fn page_bytes(alloc: Global, segment: &Segment) -> Result<Vec<u8>, AllocError>
     requires { IsLoadable segment.now }
     ensures len { IfOk result (λ bytes. vec_len bytes ≡ 4096 * page_count segment.now) }
-    ensures bytes { IfOk result (λ bytes. (k : ℕ) → slice_index bytes.items k ≡ byte_at segment.now (4096 * first_page segment.now + k)) }
+    ensures bytes { IfOk result (λ bytes. (k : ℕ) → slice_index bytes.items k
+        ≡ byte_at segment.now (4096 * first_page segment.now + k)) }
 {
     let pages = (segment.vaddr + segment.memsz - 1) / PAGE + 1 - segment.vaddr / PAGE;
     with_zeros(
@@ -68,7 +69,8 @@ fn page_bytes(alloc: Global, segment: &Segment) -> Result<Vec<u8>, AllocError>
 fn with_zeros(alloc: Global, zeros: usize, bytes: &[u8], size: usize) -> Result<Vec<u8>, AllocError>
     requires { zeros + length bytes.now ≤ size }
     ensures len { IfOk result (λ all. vec_len all ≡ size) }
-    ensures bytes { IfOk result (λ all. (k : ℕ) → slice_index all.items k ≡ (if nat_le zeros k then slice_index bytes.now (k - zeros) else 0)) }
+    ensures bytes { IfOk result (λ all. (k : ℕ) → slice_index all.items k
+        ≡ (if nat_le zeros k then slice_index bytes.now (k - zeros) else 0)) }
 {
     let mut all = Vec::with_capacity(alloc, size)?;
     all.resize(zeros, 0)?;

@@ -20,8 +20,8 @@ use std::alloc::{AllocError, Global};
 use std::marker::Model;
 use std::sync::Arc;
 
-/// A process's machine: its registers, its memory, and how many instructions it has done. Words that may not be written
-/// are decoded once, and clones share them.
+/// A process's machine: its registers, its memory, and how many instructions it has done, at most 2^40. The words of each
+/// segment that may be executed are decoded once, and clones share them.
 #[derive(Drop)]
 pub struct Machine {
     regs: Regs,
@@ -97,7 +97,8 @@ impl Machine {
 
     /// A register's value.
     pub fn reg(&self, r: Reg) -> u32
-        ensures { result ≡ register self.now.hart r }
+        ensures value { result ≡ register self.now.hart r }
+        ensures zero { r ≡ 0 → result ≡ 0 }
     {
         self.regs.x[r.number() as usize]
     }

@@ -1,4 +1,4 @@
-//! Laws of the definitions: they say, as functions, what the relations say.
+//! Laws of the definitions: the functions that a run computes say what the relations say.
 ghost use Rattle.machine_model.specs.Steps.{NextIsStep, RunIsSteps};
 
 use formats::meanings;

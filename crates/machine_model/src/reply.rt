@@ -1,7 +1,8 @@
 //! Replies to calls.
 use byte_list::Bytes;
 
-/// What a call gives back: a number for a0, and bytes with their place. The place is 0 where there are no bytes.
+/// What a call gives back: a number for a0, and bytes for the memory from the address `at` on. The kernel gives 0 as the
+/// place where there are no bytes.
 #[derive(Debug, Drop)]
 pub struct Reply {
     pub a0: u32,

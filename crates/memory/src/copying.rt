@@ -1,4 +1,5 @@
-//! Bytes in and out of a space.
+//! Bytes in and out, as the caller sees it: `copy_in` is from the program's memory to the caller, `copy_out` from the caller
+//! to the program's memory. No byte stands past the greatest address, so a copy that would pass it is Unmapped.
 ghost use Rattle.std.specs.Prelude.{◌≡◌, ◌+◌, ◌/◌, ◌%◌, ◌^◌, ◌<◌, ◌≤◌, IfOk, IfNone, IfSome, OnOk, OnErr, Some, option_map, length};
 ghost use Rattle.std.specs.FinMap.{get};
 ghost use Rattle.machine_model.specs.Access.{range_fault, or_fault, bytes_at, put_bytes, is_writable, to_read, to_write};

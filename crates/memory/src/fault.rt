@@ -1,8 +1,8 @@
-//! Why bytes cannot be copied.
+//! Why bytes cannot be copied from a program.
 use machine_model::BusFault;
 use thiserror::Error;
 
-/// Why bytes cannot be copied out of a space.
+/// Why `Space::copy_in` gives no bytes.
 #[derive(Clone, Copy, Debug, PartialEq, Eq, Error)]
 pub enum CopyFault {
     /// A byte may not be read.

@@ -13,4 +13,5 @@ mod space;
 mod tests;
 
 pub use fault::CopyFault;
+pub use machine_model::{BusFault, Rights};
 pub use space::Space;

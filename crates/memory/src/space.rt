@@ -65,7 +65,7 @@ impl Space {
         Ok(())
     }
 
-    /// The word at an address from which it may be executed, little-endian (ISA chapter 2).
+    /// The word at an address from which it may be executed, little-endian (ISA section 1.5).
     #[inline]
     pub fn fetch(&self, at: u32) -> Result<u32, BusFault>
         ensures { result ≡ fetched self.now at }

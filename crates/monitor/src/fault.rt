@@ -1,5 +1,6 @@
 //! Why the program ends early.
 use kernel::BootFault;
+use simdisk::DiskRefusal;
 use std::alloc::{AllocError, AllocFailed};
 use std::io;
 use thiserror::Error;
@@ -45,6 +46,12 @@ impl From<BootFault> for Fault {
         match fault {
             BootFault::OutOfMemory => Fault::OutOfMemory,
         }
+    }
+}
+
+impl From<DiskRefusal> for Fault {
+    fn from(_refusal: DiskRefusal) -> Fault {
+        Fault::OutOfMemory
     }
 }
 

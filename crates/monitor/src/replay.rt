@@ -1,14 +1,21 @@
 //! The run of a script.
+ghost use Rattle.std.specs.Prelude.{◌≡◌, ◌≤◌, ◌<◌, length, IfOk};
+ghost use Rattle.std.specs.List.{AllByRecursion};
+
 use crate::fault::Fault;
 use crate::script::{ProgramText, Script, Step, Terminal};
+use disk_model::zeros_hold_nothing;
 use kernel::{Answer, Core, Program, Refused, SimDisk};
 use machine::Image;
 use machine_model::{Reply, Stop};
 use std::alloc::Global;
 use std::io::Write;
 
-/// Boots the programs of a script on a disk of zeros.
-fn boot(alloc: Global, texts: &[ProgramText]) -> Result<Core, Fault> {
+/// The programs of a script, to be booted.
+fn programs_of(alloc: Global, texts: &[ProgramText]) -> Result<Vec<Program>, Fault>
+    ensures len { IfOk result (λ programs. length programs.items ≡ length texts.now) }
+    ensures terminals { IfOk result (λ programs. AllByRecursion (λ p. p.terminal < 8) programs.items) }
+{
     let mut programs = Vec::new(alloc);
     for text in texts {
         programs.push(Program {
@@ -16,7 +23,17 @@ fn boot(alloc: Global, texts: &[ProgramText]) -> Result<Core, Fault> {
             terminal: text.terminal,
         })?;
     }
+    Ok(programs)
+}
+
+/// Boots the programs of a script on a disk of zeros.
+fn boot(alloc: Global, texts: &[ProgramText]) -> Result<Core, Fault>
+    requires some { 1 ≤ length texts.now }
+    requires few { length texts.now ≤ 8 }
+{
+    let programs = programs_of(alloc, texts)?;
     let disk = SimDisk::zero(alloc)?;
+    zeros_hold_nothing();
     Ok(Core::boot(alloc, disk, programs, Vec::new(alloc))?)
 }
 
@@ -137,4 +154,24 @@ pub fn replay<O: Write>(alloc: Global, text: &str, out: &mut O) -> Result<(), Fa
         play(alloc, &mut core, *step, out)?;
     }
     Ok(())
+}
+
+#[cfg(test)]
+mod tests {
+    use super::*;
+    use kernel::Event;
+    use std::test::Fail;
+
+    #[test]
+    fn a_trap_ends_its_process(rt: HostRuntime) -> Result<(), Fail> {
+        let alloc = rt.alloc();
+        let script = Script::parse(alloc, "program 0 00100073\nturn 1 5\nenter 1\n")?;
+        let mut core = boot(alloc, &script.programs)?;
+        assert_eq!(rt; core.ended(1)?, None);
+        core.apply(Event::Turn { pid: 1, n: 5 })?;
+        core.apply(Event::Enter { pid: 1 })?;
+        // 256 and 6, the cause
+        assert_eq!(rt; core.ended(1)?, Some(262));
+        Ok(())
+    }
 }

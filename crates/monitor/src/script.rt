@@ -143,33 +143,51 @@ fn line_of(alloc: Global, text: &str) -> Result<Option<Line>, AllocError> {
     }
 }
 
+/// Adds a program to those of a script, if it is not a ninth one.
+fn push_program(programs: &mut Vec<ProgramText>, program: ProgramText) -> Result<bool, AllocError>
+    requires { vec_len programs.old ≤ 8 }
+    ensures { vec_len programs.new ≤ 8 }
+{
+    if programs.len() >= MOST_PROGRAMS {
+        return Ok(false);
+    }
+    programs.push(program)?;
+    Ok(true)
+}
+
 impl Script {
     /// Reads a script whole. Refused is the first line that has no form, or is a `program` line behind a line that is
     /// none, or a ninth one; and where there is no such line, line 1 of a script without a `program` line. Lines are
     /// counted from 1 and end at a line feed; empty ones and those that begin with `#` are skipped.
-    pub fn parse(alloc: Global, text: &str) -> Result<Script, Fault> {
-        let mut script = Script {
-            programs: Vec::new(alloc),
-            steps: Vec::new(alloc),
-        };
+    pub fn parse(alloc: Global, text: &str) -> Result<Script, Fault>
+        ensures some { IfOk result (λ script. 1 ≤ vec_len script.programs) }
+        ensures few { IfOk result (λ script. vec_len script.programs ≤ 8) }
+    {
+        let mut programs = Vec::new(alloc);
+        let mut steps = Vec::new(alloc);
         let mut number = 0usize;
         for text in text.split('\n') {
             number = number.saturating_add(1);
             if text.is_empty() || text.starts_with('#') {
                 continue;
             }
-            match line_of(alloc, text)? {
-                Some(Line::Program(program))
-                    if script.steps.is_empty() && script.programs.len() < MOST_PROGRAMS => {
-                    script.programs.push(program)?;
+            let taken = match line_of(alloc, text)? {
+                Some(Line::Program(program)) => {
+                    steps.is_empty() && push_program(&mut programs, program)?
                 }
-                Some(Line::Step(step)) => script.steps.push(step)?,
-                _ => return Err(Fault::Script { line: number }),
+                Some(Line::Step(step)) => {
+                    steps.push(step)?;
+                    true
+                }
+                None => false,
+            };
+            if !taken {
+                return Err(Fault::Script { line: number });
             }
         }
-        if script.programs.is_empty() {
+        if programs.is_empty() {
             return Err(Fault::Script { line: 1 });
         }
-        Ok(script)
+        Ok(Script { programs, steps })
     }
 }

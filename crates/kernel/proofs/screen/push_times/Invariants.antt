@@ -1,6 +1,10 @@
--- So many marks were pushed, and there is room for the others.
-use Rattle.std.proofs.Common.{◌≡◌, ◌+◌, ◌≤◌, vec_len, vec_capacity}
+-- So many marks are appended, and there is room for the others.
+use Rattle.std.proofs.Common.{◌≡◌, ◌+◌, ◌-◌, ◌≤◌, ◌++◌, replicate}
+use Rattle.std.specs.Prelude.{vec_len, vec_capacity}
 use Rattle.kernel.proofs.screen.push_times.Given as goal
 
-abbrev pub invariant-loop : goal.invariant-loop
-invariant-loop l = (vec_len l.marks ≡ vec_len l.initial.marks + l.counter) × (vec_len l.initial.marks + l.times ≤ vec_capacity l.marks)
+abbrev pub invariant-loop-done : goal.invariant-loop-done
+invariant-loop-done l = record {
+  items : l.marks.items ≡ l.initial.marks.items ++ replicate l._done l.mark;
+  room : vec_len l.marks + (l.times - l._done) ≤ vec_capacity l.marks;
+}

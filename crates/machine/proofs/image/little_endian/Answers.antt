@@ -1,3 +1,4 @@
+-- One more word.
 use Rattle.std.proofs.Common.{ℕ, List, ◌++◌, get_or, ap, ◌∙◌}
 use Rattle.std.specs.Int.{to_le_bytes, w32}
 use Rattle.machine.proofs.Words.{bytes_of_words-take}

@@ -1,3 +1,4 @@
+-- The bytes of the words so far.
 use Rattle.std.proofs.Common.{◌≡◌, take}
 use Rattle.machine.specs.Images.{bytes_of_words}
 use Rattle.machine.proofs.image.little_endian.Given as goal

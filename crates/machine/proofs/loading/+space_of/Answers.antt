@@ -1,3 +1,4 @@
+-- A segment goes where nothing stands, and makes the memory of one more.
 use Rattle.std.proofs.Common.{ℕ, List, length, ap, ◌∙◌, arith}
 use Rattle.std.specs.Prelude.{◌-◌, slice_index, drop, take}
 use Rattle.machine.proofs.Pages.{first-rest, segment-free, segment-mapped}

@@ -1,3 +1,4 @@
+-- The list of segments gets shorter.
 use Rattle.std.proofs.Common.{length}
 use Rattle.machine.proofs.loading.+space_of.Given as goal
 

@@ -1,3 +1,4 @@
+-- The stack goes where nothing stands.
 use Rattle.std.proofs.Common.{ℕ, List, ap, ◌∙◌}
 use Rattle.std.specs.Prelude.{slice_index}
 use Rattle.machine.proofs.Pages.{nothing-free, stack-mapped}

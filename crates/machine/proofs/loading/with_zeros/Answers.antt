@@ -1,3 +1,4 @@
+-- What stands at each place.
 use Rattle.machine.proofs.Pages.{padded}
 use Rattle.machine.proofs.loading.with_zeros.Goals as goal
 

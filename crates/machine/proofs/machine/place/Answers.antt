@@ -1,3 +1,4 @@
+-- Bytes go only where they may be written.
 use Rattle.machine.proofs.Keeping.{copied-kept}
 use Rattle.machine.proofs.machine.place.Goals as goal
 

@@ -1,3 +1,4 @@
+-- A program of words meets the profile.
 use Rattle.machine.proofs.Words.{IsProfile-segments}
 use Rattle.std.proofs.Common.{◌∙◌}
 use Rattle.machine.proofs.image.Image.from_text.Goals as goal

@@ -1,3 +1,4 @@
+-- The tables match the first memory.
 use Rattle.std.proofs.Common.{List, ap, subst, sym}
 use Rattle.machine_model.specs.Memory.{Memory}
 use Rattle.machine.specs.declared.table.Table.{Table}

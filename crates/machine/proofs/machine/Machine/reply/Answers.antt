@@ -1,3 +1,4 @@
+-- A reply leaves what the tables match.
 use Rattle.machine.proofs.Keeping.{matches-kept}
 use Rattle.machine.proofs.machine.Machine.reply.Goals as goal
 

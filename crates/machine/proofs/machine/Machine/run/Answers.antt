@@ -1,3 +1,4 @@
+-- A run leaves what the tables match, and stops where it should.
 use Rattle.std.proofs.Common.{◌≡◌, ℕ, ◌+◌, Some, sym, ap, subst, ◌∙◌, List}
 use Rattle.machine_model.specs.States.{state, hart, stands_at}
 use Rattle.machine.specs.Tables.{AllMatch}

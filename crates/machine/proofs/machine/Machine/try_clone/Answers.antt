@@ -1,3 +1,4 @@
+-- The tables match the copy too.
 use Rattle.std.proofs.Common.{List, sym, ap, subst}
 use Rattle.machine_model.specs.Memory.{Memory}
 use Rattle.machine.specs.declared.table.Table.{Table}

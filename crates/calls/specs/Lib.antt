@@ -1,0 +1,4 @@
+-- The definitions.
+pub mod Errors
+pub mod Wholes
+pub mod Plans

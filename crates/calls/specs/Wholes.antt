@@ -1,0 +1,16 @@
+-- Requests whose bytes are as many as they say.
+use Rattle.std.specs.Prelude.{◌≡◌, ℕ, ◌≤◌, length, List, Option, IfSome}
+use Rattle.kernel_model.specs.Requests.{most_bytes, longest_name}
+use Rattle.kernel_model.specs.declared.request.Request.{Request}
+use Rattle.kernel_model.specs.declared.request.Request.TheVariants.{Exit, Write, Open, Unknown}
+
+-- bytes that are there are n, and n is at most so many
+abbrev pub AreWhole : ℕ → ℕ → Option (List ℕ) → Type 0
+AreWhole most n bytes = IfSome bytes (λ bs. (length bs ≡ n) × (n ≤ most))
+
+-- the bytes of a request, where they are there, are as many as it says, and not too many
+abbrev pub IsWhole : Request → Type 0
+IsWhole (Exit status) = Unit {0}
+IsWhole (Write fd n bytes) = AreWhole most_bytes n bytes
+IsWhole (Open n mode name) = AreWhole longest_name n name
+IsWhole Unknown = Unit {0}

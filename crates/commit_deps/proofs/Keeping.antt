@@ -1,0 +1,299 @@
+-- The marks of carriers stay those of the log.
+use Rattle.std.proofs.Common.{◌≡◌, ℕ, zero, suc, ◌+◌, ◌<◌, ◌≤◌, Bool, true, false, if◌then◌else◌, List, [], ◌∷◌, ◌++◌, length, Option, Some, None, is_some, IfSome, unwrap_or, not, nat_lt, nat_le, ◌||◌, ◌&&◌, max, refl, sym, ap, subst, ◌∙◌, arith, take, get_or, set}
+use Rattle.std.specs.List.{find, list_any, position, position_or_len}
+use Rattle.std.specs.Option.{option_map}
+use Rattle.std.proofs.lemmas.Bool.{false≢true, eqb-true, eq-eqb, leb-true, le-leb, ltb-true, lt-ltb, and_parts, and_from, or_parts}
+use Rattle.std.proofs.lemmas.List.{take_more}
+use Rattle.std.proofs.lemmas.List.Quantifiers.{position-Some}
+use Rattle.std.proofs.lemmas.List.Folds.{list_any-append}
+use Rattle.kernel_model.specs.declared.carrier.Carrier.{Carrier}
+use Rattle.kernel_model.specs.declared.carrier.Carrier.TheVariants.{Proc, File, Names, Pipe, Pipes, Tasks, Tape}
+use Rattle.kernel_model.specs.Entries.{Entry, is_same, is_among, meets}
+use Rattle.kernel_model.specs.Paths.{is_settled, is_settled_from, change_count, changes_of, with_change}
+use Rattle.kernel_model.proofs.Paths.{count_of}
+use Rattle.disk_model.specs.declared.change.Change.{Change}
+use Rattle.commit_deps.specs.declared.dependencies.Marked.{Marked}
+use Rattle.commit_deps.specs.Marks.{IsMarkOf, reader, change_number}
+use Rattle.commit_deps.specs.Keeps.{mark_at, mark_or_none, is_written, Keeps, mark_of_change, greatest_mark, noted, noted_all}
+use Rattle.commit_deps.proofs.Answering.{and_true, and_assoc, and_swap, or_true, or_false, both_pass}
+use Rattle.commit_deps.proofs.Readers.{settled-reader, settled-union, settled-event, settled-nothing}
+
+-- ---- two carriers are one
+same-true : (a b : Carrier) → is_same a b ≡ true → a ≡ b
+same-true (Proc a) (Proc b) h = ap (λ n. Proc n) (eqb-true a b h)
+same-true (File a) (File b) h = ap (λ n. File n) (eqb-true a b h)
+same-true Names Names h = refl
+same-true (Pipe a) (Pipe b) h = ap (λ n. Pipe n) (eqb-true a b h)
+same-true Pipes Pipes h = refl
+same-true Tasks Tasks h = refl
+same-true (Tape a) (Tape b) h = ap (λ n. Tape n) (eqb-true a b h)
+same-true _ _ h = absurd (false≢true h)
+
+same-refl : (a : Carrier) → is_same a a ≡ true
+same-refl (Proc a) = eq-eqb a a refl
+same-refl (File a) = eq-eqb a a refl
+same-refl Names = refl
+same-refl (Pipe a) = eq-eqb a a refl
+same-refl Pipes = refl
+same-refl Tasks = refl
+same-refl (Tape a) = eq-eqb a a refl
+
+same-sym : (a b : Carrier) → is_same a b ≡ is_same b a
+same-sym a b = elim (is_same a b) as (λ v. is_same a b ≡ v → v ≡ is_same b a) [
+  | true ↦ λ h. sym (subst (λ (x : Carrier). is_same b x ≡ true) (sym (same-true a b h)) (same-refl b))
+  | false ↦ λ h. elim (is_same b a) as (λ w. is_same b a ≡ w → false ≡ w) [
+    | true ↦ λ g. absurd (false≢true (sym h ∙ subst (λ (x : Carrier). is_same x b ≡ true) (same-true b a g) (same-refl b)))
+    | false ↦ λ g. refl
+  ] refl
+] refl
+
+-- ---- the mark of a carrier, after another mark was noted
+-- a carrier that is written, or not, has the greater of its mark and the new one, or keeps its own
+abbrev pub joined_at : Bool → Option ℕ → ℕ → Option ℕ
+joined_at b o m = if b then Some (max (unwrap_or o 0) m) else o
+
+-- the first mark, where it is of that carrier or not
+cons-at : (y : Carrier) (k : Marked) (ks : List Marked) (d : Bool) → is_same k.carrier y ≡ d
+    → mark_at y (k ∷ ks) ≡ (if d then Some k.mark else mark_at y ks)
+cons-at y k ks true h = ap (λ (b : Bool). option_map (λ (j : Marked). j.mark) (if b then Some k else find (λ (j : Marked). is_same j.carrier y) ks)) h
+cons-at y k ks false h = ap (λ (b : Bool). option_map (λ (j : Marked). j.mark) (if b then Some k else find (λ (j : Marked). is_same j.carrier y) ks)) h
+
+-- where the first mark is of x or not, and of y or not
+noted-step : (x y : Carrier) (m : ℕ) (k : Marked) (ks : List Marked) (b d : Bool) → is_same k.carrier x ≡ b → is_same k.carrier y ≡ d
+    → mark_at y (noted x m ks) ≡ joined_at (is_same x y) (mark_at y ks) m
+    → mark_at y (if b then record { carrier = k.carrier; mark = max k.mark m } ∷ ks else k ∷ noted x m ks) ≡ joined_at (is_same x y) (mark_at y (k ∷ ks)) m
+noted-step x y m k ks true true h g rest =
+    let same : is_same x y ≡ true = subst (λ (z : Carrier). is_same z y ≡ true) (same-true k.carrier x h) g in
+    cons-at y (record { carrier = k.carrier; mark = max k.mark m }) ks true g
+    ∙ sym (ap (λ (v : Bool). joined_at v (mark_at y (k ∷ ks)) m) same ∙ ap (λ (o : Option ℕ). joined_at true o m) (cons-at y k ks true g))
+noted-step x y m k ks true false h g rest =
+    let same : is_same x y ≡ false = subst (λ (z : Carrier). is_same z y ≡ false) (same-true k.carrier x h) g in
+    cons-at y (record { carrier = k.carrier; mark = max k.mark m }) ks false g
+    ∙ sym (ap (λ (v : Bool). joined_at v (mark_at y (k ∷ ks)) m) same ∙ cons-at y k ks false g)
+noted-step x y m k ks false true h g rest =
+    cons-at y k (noted x m ks) true g
+    ∙ sym (ap (λ (v : Bool). joined_at v (mark_at y (k ∷ ks)) m) (other (is_same x y) refl) ∙ cons-at y k ks true g)
+  where
+    other : (v : Bool) → is_same x y ≡ v → is_same x y ≡ false
+    other true e = absurd (false≢true (sym h ∙ ap (λ (z : Carrier). is_same k.carrier z) (same-true x y e) ∙ g))
+    other false e = e
+noted-step x y m k ks false false h g rest =
+    cons-at y k (noted x m ks) false g ∙ rest ∙ sym (ap (λ (o : Option ℕ). joined_at (is_same x y) o m) (cons-at y k ks false g))
+
+pub mark_at-noted : (x y : Carrier) (m : ℕ) (ks : List Marked) → mark_at y (noted x m ks) ≡ joined_at (is_same x y) (mark_at y ks) m
+mark_at-noted x y m [] = one (is_same x y) refl
+  where
+    one : (d : Bool) → is_same x y ≡ d → mark_at y (record { carrier = x; mark = m } ∷ []) ≡ joined_at (is_same x y) None m
+    one true h = cons-at y (record { carrier = x; mark = m }) [] true h ∙ ap (λ (n : ℕ). Some n) (omega arith) ∙ sym (ap (λ (v : Bool). joined_at v None m) h)
+    one false h = cons-at y (record { carrier = x; mark = m }) [] false h ∙ sym (ap (λ (v : Bool). joined_at v None m) h)
+mark_at-noted x y m (k ∷ ks) = noted-step x y m k ks (is_same k.carrier x) (is_same k.carrier y) refl refl (mark_at-noted x y m ks)
+
+-- joined twice is joined once
+joined-twice : (a b : Bool) (o : Option ℕ) (m : ℕ) → joined_at a (joined_at b o m) m ≡ joined_at (b || a) o m
+joined-twice true true o m = ap (λ (n : ℕ). Some n) (omega arith)
+joined-twice true false o m = refl
+joined-twice false true o m = refl
+joined-twice false false o m = refl
+
+-- the same of several carriers
+pub mark_at-noted_all : (xs : List Carrier) (y : Carrier) (m : ℕ) (ks : List Marked) → mark_at y (noted_all xs m ks) ≡ joined_at (is_among y xs) (mark_at y ks) m
+mark_at-noted_all [] y m ks = refl
+mark_at-noted_all (x ∷ xs) y m ks =
+    mark_at-noted_all xs y m (noted x m ks)
+    ∙ ap (λ (o : Option ℕ). joined_at (is_among y xs) o m) (mark_at-noted x y m ks)
+    ∙ joined-twice (is_among y xs) (is_same x y) (mark_at y ks) m
+    ∙ ap (λ (b : Bool). joined_at (b || is_among y xs) (mark_at y ks) m) (same-sym x y)
+
+noted_all-append : (xs ys : List Carrier) (m : ℕ) (ks : List Marked) → noted_all (xs ++ ys) m ks ≡ noted_all ys m (noted_all xs m ks)
+noted_all-append [] ys m ks = refl
+noted_all-append (x ∷ xs) ys m ks = noted_all-append xs ys m (noted x m ks)
+
+-- one more carrier is noted
+pub noted_all-more : (xs : List Carrier) (i : ℕ) (d : Carrier) (m : ℕ) (ks marks : List Marked) → i < length xs → marks ≡ noted_all (take i xs) m ks
+    → noted (get_or xs i d) m marks ≡ noted_all (take (i + 1) xs) m ks
+noted_all-more xs i d m ks marks h e =
+    ap (λ (js : List Marked). noted (get_or xs i d) m js) e
+    ∙ sym (ap (λ (ys : List Carrier). noted_all ys m ks) (take_more xs i d h) ∙ noted_all-append (take i xs) (get_or xs i d ∷ []) m ks)
+
+-- ---- what one more event changes
+-- a list meets one carrier where that is among it
+meets-one : (ws : List Carrier) (y : Carrier) → meets ws (y ∷ []) ≡ is_among y ws
+meets-one [] y = refl
+meets-one (w ∷ ws) y = ap (λ (b : Bool). b || meets ws (y ∷ [])) (or_false (is_same w y) ∙ same-sym w y) ∙ ap (λ (b : Bool). is_same y w || b) (meets-one ws y)
+
+-- the greater of two marks is below where both are
+le-max : (a b c : ℕ) → nat_le (max a b) c ≡ (nat_le a c && nat_le b c)
+le-max a b c = both_pass (nat_le (max a b) c) (nat_le a c && nat_le b c)
+    (λ h. let least : max a b ≤ c = leb-true (max a b) c h in and_from (nat_le a c) (nat_le b c) (le-leb a c (omega arith)) (le-leb b c (omega arith)))
+    (λ h. let both = and_parts (nat_le a c) (nat_le b c) h in
+    let first : a ≤ c = leb-true a c both.0 in
+    let second : b ≤ c = leb-true b c both.1 in
+    le-leb (max a b) c (omega arith))
+
+le-next : (n c : ℕ) → nat_le (n + 1) c ≡ nat_lt n c
+le-next n c = both_pass (nat_le (n + 1) c) (nat_lt n c)
+    (λ h. let least : n + 1 ≤ c = leb-true (n + 1) c h in lt-ltb n c (omega arith))
+    (λ h. let less : n < c = ltb-true n c h in le-leb (n + 1) c (omega arith))
+
+le-zero : (c : ℕ) → nat_le 0 c ≡ true
+le-zero c = le-leb 0 c (omega arith)
+
+-- a carrier that the event wrote rests on both, and another on what it rested on
+mark-joined : (b : Bool) (o : Option ℕ) (m c : ℕ) (old new : Bool) → nat_le (unwrap_or o 0) c ≡ old → nat_le m c ≡ new
+    → nat_le (unwrap_or (joined_at b o m) 0) c ≡ (old && (not b || new))
+mark-joined true o m c old new h g = le-max (unwrap_or o 0) m c ∙ ap (λ (x : Bool). x && nat_le m c) h ∙ ap (λ (x : Bool). old && x) g
+mark-joined false o m c old new h g = h ∙ sym (and_true old)
+
+some-joined : (b : Bool) (o : Option ℕ) (m : ℕ) → is_some (joined_at b o m) ≡ (is_some o || b)
+some-joined true o m = sym (or_true (is_some o))
+some-joined false o m = sym (or_false (is_some o))
+
+-- one more event is noted
+pub keeps-more : (log : List Entry) (marks : List Marked) (e : Entry) (m : ℕ) → Keeps log marks → IsMarkOf m log e
+    → Keeps (log ++ e ∷ []) (noted_all e.writes m marks)
+keeps-more log marks e m keeps is_mark = record {
+  written = λ x.
+      ap (λ (o : Option ℕ). is_some o) (mark_at-noted_all e.writes x m marks)
+      ∙ some-joined (is_among x e.writes) (mark_at x marks) m
+      ∙ ap (λ (b : Bool). b || is_among x e.writes) (keeps.written x)
+      ∙ ap (λ (b : Bool). is_written x log || b) (sym (or_false (is_among x e.writes)))
+      ∙ sym (list_any-append (λ (d : Entry). is_among x d.writes) log (e ∷ []));
+  marked = λ x. record {
+    says = λ c.
+        ap (λ (o : Option ℕ). nat_le (unwrap_or o 0) c) (mark_at-noted_all e.writes x m marks)
+        ∙ mark-joined (is_among x e.writes) (mark_at x marks) m c (is_settled c log (reader (x ∷ []))) (is_settled c log e) ((keeps.marked x).says c) (is_mark.says c)
+        ∙ ap (λ (b : Bool). is_settled c log (reader (x ∷ [])) && (not b || is_settled c log e)) (sym (meets-one e.writes x))
+        ∙ sym (settled-reader c log e (x ∷ []));
+  };
+}
+
+-- ---- the mark of the next event
+-- the greatest mark is below where all are
+greatest-says : (log : List Entry) (marks : List Marked) → Keeps log marks → (c own : ℕ) (rs : List Carrier)
+    → nat_le (greatest_mark own rs marks) c ≡ (nat_le own c && is_settled c log (reader rs))
+greatest-says log marks keeps c own [] = sym (and_true (nat_le own c)) ∙ ap (λ (b : Bool). nat_le own c && b) (sym (settled-nothing c 0 log))
+greatest-says log marks keeps c own (x ∷ xs) =
+    greatest-says log marks keeps c (max own (mark_or_none x marks)) xs
+    ∙ ap (λ (b : Bool). b && is_settled c log (reader xs)) (le-max own (mark_or_none x marks) c)
+    ∙ and_assoc (nat_le own c) (nat_le (mark_or_none x marks) c) (is_settled c log (reader xs))
+    ∙ ap (λ (b : Bool). nat_le own c && (b && is_settled c log (reader xs))) ((keeps.marked x).says c)
+    ∙ ap (λ (b : Bool). nat_le own c && b) (sym (settled-union c 0 log (x ∷ []) xs))
+
+-- the greatest mark of several carriers says what a reader of them all rests on
+pub greatest-is-mark : (log : List Entry) (marks : List Marked) → Keeps log marks → (rs : List Carrier) → IsMarkOf (greatest_mark 0 rs marks) log (reader rs)
+greatest-is-mark log marks keeps rs = record {
+  says = λ c. greatest-says log marks keeps c 0 rs ∙ ap (λ (b : Bool). b && is_settled c log (reader rs)) (le-zero c);
+}
+
+count-with : (o : Option Change) (cs : List Change) → (if is_some o then 1 else 0) + length cs ≡ length (with_change o cs)
+count-with None cs = omega arith
+count-with (Some c) cs = omega arith
+
+count-changes : (log : List Entry) → count_of log ≡ length (changes_of log)
+count-changes [] = refl
+count-changes (d ∷ ds) = ap (λ n. change_count d + n) (count-changes ds) ∙ count-with d.change (changes_of ds)
+
+-- the mark of its own change says whether that is committed
+own-says : (c n : ℕ) (makes : Bool) → nat_le (mark_of_change (if makes then Some n else None)) c ≡ (not makes || nat_lt n c)
+own-says c n true = le-next n c
+own-says c n false = le-zero c
+
+-- the mark of an event, from what it reads and the number of its change
+pub mark-says : (log : List Entry) (marks : List Marked) (e : Entry) (reads : List Carrier) (change : Option ℕ)
+    → Keeps log marks → e.reads ≡ reads → change ≡ change_number log e → IsMarkOf (greatest_mark (mark_of_change change) reads marks) log e
+mark-says log marks e reads change keeps reads_it makes = record {
+  says = λ c.
+      ap (λ (rs : List Carrier). nat_le (greatest_mark (mark_of_change change) rs marks) c) (sym reads_it)
+      ∙ ap (λ (o : Option ℕ). nat_le (greatest_mark (mark_of_change o) e.reads marks) c) makes
+      ∙ greatest-says log marks keeps c (mark_of_change (change_number log e)) e.reads
+      ∙ ap (λ (b : Bool). b && is_settled c log (reader e.reads)) (own-says c (length (changes_of log)) (is_some e.change))
+      ∙ ap (λ (n : ℕ). (not (is_some e.change) || nat_lt n c) && is_settled c log (reader e.reads)) (omega (arith, count-changes log))
+      ∙ and_swap (not (is_some e.change) || nat_lt (0 + count_of log) c) (is_settled c log (reader e.reads))
+      ∙ sym (settled-event c 0 log e);
+}
+
+-- an event that reads nothing and makes no change rests on none
+pub none-says : (log : List Entry) (e : Entry) → e.reads ≡ [] → e.change ≡ None → IsMarkOf 0 log e
+none-says log e reads_none makes_none = record {
+  says = λ c.
+      le-zero c
+      ∙ sym (settled-event c 0 log e
+      ∙ ap (λ (rs : List Carrier). is_settled_from c 0 log (reader rs) && (not (is_some e.change) || nat_lt (0 + count_of log) c)) reads_none
+      ∙ ap (λ (b : Bool). b && (not (is_some e.change) || nat_lt (0 + count_of log) c)) (settled-nothing c 0 log)
+      ∙ ap (λ (o : Option Change). not (is_some o) || nat_lt (0 + count_of log) c) makes_none);
+}
+
+-- an event that writes nothing leaves the marks right, whatever it rests on
+pub keeps-silent : (log : List Entry) (marks : List Marked) (e : Entry) → Keeps log marks → e.writes ≡ [] → Keeps (log ++ e ∷ []) marks
+keeps-silent log marks e keeps silent = record {
+  written = λ x.
+      keeps.written x
+      ∙ sym (or_false (is_written x log))
+      ∙ ap (λ (ws : List Carrier). is_written x log || (is_among x ws || false)) (sym silent)
+      ∙ sym (list_any-append (λ (d : Entry). is_among x d.writes) log (e ∷ []));
+  marked = λ x. record {
+    says = λ c.
+        (keeps.marked x).says c
+        ∙ sym (and_true (is_settled c log (reader (x ∷ []))))
+        ∙ ap (λ (ws : List Carrier). is_settled c log (reader (x ∷ [])) && (not (meets ws (x ∷ [])) || is_settled c log e)) (sym silent)
+        ∙ sym (settled-reader c log e (x ∷ []));
+  };
+}
+
+-- ---- one mark is written
+-- the mark at the carrier's place is joined
+set-found : (x : Carrier) (m : ℕ) (ks : List Marked) (i : ℕ) (k : Marked) → i < length ks
+    → is_same (get_or ks i k).carrier x ≡ true → ((j : ℕ) → j < i → is_same (get_or ks j k).carrier x ≡ false)
+    → k ≡ get_or ks i k → set ks i (record { carrier = k.carrier; mark = max k.mark m }) ≡ noted x m ks
+set-found x m [] i k h here before e = absurd (omega arith)
+set-found x m (y ∷ ys) zero k h here before e =
+    ap (λ (z : Marked). record { carrier = z.carrier; mark = max z.mark m } ∷ ys) e
+    ∙ sym (ap (λ (b : Bool). if b then record { carrier = y.carrier; mark = max y.mark m } ∷ ys else y ∷ noted x m ys) here)
+set-found x m (y ∷ ys) (suc i) k h here before e =
+    ap (λ (zs : List Marked). y ∷ zs) (set-found x m ys i k (omega arith) here (λ j g. before (suc j) (omega arith)) e)
+    ∙ sym (ap (λ (b : Bool). if b then record { carrier = y.carrier; mark = max y.mark m } ∷ ys else y ∷ noted x m ys) (before 0 (omega arith)))
+
+pub noted-found : (x : Carrier) (m : ℕ) (ks : List Marked) (i : ℕ) (k : Marked)
+    → position (λ (j : Marked). is_same j.carrier x) ks ≡ Some i
+    → k ≡ get_or ks i k → set ks i (record { carrier = k.carrier; mark = max k.mark m }) ≡ noted x m ks
+noted-found x m ks i k h e =
+    let found = position-Some (λ (j : Marked). is_same j.carrier x) ks i k h in
+    set-found x m ks i k found.0 found.1 found.2 e
+
+-- where the carrier has no place the mark comes last
+append-absent : (x : Carrier) (m : ℕ) (ks : List Marked) → list_any (λ (j : Marked). is_same j.carrier x) ks ≡ false
+    → ks ++ record { carrier = x; mark = m } ∷ [] ≡ noted x m ks
+append-absent x m [] h = refl
+append-absent x m (y ∷ ys) h =
+    let both = or_parts (is_same y.carrier x) (list_any (λ (j : Marked). is_same j.carrier x) ys) h in
+    ap (λ (zs : List Marked). y ∷ zs) (append-absent x m ys both.1)
+    ∙ sym (ap (λ (b : Bool). if b then record { carrier = y.carrier; mark = max y.mark m } ∷ ys else y ∷ noted x m ys) both.0)
+
+-- some mark passes where there is a place
+any-place : (p : Marked → Bool) (ks : List Marked) → list_any p ks ≡ nat_lt (position_or_len p ks) (length ks)
+any-place p [] = refl
+any-place p (k ∷ ks) = elim (p k) as (λ b. (b || list_any p ks) ≡ nat_lt (if not b then 1 + position_or_len p ks else 0) (length (k ∷ ks))) [
+  | true ↦ sym (lt-ltb 0 (length (k ∷ ks)) (omega arith))
+  | false ↦ any-place p ks ∙ both_pass (nat_lt (position_or_len p ks) (length ks)) (nat_lt (1 + position_or_len p ks) (length (k ∷ ks)))
+      (λ h. let less : position_or_len p ks < length ks = ltb-true (position_or_len p ks) (length ks) h in lt-ltb (1 + position_or_len p ks) (length (k ∷ ks)) (omega arith))
+      (λ h. let less : 1 + position_or_len p ks < length (k ∷ ks) = ltb-true (1 + position_or_len p ks) (length (k ∷ ks)) h in lt-ltb (position_or_len p ks) (length ks) (omega arith))
+]
+
+no-place : (b : Bool) (n : ℕ) → (if b then Some n else None) ≡ None → b ≡ false
+no-place true n h = cc
+no-place false n h = refl
+
+pub noted-absent : (x : Carrier) (m : ℕ) (ks : List Marked) → position (λ (j : Marked). is_same j.carrier x) ks ≡ None
+    → ks ++ record { carrier = x; mark = m } ∷ [] ≡ noted x m ks
+noted-absent x m ks h = append-absent x m ks
+    (any-place (λ (j : Marked). is_same j.carrier x) ks ∙ no-place (nat_lt (position_or_len (λ (j : Marked). is_same j.carrier x) ks) (length ks)) (position_or_len (λ (j : Marked). is_same j.carrier x) ks) h)
+
+-- ---- the mark of one carrier
+pub found-says : (log : List Entry) (marks : List Marked) (x : Carrier) → Keeps log marks → (found : Option ℕ) → found ≡ mark_at x marks
+    → IfSome found (λ m. IsMarkOf m log (reader (x ∷ [])))
+found-says log marks x keeps None e = tt
+found-says log marks x keeps (Some m) e = record { says = λ c. ap (λ (o : Option ℕ). nat_le (unwrap_or o 0) c) e ∙ (keeps.marked x).says c }
+
+-- no event was there
+pub keeps-none : Keeps [] []
+keeps-none = record { written = λ x. refl; marked = λ x. record { says = λ c. le-zero c } }

@@ -1,0 +1,4 @@
+pub mod Answering
+pub mod Readers
+pub mod Keeping
+pub mod Releasing

@@ -1,0 +1,12 @@
+-- The greatest mark of what is read and of the event's own change.
+use Rattle.std.proofs.Common.{◌≡◌, ℕ, sym, ap, subst, ◌∙◌}
+use Rattle.commit_deps.specs.Marks.{IsMarkOf}
+use Rattle.commit_deps.specs.Keeps.{mark_of_change, greatest_mark}
+use Rattle.commit_deps.proofs.Keeping.{mark-says}
+use Rattle.commit_deps.proofs.dependencies.Dependencies.mark.Goals as goal
+
+pub returns : goal.returns
+returns c log e keeps reads makes =
+    let value : c.greatest.result ≡ greatest_mark (mark_of_change c.args.change) c.args.reads.now c.args.self.now.marks =
+    c.greatest.ensures ∙ ap (λ (m : ℕ). greatest_mark m c.args.reads.now c.args.self.now.marks) c.own_mark.ensures in
+    subst (λ (m : ℕ). IsMarkOf m log e) (sym value) (mark-says log c.args.self.now.marks e c.args.reads.now c.args.change keeps reads makes)

@@ -1,0 +1,4 @@
+pub mod Marks
+pub mod Kept
+pub mod Keeps
+pub mod Released

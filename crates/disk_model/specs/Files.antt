@@ -1,0 +1,51 @@
+-- Files, and what a change does to them.
+use Rattle.std.specs.Prelude.{◌≡◌, ℕ, ◌+◌, ◌-◌, ◌<◌, ◌≤◌, ◌^◌, List, [], ◌∷◌, ◌++◌, length, take, drop, replicate, slice_get, slice_set, Option, Some, None}
+use Rattle.std.specs.List.{AllByRecursion}
+use Rattle.disk_model.specs.declared.change.NamedFile.{NamedFile}
+use Rattle.disk_model.specs.declared.change.Change.{Change}
+use Rattle.disk_model.specs.declared.change.Change.TheVariants.{Create, Write, Empty}
+
+-- the old bytes with these from the offset on; a gap between the old end and the offset is zeros
+abbrev pub patched : List ℕ → ℕ → List ℕ → List ℕ
+patched old offset bytes = take offset old ++ replicate (offset - length old) 0 ++ bytes ++ drop (offset + length bytes) old
+
+-- the files where the file at this place, if there is one, has its bytes changed so
+abbrev pub with_bytes : List NamedFile → ℕ → Option NamedFile → (List ℕ → List ℕ) → List NamedFile
+with_bytes files place None f = files
+with_bytes files place (Some file) f = slice_set files place (record { name = file.name; bytes = f file.bytes })
+
+-- the files after a change; one that names a file that is not there changes nothing
+abbrev pub changed : List NamedFile → Change → List NamedFile
+changed files (Create name) = files ++ record { name = name; bytes = [] } ∷ []
+changed files (Write place offset bytes) = with_bytes files place (slice_get files place) (λ old. patched old offset bytes)
+changed files (Empty place) = with_bytes files place (slice_get files place) (λ old. [])
+
+-- the files after these changes, the first of them first
+abbrev pub files_after : List NamedFile → List Change → List NamedFile
+files_after files [] = files
+files_after files (c ∷ cs) = files_after (changed files c) cs
+
+-- a byte of a file's name: 0x21 to 0x7E, without the slash
+abbrev pub IsNameByte : ℕ → Type 0
+IsNameByte b = (33 ≤ b) × (b ≤ 126) × (b ≡ 47 → ⊥)
+
+-- a change that a record may spell, whatever files there are: a name has 1 to 32 bytes, a write 1 to 1,024
+abbrev pub IsFormed : Change → Type 0
+IsFormed (Create name) = (1 ≤ length name) × (length name ≤ 32) × AllByRecursion IsNameByte name
+IsFormed (Write place offset bytes) = (place < 2 ^ 16) × (offset < 2 ^ 32) × (1 ≤ length bytes) × (length bytes ≤ 1024) × AllByRecursion (λ b. b < 256) bytes
+IsFormed (Empty place) = place < 2 ^ 16
+
+-- a change that is possible with these files: a new name among at most 32, a file that is there, a file of at most 16,384 bytes
+abbrev pub MayCome : List NamedFile → Change → Type 0
+MayCome files (Create name) = AllByRecursion (λ (f : NamedFile). f.name ≡ name → ⊥) files × (length files < 32)
+MayCome files (Write place offset bytes) = (place < length files) × (offset + length bytes ≤ 16384)
+MayCome files (Empty place) = place < length files
+
+-- each of these changes is formed, and possible where it comes
+abbrev pub Follow : List NamedFile → List Change → Type 0
+Follow files [] = Unit {0}
+Follow files (c ∷ cs) = IsFormed c × MayCome files c × Follow (changed files c) cs
+
+-- possible changes make these files from nothing
+abbrev pub IsMade : List NamedFile → Type 0
+IsMade files = (all : List Change) × Follow [] all × (files ≡ files_after [] all)

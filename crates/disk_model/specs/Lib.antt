@@ -1,0 +1,8 @@
+-- The definitions, lowest first.
+pub mod Files
+pub mod Spelling
+pub mod Held
+pub mod Rebuild
+pub mod Storage
+pub mod Crash
+pub mod Runs

@@ -1,0 +1,220 @@
+//! The table of files, which changes fold into.
+#![tactic(auto)]
+
+ghost use Rattle.std.specs.Prelude.{◌≡◌, ◌<◌, ◌+◌, ℕ, IfOk, OnOk, OnErr, length, slice_index_or, []};
+ghost use Rattle.disk_model.specs.declared.change.NamedFile.{NamedFile};
+ghost use Rattle.disk_model.specs.declared.change.Change.TheVariants.{Create, Write, Empty};
+ghost use Rattle.disk_model.specs.Files.{changed, patched};
+ghost use Rattle.files.specs.Names.{is_same, place_of};
+
+use byte_list::Bytes;
+use disk_model::{Change, NamedFile};
+use std::alloc::{AllocError, Global};
+use std::marker::Model;
+
+/// The files, in order of creation. A file's place, from 0, is its number in a change. The table has no limits of its own:
+/// how many files there may be, and how long and how named, is its caller's to keep.
+#[derive(Drop)]
+pub struct FileTable {
+    alloc: Global,
+    files: Vec<NamedFile>,
+}
+
+impl Model for FileTable {
+    ghost use Rattle.std.specs.Prelude.{List};
+    ghost use Rattle.disk_model.specs.declared.change.NamedFile.{NamedFile};
+
+    ghost Value = { List NamedFile };
+
+    ghost view = { λ t. t.files.items };
+}
+
+/// Whether two slices have the same bytes.
+fn same_bytes(a: &[u8], b: &[u8]) -> bool
+    ensures { result ≡ is_same a.now b.now }
+{
+    match a {
+        [] => match b {
+            [] => true,
+            [_, ..] => false,
+        },
+        [x, xs @ ..] => match b {
+            [] => false,
+            [y, ys @ ..] => *x == *y && same_bytes(xs, ys),
+        },
+    }
+}
+
+/// The place of the first file of this name.
+fn find_in(files: &[NamedFile], name: &[u8]) -> Option<usize>
+    ensures { result ≡ place_of files.now name.now }
+{
+    for i in 0..files.len() {
+        if same_bytes(files[i].name.as_slice(), name) {
+            return Some(i);
+        }
+    }
+    None
+}
+
+/// The old bytes with these from the offset on; a gap between the old end and the offset is zeros.
+fn patched_of(alloc: Global, old: &[u8], offset: usize, bytes: &[u8]) -> Result<Vec<u8>, AllocError>
+    ensures { IfOk result (λ v. v.items ≡ patched old.now offset bytes.now) }
+{
+    let front = offset.min(old.len());
+    let mut next = Vec::from_slice(alloc, &old[..front])?;
+    let gap = vec![in alloc; 0; offset - front]?;
+    next.extend_from_slice(&gap)?;
+    next.extend_from_slice(bytes)?;
+    let rest = &old[front..];
+    let covered = bytes.len().min(rest.len());
+    next.extend_from_slice(&rest[covered..])?;
+    Ok(next)
+}
+
+impl FileTable {
+    /// No files. Takes no memory.
+    pub fn new(alloc: Global) -> FileTable
+        ensures { result ≡ [] }
+    {
+        FileTable {
+            alloc,
+            files: Vec::new(alloc),
+        }
+    }
+
+    /// How many files there are.
+    pub fn count(&self) -> usize
+        ensures { result ≡ length self.now }
+    {
+        self.files.len()
+    }
+
+    /// The place of the first file of this name.
+    pub fn find(&self, name: &[u8]) -> Option<usize>
+        ensures { result ≡ place_of self.now name.now }
+    {
+        find_in(&self.files, name)
+    }
+
+    /// The name of the file at a place.
+    pub fn name(&self, place: usize) -> &[u8]
+        requires { place < length self.now }
+        ensures { (d : NamedFile) → result.now ≡ (slice_index_or self.now place d).name }
+    {
+        self.files[place].name.as_slice()
+    }
+
+    /// The bytes of the file at a place.
+    pub fn bytes(&self, place: usize) -> &[u8]
+        requires { place < length self.now }
+        ensures { (d : NamedFile) → result.now ≡ (slice_index_or self.now place d).bytes }
+    {
+        self.files[place].bytes.as_slice()
+    }
+
+    /// How many bytes the file at a place has.
+    pub fn length(&self, place: usize) -> usize
+        requires { place < length self.now }
+        ensures { (d : NamedFile) → result ≡ length (slice_index_or self.now place d).bytes }
+    {
+        self.bytes(place).len()
+    }
+
+    /// A new and empty file of this name, behind the others.
+    pub fn create(&mut self, name: Bytes) -> Result<(), AllocError>
+        ensures ok { OnOk result (self.new ≡ changed self.old (Create name)) }
+        ensures err { OnErr result (self.new ≡ self.old) }
+    {
+        let bytes = Bytes::empty(self.alloc);
+        self.files.push(NamedFile { name, bytes })?;
+        Ok(())
+    }
+
+    /// These bytes at this offset of the file at a place; a gap between its old end and the offset is zeros.
+    pub fn write(&mut self, place: usize, offset: usize, bytes: &[u8]) -> Result<(), AllocError>
+        requires { place < length self.old }
+        ensures ok { OnOk result (self.new ≡ changed self.old (Write place offset bytes.now)) }
+        ensures err { OnErr result (self.new ≡ self.old) }
+    {
+        let next = patched_of(self.alloc, self.bytes(place), offset, bytes)?;
+        self.files[place].bytes = Bytes::new(next);
+        Ok(())
+    }
+
+    /// The file at a place loses all its bytes. Takes no memory.
+    pub fn empty(&mut self, place: usize)
+        requires { place < length self.old }
+        ensures { self.new ≡ changed self.old (Empty place) }
+    {
+        self.files[place].bytes = Bytes::empty(self.alloc);
+    }
+
+    /// Does a change. One that names a file that is not there changes nothing.
+    pub fn change(&mut self, change: &Change) -> Result<(), AllocError>
+        ensures ok { OnOk result (self.new ≡ changed self.old change.now) }
+        ensures err { OnErr result (self.new ≡ self.old) }
+    {
+        match change {
+            Change::Create(name) => {
+                let name = name.try_clone(self.alloc)?;
+                self.create(name)
+            }
+            Change::Write {
+                file,
+                offset,
+                bytes,
+            } => {
+                let place = usize::from(*file);
+                if place < self.count() {
+                    self.write(place, *offset as usize, bytes.as_slice())?;
+                }
+                Ok(())
+            }
+            Change::Empty(file) => {
+                let place = usize::from(*file);
+                if place < self.count() {
+                    self.empty(place);
+                }
+                Ok(())
+            }
+        }
+    }
+}
+
+#[cfg(test)]
+mod tests {
+    use super::*;
+    use std::test::Fail;
+
+    #[test]
+    fn changes_fold_into_files(rt: HostRuntime) -> Result<(), Fail> {
+        let alloc = rt.alloc();
+        let mut files = FileTable::new(alloc);
+        for name in [b"f", b"g"] {
+            files.change(&Change::Create(Bytes::copy_of(alloc, name)?))?;
+        }
+        for (file, offset, bytes) in [(1, 2, b"ab"), (1, 3, b"cd"), (1, 0, b"xy"), (7, 0, b"no")] {
+            let bytes = Bytes::copy_of(alloc, bytes)?;
+            files.change(&Change::Write {
+                file,
+                offset,
+                bytes,
+            })?;
+        }
+        assert_eq!(rt; files.count(), 2);
+        assert_eq!(rt; files.find(b"g"), Some(1));
+        assert_eq!(rt; files.find(b"h"), None);
+        assert_eq!(rt; files.name(0), b"f".as_slice());
+        assert_eq!(rt; files.bytes(1), b"xyacd".as_slice());
+        files.change(&Change::Empty(1))?;
+        assert_eq!(rt; files.length(1), 0);
+        files.write(1, 1, b"z")?;
+        assert_eq!(rt; files.bytes(1), b"\0z".as_slice());
+        files.empty(1);
+        assert_eq!(rt; files.length(1), 0);
+        files.create(Bytes::empty(alloc))?;
+        assert_eq!(rt; files.count(), 3);
+        Ok(())
+    }
+}

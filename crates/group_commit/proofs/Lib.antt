@@ -1,0 +1,4 @@
+-- The lemmas.
+pub mod Parts
+pub mod Formed
+pub mod Begun

@@ -1,0 +1,15 @@
+-- The changes that are spelled are formed.
+use Rattle.std.proofs.Common.{subst, sym, List, ◌∙◌}
+use Rattle.std.specs.List.{AllByRecursion}
+use Rattle.disk_model.specs.declared.change.Change.{Change}
+use Rattle.disk_model.specs.Files.{IsFormed}
+use Rattle.group_commit.proofs.Formed.{formed_group, follow_formed}
+use Rattle.group_commit.proofs.committer.Committer.plan.Goals as goal
+
+pub body_of-requires : goal.body_of-requires
+body_of-requires c = subst (λ (cs : List Change). AllByRecursion IsFormed cs) (sym c.first_changes-group.ensures) (formed_group c.args.changes.now c.requires.formed)
+
+pub checkpoint_plan-requires-clause-formed : goal.checkpoint_plan-requires-clause-formed
+checkpoint_plan-requires-clause-formed c =
+    let whole = c.checkpoints_fit.ensures c.args.files.now c.requires.possible in
+    subst (λ (cs : List Change). AllByRecursion IsFormed cs) (sym (c.deref-2.ensures.value ∙ c.in_ok-all.ensures)) (follow_formed _ _ whole.possible)

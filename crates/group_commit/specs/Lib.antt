@@ -1,0 +1,4 @@
+-- The definitions.
+pub mod Stages
+pub mod Refusals
+pub mod Plans

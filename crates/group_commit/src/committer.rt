@@ -1,0 +1,336 @@
+//! The committer, which owns the disk.
+ghost use Rattle.std.specs.Prelude.{◌≡◌, is_some, ◌<◌, ◌+◌, ◌↔◌, ◌⊎◌, ◌&&◌, not, nat_lt, true, None, IfOk, IfErr, OnOk, OnErr, IsErrOf, MatchOption, MatchResult, slice_index, length, List, Ok, Err};
+ghost use Rattle.std.specs.List.{AllByRecursion};
+ghost use Rattle.disk_model.specs.Files.{IsFormed, IsMade};
+ghost use Rattle.disk_model.specs.Spelling.{body_of as body, gate_behind};
+ghost use Rattle.disk_model.specs.Held.{selected_half, start_of, end_of};
+ghost use Rattle.disk_model.specs.Storage.{Storage, piece_at, completed, failed, cut, group, checkpoint, group_of, group_or_checkpoint, is_quiet, least_start};
+ghost use Rattle.disk_model.specs.Runs.{begun, quiet};
+ghost use Rattle.simdisk.specs.Room.{crashed};
+ghost use Rattle.group_commit.specs.Stages.{length_all};
+ghost use Rattle.group_commit.specs.Refusals.{cut_test};
+ghost use Rattle.group_commit.specs.Plans.{planned, HasRoom, Begins};
+ghost use Rattle.group_commit.specs.declared.refusal.CommitRefusal.TheVariants.{NoSuchWrite, OutOfMemory};
+
+use crate::halves::{first_gate, half_end, half_of, selector_of};
+use crate::pieces::{byte_piece, pieces_of, record_of};
+use crate::plan::Plan;
+use crate::refusal::CommitRefusal;
+use disk_model::{Change, Piece, checkpoints_fit};
+use files::FileTable;
+use journal::{body_of, rebuild};
+use simdisk::{DiskRefusal, SimDisk};
+use std::alloc::Global;
+use std::marker::Model;
+
+/// The most changes of a group.
+const GROUP: usize = 64;
+
+/// The first gate of a disk that holds nothing.
+const FIRST_GATE: u32 = 64;
+
+/// Commits changes to a disk. A group is written in stages: the pieces of its record go together, and once all are complete
+/// its gate, alone. Where the record would not fit into the half, a checkpoint of all files goes to the other half: a 0 to
+/// its first gate, the pieces, the gate, and then byte 0, which selects the half. Behind the last stage the group is committed.
+#[derive(Drop)]
+pub struct Committer {
+    drive: SimDisk,
+    stages: Vec<Vec<Piece>>,
+    half: bool,
+    gate: u32,
+    committed: u64,
+    next_half: bool,
+    next_gate: u32,
+    next_committed: u64,
+}
+
+impl Model for Committer {
+    ghost use Rattle.std.specs.Prelude.{◌<◌};
+    ghost use Rattle.disk_model.specs.Held.{end_of};
+    ghost use Rattle.disk_model.specs.Storage.{Storage};
+    ghost use Rattle.group_commit.specs.Stages.{items_of, AllSpaced};
+
+    ghost Value = { Storage };
+
+    ghost view = { λ c. record {
+      drive = c.drive;
+      stages = items_of c.stages.items;
+      half = c.half;
+      gate = c.gate;
+      committed = c.committed;
+      next_half = c.next_half;
+      next_gate = c.next_gate;
+      next_committed = c.next_committed;
+    } };
+
+    ghost invariant = { λ c. AllSpaced (items_of c.stages.items) × (c.gate < end_of c.half) × (c.next_gate < end_of c.next_half) };
+}
+
+impl Committer {
+    /// The committer of a run that begins on a disk that holds no files. Takes no memory.
+    pub fn new(alloc: Global, disk: SimDisk) -> Committer
+        requires { is_quiet disk ≡ true }
+        ensures { result ≡ begun disk.disk 64 }
+    {
+        Committer::resume(alloc, disk, FIRST_GATE)
+    }
+
+    /// The committer of a run that begins on a disk that holds files, where `gate` is the place of the first gate in the
+    /// selected half that is not open. Takes no memory.
+    pub fn resume(alloc: Global, disk: SimDisk, gate: u32) -> Committer
+        requires quiet { is_quiet disk ≡ true }
+        requires gate { gate < end_of (selected_half (slice_index disk.disk 0)) }
+        ensures { result ≡ begun disk.disk gate }
+    {
+        let half = half_of(disk.bytes()[0]);
+        Committer {
+            drive: disk,
+            stages: Vec::new(alloc),
+            half,
+            gate,
+            committed: 0,
+            next_half: half,
+            next_gate: gate,
+            next_committed: 0,
+        }
+    }
+
+    /// How many changes are committed.
+    pub fn committed(&self) -> u64
+        ensures { result ≡ self.now.committed }
+    {
+        self.committed
+    }
+
+    /// The least place at which a write in flight begins.
+    pub fn in_flight(&self) -> Option<u32>
+        ensures { result ≡ least_start self.now.drive.in_flight }
+    {
+        self.drive.in_flight()
+    }
+
+    /// Whether a write in flight begins there, so that `completed` is not refused, and `failed` for memory alone.
+    pub fn is_in_flight(&self, at: u32) -> bool
+        ensures { result ≡ is_some (piece_at self.now.drive.in_flight at) }
+    {
+        self.drive.is_in_flight(at)
+    }
+
+    /// Whether a cut is wanted, where some output is held back: no group is in flight, and no write has failed.
+    pub fn wants_cut(&self, held: bool) -> bool
+        ensures { result ≡ (held && is_quiet self.now.drive) }
+    {
+        held && self.drive.quiet()
+    }
+
+    /// Refused where `cut` would be refused for another reason than memory. The changes are all uncommitted ones, in order.
+    pub fn may_cut(&self, changes: &[Change]) -> Result<(), CommitRefusal>
+        ensures { result ≡ cut_test self.now changes.now }
+    {
+        if self.drive.has_failed() {
+            return Err(CommitRefusal::DiskFailed);
+        }
+        if !self.drive.quiet() {
+            return Err(CommitRefusal::GroupInFlight);
+        }
+        if changes.is_empty() {
+            return Err(CommitRefusal::NothingToCut);
+        }
+        Ok(())
+    }
+
+    /// The write that begins there is complete. Once all of a stage are, the next stage is submitted, and behind the last
+    /// stage the group is committed. Answers how many changes are committed then. Takes no memory.
+    pub fn completed(&mut self, at: u32) -> Result<u64, CommitRefusal>
+        ensures { MatchOption (piece_at self.old.drive.in_flight at) ((result ≡ Err NoSuchWrite) × (self.new ≡ self.old))
+            (λ p. (result ≡ Ok self.new.committed) × (self.new ≡ completed self.old at)) }
+    {
+        if self.drive.complete(at).is_err() {
+            return Err(CommitRefusal::NoSuchWrite);
+        }
+        if self.drive.quiet() {
+            if self.stages.is_empty() {
+                self.half = self.next_half;
+                self.gate = self.next_gate;
+                self.committed = self.next_committed;
+            } else {
+                let stage = self.stages.remove(0);
+                self.drive.send(stage);
+            }
+        }
+        Ok(self.committed)
+    }
+
+    /// The write that begins there has failed. From then on nothing is submitted or committed.
+    /// NoSuchWrite comes before OutOfMemory.
+    pub fn failed(&mut self, at: u32) -> Result<(), CommitRefusal>
+        ensures ok { OnOk result (self.new ≡ failed self.old at) }
+        ensures err { OnErr result (self.new ≡ self.old) }
+        ensures refused { IsErrOf result NoSuchWrite ↔ (piece_at self.old.drive.in_flight at ≡ None) }
+        ensures cause { IfErr result (λ e. (e ≡ NoSuchWrite) ⊎ (e ≡ OutOfMemory)) }
+    {
+        match self.drive.fail(at) {
+            Ok(()) => Ok(()),
+            Err(DiskRefusal::NoSuchWrite) => Err(CommitRefusal::NoSuchWrite),
+            Err(_) => Err(CommitRefusal::OutOfMemory),
+        }
+    }
+
+    /// The disk that a crash leaves where the ranges in flight or failed take these bytes, by rising place, again and again
+    /// from the start; an empty fill leaves the completed bytes. Takes no memory.
+    pub fn crash(self, fill: &[u8]) -> SimDisk
+        ensures { result ≡ quiet (crashed self.drive fill.now) }
+    {
+        self.drive.crash(fill)
+    }
+
+    /// Begins a group of the first 64 of these changes, or of all where there are fewer, and answers how many changes it
+    /// will commit and how many writes it takes. Where its record does not fit into the half, a checkpoint of all files
+    /// begins, which commits all changes. The changes are all uncommitted ones, in order, and the files those that all
+    /// changes made. All memory of the group's writes is taken here. Refused first DiskFailed, then GroupInFlight, then
+    /// NothingToCut, and last OutOfMemory.
+    pub fn cut(
+        &mut self,
+        alloc: Global,
+        changes: &[Change],
+        files: &FileTable,
+    ) -> Result<(u64, u64), CommitRefusal>
+        requires possible { IsMade files.now }
+        requires formed { AllByRecursion IsFormed changes.now }
+        ensures ok { OnOk result (self.new ≡ cut self.old changes.now files.now) }
+        ensures changes { IfOk result (λ r. self.new.next_committed ≡ self.old.committed + r.0) }
+        ensures writes { IfOk result (λ r. r.1 ≡ length self.new.drive.in_flight + length_all self.new.stages) }
+        ensures err { OnErr result (self.new ≡ self.old) }
+        ensures refused { MatchResult (cut_test self.old changes.now) (λ _. IfErr result (λ e. e ≡ OutOfMemory)) (λ e. result ≡ Err e) }
+    {
+        self.may_cut(changes)?;
+        let plan = self.plan(alloc, changes, files)?;
+        let counts = (plan.count, plan.writes);
+        self.start(plan);
+        Ok(counts)
+    }
+
+    /// What a cut of these changes does: a group where its record fits, else a checkpoint.
+    fn plan(
+        &self,
+        alloc: Global,
+        changes: &[Change],
+        files: &FileTable,
+    ) -> Result<Plan, CommitRefusal>
+        requires possible { IsMade files.now }
+        requires formed { AllByRecursion IsFormed changes.now }
+        ensures ok { IfOk result (Begins self.now (group_or_checkpoint self.now changes.now files.now)) }
+        ensures cause { IfErr result (λ e. e ≡ OutOfMemory) }
+    {
+        let group = first_changes(changes);
+        let body = body_of(alloc, group)?;
+        if self.fits(&body) {
+            return self.group_plan(alloc, group, &body);
+        }
+        checkpoints_fit();
+        let all = rebuild(alloc, files)?;
+        self.checkpoint_plan(alloc, changes.len(), &all)
+    }
+
+    /// Whether a record of this body, and the gate behind it, fit into the half in use.
+    fn fits(&self, body: &[u8]) -> bool
+        ensures { result ≡ nat_lt (self.now.gate + 5 + length body.now) (end_of self.now.half) }
+    {
+        self.gate as usize + 5 + body.len() < half_end(self.half) as usize
+    }
+
+    /// How many changes are committed with so many more. More than a u64 holds count as no memory: no run reaches them.
+    fn raised(&self, count: usize) -> Result<u64, CommitRefusal>
+        ensures ok { IfOk result (λ n. n ≡ self.now.committed + count) }
+        ensures cause { IfErr result (λ e. e ≡ OutOfMemory) }
+    {
+        match self.committed.checked_add(count as u64) {
+            Some(committed) => Ok(committed),
+            None => Err(CommitRefusal::OutOfMemory),
+        }
+    }
+
+    /// A group of these changes, which have this body.
+    fn group_plan(
+        &self,
+        alloc: Global,
+        changes: &[Change],
+        bytes: &[u8],
+    ) -> Result<Plan, CommitRefusal>
+        requires body { bytes.now ≡ body changes.now }
+        requires room { gate_behind self.now.gate changes.now < end_of self.now.half }
+        ensures ok { IfOk result (Begins self.now (group self.now changes.now)) }
+        ensures cause { IfErr result (λ e. e ≡ OutOfMemory) }
+    {
+        let committed = self.raised(changes.len())?;
+        let record = record_of(alloc, bytes)?;
+        let first = pieces_of(alloc, self.gate + 1, &record)?;
+        let writes = first.len() as u64 + 1;
+        let mut later = Vec::new(alloc);
+        later.push(byte_piece(alloc, self.gate, 1)?)?;
+        Ok(Plan {
+            first,
+            later,
+            writes,
+            half: self.half,
+            gate: self.gate + 5 + bytes.len() as u32,
+            count: changes.len() as u64,
+            committed,
+        })
+    }
+
+    /// A checkpoint by these changes, which make all files, with so many changes of the run.
+    fn checkpoint_plan(
+        &self,
+        alloc: Global,
+        count: usize,
+        all: &[Change],
+    ) -> Result<Plan, CommitRefusal>
+        requires formed { AllByRecursion IsFormed all.now }
+        requires room { gate_behind (start_of (not self.now.half)) all.now < end_of (not self.now.half) }
+        ensures ok { IfOk result (Begins self.now (checkpoint self.now count all.now)) }
+        ensures cause { IfErr result (λ e. e ≡ OutOfMemory) }
+    {
+        let half = !self.half;
+        let gate = first_gate(half);
+        let committed = self.raised(count)?;
+        let bytes = body_of(alloc, all)?;
+        let record = record_of(alloc, &bytes)?;
+        let pieces = pieces_of(alloc, gate + 1, &record)?;
+        let writes = pieces.len() as u64 + 3;
+        let first = byte_piece(alloc, gate, 0)?;
+        let mut later = Vec::new(alloc);
+        later.push(pieces)?;
+        later.push(byte_piece(alloc, gate, 1)?)?;
+        later.push(byte_piece(alloc, 0, selector_of(half))?)?;
+        Ok(Plan {
+            first,
+            later,
+            writes,
+            half,
+            gate: gate + 5 + bytes.len() as u32,
+            count: count as u64,
+            committed,
+        })
+    }
+
+    /// Submits the plan's first stage, and keeps the others.
+    fn start(&mut self, plan: Plan)
+        requires idle { is_quiet self.old.drive ≡ true }
+        requires room { HasRoom plan }
+        ensures { self.new ≡ planned self.old plan }
+    {
+        self.drive.send(plan.first);
+        self.stages = plan.later;
+        self.next_half = plan.half;
+        self.next_gate = plan.gate;
+        self.next_committed = plan.committed;
+    }
+}
+
+/// The changes of a group: the first 64, or all where there are fewer.
+fn first_changes(changes: &[Change]) -> &[Change]
+    ensures { result.now ≡ group_of changes.now }
+{
+    &changes[..changes.len().min(GROUP)]
+}

@@ -1,0 +1,13 @@
+//! Groups and checkpoints: changes are committed to the disk, many at once, so that a crash keeps a front of them.
+#![tactic(auto)]
+
+mod committer;
+mod halves;
+mod pieces;
+mod plan;
+mod refusal;
+#[cfg(test)]
+mod tests;
+
+pub use committer::Committer;
+pub use refusal::CommitRefusal;

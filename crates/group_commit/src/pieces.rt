@@ -1,0 +1,51 @@
+//! The pieces that a stage writes.
+ghost use Rattle.std.specs.Prelude.{◌≡◌, ◌≤◌, ◌<◌, ◌+◌, ◌^◌, ◌++◌, ◌∷◌, [], List, length, IfOk};
+ghost use Rattle.std.specs.Int.{w32, to_le_bytes};
+ghost use Rattle.disk_model.specs.Storage.{pieces, one_byte};
+
+use byte_list::Bytes;
+use disk_model::Piece;
+use std::alloc::{AllocError, Global};
+
+/// How many bytes each piece has but the last of a stage.
+const PIECE: usize = 4096;
+
+/// A record behind its gate: the length of its body, little-endian, the body, and the next gate, closed.
+pub fn record_of(alloc: Global, body: &[u8]) -> Result<Vec<u8>, AllocError>
+    requires { length body.now < 2 ^ 32 }
+    ensures { IfOk result (λ v. v.items ≡ to_le_bytes w32 (length body.now) ++ body.now ++ 0 ∷ []) }
+{
+    let mut record = Vec::new(alloc);
+    record.extend_from_slice(&(body.len() as u32).to_le_bytes())?;
+    record.extend_from_slice(body)?;
+    record.push(0)?;
+    Ok(record)
+}
+
+/// The bytes from a place on as pieces of 4,096 bytes, the last shorter.
+pub fn pieces_of(alloc: Global, at: u32, bytes: &[u8]) -> Result<Vec<Piece>, AllocError>
+    requires { at + length bytes.now ≤ 2097152 }
+    ensures { IfOk result (λ v. v.items ≡ pieces at bytes.now) }
+{
+    let mut pieces = Vec::new(alloc);
+    let mut from = at;
+    let mut rest = bytes;
+    while !rest.is_empty() {
+        let (front, behind) = rest.split_at(rest.len().min(PIECE));
+        let bytes = Bytes::copy_of(alloc, front)?;
+        pieces.push(Piece { at: from, bytes })?;
+        from += PIECE as u32;
+        rest = behind;
+    }
+    Ok(pieces)
+}
+
+/// The piece of one byte at a place.
+pub fn byte_piece(alloc: Global, at: u32, byte: u8) -> Result<Vec<Piece>, AllocError>
+    ensures { IfOk result (λ v. v.items ≡ one_byte at byte) }
+{
+    let bytes = Bytes::copy_of(alloc, &[byte])?;
+    let mut pieces = Vec::new(alloc);
+    pieces.push(Piece { at, bytes })?;
+    Ok(pieces)
+}

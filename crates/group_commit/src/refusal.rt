@@ -1,0 +1,42 @@
+//! Why a call of a committer is refused.
+ghost use Rattle.std.specs.Prelude.{◌≡◌};
+ghost use Rattle.group_commit.specs.declared.refusal.CommitRefusal.TheVariants.{OutOfMemory};
+
+use std::alloc::{AllocError, AllocFailed};
+use thiserror::Error;
+
+/// Why a call was refused. A refused call changes nothing.
+#[derive(Clone, Copy, Debug, PartialEq, Eq, Error)]
+pub enum CommitRefusal {
+    /// A group is not yet committed.
+    #[error("a group is in flight")]
+    GroupInFlight = 5,
+    /// There is no uncommitted change.
+    #[error("there is nothing to cut")]
+    NothingToCut = 6,
+    /// No write in flight begins there.
+    #[error("no write in flight begins there")]
+    NoSuchWrite = 7,
+    /// A write has failed, so nothing is submitted any more.
+    #[error("a write has failed")]
+    DiskFailed = 8,
+    /// Memory ran out.
+    #[error("out of memory")]
+    OutOfMemory = 9,
+}
+
+impl From<AllocError> for CommitRefusal {
+    ghost from_gives = { λ _ e. e ≡ OutOfMemory };
+
+    fn from(_error: AllocError) -> CommitRefusal {
+        CommitRefusal::OutOfMemory
+    }
+}
+
+impl<T: Drop> From<AllocFailed<T>> for CommitRefusal {
+    ghost from_gives = { λ _ e. e ≡ OutOfMemory };
+
+    fn from(_error: AllocFailed<T>) -> CommitRefusal {
+        CommitRefusal::OutOfMemory
+    }
+}

@@ -1,0 +1,3 @@
+-- The lemmas.
+pub mod Bodies
+pub mod Checkpoints

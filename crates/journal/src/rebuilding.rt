@@ -1,0 +1,93 @@
+//! The changes of a checkpoint.
+ghost use Rattle.std.specs.Prelude.{◌≡◌, ◌≤◌, ◌++◌, List, length, IfOk, OnOk};
+ghost use Rattle.std.specs.List.{AllByRecursion};
+ghost use Rattle.disk_model.specs.declared.change.NamedFile.{NamedFile};
+ghost use Rattle.disk_model.specs.Rebuild.{rebuild as changes_of, writes_from};
+
+use byte_list::Bytes;
+use disk_model::Change;
+use files::FileTable;
+use std::alloc::{AllocError, Global};
+
+/// How many bytes each write of a checkpoint has but the last of a file.
+const WRITE: usize = 1024;
+
+/// Appends the writes of a file's bytes.
+fn push_writes(
+    alloc: Global,
+    changes: &mut Vec<Change>,
+    file: u16,
+    bytes: &[u8],
+) -> Result<(), AllocError>
+    requires { length bytes.now ≤ 16384 }
+    ensures { OnOk result (changes.new.items ≡ changes.old.items ++ writes_from (length bytes.now) 1024 file 0 bytes.now) }
+{
+    let mut offset = 0u32;
+    let mut rest = bytes;
+    while !rest.is_empty() {
+        let (front, behind) = rest.split_at(rest.len().min(WRITE));
+        let bytes = Bytes::copy_of(alloc, front)?;
+        changes.push(Change::Write {
+            file,
+            offset,
+            bytes,
+        })?;
+        offset += WRITE as u32;
+        rest = behind;
+    }
+    Ok(())
+}
+
+/// The changes that make these files from nothing: for each file in order its creation, and then writes of 1,024 bytes, the
+/// last shorter.
+pub fn rebuild(alloc: Global, files: &FileTable) -> Result<Vec<Change>, AllocError>
+    requires few { length files.now ≤ 32 }
+    requires short { AllByRecursion (λ (f : NamedFile). length f.bytes ≤ 16384) files.now }
+    ensures { IfOk result (λ v. v.items ≡ changes_of files.now) }
+{
+    let mut changes = Vec::new(alloc);
+    for place in 0..files.count() {
+        let name = Bytes::copy_of(alloc, files.name(place))?;
+        changes.push(Change::Create(name))?;
+        push_writes(alloc, &mut changes, place as u16, files.bytes(place))?;
+    }
+    Ok(changes)
+}
+
+#[cfg(test)]
+mod tests {
+    use super::*;
+    use std::test::Fail;
+
+    #[test]
+    fn a_checkpoint_has_every_file(rt: HostRuntime) -> Result<(), Fail> {
+        let alloc = rt.alloc();
+        let mut files = FileTable::new(alloc);
+        files.create(Bytes::copy_of(alloc, b"empty")?)?;
+        files.create(Bytes::copy_of(alloc, b"b")?)?;
+        files.write(1, 0, &[7; 1025])?;
+        let changes = rebuild(alloc, &files)?;
+        assert_eq!(rt; changes.len(), 4);
+        match (&changes[0], &changes[1]) {
+            (Change::Create(first), Change::Create(second)) => {
+                assert_eq!(rt; first.as_slice(), b"empty".as_slice());
+                assert_eq!(rt; second.as_slice(), b"b".as_slice());
+            }
+            _ => assert!(rt; false, "creations come first"),
+        }
+        for (place, at, len) in [(2, 0, 1024), (3, 1024, 1)] {
+            match &changes[place] {
+                Change::Write {
+                    file,
+                    offset,
+                    bytes,
+                } => {
+                    assert_eq!(rt; (*file, *offset), (1, at));
+                    assert_eq!(rt; bytes.as_slice().len(), len);
+                }
+                _ => assert!(rt; false, "writes come last"),
+            }
+        }
+        Ok(())
+    }
+}

@@ -1,0 +1,162 @@
+-- From the parts of a core to the core.
+use Rattle.std.proofs.Common.{◌≡◌, ℕ, zero, suc, ◌+◌, ◌*◌, ◌^◌, ◌<◌, ◌≤◌, Bool, true, false, List, [], ◌∷◌, ◌++◌, length, map, slice_get, Option, Some, None, is_some, nat_le, count_by, Result, Ok, Err, refl, sym, ap, subst, ◌∙◌, arith}
+use Rattle.std.proofs.lemmas.Bool.{leb-false}
+use Rattle.std.specs.Prelude.{IfOk, IfErr, OnOk, OnErr}
+use Rattle.machine_model.specs.States.{run}
+use Rattle.commit_deps.specs.Kept.{Kept}
+use Rattle.commit_deps.specs.Keeps.{Keeps}
+use Rattle.commit_deps.specs.declared.dependencies.Marked.{Marked}
+use Rattle.disk_model.specs.declared.change.NamedFile.{NamedFile}
+use Rattle.kernel_model.specs.Answers.{Kernel, Refuses, Applies, refusal, answer, turn_refusal, enter_refusal, now, limit, loans_out, ran_by, Lending}
+use Rattle.kernel_model.specs.Entries.{Entry}
+use Rattle.kernel_model.specs.State.{SyncState, Process, process_at}
+use Rattle.kernel_model.specs.Steps.{own_entry, after_run}
+use Rattle.kernel_model.specs.World.{World, begun, after, happens}
+use Rattle.kernel_model.proofs.Runs.{after-append}
+use Rattle.kernel_model.specs.declared.answer.Answer.{Answer}
+use Rattle.kernel_model.specs.declared.answer.Answer.TheVariants as answer_of
+use Rattle.kernel_model.specs.declared.answer.Refused.{Refused}
+use Rattle.kernel_model.specs.declared.event.Event.{Event}
+use Rattle.kernel_model.specs.declared.event.Event.TheVariants.{Turn, Enter}
+use Rattle.kernel.specs.Cores.{boot_of, run_of, kernel_of, IsCore}
+use Rattle.kernel.specs.Mirrors.{IsTask, AreTasks, Mirrors}
+use Rattle.kernel.specs.Parts.{Turned}
+use Rattle.kernel.specs.Seen.{AreScreens}
+use Rattle.kernel.specs.Tasks.{process_of, lending_of, count_out, needed, RanAt}
+use Rattle.kernel.specs.Tests.{full_of, lent_of, turn_refusal_of, enter_refusal_of, IsPlaceOf}
+use Rattle.kernel.specs.declared.boot.Booted.{Booted}
+use Rattle.kernel.specs.declared.shared.Shared.{Shared}
+use Rattle.kernel.specs.declared.task.Task.{Task}
+use Rattle.kernel.proofs.Lists.{map-set-same, count-set-same, count-map, length-snoc}
+use Rattle.kernel.proofs.Refusing.{IsFineTurn, turn-fine}
+use Rattle.kernel.proofs.Quiet.{own-silent, screens-quiet, changes-part}
+use Rattle.kernel.proofs.Turning.{turn-place, process-place, turn-happens, turn_of, world_with, ran-tasks}
+
+-- ---- what the definitions see
+pub full-is : (b : Booted) (history : List Event) (tasks : List Task) (last : ℕ)
+    → full_of (length history) tasks ≡ nat_le limit (length history + 2 * loans_out (kernel_of b history tasks last))
+full-is b history tasks last =
+    ap (λ n. nat_le limit (length history + 2 * n)) (sym (count-map lending_of (λ (l : Lending). is_some l.out) tasks))
+
+pub turn-refusal-is : (b : Booted) (history : List Event) (tasks : List Task) (s : Shared) (last pid n : ℕ) → IsCore b history tasks s
+    → turn_refusal_of tasks (full_of (length history) tasks) pid n ≡ refusal (kernel_of b history tasks last) (Turn pid n)
+turn-refusal-is b history tasks s last pid n h =
+    ap (λ (ps : List Process). turn_refusal (process_at ps pid) (lent_of tasks pid) (full_of (length history) tasks) n) h.mirrors.each.processes
+    ∙ ap (λ f. turn_refusal (process_at (run_of b history).sync.processes pid) (lent_of tasks pid) f n) (full-is b history tasks last)
+
+pub enter-refusal-is : (b : Booted) (history : List Event) (tasks : List Task) (s : Shared) (last pid : ℕ) → IsCore b history tasks s
+    → enter_refusal_of tasks (full_of (length history) tasks) pid ≡ refusal (kernel_of b history tasks last) (Enter pid)
+enter-refusal-is b history tasks s last pid h =
+    ap (λ (ps : List Process). enter_refusal (process_at ps pid) (lent_of tasks pid) (full_of (length history) tasks)) h.mirrors.each.processes
+    ∙ ap (λ f. enter_refusal (process_at (run_of b history).sync.processes pid) (lent_of tasks pid) f) (full-is b history tasks last)
+
+-- ---- a refused event changes nothing
+pub same-core : (b : Booted) (history history' : List Event) (tasks tasks' : List Task) (s : Shared) (d : Kept)
+    → history' ≡ history → tasks' ≡ tasks → d.marks ≡ s.dependencies.marks
+    → IsCore b history tasks s → IsCore b history' tasks' (record s { dependencies = d })
+same-core b history history' tasks tasks' s d same_history same_tasks same_marks h =
+    subst (λ (es : List Event). IsCore b es tasks' (record s { dependencies = d })) (sym same_history)
+    (subst (λ (ts : List Task). IsCore b history ts (record s { dependencies = d })) (sym same_tasks)
+    (record {
+      mirrors = record {
+        each = h.mirrors.each;
+        changes = record { changes = h.mirrors.changes.changes; possible = h.mirrors.changes.possible; files = h.mirrors.changes.files; made = h.mirrors.changes.made };
+        kept = subst (λ (ms : List Marked). Keeps (run_of b history).log ms) (sym same_marks) h.mirrors.kept;
+        screens = h.mirrors.screens;
+        disk = h.mirrors.disk;
+      };
+      room = h.room;
+    }))
+
+pub refused-applies : (b : Booted) (history history' : List Event) (tasks tasks' : List Task) (last : ℕ) (e : Event) (o : Option Refused) (why : Refused)
+    → history' ≡ history → tasks' ≡ tasks → o ≡ refusal (kernel_of b history tasks last) e → Refuses o why
+    → Applies (kernel_of b history tasks last) e (kernel_of b history' tasks' last) (Err why)
+refused-applies b history history' tasks tasks' last e o why same_history same_tasks is refuses = (
+  subst (λ (r : Option Refused). Refuses r why) is refuses,
+  ap (λ (es : List Event). kernel_of b es tasks' last) same_history ∙ ap (λ (ts : List Task). kernel_of b history ts last) same_tasks,
+)
+
+-- ---- a Turn
+turned-fine : (tasks new : List Task) (events pid n : ℕ) (before later : List Marked) (a : Answer) → (t : Turned events pid n tasks new before later a)
+    → IsFineTurn (process_of t.ran.task) (is_some t.ran.task.out) (full_of events tasks) n
+turned-fine tasks new events pid n before later a t =
+    turn-fine (process_of t.ran.task) (is_some t.ran.task.out) (full_of events tasks) n
+    (sym (turn-place tasks (full_of events tasks) pid t.place n t.ran.task t.placed t.ran.there) ∙ t.fine)
+
+none-needed : (o : Option ℕ) → is_some o ≡ false → needed o ≡ 0
+none-needed None h = refl
+none-needed (Some q) h = cc
+
+pub turned-core : (b : Booted) (history history' : List Event) (old new : List Task) (s : Shared) (d : Kept) (pid n : ℕ) (a : Answer)
+    → IsCore b history old s → history' ≡ history ++ Turn pid n ∷ []
+    → Turned (length history) pid n old new s.dependencies.marks d.marks a
+    → IsCore b history' new (record s { dependencies = d })
+turned-core b history history' old new s d pid n a h grown t =
+    let w : World = run_of b history in
+    let fine = turned-fine old new (length history) pid n s.dependencies.marks d.marks a t in
+    let task : Task = t.ran.task in
+    let none : needed task.out ≡ 0 = none-needed task.out fine.here in
+    let reach : (run n task.machine).state.count ≤ task.machine.count + n = t.ran.within in
+    let few : (run n task.machine).state.count + needed task.out ≤ 2 ^ 40 = omega (arith, fine.few, none, reach) in
+    let there : process_at w.sync.processes pid ≡ Some (process_of task) =
+    ap (λ (ps : List Process). process_at ps pid) (sym h.mirrors.each.processes) ∙ process-place old pid t.place task t.placed.number t.ran.there in
+    let next : happens w (Turn pid n) ≡ world_with w (turn_of w pid (after_run n (process_of task))) = turn-happens w pid n (process_of task) there fine.running in
+    let log : (happens w (Turn pid n)).log ≡ w.log ++ own_entry pid ∷ [] = ap (λ (v : World). v.log) next in
+    let files : (happens w (Turn pid n)).sync.files ≡ w.sync.files = ap (λ (v : World). v.sync.files) next in
+    let out : count_out new ≡ count_out old =
+    ap (λ (ts : List Task). count_out ts) t.ran.after
+    ∙ count-set-same (λ (u : Task). is_some u.out) old t.place task (record task { machine = (run n task.machine).state }) t.ran.there refl in
+    let space : length history + 2 * count_out old < 2 ^ 40 = leb-false (2 ^ 40) (length history + 2 * count_out old) fine.room in
+    let longer : length (history ++ Turn pid n ∷ []) ≡ length history + 1 = length-snoc history (Turn pid n) in
+    subst (λ (es : List Event). IsCore b es new (record s { dependencies = d })) (sym grown) (record {
+      mirrors = subst (λ (v : World). Mirrors v new (record s { dependencies = d })) (sym (after-append (begun (boot_of b)) history (Turn pid n))) (record {
+        each = ran-tasks w old new pid n t.place t.count t.stop h.mirrors.each t.placed.number t.ran fine.running few;
+        changes = changes-part w (happens w (Turn pid n)) s (record s { dependencies = d }) (own_entry pid) (own-silent pid) log files refl refl h.mirrors.changes;
+        kept = subst (λ (l : List Entry). Keeps l d.marks) (sym log) (t.noted w.log h.mirrors.kept);
+        screens = subst (λ (l : List Entry). AreScreens w.storage.committed l s.screens.items) (sym log)
+            (screens-quiet w.storage.committed w.log (own_entry pid) s.screens.items (own-silent pid) h.mirrors.screens);
+        disk = h.mirrors.disk;
+      });
+      room = omega (arith, longer, out, space);
+    })
+
+pub turned-applies : (b : Booted) (history history' : List Event) (old new : List Task) (s : Shared) (later : List Marked) (last pid n : ℕ) (a : Answer)
+    → IsCore b history old s → history' ≡ history ++ Turn pid n ∷ []
+    → Turned (length history) pid n old new s.dependencies.marks later a
+    → Applies (kernel_of b history old last) (Turn pid n) (kernel_of b history' new last) (Ok a)
+turned-applies b history history' old new s later last pid n a h grown t =
+    let w : World = run_of b history in
+    let task : Task = t.ran.task in
+    let there : process_at w.sync.processes pid ≡ Some (process_of task) =
+    ap (λ (ps : List Process). process_at ps pid) (sym h.mirrors.each.processes) ∙ process-place old pid t.place task t.placed.number t.ran.there in
+    let lendings : map lending_of new ≡ map lending_of old =
+    ap (λ (ts : List Task). map lending_of ts) t.ran.after
+    ∙ map-set-same lending_of old t.place task (record task { machine = (run n task.machine).state }) t.ran.there refl in (
+      sym (turn-refusal-is b history old s last pid n h) ∙ t.fine,
+      t.answer ∙ ap (λ c. answer_of.Ran c t.stop) t.ran.counts ∙ ap (λ p. answer_of.Ran (run n task.machine).count p) t.ran.stops
+          ∙ ap (λ (p : Option Process). ran_by p n) (sym there),
+      ap (λ (es : List Event). kernel_of b es new last) grown
+          ∙ ap (λ (ls : List Lending). record { boot = boot_of b; history = history ++ Turn pid n ∷ []; lendings = ls; last_lent = last }) lendings,
+    )
+
+-- a Turn that is accepted or refused
+pub turn-core : (b : Booted) (history history' : List Event) (old new : List Task) (s : Shared) (d : Kept) (pid n : ℕ) (r : Result Answer Refused)
+    → IsCore b history old s
+    → IfOk r (λ a. Turned (length history) pid n old new s.dependencies.marks d.marks a)
+    → OnOk r (history' ≡ history ++ Turn pid n ∷ [])
+    → OnErr r (history' ≡ history) → OnErr r (new ≡ old) → OnErr r (d.marks ≡ s.dependencies.marks)
+    → IsCore b history' new (record s { dependencies = d })
+turn-core b history history' old new s d pid n (Ok a) h t grown x y z = turned-core b history history' old new s d pid n a h grown t
+turn-core b history history' old new s d pid n (Err why) h t grown x y z = same-core b history history' old new s d x y z h
+
+pub turn-applies : (b : Booted) (history history' : List Event) (old new : List Task) (s : Shared) (later : List Marked) (last pid n : ℕ) (r : Result Answer Refused)
+    → IsCore b history old s
+    → IfOk r (λ a. Turned (length history) pid n old new s.dependencies.marks later a)
+    → OnOk r (history' ≡ history ++ Turn pid n ∷ [])
+    → IfErr r (λ why. Refuses (turn_refusal_of old (full_of (length history) old) pid n) why)
+    → OnErr r (history' ≡ history) → OnErr r (new ≡ old)
+    → Applies (kernel_of b history old last) (Turn pid n) (kernel_of b history' new last) r
+turn-applies b history history' old new s later last pid n (Ok a) h t grown why x y = turned-applies b history history' old new s later last pid n a h grown t
+turn-applies b history history' old new s later last pid n (Err e) h t grown why x y =
+    refused-applies b history history' old new last (Turn pid n) (turn_refusal_of old (full_of (length history) old) pid n) e x y
+    (turn-refusal-is b history old s last pid n h) why

@@ -1,0 +1,188 @@
+-- The parts of a core at boot keep what the run says before any event.
+use Rattle.std.proofs.Common.{◌≡◌, ℕ, zero, suc, ◌+◌, ◌*◌, ◌^◌, ◌-◌, ◌<◌, ◌≤◌, ◌⊎◌, inl, inr, Bool, true, false, List, [], ◌∷◌, ◌++◌, length, map, replicate, slice_get, Option, Some, None, is_some, count_by, refl, sym, ap, subst, ◌∙◌, arith}
+use Rattle.commit_deps.specs.Kept.{Kept}
+use Rattle.commit_deps.specs.Keeps.{Keeps}
+use Rattle.calls.specs.Plans.{NamesFiles}
+use Rattle.disk_model.specs.Storage.{Storage}
+use Rattle.disk_model.specs.Runs.{begun as storage_at}
+use Rattle.disk_model.specs.declared.change.Change.{Change}
+use Rattle.disk_model.specs.declared.change.NamedFile.{NamedFile}
+use Rattle.kernel_model.specs.Answers.{Lending}
+use Rattle.kernel_model.specs.Entries.{Item, Got}
+use Rattle.kernel_model.specs.State.{Process}
+use Rattle.kernel_model.specs.World.{World, BootProgram, Boot, begun, first_process, processes_from}
+use Rattle.kernel_model.specs.declared.descriptor.Descriptor.{Descriptor}
+use Rattle.kernel_model.specs.declared.descriptor.Descriptor.TheVariants.{Tape, Terminal}
+use Rattle.machine_model.specs.States.{State}
+use Rattle.machine_model.specs.declared.reply.Reply.{Reply}
+use Rattle.machine.specs.First.{first_state}
+use Rattle.kernel.specs.Booting.{program_of, boot_with, nothing_lent}
+use Rattle.kernel.specs.Cores.{boot_of, run_of, IsCore}
+use Rattle.kernel.specs.First.{IsFirst, AreFirst, IsEmptyScreen, AreEmpty}
+use Rattle.kernel.specs.Marked.{AreMarked, front_of, whats}
+use Rattle.kernel.specs.Mirrors.{IsTask, AreTasks, AreChanges, Mirrors}
+use Rattle.kernel.specs.Seen.{IsScreen, AreScreens, IsTrace, end_items, end_marks}
+use Rattle.kernel.specs.Tasks.{process_of, status_of, lending_of, count_out, needed}
+use Rattle.kernel.specs.declared.boot.Booted.{Booted}
+use Rattle.kernel.specs.declared.boot.Program.{Program}
+use Rattle.kernel.specs.declared.screen.Screen.{Screen}
+use Rattle.kernel.specs.declared.shared.Shared.{Shared}
+use Rattle.kernel.specs.declared.task.Task.{Task}
+use Rattle.kernel.specs.declared.trace.End.{End}
+use Rattle.kernel.proofs.Lists.{count-map, count-cons}
+
+-- what stands in a list with one more at its end
+pub get-snoc : {A : Type 0} (xs : List A) (x : A) (i : ℕ) (y : A) → slice_get (xs ++ x ∷ []) i ≡ Some y
+    → (slice_get xs i ≡ Some y) ⊎ ((i ≡ length xs) × (y ≡ x))
+get-snoc [] x zero y e = inr (refl, cc)
+get-snoc [] x (suc i) y e = cc
+get-snoc (z ∷ zs) x zero y e = inl e
+get-snoc (z ∷ zs) x (suc i) y e = elim (get-snoc zs x i y e) [
+  | inl h ↦ inl h
+  | inr h ↦ inr (ap (λ n. suc n) h.0, h.1)
+]
+
+pub length-more : {A : Type 0} (xs : List A) (x : A) (n : ℕ) → length xs ≡ n → length (xs ++ x ∷ []) ≡ n + 1
+length-more [] x n h = omega arith
+length-more (y ∷ ys) x n h = let rest : length (ys ++ x ∷ []) ≡ length ys + 1 = length-more ys x (length ys) refl in omega arith
+
+-- ---- the processes
+first-process : (i : ℕ) (p : Program) (t : Task) → IsFirst i p t → process_of t ≡ first_process i (program_of p)
+first-process i p t h = let status : status_of t.trace.end ≡ None = ap (λ (e : Option End). status_of e) h.end in cc
+
+first-processes : (k : ℕ) (programs : List Program) (tasks : List Task) → length tasks ≡ length programs
+    → ((i : ℕ) (t : Task) → slice_get tasks i ≡ Some t → (p : Program) × (slice_get programs i ≡ Some p) × (process_of t ≡ first_process (k + i) (program_of p)))
+    → map process_of tasks ≡ processes_from k (map program_of programs)
+first-processes k [] [] l h = refl
+first-processes k [] (t ∷ ts) l h = absurd (omega arith)
+first-processes k (p ∷ ps) [] l h = absurd (omega arith)
+first-processes k (p ∷ ps) (t ∷ ts) l h =
+    let first = h 0 t refl in
+    let same : p ≡ first.0 = cc in
+    let at : k + 0 ≡ k = omega arith in
+    let head : process_of t ≡ first_process k (program_of p) =
+    first.2 ∙ ap (λ i. first_process i (program_of first.0)) at ∙ ap (λ (q : Program). first_process k (program_of q)) (sym same) in
+    ap (λ (q : Process). q ∷ map process_of ts) head
+    ∙ ap (λ (qs : List Process). first_process k (program_of p) ∷ qs) (first-processes (k + 1) ps ts (omega arith) (λ i u there.
+    let next = h (suc i) u there in
+    let place : k + suc i ≡ (k + 1) + i = omega arith in
+    (next.0, next.1, next.2 ∙ ap (λ j. first_process j (program_of next.0)) place)))
+
+-- ---- the loans
+first-lendings : (programs : List Program) (tasks : List Task) → length tasks ≡ length programs
+    → ((i : ℕ) (t : Task) → slice_get tasks i ≡ Some t → (p : Program) × (slice_get programs i ≡ Some p) × (lending_of t ≡ nothing_lent p))
+    → map lending_of tasks ≡ map nothing_lent programs
+first-lendings [] [] l h = refl
+first-lendings [] (t ∷ ts) l h = absurd (omega arith)
+first-lendings (p ∷ ps) [] l h = absurd (omega arith)
+first-lendings (p ∷ ps) (t ∷ ts) l h =
+    let first = h 0 t refl in
+    ap (λ (x : Lending). x ∷ map lending_of ts) first.2
+    ∙ ap (λ (xs : List Lending). nothing_lent p ∷ xs) (first-lendings ps ts (omega arith) (λ i u there. h (suc i) u there))
+
+pub lendings-first : (programs : List Program) (tasks : List Task) → AreFirst programs tasks → map lending_of tasks ≡ map nothing_lent programs
+lendings-first programs tasks h = first-lendings programs tasks h.count (λ i t there.
+    let one = h.each i t there in
+    let loans : t.loans ≡ 0 = one.2.loans in
+    let out : t.out ≡ None = one.2.out in
+    let same : lending_of t ≡ nothing_lent one.0 = cc in
+    (one.0, one.1, same))
+
+none-out : (programs : List Program) → count_by (λ (l : Lending). is_some l.out) (map nothing_lent programs) ≡ 0
+none-out [] = refl
+none-out (p ∷ ps) = count-cons (λ (l : Lending). is_some l.out) (nothing_lent p) (map nothing_lent ps) ∙ ap (λ n. 0 + n) (none-out ps)
+
+pub first-out : (programs : List Program) (tasks : List Task) → AreFirst programs tasks → count_out tasks ≡ 0
+first-out programs tasks h =
+    sym (count-map lending_of (λ (l : Lending). is_some l.out) tasks)
+    ∙ ap (λ (ls : List Lending). count_by (λ (l : Lending). is_some l.out) ls) (lendings-first programs tasks h)
+    ∙ none-out programs
+
+-- ---- one task
+first-task : (b : Boot) (i : ℕ) (p : Program) (t : Task) → IsFirst i p t → IsTask (begun b) i t
+first-task b i p t h = record {
+  number = h.number;
+  trace = record {
+    items = ap (λ (rs : List Reply). map (λ (r : Reply). Got r) rs ++ end_items t.trace.end) h.replies
+        ∙ ap (λ (e : Option End). end_items e) h.end;
+    marks = subst (λ (ms : List ℕ). AreMarked {A = Item} [] (ms ++ end_marks t.trace.end)) (sym h.marks)
+        (subst (λ (e : Option End). AreMarked {A = Item} [] (end_marks e)) (sym h.end) tt);
+    handed = h.handed ∙ ap (λ (ms : List ℕ). front_of 0 ms) (sym h.marks);
+  };
+  named = subst (λ (ds : List (Option Descriptor)). NamesFiles (length b.files) ds) (sym h.descriptors)
+      (tt, (tt, (tt, (tt, (tt, (tt, (tt, (tt, (tt, (tt, (tt, (tt, (tt, (tt, (tt, (tt, tt))))))))))))))));
+  budget =
+      let count : t.machine.count ≡ 0 = ap (λ (s : State). s.count) h.machine in
+      let none : needed t.out ≡ 0 = ap (λ (o : Option ℕ). needed o) h.out in
+      omega (arith, count, none);
+  awake = refl;
+  running = λ e. h.end;
+}
+
+-- ---- the screens
+first-screens : (screens : List Screen) → AreEmpty 8 screens → AreScreens 0 [] screens
+first-screens screens h = record {
+  count = h.size;
+  each = λ t s there. let e = h.each t s there in record {
+    bytes = e.bytes;
+    marks = subst (λ (ms : List ℕ). AreMarked {A = ℕ} [] ms) (sym e.marks) tt;
+    shown = e.shown ∙ ap (λ (ms : List ℕ). front_of 0 ms) (sym e.marks);
+  };
+}
+
+-- ---- all parts
+pub first-core : (b : Booted) (tasks : List Task) (s : Shared) → AreFirst b.programs.items tasks → AreEmpty 8 s.screens.items
+    → Keeps [] s.dependencies.marks → s.changes.items ≡ [] → s.files ≡ [] → s.disk ≡ storage_at b.disk 64
+    → IsCore b [] tasks s
+first-core b tasks s first empty keeps changes files disk = record {
+  mirrors = record {
+    each = record {
+      processes = first-processes 0 b.programs.items tasks first.count (λ i t there.
+          let one = first.each i t there in
+          let place : 0 + i ≡ i = omega arith in
+          (one.0, one.1, first-process i one.0 t one.2 ∙ ap (λ j. first_process j (program_of one.0)) (sym place)));
+      each = λ i t there. let one = first.each i t there in first-task (boot_of b) i one.0 t one.2;
+    };
+    changes = record { changes = changes; possible = tt; files = files; made = refl };
+    kept = keeps;
+    screens = first-screens s.screens.items empty;
+    disk = disk;
+  };
+  room = let none : count_out tasks ≡ 0 = first-out b.programs.items tasks first in omega (arith, none);
+}
+
+-- ---- one task more
+pub record FirstSo (programs : List Program) (tasks : List Task) (n : ℕ) : Type 0 where
+  pub count : length tasks ≡ n
+  pub each : (i : ℕ) (t : Task) → slice_get tasks i ≡ Some t → (p : Program) × (slice_get programs i ≡ Some p) × IsFirst i p t
+
+pub first-none : (programs : List Program) → FirstSo programs [] 0
+first-none programs = record { count = refl; each = λ i t there. cc }
+
+pub first-more : (programs : List Program) (tasks tasks' : List Task) (n : ℕ) (p : Program) (t : Task) → FirstSo programs tasks n
+    → slice_get programs n ≡ Some p → IsFirst n p t → tasks' ≡ tasks ++ t ∷ [] → FirstSo programs tasks' (n + 1)
+first-more programs tasks tasks' n p t h there one grown = subst (λ (ts : List Task). FirstSo programs ts (n + 1)) (sym grown) (record {
+  count = length-more tasks t n h.count;
+  each = λ i u at. elim (get-snoc tasks t i u at) [
+    | inl g ↦ h.each i u g
+    | inr g ↦ (let place : i ≡ n = g.0 ∙ h.count in (
+      p,
+      subst (λ (k : ℕ). slice_get programs k ≡ Some p) (sym place) there,
+      subst (λ (k : ℕ). IsFirst k p u) (sym place) (subst (λ (v : Task). IsFirst n p v) (sym g.1) one),
+    ))
+  ];
+})
+
+-- ---- one screen more
+pub empty-none : AreEmpty 0 []
+empty-none = record { size = refl; each = λ t s there. cc }
+
+pub empty-more : (n : ℕ) (screens screens' : List Screen) (s : Screen) → AreEmpty n screens → IsEmptyScreen s → screens' ≡ screens ++ s ∷ []
+    → AreEmpty (n + 1) screens'
+empty-more n screens screens' s h one grown = subst (λ (ss : List Screen). AreEmpty (n + 1) ss) (sym grown) (record {
+  size = length-more screens s n h.size;
+  each = λ t u at. elim (get-snoc screens s t u at) [
+    | inl g ↦ h.each t u g
+    | inr g ↦ subst (λ (v : Screen). IsEmptyScreen v) (sym g.1) one
+  ];
+})

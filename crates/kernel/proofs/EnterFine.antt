@@ -1,0 +1,93 @@
+-- An Enter that is not refused.
+use Rattle.std.proofs.Common.{◌≡◌, ℕ, zero, suc, ◌+◌, ◌*◌, ◌^◌, ◌<◌, ◌≤◌, Bool, true, false, ◌||◌, not, List, [], ◌∷◌, length, map, slice_get, Option, Some, None, is_some, is_none, nat_lt, nat_le, if◌then◌else◌, refl, sym, ap, subst, ◌∙◌, arith}
+use Rattle.std.proofs.lemmas.Bool.{leb-false}
+use Rattle.machine_model.specs.States.{State, stands_at}
+use Rattle.machine_model.specs.declared.stop.Stop.{Stop}
+use Rattle.kernel_model.specs.declared.answer.Refused.{Refused}
+use Rattle.kernel_model.specs.State.{Process, process_at}
+use Rattle.kernel_model.specs.declared.answer.Refused.TheVariants as refused
+use Rattle.kernel_model.specs.Answers.{first_of, ◌⇒◌, has_ended, is_stopped, count_at, enter_refusal, limit, Lending, lending_at, quantum_out}
+use Rattle.kernel.specs.Tasks.{process_of, lending_of, status_of}
+use Rattle.kernel.specs.Tests.{lent_of, enter_refusal_of}
+use Rattle.kernel.specs.declared.task.Task.{Task}
+use Rattle.kernel.specs.declared.trace.End.{End}
+use Rattle.kernel.proofs.EnterLists.{get-map}
+
+-- no test of five holds where there is no refusal
+none-of-five : (a b c d e : Bool) (r s t u v : Refused) → first_of ((a ⇒ r) ∷ (b ⇒ s) ∷ (c ⇒ t) ∷ (d ⇒ u) ∷ (e ⇒ v) ∷ []) ≡ None
+    → (a ≡ false) × (b ≡ false) × (c ≡ false) × (d ≡ false) × (e ≡ false)
+none-of-five true b c d e r s t u v h = cc
+none-of-five false true c d e r s t u v h = cc
+none-of-five false false true d e r s t u v h = cc
+none-of-five false false false true e r s t u v h = cc
+none-of-five false false false false true r s t u v h = cc
+none-of-five false false false false false r s t u v h = (refl, refl, refl, refl, refl)
+
+or-false : (a b : Bool) → (a || b) ≡ false → (a ≡ false) × (b ≡ false)
+or-false true b h = cc
+or-false false b h = (refl, h)
+
+not-false : (b : Bool) → not b ≡ false → b ≡ true
+not-false true h = refl
+not-false false h = cc
+
+-- the task of an Enter that is not refused
+pub record IsFineTask (t : Task) (full : Bool) : Type 0 where
+  pub running : t.trace.end ≡ None
+  pub here : t.out ≡ None
+  pub stopped : is_some (stands_at t.machine) ≡ true
+  pub few : t.machine.count < 2 ^ 40
+  pub room : full ≡ false
+
+none-status : (e : Option End) → is_some (status_of e) ≡ false → e ≡ None
+none-status None h = refl
+none-status (Some e) h = cc
+
+pub none-some : {A : Type 0} (o : Option A) → is_some o ≡ false → o ≡ None
+none-some None h = refl
+none-some (Some x) h = cc
+
+fine-by : (t : Task) (full : Bool) → enter_refusal (Some (process_of t)) (is_some t.out) full ≡ None → IsFineTask t full
+fine-by t full h =
+    let all = none-of-five false (is_some (status_of t.trace.end)) (is_some t.out) (not (is_some (stands_at t.machine))) (nat_le limit t.machine.count || full)
+    refused.NoProcess refused.Ended refused.Lent refused.NotStopped refused.Budget h in
+    let last = or-false (nat_le limit t.machine.count) full all.4 in
+    record {
+      running = none-status t.trace.end all.1;
+      here = none-some t.out all.2;
+      stopped = not-false (is_some (stands_at t.machine)) all.3;
+      few = leb-false limit t.machine.count last.0;
+      room = last.1;
+    }
+
+-- the process of a number
+pub process-of : (tasks : List Task) (pid place : ℕ) (t : Task) → pid ≡ place + 1 → slice_get tasks place ≡ Some t
+    → process_at (map process_of tasks) pid ≡ Some (process_of t)
+process-of tasks pid place t number there =
+    let next : pid ≡ suc place = omega arith in
+    rw next (get-map process_of tasks place t there)
+
+lent-of : (tasks : List Task) (pid place : ℕ) (t : Task) → pid ≡ place + 1 → slice_get tasks place ≡ Some t
+    → lent_of tasks pid ≡ is_some t.out
+lent-of tasks pid place t number there =
+    let next : pid ≡ suc place = omega arith in
+    rw (next, get-map lending_of tasks place t there) refl
+
+-- the refusal is that of the task
+pub refusal-of : (tasks : List Task) (full : Bool) (pid place : ℕ) (t : Task) → pid ≡ place + 1 → slice_get tasks place ≡ Some t
+    → enter_refusal_of tasks full pid ≡ enter_refusal (Some (process_of t)) (is_some t.out) full
+refusal-of tasks full pid place t number there =
+    ap (λ (o : Option Process). enter_refusal o (lent_of tasks pid) full) (process-of tasks pid place t number there)
+    ∙ ap (λ (b : Bool). enter_refusal (Some (process_of t)) b full) (lent-of tasks pid place t number there)
+
+pub fine-task : (tasks : List Task) (full : Bool) (pid place : ℕ) (t : Task) → pid ≡ place + 1 → slice_get tasks place ≡ Some t
+    → enter_refusal_of tasks full pid ≡ None → IsFineTask t full
+fine-task tasks full pid place t number there h = fine-by t full (sym (refusal-of tasks full pid place t number there) ∙ h)
+
+-- no Enter is accepted where the history is full
+pub fine-full : (o : Option Process) (lent full : Bool) → enter_refusal o lent full ≡ None → full ≡ false
+fine-full o lent full h =
+    let all = none-of-five (is_none o) (has_ended o) lent (not (is_stopped o)) (nat_le limit (count_at o) || full)
+    refused.NoProcess refused.Ended refused.Lent refused.NotStopped refused.Budget h in
+    let last = or-false (nat_le limit (count_at o)) full all.4 in
+    last.1

@@ -1,0 +1,236 @@
+-- A core whose next process is lent.
+use Rattle.std.proofs.Common.{◌≡◌, ℕ, zero, suc, ◌+◌, ◌-◌, ◌*◌, ◌^◌, ◌<◌, ◌≤◌, ◌⊎◌, inl, inr, Bool, true, false, ◌&&◌, not, nat_lt, nat_le, cond, List, [], ◌∷◌, ◌++◌, length, take, drop, map, slice_get, slice_set, slice_index_or, Option, Some, None, is_some, option_map, refl, sym, ap, subst, ◌∙◌, arith}
+use Rattle.std.specs.Prelude.{find, fold, if◌then◌else◌}
+use Rattle.std.proofs.lemmas.Bool.{ltb-false, leb-true}
+use Rattle.std.proofs.lemmas.List.{map-set}
+use Rattle.std.proofs.lemmas.List.Sums.{sum_by-set}
+use Rattle.std.proofs.lemmas.Option.{slice_get_within, slice_get-get_or, slice_get-map}
+use Rattle.std.proofs.Math.Bool.{and-true}
+use Rattle.std.proofs.Math.Seq.{map-set_same}
+use Rattle.kernel_model.specs.Answers.{Kernel, Lending, lending_at, quantum_out, process_of as process_in, is_lent, loans_out, now, limit, has_ended, count_at}
+use Rattle.kernel_model.specs.Loans.{is_waiting, is_lendable, pick, is_full_for_loan, loan_count, loans_in, loan_refusal, put_lending, with_loan, numbers_to, IsNextLoan}
+use Rattle.kernel_model.specs.State.{Process}
+use Rattle.kernel_model.specs.World.{World}
+use Rattle.kernel_model.specs.declared.answer.Refused.TheVariants as refused
+use Rattle.kernel_model.specs.declared.event.Event.{Event}
+use Rattle.kernel.specs.Cores.{run_of, kernel_of, IsCore}
+use Rattle.kernel.specs.Lending.{full_for_loan_of, is_fit, next_fit, lent_task, Lent}
+use Rattle.kernel.specs.Loaned.{loan_out}
+use Rattle.kernel.specs.Mirrors.{IsTask, AreTasks}
+use Rattle.kernel.specs.Tasks.{status_of, process_of, lending_of, count_out}
+use Rattle.kernel.specs.declared.boot.Booted.{Booted}
+use Rattle.kernel.specs.declared.loan.Loan.{Loan}
+use Rattle.kernel.specs.declared.shared.Shared.{Shared}
+use Rattle.kernel.specs.declared.trace.End.{End}
+use Rattle.kernel.specs.declared.task.Task.{Task}
+use Rattle.kernel.proofs.LendPick.{find-round}
+
+length-map : {A B : Type 0} (f : A → B) (xs : List A) → length (map f xs) ≡ length xs
+length-map f [] = refl
+length-map f (x ∷ xs) = ap (λ n. suc n) (length-map f xs)
+
+-- what stands in a list where x was set
+get-set : {A : Type 0} (xs : List A) (i j : ℕ) (x y : A) → slice_get (slice_set xs i x) j ≡ Some y
+    → ((j ≡ i) × (y ≡ x)) ⊎ (slice_get xs j ≡ Some y)
+get-set [] i j x y e = inr e
+get-set (z ∷ zs) zero zero x y e = inl (refl, cc)
+get-set (z ∷ zs) zero (suc j) x y e = inr e
+get-set (z ∷ zs) (suc i) zero x y e = inr e
+get-set (z ∷ zs) (suc i) (suc j) x y e = elim (get-set zs i j x y e) [
+  | inl h ↦ inl (ap (λ k. suc k) h.0, h.1)
+  | inr h ↦ inr h
+]
+
+sum_from-map : {A B : Type 0} (f : A → B) (w : B → ℕ) (n : ℕ) (xs : List A) → fold (λ a y. a + w y) n (map f xs) ≡ fold (λ a x. a + w (f x)) n xs
+sum_from-map f w n [] = refl
+sum_from-map f w n (x ∷ xs) = sum_from-map f w (n + w (f x)) xs
+
+-- one more is out
+count_out-lent : (quantum : ℕ) (tasks : List Task) (place : ℕ) (t : Task) → slice_get tasks place ≡ Some t → is_some t.out ≡ false
+    → count_out (slice_set tasks place (lent_task quantum t)) ≡ count_out tasks + 1
+count_out-lent quantum tasks place t there here =
+    let weight : Task → ℕ = λ u. cond (is_some u.out) 1 0 in
+    let within : place < length tasks = slice_get_within tasks place t there in
+    let at : slice_get tasks place ≡ Some (slice_index_or tasks place t) = slice_get-get_or tasks place t within in
+    let same : slice_index_or tasks place t ≡ t = cc in
+    let none : weight (slice_index_or tasks place t) ≡ 0 = ap weight same ∙ ap (λ b. cond b 1 0) here in
+    let sums : count_out (slice_set tasks place (lent_task quantum t)) + weight (slice_index_or tasks place t) ≡ count_out tasks + 1 =
+    sum_by-set weight tasks place (lent_task quantum t) t within in
+    omega arith
+
+loans_out-is : (b : Booted) (history : List Event) (tasks : List Task) (last : ℕ) → loans_out (kernel_of b history tasks last) ≡ count_out tasks
+loans_out-is b history tasks last = sum_from-map lending_of (λ (l : Lending). cond (is_some l.out) 1 0) 0 tasks
+
+-- the refusal is that of the tasks
+pub full-is : (b : Booted) (history : List Event) (tasks : List Task) (last : ℕ)
+    → is_full_for_loan (kernel_of b history tasks last) ≡ full_for_loan_of (length history) tasks
+full-is b history tasks last = ap (λ n. nat_lt (2 ^ 40 - 2) (length history + 2 * n)) (loans_out-is b history tasks last)
+
+-- ---- what a task that fits is
+pub record IsFit (quantum : ℕ) (t : Task) : Type 0 where
+  pub here : is_some t.out ≡ false
+  pub few : t.machine.count + (quantum + 1) ≤ 2 ^ 40
+  pub runs : t.trace.end ≡ None
+
+both : (a b : Bool) → (a && b) ≡ true → (a ≡ true) × (b ≡ true)
+both true b h = (refl, h)
+both false b h = cc
+
+unless : (a : Bool) → not a ≡ true → a ≡ false
+unless true h = cc
+unless false h = refl
+
+no-end : (o : Option End) → is_some (status_of o) ≡ false → o ≡ None
+no-end None h = refl
+no-end (Some e) h = cc
+
+pub fits : (quantum : ℕ) (t : Task) → is_fit quantum t ≡ true → IsFit quantum t
+fits quantum t h =
+    let a = both (not (is_some (status_of t.trace.end)) && not (is_some t.out)) (nat_le (t.machine.count + quantum + 1) (2 ^ 40)) h in
+    let b = both (not (is_some (status_of t.trace.end))) (not (is_some t.out)) a.0 in
+    let few : t.machine.count + quantum + 1 ≤ 2 ^ 40 = leb-true (t.machine.count + quantum + 1) (2 ^ 40) a.1 in
+    record { here = unless (is_some t.out) b.1; few = omega arith; runs = no-end t.trace.end (unless (is_some (status_of t.trace.end)) b.0) }
+
+-- ---- the invariant
+lent-task : (w : World) (place quantum : ℕ) (t : Task) → IsTask w place t → is_fit quantum t ≡ true → IsTask w place (lent_task quantum t)
+lent-task w place quantum t h fit = record {
+  number = h.number;
+  trace = h.trace;
+  named = h.named;
+  budget = (fits quantum t fit).few;
+  awake = h.awake;
+  running = λ e. (fits quantum t fit).runs;
+}
+
+lent-tasks : (w : World) (tasks : List Task) (place quantum : ℕ) (t : Task) → AreTasks w tasks → slice_get tasks place ≡ Some t → is_fit quantum t ≡ true
+    → AreTasks w (slice_set tasks place (lent_task quantum t))
+lent-tasks w tasks place quantum t h there fit =
+    let within : place < length tasks = slice_get_within tasks place t there in
+    let at : slice_get tasks place ≡ Some (slice_index_or tasks place t) = slice_get-get_or tasks place t within in
+    let same : slice_index_or tasks place t ≡ t = cc in
+    record {
+      processes = map-set_same process_of tasks place (lent_task quantum t) t (ap process_of (sym same)) ∙ h.processes;
+      each = λ i u found. elim (get-set tasks place i (lent_task quantum t) u found) [
+        | inl s ↦ subst (λ (k : ℕ). IsTask w k u) (sym s.0)
+            (subst (λ (v : Task). IsTask w place v) (sym s.1) (lent-task w place quantum t (h.each place t there) fit))
+        | inr s ↦ h.each i u s
+      ];
+    }
+
+pub lent-core : (b : Booted) (history : List Event) (old new : List Task) (shared : Shared) (quantum behind : ℕ) (loan : Loan)
+    → IsCore b history old shared → full_for_loan_of (length history) old ≡ false → Lent quantum behind old new loan → IsCore b history new shared
+lent-core b history old new shared quantum behind loan h room lent =
+    let t : Task = lent.task in
+    let few : length history + 2 * count_out old ≤ 2 ^ 40 - 2 = ltb-false (2 ^ 40 - 2) (length history + 2 * count_out old) room in
+    let more : count_out (slice_set old lent.place (lent_task quantum t)) ≡ count_out old + 1 =
+    count_out-lent quantum old lent.place t lent.there (fits quantum t lent.fit).here in
+    subst (λ (ts : List Task). IsCore b history ts shared) (sym lent.after) (record {
+      mirrors = record {
+        each = lent-tasks (run_of b history) old lent.place quantum t h.mirrors.each lent.there lent.fit;
+        changes = h.mirrors.changes;
+        kept = h.mirrors.kept;
+        screens = h.mirrors.screens;
+        disk = h.mirrors.disk;
+      };
+      room = omega arith;
+    })
+
+-- ---- the process that is picked
+abbrev pub lendable_by : Option Process → Bool → Bool → ℕ → Bool
+lendable_by p lent waiting quantum =
+    is_some p && not (has_ended p) && not lent && nat_le (count_at p + quantum + 1) limit && not waiting
+
+process-there : (b : Booted) (history : List Event) (tasks : List Task) (shared : Shared) (last place : ℕ) (t : Task)
+    → IsCore b history tasks shared → slice_get tasks place ≡ Some t → process_in (kernel_of b history tasks last) (suc place) ≡ Some (process_of t)
+process-there b history tasks shared last place t h there =
+    ap (λ (ps : List Process). slice_get ps place) (sym h.mirrors.each.processes)
+    ∙ slice_get-map process_of tasks place
+    ∙ ap (λ o. option_map process_of o) there
+
+lending-there : (tasks : List Task) (place : ℕ) (t : Task) → slice_get tasks place ≡ Some t → lending_at (map lending_of tasks) (suc place) ≡ Some (lending_of t)
+lending-there tasks place t there = slice_get-map lending_of tasks place ∙ ap (λ o. option_map lending_of o) there
+
+lendable-is : (b : Booted) (history : List Event) (tasks : List Task) (shared : Shared) (last quantum place : ℕ) (t : Task)
+    → IsCore b history tasks shared → slice_get tasks place ≡ Some t
+    → is_lendable (kernel_of b history tasks last) quantum (suc place) ≡ is_fit quantum t
+lendable-is b history tasks shared last quantum place t h there =
+    let k : Kernel = kernel_of b history tasks last in
+    let next : place + 1 ≡ suc place = omega arith in
+    let awake : is_waiting (suc place) (now k).log ≡ false =
+    ap (λ p. is_waiting p (run_of b history).log) (sym next) ∙ (h.mirrors.each.each place t there).awake in
+    let lent : is_lent k (suc place) ≡ is_some t.out = ap (λ (o : Option Lending). is_some (quantum_out o)) (lending-there tasks place t there) in
+    ap (λ (o : Option Process). lendable_by o (is_lent k (suc place)) (is_waiting (suc place) (now k).log) quantum) (process-there b history tasks shared last place t h there)
+    ∙ ap (λ v. lendable_by (Some (process_of t)) v (is_waiting (suc place) (now k).log) quantum) lent
+    ∙ ap (λ v. lendable_by (Some (process_of t)) (is_some t.out) v quantum) awake
+    ∙ and-true (is_fit quantum t)
+
+pub pick-is : (b : Booted) (history : List Event) (tasks : List Task) (shared : Shared) (last quantum : ℕ) → IsCore b history tasks shared
+    → pick (kernel_of b history tasks last) quantum ≡ option_map (λ i. suc i) (next_fit quantum last tasks)
+pick-is b history tasks shared last quantum h =
+    let k : Kernel = kernel_of b history tasks last in
+    let count : length (now k).sync.processes ≡ length tasks =
+    ap (λ (ps : List Process). length ps) (sym h.mirrors.each.processes) ∙ length-map process_of tasks in
+    ap (λ n. find (is_lendable k quantum) (drop last (numbers_to n) ++ take last (numbers_to n))) count
+    ∙ find-round (is_lendable k quantum) (is_fit quantum) last tasks (λ i t there. lendable-is b history tasks shared last quantum i t h there)
+
+-- ---- the loan
+lending-lent : (quantum : ℕ) (tasks : List Task) (place : ℕ) (t : Task) → slice_get tasks place ≡ Some t
+    → map lending_of (slice_set tasks place (lent_task quantum t))
+    ≡ put_lending (map lending_of tasks) (suc place) (record { loans = t.loans + 1; out = Some quantum })
+lending-lent quantum tasks place t there = map-set lending_of tasks place (lent_task quantum t)
+
+pub loan-is : (b : Booted) (history : List Event) (old new : List Task) (shared : Shared) (last quantum : ℕ) (loan : Loan)
+    → IsCore b history old shared → Lent quantum last old new loan
+    → IsNextLoan (kernel_of b history old last) (kernel_of b history new loan.pid) quantum (loan_out loan)
+loan-is b history old new shared last quantum loan h lent =
+    let k : Kernel = kernel_of b history old last in
+    let t : Task = lent.task in
+    let number : loan.pid ≡ suc lent.place = let n : t.pid ≡ lent.place + 1 = (h.mirrors.each.each lent.place t lent.there).number in
+    let p : loan.pid ≡ t.pid = lent.given.process in omega arith in
+    let loans : loan_count k (suc lent.place) ≡ t.loans = ap (λ (o : Option Lending). loans_in o) (lending-there old lent.place t lent.there) in
+    let put : ℕ → Kernel = λ n. record {
+      boot = k.boot;
+      history = history;
+      last_lent = suc lent.place;
+      lendings = put_lending k.lendings (suc lent.place) (record { loans = n + 1; out = Some quantum });
+    } in
+    let lends : List Lending → ℕ → Kernel = λ ls p. record { boot = k.boot; history = history; lendings = ls; last_lent = p } in
+    record {
+      picked = pick-is b history old shared last quantum h ∙ ap (λ o. option_map (λ i. suc i) o) lent.next ∙ ap (λ p. Some p) (sym number);
+      turn = lent.given.turn ∙ ap (λ n. n + 1) (sym loans) ∙ ap (λ p. loan_count k p + 1) (sym number);
+      asked = lent.given.quantum;
+      began = ap (λ p. option_map (λ (q : Process). q.state) (process_in k p)) number
+          ∙ ap (λ o. option_map (λ (q : Process). q.state) o) (process-there b history old shared last lent.place t h lent.there)
+          ∙ ap (λ s. Some s) (sym lent.given.began);
+      machine = loan.same;
+      noted = ap (λ ts. lends (map lending_of ts) loan.pid) lent.after
+          ∙ ap (λ ls. lends ls loan.pid) (lending-lent quantum old lent.place t lent.there)
+          ∙ ap (λ p. lends (put_lending k.lendings (suc lent.place) (record { loans = t.loans + 1; out = Some quantum })) p) number
+          ∙ ap put (sym loans)
+          ∙ ap (λ p. with_loan k p quantum) (sym number);
+    }
+
+-- ---- what a loan comes to, at the core k
+unrefused : (b : Booted) (history : List Event) (old : List Task) (last : ℕ) → full_for_loan_of (length history) old ≡ false
+    → loan_refusal (kernel_of b history old last) ≡ None
+unrefused b history old last room = ap (λ v. if v then Some refused.Budget else None) (full-is b history old last ∙ room)
+
+pub lends-one : (b : Booted) (history : List Event) (old new : List Task) (shared : Shared) (last quantum : ℕ) (loan : Loan) (k : Kernel)
+    → kernel_of b history old last ≡ k → IsCore b history old shared → full_for_loan_of (length history) old ≡ false → Lent quantum last old new loan
+    → (loan_refusal k ≡ None) × IsNextLoan k (kernel_of b history new loan.pid) quantum (loan_out loan)
+lends-one b history old new shared last quantum loan k e h room lent =
+    subst (λ (v : Kernel). (loan_refusal v ≡ None) × IsNextLoan v (kernel_of b history new loan.pid) quantum (loan_out loan)) e
+    (unrefused b history old last room, loan-is b history old new shared last quantum loan h lent)
+
+pub lends-none : (b : Booted) (history : List Event) (old new : List Task) (shared : Shared) (last quantum : ℕ) (k : Kernel)
+    → kernel_of b history old last ≡ k → IsCore b history old shared → full_for_loan_of (length history) old ≡ false
+    → next_fit quantum last old ≡ None → new ≡ old
+    → (loan_refusal k ≡ None) × ((pick k quantum ≡ None) × (kernel_of b history new last ≡ k))
+lends-none b history old new shared last quantum k e h room none same =
+    subst (λ (v : Kernel). (loan_refusal v ≡ None) × ((pick v quantum ≡ None) × (kernel_of b history new last ≡ v))) e (
+      unrefused b history old last room,
+      (
+        pick-is b history old shared last quantum h ∙ ap (λ o. option_map (λ i. suc i) o) none,
+        ap (λ ts. kernel_of b history ts last) same,
+      ),
+    )

@@ -1,0 +1,24 @@
+-- Lemmas.
+pub mod Applying
+pub mod Beginning
+pub mod EnterCore
+pub mod EnterFine
+pub mod EnterLists
+pub mod EnterPlans
+pub mod EnterResults
+pub mod EnterScreens
+pub mod EnterTasks
+pub mod EnterWorld
+pub mod LendKept
+pub mod LendNext
+pub mod LendPick
+pub mod Lists
+pub mod Moving
+pub mod Quiet
+pub mod Refusing
+pub mod Releasing
+pub mod Scripting
+pub mod SettleCore
+pub mod SettleWorld
+pub mod Turning
+pub mod Writing

@@ -1,0 +1,68 @@
+-- Lists by their places.
+use Rattle.std.proofs.Common.{◌≡◌, ℕ, zero, suc, ◌+◌, ◌<◌, ◌⊎◌, inl, inr, Bool, true, false, List, [], ◌∷◌, ◌++◌, length, map, slice_get, slice_set, slice_index_or, Option, Some, None, count_by, refl, sym, ap, subst, ◌∙◌, arith, if◌then◌else◌}
+use Rattle.std.proofs.lemmas.List.Sums.{sum_by-cons}
+
+pub map-set : {A B : Type 0} (f : A → B) (xs : List A) (i : ℕ) (x : A) → map f (slice_set xs i x) ≡ slice_set (map f xs) i (f x)
+map-set f [] i x = refl
+map-set f (y ∷ ys) zero x = refl
+map-set f (y ∷ ys) (suc i) x = ap (λ zs. f y ∷ zs) (map-set f ys i x)
+
+pub get-map : {A B : Type 0} (f : A → B) (xs : List A) (i : ℕ) (x : A) → slice_get xs i ≡ Some x → slice_get (map f xs) i ≡ Some (f x)
+get-map f [] i x e = cc
+get-map f (y ∷ ys) zero x e = let same : y ≡ x = cc in ap (λ z. Some (f z)) same
+get-map f (y ∷ ys) (suc i) x e = get-map f ys i x e
+
+pub get-index : {A : Type 0} (xs : List A) (i : ℕ) (d : A) → i < length xs → slice_get xs i ≡ Some (slice_index_or xs i d)
+get-index [] i d h = absurd (omega arith)
+get-index (y ∷ ys) zero d h = refl
+get-index (y ∷ ys) (suc i) d h = get-index ys i d (omega arith)
+
+-- an element that an index gave
+pub get-there : {A : Type 0} (xs : List A) (i : ℕ) (x : A) → i < length xs → x ≡ slice_index_or xs i x → slice_get xs i ≡ Some x
+get-there xs i x h e = get-index xs i x h ∙ ap (λ y. Some y) (sym e)
+
+-- a place at which something stands is within
+pub get-within : {A : Type 0} (xs : List A) (i : ℕ) (x : A) → slice_get xs i ≡ Some x → i < length xs
+get-within [] i x e = cc
+get-within (y ∷ ys) zero x e = omega arith
+get-within (y ∷ ys) (suc i) x e = let rest : i < length ys = get-within ys i x e in omega arith
+
+-- what stands in a list where x was set
+pub get-set : {A : Type 0} (xs : List A) (i j : ℕ) (x y : A) → slice_get (slice_set xs i x) j ≡ Some y
+    → ((j ≡ i) × (y ≡ x)) ⊎ ((j ≡ i → ⊥) × (slice_get xs j ≡ Some y))
+get-set [] i j x y e = cc
+get-set (z ∷ zs) zero zero x y e = inl (refl, cc)
+get-set (z ∷ zs) zero (suc j) x y e = inr ((λ h. absurd (omega arith)), e)
+get-set (z ∷ zs) (suc i) zero x y e = inr ((λ h. absurd (omega arith)), e)
+get-set (z ∷ zs) (suc i) (suc j) x y e = elim (get-set zs i j x y e) [
+  | inl h ↦ inl (ap (λ k. suc k) h.0, h.1)
+  | inr h ↦ inr ((λ g. h.0 (omega arith)), h.1)
+]
+
+-- what a function does not see is not changed
+pub map-set-same : {A B : Type 0} (f : A → B) (xs : List A) (i : ℕ) (x y : A) → slice_get xs i ≡ Some x → f y ≡ f x → map f (slice_set xs i y) ≡ map f xs
+map-set-same f [] i x y e h = refl
+map-set-same f (z ∷ zs) zero x y e h = let same : z ≡ x = cc in ap (λ v. v ∷ map f zs) (h ∙ ap f (sym same))
+map-set-same f (z ∷ zs) (suc i) x y e h = ap (λ vs. f z ∷ vs) (map-set-same f zs i x y e h)
+
+-- how many pass, the first apart
+pub count-cons : {A : Type 0} (p : A → Bool) (x : A) (xs : List A) → count_by p (x ∷ xs) ≡ (if p x then 1 else 0) + count_by p xs
+count-cons p x xs = sum_by-cons (λ y. if p y then 1 else 0) x xs
+
+pub count-set-same : {A : Type 0} (p : A → Bool) (xs : List A) (i : ℕ) (x y : A) → slice_get xs i ≡ Some x → p y ≡ p x
+    → count_by p (slice_set xs i y) ≡ count_by p xs
+count-set-same p [] i x y e h = refl
+count-set-same p (z ∷ zs) zero x y e h =
+    let same : z ≡ x = cc in
+    count-cons p y zs ∙ ap (λ b. (if b then 1 else 0) + count_by p zs) (h ∙ ap p (sym same)) ∙ sym (count-cons p z zs)
+count-set-same p (z ∷ zs) (suc i) x y e h =
+    count-cons p z (slice_set zs i y) ∙ ap (λ n. (if p z then 1 else 0) + n) (count-set-same p zs i x y e h) ∙ sym (count-cons p z zs)
+
+pub count-map : {A B : Type 0} (f : A → B) (p : B → Bool) (xs : List A) → count_by p (map f xs) ≡ count_by (λ x. p (f x)) xs
+count-map f p [] = refl
+count-map f p (x ∷ xs) =
+    count-cons p (f x) (map f xs) ∙ ap (λ n. (if p (f x) then 1 else 0) + n) (count-map f p xs) ∙ sym (count-cons (λ y. p (f y)) x xs)
+
+pub length-snoc : {A : Type 0} (xs : List A) (x : A) → length (xs ++ x ∷ []) ≡ length xs + 1
+length-snoc [] x = omega arith
+length-snoc (y ∷ ys) x = let rest : length (ys ++ x ∷ []) ≡ length ys + 1 = length-snoc ys x in omega arith

@@ -1,0 +1,119 @@
+-- Events that change no file, print nothing and tell nothing.
+use Rattle.std.proofs.Common.{◌≡◌, ℕ, zero, suc, ◌+◌, ◌*◌, ◌^◌, ◌<◌, ◌≤◌, ◌==◌, ◌&&◌, Bool, true, false, if◌then◌else◌, List, [], ◌∷◌, ◌++◌, length, map, slice_get, Option, Some, None, is_some, option_to_list, refl, sym, ap, subst, ◌∙◌, arith}
+use Rattle.std.specs.List.{fold}
+use Rattle.std.proofs.lemmas.Bool.{ne_eqb}
+use Rattle.disk_model.specs.Files.{Follow, files_after}
+use Rattle.disk_model.specs.Storage.{Storage, is_empty}
+use Rattle.disk_model.specs.declared.change.Change.{Change}
+use Rattle.disk_model.specs.declared.change.NamedFile.{NamedFile}
+use Rattle.kernel_model.specs.Entries.{Entry, Item}
+use Rattle.kernel_model.specs.Loans.{waits_after, is_waiting}
+use Rattle.kernel_model.specs.Paths.{changes_of, with_change}
+use Rattle.kernel_model.specs.Shown.{Given, given_by, each_from, bytes_for, printed, items_for, told}
+use Rattle.kernel_model.specs.State.{SyncState}
+use Rattle.kernel_model.specs.Steps.{own_entry, disk_entry}
+use Rattle.kernel_model.specs.World.{World}
+use Rattle.kernel_model.proofs.Runs.{each_from-append, append-nil}
+use Rattle.kernel_model.specs.declared.effect.Output.{Output}
+use Rattle.kernel.specs.Marked.{AreMarked, whats}
+use Rattle.kernel.specs.Seen.{IsScreen, AreScreens, IsTrace, end_marks}
+use Rattle.kernel.specs.Mirrors.{AreChanges, IsTask}
+use Rattle.kernel.specs.declared.screen.Screen.{Screen}
+use Rattle.kernel.specs.declared.shared.Shared.{Shared}
+use Rattle.kernel.specs.declared.task.Task.{Task}
+use Rattle.kernel.specs.declared.trace.Trace.{Trace}
+
+-- the event changes no file, prints nothing and tells nothing
+pub record IsSilent (e : Entry) : Type 0 where
+  pub change : e.change ≡ None
+  pub output : e.output ≡ None
+  pub item : e.item ≡ None
+
+pub own-silent : (pid : ℕ) → IsSilent (own_entry pid)
+own-silent pid = record { change = refl; output = refl; item = refl }
+
+pub disk-silent : IsSilent disk_entry
+disk-silent = record { change = refl; output = refl; item = refl }
+
+-- an event that gives nothing
+pub each-nothing : {A : Type 0} (f : Entry → List A) (log : List Entry) (e : Entry) → f e ≡ [] → each_from f [] (log ++ e ∷ []) ≡ each_from f [] log
+each-nothing f log e h =
+    each_from-append f [] log e
+    ∙ ap (λ xs. each_from f [] log ++ given_by log e xs) h
+    ∙ append-nil (each_from f [] log)
+
+if-nil : {A : Type 0} (b : Bool) (xs : List A) → xs ≡ [] → (if b then xs else []) ≡ []
+if-nil true xs h = h
+if-nil false xs h = refl
+
+pub printed-quiet : (t : ℕ) (log : List Entry) (e : Entry) → e.output ≡ None → printed t (log ++ e ∷ []) ≡ printed t log
+printed-quiet t log e h = each-nothing (λ (d : Entry). bytes_for t d.output) log e (ap (λ (o : Option Output). bytes_for t o) h)
+
+pub told-quiet : (p : ℕ) (log : List Entry) (e : Entry) → e.item ≡ None → told p (log ++ e ∷ []) ≡ told p log
+told-quiet p log e h = each-nothing (items_for p) log e (if-nil (e.process == p) (option_to_list e.item) (ap (λ (o : Option Item). option_to_list o) h))
+
+pub changes-quiet : (log : List Entry) (e : Entry) → e.change ≡ None → changes_of (log ++ e ∷ []) ≡ changes_of log
+changes-quiet [] e h = ap (λ (o : Option Change). with_change o []) h
+changes-quiet (x ∷ xs) e h = ap (λ cs. with_change x.change cs) (changes-quiet xs e h)
+
+-- a screen stays
+pub screen-quiet : (c : ℕ) (log : List Entry) (e : Entry) (t : ℕ) (s : Screen) → IsSilent e → IsScreen c log t s → IsScreen c (log ++ e ∷ []) t s
+screen-quiet c log e t s silent h =
+    let same : printed t (log ++ e ∷ []) ≡ printed t log = printed-quiet t log e silent.output in
+    record {
+      bytes = h.bytes ∙ ap (λ (gs : List (Given ℕ)). whats gs) (sym same);
+      marks = subst (λ (gs : List (Given ℕ)). AreMarked gs s.marks.items) (sym same) h.marks;
+      shown = h.shown;
+    }
+
+pub screens-quiet : (c : ℕ) (log : List Entry) (e : Entry) (ss : List Screen) → IsSilent e → AreScreens c log ss → AreScreens c (log ++ e ∷ []) ss
+screens-quiet c log e ss silent h = record {
+  count = h.count;
+  each = λ t s there. screen-quiet c log e t s silent (h.each t s there);
+}
+
+-- a trace stays
+pub trace-quiet : (c : ℕ) (log : List Entry) (e : Entry) (p : ℕ) (t : Trace) → IsSilent e → IsTrace c log p t → IsTrace c (log ++ e ∷ []) p t
+trace-quiet c log e p t silent h =
+    let same : told p (log ++ e ∷ []) ≡ told p log = told-quiet p log e silent.item in
+    record {
+      items = h.items ∙ ap (λ (gs : List (Given Item)). whats gs) (sym same);
+      marks = subst (λ (gs : List (Given Item)). AreMarked gs (t.marks.items ++ end_marks t.end)) (sym same) h.marks;
+      handed = h.handed;
+    }
+
+-- the changes stay
+pub changes-part : (w v : World) (s s' : Shared) (e : Entry) → IsSilent e → v.log ≡ w.log ++ e ∷ [] → v.sync.files ≡ w.sync.files
+    → s'.changes.items ≡ s.changes.items → s'.files ≡ s.files → AreChanges w s → AreChanges v s'
+changes-part w v s s' e silent log files same_changes same_files h =
+    let same : changes_of v.log ≡ changes_of w.log = ap (λ (l : List Entry). changes_of l) log ∙ changes-quiet w.log e silent.change in
+    record {
+      changes = same_changes ∙ h.changes ∙ sym same;
+      possible = subst (λ (cs : List Change). Follow [] cs) (sym same) h.possible;
+      files = same_files ∙ h.files ∙ sym files;
+      made = files ∙ h.made ∙ ap (λ (cs : List Change). files_after [] cs) (sym same);
+    }
+
+-- nobody begins to wait
+fold-snoc : {A B : Type 0} (f : A → B → A) (a : A) (xs : List B) (x : B) → fold f a (xs ++ x ∷ []) ≡ f (fold f a xs) x
+fold-snoc f a [] x = refl
+fold-snoc f a (y ∷ ys) x = fold-snoc f (f a y) ys x
+
+pub waiting-more : (p : ℕ) (log : List Entry) (e : Entry) → is_waiting p (log ++ e ∷ []) ≡ waits_after p (is_waiting p log) e
+waiting-more p log e = fold-snoc (waits_after p) false log e
+
+if-and-false : (a b : Bool) → (if a && false then true else b) ≡ b
+if-and-false true b = refl
+if-and-false false b = refl
+
+pub waits-own : (p pid : ℕ) (log : List Entry) → is_waiting p (log ++ own_entry pid ∷ []) ≡ is_waiting p log
+waits-own p pid log = waiting-more p log (own_entry pid) ∙ if-and-false (pid == p) (is_waiting p log)
+
+if-false : (a b : Bool) → a ≡ false → (if a && true then true else b) ≡ b
+if-false true b h = cc
+if-false false b h = refl
+
+pub waits-disk : (place : ℕ) (log : List Entry) → is_waiting (place + 1) (log ++ disk_entry ∷ []) ≡ is_waiting (place + 1) log
+waits-disk place log =
+    waiting-more (place + 1) log disk_entry
+    ∙ if-false (0 == (place + 1)) (is_waiting (place + 1) log) (ne_eqb 0 (place + 1) (λ h. absurd (omega arith)))

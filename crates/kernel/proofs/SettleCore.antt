@@ -1,0 +1,271 @@
+-- From a loan's result in the parts to the core.
+use Rattle.std.proofs.Common.{◌≡◌, ℕ, zero, suc, ◌+◌, ◌*◌, ◌^◌, ◌<◌, ◌≤◌, Bool, true, false, if◌then◌else◌, List, [], ◌∷◌, ◌++◌, length, map, slice_get, slice_set, Option, Some, None, is_some, option_map, count_by, Result, Ok, Err, refl, sym, ap, subst, ◌∙◌, arith, length-append}
+use Rattle.std.proofs.lemmas.List.Sums.{sum_by-cons}
+use Rattle.std.specs.Prelude.{◌≢◌, IfOk, IfErr, OnOk, OnErr}
+use Rattle.machine_model.specs.States.{State, Ran, ran, run, stands_at}
+use Rattle.machine_model.specs.declared.stop.Stop.{Stop}
+use Rattle.kernel_model.specs.Answers.{Kernel, Lending, lending_at, quantum_out, now, process_of as process_in, with_event, outcome_of}
+use Rattle.kernel_model.specs.Loans.{LoanResult, IsOfLoan, loans_in, loan_count, put_lending, returned, events_of, settled, settled_outcome, settled_answer, outcome_after}
+use Rattle.kernel_model.specs.State.{Process, process_at}
+use Rattle.kernel_model.specs.Steps.{step}
+use Rattle.kernel_model.specs.World.{World, begun, after, happens}
+use Rattle.kernel_model.proofs.Runs.{after-append, after-after, now-with_event}
+use Rattle.kernel_model.specs.declared.answer.Answer.{Answer}
+use Rattle.kernel_model.specs.declared.answer.Answer.TheVariants as answer_of
+use Rattle.kernel_model.specs.declared.answer.Outcome.{Outcome}
+use Rattle.kernel_model.specs.declared.answer.Refused.{Refused}
+use Rattle.kernel_model.specs.declared.answer.Refused.TheVariants.{Stranger, OutOfMemory}
+use Rattle.kernel_model.specs.declared.event.Event.{Event}
+use Rattle.kernel_model.specs.declared.event.Event.TheVariants.{Turn, Enter}
+use Rattle.kernel.specs.Cores.{boot_of, run_of, kernel_of, IsCore}
+use Rattle.kernel.specs.Entering.{IsSameTask, IsSameShared}
+use Rattle.kernel.specs.Loaned.{loan_result}
+use Rattle.kernel.specs.Mirrors.{Mirrors}
+use Rattle.kernel.specs.Settling.{IsLoanOf, IsBack, IsTurnNoted, IsTurnEntered}
+use Rattle.kernel.specs.Tasks.{process_of, lending_of, count_out}
+use Rattle.kernel.specs.declared.boot.Booted.{Booted}
+use Rattle.kernel.specs.declared.loan.Done.{Done}
+use Rattle.kernel.specs.declared.loan.Rejected.{Rejected}
+use Rattle.kernel.specs.declared.shared.Shared.{Shared}
+use Rattle.kernel.specs.declared.task.Task.{Task}
+use Rattle.kernel.proofs.EnterCore.{same-out}
+use Rattle.kernel.proofs.EnterFine.{process-of}
+use Rattle.kernel.proofs.EnterLists.{map-set, get-map}
+use Rattle.kernel.proofs.EnterWorld.{same-mirrors, same-lendings}
+use Rattle.kernel.proofs.SettleWorld.{run-reaches, back-mirrors, both-mirrors}
+
+-- ---- whose loan a result is of
+lending-of : (tasks : List Task) (pid place : ℕ) (t : Task) → pid ≡ place + 1 → slice_get tasks place ≡ Some t
+    → lending_at (map lending_of tasks) pid ≡ Some (lending_of t)
+lending-of tasks pid place t number there =
+    let next : pid ≡ suc place = omega arith in
+    rw next (get-map lending_of tasks place t there)
+
+process-in : (b : Booted) (history : List Event) (tasks : List Task) (s : Shared) (pid place : ℕ) (t : Task) → IsCore b history tasks s
+    → pid ≡ place + 1 → slice_get tasks place ≡ Some t → process_at (run_of b history).sync.processes pid ≡ Some (process_of t)
+process-in b history tasks s pid place t h number there =
+    ap (λ (ps : List Process). process_at ps pid) (sym h.mirrors.each.processes) ∙ process-of tasks pid place t number there
+
+pub own-loan : (b : Booted) (history : List Event) (tasks : List Task) (s : Shared) (last place : ℕ) (t : Task) (d : Done) → IsCore b history tasks s
+    → d.pid ≡ place + 1 → slice_get tasks place ≡ Some t → IsLoanOf t d → IsOfLoan (kernel_of b history tasks last) (loan_result d)
+own-loan b history tasks s last place t d h number there of = record {
+  lent = ap quantum_out (lending-of tasks d.pid place t number there) ∙ of.out;
+  turn = sym of.turn ∙ sym (ap loans_in (lending-of tasks d.pid place t number there));
+  began =
+      ap (λ (o : Option Process). option_map (λ (p : Process). p.state) o) (process-in b history tasks s d.pid place t h number there)
+      ∙ ap (λ (x : State). Some x) of.began;
+}
+
+pub loan-own : (b : Booted) (history : List Event) (tasks : List Task) (s : Shared) (last place : ℕ) (t : Task) (d : Done) → IsCore b history tasks s
+    → d.pid ≡ place + 1 → slice_get tasks place ≡ Some t → IsOfLoan (kernel_of b history tasks last) (loan_result d) → IsLoanOf t d
+loan-own b history tasks s last place t d h number there of =
+    let began : Some t.machine ≡ Some d.began =
+    sym (ap (λ (o : Option Process). option_map (λ (p : Process). p.state) o) (process-in b history tasks s d.pid place t h number there)) ∙ of.began in
+    record {
+      out = sym (ap quantum_out (lending-of tasks d.pid place t number there)) ∙ of.lent;
+      turn = sym (of.turn ∙ ap loans_in (lending-of tasks d.pid place t number there));
+      began = cc;
+    }
+
+-- ---- what a result that is taken back does to the parts
+pub record IsTaken (b : Booted) (history history' : List Event) (tasks : List Task) (last place : ℕ) (t u : Task) (s' : Shared) (d : Done) (a : Answer) : Type 0 where
+  pub grown : history' ≡ history ++ events_of (loan_result d)
+  pub mirrors : Mirrors (after (run_of b history) (events_of (loan_result d))) (slice_set tasks place u) s'
+  pub loans : u.loans ≡ t.loans
+  pub out : u.out ≡ None
+  pub answer : a ≡ settled_answer (kernel_of b history tasks last) (loan_result d)
+
+events-none : (d : Done) → stands_at d.machine ≡ None → events_of (loan_result d) ≡ Turn d.pid d.count ∷ []
+events-none d stands = ap (λ (o : Option Stop). Turn d.pid d.count ∷ (if is_some o then Enter d.pid ∷ [] else [])) stands
+
+events-some : (d : Done) (at : Stop) → stands_at d.machine ≡ Some at → events_of (loan_result d) ≡ Turn d.pid d.count ∷ Enter d.pid ∷ []
+events-some d at stands = ap (λ (o : Option Stop). Turn d.pid d.count ∷ (if is_some o then Enter d.pid ∷ [] else [])) stands
+
+reached : (t : Task) (d : Done) → IsLoanOf t d → d.machine ≡ (run d.count t.machine).state
+reached t d of =
+    sym (run-reaches d.quantum t.machine d.machine d.count (ran d.count d.machine d.stop)
+    (ap (run d.quantum) of.began ∙ d.ran) refl refl)
+
+pub turn-taken : (b : Booted) (history history' : List Event) (tasks : List Task) (s s' : Shared) (last place : ℕ) (t u : Task) (d : Done) (a : Answer)
+    → IsCore b history tasks s → d.pid ≡ place + 1 → slice_get tasks place ≡ Some t → IsLoanOf t d → stands_at d.machine ≡ None
+    → IsBack d.machine t u → IsTurnNoted d.pid s s' → history' ≡ history ++ Turn d.pid d.count ∷ []
+    → a ≡ answer_of.Settled d.count d.stop None
+    → IsTaken b history history' tasks last place t u s' d a
+turn-taken b history history' tasks s s' last place t u d a h number there of stands back noted grown answer =
+    let es = events-none d stands in
+    record {
+      grown = grown ∙ ap (λ (xs : List Event). history ++ xs) (sym es);
+      mirrors =
+          subst (λ (xs : List Event). Mirrors (after (run_of b history) xs) (slice_set tasks place u) s') (sym es)
+          (back-mirrors (run_of b history) tasks s s' d.pid place d.count d.quantum d.machine t u h.mirrors number there of.out (reached t d of) d.room back noted);
+      loans = back.loans;
+      out = back.out;
+      answer =
+          answer
+          ∙ sym (ap (λ (o : Option Stop). answer_of.Settled d.count d.stop
+          (if is_some o then Some (outcome_after (kernel_of b history tasks last) d.pid d.count) else None)) stands);
+    }
+
+pub enter-taken : (b : Booted) (history history' : List Event) (tasks : List Task) (s s' : Shared) (last place : ℕ) (t u : Task) (d : Done) (at : Stop) (a : Answer) (o : Outcome)
+    → IsCore b history tasks s → d.pid ≡ place + 1 → slice_get tasks place ≡ Some t → IsLoanOf t d → stands_at d.machine ≡ Some at
+    → IsTurnEntered d.pid d.machine t u s s' o → u.loans ≡ t.loans → u.out ≡ None → history' ≡ history ++ Turn d.pid d.count ∷ Enter d.pid ∷ []
+    → a ≡ answer_of.Settled d.count d.stop (Some o)
+    → IsTaken b history history' tasks last place t u s' d a
+enter-taken b history history' tasks s s' last place t u d at a o h number there of stands entered loans out grown answer =
+    let es = events-some d at stands in
+    let w : World = run_of b history in
+    let k : Kernel = kernel_of b history tasks last in
+    let both = both-mirrors w tasks s s' d.pid place d.count d.quantum d.machine t u o h.mirrors number there of.out (reached t d of) d.room
+    (ap (λ (x : Option Stop). is_some x) stands) entered in
+    let outcome : o ≡ outcome_after k d.pid d.count =
+    both.outcome_is ∙ sym (ap (λ (x : World). outcome_of (step x.sync (Enter d.pid)).entry.item) (now-with_event k (Turn d.pid d.count))) in
+    record {
+      grown = grown ∙ ap (λ (xs : List Event). history ++ xs) (sym es);
+      mirrors =
+          subst (λ (xs : List Event). Mirrors (after w xs) (slice_set tasks place u) s') (sym es) both.mirrors;
+      loans = loans;
+      out = out;
+      answer =
+          answer
+          ∙ ap (λ (x : Outcome). answer_of.Settled d.count d.stop (Some x)) outcome
+          ∙ sym (ap (λ (x : Option Stop). answer_of.Settled d.count d.stop (if is_some x then Some (outcome_after k d.pid d.count) else None)) stands);
+    }
+
+-- ---- the core
+count-cons : {A : Type 0} (p : A → Bool) (x : A) (xs : List A) → count_by p (x ∷ xs) ≡ (if p x then 1 else 0) + count_by p xs
+count-cons p x xs = sum_by-cons (λ y. if p y then 1 else 0) x xs
+
+count-back : (tasks : List Task) (place q : ℕ) (t u : Task) → slice_get tasks place ≡ Some t → t.out ≡ Some q → u.out ≡ None
+    → count_out (slice_set tasks place u) + 1 ≡ count_out tasks
+count-back [] place q t u there out none = cc
+count-back (x ∷ xs) zero q t u there out none =
+    let same : x ≡ t = cc in
+    let was : count_out (x ∷ xs) ≡ 1 + count_out xs =
+    count-cons (λ (v : Task). is_some v.out) x xs
+    ∙ ap (λ (o : Option ℕ). (if is_some o then 1 else 0) + count_out xs) (ap (λ (v : Task). v.out) same ∙ out) in
+    let is : count_out (u ∷ xs) ≡ 0 + count_out xs =
+    count-cons (λ (v : Task). is_some v.out) u xs
+    ∙ ap (λ (o : Option ℕ). (if is_some o then 1 else 0) + count_out xs) none in
+    omega (arith, was, is)
+count-back (x ∷ xs) (suc place) q t u there out none =
+    let rest : count_out (slice_set xs place u) + 1 ≡ count_out xs = count-back xs place q t u there out none in
+    let was = count-cons (λ (v : Task). is_some v.out) x xs in
+    let is = count-cons (λ (v : Task). is_some v.out) x (slice_set xs place u) in
+    omega (arith, was, is, rest)
+
+few-events : (r : LoanResult) → length (events_of r) ≤ 2
+few-events r = by (is_some (stands_at r.reached.state))
+  where
+    by : (b : Bool) → length (Turn r.process r.reached.count ∷ (if b then Enter r.process ∷ [] else [])) ≤ 2
+    by true = omega arith
+    by false = omega arith
+
+pub taken-core : (b : Booted) (history history' : List Event) (tasks : List Task) (s s' : Shared) (last place : ℕ) (t u : Task) (d : Done) (a : Answer)
+    → IsCore b history tasks s → slice_get tasks place ≡ Some t → IsLoanOf t d → IsTaken b history history' tasks last place t u s' d a
+    → IsCore b history' (slice_set tasks place u) s'
+taken-core b history history' tasks s s' last place t u d a h there of taken =
+    let es : List Event = events_of (loan_result d) in
+    let was : length history + 2 * count_out tasks ≤ 2 ^ 40 = h.room in
+    let less : count_out (slice_set tasks place u) + 1 ≡ count_out tasks = count-back tasks place d.quantum t u there of.out taken.out in
+    let few : length es ≤ 2 = few-events (loan_result d) in
+    let longer : length (history ++ es) ≡ length history + length es = length-append history es in
+    subst (λ (xs : List Event). IsCore b xs (slice_set tasks place u) s') (sym taken.grown) (record {
+      mirrors =
+          subst (λ (v : World). Mirrors v (slice_set tasks place u) s') (sym (after-after (begun (boot_of b)) history es)) taken.mirrors;
+      room = omega (arith, was, less, few, longer);
+    })
+
+pub taken-events : (b : Booted) (history history' : List Event) (tasks : List Task) (s' : Shared) (last place : ℕ) (t u : Task) (d : Done) (a : Answer)
+    → d.pid ≡ place + 1 → slice_get tasks place ≡ Some t → IsTaken b history history' tasks last place t u s' d a
+    → kernel_of b history' (slice_set tasks place u) last ≡ settled (kernel_of b history tasks last) (loan_result d)
+taken-events b history history' tasks s' last place t u d a number there taken =
+    let next : d.pid ≡ suc place = omega arith in
+    let count : loans_in (lending_at (map lending_of tasks) d.pid) ≡ t.loans = ap loans_in (lending-of tasks d.pid place t number there) in
+    let lendings : map lending_of (slice_set tasks place u)
+    ≡ put_lending (map lending_of tasks) d.pid (record { loans = loans_in (lending_at (map lending_of tasks) d.pid); out = None }) =
+    map-set lending_of tasks place u
+    ∙ ap (λ n. slice_set (map lending_of tasks) place (record { loans = n; out = u.out })) (taken.loans ∙ sym count)
+    ∙ ap (λ (o : Option ℕ). slice_set (map lending_of tasks) place (record { loans = loans_in (lending_at (map lending_of tasks) d.pid); out = o })) taken.out
+    ∙ sym (ap (λ n. put_lending (map lending_of tasks) n (record { loans = loans_in (lending_at (map lending_of tasks) d.pid); out = None })) next) in
+    ap (λ (xs : List Event). kernel_of b xs (slice_set tasks place u) last) taken.grown
+    ∙ ap (λ (ls : List Lending). record { boot = boot_of b; history = history ++ events_of (loan_result d); lendings = ls; last_lent = last }) lendings
+
+-- a result that is not taken back changes nothing
+pub kept-core : (b : Booted) (history history' : List Event) (tasks : List Task) (s s' : Shared) (place : ℕ) (t u : Task)
+    → IsCore b history tasks s → slice_get tasks place ≡ Some t → history' ≡ history → IsSameTask t u → IsSameShared s s'
+    → IsCore b history' (slice_set tasks place u) s'
+kept-core b history history' tasks s s' place t u h there same_history same rest =
+    let lendings = same-lendings tasks place t u there same.loans same.out in
+    let out : count_out (slice_set tasks place u) ≡ count_out tasks = same-out tasks (slice_set tasks place u) lendings in
+    let was : length history + 2 * count_out tasks ≤ 2 ^ 40 = h.room in
+    subst (λ (xs : List Event). IsCore b xs (slice_set tasks place u) s') (sym same_history) (record {
+      mirrors = same-mirrors (run_of b history) tasks s s' place t u there same rest h.mirrors;
+      room = omega (arith, out, was);
+    })
+
+pub kept-kernel : (b : Booted) (history history' : List Event) (tasks : List Task) (last place : ℕ) (t u : Task)
+    → slice_get tasks place ≡ Some t → history' ≡ history → IsSameTask t u
+    → kernel_of b history' (slice_set tasks place u) last ≡ kernel_of b history tasks last
+kept-kernel b history history' tasks last place t u there same_history same =
+    ap (λ (xs : List Event). kernel_of b xs (slice_set tasks place u) last) same_history
+    ∙ ap (λ (ls : List Lending). record { boot = boot_of b; history = history; lendings = ls; last_lent = last })
+    (same-lendings tasks place t u there same.loans same.out)
+
+-- either way
+pub settle-core : (b : Booted) (history history' : List Event) (tasks : List Task) (s s' : Shared) (last place : ℕ) (t u : Task) (d : Done) (r : Result Answer Rejected)
+    → IsCore b history tasks s → slice_get tasks place ≡ Some t → IsLoanOf t d
+    → IfOk r (λ a. IsTaken b history history' tasks last place t u s' d a)
+    → OnErr r (history' ≡ history) → OnErr r (IsSameTask t u) → OnErr r (IsSameShared s s')
+    → IsCore b history' (slice_set tasks place u) s'
+settle-core b history history' tasks s s' last place t u d (Ok a) h there of taken x y z = taken-core b history history' tasks s s' last place t u d a h there of taken
+settle-core b history history' tasks s s' last place t u d (Err e) h there of taken x y z = kept-core b history history' tasks s s' place t u h there x y z
+
+pub turn-result : (b : Booted) (history history' : List Event) (tasks : List Task) (s s' : Shared) (last place : ℕ) (t u : Task) (d : Done) (r : Result Answer Rejected)
+    → IsCore b history tasks s → d.pid ≡ place + 1 → slice_get tasks place ≡ Some t → IsLoanOf t d → stands_at d.machine ≡ None
+    → OnOk r (IsBack d.machine t u) → OnOk r (IsTurnNoted d.pid s s') → OnOk r (history' ≡ history ++ Turn d.pid d.count ∷ [])
+    → IfOk r (λ a. a ≡ answer_of.Settled d.count d.stop None)
+    → IfOk r (λ a. IsTaken b history history' tasks last place t u s' d a)
+turn-result b history history' tasks s s' last place t u d (Ok a) h number there of stands back noted grown answer =
+    turn-taken b history history' tasks s s' last place t u d a h number there of stands back noted grown answer
+turn-result b history history' tasks s s' last place t u d (Err e) h number there of stands back noted grown answer = tt
+
+pub enter-result : (b : Booted) (history history' : List Event) (tasks : List Task) (s s' : Shared) (last place : ℕ) (t u : Task) (d : Done) (at : Stop) (r : Result Answer Rejected)
+    → IsCore b history tasks s → d.pid ≡ place + 1 → slice_get tasks place ≡ Some t → IsLoanOf t d → stands_at d.machine ≡ Some at
+    → IfOk r (λ a. (o : Outcome) × (a ≡ answer_of.Settled d.count d.stop (Some o)) × IsTurnEntered d.pid d.machine t u s s' o)
+    → OnOk r (history' ≡ history ++ Turn d.pid d.count ∷ Enter d.pid ∷ [])
+    → IfOk r (λ a. IsTaken b history history' tasks last place t u s' d a)
+enter-result b history history' tasks s s' last place t u d at (Ok a) h number there of stands done grown =
+    let e = done.2 in
+    enter-taken b history history' tasks s s' last place t u d at a done.0 h number there of stands e
+    (e.told.loans ∙ e.back.loans) (e.told.out ∙ e.back.out) grown done.1
+enter-result b history history' tasks s s' last place t u d at (Err e) h number there of stands done grown = tt
+
+pub settle-events : (b : Booted) (history history' : List Event) (tasks : List Task) (s' : Shared) (last place : ℕ) (t u : Task) (d : Done) (r : Result Answer Rejected)
+    → d.pid ≡ place + 1 → slice_get tasks place ≡ Some t
+    → IfOk r (λ a. IsTaken b history history' tasks last place t u s' d a)
+    → OnOk r (kernel_of b history' (slice_set tasks place u) last ≡ settled (kernel_of b history tasks last) (loan_result d))
+settle-events b history history' tasks s' last place t u d (Ok a) number there taken = taken-events b history history' tasks s' last place t u d a number there taken
+settle-events b history history' tasks s' last place t u d (Err e) number there taken = tt
+
+pub settle-answer : (b : Booted) (history history' : List Event) (tasks : List Task) (s' : Shared) (last place : ℕ) (t u : Task) (d : Done) (r : Result Answer Rejected)
+    → IfOk r (λ a. IsTaken b history history' tasks last place t u s' d a)
+    → IfOk r (λ a. a ≡ settled_answer (kernel_of b history tasks last) (loan_result d))
+settle-answer b history history' tasks s' last place t u d (Ok a) taken = taken.answer
+settle-answer b history history' tasks s' last place t u d (Err e) taken = tt
+
+pub settle-only : {P : Type 0} (r : Result Answer Rejected) → P → IfErr r (λ e. e.why ≡ OutOfMemory)
+    → IfErr r (λ e. e.why ≢ Stranger → (e.why ≡ OutOfMemory) × P)
+settle-only (Ok a) h cause = tt
+settle-only (Err e) h cause = λ other. (cause, h)
+
+pub settle-err : (b : Booted) (history history' : List Event) (tasks : List Task) (last place : ℕ) (t u : Task) (r : Result Answer Rejected)
+    → slice_get tasks place ≡ Some t → OnErr r (history' ≡ history) → OnErr r (IsSameTask t u)
+    → OnErr r (kernel_of b history' (slice_set tasks place u) last ≡ kernel_of b history tasks last)
+settle-err b history history' tasks last place t u (Ok a) there x y = tt
+settle-err b history history' tasks last place t u (Err e) there x y = kept-kernel b history history' tasks last place t u there x y
+
+pub same-of : {E X : Type 0} (r : Result X E) (t u : Task) → OnErr r (u ≡ t) → OnErr r (IsSameTask t u)
+same-of (Ok x) t u h = tt
+same-of (Err e) t u h =
+    subst (λ (v : Task). IsSameTask t v) (sym h)
+    (record { pid = refl; machine = refl; descriptors = refl; replies = refl; marks = refl; end = refl; handed = refl; loans = refl; out = refl })

@@ -1,0 +1,249 @@
+-- A loan's result in the parts is a Turn, and an Enter, of the run.
+use Rattle.std.proofs.Common.{◌≡◌, ℕ, zero, suc, ◌+◌, ◌*◌, ◌^◌, ◌<◌, ◌≤◌, ◌⊎◌, inl, inr, Bool, true, false, ◌&&◌, ◌||◌, not, nat_lt, List, [], ◌∷◌, ◌++◌, length, map, slice_get, slice_set, Option, Some, None, is_some, option_to_list, refl, sym, ap, subst, ◌∙◌, arith, add-zero, add_assoc}
+use Rattle.machine_model.specs.States.{State, Stepped, Goes, Halts, Ran, ran, next, run, after, stands_at}
+use Rattle.machine.proofs.Running.{run-zero, run-goes, run-halts}
+use Rattle.disk_model.specs.declared.change.NamedFile.{NamedFile}
+use Rattle.calls.specs.declared.plan.Plan.{Plan}
+use Rattle.commit_deps.specs.Keeps.{Keeps}
+use Rattle.commit_deps.specs.Marks.{IsMarkOf, reader}
+use Rattle.commit_deps.specs.declared.dependencies.Marked.{Marked}
+use Rattle.commit_deps.proofs.Readers.{settled-reader, settled-union, settled-event}
+use Rattle.kernel_model.specs.Answers.{outcome_of}
+use Rattle.kernel_model.specs.Entries.{Entry, Item, meets}
+use Rattle.kernel_model.specs.Paths.{is_settled, is_settled_from, change_count}
+use Rattle.kernel_model.proofs.Paths.{count_of}
+use Rattle.kernel_model.specs.State.{SyncState, Process, process_at, put_process, with_process}
+use Rattle.kernel_model.specs.Steps.{step, own_entry, after_run}
+use Rattle.kernel_model.specs.World.{World, happens}
+use Rattle.kernel_model.specs.declared.carrier.Carrier.{Carrier}
+use Rattle.kernel_model.specs.declared.carrier.Carrier.TheVariants.{Proc}
+use Rattle.kernel_model.specs.declared.answer.Outcome.{Outcome}
+use Rattle.kernel_model.specs.declared.descriptor.Descriptor.{Descriptor}
+use Rattle.kernel_model.specs.declared.event.Event.TheVariants.{Turn, Enter}
+use Rattle.kernel.specs.Entering.{item_of, entry_of, PlansEnter, IsTold, IsEntered, IsSameTask}
+use Rattle.kernel.specs.Mirrors.{IsTask, AreTasks, Mirrors}
+use Rattle.kernel.specs.Seen.{AreScreens}
+use Rattle.kernel.specs.Settling.{IsBack, IsTurnNoted, IsTurnEntered}
+use Rattle.kernel.specs.Tasks.{process_of, status_of}
+use Rattle.kernel.specs.declared.screen.Screen.{Screen}
+use Rattle.kernel.specs.declared.shared.Shared.{Shared}
+use Rattle.kernel.specs.declared.task.Task.{Task}
+use Rattle.kernel.specs.declared.trace.End.{End}
+use Rattle.kernel.proofs.EnterFine.{IsFineTask, process-of}
+use Rattle.kernel.proofs.EnterLists.{map-set, get-set, get-within}
+use Rattle.kernel.proofs.EnterWorld.{entered-at, entered-item, entering-mark, same-task}
+use Rattle.kernel.proofs.Quiet.{own-silent, screens-quiet, trace-quiet, changes-part, waits-own}
+use Rattle.kernel.proofs.Turning.{world_with, turn_of, turn-happens}
+
+pub back-same : (m : State) (t t' u : Task) → IsSameTask t t' → IsBack m t' u → IsBack m t u
+back-same m t t' u same back = record {
+  pid = back.pid ∙ same.pid;
+  machine = back.machine;
+  descriptors = back.descriptors ∙ same.descriptors;
+  replies = back.replies ∙ same.replies;
+  marks = back.marks ∙ same.marks;
+  end = back.end ∙ same.end;
+  handed = back.handed ∙ same.handed;
+  loans = back.loans ∙ same.loans;
+  out = back.out;
+}
+
+-- ---- a run is that of as many instructions as it did
+run-front : (n : ℕ) (s : State) → (run (run n s).count s).state ≡ (run n s).state
+run-front zero s =
+    ap (λ (r : Ran). (run r.count s).state) (run-zero s)
+    ∙ ap (λ (r : Ran). r.state) (run-zero s) ∙ sym (ap (λ (r : Ran). r.state) (run-zero s))
+run-front (suc n) s = by (λ t. run-front n t) (next s) refl
+  where
+    by : ((t : State) → (run (run n t).count t).state ≡ (run n t).state) → (x : Stepped) → next s ≡ x → (run (run (suc n) s).count s).state ≡ (run (suc n) s).state
+    by onward (Goes t) e =
+        let one : run (suc n) s ≡ after 1 (run n t) = run-goes n s t e in
+        let more : 1 + (run n t).count ≡ suc (run n t).count = omega arith in
+        ap (λ (r : Ran). (run r.count s).state) one
+        ∙ ap (λ (k : ℕ). (run k s).state) more
+        ∙ ap (λ (r : Ran). r.state) (run-goes (run n t).count s t e)
+        ∙ onward t
+        ∙ sym (ap (λ (r : Ran). r.state) one)
+    by onward (Halts why) e =
+        let none : run (suc n) s ≡ ran 0 s why = run-halts n s why e in
+        ap (λ (r : Ran). (run r.count s).state) none
+        ∙ ap (λ (r : Ran). r.state) (run-zero s)
+        ∙ sym (ap (λ (r : Ran). r.state) none)
+
+pub run-reaches : (n : ℕ) (s m : State) (count : ℕ) (r : Ran) → run n s ≡ r → r.count ≡ count → r.state ≡ m → (run count s).state ≡ m
+run-reaches n s m count r is count_is state_is =
+    ap (λ (k : ℕ). (run k s).state) (sym (ap (λ (x : Ran). x.count) is ∙ count_is))
+    ∙ run-front n s
+    ∙ ap (λ (x : Ran). x.state) is
+    ∙ state_is
+
+-- ---- an event's mark stays behind an event that touches nothing but its process
+absorbed : (p r b : Bool) → ((p && r) && (b || p)) ≡ (p && r)
+absorbed true true true = refl
+absorbed true true false = refl
+absorbed true false b = refl
+absorbed false r b = refl
+
+and-true : (b : Bool) → (b && true) ≡ b
+and-true true = refl
+and-true false = refl
+
+own-settled : (c : ℕ) (log : List Entry) (pid : ℕ) → is_settled c log (own_entry pid) ≡ is_settled c log (reader (Proc pid ∷ []))
+own-settled c log pid = settled-event c 0 log (own_entry pid) ∙ and-true (is_settled c log (reader (Proc pid ∷ [])))
+
+reader-later : (c : ℕ) (log : List Entry) (pid : ℕ) (rs : List Carrier)
+    → is_settled c (log ++ own_entry pid ∷ []) (reader (Proc pid ∷ rs)) ≡ is_settled c log (reader (Proc pid ∷ rs))
+reader-later c log pid rs =
+    let P : Bool = is_settled c log (reader (Proc pid ∷ [])) in
+    let R : Bool = is_settled c log (reader rs) in
+    let B : Bool = not (meets (own_entry pid).writes (Proc pid ∷ rs)) in
+    let union : is_settled c log (reader (Proc pid ∷ rs)) ≡ (P && R) = settled-union c 0 log (Proc pid ∷ []) rs in
+    settled-reader c log (own_entry pid) (Proc pid ∷ rs)
+    ∙ ap (λ (x : Bool). is_settled c log (reader (Proc pid ∷ rs)) && (B || x)) (own-settled c log pid)
+    ∙ ap (λ (x : Bool). x && (B || P)) union
+    ∙ absorbed P R B
+    ∙ sym union
+
+count-later : (log : List Entry) (pid : ℕ) → count_of (log ++ own_entry pid ∷ []) ≡ count_of log
+count-later [] pid = refl
+count-later (x ∷ xs) pid = ap (λ n. change_count x + n) (count-later xs pid)
+
+pub mark-later : (m : ℕ) (log : List Entry) (pid : ℕ) (plan : Plan) → IsMarkOf m log (entry_of pid plan) → IsMarkOf m (log ++ own_entry pid ∷ []) (entry_of pid plan)
+mark-later m log pid plan h =
+    let x : Entry = entry_of pid plan in
+    let later : List Entry = log ++ own_entry pid ∷ [] in
+    record {
+      says = λ c.
+          h.says c
+          ∙ settled-event c 0 log x
+          ∙ ap (λ (b : Bool). b && (not (is_some plan.change) || nat_lt (0 + count_of log) c)) (sym (reader-later c log pid plan.reads.items))
+          ∙ ap (λ (n : ℕ). is_settled c later (reader x.reads) && (not (is_some plan.change) || nat_lt (0 + n) c)) (sym (count-later log pid))
+          ∙ sym (settled-event c 0 later x);
+    }
+
+-- ---- the Turn
+back-task : (w : World) (pid place : ℕ) (q : Process) (m : State) (t u : Task) → m.count < 2 ^ 40 → IsBack m t u → IsTask w place t
+    → IsTask (world_with w (turn_of w pid q)) place u
+back-task w pid place q m t u few back h =
+    let v : World = world_with w (turn_of w pid q) in
+    let t1 : Task = record t { machine = m; out = None } in
+    let there : IsTask v place t1 = record {
+      number = h.number;
+      trace = trace-quiet w.storage.committed w.log (own_entry pid) (place + 1) t.trace (own-silent pid) h.trace;
+      named = h.named;
+      budget = omega (arith, few);
+      awake = waits-own (place + 1) pid w.log ∙ h.awake;
+      running = λ lent. cc;
+    } in
+    same-task v place t1 u
+    (record { pid = back.pid; machine = back.machine; descriptors = back.descriptors; replies = back.replies; marks = back.marks; end = back.end; handed = back.handed; loans = back.loans; out = back.out })
+    there
+
+away-task : (w : World) (pid place : ℕ) (q : Process) (u : Task) → IsTask w place u → IsTask (world_with w (turn_of w pid q)) place u
+away-task w pid place q u h = record {
+  number = h.number;
+  trace = trace-quiet w.storage.committed w.log (own_entry pid) (place + 1) u.trace (own-silent pid) h.trace;
+  named = h.named;
+  budget = h.budget;
+  awake = waits-own (place + 1) pid w.log ∙ h.awake;
+  running = h.running;
+}
+
+process-back : (n : ℕ) (m : State) (t u : Task) → m ≡ (run n t.machine).state → IsBack m t u → process_of u ≡ after_run n (process_of t)
+process-back n m t u reached back =
+    ap (λ (s : State). record { state = s; descriptors = u.descriptors; status = status_of u.trace.end }) (back.machine ∙ reached)
+    ∙ ap (λ (ds : List (Option Descriptor)). record { state = (run n t.machine).state; descriptors = ds; status = status_of u.trace.end }) back.descriptors
+    ∙ ap (λ (o : Option End). record { state = (run n t.machine).state; descriptors = t.descriptors; status = status_of o }) back.end
+
+-- a task that is out has not ended
+pub out-running : (w : World) (place : ℕ) (t : Task) (q : ℕ) → IsTask w place t → t.out ≡ Some q → t.trace.end ≡ None
+out-running w place t q h out = h.running (ap (λ (o : Option ℕ). is_some o) out)
+
+pub back-happens : (w : World) (tasks : List Task) (s : Shared) (pid place n q : ℕ) (t : Task) → Mirrors w tasks s → pid ≡ place + 1
+    → slice_get tasks place ≡ Some t → t.out ≡ Some q
+    → happens w (Turn pid n) ≡ world_with w (turn_of w pid (after_run n (process_of t)))
+back-happens w tasks s pid place n q t h number there out =
+    turn-happens w pid n (process_of t)
+    (ap (λ (ps : List Process). process_at ps pid) (sym h.each.processes) ∙ process-of tasks pid place t number there)
+    (ap (λ (o : Option End). is_some (status_of o)) (out-running w place t q (h.each.each place t there) out))
+
+pub back-mirrors : (w : World) (tasks : List Task) (s s' : Shared) (pid place n q : ℕ) (m : State) (t u : Task) → Mirrors w tasks s → pid ≡ place + 1
+    → slice_get tasks place ≡ Some t → t.out ≡ Some q → m ≡ (run n t.machine).state → m.count < 2 ^ 40
+    → IsBack m t u → IsTurnNoted pid s s' → Mirrors (happens w (Turn pid n)) (slice_set tasks place u) s'
+back-mirrors w tasks s s' pid place n q m t u h number there out reached few back noted =
+    let p : Process = after_run n (process_of t) in
+    let v : World = world_with w (turn_of w pid p) in
+    let next : pid ≡ suc place = omega arith in
+    subst (λ (x : World). Mirrors x (slice_set tasks place u) s') (sym (back-happens w tasks s pid place n q t h number there out)) (record {
+      each = record {
+        processes =
+            map-set process_of tasks place u
+            ∙ ap (λ (ps : List Process). slice_set ps place (process_of u)) h.each.processes
+            ∙ ap (λ (x : Process). slice_set w.sync.processes place x) (process-back n m t u reached back)
+            ∙ sym (ap (λ k. put_process w.sync.processes k p) next);
+        each = λ k x at. elim (get-set tasks place k u x at) as (λ _. IsTask v k x) [
+          | inl g ↦
+              subst (λ (y : Task). IsTask v k y) (sym g.1)
+              (subst (λ (j : ℕ). IsTask v j u) (sym g.0) (back-task w pid place p m t u few back (h.each.each place t there)))
+          | inr g ↦ away-task w pid k p x (h.each.each k x g.1)
+        ];
+      };
+      changes = changes-part w v s s' (own_entry pid) (own-silent pid) refl refl noted.changes noted.files h.changes;
+      kept = noted.noted w.log h.kept;
+      screens =
+          subst (λ (ss : List Screen). AreScreens w.storage.committed (w.log ++ own_entry pid ∷ []) ss) (sym noted.screens)
+          (screens-quiet w.storage.committed w.log (own_entry pid) s.screens.items (own-silent pid) h.screens);
+      disk = noted.disk ∙ h.disk;
+    })
+
+-- ---- the Turn and its Enter
+get-set-here : {A : Type 0} (xs : List A) (i : ℕ) (x : A) → i < length xs → slice_get (slice_set xs i x) i ≡ Some x
+get-set-here [] i x h = absurd (omega arith)
+get-set-here (y ∷ ys) zero x h = refl
+get-set-here (y ∷ ys) (suc i) x h = get-set-here ys i x (omega arith)
+
+set-again : {A : Type 0} (xs : List A) (i : ℕ) (x y : A) → slice_set (slice_set xs i x) i y ≡ slice_set xs i y
+set-again [] i x y = refl
+set-again (z ∷ zs) zero x y = refl
+set-again (z ∷ zs) (suc i) x y = ap (λ vs. z ∷ vs) (set-again zs i x y)
+
+-- the run after a Turn and an Enter, and what the Enter came to
+pub record IsSettledBoth (w : World) (tasks : List Task) (s' : Shared) (pid n : ℕ) (outcome : Outcome) : Type 0 where
+  pub mirrors : Mirrors (happens (happens w (Turn pid n)) (Enter pid)) tasks s'
+  pub outcome_is : outcome ≡ outcome_of (step (happens w (Turn pid n)).sync (Enter pid)).entry.item
+
+pub both-mirrors : (w : World) (tasks : List Task) (s s' : Shared) (pid place n q : ℕ) (m : State) (t u : Task) (outcome : Outcome)
+    → Mirrors w tasks s → pid ≡ place + 1 → slice_get tasks place ≡ Some t → t.out ≡ Some q → m ≡ (run n t.machine).state → m.count < 2 ^ 40
+    → is_some (stands_at m) ≡ true
+    → IsTurnEntered pid m t u s s' outcome → IsSettledBoth w (slice_set tasks place u) s' pid n outcome
+both-mirrors w tasks s s' pid place n q m t u outcome h number there out reached few stands e =
+    let s1 : Shared = record s { dependencies = record { marks = e.marks; room = 0 } } in
+    let w1 : World = happens w (Turn pid n) in
+    let tasks1 : List Task = slice_set tasks place e.middle in
+    let h1 : Mirrors w1 tasks1 s1 =
+    back-mirrors w tasks s s1 pid place n q m t e.middle h number there out reached few e.back
+    (record { noted = e.turn; changes = refl; files = refl; screens = refl; disk = refl }) in
+    let there1 : slice_get tasks1 place ≡ Some e.middle = get-set-here tasks place e.middle (get-within tasks place t there) in
+    let fine : IsFineTask e.middle false = record {
+      running = e.back.end ∙ out-running w place t q (h.each.each place t there) out;
+      here = e.back.out;
+      stopped = ap (λ (x : State). is_some (stands_at x)) e.back.machine ∙ stands;
+      few = subst (λ (x : State). x.count < 2 ^ 40) (sym e.back.machine) few;
+      room = refl;
+    } in
+    let plans : PlansEnter s.files e.middle.machine e.middle.descriptors e.entering.plan =
+    subst (λ (x : State). PlansEnter s.files x e.middle.descriptors e.entering.plan) (sym e.back.machine)
+    (subst (λ (ds : List (Option Descriptor)). PlansEnter s.files m ds e.entering.plan) (sym e.back.descriptors) e.plans.plan) in
+    let log : w1.log ≡ w.log ++ own_entry pid ∷ [] = ap (λ (x : World). x.log) (back-happens w tasks s pid place n q t h number there out) in
+    let mark : IsMarkOf e.entering.mark w1.log (entry_of pid e.entering.plan) =
+    subst (λ (l : List Entry). IsMarkOf e.entering.mark l (entry_of pid e.entering.plan)) (sym log)
+    (mark-later e.entering.mark w.log pid e.entering.plan (entering-mark w tasks s pid m t.descriptors e.entering h e.plans)) in
+    let done : IsEntered e.entering s1 s' = record { kept = e.kept; changes = e.changes; files = e.files; disk = e.disk; screens = e.screens } in
+    record {
+      mirrors =
+          subst (λ (ts : List Task). Mirrors (happens w1 (Enter pid)) ts s') (set-again tasks place e.middle u)
+          (entered-at w1 tasks1 s1 s' pid place false e.middle u e.entering h1 number there1 fine plans e.plans.writes mark e.told done);
+      outcome_is =
+          e.outcome_is
+          ∙ sym (ap (λ (o : Option Item). outcome_of o) (entered-item w1 tasks1 s1 pid place false e.middle e.entering.plan h1 number there1 fine plans));
+    }

@@ -1,0 +1,26 @@
+-- A core at boot.
+use Rattle.std.proofs.Common.{◌≡◌, ap, sym, subst, ◌∙◌, List, [], length}
+use Rattle.disk_model.specs.Runs.{begun as storage_at}
+use Rattle.kernel_model.specs.declared.event.Event.{Event}
+use Rattle.kernel.specs.Cores.{IsCore}
+use Rattle.kernel.specs.First.{AreFirst, AreEmpty}
+use Rattle.kernel.specs.declared.boot.Booted.{Booted}
+use Rattle.kernel.specs.declared.boot.Program.{Program}
+use Rattle.kernel.specs.declared.shared.Shared.{Shared}
+use Rattle.kernel.proofs.Beginning.{first-core, lendings-first}
+use Rattle.kernel.proofs.boot.Core.boot.Goals as goal
+
+pub invariant_of-result : goal.invariant_of-result
+invariant_of-result c =
+    let b : Booted = record { programs = c.args.programs; tapes = c.args.tapes; disk = c.in_ok-bytes.bytes } in
+    let s : Shared = record { dependencies = c.new.result; changes = c.new-2.result; files = c.new-3.result; screens = c.in_ok-screens.screens; disk = c.new-4.result } in
+    subst (λ (es : List Event). IsCore b es c.in_ok-tasks.tasks.items s) (sym c.new-5.ensures.items)
+    (first-core b c.in_ok-tasks.tasks.items s
+    (subst (λ (ps : List Program). AreFirst ps c.in_ok-tasks.tasks.items) c.deref.ensures.value c.in_ok-tasks.ensures)
+    c.in_ok-screens.ensures
+    c.new.ensures c.new-2.ensures.items c.new-3.ensures
+    (c.new-4.ensures ∙ ap (λ (d : List _). storage_at d 64) (sym (c.in_ok-bytes.ensures ∙ c.bytes.ensures.bytes))))
+
+pub returns-clause-lendings : goal.returns-clause-lendings
+returns-clause-lendings c = lendings-first c.args.programs.items c.in_ok-tasks.tasks.items
+    (subst (λ (ps : List Program). AreFirst ps c.in_ok-tasks.tasks.items) c.deref.ensures.value c.in_ok-tasks.ensures)

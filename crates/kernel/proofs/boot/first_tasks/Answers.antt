@@ -1,0 +1,38 @@
+-- One task more, and in the end all.
+use Rattle.std.proofs.Common.{◌≡◌, ℕ, ◌+◌, ◌-◌, ◌∷◌, [], List, ap, sym, subst, ◌∙◌, arith, slice_get, Some, None, replicate, length, Option}
+use Rattle.kernel_model.specs.declared.descriptor.Descriptor.{Descriptor}
+use Rattle.kernel_model.specs.declared.descriptor.Descriptor.TheVariants.{Tape, Terminal}
+use Rattle.kernel.specs.declared.boot.Program.{Program}
+use Rattle.kernel.specs.declared.task.Task.{Task}
+use Rattle.kernel.specs.First.{IsFirst, AreFirst}
+use Rattle.kernel.proofs.Lists.{get-there}
+use Rattle.kernel.proofs.Beginning.{FirstSo, first-none, first-more}
+use Rattle.kernel.proofs.boot.first_tasks.Goals as goal
+
+pub loop-place-init : goal.loop-place-init
+loop-place-init c = subst (λ (ts : List Task). FirstSo c.args.programs.now ts 0) (sym c.new-tasks.ensures.items) (first-none c.args.programs.now)
+
+pub loop-place-preserved : goal.loop-place-preserved
+loop-place-preserved c =
+    let p : Program = c.index-programs-place.result in
+    let there : slice_get c.args.programs.now c.loop-place.place ≡ Some p =
+    get-there c.args.programs.now c.loop-place.place p c.loop-place-test.true c.index-programs-place.is in
+    let back : c.loop-place.place + 1 - 1 ≡ c.loop-place.place = omega arith in
+    first-more c.args.programs.now c.loop-place.tasks.items c.push.new.self.items c.loop-place.place p c.new-task.result c.loop-place.invariant there
+    (record {
+      number = c.new-task.ensures.pid;
+      machine = c.new-task.ensures.machine ∙ c.in_ok-machine.ensures;
+      descriptors = c.new-task.ensures.descriptors ∙ ap (λ n. Some (Tape n) ∷ Some (Terminal p.terminal) ∷ replicate 14 None) back;
+      replies = c.new-task.ensures.replies;
+      marks = c.new-task.ensures.marks;
+      handed = c.new-task.ensures.handed;
+      end = c.new-task.ensures.end;
+      loans = c.new-task.ensures.loans;
+      out = c.new-task.ensures.out;
+    })
+    c.in_ok-push.ensures.items
+
+pub returns : goal.returns
+returns c =
+    let all = c.loop-place.invariant in
+    record { count = all.count ∙ omega arith; each = all.each }

@@ -1,0 +1,25 @@
+-- One screen more has advanced, and in the end all.
+use Rattle.std.proofs.Common.{◌≡◌, ◌<◌, arith, length, sym, ap, ◌∙◌, subst, slice_get, Some, get_or}
+use Rattle.kernel.specs.Advanced.{IsAdvanced}
+use Rattle.kernel.specs.declared.screen.Screen.{Screen}
+use Rattle.kernel.proofs.Lists.{get-index}
+use Rattle.kernel.proofs.Moving.{moved-none, moved-one, moved-all}
+use Rattle.kernel.proofs.storing.show_all.Goals as goal
+
+pub loop-screen-init : goal.loop-screen-init
+loop-screen-init c = moved-none (IsAdvanced c.args.committed) c.args.screens.now
+
+pub loop-screen-preserved : goal.loop-screen-preserved
+loop-screen-preserved c =
+    let x : Screen = get_or c.loop-screen.screens c.loop-screen.screen-index c.screen-item.result in
+    let within : c.loop-screen.screen-index < length c.loop-screen.screens = omega arith in
+    moved-one (IsAdvanced c.args.committed) c.args.screens.now c.loop-screen.screens c.loop-screen.screen-index x c.advance.new.self
+    (get-index c.loop-screen.screens c.loop-screen.screen-index c.screen-item.result within)
+    (record { bytes = ap (λ v. v.items) c.advance.ensures.bytes; marks = ap (λ v. v.items) c.advance.ensures.marks; shown = c.advance.ensures.shown })
+    c.loop-screen.invariant
+
+pub returns : goal.returns
+returns c = record {
+  count = c.loop-screen.auto.screens;
+  each = moved-all (IsAdvanced c.args.committed) c.args.screens.now c.loop-screen.screens c.loop-screen.screen-index (omega arith) c.loop-screen.invariant;
+}

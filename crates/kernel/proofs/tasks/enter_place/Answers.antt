@@ -1,0 +1,22 @@
+-- The refusal is that of the task at the process's place.
+use Rattle.std.proofs.Common.{◌≡◌, ◌<◌, sym, ap, ◌∙◌, arith, Some, None, is_some, Option, length, slice_get, subst, ◌^◌, ◌+◌, ◌≤◌}
+use Rattle.kernel_model.specs.Answers.{turn_refusal}
+use Rattle.kernel.specs.Tasks.{process_of}
+use Rattle.kernel.specs.declared.task.Task.{Task}
+use Rattle.kernel.proofs.Lists.{get-there}
+use Rattle.kernel.proofs.Turning.{enter-place}
+use Rattle.kernel.proofs.tasks.enter_place.Goals as goal
+
+pub returns-in-Some-enter_refused-clause-refused : goal.returns-in-Some-enter_refused-clause-refused
+returns-in-Some-enter_refused-clause-refused c =
+    let t : Task = c.index-tasks-place.result in
+    let there : slice_get c.args.tasks.now c.in-Some.place ≡ Some t = get-there c.args.tasks.now c.in-Some.place t c.in-Some.ensures.there c.index-tasks-place.is in
+    enter-place c.args.tasks.now c.args.full c.args.pid c.in-Some.place t c.in-Some.ensures there
+    ∙ sym c.in-Some-enter_refused.ensures
+
+pub returns-in-None-clause-fine : goal.returns-in-None-clause-fine
+returns-in-None-clause-fine c =
+    let t : Task = c.index-tasks-place.result in
+    let there : slice_get c.args.tasks.now c.in-Some.place ≡ Some t = get-there c.args.tasks.now c.in-Some.place t c.in-Some.ensures.there c.index-tasks-place.is in
+    enter-place c.args.tasks.now c.args.full c.args.pid c.in-Some.place t c.in-Some.ensures there
+    ∙ sym c.in-None.ensures

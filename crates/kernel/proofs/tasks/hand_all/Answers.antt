@@ -1,0 +1,35 @@
+-- One task more has moved on, and in the end all.
+use Rattle.std.proofs.Common.{◌≡◌, ◌<◌, arith, length, sym, ap, ◌∙◌, subst, slice_get, Some, get_or, refl}
+use Rattle.kernel.specs.Advanced.{IsMoved}
+use Rattle.kernel.specs.declared.task.Task.{Task}
+use Rattle.kernel.proofs.Lists.{get-index}
+use Rattle.kernel.proofs.Moving.{moved-none, moved-one, moved-all}
+use Rattle.kernel.proofs.tasks.hand_all.Goals as goal
+
+pub loop-task-init : goal.loop-task-init
+loop-task-init c = moved-none (IsMoved c.args.committed) c.args.tasks.now
+
+pub loop-task-preserved : goal.loop-task-preserved
+loop-task-preserved c =
+    let x : Task = get_or c.loop-task.tasks c.loop-task.task-index c.task-item.result in
+    let within : c.loop-task.task-index < length c.loop-task.tasks = omega arith in
+    moved-one (IsMoved c.args.committed) c.args.tasks.now c.loop-task.tasks c.loop-task.task-index x (record x { trace = c.advance.new.self })
+    (get-index c.loop-task.tasks c.loop-task.task-index c.task-item.result within)
+    (record {
+      number = refl;
+      machine = refl;
+      descriptors = refl;
+      loans = refl;
+      out = refl;
+      replies = ap (λ v. v.items) c.advance.ensures.replies;
+      marks = ap (λ v. v.items) c.advance.ensures.marks;
+      end = c.advance.ensures.end;
+      handed = c.advance.ensures.handed;
+    })
+    c.loop-task.invariant
+
+pub returns : goal.returns
+returns c = record {
+  count = c.loop-task.auto.tasks;
+  each = moved-all (IsMoved c.args.committed) c.args.tasks.now c.loop-task.tasks c.loop-task.task-index (omega arith) c.loop-task.invariant;
+}

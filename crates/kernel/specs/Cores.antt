@@ -1,0 +1,28 @@
+-- What a core stands for, and what its parts keep.
+use Rattle.std.specs.Prelude.{ℕ, ◌+◌, ◌*◌, ◌^◌, ◌≤◌, List, length, map}
+use Rattle.kernel_model.specs.World.{Boot, World, begun, after}
+use Rattle.kernel_model.specs.Answers.{Kernel}
+use Rattle.kernel_model.specs.declared.event.Event.{Event}
+use Rattle.kernel.specs.Booting.{boot_with}
+use Rattle.kernel.specs.Tasks.{lending_of, count_out}
+use Rattle.kernel.specs.Mirrors.{Mirrors}
+use Rattle.kernel.specs.declared.boot.Booted.{Booted}
+use Rattle.kernel.specs.declared.shared.Shared.{Shared}
+use Rattle.kernel.specs.declared.task.Task.{Task}
+
+-- what a core was booted from
+abbrev pub boot_of : Booted → Boot
+boot_of b = boot_with b.programs.items b.tapes.items b.disk
+
+-- the run of a core
+abbrev pub run_of : Booted → List Event → World
+run_of b history = after (begun (boot_of b)) history
+
+-- what a core is to its callers
+abbrev pub kernel_of : Booted → List Event → List Task → ℕ → Kernel
+kernel_of b history tasks last_lent = record { boot = boot_of b; history = history; lendings = map lending_of tasks; last_lent = last_lent }
+
+-- the parts keep what the run says, and the history has room for two events of each loan that is out
+pub record IsCore (b : Booted) (history : List Event) (tasks : List Task) (shared : Shared) : Type 0 where
+  pub mirrors : Mirrors (run_of b history) tasks shared
+  pub room : length history + 2 * count_out tasks ≤ 2 ^ 40

@@ -1,0 +1,47 @@
+-- Which process is lent next, and what a loan does to its task.
+use Rattle.std.specs.Prelude.{◌≡◌, ℕ, ◌+◌, ◌-◌, ◌*◌, ◌^◌, ◌&&◌, not, nat_lt, nat_le, Bool, true, List, take, drop, Option, Some, None, is_some, MatchOption, position, slice_get, slice_set}
+use Rattle.kernel.specs.Tasks.{status_of, count_out}
+use Rattle.kernel.specs.declared.loan.Loan.{Loan}
+use Rattle.kernel.specs.declared.task.Task.{Task}
+
+-- a history of this length has no room for the two events of one more loan
+abbrev pub full_for_loan_of : ℕ → List Task → Bool
+full_for_loan_of events tasks = nat_lt (2 ^ 40 - 2) (events + 2 * count_out tasks)
+
+-- the task has not ended, is not out, and has room for a quantum and one more instruction
+abbrev pub is_fit : ℕ → Task → Bool
+is_fit quantum t = not (is_some (status_of t.trace.end)) && not (is_some t.out) && nat_le (t.machine.count + quantum + 1) (2 ^ 40)
+
+-- a place among those from `behind` on, or else one before them
+abbrev pub place_among : ℕ → Option ℕ → Option ℕ → Option ℕ
+place_among behind (Some place) before = Some (behind + place)
+place_among behind None before = before
+
+-- the place of the first task that fits behind so many tasks, and round again
+abbrev pub next_fit : ℕ → ℕ → List Task → Option ℕ
+next_fit quantum behind tasks = place_among behind (position (is_fit quantum) (drop behind tasks)) (position (is_fit quantum) (take behind tasks))
+
+-- the task once it is lent for a quantum
+abbrev pub lent_task : ℕ → Task → Task
+lent_task quantum t = record t { loans = t.loans + 1; out = Some quantum }
+
+-- the loan is one of this task, for a quantum
+pub record IsLoanOf (n : ℕ) (t : Task) (loan : Loan) : Type 0 where
+  pub process : loan.pid ≡ t.pid
+  pub turn : loan.turn ≡ t.loans + 1
+  pub quantum : loan.quantum ≡ n
+  pub began : loan.began ≡ t.machine
+
+-- the next task was lent
+pub record Lent (quantum behind : ℕ) (old new : List Task) (loan : Loan) : Type 0 where
+  pub place : ℕ
+  pub task : Task
+  pub next : next_fit quantum behind old ≡ Some place
+  pub there : slice_get old place ≡ Some task
+  pub fit : is_fit quantum task ≡ true
+  pub given : IsLoanOf quantum task loan
+  pub after : new ≡ slice_set old place (lent_task quantum task)
+
+-- the next task was lent, or none was where none fits
+abbrev pub LendsNext : ℕ → ℕ → List Task → List Task → Option Loan → Type 0
+LendsNext quantum behind old new given = MatchOption given ((next_fit quantum behind old ≡ None) × (new ≡ old)) (λ loan. Lent quantum behind old new loan)

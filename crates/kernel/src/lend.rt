@@ -1,0 +1,127 @@
+//! Machines lent out.
+ghost use Rattle.std.specs.Prelude.{◌≡◌, ◌+◌, ◌*◌, ◌^◌, ◌≤◌, take, drop, position, true, IfOk, IfErr, OnErr};
+ghost use Rattle.kernel_model.specs.Loans.{Lends};
+ghost use Rattle.kernel_model.specs.declared.answer.Refused.TheVariants.{OutOfMemory};
+ghost use Rattle.kernel.specs.Lending.{full_for_loan_of, is_fit, next_fit, lent_task, IsLoanOf, LendsNext};
+ghost use Rattle.kernel.specs.Loaned.{lent_out};
+ghost use Rattle.kernel.specs.Tasks.{count_out};
+
+use crate::boot::Core;
+use crate::loan::Loan;
+use crate::task::{LIMIT, Task};
+use crate::tasks::count_out;
+use kernel_model::Refused;
+use std::alloc::Global;
+
+/// Whether a history of so many events has no room for the two events of one more loan.
+fn is_full_for_loan(events: usize, tasks: &[Task]) -> bool
+    requires { events + 2 * count_out tasks.now ≤ 2 ^ 40 }
+    ensures { result ≡ full_for_loan_of events tasks.now }
+{
+    events as u64 + 2 * count_out(tasks) as u64 > LIMIT - 2
+}
+
+/// Whether a process may be lent for a quantum of instructions, and one more. No process has to wait, since no call waits.
+fn is_lendable(task: &Task, quantum: u32) -> bool
+    ensures { result ≡ is_fit quantum task.now }
+{
+    let count = task.machine.count();
+    task.trace.end.is_none()
+        && task.out.is_none()
+        && count < LIMIT
+        && count + u64::from(quantum) < LIMIT
+}
+
+/// The first process that may be lent behind the first so many, by its distance from them.
+fn first_lendable_behind(tasks: &[Task], behind: usize, quantum: u32) -> Option<usize>
+    ensures { result ≡ position (is_fit quantum) (drop behind tasks.now) }
+{
+    tasks
+        .iter()
+        .skip(behind)
+        .position(|task| is_lendable(task, quantum))
+}
+
+/// The place of the first process that may be lent among the first so many.
+fn first_lendable_of(tasks: &[Task], count: usize, quantum: u32) -> Option<usize>
+    ensures { result ≡ position (is_fit quantum) (take count tasks.now) }
+{
+    tasks
+        .iter()
+        .take(count)
+        .position(|task| is_lendable(task, quantum))
+}
+
+/// The place of the next process that may be lent behind the first so many, by rising place and round again.
+fn next_lendable(tasks: &[Task], behind: usize, quantum: u32) -> Option<usize>
+    ensures { result ≡ next_fit quantum behind tasks.now }
+{
+    match first_lendable_behind(tasks, behind, quantum) {
+        Some(further) => Some(behind + further),
+        None => first_lendable_of(tasks, behind, quantum),
+    }
+}
+
+/// Lends a process: a copy of its machine to run, and one to tell from which state. Where memory runs out nothing has
+/// changed; a count of loans that no u64 holds, for which no history has room, is told as that.
+fn lend_task(alloc: Global, task: &mut Task, quantum: u32) -> Result<Loan, Refused>
+    requires { is_fit quantum task.old ≡ true }
+    ensures loan { IfOk result (λ loan. IsLoanOf quantum task.old loan) }
+    ensures task { IfOk result (λ loan. task.new ≡ lent_task quantum task.old) }
+    ensures cause { IfErr result (λ why. why ≡ OutOfMemory) }
+    ensures same { OnErr result (task.new ≡ task.old) }
+{
+    let Some(turn) = task.loans.checked_add(1) else {
+        return Err(Refused::OutOfMemory);
+    };
+    let began = task.machine.try_clone(alloc)?;
+    let machine = task.machine.try_clone(alloc)?;
+    task.loans = turn;
+    task.out = Some(quantum);
+    Ok(Loan {
+        pid: task.pid,
+        turn,
+        quantum,
+        began,
+        machine,
+    })
+}
+
+/// Lends the next process that may be lent behind the first so many, if there is one. Where memory runs out nothing has
+/// changed.
+fn lend_next(
+    alloc: Global,
+    tasks: &mut [Task],
+    behind: usize,
+    quantum: u32,
+) -> Result<Option<Loan>, Refused>
+    ensures done { IfOk result (λ given. LendsNext quantum behind tasks.old tasks.new given) }
+    ensures cause { IfErr result (λ why. why ≡ OutOfMemory) }
+    ensures same { OnErr result (tasks.new ≡ tasks.old) }
+{
+    let Some(place) = next_lendable(tasks, behind, quantum) else {
+        return Ok(None);
+    };
+    let loan = lend_task(alloc, &mut tasks[place], quantum)?;
+    Ok(Some(loan))
+}
+
+impl Core {
+    /// Lends the first lendable process after the one last lent, by rising number and round again, to run at most a
+    /// quantum of instructions. A process is lendable where it has not ended, is not lent, does not wait, and has room for
+    /// quantum + 1 more instructions. None where there is none. Refused: Budget, where the history has no room for the two
+    /// events of one more loan; OutOfMemory. Nothing joins the history.
+    pub fn lend(&mut self, quantum: u32) -> Result<Option<Loan>, Refused>
+        ensures { Lends self.old quantum self.new (lent_out result) }
+    {
+        if is_full_for_loan(self.history.len(), &self.tasks) {
+            return Err(Refused::Budget);
+        }
+        let behind = self.last_lent as usize;
+        let Some(loan) = lend_next(self.alloc, &mut self.tasks, behind, quantum)? else {
+            return Ok(None);
+        };
+        self.last_lent = loan.pid;
+        Ok(Some(loan))
+    }
+}

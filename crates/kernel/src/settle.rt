@@ -1,0 +1,223 @@
+//! Loans' results taken back.
+ghost use Rattle.std.specs.Prelude.{ℕ, ◌≡◌, ◌≢◌, ◌+◌, ◌<◌, ◌≤◌, ◌^◌, ◌++◌, ◌∷◌, [], ◌↔◌, IsTrue, List, length, vec_len, vec_capacity, Some, None, IfOk, IfErr, OnOk, OnErr};
+ghost use Rattle.machine_model.specs.States.{stands_at};
+ghost use Rattle.calls.specs.Plans.{NamesFiles};
+ghost use Rattle.commit_deps.specs.Keeps.{Keeps};
+ghost use Rattle.kernel_model.specs.Entries.{Entry};
+ghost use Rattle.kernel_model.specs.Loans.{IsOfLoan, settled, settled_answer};
+ghost use Rattle.kernel_model.specs.Steps.{own_entry};
+ghost use Rattle.kernel_model.specs.declared.answer.Refused.TheVariants.{Stranger, OutOfMemory};
+ghost use Rattle.kernel_model.specs.declared.answer.Outcome.{Outcome};
+ghost use Rattle.kernel.specs.Entering.{IsEntering, IsSameTask, IsSameShared, HasRoom};
+ghost use Rattle.kernel.specs.Loaned.{loan_result};
+ghost use Rattle.kernel.specs.Settling.{IsLoanOf, IsBack, IsOwnNoted, IsTurnNoted, IsReadied, IsTurnEntered};
+
+use crate::boot::Core;
+use crate::enter::{finish, ready};
+use crate::loan::{Done, Rejected};
+use crate::plan::{Entering, prepare};
+use crate::shared::Shared;
+use crate::task::Task;
+use crate::tasks::place_of;
+use crate::turn::reserve;
+use commit_deps::{Carrier, Dependencies};
+use kernel_model::{Answer, Event, Refused};
+use machine::Machine;
+use machine_model::Stop;
+use std::alloc::Global;
+
+/// Whether a result is of the loan that the process is out on.
+fn is_of_loan(task: &Task, done: &Done) -> bool
+    ensures { IsTrue result ↔ IsLoanOf task.now done.now }
+{
+    task.out == Some(done.quantum) && task.loans == done.turn && task.machine.is_same(&done.began)
+}
+
+/// The process is back, with the machine that it was lent by.
+fn come_back(task: &mut Task, machine: Machine)
+    ensures back { IsBack machine task.old task.new }
+    ensures room { HasRoom task.old.trace → HasRoom task.new.trace }
+{
+    task.machine = machine;
+    task.out = None;
+}
+
+/// Notes the Turn of a process. Takes no memory.
+fn note_turn(dependencies: &mut Dependencies, pid: u32)
+    requires { 1 ≤ dependencies.old.room }
+    ensures noted { IsOwnNoted pid dependencies.old.marks dependencies.new.marks }
+    ensures room { dependencies.old.room ≤ dependencies.new.room + 1 }
+{
+    let own = [Carrier::Proc(pid)];
+    let mark = dependencies.mark(&own, None);
+    dependencies.note(&own, mark);
+}
+
+/// Takes all memory for a result's Turn and its Enter, and does what the Enter changes outside its process. Where memory
+/// runs out nothing has changed.
+fn prepare_enter(
+    alloc: Global,
+    history: &mut Vec<Event>,
+    task: &mut Task,
+    shared: &mut Shared,
+    done: &Done,
+    stop: Stop,
+) -> Result<Entering, Refused>
+    requires stands { stands_at done.now.machine ≡ Some stop }
+    requires files { length shared.old.files ≤ 32 }
+    requires named { NamesFiles (length shared.old.files) task.old.descriptors }
+    ensures history { history.new.items ≡ history.old.items }
+    ensures events { OnOk result (vec_len history.new + 2 ≤ vec_capacity history.new) }
+    ensures replies { OnOk result (HasRoom task.new.trace) }
+    ensures task { IsSameTask task.old task.new }
+    ensures writes { IfOk result (λ e. length e.writes.items + 1 ≤ shared.new.dependencies.room) }
+    ensures changes { OnOk result (vec_len shared.new.changes < vec_capacity shared.new.changes) }
+    ensures entering { IfOk result (λ e. IsEntering shared.old.dependencies.marks (length shared.old.changes.items) shared.old.files
+        done.now.pid done.now.machine task.old.descriptors e) }
+    ensures done { IfOk result (λ e. IsReadied e shared.old shared.new) }
+    ensures err { OnErr result (IsSameShared shared.old shared.new) }
+    ensures cause { IfErr result (λ why. why ≡ OutOfMemory) }
+{
+    let entering = prepare(
+        alloc,
+        done.pid,
+        stop,
+        &done.machine,
+        &task.descriptors,
+        shared,
+    )?;
+    reserve(
+        history,
+        &mut shared.dependencies,
+        2,
+        entering.writes.len() + 1,
+    )?;
+    ready(task, shared, &entering)?;
+    Ok(entering)
+}
+
+/// Takes a result back whose machine stands nowhere: it becomes a Turn.
+fn settle_turn(
+    history: &mut Vec<Event>,
+    task: &mut Task,
+    shared: &mut Shared,
+    done: Done,
+) -> Result<Answer, Rejected>
+    ensures task { OnOk result (IsBack done.machine task.old task.new) }
+    ensures shared { OnOk result (IsTurnNoted done.pid shared.old shared.new) }
+    ensures history { OnOk result (history.new.items ≡ history.old.items ++ Event.Turn done.pid done.count ∷ []) }
+    ensures answer { IfOk result (λ a. a ≡ Answer.Settled done.count done.stop None) }
+    ensures same_task { OnErr result (task.new ≡ task.old) }
+    ensures same_shared { OnErr result (IsSameShared shared.old shared.new) }
+    ensures same_history { OnErr result (history.new.items ≡ history.old.items) }
+    ensures cause { IfErr result (λ r. r.why ≡ OutOfMemory) }
+    ensures back { IfErr result (λ r. r.done ≡ done) }
+{
+    if reserve(history, &mut shared.dependencies, 1, 1).is_err() {
+        return Err(Rejected {
+            why: Refused::OutOfMemory,
+            done,
+        });
+    }
+    let Done {
+        pid,
+        machine,
+        count,
+        stop,
+        ..
+    } = done;
+    note_turn(&mut shared.dependencies, pid);
+    come_back(task, machine);
+    history.push(Event::Turn { pid, n: count }).unwrap();
+    Ok(Answer::Settled {
+        count,
+        stop,
+        outcome: None,
+    })
+}
+
+/// Takes a result back whose machine stands here: it becomes a Turn and an Enter.
+fn settle_enter(
+    alloc: Global,
+    history: &mut Vec<Event>,
+    task: &mut Task,
+    shared: &mut Shared,
+    done: Done,
+    at: Stop,
+) -> Result<Answer, Rejected>
+    requires stands { stands_at done.machine ≡ Some at }
+    requires files { length shared.old.files ≤ 32 }
+    requires named { NamesFiles (length shared.old.files) task.old.descriptors }
+    ensures done { IfOk result (λ a. (o : Outcome) × (a ≡ Answer.Settled done.count done.stop (Some o))
+        × IsTurnEntered done.pid done.machine task.old task.new shared.old shared.new o) }
+    ensures history { OnOk result (history.new.items ≡ history.old.items ++ Event.Turn done.pid done.count ∷ Event.Enter done.pid ∷ []) }
+    ensures same_task { OnErr result (IsSameTask task.old task.new) }
+    ensures same_shared { OnErr result (IsSameShared shared.old shared.new) }
+    ensures same_history { OnErr result (history.new.items ≡ history.old.items) }
+    ensures cause { IfErr result (λ r. r.why ≡ OutOfMemory) }
+    ensures back { IfErr result (λ r. r.done ≡ done) }
+{
+    let Ok(entering) = prepare_enter(alloc, history, task, shared, &done, at) else {
+        return Err(Rejected {
+            why: Refused::OutOfMemory,
+            done,
+        });
+    };
+    let Done {
+        pid,
+        machine,
+        count,
+        stop,
+        ..
+    } = done;
+    note_turn(&mut shared.dependencies, pid);
+    come_back(task, machine);
+    let outcome = finish(task, shared, entering);
+    history.push(Event::Turn { pid, n: count }).unwrap();
+    history.push(Event::Enter { pid }).unwrap();
+    Ok(Answer::Settled {
+        count,
+        stop,
+        outcome: Some(outcome),
+    })
+}
+
+impl Core {
+    /// Takes a loan's result back: it becomes a Turn of its instructions and, where the state reached stands at a call or
+    /// a trap, an Enter. Refused, with the result: Stranger, exactly where it is not of the loan that its process is out
+    /// on (the process is not lent, or the turn, the quantum or the state from which it began differs); OutOfMemory.
+    pub fn settle(&mut self, done: Done) -> Result<Answer, Rejected>
+        ensures own { OnOk result (IsOfLoan self.old (loan_result done)) }
+        ensures events { OnOk result (self.new ≡ settled self.old (loan_result done)) }
+        ensures answer { IfOk result (λ a. a ≡ settled_answer self.old (loan_result done)) }
+        ensures stranger { IfErr result (λ r. r.why ≡ Stranger → ¬ (IsOfLoan self.old (loan_result done))) }
+        ensures own_only { IfErr result (λ r. r.why ≢ Stranger → (r.why ≡ OutOfMemory) × IsOfLoan self.old (loan_result done)) }
+        ensures back { IfErr result (λ r. r.done ≡ done) }
+        ensures err { OnErr result (self.new ≡ self.old) }
+    {
+        let Some(place) = place_of(&self.tasks, done.pid) else {
+            return Err(Rejected {
+                why: Refused::Stranger,
+                done,
+            });
+        };
+        let task = &mut self.tasks[place];
+        if !is_of_loan(task, &done) {
+            return Err(Rejected {
+                why: Refused::Stranger,
+                done,
+            });
+        }
+        match done.machine.stopped() {
+            None => settle_turn(&mut self.history, task, &mut self.shared, done),
+            Some(at) => settle_enter(
+                self.alloc,
+                &mut self.history,
+                task,
+                &mut self.shared,
+                done,
+                at,
+            ),
+        }
+    }
+}

@@ -1,0 +1,223 @@
+-- Turns tell nothing: what is seen outside is the same without them.
+use Rattle.std.proofs.Common.{◌≡◌, ℕ, ◌+◌, ◌==◌, inl, inr, ◌||◌, ◌&&◌, not, nat_lt, Bool, true, false, if◌then◌else◌, List, [], ◌∷◌, ◌++◌, map, Option, Some, None, is_some, option_to_list, refl, sym, ap, subst, ◌∙◌, add-zero}
+use Rattle.std.specs.List.{list_any}
+use Rattle.std.proofs.lemmas.Bool.{eqb-true, eq-eqb, false≢true, and_parts, or_cases}
+use Rattle.disk_model.specs.declared.change.Change.{Change}
+use Rattle.kernel_model.specs.declared.carrier.Carrier.{Carrier}
+use Rattle.kernel_model.specs.declared.carrier.Carrier.TheVariants.{Proc, File, Names, Pipe, Pipes, Tasks, Tape}
+use Rattle.kernel_model.specs.Entries.{Entry, Item, meets, is_same}
+use Rattle.kernel_model.specs.Paths.{wanted, is_settled_from, is_settled, change_count, changes_of, with_change}
+use Rattle.kernel_model.specs.Steps.{own_entry}
+use Rattle.kernel_model.specs.Shown.{Given, given_by, each_from, front, released, printed, bytes_for, told, items_for}
+use Rattle.kernel_model.proofs.Meets.{meets-append}
+use Rattle.kernel_model.proofs.Runs.{append-nil}
+
+-- a process's own carrier, and nothing else
+abbrev pub only_own : List Carrier → List Carrier → Bool
+only_own (Proc p ∷ []) (Proc q ∷ []) = p == q
+only_own _ _ = false
+
+-- it touched disk_entry but its own_entry process
+abbrev pub is_quiet : Entry → Bool
+is_quiet d = not (is_some d.change) && (not (is_some d.output) && (not (is_some d.item) && only_own d.reads d.writes))
+
+abbrev pub telling : List Entry → List Entry
+telling [] = []
+telling (d ∷ ds) = if is_quiet d then telling ds else d ∷ telling ds
+
+pub own_quiet : (p : ℕ) → is_quiet (own_entry p) ≡ true
+own_quiet p = eq-eqb p p refl
+
+pub telling_quiet : (d : Entry) (ds : List Entry) → is_quiet d ≡ true → telling (d ∷ ds) ≡ telling ds
+telling_quiet d ds h = rw h refl
+
+pub telling_loud : (d : Entry) (ds : List Entry) → is_quiet d ≡ false → telling (d ∷ ds) ≡ d ∷ telling ds
+telling_loud d ds h = rw h refl
+
+pub if_append : (b : Bool) (d : Entry) (xs ys : List Entry) → (if b then xs ++ ys else d ∷ (xs ++ ys)) ≡ (if b then xs else d ∷ xs) ++ ys
+if_append true d xs ys = refl
+if_append false d xs ys = refl
+
+pub telling-append : (xs ys : List Entry) → telling (xs ++ ys) ≡ telling xs ++ telling ys
+telling-append [] ys = refl
+telling-append (x ∷ xs) ys = ap (λ zs. if is_quiet x then zs else x ∷ zs) (telling-append xs ys) ∙ if_append (is_quiet x) x (telling xs) (telling ys)
+
+-- what is known of a quiet one
+is_none_of : {A : Type 0} (o : Option A) → not (is_some o) ≡ true → o ≡ None
+is_none_of None h = refl
+is_none_of (Some x) h = absurd (false≢true h)
+
+pub record Quiet (d : Entry) : Type 0 where
+  pub change : d.change ≡ None
+  pub output : d.output ≡ None
+  pub item : d.item ≡ None
+  pub carriers : (p : ℕ) × (d.reads ≡ Proc p ∷ []) × (d.writes ≡ Proc p ∷ [])
+
+own_carriers : (rs ws : List Carrier) → only_own rs ws ≡ true → (p : ℕ) × (rs ≡ Proc p ∷ []) × (ws ≡ Proc p ∷ [])
+own_carriers (Proc p ∷ []) (Proc q ∷ []) h = (p, refl, ap (λ n. Proc n ∷ []) (sym (eqb-true p q h)))
+own_carriers _ _ h = absurd (false≢true h)
+
+pub quiet_of : (d : Entry) → is_quiet d ≡ true → Quiet d
+quiet_of d h =
+    let a = and_parts (not (is_some d.change)) _ h in
+    let b = and_parts (not (is_some d.output)) _ a.1 in
+    let e = and_parts (not (is_some d.item)) _ b.1 in
+    record {
+      change = is_none_of d.change a.0;
+      output = is_none_of d.output b.0;
+      item = is_none_of d.item e.0;
+      carriers = own_carriers d.reads d.writes e.1;
+    }
+
+-- the changes are the same
+pub changes_told : (ds : List Entry) → changes_of ds ≡ changes_of (telling ds)
+changes_told [] = refl
+changes_told (d ∷ ds) = elim (is_quiet d) as (λ b. is_quiet d ≡ b → changes_of (d ∷ ds) ≡ changes_of (if b then telling ds else d ∷ telling ds)) [
+  | true ↦ λ h. ap (λ o. with_change o (changes_of ds)) (quiet_of d h).change ∙ changes_told ds
+  | false ↦ λ h. ap (λ cs. with_change d.change cs) (changes_told ds)
+] refl
+
+-- lists that the same carriers meet
+abbrev pub SameMeets : List Carrier → List Carrier → Type 0
+SameMeets xs ys = (ws : List Carrier) → meets ws xs ≡ meets ws ys
+
+same_proc : (w : Carrier) (p : ℕ) → is_same w (Proc p) ≡ true → w ≡ Proc p
+same_proc (Proc a) p h = ap (λ n. Proc n) (eqb-true a p h)
+same_proc (File a) p h = absurd (false≢true h)
+same_proc Names p h = absurd (false≢true h)
+same_proc (Pipe a) p h = absurd (false≢true h)
+same_proc Pipes p h = absurd (false≢true h)
+same_proc Tasks p h = absurd (false≢true h)
+same_proc (Tape a) p h = absurd (false≢true h)
+
+or_true : (b : Bool) → (b || true) ≡ true
+or_true true = refl
+or_true false = refl
+
+or_false : (b : Bool) → (b || false) ≡ b
+or_false true = refl
+or_false false = refl
+
+-- who meets a process that is wanted meets what is wanted
+met_by : (ws : List Carrier) (p : ℕ) (xs : List Carrier) → meets ws (Proc p ∷ []) ≡ true → list_any (is_same (Proc p)) xs ≡ true → meets ws xs ≡ true
+met_by [] p xs h m = absurd (false≢true h)
+met_by (w ∷ ws) p xs h m = elim (or_cases (list_any (is_same w) (Proc p ∷ [])) (meets ws (Proc p ∷ [])) h) [
+  | inl t ↦ let is : w ≡ Proc p = same_proc w p (sym (or_false (is_same w (Proc p))) ∙ t) in
+      ap (λ b. b || meets ws xs) (subst (λ (v : Carrier). list_any (is_same v) xs ≡ true) (sym is) m)
+  | inr t ↦ ap (λ b. list_any (is_same w) xs || b) (met_by ws p xs t m) ∙ or_true (list_any (is_same w) xs)
+]
+
+absorbed : (b c : Bool) → (c ≡ true → b ≡ true) → (b || c) ≡ b
+absorbed true c f = refl
+absorbed false true f = absurd (false≢true (f refl))
+absorbed false false f = refl
+
+-- a quiet event adds disk_entry that isn't wanted
+quiet_adds : (xs : List Carrier) (p : ℕ) (b : Bool) → meets (Proc p ∷ []) xs ≡ b → SameMeets (if b then xs ++ Proc p ∷ [] else xs) xs
+quiet_adds xs p true h ws = meets-append ws xs (Proc p ∷ [])
+    ∙ absorbed (meets ws xs) (meets ws (Proc p ∷ [])) (λ m. met_by ws p xs m (sym (or_false (list_any (is_same (Proc p)) xs)) ∙ h))
+quiet_adds xs p false h ws = refl
+
+loud_adds : (xs ys rs : List Carrier) (b : Bool) → SameMeets xs ys → SameMeets (if b then xs ++ rs else xs) (if b then ys ++ rs else ys)
+loud_adds xs ys rs true same ws = meets-append ws xs rs ∙ ap (λ c. c || meets ws rs) (same ws) ∙ sym (meets-append ws ys rs)
+loud_adds xs ys rs false same ws = same ws
+
+quiet_wants : (d : Entry) (xs : List Carrier) → Quiet d → SameMeets (if meets d.writes xs then xs ++ d.reads else xs) xs
+quiet_wants d xs q =
+    let p = q.carriers.0 in
+    subst (λ (rs : List Carrier). SameMeets (if meets d.writes xs then xs ++ rs else xs) xs) (sym q.carriers.1)
+    (subst (λ (vs : List Carrier). SameMeets (if meets vs xs then xs ++ Proc p ∷ [] else xs) xs) (sym q.carriers.2)
+    (quiet_adds xs p (meets (Proc p ∷ []) xs) refl))
+
+pub wanted_told : (ds : List Entry) (rs : List Carrier) → SameMeets (wanted ds rs) (wanted (telling ds) rs)
+wanted_told [] rs ws = refl
+wanted_told (d ∷ ds) rs ws = elim (is_quiet d) as (λ b. is_quiet d ≡ b → meets ws (wanted (d ∷ ds) rs) ≡ meets ws (wanted (if b then telling ds else d ∷ telling ds) rs)) [
+  | true ↦ λ h. quiet_wants d (wanted ds rs) (quiet_of d h) ws ∙ wanted_told ds rs ws
+  | false ↦ λ h. loud_adds (wanted ds rs) (wanted (telling ds) rs) d.reads (meets d.writes (wanted ds rs)) (wanted_told ds rs) ws
+      ∙ ap (λ b. meets ws (if b then wanted (telling ds) rs ++ d.reads else wanted (telling ds) rs)) (wanted_told ds rs d.writes)
+] refl
+
+pub settled_told : (c n : ℕ) (past : List Entry) (d : Entry) → is_settled_from c n past d ≡ is_settled_from c n (telling past) d
+settled_told c n [] d = refl
+settled_told c n (x ∷ xs) d = elim (is_quiet x) as (λ b. is_quiet x ≡ b → is_settled_from c n (x ∷ xs) d ≡ is_settled_from c n (if b then telling xs else x ∷ telling xs) d) [
+  | true ↦ λ h. let none = (quiet_of x h).change in
+      ap (λ (o : Option Change). (not (is_some o) || nat_lt n c || not (meets x.writes (wanted xs d.reads))) && is_settled_from c (n + (if is_some o then 1 else 0)) xs d) none
+      ∙ ap (λ m. is_settled_from c m xs d) (add-zero n)
+      ∙ settled_told c n xs d
+  | false ↦ λ h.
+      ap (λ b. (not (is_some x.change) || nat_lt n c || not b) && is_settled_from c (n + change_count x) xs d) (wanted_told xs d.reads x.writes)
+      ∙ ap (λ b. (not (is_some x.change) || nat_lt n c || not (meets x.writes (wanted (telling xs) d.reads))) && b) (settled_told c (n + change_count x) xs d)
+] refl
+
+-- each with whether it rests on committed changes
+pub record Mark (A : Type 0) : Type 0 where
+  pub what : A
+  pub settled : Bool
+
+abbrev pub mark_of : {A : Type 0} → ℕ → Given A → Mark A
+mark_of c x = record { what = x.what; settled = is_settled c x.past x.entry }
+
+abbrev pub marked : {A : Type 0} → ℕ → List (Given A) → List (Mark A)
+marked c xs = map (mark_of c) xs
+
+abbrev pub seen : {A : Type 0} → List (Mark A) → List A
+seen [] = []
+seen (m ∷ ms) = if m.settled then m.what ∷ seen ms else []
+
+released_by : {A : Type 0} (x : A) (b : Bool) (xs : List (Given A)) (g : Given A) (ys : List A) → map (λ (y : Given A). y.what) xs ≡ ys → g.what ≡ x
+    → map (λ (y : Given A). y.what) (if b then g ∷ xs else []) ≡ (if b then x ∷ ys else [])
+released_by x true xs g ys e f = ap (λ z. z ∷ map (λ (y : _). y.what) xs) f ∙ ap (λ zs. x ∷ zs) e
+released_by x false xs g ys e f = refl
+
+pub released_seen : {A : Type 0} (c : ℕ) (xs : List (Given A)) → released c xs ≡ seen (marked c xs)
+released_seen c [] = refl
+released_seen c (x ∷ xs) = released_by x.what (is_settled c x.past x.entry) (front (λ y. is_settled c y.past y.entry) xs) x (seen (marked c xs)) (released_seen c xs) refl
+
+pub marked-append : {A : Type 0} (c : ℕ) (xs ys : List (Given A)) → marked c (xs ++ ys) ≡ marked c xs ++ marked c ys
+marked-append c [] ys = refl
+marked-append c (x ∷ xs) ys = ap (λ zs. mark_of c x ∷ zs) (marked-append c xs ys)
+
+-- what an event gives is settled alike without the quiet ones before it
+marks_of : {A : Type 0} (c : ℕ) (past : List Entry) (d : Entry) (xs : List A) → marked c (given_by past d xs) ≡ marked c (given_by (telling past) d xs)
+marks_of c past d [] = refl
+marks_of {A} c past d (x ∷ xs) =
+    ap (λ (s : Bool). record { what = x; settled = s } ∷ marked c (given_by past d xs)) (settled_told c 0 past d)
+    ∙ ap (λ (ms : List (Mark A)). record { what = x; settled = is_settled c (telling past) d } ∷ ms) (marks_of c past d xs)
+
+-- what events give, without the quiet ones
+pub each_told : {A : Type 0} (c : ℕ) (f : Entry → List A) → ((d : Entry) → Quiet d → f d ≡ [])
+    → (past ds : List Entry) → marked c (each_from f past ds) ≡ marked c (each_from f (telling past) (telling ds))
+each_told c f none past [] = refl
+each_told {A} c f none past (d ∷ ds) =
+    marked-append c (given_by past d (f d)) (each_from f (past ++ d ∷ []) ds)
+    ∙ ap (λ zs. marked c (given_by past d (f d)) ++ zs) (each_told c f none (past ++ d ∷ []) ds)
+    ∙ ap (λ ps. marked c (given_by past d (f d)) ++ marked c (each_from f ps (telling ds))) (telling-append past (d ∷ []))
+    ∙ rest (is_quiet d) refl
+  where
+    goal : Bool → Type 0
+    goal b = marked c (given_by past d (f d)) ++ marked c (each_from f (telling past ++ (if b then [] else d ∷ [])) (telling ds)) ≡ marked c (each_from f (telling past) (if b then telling ds else d ∷ telling ds))
+
+    rest : (b : Bool) → is_quiet d ≡ b → goal b
+    rest true h =
+        ap (λ xs. marked c (given_by past d xs) ++ marked c (each_from f (telling past ++ []) (telling ds))) (none d (quiet_of d h))
+        ∙ ap (λ ps. marked c (each_from f ps (telling ds))) (append-nil (telling past))
+    rest false h =
+        ap (λ zs. zs ++ marked c (each_from f (telling past ++ d ∷ []) (telling ds))) (marks_of c past d (f d))
+        ∙ sym (marked-append c (given_by (telling past) d (f d)) (each_from f (telling past ++ d ∷ []) (telling ds)))
+
+released_told : {A : Type 0} (c : ℕ) (f : Entry → List A) → ((d : Entry) → Quiet d → f d ≡ []) → (ds : List Entry)
+    → released c (each_from f [] ds) ≡ released c (each_from f [] (telling ds))
+released_told c f none ds =
+    released_seen c (each_from f [] ds)
+    ∙ ap seen (each_told c f none [] ds)
+    ∙ sym (released_seen c (each_from f [] (telling ds)))
+
+pub printed_told : (c t : ℕ) (ds : List Entry) → released c (printed t ds) ≡ released c (printed t (telling ds))
+printed_told c t ds = released_told c (λ d. bytes_for t d.output) (λ d q. ap (bytes_for t) q.output) ds
+
+no_items : (b : Bool) (o : Option Item) → o ≡ None → (if b then option_to_list o else []) ≡ []
+no_items true o h = ap (λ (x : Option Item). option_to_list x) h
+no_items false o h = refl
+
+pub told_told : (c p : ℕ) (ds : List Entry) → released c (told p ds) ≡ released c (told p (telling ds))
+told_told c p ds = released_told c (items_for p) (λ d q. no_items (d.process == p) d.item q.item) ds

@@ -1,0 +1,4 @@
+pub mod Meets
+pub mod Paths
+pub mod Folding
+pub mod Runs

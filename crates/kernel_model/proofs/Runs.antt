@@ -1,0 +1,56 @@
+-- One more event of a run.
+use Rattle.std.proofs.Common.{◌≡◌, ℕ, Option, Some, None, option_to_list, List, [], ◌∷◌, ◌++◌, refl, sym, ap, ◌∙◌, append_assoc}
+use Rattle.disk_model.specs.declared.change.Change.{Change}
+use Rattle.kernel_model.specs.Entries.{Entry}
+use Rattle.kernel_model.specs.Paths.{changes_of, with_change}
+use Rattle.kernel_model.specs.Answers.{Kernel, now, with_event}
+use Rattle.kernel_model.specs.World.{World, begun, happens, after}
+use Rattle.kernel_model.specs.Shown.{given_by, each_from, printed, bytes_for, told, items_for}
+use Rattle.kernel_model.specs.declared.event.Event.{Event}
+
+-- the last event happens to the run of those before it
+pub after-append : (w : World) (es : List Event) (e : Event) → after w (es ++ e ∷ []) ≡ happens (after w es) e
+after-append w [] e = refl
+after-append w (x ∷ es) e = after-append (happens w x) es e
+
+-- the run of two lists of events
+pub after-after : (w : World) (es fs : List Event) → after w (es ++ fs) ≡ after (after w es) fs
+after-after w [] fs = refl
+after-after w (x ∷ es) fs = after-after (happens w x) es fs
+
+pub append-nil : {A : Type 0} (xs : List A) → xs ++ [] ≡ xs
+append-nil [] = refl
+append-nil (x ∷ xs) = ap (λ ys. x ∷ ys) (append-nil xs)
+
+-- what one more entry gives comes last
+pub each_from-append : {A : Type 0} (f : Entry → List A) (past log : List Entry) (e : Entry)
+    → each_from f past (log ++ e ∷ []) ≡ each_from f past log ++ given_by (past ++ log) e (f e)
+each_from-append f past [] e = append-nil (given_by past e (f e)) ∙ ap (λ ps. given_by ps e (f e)) (sym (append-nil past))
+each_from-append f past (x ∷ log) e =
+    ap (λ ys. given_by past x (f x) ++ ys) (each_from-append f (past ++ x ∷ []) log e)
+    ∙ sym (append_assoc (given_by past x (f x)) (each_from f (past ++ x ∷ []) log) (given_by ((past ++ x ∷ []) ++ log) e (f e)))
+    ∙ ap (λ ps. (given_by past x (f x) ++ each_from f (past ++ x ∷ []) log) ++ given_by ps e (f e)) (append_assoc past (x ∷ []) log)
+
+-- one more entry gives the terminals, the processes and the disk what it has for them
+pub printed-entry : (t : ℕ) (log : List Entry) (e : Entry) → printed t (log ++ e ∷ []) ≡ printed t log ++ given_by log e (bytes_for t e.output)
+printed-entry t log e = each_from-append (λ x. bytes_for t x.output) [] log e
+
+pub told-entry : (p : ℕ) (log : List Entry) (e : Entry) → told p (log ++ e ∷ []) ≡ told p log ++ given_by log e (items_for p e)
+told-entry p log e = each_from-append (items_for p) [] log e
+
+with_change-append : (o : Option Change) (cs ds : List Change) → with_change o (cs ++ ds) ≡ with_change o cs ++ ds
+with_change-append None cs ds = refl
+with_change-append (Some c) cs ds = refl
+
+with_change-nil : (o : Option Change) → with_change o [] ≡ option_to_list o
+with_change-nil None = refl
+with_change-nil (Some c) = refl
+
+pub changes_of-entry : (log : List Entry) (e : Entry) → changes_of (log ++ e ∷ []) ≡ changes_of log ++ option_to_list e.change
+changes_of-entry [] e = with_change-nil e.change
+changes_of-entry (x ∷ log) e =
+    ap (with_change x.change) (changes_of-entry log e) ∙ with_change-append x.change (changes_of log) (option_to_list e.change)
+
+-- the run of a core after one more event
+pub now-with_event : (k : Kernel) (e : Event) → now (with_event k e) ≡ happens (now k) e
+now-with_event k e = after-append (begun k.boot) k.history e

@@ -1,0 +1,13 @@
+pub mod Entries
+pub mod State
+pub mod Requests
+pub mod Rows
+pub mod Steps
+pub mod Paths
+pub mod World
+pub mod Shown
+pub mod Answers
+pub mod Loans
+pub mod Fine
+pub mod Views
+pub mod Codes

@@ -1,0 +1,34 @@
+-- What a machine that stands at a call asks for.
+use Rattle.std.specs.Prelude.{ℕ, ◌==◌, nat_le, is_none, if◌then◌else◌, List, slice_index, Option, Some, None}
+use Rattle.machine_model.specs.Memory.{Memory}
+use Rattle.machine_model.specs.Access.{bytes_at, range_fault, to_read}
+use Rattle.machine_model.specs.States.{State}
+use Rattle.kernel_model.specs.declared.request.Request.{Request}
+use Rattle.kernel_model.specs.declared.request.Request.TheVariants.{Exit, Write, Open, Unknown}
+
+-- n bytes from an address on, where they are at most so many and each may be read
+abbrev pub read_bytes : Memory → ℕ → ℕ → ℕ → Option (List ℕ)
+read_bytes memory most at n =
+    if nat_le n most then (if is_none (range_fault to_read memory at n) then Some (bytes_at memory at n) else None)
+    else None
+
+-- the most bytes that a call moves
+abbrev pub most_bytes : ℕ
+most_bytes = 1024
+
+-- the most bytes of a file's name
+abbrev pub longest_name : ℕ
+longest_name = 32
+
+-- the call of this number and these arguments, whose bytes are in this memory
+abbrev pub request_by : ℕ → ℕ → ℕ → ℕ → Memory → Request
+request_by number a0 a1 a2 memory =
+    if number == 1 then Exit a0
+    else if number == 2 then Write a0 a2 (read_bytes memory most_bytes a1 a2)
+    else if number == 4 then Open a1 a2 (read_bytes memory longest_name a0 a1)
+    else Unknown
+
+-- the call at which a machine stands: its number is in a7, its arguments in a0, a1 and a2
+abbrev pub request_of : State → Request
+request_of s = request_by (slice_index s.hart.registers 17)
+    (slice_index s.hart.registers 10) (slice_index s.hart.registers 11) (slice_index s.hart.registers 12) s.hart.memory

@@ -1,0 +1,118 @@
+-- What each event does to the synchronous state.
+use Rattle.std.specs.Prelude.{ℕ, ◌+◌, if◌then◌else◌, List, [], ◌∷◌, map, slice_set, Option, Some, None, is_some}
+use Rattle.machine_model.specs.declared.reply.Reply.{Reply}
+use Rattle.machine_model.specs.declared.stop.Stop.{Stop}
+use Rattle.machine_model.specs.declared.stop.Stop.TheVariants.{Limit, Call, Trap}
+use Rattle.machine_model.specs.States.{run, stands_at, replied}
+use Rattle.kernel_model.specs.Entries.{Entry, Got, End}
+use Rattle.kernel_model.specs.State.{SyncState, Shared, shared, Process, process_at, put_process, with_process, changed_by}
+use Rattle.kernel_model.specs.Requests.{request_of}
+use Rattle.kernel_model.specs.Rows.{Effect, row, row_end, cause_number}
+use Rattle.kernel_model.specs.declared.carrier.Carrier.TheVariants.{Proc}
+use Rattle.kernel_model.specs.declared.descriptor.Descriptor.{Descriptor}
+use Rattle.kernel_model.specs.declared.effect.Slot.{Slot}
+use Rattle.kernel_model.specs.declared.event.Event.{Event}
+use Rattle.kernel_model.specs.declared.event.Event.TheVariants.{Turn, Enter, Cut, Complete, Fail}
+use Rattle.kernel_model.specs.declared.request.Verdict.{Verdict}
+use Rattle.kernel_model.specs.declared.request.Verdict.TheVariants.{Waits, Replies, Ends}
+
+-- what an event comes to: the state after it, and its entry of the log
+pub record Transition : Type 0 where
+  pub state : SyncState
+  pub entry : Entry
+
+-- the entry of an event of the disk
+abbrev pub disk_entry : Entry
+disk_entry = record { process = 0; reads = []; writes = []; change = None; output = None; item = None }
+
+-- the entry of an event of process p that touches nothing but the process
+abbrev pub own_entry : ℕ → Entry
+own_entry p = record { process = p; reads = Proc p ∷ []; writes = Proc p ∷ []; change = None; output = None; item = None }
+
+-- an event of the disk: the synchronous state stays
+abbrev pub unchanged : SyncState → Transition
+unchanged s = record { state = s; entry = disk_entry }
+
+-- an event that process p cannot have here, so that no accepted history has it: it looks at the process, and nothing changes
+abbrev pub impossible : ℕ → SyncState → Transition
+impossible p s = record { state = s; entry = record (own_entry p) { writes = [] } }
+
+-- the process after at most n instructions
+abbrev pub after_run : ℕ → Process → Process
+after_run n p = record p { state = (run n p.state).state }
+
+-- a Turn of at most n instructions of process pid, if there is one
+abbrev pub after_turn : SyncState → ℕ → ℕ → Option Process → Transition
+after_turn s pid n None = impossible pid s
+after_turn s pid n (Some p) =
+    if is_some p.status then impossible pid s
+    else record { state = with_process s pid (after_run n p); entry = own_entry pid }
+
+-- what comes of the call or the trap at which a process stands
+abbrev pub effect_at : Shared → Process → Option Stop → Option Effect
+effect_at s p (Some Call) = Some (row s p.descriptors (request_of p.state))
+effect_at s p (Some (Trap cause)) = Some (row_end (256 + cause_number cause))
+effect_at s p (Some Limit) = None
+effect_at s p None = None
+
+-- the descriptors after these edits, the first of them first
+abbrev pub set_slots : List (Option Descriptor) → List Slot → List (Option Descriptor)
+set_slots ds [] = ds
+set_slots ds (slot ∷ slots) = set_slots (slice_set ds slot.fd slot.holds) slots
+
+-- the process after a reply
+abbrev pub after_reply : Process → Effect → Reply → Process
+after_reply p e r = record { state = replied p.state r; descriptors = set_slots p.descriptors e.slots; status = None }
+
+-- the process once it has ended with a status
+abbrev pub after_end : Process → ℕ → Process
+after_end p status = record { state = p.state; descriptors = map (λ d. None) p.descriptors; status = Some status }
+
+-- what an effect does, where the caller is told this
+abbrev pub after_effect : SyncState → ℕ → Process → Effect → Verdict → Transition
+after_effect s pid p e Waits = record {
+  state = s;
+  entry = record { process = pid; reads = Proc pid ∷ e.reads; writes = []; change = None; output = None; item = None };
+}
+after_effect s pid p e (Replies r) = record {
+  state = record { processes = put_process s.processes pid (after_reply p e r); files = changed_by s.files e.change; tapes = s.tapes };
+  entry = record {
+    process = pid;
+    reads = Proc pid ∷ e.reads;
+    writes = Proc pid ∷ e.writes;
+    change = e.change;
+    output = e.output;
+    item = Some (Got r);
+  };
+}
+after_effect s pid p e (Ends status) = record {
+  state = with_process s pid (after_end p status);
+  entry = record {
+    process = pid;
+    reads = Proc pid ∷ e.reads;
+    writes = Proc pid ∷ e.writes;
+    change = None;
+    output = None;
+    item = Some (End status);
+  };
+}
+
+-- the same of an effect, if there is one
+abbrev pub after_effect_if : SyncState → ℕ → Process → Option Effect → Transition
+after_effect_if s pid p None = impossible pid s
+after_effect_if s pid p (Some e) = after_effect s pid p e e.told
+
+-- an Enter of process pid, if there is one
+abbrev pub after_enter : SyncState → ℕ → Option Process → Transition
+after_enter s pid None = impossible pid s
+after_enter s pid (Some p) =
+    if is_some p.status then impossible pid s
+    else after_effect_if s pid p (effect_at (shared s) p (stands_at p.state))
+
+-- one event
+abbrev pub step : SyncState → Event → Transition
+step s (Turn pid n) = after_turn s pid n (process_at s.processes pid)
+step s (Enter pid) = after_enter s pid (process_at s.processes pid)
+step s Cut = unchanged s
+step s (Complete at) = unchanged s
+step s (Fail at) = unchanged s

@@ -1,0 +1,95 @@
+-- A whole run: the synchronous state, the log, and the disk.
+use Rattle.std.specs.Prelude.{ℕ, zero, suc, ◌+◌, List, [], ◌∷◌, ◌++◌, drop, replicate, Some, None}
+use Rattle.disk_model.specs.declared.change.Change.{Change}
+use Rattle.disk_model.specs.declared.change.NamedFile.{NamedFile}
+use Rattle.disk_model.specs.Held.{IsHeldTo}
+use Rattle.disk_model.specs.Storage.{Storage, cut, completed, failed}
+use Rattle.disk_model.specs.Runs.{begun as storage_at}
+use Rattle.machine_model.specs.States.{State}
+use Rattle.kernel_model.specs.Entries.{Entry}
+use Rattle.kernel_model.specs.Paths.{changes_of}
+use Rattle.kernel_model.specs.State.{SyncState, Process, TapeState}
+use Rattle.kernel_model.specs.Steps.{step}
+use Rattle.kernel_model.specs.declared.descriptor.Descriptor.TheVariants.{Tape, Terminal}
+use Rattle.kernel_model.specs.declared.event.Event.{Event}
+use Rattle.kernel_model.specs.declared.event.Event.TheVariants.{Turn, Enter, Cut, Complete, Fail}
+
+-- a run so far
+pub record World : Type 0 where
+  pub sync : SyncState
+  pub log : List Entry
+  pub storage : Storage
+
+-- The storage after an event, where these are all changes so far and the files after them. A Cut submits a group or a
+-- checkpoint; Complete and Fail tell of the write in flight that begins at a place.
+abbrev pub stored : Storage → List Change → List NamedFile → Event → Storage
+stored st changes files (Turn pid n) = st
+stored st changes files (Enter pid) = st
+stored st changes files Cut = cut st (drop st.committed changes) files
+stored st changes files (Complete at) = completed st at
+stored st changes files (Fail at) = failed st at
+
+-- the run after one more event
+abbrev pub happens : World → Event → World
+happens w e = record {
+  sync = (step w.sync e).state;
+  log = w.log ++ (step w.sync e).entry ∷ [];
+  storage = stored w.storage (changes_of w.log) w.sync.files e;
+}
+
+-- the run after these events, the first of them first
+abbrev pub after : World → List Event → World
+after w [] = w
+after w (e ∷ es) = after (happens w e) es
+
+-- a program to be booted: its machine's first state, and its terminal
+pub record BootProgram : Type 0 where
+  pub state : State
+  pub terminal : ℕ
+
+-- what a core is booted from; the disk holds the files, and `gate` is the place of the first gate there that is not open
+pub record Boot : Type 0 where
+  pub programs : List BootProgram
+  pub tapes : List (List ℕ)
+  pub files : List NamedFile
+  pub disk : List ℕ
+  pub gate : ℕ
+
+-- the disk holds the files that the boot names
+abbrev pub HoldsItsFiles : Boot → Type 0
+HoldsItsFiles b = IsHeldTo b.disk b.gate b.files
+
+-- program i reads tape i, counted from 0, by descriptor 0, and writes to its terminal by descriptor 1; 14 more are free
+abbrev pub first_process : ℕ → BootProgram → Process
+first_process i p = record {
+  state = p.state;
+  descriptors = Some (Tape i) ∷ Some (Terminal p.terminal) ∷ replicate 14 None;
+  status = None;
+}
+
+-- the processes of these programs, the first of which has tape i
+abbrev pub processes_from : ℕ → List BootProgram → List Process
+processes_from i [] = []
+processes_from i (p ∷ ps) = first_process i p ∷ processes_from (i + 1) ps
+
+-- a tape with these bytes, of which none is read
+abbrev pub tape_of : List ℕ → TapeState
+tape_of bytes = record { bytes = bytes; place = 0 }
+
+-- n tapes: the first of those given, and empty ones where fewer are given
+abbrev pub tapes_of : ℕ → List (List ℕ) → List TapeState
+tapes_of zero tapes = []
+tapes_of (suc n) [] = tape_of [] ∷ tapes_of n []
+tapes_of (suc n) (tape ∷ tapes) = tape_of tape ∷ tapes_of n tapes
+
+-- how many tapes there are, and how many terminals
+abbrev pub tape_count : ℕ
+tape_count = 8
+
+-- the run before any event
+abbrev pub begun : Boot → World
+begun b = record {
+  sync = record { processes = processes_from 0 b.programs; files = b.files; tapes = tapes_of tape_count b.tapes };
+  log = [];
+  storage = storage_at b.disk b.gate;
+}

@@ -1,0 +1,248 @@
+//! The disk and its writes.
+ghost use Rattle.std.specs.Prelude.{◌≡◌, is_some, ◌≤◌, ◌+◌, ◌==◌, ◌↔◌, ◌⊎◌, None, not, false, true, ℕ, IfOk, IfErr, OnOk, OnErr, slice_index, Ok, Err, IsErrOf, MatchOption, length, [], ◌∷◌, ◌++◌};
+ghost use Rattle.disk_model.specs.Storage.{Drive, piece_at, sent, with_completion, with_failure, is_quiet, is_empty, least_start};
+ghost use Rattle.disk_model.specs.Runs.{quiet};
+ghost use Rattle.simdisk.specs.Room.{has_room, crashed, AreSpaced};
+ghost use Rattle.simdisk.specs.declared.refusal.DiskRefusal.TheVariants.{NoSuchWrite, OutOfRange, OutOfMemory, BadLength};
+
+use crate::ranges::{are_apart, fill_ranges, least_start_of, overwrite, place_of, take_out};
+use crate::refusal::DiskRefusal;
+use byte_list::Bytes;
+use disk_model::Piece;
+use std::alloc::{AllocError, Global};
+use std::marker::Model;
+
+/// How many bytes a disk has.
+pub const SIZE: usize = 2097152;
+
+/// How many bytes a write may have.
+const LONGEST_WRITE: usize = 4096;
+
+/// A simulated disk. From its submission to its completion a write's range may hold any bytes after a crash; a write that
+/// has failed leaves any bytes in its range for good. Completions come in any order, by the place at which the write begins.
+#[derive(Drop)]
+pub struct SimDisk {
+    alloc: Global,
+    bytes: Vec<u8>,
+    in_flight: Vec<Piece>,
+    failed: Vec<Piece>,
+}
+
+impl Model for SimDisk {
+    ghost use Rattle.std.specs.Prelude.{◌≡◌, length};
+    ghost use Rattle.disk_model.specs.Storage.{Drive};
+    ghost use Rattle.simdisk.specs.Room.{LieOn};
+
+    ghost Value = { Drive };
+
+    ghost view = { λ s. record { disk = s.bytes.items; in_flight = s.in_flight.items; failed = s.failed.items } };
+
+    ghost invariant = { λ s. (length s.bytes.items ≡ 2097152) × LieOn 2097152 s.in_flight.items × LieOn 2097152 s.failed.items };
+}
+
+/// So many zeros.
+fn zeros(alloc: Global, n: usize) -> Result<Vec<u8>, AllocError>
+    ensures len { IfOk result (λ v. length v.items ≡ n) }
+    ensures zeros { IfOk result (λ v. (i : ℕ) → slice_index v.items i ≡ 0) }
+{
+    vec![in alloc; 0; n]
+}
+
+impl SimDisk {
+    /// A disk of zeros.
+    pub fn zero(alloc: Global) -> Result<SimDisk, DiskRefusal>
+        ensures size { IfOk result (λ d. length d.disk ≡ 2097152) }
+        ensures zeros { IfOk result (λ d. (i : ℕ) → slice_index d.disk i ≡ 0) }
+        ensures quiet { IfOk result (λ d. d ≡ quiet d.disk) }
+        ensures cause { IfErr result (λ e. e ≡ OutOfMemory) }
+    {
+        let bytes = zeros(alloc, SIZE)?;
+        Ok(SimDisk {
+            alloc,
+            bytes,
+            in_flight: Vec::new(alloc),
+            failed: Vec::new(alloc),
+        })
+    }
+
+    /// A disk of these completed bytes.
+    pub fn open(alloc: Global, bytes: &[u8]) -> Result<SimDisk, DiskRefusal>
+        ensures ok { IfOk result (λ d. d ≡ quiet bytes.now) }
+        ensures length { IsErrOf result BadLength ↔ ((length bytes.now == 2097152) ≡ false) }
+        ensures cause { IfErr result (λ e. (e ≡ BadLength) ⊎ (e ≡ OutOfMemory)) }
+    {
+        if bytes.len() != SIZE {
+            return Err(DiskRefusal::BadLength);
+        }
+        let bytes = Vec::from_slice(alloc, bytes)?;
+        Ok(SimDisk {
+            alloc,
+            bytes,
+            in_flight: Vec::new(alloc),
+            failed: Vec::new(alloc),
+        })
+    }
+
+    /// Whether nothing is in flight and nothing has failed.
+    pub fn quiet(&self) -> bool
+        ensures { result ≡ is_quiet self.now }
+    {
+        self.in_flight.is_empty() && self.failed.is_empty()
+    }
+
+    /// Whether a write has failed.
+    pub fn has_failed(&self) -> bool
+        ensures { result ≡ not (is_empty self.now.failed) }
+    {
+        !self.failed.is_empty()
+    }
+
+    /// The completed bytes.
+    pub fn bytes(&self) -> &[u8]
+        ensures bytes { result.now ≡ self.now.disk }
+        ensures size { length result.now ≡ 2097152 }
+    {
+        &self.bytes
+    }
+
+    /// The least place at which a write in flight begins.
+    pub fn in_flight(&self) -> Option<u32>
+        ensures { result ≡ least_start self.now.in_flight }
+    {
+        least_start_of(&self.in_flight)
+    }
+
+    /// Whether a write in flight begins there.
+    pub fn is_in_flight(&self, at: u32) -> bool
+        ensures { result ≡ is_some (piece_at self.now.in_flight at) }
+    {
+        place_of(&self.in_flight, at).is_some()
+    }
+
+    /// Submits a write of these bytes at a place. OutOfRange comes before OutOfMemory.
+    pub fn submit(&mut self, at: u32, bytes: &[u8]) -> Result<(), DiskRefusal>
+        ensures range { IsErrOf result OutOfRange ↔ (has_room self.old at (length bytes.now) ≡ false) }
+        ensures ok { OnOk result (self.new ≡ record { disk = self.old.disk; in_flight = self.old.in_flight ++ record { at = at; bytes = bytes.now } ∷ []; failed = self.old.failed }) }
+        ensures err { OnErr result (self.new ≡ self.old) }
+        ensures cause { IfErr result (λ e. (e ≡ OutOfRange) ⊎ (e ≡ OutOfMemory)) }
+    {
+        let n = bytes.len();
+        let from = at as usize;
+        if n == 0
+            || n > LONGEST_WRITE
+            || from + n > SIZE
+            || !are_apart(&self.in_flight, from, n)
+            || !are_apart(&self.failed, from, n)
+        {
+            return Err(DiskRefusal::OutOfRange);
+        }
+        let bytes = Bytes::copy_of(self.alloc, bytes)?;
+        self.in_flight.push(Piece { at, bytes })?;
+        Ok(())
+    }
+
+    /// Submits these pieces together, where nothing is in flight and nothing has failed. Takes no memory.
+    pub fn send(&mut self, pieces: Vec<Piece>)
+        requires idle { is_quiet self.old ≡ true }
+        requires room { AreSpaced 2097152 pieces.items }
+        ensures { self.new ≡ sent self.old pieces.items }
+    {
+        self.in_flight = pieces;
+    }
+
+    /// The write that begins there is complete. Takes no memory.
+    pub fn complete(&mut self, at: u32) -> Result<(), DiskRefusal>
+        ensures ok { MatchOption (piece_at self.old.in_flight at) (result ≡ Err NoSuchWrite) (λ p. (result ≡ Ok tt) × (self.new ≡ with_completion self.old at p)) }
+        ensures err { OnErr result (self.new ≡ self.old) }
+    {
+        match take_out(&mut self.in_flight, at) {
+            None => Err(DiskRefusal::NoSuchWrite),
+            Some(piece) => {
+                overwrite(&mut self.bytes, piece.at as usize, piece.bytes.as_slice());
+                Ok(())
+            }
+        }
+    }
+
+    /// The write that begins there has failed. NoSuchWrite comes before OutOfMemory.
+    pub fn fail(&mut self, at: u32) -> Result<(), DiskRefusal>
+        ensures ok { OnOk result (MatchOption (piece_at self.old.in_flight at) ⊥ (λ p. self.new ≡ with_failure self.old at p)) }
+        ensures err { OnErr result (self.new ≡ self.old) }
+        ensures refused { IsErrOf result NoSuchWrite ↔ (piece_at self.old.in_flight at ≡ None) }
+        ensures cause { IfErr result (λ e. (e ≡ NoSuchWrite) ⊎ (e ≡ OutOfMemory)) }
+    {
+        let Some(i) = place_of(&self.in_flight, at) else {
+            return Err(DiskRefusal::NoSuchWrite);
+        };
+        if self.failed.try_reserve(1).is_err() {
+            return Err(DiskRefusal::OutOfMemory);
+        }
+        let piece = self.in_flight.remove(i);
+        match self.failed.push(piece) {
+            Ok(()) => Ok(()),
+            Err(_) => Err(DiskRefusal::OutOfMemory),
+        }
+    }
+
+    /// What a crash leaves where the ranges in flight or failed take these bytes, by rising place, again and again from
+    /// the start; an empty fill leaves the old bytes. Takes no memory.
+    pub fn crash(mut self, fill: &[u8]) -> SimDisk
+        ensures { result ≡ quiet (crashed self fill.now) }
+    {
+        if !fill.is_empty() {
+            fill_ranges(&mut self.bytes, &self.in_flight, &self.failed, fill);
+        }
+        self.in_flight = Vec::new(self.alloc);
+        self.failed = Vec::new(self.alloc);
+        self
+    }
+}
+
+#[cfg(test)]
+mod tests {
+    use super::*;
+    use std::test::Fail;
+
+    #[test]
+    fn writes_of_a_disk(rt: HostRuntime) -> Result<(), Fail> {
+        let alloc = rt.alloc();
+        let mut disk = SimDisk::zero(alloc)?;
+        disk.submit(70, b"abc")?;
+        disk.submit(64, b"de")?;
+        for (at, bytes) in [(65, b"x".as_slice()), (70, b""), (2097151, b"xy")] {
+            assert_eq!(rt;
+                disk.submit(at, bytes),
+                Err(DiskRefusal::OutOfRange),
+                "at {at}"
+            );
+        }
+        assert_eq!(rt; disk.in_flight(), Some(64));
+        assert!(rt; disk.is_in_flight(70) && !disk.is_in_flight(71));
+        disk.complete(64)?;
+        assert_eq!(rt; disk.complete(64), Err(DiskRefusal::NoSuchWrite));
+        disk.fail(70)?;
+        assert_eq!(rt; disk.fail(70), Err(DiskRefusal::NoSuchWrite));
+        assert!(rt; disk.has_failed());
+        disk.submit(60, b"fg")?;
+        let crashed = disk.crash(b"12");
+        assert!(rt; crashed.quiet());
+        assert_eq!(rt;
+            &crashed.bytes()[59..74],
+            b"\x0012\0\0de\0\0\0\0121\0".as_slice()
+        );
+        let mut opened = SimDisk::open(alloc, crashed.bytes())?;
+        opened.submit(2093056, &opened_bytes(alloc)?)?;
+        let kept = opened.crash(b"");
+        assert_eq!(rt; kept.bytes()[64], b'd');
+        match SimDisk::open(alloc, b"short") {
+            Ok(_) => assert!(rt; false, "a short disk was opened"),
+            Err(refusal) => assert_eq!(rt; refusal as u8, 4),
+        }
+        Ok(())
+    }
+
+    // The longest write that ends with the disk.
+    fn opened_bytes(alloc: Global) -> Result<Vec<u8>, AllocError> {
+        vec![in alloc; 7; 4096]
+    }
+}

@@ -1,0 +1,39 @@
+//! Why a call of a disk is refused.
+ghost use Rattle.std.specs.Prelude.{◌≡◌};
+ghost use Rattle.simdisk.specs.declared.refusal.DiskRefusal.TheVariants.{OutOfMemory};
+
+use std::alloc::{AllocError, AllocFailed};
+use thiserror::Error;
+
+/// Why a call was refused. A refused call changes nothing.
+#[derive(Clone, Copy, Debug, PartialEq, Eq, Error)]
+pub enum DiskRefusal {
+    /// No write in flight begins there.
+    #[error("no write in flight begins there")]
+    NoSuchWrite = 1,
+    /// A write that is empty, has over 4,096 bytes, reaches past the end, or meets a range in flight or failed.
+    #[error("the write is empty, too long, past the end, or meets another")]
+    OutOfRange = 2,
+    /// Memory ran out.
+    #[error("out of memory")]
+    OutOfMemory = 3,
+    /// A disk of other than 2,097,152 bytes.
+    #[error("a disk has 2,097,152 bytes")]
+    BadLength = 4,
+}
+
+impl From<AllocError> for DiskRefusal {
+    ghost from_gives = { λ _ e. e ≡ OutOfMemory };
+
+    fn from(_error: AllocError) -> DiskRefusal {
+        DiskRefusal::OutOfMemory
+    }
+}
+
+impl<T: Drop> From<AllocFailed<T>> for DiskRefusal {
+    ghost from_gives = { λ _ e. e ≡ OutOfMemory };
+
+    fn from(_error: AllocFailed<T>) -> DiskRefusal {
+        DiskRefusal::OutOfMemory
+    }
+}
