@@ -5,3 +5,6 @@ mod burst;
 
 pub use burst::run_loan;
 pub use kernel::{Done, Loan, Rejected};
+
+#[cfg(test)]
+mod tests;
