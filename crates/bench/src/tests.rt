@@ -1,4 +1,8 @@
 //! Runs of the whole program, over text in memory.
+ghost use Rattle.std.specs.Prelude.{◌<◌, ◌≤◌, length};
+
+use elf32::Image;
+use std::alloc::Global;
 use std::fs;
 use std::process::Abort;
 use std::rt::Files;
@@ -258,7 +262,17 @@ fn statuses(rt: HostRuntime) -> Result<(), Fail> {
         b"bench: input or output failed\n".as_slice()
     );
     // faulty command lines, and help that was asked for
-    for words in ["play", "replay", "replay a b", "replay --fast a"] {
+    for words in [
+        "play",
+        "replay",
+        "replay a b",
+        "replay --fast a",
+        "list",
+        "list a b",
+        "asm",
+        "asm a",
+        "asm a b c",
+    ] {
         let ran = run(&rt, words, b"")?;
         assert_eq!(rt; ran.status, 1, "{words}");
         assert!(rt; ran.out.is_empty());
@@ -278,5 +292,283 @@ fn a_script_in_a_file(rt: HostRuntime) -> Result<(), Fail> {
     fs::remove_file(&rt, "script")?;
     assert_eq!(rt; ran.status, 0);
     assert_eq!(rt; ran.out.as_slice(), b"ran 0 trap 6\n".as_slice());
+    Ok(())
+}
+
+/// The file of an image: these words at 0x00010000, which may be read and executed, and the first of which is its entry.
+fn image_file(alloc: Global, words: &[u32]) -> Result<Vec<u8>, Fail>
+    requires some { 0 < length words.now }
+    requires fits { length words.now ≤ 15360 }
+{
+    Ok(elf32::write(alloc, &Image::from_text(alloc, words)?)?)
+}
+
+/// The file of an image with a page of data, and behind it three halves of words, that may be executed, at 0x00011002.
+fn uneven_file(alloc: Global) -> Result<Vec<u8>, Fail> {
+    let headers = "7f454c46010101000000000000000000\
+        0200f300010000000410010034000000000000000000000034002000020000000000000001000000\
+        001000000000010000000100040000000400000006000000001000000100000002200000021001000210010006000000\
+        0c0000000500000000100000";
+    let mut file = hex::decode(alloc, headers)?;
+    file.resize(0x1000, 0)?;
+    file.extend_from_slice(&[1, 2, 3, 4])?;
+    file.resize(0x2002, 0)?;
+    file.extend_from_slice(&[0x73, 0, 0, 0, 0x13, 0])?;
+    Ok(file)
+}
+
+#[test]
+fn an_image_is_listed(rt: HostRuntime) -> Result<(), Fail> {
+    let mut file = image_file(rt.alloc(), &[0x0050_0513, 0xFFFF_FFFF, 0x0000_0073])?;
+    fs::write(&rt, "listed", file.as_slice())?;
+    let ran = run(&rt, "list listed", b"")?;
+    assert_eq!(rt; ran.status, 0);
+    assert_eq!(rt;
+        ran.out.as_slice(),
+        b"00010000: 00500513  addi a0,zero,5\n00010004: ffffffff  .word 0xffffffff\n00010008: 00000073  ecall\n".as_slice()
+    );
+    file.truncate(51);
+    fs::write(&rt, "listed", file.as_slice())?;
+    let ran = run(&rt, "list listed", b"")?;
+    fs::remove_file(&rt, "listed")?;
+    assert_eq!(rt; ran.status, 2);
+    assert!(rt; ran.out.is_empty());
+    assert_eq!(rt;
+        ran.err.as_slice(),
+        b"bench: image refused: 1 Short\n".as_slice()
+    );
+    let ran = run(&rt, "list listed", b"")?;
+    assert_eq!(rt; ran.status, 6);
+    Ok(())
+}
+
+#[test]
+fn words_that_may_be_executed_are_listed(rt: HostRuntime) -> Result<(), Fail> {
+    let file = uneven_file(rt.alloc())?;
+    fs::write(&rt, "uneven", file.as_slice())?;
+    let ran = run(&rt, "list uneven", b"")?;
+    fs::remove_file(&rt, "uneven")?;
+    assert_eq!(rt; ran.err.as_slice(), b"".as_slice());
+    assert_eq!(rt;
+        ran.out.as_slice(),
+        b"00011002: 00000073  ecall\n".as_slice()
+    );
+    Ok(())
+}
+
+#[test]
+fn images_are_read_by_their_order(rt: HostRuntime) -> Result<(), Fail> {
+    fs::write(&rt, "short", b"")?;
+    let missing = run(
+        &rt,
+        "",
+        b"image 0 there-is-no-such-file\nimage 1 short\nturn 1 1\n",
+    )?;
+    let short = run(
+        &rt,
+        "",
+        b"image 1 short\nimage 0 there-is-no-such-file\nturn 1 1\n",
+    )?;
+    fs::remove_file(&rt, "short")?;
+    assert_eq!(rt; missing.status, 6);
+    assert_eq!(rt; short.status, 2);
+    Ok(())
+}
+
+#[test]
+fn a_script_names_an_image(rt: HostRuntime) -> Result<(), Fail> {
+    let file = image_file(rt.alloc(), &[0x0010_0073])?;
+    fs::write(&rt, "named", file.as_slice())?;
+    expect(
+        &rt,
+        "image 3 named\nprogram 0 00000073\nturn 1 5\nturn 2 5\n",
+        "ran 0 trap 6\nran 0 call\n",
+    )?;
+    fs::write(&rt, "named", b"")?;
+    let ran = run(&rt, "", b"image 3 named\nturn 1 5\n")?;
+    fs::remove_file(&rt, "named")?;
+    assert_eq!(rt; ran.status, 2);
+    assert_eq!(rt;
+        ran.err.as_slice(),
+        b"bench: image refused: 1 Short\n".as_slice()
+    );
+    // the script comes first, and then the images by their place
+    let ran = run(&rt, "", b"image 3 named\nturn 1\n")?;
+    assert_eq!(rt;
+        ran.err.as_slice(),
+        b"bench: script refused at line 2\n".as_slice()
+    );
+    let ran = run(&rt, "", b"image 3 named\nturn 1 5\n")?;
+    assert_eq!(rt; ran.status, 6);
+    for script in ["image 8 named", "image 0", "image 0 ", "image 0 a b"] {
+        let ran = run(&rt, "", script.as_bytes())?;
+        assert_eq!(rt;
+            ran.err.as_slice(),
+            b"bench: script refused at line 1\n".as_slice()
+        );
+    }
+    Ok(())
+}
+
+/// Runs `asm` on a source, whose image is then in the file `image`.
+fn assemble<R: Files + AllocGlobal>(rt: &R, source: &str) -> Result<Ran, Fail> {
+    fs::write(rt, "source", source)?;
+    let made = run(rt, "asm source image", b"")?;
+    fs::remove_file(rt, "source")?;
+    Ok(made)
+}
+
+#[test]
+fn a_source_is_assembled_and_listed(rt: HostRuntime) -> Result<(), Fail> {
+    let made = assemble(&rt, "_start: la a0,m\necall\n.data\nm: .byte 1\n")?;
+    let listed = run(&rt, "list image", b"")?;
+    let file = fs::read(&rt, "image")?;
+    fs::remove_file(&rt, "image")?;
+    assert_eq!(rt; made.status, 0);
+    assert_eq!(rt;
+        made.out.as_slice(),
+        b"12 text bytes, 1 data bytes, entry 00010000\n".as_slice()
+    );
+    assert_eq!(rt; file.len(), 8193);
+    assert_eq!(rt;
+        listed.out.as_slice(),
+        b"00010000: 00001517  auipc a0,0x1\n00010004: 00050513  addi a0,a0,0\n00010008: 00000073  ecall\n".as_slice()
+    );
+    Ok(())
+}
+
+/// The first run's first program, as a source.
+const FIRST_SOURCE: &str = "_start: li t0, 0x66      # the name, f
+    sw t0, -4(sp)
+    addi a0, sp, -4
+    li a1, 1
+    li a2, 2                 # the file is made
+    li a7, 4                 # open
+    ecall
+    li t0, 0x41              # A
+    sw t0, -4(sp)
+    addi a1, sp, -4
+    li a2, 3
+    li a7, 2                 # write
+    ecall
+    li a0, 1                 # the terminal
+    li a2, 1
+    ecall
+    li a0, 0
+    li a7, 1                 # exit
+    ecall
+";
+
+/// Its words.
+const FIRST_WORDS: [u32; 19] = [
+    0x0660_0293,
+    0xFE51_2E23,
+    0xFFC1_0513,
+    0x0010_0593,
+    0x0020_0613,
+    0x0040_0893,
+    0x0000_0073,
+    0x0410_0293,
+    0xFE51_2E23,
+    0xFFC1_0593,
+    0x0030_0613,
+    0x0020_0893,
+    0x0000_0073,
+    0x0010_0513,
+    0x0010_0613,
+    0x0000_0073,
+    0x0000_0513,
+    0x0010_0893,
+    0x0000_0073,
+];
+
+#[test]
+fn the_first_program_is_assembled(rt: HostRuntime) -> Result<(), Fail> {
+    let made = assemble(&rt, FIRST_SOURCE)?;
+    let file = fs::read(&rt, "image")?;
+    fs::remove_file(&rt, "image")?;
+    let wanted = image_file(rt.alloc(), &FIRST_WORDS)?;
+    assert_eq!(rt;
+        made.out.as_slice(),
+        b"76 text bytes, 0 data bytes, entry 00010000\n".as_slice()
+    );
+    assert_eq!(rt; file.len(), 4172);
+    assert_eq!(rt; file.as_slice(), wanted.as_slice());
+    Ok(())
+}
+
+#[test]
+fn a_refused_source_writes_nothing(rt: HostRuntime) -> Result<(), Fail> {
+    let made = assemble(&rt, "_start: beq zero,zero,L\n.space 4092\nL: ecall\n")?;
+    assert_eq!(rt; made.status, 2);
+    assert!(rt; made.out.is_empty());
+    assert_eq!(rt;
+        made.err.as_slice(),
+        b"bench: source refused: 4 Range at 1:23\n".as_slice()
+    );
+    assert_eq!(rt; run(&rt, "list image", b"")?.status, 6);
+    let made = assemble(&rt, "")?;
+    assert_eq!(rt;
+        made.err.as_slice(),
+        b"bench: source refused: 5 NoStart at 1:1\n".as_slice()
+    );
+    let made = run(&rt, "asm there-is-no-such-file image", b"")?;
+    assert_eq!(rt; made.status, 6);
+    Ok(())
+}
+
+/// Adds the numbers of a table, and writes the sum in decimal digits and a line feed to the terminal.
+const SUM_SOURCE: &str = ".data
+table: .word 3, 1, 4, 1, 5, 9, 2, 6
+digits: .space 10
+newline: .byte 10
+.text
+_start:
+    la t0, table
+    la t1, digits
+    li t2, 0
+add_next:
+    lw t3, 0(t0)
+    add t2, t2, t3
+    addi t0, t0, 4
+    bltu t0, t1, add_next
+    mv a0, t2
+    call print
+    li a0, 0
+    li a7, 1
+    ecall
+print:
+    la a1, newline
+    li t1, 10
+make_digit:
+    remu t3, a0, t1
+    addi t3, t3, 0x30
+    addi a1, a1, -1
+    sb t3, 0(a1)
+    divu a0, a0, t1
+    bnez a0, make_digit
+    la a2, newline
+    addi a2, a2, 1
+    sub a2, a2, a1
+    li a0, 1
+    li a7, 2
+    ecall
+    ret
+";
+
+#[test]
+fn an_assembled_program_runs(rt: HostRuntime) -> Result<(), Fail> {
+    let made = assemble(&rt, SUM_SOURCE)?;
+    assert_eq!(rt;
+        made.out.as_slice(),
+        b"124 text bytes, 43 data bytes, entry 00010000\n".as_slice()
+    );
+    // 38 instructions add up and pass on the sum, 22 make two digits and call
+    expect(
+        &rt,
+        "image 5 image\nturn 1 100000\nenter 1\nshown 5\nturn 1 100000\nenter 1\n",
+        "ran 60 call\nentered\nshown 5 33310a\nran 3 call\nended\n",
+    )?;
+    fs::remove_file(&rt, "image")?;
     Ok(())
 }

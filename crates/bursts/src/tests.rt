@@ -87,40 +87,64 @@ fn burst(core: &mut Core, quantum: u32) -> Result<Option<Done>, Fail> {
     Ok(loan.map(run_loan))
 }
 
-#[test]
-fn results_of_other_loans_are_strangers(rt: HostRuntime) -> Result<(), Fail> {
-    let alloc = rt.alloc();
-    for other_first in [false, true] {
-        let mut core = boot(alloc)?;
-        let mut other = boot(alloc)?;
-        let own = burst(&mut core, 10)?.expect(&rt, "a loan");
-        let strange = burst(&mut other, 10)?.expect(&rt, "a loan");
-        let (first, second) = if other_first {
-            (strange, own)
-        } else {
-            (own, strange)
-        };
-        let answer = Answer::Settled {
-            count: 6,
-            stop: Stop::Call,
-            outcome: Some(Outcome::Entered),
-        };
-        assert_eq!(rt; core.settle(first).ok(), Some(answer));
-        match core.settle(second) {
-            Ok(_) => assert!(rt; false),
-            Err(rejected) => {
-                assert_eq!(rt; rejected.why, Refused::Stranger);
-                assert_eq!(rt;
-                    (rejected.done.pid, rejected.done.turn, rejected.done.count),
-                    (1, 1, 6)
-                );
-            }
+/// The result of a loan of ten instructions.
+fn result_of<R: Abort>(rt: &R, core: &mut Core) -> Result<Done, Fail> {
+    Ok(burst(core, 10)?.expect(rt, "a loan"))
+}
+
+/// The core takes the result back.
+fn takes<R: Abort>(rt: &R, core: &mut Core, done: Done) {
+    let answer = Answer::Settled {
+        count: 6,
+        stop: Stop::Call,
+        outcome: Some(Outcome::Entered),
+    };
+    assert_eq!(rt; core.settle(done).ok(), Some(answer));
+}
+
+/// The core refuses the result, and gives it back.
+fn gives_back<R: Abort>(rt: &R, core: &mut Core, done: Done) {
+    match core.settle(done) {
+        Ok(_) => assert!(rt; false),
+        Err(rejected) => {
+            assert_eq!(rt; rejected.why, Refused::Stranger);
+            let done = &rejected.done;
+            assert_eq!(rt; (done.pid, done.turn, done.count), (1, 1, 6));
         }
-        assert_eq!(rt;
-            core.history(),
-            [Event::Turn { pid: 1, n: 6 }, Event::Enter { pid: 1 }].as_slice()
-        );
     }
+}
+
+/// Of the results of two cores' equal loans one takes the first that is offered alone.
+fn takes_first_alone<R: Abort>(rt: &R, core: &mut Core, first: Done, second: Done) {
+    takes(rt, core, first);
+    gives_back(rt, core, second);
+    assert_eq!(rt;
+        core.history(),
+        [Event::Turn { pid: 1, n: 6 }, Event::Enter { pid: 1 }].as_slice()
+    );
+}
+
+/// The result of another core's loan, which is like the first one of any core that was booted alike.
+fn other_result<R: Abort>(rt: &R, alloc: Global) -> Result<Done, Fail> {
+    let mut other = boot(alloc)?;
+    result_of(rt, &mut other)
+}
+
+#[test]
+fn the_own_result_makes_the_other_a_stranger(rt: HostRuntime) -> Result<(), Fail> {
+    let strange = other_result(&rt, rt.alloc())?;
+    let mut core = boot(rt.alloc())?;
+    let own = result_of(&rt, &mut core)?;
+    takes_first_alone(&rt, &mut core, own, strange);
+    Ok(())
+}
+
+#[test]
+fn an_equal_result_makes_the_own_a_stranger(rt: HostRuntime) -> Result<(), Fail> {
+    let strange = other_result(&rt, rt.alloc())?;
+    let mut core = boot(rt.alloc())?;
+    let own = result_of(&rt, &mut core)?;
+    takes_first_alone(&rt, &mut core, strange, own);
     Ok(())
 }
 
@@ -156,4 +180,105 @@ fn a_script_stops_at_a_refusal(rt: HostRuntime) -> Result<(), Fail> {
     // 256 and 6, the cause
     assert_eq!(rt; core.ended(1)?, Some(262));
     Ok(())
+}
+
+/// Lends, runs and takes back one process, where one is to be had.
+fn settle_one<R: Abort>(rt: &R, core: &mut Core, quantum: u32) -> Result<bool, Fail> {
+    match burst(core, quantum)? {
+        Some(done) => {
+            assert!(rt; core.settle(done).is_ok());
+            Ok(true)
+        }
+        None => Ok(false),
+    }
+}
+
+/// Lends, runs and takes back until nothing is lendable.
+fn run_by_loans<R: Abort>(rt: &R, core: &mut Core, quantum: u32) -> Result<(), Fail> {
+    for _ in 0..100 {
+        if !settle_one(rt, core, quantum)? {
+            return Ok(());
+        }
+    }
+    Ok(())
+}
+
+/// The numbers that a process was replied, and its status, as far as they are handed out.
+fn told(alloc: Global, core: &Core, pid: u32) -> Result<(Vec<u32>, Option<u32>), Fail> {
+    let replies = core.trace(pid)?;
+    let numbers = replies.iter().map(|reply| reply.a0).collect(alloc)?;
+    Ok((numbers, core.ended(pid)?))
+}
+
+/// Two cores show and hand out the same.
+fn look_alike<R: Abort>(rt: &R, alloc: Global, core: &Core, other: &Core) -> Result<(), Fail> {
+    for terminal in 0..8 {
+        assert_eq!(rt; core.shown(terminal), other.shown(terminal));
+    }
+    for pid in 1..=2 {
+        let (numbers, end) = told(alloc, core, pid)?;
+        let (others, other_end) = told(alloc, other, pid)?;
+        assert_eq!(rt; numbers.as_slice(), others.as_slice());
+        assert_eq!(rt; end, other_end);
+    }
+    Ok(())
+}
+
+/// Applies the events of a history, each of which is to be accepted.
+fn replay<R: Abort>(rt: &R, core: &mut Core, events: &[Event]) {
+    assert_eq!(rt; core.run_script(events), events.len());
+}
+
+/// Commits what was changed so far.
+fn commit(core: &mut Core) -> Result<(), Fail> {
+    core.apply(Event::Cut)?;
+    core.apply(Event::Complete { at: 65 })?;
+    core.apply(Event::Complete { at: 64 })?;
+    Ok(())
+}
+
+/// A core that ran by loans of this quantum alone.
+fn core_by_loans<R: Abort>(rt: &R, alloc: Global, quantum: u32) -> Result<Core, Fail> {
+    let mut core = boot(alloc)?;
+    run_by_loans(rt, &mut core, quantum)?;
+    Ok(core)
+}
+
+/// A core that ran by these events.
+fn core_by_events<R: Abort>(rt: &R, alloc: Global, events: &[Event]) -> Result<Core, Fail> {
+    let mut core = boot(alloc)?;
+    replay(rt, &mut core, events);
+    Ok(core)
+}
+
+/// Two cores show and hand out the same, before a commit and after it.
+fn stay_alike<R: Abort>(
+    rt: &R,
+    alloc: Global,
+    core: &mut Core,
+    other: &mut Core,
+) -> Result<(), Fail> {
+    look_alike(rt, alloc, core, other)?;
+    commit(core)?;
+    commit(other)?;
+    look_alike(rt, alloc, core, other)
+}
+
+/// The first run's two programs have ended, and both bytes are shown.
+fn ended_well<R: Abort>(rt: &R, core: &Core) -> Result<(), Fail> {
+    // nine loans, six of which came to a call, and the commit
+    assert_eq!(rt; core.history().len(), 18);
+    assert_eq!(rt; core.shown(0), [0x41].as_slice());
+    assert_eq!(rt; core.shown(1), [0x42].as_slice());
+    assert_eq!(rt; core.ended(1)?, Some(0));
+    Ok(())
+}
+
+#[test]
+fn loans_give_what_turns_give(rt: HostRuntime) -> Result<(), Fail> {
+    let alloc = rt.alloc();
+    let mut core = core_by_loans(&rt, alloc, 4)?;
+    let mut other = core_by_events(&rt, alloc, core.history())?;
+    stay_alike(&rt, alloc, &mut core, &mut other)?;
+    ended_well(&rt, &core)
 }

@@ -1,17 +1,16 @@
 -- From the parts of a core to the core.
-use Rattle.std.proofs.Common.{◌≡◌, ℕ, zero, suc, ◌+◌, ◌*◌, ◌^◌, ◌<◌, ◌≤◌, Bool, true, false, List, [], ◌∷◌, ◌++◌, length, map, slice_get, Option, Some, None, is_some, nat_le, count_by, Result, Ok, Err, refl, sym, ap, subst, ◌∙◌, arith}
+use Rattle.std.proofs.Common.{◌≡◌, ℕ, ◌+◌, ◌*◌, ◌^◌, ◌<◌, ◌≤◌, false, List, [], ◌∷◌, ◌++◌, length, map, Option, Some, None, is_some, nat_le, Result, Ok, Err, refl, sym, ap, subst, ◌∙◌, arith}
 use Rattle.std.proofs.lemmas.Bool.{leb-false}
 use Rattle.std.specs.Prelude.{IfOk, IfErr, OnOk, OnErr}
 use Rattle.machine_model.specs.States.{run}
 use Rattle.commit_deps.specs.Kept.{Kept}
 use Rattle.commit_deps.specs.Keeps.{Keeps}
 use Rattle.commit_deps.specs.declared.dependencies.Marked.{Marked}
-use Rattle.disk_model.specs.declared.change.NamedFile.{NamedFile}
-use Rattle.kernel_model.specs.Answers.{Kernel, Refuses, Applies, refusal, answer, turn_refusal, enter_refusal, now, limit, loans_out, ran_by, Lending}
+use Rattle.kernel_model.specs.Answers.{Refuses, Applies, refusal, turn_refusal, enter_refusal, limit, loans_out, ran_by, Lending}
 use Rattle.kernel_model.specs.Entries.{Entry}
-use Rattle.kernel_model.specs.State.{SyncState, Process, process_at}
+use Rattle.kernel_model.specs.State.{Process, process_at}
 use Rattle.kernel_model.specs.Steps.{own_entry, after_run}
-use Rattle.kernel_model.specs.World.{World, begun, after, happens}
+use Rattle.kernel_model.specs.World.{World, begun, happens}
 use Rattle.kernel_model.proofs.Runs.{after-append}
 use Rattle.kernel_model.specs.declared.answer.Answer.{Answer}
 use Rattle.kernel_model.specs.declared.answer.Answer.TheVariants as answer_of
@@ -19,14 +18,15 @@ use Rattle.kernel_model.specs.declared.answer.Refused.{Refused}
 use Rattle.kernel_model.specs.declared.event.Event.{Event}
 use Rattle.kernel_model.specs.declared.event.Event.TheVariants.{Turn, Enter}
 use Rattle.kernel.specs.Cores.{boot_of, run_of, kernel_of, IsCore}
-use Rattle.kernel.specs.Mirrors.{IsTask, AreTasks, Mirrors}
+use Rattle.kernel.specs.Mirrors.{Mirrors}
 use Rattle.kernel.specs.Parts.{Turned}
 use Rattle.kernel.specs.Seen.{AreScreens}
-use Rattle.kernel.specs.Tasks.{process_of, lending_of, count_out, needed, RanAt}
-use Rattle.kernel.specs.Tests.{full_of, lent_of, turn_refusal_of, enter_refusal_of, IsPlaceOf}
+use Rattle.kernel.specs.Tasks.{process_of, lending_of, count_out, needed}
+use Rattle.kernel.specs.Tests.{full_of, lent_of, turn_refusal_of, enter_refusal_of}
 use Rattle.kernel.specs.declared.boot.Booted.{Booted}
 use Rattle.kernel.specs.declared.shared.Shared.{Shared}
 use Rattle.kernel.specs.declared.task.Task.{Task}
+use Rattle.kernel.proofs.FewLoans.{few-same}
 use Rattle.kernel.proofs.Lists.{map-set-same, count-set-same, count-map, length-snoc}
 use Rattle.kernel.proofs.Refusing.{IsFineTurn, turn-fine}
 use Rattle.kernel.proofs.Quiet.{own-silent, screens-quiet, changes-part}
@@ -66,6 +66,7 @@ same-core b history history' tasks tasks' s d same_history same_tasks same_marks
         disk = h.mirrors.disk;
       };
       room = h.room;
+      loans = h.loans;
     }))
 
 pub refused-applies : (b : Booted) (history history' : List Event) (tasks tasks' : List Task) (last : ℕ) (e : Event) (o : Option Refused) (why : Refused)
@@ -106,6 +107,9 @@ turned-core b history history' old new s d pid n a h grown t =
     let out : count_out new ≡ count_out old =
     ap (λ (ts : List Task). count_out ts) t.ran.after
     ∙ count-set-same (λ (u : Task). is_some u.out) old t.place task (record task { machine = (run n task.machine).state }) t.ran.there refl in
+    let lendings : map lending_of new ≡ map lending_of old =
+    ap (λ (ts : List Task). map lending_of ts) t.ran.after
+    ∙ map-set-same lending_of old t.place task (record task { machine = (run n task.machine).state }) t.ran.there refl in
     let space : length history + 2 * count_out old < 2 ^ 40 = leb-false (2 ^ 40) (length history + 2 * count_out old) fine.room in
     let longer : length (history ++ Turn pid n ∷ []) ≡ length history + 1 = length-snoc history (Turn pid n) in
     subst (λ (es : List Event). IsCore b es new (record s { dependencies = d })) (sym grown) (record {
@@ -118,6 +122,7 @@ turned-core b history history' old new s d pid n a h grown t =
         disk = h.mirrors.disk;
       });
       room = omega (arith, longer, out, space);
+      loans = few-same (length history) (length (history ++ Turn pid n ∷ [])) old new (omega (arith, longer)) lendings h.loans;
     })
 
 pub turned-applies : (b : Booted) (history history' : List Event) (old new : List Task) (s : Shared) (later : List Marked) (last pid n : ℕ) (a : Answer)

@@ -1,28 +1,25 @@
 -- The parts of a core at boot keep what the run says before any event.
-use Rattle.std.proofs.Common.{◌≡◌, ℕ, zero, suc, ◌+◌, ◌*◌, ◌^◌, ◌-◌, ◌<◌, ◌≤◌, ◌⊎◌, inl, inr, Bool, true, false, List, [], ◌∷◌, ◌++◌, length, map, replicate, slice_get, Option, Some, None, is_some, count_by, refl, sym, ap, subst, ◌∙◌, arith}
-use Rattle.commit_deps.specs.Kept.{Kept}
+use Rattle.std.proofs.Common.{◌≡◌, ℕ, zero, suc, ◌+◌, ◌≤◌, ◌⊎◌, inl, inr, List, [], ◌∷◌, ◌++◌, length, map, slice_get, Option, Some, None, is_some, count_by, refl, sym, ap, subst, ◌∙◌, arith}
+use Rattle.std.specs.List.{AllByRecursion}
 use Rattle.commit_deps.specs.Keeps.{Keeps}
 use Rattle.calls.specs.Plans.{NamesFiles}
-use Rattle.disk_model.specs.Storage.{Storage}
 use Rattle.disk_model.specs.Runs.{begun as storage_at}
-use Rattle.disk_model.specs.declared.change.Change.{Change}
-use Rattle.disk_model.specs.declared.change.NamedFile.{NamedFile}
 use Rattle.kernel_model.specs.Answers.{Lending}
 use Rattle.kernel_model.specs.Entries.{Item, Got}
 use Rattle.kernel_model.specs.State.{Process}
-use Rattle.kernel_model.specs.World.{World, BootProgram, Boot, begun, first_process, processes_from}
+use Rattle.kernel_model.specs.World.{BootProgram, Boot, begun, first_process, processes_from}
 use Rattle.kernel_model.specs.declared.descriptor.Descriptor.{Descriptor}
-use Rattle.kernel_model.specs.declared.descriptor.Descriptor.TheVariants.{Tape, Terminal}
+use Rattle.machine_model.specs.Access.{HoldsBytes}
 use Rattle.machine_model.specs.States.{State}
-use Rattle.machine_model.specs.declared.reply.Reply.{Reply}
 use Rattle.machine.specs.First.{first_state}
-use Rattle.kernel.specs.Booting.{program_of, boot_with, nothing_lent}
-use Rattle.kernel.specs.Cores.{boot_of, run_of, IsCore}
+use Rattle.machine_model.specs.declared.reply.Reply.{Reply}
+use Rattle.kernel.specs.Booting.{program_of, nothing_lent}
+use Rattle.kernel.specs.Cores.{boot_of, IsCore}
 use Rattle.kernel.specs.First.{IsFirst, AreFirst, IsEmptyScreen, AreEmpty}
-use Rattle.kernel.specs.Marked.{AreMarked, front_of, whats}
-use Rattle.kernel.specs.Mirrors.{IsTask, AreTasks, AreChanges, Mirrors}
-use Rattle.kernel.specs.Seen.{IsScreen, AreScreens, IsTrace, end_items, end_marks}
-use Rattle.kernel.specs.Tasks.{process_of, status_of, lending_of, count_out, needed}
+use Rattle.kernel.specs.Marked.{AreMarked, front_of}
+use Rattle.kernel.specs.Mirrors.{IsTask}
+use Rattle.kernel.specs.Seen.{AreScreens, end_items, end_marks}
+use Rattle.kernel.specs.Tasks.{process_of, status_of, lending_of, count_out, needed, unsettled, AreFewLoans}
 use Rattle.kernel.specs.declared.boot.Booted.{Booted}
 use Rattle.kernel.specs.declared.boot.Program.{Program}
 use Rattle.kernel.specs.declared.screen.Screen.{Screen}
@@ -98,6 +95,34 @@ first-out programs tasks h =
     ∙ ap (λ (ls : List Lending). count_by (λ (l : Lending). is_some l.out) ls) (lendings-first programs tasks h)
     ∙ none-out programs
 
+-- no process had a loan
+none-lent : (programs : List Program) → AreFewLoans 0 (map nothing_lent programs)
+none-lent programs = record { each = λ place l there. few programs place l there }
+  where
+    few : (ps : List Program) (place : ℕ) (l : Lending) → slice_get (map nothing_lent ps) place ≡ Some l → l.loans ≤ 0 + unsettled l.out
+    few [] place l there = cc
+    few (p ∷ ps) zero l there = let same : nothing_lent p ≡ l = cc in subst (λ (x : Lending). x.loans ≤ 0 + unsettled x.out) same (omega arith)
+    few (p ∷ ps) (suc place) l there = few ps place l there
+
+-- ---- the memories
+each-holds : (programs : List Program) (tasks : List Task) → length tasks ≡ length programs
+    → ((i : ℕ) (t : Task) → slice_get tasks i ≡ Some t → (p : Program) × (slice_get programs i ≡ Some p) × HoldsBytes (first_state p.image).hart.memory)
+    → AllByRecursion (λ (p : BootProgram). HoldsBytes p.state.hart.memory) (map program_of programs)
+each-holds [] tasks l h = tt
+each-holds (p ∷ ps) [] l h = absurd (omega arith)
+each-holds (p ∷ ps) (t ∷ ts) l h =
+    let first = h 0 t refl in
+    let same : first.0 ≡ p = cc in (
+      subst (λ (q : Program). HoldsBytes (first_state q.image).hart.memory) same first.2,
+      each-holds ps ts (omega arith) (λ i u there. h (suc i) u there),
+    )
+
+pub programs-hold : (programs : List Program) (tasks : List Task) → AreFirst programs tasks
+    → AllByRecursion (λ (p : BootProgram). HoldsBytes p.state.hart.memory) (map program_of programs)
+programs-hold programs tasks h = each-holds programs tasks h.count (λ i t there.
+    let one = h.each i t there in
+    (one.0, one.1, subst (λ (s : State). HoldsBytes s.hart.memory) one.2.machine one.2.bytes))
+
 -- ---- one task
 first-task : (b : Boot) (i : ℕ) (p : Program) (t : Task) → IsFirst i p t → IsTask (begun b) i t
 first-task b i p t h = record {
@@ -149,6 +174,7 @@ first-core b tasks s first empty keeps changes files disk = record {
     disk = disk;
   };
   room = let none : count_out tasks ≡ 0 = first-out b.programs.items tasks first in omega (arith, none);
+  loans = subst (λ (ls : List Lending). AreFewLoans 0 ls) (sym (lendings-first b.programs.items tasks first)) (none-lent b.programs.items);
 }
 
 -- ---- one task more

@@ -1,12 +1,12 @@
 -- From an Enter of the parts to the core.
-use Rattle.std.proofs.Common.{◌≡◌, ℕ, zero, suc, ◌+◌, ◌*◌, ◌^◌, ◌<◌, ◌≤◌, Bool, true, false, if◌then◌else◌, List, [], ◌∷◌, ◌++◌, length, map, Option, Some, None, is_some, nat_le, count_by, Result, Ok, Err, refl, sym, ap, subst, ◌∙◌, arith}
+use Rattle.std.proofs.Common.{◌≡◌, ℕ, ◌+◌, ◌*◌, ◌^◌, ◌<◌, ◌≤◌, Bool, if◌then◌else◌, List, [], ◌∷◌, ◌++◌, length, map, Option, None, is_some, nat_le, count_by, Result, Ok, Err, refl, sym, ap, subst, ◌∙◌, arith}
 use Rattle.std.proofs.lemmas.Bool.{leb-false}
 use Rattle.std.proofs.lemmas.List.Sums.{sum_by-cons}
 use Rattle.std.specs.Prelude.{IfOk, IfErr, OnOk, OnErr}
-use Rattle.kernel_model.specs.Answers.{Kernel, Refuses, Applies, refusal, answer, enter_refusal, now, limit, loans_out, outcome_of, entered, Lending}
+use Rattle.kernel_model.specs.Answers.{Refuses, Applies, refusal, enter_refusal, limit, outcome_of, entered, Lending}
 use Rattle.kernel_model.specs.State.{Process, process_at}
 use Rattle.kernel_model.specs.Steps.{step}
-use Rattle.kernel_model.specs.World.{World, begun, after, happens}
+use Rattle.kernel_model.specs.World.{World, begun, happens}
 use Rattle.kernel_model.proofs.Runs.{after-append}
 use Rattle.kernel_model.specs.declared.answer.Answer.{Answer}
 use Rattle.kernel_model.specs.declared.answer.Refused.{Refused}
@@ -20,6 +20,7 @@ use Rattle.kernel.specs.declared.boot.Booted.{Booted}
 use Rattle.kernel.specs.declared.shared.Shared.{Shared}
 use Rattle.kernel.specs.declared.task.Task.{Task}
 use Rattle.kernel.proofs.EnterFine.{fine-full}
+use Rattle.kernel.proofs.FewLoans.{few-same}
 
 count-by : {A : Type 0} (p : A → Bool) (x : A) (xs : List A) → count_by p (x ∷ xs) ≡ (if p x then 1 else 0) + count_by p xs
 count-by p x xs = sum_by-cons (λ y. if p y then 1 else 0) x xs
@@ -68,6 +69,7 @@ enter-core b history history' old new s s' pid (Ok a) h fine mirrors grown lent 
           subst (λ (v : World). Mirrors v new s') (sym (after-append (begun (boot_of b)) history (Enter pid)))
           (mirrors (run_of b history) h.mirrors);
       room = omega (arith, longer, out, space);
+      loans = few-same (length history) (length (history ++ Enter pid ∷ [])) old new (omega (arith, longer)) lent h.loans;
     })
 enter-core b history history' old new s s' pid (Err why) h fine mirrors grown lent same stays =
     let out : count_out new ≡ count_out old = same-out old new lent in
@@ -75,6 +77,7 @@ enter-core b history history' old new s s' pid (Err why) h fine mirrors grown le
     subst (λ (es : List Event). IsCore b es new s') (sym stays) (record {
       mirrors = same (run_of b history) h.mirrors;
       room = omega (arith, out, was);
+      loans = few-same (length history) (length history) old new (omega arith) lent h.loans;
     })
 
 pub enter-applies : (b : Booted) (history history' : List Event) (old new : List Task) (s : Shared) (last pid : ℕ) (r : Result Answer Refused)

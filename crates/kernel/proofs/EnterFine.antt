@@ -1,12 +1,11 @@
 -- An Enter that is not refused.
-use Rattle.std.proofs.Common.{◌≡◌, ℕ, zero, suc, ◌+◌, ◌*◌, ◌^◌, ◌<◌, ◌≤◌, Bool, true, false, ◌||◌, not, List, [], ◌∷◌, length, map, slice_get, Option, Some, None, is_some, is_none, nat_lt, nat_le, if◌then◌else◌, refl, sym, ap, subst, ◌∙◌, arith}
+use Rattle.std.proofs.Common.{◌≡◌, ℕ, suc, ◌+◌, ◌^◌, ◌<◌, Bool, true, false, ◌||◌, not, List, [], ◌∷◌, map, slice_get, Option, Some, None, is_some, is_none, nat_le, refl, sym, ap, ◌∙◌, arith}
 use Rattle.std.proofs.lemmas.Bool.{leb-false}
-use Rattle.machine_model.specs.States.{State, stands_at}
-use Rattle.machine_model.specs.declared.stop.Stop.{Stop}
+use Rattle.machine_model.specs.States.{stands_at}
 use Rattle.kernel_model.specs.declared.answer.Refused.{Refused}
 use Rattle.kernel_model.specs.State.{Process, process_at}
 use Rattle.kernel_model.specs.declared.answer.Refused.TheVariants as refused
-use Rattle.kernel_model.specs.Answers.{first_of, ◌⇒◌, has_ended, is_stopped, count_at, enter_refusal, limit, Lending, lending_at, quantum_out}
+use Rattle.kernel_model.specs.Answers.{first_of, ◌⇒◌, has_ended, is_stopped, count_at, enter_refusal, limit}
 use Rattle.kernel.specs.Tasks.{process_of, lending_of, status_of}
 use Rattle.kernel.specs.Tests.{lent_of, enter_refusal_of}
 use Rattle.kernel.specs.declared.task.Task.{Task}

@@ -1,5 +1,5 @@
 -- What a plan says comes of an Enter.
-use Rattle.std.proofs.Common.{◌≡◌, ℕ, ◌+◌, ◌==◌, ◌||◌, ◌⊎◌, inl, inr, not, nat_lt, nat_le, Bool, true, false, if◌then◌else◌, List, [], ◌∷◌, length, map, Option, Some, None, is_some, IfSome, IfOk, Result, Ok, Err, option_to_list, refl, sym, ap, subst, ◌∙◌, arith}
+use Rattle.std.proofs.Common.{◌≡◌, ℕ, ◌+◌, ◌==◌, ◌||◌, ◌⊎◌, inl, not, nat_lt, nat_le, Bool, true, false, if◌then◌else◌, List, [], ◌∷◌, length, map, Option, Some, None, IfSome, IfOk, Result, Ok, Err, option_to_list, refl, sym, ap, subst, ◌∙◌}
 use Rattle.std.specs.List.{list_all}
 use Rattle.disk_model.specs.declared.change.Change.{Change}
 use Rattle.disk_model.specs.declared.change.NamedFile.{NamedFile}
@@ -11,7 +11,7 @@ use Rattle.machine.proofs.Keeping.{next-not_limit}
 use Rattle.calls.specs.Plans.{IsPlan, IsPossible, NamesFiles, HasNoBytes}
 use Rattle.calls.specs.declared.plan.Plan.{Plan}
 use Rattle.kernel_model.specs.Requests.{request_of, longest_name, most_bytes}
-use Rattle.kernel_model.specs.Rows.{Effect, row, row_end, row_write, row_open, write_to, write_read, write_file, open_named, open_free, open_file, open_made, failure, only, number, cause_number, may_write, names_of, descriptor_at, longest_file, most_files, is_name_byte, free_descriptor, file_named}
+use Rattle.kernel_model.specs.Rows.{Effect, row, row_end, row_write, row_open, write_to, write_read, open_named, open_free, open_file, number, cause_number, may_write, names_of, descriptor_at, longest_file, most_files, is_name_byte, free_descriptor, file_named}
 use Rattle.kernel_model.specs.State.{SyncState, Shared, Process, shared, put_process, changed_by}
 use Rattle.kernel_model.specs.Steps.{Transition, effect_at, set_slots, after_effect, after_effect_if}
 use Rattle.kernel_model.specs.declared.carrier.Carrier.{Carrier}
@@ -24,7 +24,7 @@ use Rattle.kernel_model.specs.declared.request.Request.{Request}
 use Rattle.kernel_model.specs.declared.request.Request.TheVariants.{Exit, Write, Open, Unknown}
 use Rattle.kernel_model.specs.declared.request.Verdict.{Verdict}
 use Rattle.kernel_model.specs.declared.request.Verdict.TheVariants.{Waits, Replies, Ends}
-use Rattle.kernel.specs.Entering.{item_of, machine_after, descriptors_after, status_after, MayBeTold, entry_of, planned, PlansEnter}
+use Rattle.kernel.specs.Entering.{item_of, machine_after, descriptors_after, status_after, MayBeTold, planned, PlansEnter}
 
 -- ---- no call of the table waits, and one that ends its process does nothing else
 abbrev IsRowOf : Verdict → Option Change → Option Output → List Slot → Type 0

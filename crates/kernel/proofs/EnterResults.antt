@@ -1,6 +1,6 @@
 -- What holds of results.
 use Rattle.std.proofs.Common.{Result, Ok, Err}
-use Rattle.std.specs.Prelude.{OnOk, OnErr, IfOk, IfErr}
+use Rattle.std.specs.Prelude.{OnOk, OnErr}
 
 pub on-ok-any : {T E P : Type 0} (r : Result T E) → P → OnOk r P
 on-ok-any (Ok x) h = h

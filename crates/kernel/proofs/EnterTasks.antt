@@ -1,20 +1,20 @@
 -- Tasks after an Enter.
-use Rattle.std.proofs.Common.{◌≡◌, ℕ, zero, suc, ◌+◌, ◌*◌, ◌^◌, ◌<◌, ◌≤◌, ◌==◌, ◌&&◌, ◌⊎◌, inl, inr, Bool, true, false, List, [], ◌∷◌, ◌++◌, length, map, replicate, slice_get, slice_set, Option, Some, None, is_some, if◌then◌else◌, option_to_list, refl, sym, ap, subst, ◌∙◌, arith}
-use Rattle.std.specs.List.{AllByRecursion, fold}
+use Rattle.std.proofs.Common.{◌≡◌, ℕ, suc, ◌+◌, ◌^◌, ◌<◌, ◌≤◌, ◌==◌, ◌&&◌, inl, inr, Bool, true, false, List, [], ◌∷◌, ◌++◌, length, map, replicate, slice_get, slice_set, Option, Some, None, is_some, if◌then◌else◌, option_to_list, refl, sym, ap, subst, ◌∙◌, arith}
+use Rattle.std.specs.List.{fold}
 use Rattle.disk_model.specs.declared.change.Change.{Change}
 use Rattle.disk_model.specs.declared.change.Change.TheVariants.{Create, Write, Empty}
 use Rattle.disk_model.specs.declared.change.NamedFile.{NamedFile}
 use Rattle.disk_model.specs.Files.{changed, with_bytes, patched}
 use Rattle.disk_model.specs.Storage.{is_empty}
-use Rattle.machine_model.specs.States.{State, stands_at, replied}
+use Rattle.machine_model.specs.States.{State}
 use Rattle.machine_model.specs.declared.reply.Reply.{Reply}
 use Rattle.calls.specs.Plans.{NamesFile, NamesFiles}
 use Rattle.calls.specs.declared.plan.Plan.{Plan}
 use Rattle.commit_deps.specs.Marks.{IsMarkOf}
 use Rattle.kernel_model.specs.Entries.{Entry, Item, Got, End as Ended}
 use Rattle.kernel_model.specs.Loans.{waits_after, is_waiting}
-use Rattle.kernel_model.specs.Shown.{Given, given_by, told, items_for}
-use Rattle.kernel_model.specs.State.{SyncState, Process, put_process, changed_by}
+use Rattle.kernel_model.specs.Shown.{Given, given_by, told}
+use Rattle.kernel_model.specs.State.{Process, put_process, changed_by}
 use Rattle.kernel_model.specs.Steps.{Transition}
 use Rattle.kernel_model.specs.World.{World}
 use Rattle.kernel_model.proofs.Runs.{told-entry}
@@ -24,7 +24,7 @@ use Rattle.kernel_model.specs.declared.effect.Slot.{Slot}
 use Rattle.kernel_model.specs.declared.request.Verdict.{Verdict}
 use Rattle.kernel_model.specs.declared.request.Verdict.TheVariants.{Waits, Replies, Ends}
 use Rattle.kernel.specs.Entering.{item_of, machine_after, descriptors_after, status_after, replies_of, reply_marks, end_after, MayBeTold, entry_of, process_after, planned, PlansEnter, IsTold}
-use Rattle.kernel.specs.Marked.{AreMarked, whats, front_of}
+use Rattle.kernel.specs.Marked.{AreMarked, whats}
 use Rattle.kernel.specs.Mirrors.{IsTask, AreTasks}
 use Rattle.kernel.specs.Seen.{IsTrace, end_items, end_marks}
 use Rattle.kernel.specs.Tasks.{process_of, needed, status_of}

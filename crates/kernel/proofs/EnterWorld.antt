@@ -1,5 +1,5 @@
 -- An Enter of the parts is an Enter of the run.
-use Rattle.std.proofs.Common.{◌≡◌, ℕ, zero, suc, ◌+◌, ◌*◌, ◌^◌, ◌<◌, ◌≤◌, ◌⊎◌, inl, inr, Bool, true, false, List, [], ◌∷◌, ◌++◌, length, map, slice_get, slice_set, Option, Some, None, is_some, if◌then◌else◌, IfSome, option_to_list, refl, sym, ap, subst, ◌∙◌, arith}
+use Rattle.std.proofs.Common.{◌≡◌, ℕ, ◌+◌, ◌≤◌, inl, inr, Bool, List, [], ◌∷◌, ◌++◌, length, map, slice_get, slice_set, Option, Some, None, is_some, if◌then◌else◌, IfSome, option_to_list, refl, sym, ap, subst, ◌∙◌, arith}
 use Rattle.disk_model.specs.declared.change.Change.{Change}
 use Rattle.disk_model.specs.declared.change.NamedFile.{NamedFile}
 use Rattle.disk_model.specs.Files.{Follow, files_after}
@@ -8,7 +8,6 @@ use Rattle.disk_model.proofs.Reading.{files_after-append, follow_both}
 use Rattle.disk_model.proofs.Tidy.{tidy_after}
 use Rattle.machine_model.specs.States.{State, stands_at}
 use Rattle.machine_model.specs.declared.reply.Reply.{Reply}
-use Rattle.machine_model.specs.declared.stop.Stop.{Stop}
 use Rattle.calls.specs.Plans.{IsPossible, NamesFiles}
 use Rattle.calls.specs.declared.plan.Plan.{Plan}
 use Rattle.commit_deps.specs.Kept.{Kept}
@@ -20,17 +19,16 @@ use Rattle.kernel_model.specs.Shown.{told}
 use Rattle.kernel_model.specs.declared.descriptor.Descriptor.{Descriptor}
 use Rattle.kernel.specs.declared.trace.End.{End}
 use Rattle.kernel_model.specs.Paths.{changes_of}
-use Rattle.kernel_model.specs.State.{SyncState, Process, process_at, shared, changed_by}
+use Rattle.kernel_model.specs.State.{Process, process_at, shared, changed_by}
 use Rattle.kernel_model.specs.Steps.{Transition, step, after_enter, after_effect_if, effect_at, impossible}
 use Rattle.kernel_model.specs.World.{World, happens}
 use Rattle.kernel_model.proofs.Runs.{changes_of-entry}
 use Rattle.kernel_model.specs.declared.carrier.Carrier.TheVariants.{Proc}
-use Rattle.kernel_model.specs.declared.event.Event.{Event}
 use Rattle.kernel_model.specs.declared.event.Event.TheVariants.{Enter}
 use Rattle.kernel.specs.Entering.{item_of, entry_of, planned, PlansEnter, IsEntering, IsTold, IsEntered, IsSameTask, IsSameShared}
-use Rattle.kernel.specs.Marked.{AreMarked, whats, front_of}
-use Rattle.kernel.specs.Mirrors.{IsTask, AreTasks, AreChanges, Mirrors}
-use Rattle.kernel.specs.Seen.{IsTrace, AreScreens, end_items, end_marks}
+use Rattle.kernel.specs.Marked.{AreMarked, front_of}
+use Rattle.kernel.specs.Mirrors.{IsTask, AreChanges, Mirrors}
+use Rattle.kernel.specs.Seen.{AreScreens, end_items, end_marks}
 use Rattle.kernel.specs.Tasks.{process_of, lending_of, status_of, needed}
 use Rattle.kernel.specs.declared.plan.Entering.{Entering}
 use Rattle.kernel.specs.declared.shared.Shared.{Shared}

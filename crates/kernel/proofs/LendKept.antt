@@ -23,6 +23,7 @@ use Rattle.kernel.specs.declared.loan.Loan.{Loan}
 use Rattle.kernel.specs.declared.shared.Shared.{Shared}
 use Rattle.kernel.specs.declared.trace.End.{End}
 use Rattle.kernel.specs.declared.task.Task.{Task}
+use Rattle.kernel.proofs.FewLoans.{few-put, few-here}
 use Rattle.kernel.proofs.LendPick.{find-round}
 
 length-map : {A B : Type 0} (f : A → B) (xs : List A) → length (map f xs) ≡ length xs
@@ -124,6 +125,7 @@ lent-core b history old new shared quantum behind loan h room lent =
     let few : length history + 2 * count_out old ≤ 2 ^ 40 - 2 = ltb-false (2 ^ 40 - 2) (length history + 2 * count_out old) room in
     let more : count_out (slice_set old lent.place (lent_task quantum t)) ≡ count_out old + 1 =
     count_out-lent quantum old lent.place t lent.there (fits quantum t lent.fit).here in
+    let had : t.loans ≤ length history = few-here (length history) old lent.place t h.loans lent.there (fits quantum t lent.fit).here in
     subst (λ (ts : List Task). IsCore b history ts shared) (sym lent.after) (record {
       mirrors = record {
         each = lent-tasks (run_of b history) old lent.place quantum t h.mirrors.each lent.there lent.fit;
@@ -133,6 +135,7 @@ lent-core b history old new shared quantum behind loan h room lent =
         disk = h.mirrors.disk;
       };
       room = omega arith;
+      loans = few-put (length history) old lent.place (lent_task quantum t) (omega (arith, had)) h.loans;
     })
 
 -- ---- the process that is picked

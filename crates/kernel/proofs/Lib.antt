@@ -9,6 +9,8 @@ pub mod EnterResults
 pub mod EnterScreens
 pub mod EnterTasks
 pub mod EnterWorld
+pub mod FewLoans
+pub mod Fronts
 pub mod LendKept
 pub mod LendNext
 pub mod LendPick
@@ -18,6 +20,7 @@ pub mod Quiet
 pub mod Refusing
 pub mod Releasing
 pub mod Scripting
+pub mod SettleAccepted
 pub mod SettleCore
 pub mod SettleWorld
 pub mod Turning

@@ -1,6 +1,5 @@
 -- A loop that changes each element of a list.
-use Rattle.std.proofs.Common.{◌≡◌, ℕ, zero, suc, ◌+◌, ◌<◌, ◌≤◌, ◌⊎◌, inl, inr, List, [], ◌∷◌, length, slice_get, slice_set, Option, Some, nat_le, refl, sym, ap, subst, ◌∙◌, arith, if◌then◌else◌, Bool, true, false}
-use Rattle.std.specs.List.{prefix_len}
+use Rattle.std.proofs.Common.{◌≡◌, ℕ, suc, ◌+◌, ◌<◌, ◌≤◌, inl, inr, List, [], ◌∷◌, length, slice_get, slice_set, Some, nat_le, sym, subst, arith, if◌then◌else◌, true, false}
 use Rattle.kernel.specs.Marked.{front_of}
 use Rattle.kernel.proofs.Lists.{get-set, get-within}
 

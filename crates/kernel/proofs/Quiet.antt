@@ -1,26 +1,22 @@
 -- Events that change no file, print nothing and tell nothing.
-use Rattle.std.proofs.Common.{◌≡◌, ℕ, zero, suc, ◌+◌, ◌*◌, ◌^◌, ◌<◌, ◌≤◌, ◌==◌, ◌&&◌, Bool, true, false, if◌then◌else◌, List, [], ◌∷◌, ◌++◌, length, map, slice_get, Option, Some, None, is_some, option_to_list, refl, sym, ap, subst, ◌∙◌, arith}
+use Rattle.std.proofs.Common.{◌≡◌, ℕ, ◌+◌, ◌==◌, ◌&&◌, Bool, true, false, if◌then◌else◌, List, [], ◌∷◌, ◌++◌, Option, None, option_to_list, refl, sym, ap, subst, ◌∙◌, arith}
 use Rattle.std.specs.List.{fold}
 use Rattle.std.proofs.lemmas.Bool.{ne_eqb}
 use Rattle.disk_model.specs.Files.{Follow, files_after}
-use Rattle.disk_model.specs.Storage.{Storage, is_empty}
 use Rattle.disk_model.specs.declared.change.Change.{Change}
-use Rattle.disk_model.specs.declared.change.NamedFile.{NamedFile}
 use Rattle.kernel_model.specs.Entries.{Entry, Item}
 use Rattle.kernel_model.specs.Loans.{waits_after, is_waiting}
 use Rattle.kernel_model.specs.Paths.{changes_of, with_change}
 use Rattle.kernel_model.specs.Shown.{Given, given_by, each_from, bytes_for, printed, items_for, told}
-use Rattle.kernel_model.specs.State.{SyncState}
 use Rattle.kernel_model.specs.Steps.{own_entry, disk_entry}
 use Rattle.kernel_model.specs.World.{World}
 use Rattle.kernel_model.proofs.Runs.{each_from-append, append-nil}
 use Rattle.kernel_model.specs.declared.effect.Output.{Output}
 use Rattle.kernel.specs.Marked.{AreMarked, whats}
 use Rattle.kernel.specs.Seen.{IsScreen, AreScreens, IsTrace, end_marks}
-use Rattle.kernel.specs.Mirrors.{AreChanges, IsTask}
+use Rattle.kernel.specs.Mirrors.{AreChanges}
 use Rattle.kernel.specs.declared.screen.Screen.{Screen}
 use Rattle.kernel.specs.declared.shared.Shared.{Shared}
-use Rattle.kernel.specs.declared.task.Task.{Task}
 use Rattle.kernel.specs.declared.trace.Trace.{Trace}
 
 -- the event changes no file, prints nothing and tells nothing

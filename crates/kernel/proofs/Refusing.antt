@@ -1,6 +1,6 @@
 -- What a refusal that is not there says.
-use Rattle.std.proofs.Common.{◌≡◌, ℕ, zero, suc, ◌+◌, ◌*◌, ◌^◌, ◌<◌, ◌≤◌, Bool, true, false, ◌||◌, not, List, [], ◌∷◌, length, map, slice_get, Option, Some, None, is_some, is_none, nat_lt, nat_le, if◌then◌else◌, refl, sym, ap, subst, ◌∙◌, arith}
-use Rattle.std.proofs.lemmas.Bool.{ltb-false, leb-false}
+use Rattle.std.proofs.Common.{◌≡◌, ℕ, ◌+◌, ◌^◌, ◌≤◌, Bool, true, false, ◌||◌, [], ◌∷◌, Some, None, is_some, nat_lt, refl}
+use Rattle.std.proofs.lemmas.Bool.{ltb-false}
 use Rattle.kernel_model.specs.declared.answer.Refused.{Refused}
 use Rattle.kernel_model.specs.declared.answer.Refused.TheVariants as refused
 use Rattle.kernel_model.specs.State.{Process}

@@ -1,17 +1,16 @@
 -- What a core shows and hands out is what the run releases.
-use Rattle.std.proofs.Common.{◌≡◌, ℕ, zero, suc, ◌+◌, ◌==◌, ◌&&◌, ◌<◌, ◌≤◌, Bool, true, false, nat_le, if◌then◌else◌, List, [], ◌∷◌, ◌++◌, length, take, map, slice_get, Option, Some, None, is_some, refl, sym, ap, subst, ◌∙◌, arith}
+use Rattle.std.proofs.Common.{◌≡◌, ℕ, suc, ◌+◌, ◌==◌, ◌&&◌, Bool, true, false, nat_le, if◌then◌else◌, List, [], ◌∷◌, ◌++◌, length, take, map, slice_get, Option, Some, None, refl, sym, ap, ◌∙◌, arith}
 use Rattle.std.proofs.lemmas.Bool.{eqb-true, eqb-false, eq-eqb, ne_eqb}
-use Rattle.kernel_model.specs.Answers.{now}
-use Rattle.kernel_model.specs.Entries.{Entry, Item, Got, End as Ended}
+use Rattle.kernel_model.specs.Entries.{Item, Got, End as Ended}
 use Rattle.kernel_model.specs.Paths.{is_settled}
 use Rattle.kernel_model.specs.Shown.{Given, front, released, printed, told, shown, handed, replies_in, end_in}
 use Rattle.kernel_model.specs.State.{Process, process_at}
 use Rattle.kernel_model.specs.World.{World}
 use Rattle.machine_model.specs.declared.reply.Reply.{Reply}
-use Rattle.kernel.specs.Cores.{run_of, kernel_of, IsCore}
+use Rattle.kernel.specs.Cores.{run_of, IsCore}
 use Rattle.kernel.specs.Handing.{handed_end_of}
 use Rattle.kernel.specs.Marked.{AreMarked, front_of, whats}
-use Rattle.kernel.specs.Seen.{IsScreen, AreScreens, IsTrace, end_items, end_marks}
+use Rattle.kernel.specs.Seen.{IsScreen, IsTrace, end_items, end_marks}
 use Rattle.kernel.specs.Tasks.{process_of}
 use Rattle.kernel.specs.Tests.{IsPlaceOf}
 use Rattle.kernel.specs.declared.boot.Booted.{Booted}

@@ -1,5 +1,5 @@
 -- Events applied in turn.
-use Rattle.std.proofs.Common.{◌≡◌, ℕ, zero, suc, ◌+◌, ◌<◌, ◌≤◌, Bool, true, false, List, [], ◌∷◌, ◌++◌, length, take, slice_get, Option, Some, None, Result, Ok, Err, is_err, refl, sym, ap, subst, ◌∙◌, arith, append_assoc}
+use Rattle.std.proofs.Common.{◌≡◌, ℕ, zero, suc, ◌+◌, true, false, List, [], ◌∷◌, ◌++◌, take, slice_get, Some, None, Result, Ok, Err, is_err, sym, ap, subst, ◌∙◌, arith, append_assoc}
 use Rattle.kernel_model.proofs.Runs.{append-nil}
 use Rattle.kernel_model.specs.Answers.{Kernel, Applies, AllAccepted, refusal, with_event, with_events}
 use Rattle.kernel_model.specs.declared.answer.Answer.{Answer}

@@ -1,19 +1,18 @@
 -- From a loan's result in the parts to the core.
-use Rattle.std.proofs.Common.{◌≡◌, ℕ, zero, suc, ◌+◌, ◌*◌, ◌^◌, ◌<◌, ◌≤◌, Bool, true, false, if◌then◌else◌, List, [], ◌∷◌, ◌++◌, length, map, slice_get, slice_set, Option, Some, None, is_some, option_map, count_by, Result, Ok, Err, refl, sym, ap, subst, ◌∙◌, arith, length-append}
+use Rattle.std.proofs.Common.{◌≡◌, ℕ, zero, suc, ◌+◌, ◌*◌, ◌^◌, ◌≤◌, Bool, true, false, if◌then◌else◌, List, [], ◌∷◌, ◌++◌, length, map, slice_get, slice_set, Option, Some, None, is_some, option_map, count_by, Result, Ok, Err, refl, sym, ap, subst, ◌∙◌, arith, length-append}
 use Rattle.std.proofs.lemmas.List.Sums.{sum_by-cons}
 use Rattle.std.specs.Prelude.{◌≢◌, IfOk, IfErr, OnOk, OnErr}
-use Rattle.machine_model.specs.States.{State, Ran, ran, run, stands_at}
+use Rattle.machine_model.specs.States.{State, ran, run, stands_at}
 use Rattle.machine_model.specs.declared.stop.Stop.{Stop}
-use Rattle.kernel_model.specs.Answers.{Kernel, Lending, lending_at, quantum_out, now, process_of as process_in, with_event, outcome_of}
-use Rattle.kernel_model.specs.Loans.{LoanResult, IsOfLoan, loans_in, loan_count, put_lending, returned, events_of, settled, settled_outcome, settled_answer, outcome_after}
+use Rattle.kernel_model.specs.Answers.{Kernel, Lending, lending_at, quantum_out, outcome_of}
+use Rattle.kernel_model.specs.Loans.{LoanResult, IsOfLoan, loans_in, put_lending, events_of, settled, settled_answer, outcome_after}
 use Rattle.kernel_model.specs.State.{Process, process_at}
 use Rattle.kernel_model.specs.Steps.{step}
-use Rattle.kernel_model.specs.World.{World, begun, after, happens}
-use Rattle.kernel_model.proofs.Runs.{after-append, after-after, now-with_event}
+use Rattle.kernel_model.specs.World.{World, begun, after}
+use Rattle.kernel_model.proofs.Runs.{after-after, now-with_event}
 use Rattle.kernel_model.specs.declared.answer.Answer.{Answer}
 use Rattle.kernel_model.specs.declared.answer.Answer.TheVariants as answer_of
 use Rattle.kernel_model.specs.declared.answer.Outcome.{Outcome}
-use Rattle.kernel_model.specs.declared.answer.Refused.{Refused}
 use Rattle.kernel_model.specs.declared.answer.Refused.TheVariants.{Stranger, OutOfMemory}
 use Rattle.kernel_model.specs.declared.event.Event.{Event}
 use Rattle.kernel_model.specs.declared.event.Event.TheVariants.{Turn, Enter}
@@ -22,7 +21,7 @@ use Rattle.kernel.specs.Entering.{IsSameTask, IsSameShared}
 use Rattle.kernel.specs.Loaned.{loan_result}
 use Rattle.kernel.specs.Mirrors.{Mirrors}
 use Rattle.kernel.specs.Settling.{IsLoanOf, IsBack, IsTurnNoted, IsTurnEntered}
-use Rattle.kernel.specs.Tasks.{process_of, lending_of, count_out}
+use Rattle.kernel.specs.Tasks.{process_of, lending_of, count_out, unsettled, AreFewLoans}
 use Rattle.kernel.specs.declared.boot.Booted.{Booted}
 use Rattle.kernel.specs.declared.loan.Done.{Done}
 use Rattle.kernel.specs.declared.loan.Rejected.{Rejected}
@@ -32,16 +31,17 @@ use Rattle.kernel.proofs.EnterCore.{same-out}
 use Rattle.kernel.proofs.EnterFine.{process-of}
 use Rattle.kernel.proofs.EnterLists.{map-set, get-map}
 use Rattle.kernel.proofs.EnterWorld.{same-mirrors, same-lendings}
+use Rattle.kernel.proofs.FewLoans.{few-longer, few-same, few-put, few-at}
 use Rattle.kernel.proofs.SettleWorld.{run-reaches, back-mirrors, both-mirrors}
 
 -- ---- whose loan a result is of
-lending-of : (tasks : List Task) (pid place : ℕ) (t : Task) → pid ≡ place + 1 → slice_get tasks place ≡ Some t
+pub lending-of : (tasks : List Task) (pid place : ℕ) (t : Task) → pid ≡ place + 1 → slice_get tasks place ≡ Some t
     → lending_at (map lending_of tasks) pid ≡ Some (lending_of t)
 lending-of tasks pid place t number there =
     let next : pid ≡ suc place = omega arith in
     rw next (get-map lending_of tasks place t there)
 
-process-in : (b : Booted) (history : List Event) (tasks : List Task) (s : Shared) (pid place : ℕ) (t : Task) → IsCore b history tasks s
+pub process-in : (b : Booted) (history : List Event) (tasks : List Task) (s : Shared) (pid place : ℕ) (t : Task) → IsCore b history tasks s
     → pid ≡ place + 1 → slice_get tasks place ≡ Some t → process_at (run_of b history).sync.processes pid ≡ Some (process_of t)
 process-in b history tasks s pid place t h number there =
     ap (λ (ps : List Process). process_at ps pid) (sym h.mirrors.each.processes) ∙ process-of tasks pid place t number there
@@ -81,7 +81,7 @@ events-none d stands = ap (λ (o : Option Stop). Turn d.pid d.count ∷ (if is_s
 events-some : (d : Done) (at : Stop) → stands_at d.machine ≡ Some at → events_of (loan_result d) ≡ Turn d.pid d.count ∷ Enter d.pid ∷ []
 events-some d at stands = ap (λ (o : Option Stop). Turn d.pid d.count ∷ (if is_some o then Enter d.pid ∷ [] else [])) stands
 
-reached : (t : Task) (d : Done) → IsLoanOf t d → d.machine ≡ (run d.count t.machine).state
+pub reached : (t : Task) (d : Done) → IsLoanOf t d → d.machine ≡ (run d.count t.machine).state
 reached t d of =
     sym (run-reaches d.quantum t.machine d.machine d.count (ran d.count d.machine d.stop)
     (ap (run d.quantum) of.began ∙ d.ran) refl refl)
@@ -135,7 +135,7 @@ enter-taken b history history' tasks s s' last place t u d at a o h number there
 count-cons : {A : Type 0} (p : A → Bool) (x : A) (xs : List A) → count_by p (x ∷ xs) ≡ (if p x then 1 else 0) + count_by p xs
 count-cons p x xs = sum_by-cons (λ y. if p y then 1 else 0) x xs
 
-count-back : (tasks : List Task) (place q : ℕ) (t u : Task) → slice_get tasks place ≡ Some t → t.out ≡ Some q → u.out ≡ None
+pub count-back : (tasks : List Task) (place q : ℕ) (t u : Task) → slice_get tasks place ≡ Some t → t.out ≡ Some q → u.out ≡ None
     → count_out (slice_set tasks place u) + 1 ≡ count_out tasks
 count-back [] place q t u there out none = cc
 count-back (x ∷ xs) zero q t u there out none =
@@ -160,6 +160,13 @@ few-events r = by (is_some (stands_at r.reached.state))
     by true = omega arith
     by false = omega arith
 
+-- the loan is back, and has come to an event
+settled-loans : (n m q : ℕ) (tasks : List Task) (place : ℕ) (t u : Task) → n + 1 ≤ m → slice_get tasks place ≡ Some t → t.out ≡ Some q
+    → u.loans ≡ t.loans → AreFewLoans n (map lending_of tasks) → AreFewLoans m (map lending_of (slice_set tasks place u))
+settled-loans n m q tasks place t u more there out same h =
+    let had : t.loans ≤ n + 1 = subst (λ (o : Option ℕ). t.loans ≤ n + unsettled o) out (few-at n tasks place t h there) in
+    few-put m tasks place u (omega (arith, more, had, same)) (few-longer n m (map lending_of tasks) (omega (arith, more)) h)
+
 pub taken-core : (b : Booted) (history history' : List Event) (tasks : List Task) (s s' : Shared) (last place : ℕ) (t u : Task) (d : Done) (a : Answer)
     → IsCore b history tasks s → slice_get tasks place ≡ Some t → IsLoanOf t d → IsTaken b history history' tasks last place t u s' d a
     → IsCore b history' (slice_set tasks place u) s'
@@ -173,6 +180,7 @@ taken-core b history history' tasks s s' last place t u d a h there of taken =
       mirrors =
           subst (λ (v : World). Mirrors v (slice_set tasks place u) s') (sym (after-after (begun (boot_of b)) history es)) taken.mirrors;
       room = omega (arith, was, less, few, longer);
+      loans = settled-loans (length history) (length (history ++ es)) d.quantum tasks place t u (omega (arith, longer)) there of.out taken.loans h.loans;
     })
 
 pub taken-events : (b : Booted) (history history' : List Event) (tasks : List Task) (s' : Shared) (last place : ℕ) (t u : Task) (d : Done) (a : Answer)
@@ -201,6 +209,7 @@ kept-core b history history' tasks s s' place t u h there same_history same rest
     subst (λ (xs : List Event). IsCore b xs (slice_set tasks place u) s') (sym same_history) (record {
       mirrors = same-mirrors (run_of b history) tasks s s' place t u there same rest h.mirrors;
       room = omega (arith, out, was);
+      loans = few-same (length history) (length history) tasks (slice_set tasks place u) (omega arith) lendings h.loans;
     })
 
 pub kept-kernel : (b : Booted) (history history' : List Event) (tasks : List Task) (last place : ℕ) (t u : Task)

@@ -1,18 +1,15 @@
 -- A loan's result in the parts is a Turn, and an Enter, of the run.
-use Rattle.std.proofs.Common.{◌≡◌, ℕ, zero, suc, ◌+◌, ◌*◌, ◌^◌, ◌<◌, ◌≤◌, ◌⊎◌, inl, inr, Bool, true, false, ◌&&◌, ◌||◌, not, nat_lt, List, [], ◌∷◌, ◌++◌, length, map, slice_get, slice_set, Option, Some, None, is_some, option_to_list, refl, sym, ap, subst, ◌∙◌, arith, add-zero, add_assoc}
+use Rattle.std.proofs.Common.{◌≡◌, ℕ, zero, suc, ◌+◌, ◌^◌, ◌<◌, inl, inr, Bool, true, false, ◌&&◌, ◌||◌, not, nat_lt, List, [], ◌∷◌, ◌++◌, length, slice_get, slice_set, Option, Some, None, is_some, refl, sym, ap, subst, ◌∙◌, arith}
 use Rattle.machine_model.specs.States.{State, Stepped, Goes, Halts, Ran, ran, next, run, after, stands_at}
 use Rattle.machine.proofs.Running.{run-zero, run-goes, run-halts}
-use Rattle.disk_model.specs.declared.change.NamedFile.{NamedFile}
 use Rattle.calls.specs.declared.plan.Plan.{Plan}
-use Rattle.commit_deps.specs.Keeps.{Keeps}
 use Rattle.commit_deps.specs.Marks.{IsMarkOf, reader}
-use Rattle.commit_deps.specs.declared.dependencies.Marked.{Marked}
 use Rattle.commit_deps.proofs.Readers.{settled-reader, settled-union, settled-event}
 use Rattle.kernel_model.specs.Answers.{outcome_of}
 use Rattle.kernel_model.specs.Entries.{Entry, Item, meets}
-use Rattle.kernel_model.specs.Paths.{is_settled, is_settled_from, change_count}
+use Rattle.kernel_model.specs.Paths.{is_settled, change_count}
 use Rattle.kernel_model.proofs.Paths.{count_of}
-use Rattle.kernel_model.specs.State.{SyncState, Process, process_at, put_process, with_process}
+use Rattle.kernel_model.specs.State.{Process, process_at, put_process}
 use Rattle.kernel_model.specs.Steps.{step, own_entry, after_run}
 use Rattle.kernel_model.specs.World.{World, happens}
 use Rattle.kernel_model.specs.declared.carrier.Carrier.{Carrier}
@@ -20,8 +17,8 @@ use Rattle.kernel_model.specs.declared.carrier.Carrier.TheVariants.{Proc}
 use Rattle.kernel_model.specs.declared.answer.Outcome.{Outcome}
 use Rattle.kernel_model.specs.declared.descriptor.Descriptor.{Descriptor}
 use Rattle.kernel_model.specs.declared.event.Event.TheVariants.{Turn, Enter}
-use Rattle.kernel.specs.Entering.{item_of, entry_of, PlansEnter, IsTold, IsEntered, IsSameTask}
-use Rattle.kernel.specs.Mirrors.{IsTask, AreTasks, Mirrors}
+use Rattle.kernel.specs.Entering.{entry_of, PlansEnter, IsEntered, IsSameTask}
+use Rattle.kernel.specs.Mirrors.{IsTask, Mirrors}
 use Rattle.kernel.specs.Seen.{AreScreens}
 use Rattle.kernel.specs.Settling.{IsBack, IsTurnNoted, IsTurnEntered}
 use Rattle.kernel.specs.Tasks.{process_of, status_of}
@@ -197,7 +194,7 @@ back-mirrors w tasks s s' pid place n q m t u h number there out reached few bac
     })
 
 -- ---- the Turn and its Enter
-get-set-here : {A : Type 0} (xs : List A) (i : ℕ) (x : A) → i < length xs → slice_get (slice_set xs i x) i ≡ Some x
+pub get-set-here : {A : Type 0} (xs : List A) (i : ℕ) (x : A) → i < length xs → slice_get (slice_set xs i x) i ≡ Some x
 get-set-here [] i x h = absurd (omega arith)
 get-set-here (y ∷ ys) zero x h = refl
 get-set-here (y ∷ ys) (suc i) x h = get-set-here ys i x (omega arith)

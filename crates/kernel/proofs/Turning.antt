@@ -1,33 +1,18 @@
 -- A Turn of the parts is a Turn of the run.
-use Rattle.std.proofs.Common.{◌≡◌, ℕ, zero, suc, ◌+◌, ◌-◌, ◌*◌, ◌^◌, ◌<◌, ◌≤◌, ◌⊎◌, inl, inr, Bool, true, false, List, [], ◌∷◌, ◌++◌, length, map, slice_get, slice_set, slice_index_or, Option, Some, None, is_some, nat_le, count_by, Result, Ok, Err, refl, sym, ap, subst, ◌∙◌, arith}
-use Rattle.std.specs.Prelude.{IfOk, IfErr, OnOk, OnErr}
-use Rattle.std.proofs.lemmas.Bool.{ltb-false, leb-false}
+use Rattle.std.proofs.Common.{◌≡◌, ℕ, suc, ◌+◌, ◌^◌, ◌<◌, ◌≤◌, inl, inr, Bool, false, List, [], ◌∷◌, ◌++◌, length, map, slice_get, slice_set, slice_index_or, Option, Some, is_some, refl, sym, ap, subst, ◌∙◌, arith}
 use Rattle.machine_model.specs.States.{State, Ran, run, ran as ran_to}
 use Rattle.machine_model.specs.declared.stop.Stop.{Stop}
-use Rattle.commit_deps.specs.Kept.{Kept}
-use Rattle.commit_deps.specs.Keeps.{Keeps}
-use Rattle.kernel_model.specs.Answers.{Kernel, Refuses, Applies, refusal, answer, turn_refusal, enter_refusal, now, is_lent, is_full, loans_out, limit, ran_by, Lending}
-use Rattle.kernel_model.specs.Entries.{Entry}
-use Rattle.kernel_model.specs.State.{SyncState, Process, process_at, put_process, with_process}
+use Rattle.kernel_model.specs.Answers.{turn_refusal, enter_refusal}
+use Rattle.kernel_model.specs.State.{Process, process_at, put_process, with_process}
 use Rattle.kernel_model.specs.Steps.{Transition, step, own_entry, after_run}
-use Rattle.kernel_model.specs.World.{World, begun, after, happens}
-use Rattle.kernel_model.proofs.Runs.{after-append}
-use Rattle.kernel_model.specs.declared.answer.Answer.{Answer}
-use Rattle.kernel_model.specs.declared.answer.Answer.TheVariants as answer_of
-use Rattle.kernel_model.specs.declared.answer.Refused.{Refused}
-use Rattle.kernel_model.specs.declared.event.Event.{Event}
+use Rattle.kernel_model.specs.World.{World, happens}
 use Rattle.kernel_model.specs.declared.event.Event.TheVariants.{Turn}
-use Rattle.kernel.specs.Cores.{boot_of, run_of, kernel_of, IsCore}
-use Rattle.kernel.specs.Mirrors.{IsTask, AreTasks, Mirrors}
-use Rattle.kernel.specs.Parts.{Turned}
-use Rattle.kernel.specs.Tasks.{process_of, lending_of, count_out, needed, RanAt}
-use Rattle.kernel.specs.Tests.{full_of, lent_of, turn_refusal_of, enter_refusal_of, IsPlaceOf}
-use Rattle.kernel.specs.declared.boot.Booted.{Booted}
-use Rattle.kernel.specs.declared.shared.Shared.{Shared}
+use Rattle.kernel.specs.Mirrors.{IsTask, AreTasks}
+use Rattle.kernel.specs.Tasks.{process_of, lending_of, needed, RanAt}
+use Rattle.kernel.specs.Tests.{lent_of, turn_refusal_of, enter_refusal_of, IsPlaceOf}
 use Rattle.kernel.specs.declared.task.Task.{Task}
-use Rattle.kernel.proofs.Lists.{map-set, get-map, get-index, get-set, map-set-same, count-set-same, count-map, length-snoc}
-use Rattle.kernel.proofs.Refusing.{IsFineTurn, turn-fine}
-use Rattle.kernel.proofs.Quiet.{own-silent, screens-quiet, trace-quiet, changes-part, waits-own}
+use Rattle.kernel.proofs.Lists.{map-set, get-map, get-index, get-set}
+use Rattle.kernel.proofs.Quiet.{own-silent, trace-quiet, waits-own}
 
 -- ---- the process of a number
 pub process-place : (tasks : List Task) (pid place : ℕ) (t : Task) → pid ≡ place + 1 → slice_get tasks place ≡ Some t

@@ -1,22 +1,22 @@
 -- The disk's events of the parts are those of the run.
-use Rattle.std.proofs.Common.{◌≡◌, ℕ, zero, suc, ◌+◌, ◌*◌, ◌^◌, ◌<◌, ◌≤◌, Bool, true, false, ◌&&◌, not, List, [], ◌∷◌, ◌++◌, length, map, drop, slice_get, Option, Some, None, is_some, is_none, nat_le, count_by, if◌then◌else◌, Result, Ok, Err, refl, sym, ap, subst, ◌∙◌, arith}
+use Rattle.std.proofs.Common.{◌≡◌, ℕ, zero, suc, ◌+◌, ◌*◌, ◌^◌, ◌<◌, ◌≤◌, Bool, true, false, not, List, [], ◌∷◌, ◌++◌, length, map, drop, slice_get, Option, Some, None, is_some, is_none, count_by, if◌then◌else◌, Result, Ok, Err, refl, sym, ap, subst, ◌∙◌, arith}
 use Rattle.std.specs.Prelude.{IfOk, IfErr, OnOk, OnErr}
 use Rattle.std.specs.List.{AllByRecursion}
 use Rattle.std.proofs.lemmas.Bool.{leb-false}
 use Rattle.commit_deps.specs.Keeps.{Keeps}
 use Rattle.commit_deps.specs.declared.dependencies.Marked.{Marked}
 use Rattle.commit_deps.proofs.Keeping.{keeps-more, mark-says}
-use Rattle.disk_model.specs.Files.{Follow, IsFormed, IsMade, files_after, changed}
+use Rattle.disk_model.specs.Files.{Follow, IsFormed, IsMade, changed}
 use Rattle.disk_model.specs.Storage.{Storage, cut, group, checkpoint, group_of, group_or_checkpoint, fits, completed, failed, failed_by, is_empty, is_quiet, piece_at}
 use Rattle.disk_model.specs.Rebuild.{rebuild}
 use Rattle.disk_model.specs.declared.change.Change.{Change}
 use Rattle.disk_model.specs.declared.change.NamedFile.{NamedFile}
-use Rattle.kernel_model.specs.Answers.{Kernel, Refuses, Applies, refusal, answer, cut_refusal, write_refusal, now, limit, is_full, Lending, changes_to_commit, writes_to_come}
-use Rattle.kernel_model.specs.Entries.{Entry, Item, Got}
+use Rattle.kernel_model.specs.Answers.{Refuses, Applies, refusal, cut_refusal, write_refusal, is_full, Lending, changes_to_commit, writes_to_come}
+use Rattle.kernel_model.specs.Entries.{Entry, Got}
 use Rattle.kernel_model.specs.Paths.{changes_of}
-use Rattle.kernel_model.specs.Shown.{Given, told, printed}
+use Rattle.kernel_model.specs.Shown.{told, printed}
 use Rattle.kernel_model.specs.Steps.{disk_entry}
-use Rattle.kernel_model.specs.World.{World, begun, after, happens}
+use Rattle.kernel_model.specs.World.{World, begun, happens}
 use Rattle.kernel_model.proofs.Runs.{after-append}
 use Rattle.kernel_model.specs.declared.answer.Answer.{Answer}
 use Rattle.kernel_model.specs.declared.answer.Answer.TheVariants as answer_of
@@ -29,7 +29,7 @@ use Rattle.machine_model.specs.declared.reply.Reply.{Reply}
 use Rattle.calls.specs.Plans.{NamesFiles}
 use Rattle.kernel.specs.Advanced.{IsAdvanced, AreAdvanced, IsMoved, AreMoved}
 use Rattle.kernel.specs.Cores.{boot_of, run_of, kernel_of, IsCore}
-use Rattle.kernel.specs.Marked.{AreMarked, front_of, whats}
+use Rattle.kernel.specs.Marked.{AreMarked, front_of}
 use Rattle.kernel.specs.Mirrors.{IsTask, AreTasks, AreChanges, Mirrors}
 use Rattle.kernel.specs.Seen.{IsScreen, AreScreens, IsTrace, end_items, end_marks}
 use Rattle.kernel.specs.Storing.{WasCut, IsCompleted, HasFailed}
@@ -41,6 +41,7 @@ use Rattle.kernel.specs.declared.shared.Shared.{Shared}
 use Rattle.kernel.specs.declared.task.Task.{Task}
 use Rattle.kernel.specs.declared.trace.End.{End}
 use Rattle.kernel.specs.declared.trace.Trace.{Trace}
+use Rattle.kernel.proofs.FewLoans.{few-same}
 use Rattle.kernel.proofs.Applying.{full-is, refused-applies}
 use Rattle.kernel.proofs.Refusing.{none-of-two, none-of-four}
 use Rattle.kernel.proofs.Lists.{length-snoc, count-map}
@@ -190,6 +191,7 @@ stored-core b history history' old new s s' e st full h is fine grown happen mov
     subst (λ (es : List Event). IsCore b es new s') (sym grown) (record {
       mirrors = subst (λ (v : World). Mirrors v new s') (sym (after-append (begun (boot_of b)) history e ∙ happen)) mirrors;
       room = omega (arith, longer, out, space);
+      loans = few-same (length history) (length (history ++ e ∷ [])) old new (omega (arith, longer)) (tasks-lendings st.committed old new moved) h.loans;
     })
 
 pub same-stored : (b : Booted) (history history' : List Event) (tasks : List Task) (s : Shared) (d : Storage) → history' ≡ history → d ≡ s.disk

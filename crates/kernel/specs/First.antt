@@ -1,5 +1,6 @@
 -- What a core's parts are at boot.
 use Rattle.std.specs.Prelude.{◌≡◌, ℕ, ◌+◌, List, [], ◌∷◌, length, replicate, slice_get, Some, None}
+use Rattle.machine_model.specs.Access.{HoldsBytes}
 use Rattle.machine.specs.First.{first_state}
 use Rattle.kernel_model.specs.declared.descriptor.Descriptor.TheVariants.{Tape, Terminal}
 use Rattle.kernel.specs.declared.boot.Program.{Program}
@@ -10,6 +11,7 @@ use Rattle.kernel.specs.declared.task.Task.{Task}
 pub record IsFirst (place : ℕ) (p : Program) (t : Task) : Type 0 where
   pub number : t.pid ≡ place + 1
   pub machine : t.machine ≡ first_state p.image
+  pub bytes : HoldsBytes t.machine.hart.memory
   pub descriptors : t.descriptors ≡ Some (Tape place) ∷ Some (Terminal p.terminal) ∷ replicate 14 None
   pub replies : t.trace.replies.items ≡ []
   pub marks : t.trace.marks.items ≡ []

@@ -1,5 +1,5 @@
 -- What loans and their results stand for.
-use Rattle.std.specs.Prelude.{Option, Some, None, Result, Ok, Err, option_map}
+use Rattle.std.specs.Prelude.{Option, Result, Ok, Err, option_map}
 use Rattle.machine_model.specs.States.{ran}
 use Rattle.kernel_model.specs.Loans.{LoanOut, LoanResult}
 use Rattle.kernel_model.specs.declared.answer.Refused.{Refused}

@@ -1,5 +1,5 @@
 -- What an event does to the parts of a core.
-use Rattle.std.specs.Prelude.{◌≡◌, ℕ, List, [], ◌∷◌, ◌++◌, length, Option, None, slice_get, Some}
+use Rattle.std.specs.Prelude.{◌≡◌, ℕ, List, [], ◌∷◌, ◌++◌, None}
 use Rattle.kernel_model.specs.declared.answer.Answer.{Answer}
 use Rattle.kernel_model.specs.declared.answer.Answer.TheVariants as answer_of
 use Rattle.machine_model.specs.declared.stop.Stop.{Stop}
@@ -7,10 +7,8 @@ use Rattle.commit_deps.specs.declared.dependencies.Marked.{Marked}
 use Rattle.commit_deps.specs.Keeps.{Keeps}
 use Rattle.kernel_model.specs.Entries.{Entry}
 use Rattle.kernel_model.specs.Steps.{own_entry}
-use Rattle.kernel.specs.Marked.{front_of}
 use Rattle.kernel.specs.Tasks.{RanAt}
 use Rattle.kernel.specs.Tests.{turn_refusal_of, full_of, IsPlaceOf}
-use Rattle.kernel.specs.declared.screen.Screen.{Screen}
 use Rattle.kernel.specs.declared.task.Task.{Task}
 
 -- a Turn of at most n instructions was accepted, and did this

@@ -1,5 +1,5 @@
 -- What a loan's result does to the parts of a core.
-use Rattle.std.specs.Prelude.{◌≡◌, ℕ, ◌+◌, ◌≤◌, List, [], ◌∷◌, ◌++◌, length, Option, Some, None, option_to_list}
+use Rattle.std.specs.Prelude.{◌≡◌, ℕ, List, [], ◌∷◌, ◌++◌, length, Some, None, option_to_list}
 use Rattle.machine_model.specs.States.{State}
 use Rattle.commit_deps.specs.Keeps.{Keeps}
 use Rattle.commit_deps.specs.Marks.{IsMarkOf}
@@ -9,7 +9,7 @@ use Rattle.kernel_model.specs.Entries.{Entry}
 use Rattle.kernel_model.specs.State.{changed_by}
 use Rattle.kernel_model.specs.Steps.{own_entry}
 use Rattle.kernel_model.specs.declared.answer.Outcome.{Outcome}
-use Rattle.kernel.specs.Entering.{IsEntering, IsTold, IsSameShared, ArePrinted, item_of}
+use Rattle.kernel.specs.Entering.{IsEntering, IsTold, ArePrinted, item_of}
 use Rattle.kernel.specs.declared.loan.Done.{Done}
 use Rattle.kernel.specs.declared.plan.Entering.{Entering}
 use Rattle.kernel.specs.declared.shared.Shared.{Shared}

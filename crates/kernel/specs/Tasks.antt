@@ -24,6 +24,15 @@ lending_of t = record { loans = t.loans; out = t.out }
 abbrev pub count_out : List Task → ℕ
 count_out tasks = count_by (λ (t : Task). is_some t.out) tasks
 
+-- how many loans of a process have come to no event yet
+abbrev pub unsettled : Option ℕ → ℕ
+unsettled None = 0
+unsettled (Some quantum) = 1
+
+-- each process had no more loans than there are events, but for the one that it is out on
+pub record AreFewLoans (events : ℕ) (lendings : List Lending) : Type 0 where
+  pub each : (place : ℕ) (l : Lending) → slice_get lendings place ≡ Some l → l.loans ≤ events + unsettled l.out
+
 -- how many instructions a loan of this quantum may come to, the reply to a call among them
 abbrev pub needed : Option ℕ → ℕ
 needed None = 0

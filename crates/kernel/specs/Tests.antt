@@ -1,5 +1,5 @@
 -- The refusals of a process's events, by its task.
-use Rattle.std.specs.Prelude.{◌≡◌, ℕ, ◌+◌, ◌*◌, ◌^◌, ◌<◌, nat_le, Bool, List, length, map, Option, None, is_some}
+use Rattle.std.specs.Prelude.{◌≡◌, ℕ, ◌+◌, ◌*◌, ◌^◌, ◌<◌, nat_le, Bool, List, length, map, Option, is_some}
 use Rattle.kernel_model.specs.declared.answer.Refused.{Refused}
 use Rattle.kernel_model.specs.State.{process_at}
 use Rattle.kernel_model.specs.Answers.{lending_at, quantum_out, turn_refusal, enter_refusal}

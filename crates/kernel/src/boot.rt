@@ -4,6 +4,7 @@ ghost use Rattle.std.specs.List.{AllByRecursion};
 ghost use Rattle.disk_model.specs.Held.{IsHeldTo};
 ghost use Rattle.disk_model.specs.Runs.{quiet};
 ghost use Rattle.kernel_model.specs.World.{HoldsItsFiles};
+ghost use Rattle.kernel_model.specs.Bytes.{ProgramsHoldBytes};
 ghost use Rattle.kernel.specs.Booting.{boot_with, nothing_lent};
 ghost use Rattle.kernel.specs.First.{AreFirst, AreEmpty};
 
@@ -83,6 +84,9 @@ impl Model for Core {
 impl Core {
     /// The core of 1 to 8 programs, which are processes 1 and up, and of the tapes that they read: program i has tape i.
     /// The disk holds no files. Refused for want of memory alone.
+    ///
+    /// Its boot meets both premises under which `kernel_laws::headline` speaks of crashes: the disk holds its files, and
+    /// the memory of each program holds bytes.
     pub fn boot(
         alloc: Global,
         disk: SimDisk,
@@ -100,6 +104,7 @@ impl Core {
         ensures lendings { IfOk result (λ core. core.lendings ≡ map nothing_lent programs.items) }
         ensures last_lent { IfOk result (λ core. core.last_lent ≡ 0) }
         ensures held { IfOk result (λ core. HoldsItsFiles core.boot) }
+        ensures bytes { IfOk result (λ core. ProgramsHoldBytes core.boot) }
     {
         let bytes = Bytes::copy_of(alloc, disk.bytes())?;
         let tasks = first_tasks(alloc, &programs)?;

@@ -1,10 +1,10 @@
 //! Machines lent out.
-ghost use Rattle.std.specs.Prelude.{◌≡◌, ◌+◌, ◌*◌, ◌^◌, ◌≤◌, take, drop, position, true, IfOk, IfErr, OnErr};
+ghost use Rattle.std.specs.Prelude.{◌≡◌, ◌+◌, ◌*◌, ◌^◌, ◌≤◌, map, take, drop, position, true, IfOk, IfErr, OnErr};
 ghost use Rattle.kernel_model.specs.Loans.{Lends};
 ghost use Rattle.kernel_model.specs.declared.answer.Refused.TheVariants.{OutOfMemory};
 ghost use Rattle.kernel.specs.Lending.{full_for_loan_of, is_fit, next_fit, lent_task, IsLoanOf, LendsNext};
 ghost use Rattle.kernel.specs.Loaned.{lent_out};
-ghost use Rattle.kernel.specs.Tasks.{count_out};
+ghost use Rattle.kernel.specs.Tasks.{count_out, lending_of, AreFewLoans};
 
 use crate::boot::Core;
 use crate::loan::Loan;
@@ -63,17 +63,16 @@ fn next_lendable(tasks: &[Task], behind: usize, quantum: u32) -> Option<usize>
 }
 
 /// Lends a process: a copy of its machine to run, and one to tell from which state. Where memory runs out nothing has
-/// changed; a count of loans that no u64 holds, for which no history has room, is told as that.
+/// changed.
 fn lend_task(alloc: Global, task: &mut Task, quantum: u32) -> Result<Loan, Refused>
-    requires { is_fit quantum task.old ≡ true }
+    requires fit { is_fit quantum task.old ≡ true }
+    requires few { task.old.loans ≤ 2 ^ 40 }
     ensures loan { IfOk result (λ loan. IsLoanOf quantum task.old loan) }
     ensures task { IfOk result (λ loan. task.new ≡ lent_task quantum task.old) }
     ensures cause { IfErr result (λ why. why ≡ OutOfMemory) }
     ensures same { OnErr result (task.new ≡ task.old) }
 {
-    let Some(turn) = task.loans.checked_add(1) else {
-        return Err(Refused::OutOfMemory);
-    };
+    let turn = task.loans + 1;
     let began = task.machine.try_clone(alloc)?;
     let machine = task.machine.try_clone(alloc)?;
     task.loans = turn;
@@ -95,6 +94,7 @@ fn lend_next(
     behind: usize,
     quantum: u32,
 ) -> Result<Option<Loan>, Refused>
+    requires { AreFewLoans (2 ^ 40) (map lending_of tasks.old) }
     ensures done { IfOk result (λ given. LendsNext quantum behind tasks.old tasks.new given) }
     ensures cause { IfErr result (λ why. why ≡ OutOfMemory) }
     ensures same { OnErr result (tasks.new ≡ tasks.old) }

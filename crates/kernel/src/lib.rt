@@ -4,6 +4,7 @@
 mod apply;
 mod boot;
 mod enter;
+mod front;
 mod lend;
 mod loan;
 mod plan;
@@ -18,6 +19,7 @@ mod turn;
 mod views;
 
 pub use boot::{BootFault, Core, Program};
+pub use kernel_laws::interleavings;
 pub use kernel_model::{Answer, Event, Outcome, Refused};
 pub use loan::{Done, Loan, Rejected};
 pub use simdisk::SimDisk;

@@ -2,17 +2,21 @@
 ghost use Rattle.std.specs.Prelude.{◌≡◌, ◌+◌, ◌≤◌, ◌++◌, [], OnOk, OnErr, vec_len, vec_capacity, length, take, replicate};
 ghost use Rattle.kernel.specs.Marked.{front_of};
 
-use commit_deps::{Mark, front};
+use crate::front::front_from;
+use commit_deps::Mark;
 use std::alloc::{AllocError, Global};
 
-/// A terminal: its bytes, the mark of the event that wrote each, and how many may be shown.
+/// A terminal: its bytes, the mark of the event that wrote each, how many may be shown, and how many changes were
+/// committed when they were counted.
 #[derive(Drop)]
 pub struct Screen {
     pub bytes: Vec<u8>,
     pub marks: Vec<Mark>,
     pub shown: usize,
+    pub committed: u64,
     ghost aligned: { vec_len marks ≡ vec_len bytes },
     ghost within: { shown ≤ vec_len bytes },
+    ghost counted: { shown ≤ front_of committed marks.items },
 }
 
 /// Appends a mark so many times. Takes no memory.
@@ -36,6 +40,7 @@ impl Screen {
             bytes: Vec::new(alloc),
             marks: Vec::new(alloc),
             shown: 0,
+            committed: 0,
         }
     }
 
@@ -66,6 +71,7 @@ impl Screen {
         ensures bytes { self.new.bytes ≡ self.old.bytes }
         ensures marks { self.new.marks ≡ self.old.marks }
     {
-        self.shown = front(&self.marks, committed);
+        self.shown = front_from(&self.marks, self.shown, self.committed, committed);
+        self.committed = committed;
     }
 }

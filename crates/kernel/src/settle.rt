@@ -3,8 +3,9 @@ ghost use Rattle.std.specs.Prelude.{ℕ, ◌≡◌, ◌≢◌, ◌+◌, ◌<◌,
 ghost use Rattle.machine_model.specs.States.{stands_at};
 ghost use Rattle.calls.specs.Plans.{NamesFiles};
 ghost use Rattle.commit_deps.specs.Keeps.{Keeps};
+ghost use Rattle.kernel_model.specs.Answers.{AllAccepted};
 ghost use Rattle.kernel_model.specs.Entries.{Entry};
-ghost use Rattle.kernel_model.specs.Loans.{IsOfLoan, settled, settled_answer};
+ghost use Rattle.kernel_model.specs.Loans.{IsOfLoan, returned, events_of, settled, settled_answer};
 ghost use Rattle.kernel_model.specs.Steps.{own_entry};
 ghost use Rattle.kernel_model.specs.declared.answer.Refused.TheVariants.{Stranger, OutOfMemory};
 ghost use Rattle.kernel_model.specs.declared.answer.Outcome.{Outcome};
@@ -188,6 +189,7 @@ impl Core {
     /// on (the process is not lent, or the turn, the quantum or the state from which it began differs); OutOfMemory.
     pub fn settle(&mut self, done: Done) -> Result<Answer, Rejected>
         ensures own { OnOk result (IsOfLoan self.old (loan_result done)) }
+        ensures fine { OnOk result (AllAccepted (returned self.old done.pid) (events_of (loan_result done))) }
         ensures events { OnOk result (self.new ≡ settled self.old (loan_result done)) }
         ensures answer { IfOk result (λ a. a ≡ settled_answer self.old (loan_result done)) }
         ensures stranger { IfErr result (λ r. r.why ≡ Stranger → ¬ (IsOfLoan self.old (loan_result done))) }

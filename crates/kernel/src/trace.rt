@@ -3,7 +3,8 @@ ghost use Rattle.std.specs.Prelude.{◌≡◌, ◌+◌, ◌<◌, ◌≤◌, ◌+
 ghost use Rattle.kernel.specs.Marked.{front_of};
 ghost use Rattle.kernel.specs.Handing.{handed_end_of};
 
-use commit_deps::{Mark, front};
+use crate::front::front_from;
+use commit_deps::Mark;
 use machine_model::Reply;
 use std::alloc::{AllocError, Global};
 
@@ -14,15 +15,18 @@ pub struct End {
     pub mark: Mark,
 }
 
-/// The replies to a process's calls, the mark of the event of each, how many are handed out, and its end.
+/// The replies to a process's calls, the mark of the event of each, how many are handed out, how many changes were
+/// committed when they were counted, and its end.
 #[derive(Drop)]
 pub struct Trace {
     pub replies: Vec<Reply>,
     pub marks: Vec<Mark>,
     pub handed: usize,
+    pub committed: u64,
     pub end: Option<End>,
     ghost aligned: { vec_len marks ≡ vec_len replies },
     ghost within: { handed ≤ vec_len replies },
+    ghost counted: { handed ≤ front_of committed marks.items },
 }
 
 impl Trace {
@@ -37,6 +41,7 @@ impl Trace {
             replies: Vec::new(alloc),
             marks: Vec::new(alloc),
             handed: 0,
+            committed: 0,
             end: None,
         }
     }
@@ -94,6 +99,7 @@ impl Trace {
         ensures marks { self.new.marks ≡ self.old.marks }
         ensures end { self.new.end ≡ self.old.end }
     {
-        self.handed = front(&self.marks, committed);
+        self.handed = front_from(&self.marks, self.handed, self.committed, committed);
+        self.committed = committed;
     }
 }

@@ -4,7 +4,8 @@ use Rattle.std.proofs.lemmas.Bool.{both_ways}
 use Rattle.kernel_model.specs.Paths.{IsSettled, is_settled}
 use Rattle.kernel_model.specs.Shown.{Given, front, released}
 use Rattle.kernel_model.proofs.Paths.{settled_from, settled_to}
-use Rattle.kernel_laws.specs.Promises.{IsLongestFront, contents}
+use Rattle.kernel_model.specs.Views.{contents}
+use Rattle.kernel_laws.specs.Promises.{IsLongestFront}
 
 -- one more that is settled, before a front
 one_more : {A : Type 0} (c : ℕ) (x : Given A) (xs : List (Given A)) (seen : List A)

@@ -6,3 +6,11 @@ pub mod Replies
 pub mod Whole
 pub mod Quiet
 pub mod Swap
+pub mod Viewing
+pub mod WritingOut
+pub mod Bytes
+pub mod Each
+pub mod Possible
+pub mod Sound
+pub mod Crashing
+pub mod Gathering

@@ -2,7 +2,7 @@
 use Rattle.std.proofs.Common.{◌≡◌, ℕ, zero, suc, ◌+◌, List, [], ◌∷◌, ◌++◌, Some, refl, sym, ap, ◌∙◌, arith}
 use Rattle.machine_model.specs.declared.reply.Reply.{Reply}
 use Rattle.machine_model.specs.declared.stop.Stop.{Stop}
-use Rattle.machine_model.specs.declared.stop.Stop.TheVariants.{Call}
+use Rattle.machine_model.specs.declared.stop.Stop.TheVariants.{Call, Limit}
 use Rattle.machine_model.specs.States.{State, Stepped, Goes, Halts, Ran, ran, after, by_step, next, run, stands_at, replied}
 use Rattle.kernel_laws.specs.Promises.{ComesTo}
 
@@ -17,6 +17,16 @@ run_zero s = refl
 pub run_suc : (n : ℕ) (s : State) → run (suc n) s ≡ on_from n s (next s)
 unfolding run
 run_suc n s = refl
+
+pub run_none : (s : State) → run zero s ≡ ran 0 s Limit
+unfolding run
+run_none s = refl
+
+pub run_stands : (n : ℕ) (s : State) (stop : Stop) → next s ≡ Halts stop → run (suc n) s ≡ ran 0 s stop
+run_stands n s stop h = run_suc n s ∙ ap (on_from n s) h
+
+pub run_on : (n : ℕ) (s t : State) → next s ≡ Goes t → run (suc n) s ≡ after 1 (run n t)
+run_on n s t h = run_suc n s ∙ ap (on_from n s) h
 
 -- a machine that stands stays
 pub run_halted : (n : ℕ) (s : State) (stop : Stop) → next s ≡ Halts stop → (run n s).state ≡ s

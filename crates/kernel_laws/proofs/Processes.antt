@@ -21,6 +21,11 @@ get_same [] i x y e = cc
 get_same (z ∷ zs) zero x y e = refl
 get_same (z ∷ zs) (suc i) x y e = get_same zs i x y e
 
+set_same : {A : Type 0} (xs : List A) (i : ℕ) (x : A) → slice_get xs i ≡ Some x → slice_set xs i x ≡ xs
+set_same [] i x e = refl
+set_same (z ∷ zs) zero x e = let same : x ≡ z = cc in ap (λ y. y ∷ zs) same
+set_same (z ∷ zs) (suc i) x e = ap (λ ws. z ∷ ws) (set_same zs i x e)
+
 set_twice : {A : Type 0} (xs : List A) (i : ℕ) (x y : A) → slice_set (slice_set xs i x) i y ≡ slice_set xs i y
 set_twice [] i x y = refl
 set_twice (z ∷ zs) zero x y = refl
@@ -45,6 +50,11 @@ at_put ps (suc i) (suc j) x n = get_set ps i j x (λ e. n (ap suc e))
 pub at_same : (ps : List Process) (p : ℕ) (x y : Process) → process_at ps p ≡ Some y → process_at (put_process ps p x) p ≡ Some x
 at_same ps zero x y e = cc
 at_same ps (suc i) x y e = get_same ps i x y e
+
+-- a process that is put where it stands changes nothing
+pub put_same : (ps : List Process) (p : ℕ) (x : Process) → process_at ps p ≡ Some x → put_process ps p x ≡ ps
+put_same ps zero x e = refl
+put_same ps (suc i) x e = set_same ps i x e
 
 pub put_twice : (ps : List Process) (p : ℕ) (x y : Process) → put_process (put_process ps p x) p y ≡ put_process ps p y
 put_twice ps zero x y = refl

@@ -1,5 +1,5 @@
--- Turns tell nothing: what is seen outside is the same without them.
-use Rattle.std.proofs.Common.{◌≡◌, ℕ, ◌+◌, ◌==◌, inl, inr, ◌||◌, ◌&&◌, not, nat_lt, Bool, true, false, if◌then◌else◌, List, [], ◌∷◌, ◌++◌, map, Option, Some, None, is_some, option_to_list, refl, sym, ap, subst, ◌∙◌, add-zero}
+-- A quiet event, as each Turn is, tells nothing: what is seen outside is the same without it.
+use Rattle.std.proofs.Common.{◌≡◌, ℕ, ◌+◌, ◌==◌, ◌⊎◌, inl, inr, ◌||◌, ◌&&◌, not, nat_lt, Bool, true, false, if◌then◌else◌, List, [], ◌∷◌, ◌++◌, map, Option, Some, None, is_some, option_to_list, refl, sym, ap, subst, ◌∙◌, add-zero}
 use Rattle.std.specs.List.{list_any}
 use Rattle.std.proofs.lemmas.Bool.{eqb-true, eq-eqb, false≢true, and_parts, or_cases}
 use Rattle.disk_model.specs.declared.change.Change.{Change}
@@ -9,15 +9,17 @@ use Rattle.kernel_model.specs.Entries.{Entry, Item, meets, is_same}
 use Rattle.kernel_model.specs.Paths.{wanted, is_settled_from, is_settled, change_count, changes_of, with_change}
 use Rattle.kernel_model.specs.Steps.{own_entry}
 use Rattle.kernel_model.specs.Shown.{Given, given_by, each_from, front, released, printed, bytes_for, told, items_for}
+use Rattle.kernel_model.specs.Views.{contents, SameGiven}
 use Rattle.kernel_model.proofs.Meets.{meets-append}
 use Rattle.kernel_model.proofs.Runs.{append-nil}
 
--- a process's own carrier, and nothing else
+-- a process's own carrier was read, and nothing but it written
 abbrev pub only_own : List Carrier → List Carrier → Bool
 only_own (Proc p ∷ []) (Proc q ∷ []) = p == q
+only_own (Proc p ∷ []) [] = true
 only_own _ _ = false
 
--- it touched disk_entry but its own_entry process
+-- it touched nothing but its own process
 abbrev pub is_quiet : Entry → Bool
 is_quiet d = not (is_some d.change) && (not (is_some d.output) && (not (is_some d.item) && only_own d.reads d.writes))
 
@@ -51,10 +53,11 @@ pub record Quiet (d : Entry) : Type 0 where
   pub change : d.change ≡ None
   pub output : d.output ≡ None
   pub item : d.item ≡ None
-  pub carriers : (p : ℕ) × (d.reads ≡ Proc p ∷ []) × (d.writes ≡ Proc p ∷ [])
+  pub carriers : (p : ℕ) × (d.reads ≡ Proc p ∷ []) × ((d.writes ≡ Proc p ∷ []) ⊎ (d.writes ≡ []))
 
-own_carriers : (rs ws : List Carrier) → only_own rs ws ≡ true → (p : ℕ) × (rs ≡ Proc p ∷ []) × (ws ≡ Proc p ∷ [])
-own_carriers (Proc p ∷ []) (Proc q ∷ []) h = (p, refl, ap (λ n. Proc n ∷ []) (sym (eqb-true p q h)))
+own_carriers : (rs ws : List Carrier) → only_own rs ws ≡ true → (p : ℕ) × (rs ≡ Proc p ∷ []) × ((ws ≡ Proc p ∷ []) ⊎ (ws ≡ []))
+own_carriers (Proc p ∷ []) (Proc q ∷ []) h = (p, refl, inl (ap (λ n. Proc n ∷ []) (sym (eqb-true p q h))))
+own_carriers (Proc p ∷ []) [] h = (p, refl, inr refl)
 own_carriers _ _ h = absurd (false≢true h)
 
 pub quiet_of : (d : Entry) → is_quiet d ≡ true → Quiet d
@@ -112,7 +115,7 @@ absorbed true c f = refl
 absorbed false true f = absurd (false≢true (f refl))
 absorbed false false f = refl
 
--- a quiet event adds disk_entry that isn't wanted
+-- a quiet event adds nothing that isn't wanted
 quiet_adds : (xs : List Carrier) (p : ℕ) (b : Bool) → meets (Proc p ∷ []) xs ≡ b → SameMeets (if b then xs ++ Proc p ∷ [] else xs) xs
 quiet_adds xs p true h ws = meets-append ws xs (Proc p ∷ [])
     ∙ absorbed (meets ws xs) (meets ws (Proc p ∷ [])) (λ m. met_by ws p xs m (sym (or_false (list_any (is_same (Proc p)) xs)) ∙ h))
@@ -126,8 +129,12 @@ quiet_wants : (d : Entry) (xs : List Carrier) → Quiet d → SameMeets (if meet
 quiet_wants d xs q =
     let p = q.carriers.0 in
     subst (λ (rs : List Carrier). SameMeets (if meets d.writes xs then xs ++ rs else xs) xs) (sym q.carriers.1)
-    (subst (λ (vs : List Carrier). SameMeets (if meets vs xs then xs ++ Proc p ∷ [] else xs) xs) (sym q.carriers.2)
-    (quiet_adds xs p (meets (Proc p ∷ []) xs) refl))
+    (by p q.carriers.2)
+  where
+    by : (p : ℕ) → (d.writes ≡ Proc p ∷ []) ⊎ (d.writes ≡ []) → SameMeets (if meets d.writes xs then xs ++ Proc p ∷ [] else xs) xs
+    by p (inl is) = subst (λ (vs : List Carrier). SameMeets (if meets vs xs then xs ++ Proc p ∷ [] else xs) xs) (sym is)
+        (quiet_adds xs p (meets (Proc p ∷ []) xs) refl)
+    by p (inr is) = subst (λ (vs : List Carrier). SameMeets (if meets vs xs then xs ++ Proc p ∷ [] else xs) xs) (sym is) (λ ws. refl)
 
 pub wanted_told : (ds : List Entry) (rs : List Carrier) → SameMeets (wanted ds rs) (wanted (telling ds) rs)
 wanted_told [] rs ws = refl
@@ -212,12 +219,28 @@ released_told c f none ds =
     ∙ ap seen (each_told c f none [] ds)
     ∙ sym (released_seen c (each_from f [] (telling ds)))
 
-pub printed_told : (c t : ℕ) (ds : List Entry) → released c (printed t ds) ≡ released c (printed t (telling ds))
-printed_told c t ds = released_told c (λ d. bytes_for t d.output) (λ d q. ap (bytes_for t) q.output) ds
+contents_marked : {A : Type 0} (c : ℕ) (xs : List (Given A)) → contents xs ≡ map (λ (m : Mark A). m.what) (marked c xs)
+contents_marked c [] = refl
+contents_marked c (x ∷ xs) = ap (λ ys. x.what ∷ ys) (contents_marked c xs)
+
+contents_told : {A : Type 0} (f : Entry → List A) → ((d : Entry) → Quiet d → f d ≡ []) → (ds : List Entry)
+    → contents (each_from f [] ds) ≡ contents (each_from f [] (telling ds))
+contents_told {A} f none ds =
+    contents_marked 0 (each_from f [] ds)
+    ∙ ap (λ (ms : List (Mark A)). map (λ (m : Mark A). m.what) ms) (each_told 0 f none [] ds)
+    ∙ sym (contents_marked 0 (each_from f [] (telling ds)))
+
+-- the same is given without the quiet events
+given_told : {A : Type 0} (f : Entry → List A) → ((d : Entry) → Quiet d → f d ≡ []) → (ds : List Entry)
+    → SameGiven (each_from f [] ds) (each_from f [] (telling ds))
+given_told f none ds = record { whole = contents_told f none ds; fronts = λ c. released_told c f none ds }
+
+pub printed_told : (t : ℕ) (ds : List Entry) → SameGiven (printed t ds) (printed t (telling ds))
+printed_told t ds = given_told (λ d. bytes_for t d.output) (λ d q. ap (bytes_for t) q.output) ds
 
 no_items : (b : Bool) (o : Option Item) → o ≡ None → (if b then option_to_list o else []) ≡ []
 no_items true o h = ap (λ (x : Option Item). option_to_list x) h
 no_items false o h = refl
 
-pub told_told : (c p : ℕ) (ds : List Entry) → released c (told p ds) ≡ released c (told p (telling ds))
-told_told c p ds = released_told c (items_for p) (λ d q. no_items (d.process == p) d.item q.item) ds
+pub told_told : (p : ℕ) (ds : List Entry) → SameGiven (told p ds) (told p (telling ds))
+told_told p ds = given_told (items_for p) (λ d q. no_items (d.process == p) d.item q.item) ds

@@ -17,7 +17,8 @@ use Rattle.kernel_model.specs.declared.event.Event.TheVariants.{Turn, Enter, Cut
 use Rattle.kernel_model.specs.declared.request.Verdict.{Verdict}
 use Rattle.kernel_model.specs.declared.request.Verdict.TheVariants.{Waits, Replies, Ends}
 use Rattle.kernel_model.proofs.Runs.{append-nil, each_from-append}
-use Rattle.kernel_laws.specs.Promises.{ComesTo, IsRunOn, contents}
+use Rattle.kernel_model.specs.Views.{contents}
+use Rattle.kernel_laws.specs.Promises.{ComesTo, IsRunOn}
 use Rattle.kernel_laws.proofs.Machines.{comes_on, comes_replied}
 use Rattle.kernel_laws.proofs.Processes.{at_same}
 use Rattle.kernel_laws.proofs.Others.{step_keeps}

@@ -22,7 +22,7 @@ pub turn_is : (s : SyncState) (p n : ℕ) (y : Process) → process_at s.process
     → step s (Turn p n) ≡ record { state = with_process s p (after_run n y); entry = own_entry p }
 turn_is s p n y e h = rw (e, h) refl
 
--- two runs that are alike but for Turns in the log
+-- two runs that are alike but for quiet events in the log
 pub record Alike (a b : World) : Type 0 where
   pub sync : a.sync ≡ b.sync
   pub storage : a.storage ≡ b.storage
@@ -31,10 +31,13 @@ pub record Alike (a b : World) : Type 0 where
 pub alike_same : (a b : World) → a ≡ b → Alike a b
 alike_same a b e = record { sync = ap (λ (w : World). w.sync) e; storage = ap (λ (w : World). w.storage) e; log = ap (λ (w : World). telling w.log) e }
 
+pub alike_sym : {a b : World} → Alike a b → Alike b a
+alike_sym h = record { sync = sym h.sync; storage = sym h.storage; log = sym h.log }
+
 pub alike_trans : {a b c : World} → Alike a b → Alike b c → Alike a c
 alike_trans f g = record { sync = f.sync ∙ g.sync; storage = f.storage ∙ g.storage; log = f.log ∙ g.log }
 
-changes_alike : (xs ys : List Entry) → telling xs ≡ telling ys → changes_of xs ≡ changes_of ys
+pub changes_alike : (xs ys : List Entry) → telling xs ≡ telling ys → changes_of xs ≡ changes_of ys
 changes_alike xs ys e = changes_told xs ∙ ap changes_of e ∙ sym (changes_told ys)
 
 log_alike : (xs ys : List Entry) (d e : Entry) → telling xs ≡ telling ys → d ≡ e → telling (xs ++ d ∷ []) ≡ telling (ys ++ e ∷ [])
@@ -53,7 +56,7 @@ pub alike_after : (es : List Event) (a b : World) → Alike a b → Alike (after
 alike_after [] a b h = h
 alike_after (e ∷ es) a b h = alike_after es (happens a e) (happens b e) (alike_happens a b e h)
 
-own_untold : (xs : List Entry) (p : ℕ) → telling (xs ++ own_entry p ∷ []) ≡ telling xs
+pub own_untold : (xs : List Entry) (p : ℕ) → telling (xs ++ own_entry p ∷ []) ≡ telling xs
 own_untold xs p = telling-append xs (own_entry p ∷ []) ∙ ap (λ (b : Bool). telling xs ++ (if b then [] else own_entry p ∷ [])) (own_quiet p) ∙ append-nil (telling xs)
 
 -- the law: an instruction of p moves behind an event that is none of p's

@@ -1,5 +1,5 @@
 -- What a whole run promises of its processes, and of what is seen of them.
-use Rattle.std.specs.Prelude.{◌≡◌, ℕ, ◌<◌, List, [], ◌∷◌, length, map, take, slice_get, Some}
+use Rattle.std.specs.Prelude.{◌≡◌, ℕ, ◌<◌, List, [], ◌∷◌, length, take, slice_get, Some}
 use Rattle.machine_model.specs.declared.reply.Reply.{Reply}
 use Rattle.machine_model.specs.declared.stop.Stop.TheVariants.{Call}
 use Rattle.machine_model.specs.States.{State, run, stands_at, replied}
@@ -9,6 +9,7 @@ use Rattle.kernel_model.specs.Entries.{Entry}
 use Rattle.kernel_model.specs.Paths.{IsSettled}
 use Rattle.kernel_model.specs.World.{World, Boot, begun}
 use Rattle.kernel_model.specs.Shown.{Given, printed, told, shown, handed, replies_in}
+use Rattle.kernel_model.specs.Views.{contents}
 use Rattle.kernel_model.specs.Answers.{committed}
 use Rattle.kernel_model.specs.declared.event.Event.{Event}
 
@@ -27,10 +28,6 @@ sync_log s (e ∷ es) = (step s e).entry ∷ sync_log (step s e).state es
 abbrev pub ComesTo : State → List Reply → State → Type 0
 ComesTo s [] t = (n : ℕ) × ((run n s).state ≡ t)
 ComesTo s (r ∷ rs) t = (n : ℕ) × (stands_at (run n s).state ≡ Some Call) × ComesTo (replied (run n s).state r) rs t
-
--- what was given, without the events
-abbrev pub contents : {A : Type 0} → List (Given A) → List A
-contents xs = map (λ x. x.what) xs
 
 -- process p's replies so far
 abbrev pub replies_to : ℕ → World → List Reply

@@ -1,6 +1,6 @@
 -- Runs by single instructions.
-use Rattle.std.specs.Prelude.{◌≡◌, ℕ, ◌+◌, ◌==◌, Bool, true, false, if◌then◌else◌, List, [], ◌∷◌, Option, Some, None, is_some}
-use Rattle.machine_model.specs.States.{stands_at}
+use Rattle.std.specs.Prelude.{◌≡◌, ℕ, ◌+◌, ◌==◌, Bool, true, false, if◌then◌else◌, List, [], ◌∷◌, ◌++◌, replicate, Option, Some, None, is_some}
+use Rattle.machine_model.specs.States.{run, stands_at}
 use Rattle.kernel_model.specs.State.{Process, process_at}
 use Rattle.kernel_model.specs.World.{World, happens}
 use Rattle.kernel_model.specs.declared.event.Event.{Event}
@@ -26,8 +26,9 @@ delayed p (Cut ∷ es) = Cut ∷ delayed p es
 delayed p (Complete at ∷ es) = Complete at ∷ delayed p es
 delayed p (Fail at ∷ es) = Fail at ∷ delayed p es
 
--- The events that a fine run becomes: before each Enter one Turn of all instructions of its process since its last Enter,
--- and what is left last.
+-- The events that a fine run becomes. Its items that are no instructions stay, in order. Before each Enter stands one Turn of
+-- all instructions of its process since the process's last Enter, where there are any; and what is left of each process
+-- becomes one Turn behind all other items.
 abbrev pub gathered : List Fine → List Event
 gathered [] = []
 gathered (Instruction p ∷ items) = delayed p (gathered items)
@@ -49,3 +50,21 @@ IsFine w (Other e ∷ items) = IsFine (happens w e) items
 abbrev pub after_fine : World → List Fine → World
 after_fine w [] = w
 after_fine w (item ∷ items) = after_fine (happens w (event_of item)) items
+
+-- how many instructions a Turn of at most n runs of a process; none where it is not there or has ended
+abbrev pub turn_length : Option Process → ℕ → ℕ
+turn_length None n = 0
+turn_length (Some p) n = if is_some p.status then 0 else (run n p.state).count
+
+-- an event written out: a Turn as the instructions that it runs, one by one, and any other event as it is
+abbrev pub written_out : World → Event → List Fine
+written_out w (Turn pid n) = replicate (turn_length (process_at w.sync.processes pid) n) (Instruction pid)
+written_out w (Enter pid) = Other (Enter pid) ∷ []
+written_out w Cut = Other Cut ∷ []
+written_out w (Complete at) = Other (Complete at) ∷ []
+written_out w (Fail at) = Other (Fail at) ∷ []
+
+-- the fine run that these events are, with each Turn written out
+abbrev pub unfolded : World → List Event → List Fine
+unfolded w [] = []
+unfolded w (e ∷ es) = written_out w e ++ unfolded (happens w e) es

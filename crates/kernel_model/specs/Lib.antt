@@ -5,6 +5,7 @@ pub mod Rows
 pub mod Steps
 pub mod Paths
 pub mod World
+pub mod Bytes
 pub mod Shown
 pub mod Answers
 pub mod Loans

@@ -5,4 +5,3 @@ pub mod Steps
 pub mod Limits
 pub mod Decoding
 pub mod Pages
-pub mod Words

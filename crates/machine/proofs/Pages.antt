@@ -5,11 +5,11 @@ use Rattle.std.specs.FinMap.{get}
 use Rattle.std.proofs.lemmas.Bool.Decides.{leb_tells, nat_tests}
 use Rattle.std.proofs.lemmas.List.{get_or-append_right, get_or_append_left, get_or-replicate, get_or_past, take_all, take_rest, length-append, length-replicate}
 use Rattle.machine_model.specs.Memory.{Memory, Cell, memory_of}
-use Rattle.machine_model.specs.Access.{mapped, cell_with}
+use Rattle.machine_model.specs.Access.{HoldsBytes, byte_of, mapped, cell_with}
 use Rattle.machine_model.specs.declared.access.Rights.{Rights}
 use Rattle.machine_model.proofs.Memories.{get-memory_of, same_memory}
-use Rattle.machine.specs.declared.image.Segment.{Segment}
-use Rattle.machine.specs.Images.{IsLoadable, AreAscending, first_page, last_page, page_count}
+use Rattle.elf32.specs.declared.image.Segment.{Segment}
+use Rattle.elf32.specs.Images.{IsLoadable, AreAscending, first_page, last_page, page_count}
 use Rattle.machine.specs.First.{first_cell, byte_at}
 
 zeros-at : (n k : ℕ) → slice_index (replicate n 0) k ≡ 0
@@ -60,6 +60,14 @@ padded zeros size n0 n1 bytes none first second all empty n0-is first-is second-
 
     short : length second ≤ size
     short = omega (arith, ap length whole, length-append (replicate zeros 0) bytes, length-replicate zeros (zero), fits)
+
+-- each of them is a byte
+pub padded-small : (zeros : ℕ) (bytes all : List ℕ) → ((k : ℕ) → get_or bytes k 0 < 256) → ((k : ℕ) → slice_index all k ≡ cond (leb zeros k) (slice_index bytes (k - zeros)) 0) → (k : ℕ) → slice_index all k < 256
+padded-small zeros bytes all small is k = subst (λ (b : ℕ). b < 256) (sym (is k)) (by (leb zeros k))
+  where
+    by : (t : Bool) → cond t (slice_index bytes (k - zeros)) 0 < 256
+    by true = small (k - zeros)
+    by false = omega arith
 
 within : (q : ℕ) → q < 2 ^ 32 → ltb q (2 ^ 32) ≡ true
 within q small = grind (arith, nat_tests)
@@ -197,3 +205,19 @@ stack-mapped m new bytes from size is e =
     alike q =
         ap (λ (n : ℕ). cond (leb 0x7FFFC000 q && ltb q (0x7FFFC000 + n)) (Some (cell_with (record { read = true; write = true; execute = false }) (slice_index bytes (q - 0x7FFFC000)))) None) size
         ∙ ap (λ (byte : ℕ). cond (leb 0x7FFFC000 q && ltb q 0x80000000) (Some (cell_with (record { read = true; write = true; execute = false }) byte)) None) (is (q - 0x7FFFC000) ∙ zero_byte (q - 0x7FFFC000))
+
+-- a memory that holds bytes does so once bytes are mapped
+pub mapped-holds : (m new : Memory) (at : ℕ) (rights : Rights) (bytes : List ℕ) → HoldsBytes m → ((k : ℕ) → slice_index bytes k < 256) → new ≡ mapped m at rights bytes → HoldsBytes new
+mapped-holds m new at rights bytes holds small e a =
+    subst (λ (c : Option Cell). byte_of c < 256)
+    (sym (ap (λ (x : Memory). get x a) e ∙ get-memory_of (λ q. cond (leb at q && ltb q (at + length bytes)) (Some (cell_with rights (slice_index bytes (q - at)))) (get m q)) a))
+    (by (ltb a (2 ^ 32)) (leb at a && ltb a (at + length bytes)))
+  where
+    by : (below there : Bool) → byte_of (cond below (cond there (Some (cell_with rights (slice_index bytes (a - at)))) (get m a)) None) < 256
+    by true true = small (a - at)
+    by true false = holds a
+    by false there = omega arith
+
+-- where nothing stands, bytes do
+pub nothing-holds : (m : Memory) → m ≡ memory_of (λ _. None) → HoldsBytes m
+nothing-holds m from a = subst (λ (c : Option Cell). byte_of c < 256) (sym (nothing-free m from a)) (omega arith)

@@ -3,7 +3,6 @@
 
 mod decoded;
 mod fast;
-mod image;
 mod instruction;
 mod loading;
 mod machine;
@@ -12,6 +11,6 @@ mod table;
 #[cfg(test)]
 mod tests;
 
-pub use image::{Image, Segment};
+pub use elf32::{Image, Segment};
 pub use machine::Machine;
 pub use machine_model::{Cause, Reply, Stop};

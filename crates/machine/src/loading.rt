@@ -1,10 +1,11 @@
 //! The memory in which a program begins.
-ghost use Rattle.std.specs.Prelude.{◌≡◌, ℕ, [], ◌+◌, ◌-◌, ◌*◌, ◌≤◌, All, length, nat_le, if◌then◌else◌, slice_index, vec_len, IfOk, OnOk};
+ghost use Rattle.std.specs.Prelude.{◌≡◌, ℕ, [], ◌+◌, ◌-◌, ◌*◌, ◌<◌, ◌≤◌, All, length, nat_le, if◌then◌else◌, slice_index, vec_len, IfOk, OnOk};
 ghost use Rattle.machine_model.specs.Memory.{memory_of};
-ghost use Rattle.machine.specs.Images.{IsLoadable, AreAscending, first_page, page_count};
+ghost use Rattle.machine_model.specs.Access.{HoldsBytes};
+ghost use Rattle.elf32.specs.Images.{IsLoadable, AreAscending, first_page, page_count};
 ghost use Rattle.machine.specs.First.{first_cell, byte_at};
 
-use crate::image::Segment;
+use elf32::Segment;
 use machine_model::Rights;
 use memory::Space;
 use std::alloc::{AllocError, Global};
@@ -16,7 +17,8 @@ const PAGE: u32 = 4096;
 pub fn space_of(alloc: Global, segments: &[Segment]) -> Result<Space, AllocError>
     requires loadable { All IsLoadable segments.now }
     requires ascending { (page : ℕ) × AreAscending page segments.now }
-    ensures { IfOk result (λ space. space ≡ memory_of (first_cell segments.now)) }
+    ensures memory { IfOk result (λ space. space ≡ memory_of (first_cell segments.now)) }
+    ensures bytes { IfOk result (λ space. HoldsBytes space) }
 {
     match segments {
         [] => stack(alloc),
@@ -36,7 +38,8 @@ pub fn space_of(alloc: Global, segments: &[Segment]) -> Result<Space, AllocError
 
 /// The stack alone: four pages of zeros that end at 0x80000000.
 fn stack(alloc: Global) -> Result<Space, AllocError>
-    ensures { IfOk result (λ space. space ≡ memory_of (first_cell [])) }
+    ensures memory { IfOk result (λ space. space ≡ memory_of (first_cell [])) }
+    ensures bytes { IfOk result (λ space. HoldsBytes space) }
 {
     let rights = Rights {
         read: true,
@@ -55,6 +58,7 @@ fn page_bytes(alloc: Global, segment: &Segment) -> Result<Vec<u8>, AllocError>
     ensures len { IfOk result (λ bytes. vec_len bytes ≡ 4096 * page_count segment.now) }
     ensures bytes { IfOk result (λ bytes. (k : ℕ) → slice_index bytes.items k
         ≡ byte_at segment.now (4096 * first_page segment.now + k)) }
+    ensures small { IfOk result (λ bytes. (k : ℕ) → slice_index bytes.items k < 256) }
 {
     let pages = (segment.vaddr + segment.memsz - 1) / PAGE + 1 - segment.vaddr / PAGE;
     with_zeros(
@@ -71,6 +75,7 @@ fn with_zeros(alloc: Global, zeros: usize, bytes: &[u8], size: usize) -> Result<
     ensures len { IfOk result (λ all. vec_len all ≡ size) }
     ensures bytes { IfOk result (λ all. (k : ℕ) → slice_index all.items k
         ≡ (if nat_le zeros k then slice_index bytes.now (k - zeros) else 0)) }
+    ensures small { IfOk result (λ all. (k : ℕ) → slice_index all.items k < 256) }
 {
     let mut all = Vec::with_capacity(alloc, size)?;
     all.resize(zeros, 0)?;

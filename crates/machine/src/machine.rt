@@ -1,6 +1,6 @@
 //! A process's machine.
 ghost use Rattle.std.specs.Prelude.{◌≡◌, ◌≢◌, ◌↔◌, ℕ, ◌+◌, ◌%◌, ◌<◌, ◌≤◌, ◌^◌, true, length, Some, IfOk, IsTrue};
-ghost use Rattle.machine_model.specs.Access.{is_writable, put_bytes};
+ghost use Rattle.machine_model.specs.Access.{HoldsBytes, is_writable, put_bytes};
 ghost use Rattle.machine_model.specs.Effects.{reg as register};
 ghost use Rattle.machine_model.specs.States.{run as run_from, ran, stands_at, replied};
 ghost use Rattle.machine.specs.First.{first_state, first_registers};
@@ -8,10 +8,10 @@ ghost use Rattle.machine.specs.Kept.{Kept};
 
 use crate::decoded::tables_of;
 use crate::fast::run_tables;
-use crate::image::Image;
 use crate::loading::space_of;
 use crate::stopped::stop_at;
 use crate::table::Table;
+use elf32::Image;
 use formats::Reg;
 use isa_table::Regs;
 use machine_model::{Reply, Stop};
@@ -47,7 +47,8 @@ impl Model for Machine {
 impl Machine {
     /// The machine in which a program begins.
     pub fn load(alloc: Global, image: &Image) -> Result<Machine, AllocError>
-        ensures { IfOk result (λ m. m ≡ first_state image.now) }
+        ensures first { IfOk result (λ m. m ≡ first_state image.now) }
+        ensures bytes { IfOk result (λ m. HoldsBytes m.hart.memory) }
     {
         let space = space_of(alloc, image.segments())?;
         let tables = tables_of(alloc, &space, image.segments())?;

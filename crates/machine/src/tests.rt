@@ -1,7 +1,7 @@
 //! Small programs, loaded and run.
-use crate::image::Image;
 use crate::machine::Machine;
 use byte_list::Bytes;
+use elf32::Image;
 use formats::Reg;
 use machine_model::{Cause, Reply, Stop};
 use std::test::Fail;

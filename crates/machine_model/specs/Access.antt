@@ -1,5 +1,5 @@
 -- Loads, stores and copies over a memory.
-use Rattle.std.specs.Prelude.{ℕ, suc, zero, ◌+◌, ◌-◌, ◌*◌, ◌/◌, ◌%◌, ◌^◌, ◌==◌, Bool, ◌&&◌, nat_le, nat_lt, is_none, if◌then◌else◌, List, [], ◌∷◌, length, slice_index, Option, Some, None, option_map, Result, Ok, Err}
+use Rattle.std.specs.Prelude.{ℕ, suc, zero, ◌+◌, ◌-◌, ◌*◌, ◌/◌, ◌%◌, ◌^◌, ◌<◌, ◌==◌, Bool, ◌&&◌, nat_le, nat_lt, is_none, if◌then◌else◌, List, [], ◌∷◌, length, slice_index, Option, Some, None, option_map, Result, Ok, Err}
 use Rattle.std.specs.FinMap.{get, insert}
 use Rattle.machine_model.specs.Memory.{Memory, Cell, memory_of}
 use Rattle.machine_model.specs.declared.access.Rights.{Rights}
@@ -40,6 +40,10 @@ access_fault right memory at width = if at % size width == 0 then range_fault ri
 abbrev pub byte_of : Option Cell → ℕ
 byte_of None = 0
 byte_of (Some cell) = cell.byte
+
+-- what stands at each address is a byte, a number below 256
+abbrev pub HoldsBytes : Memory → Type 0
+HoldsBytes memory = (at : ℕ) → byte_of (get memory at) < 256
 
 -- the number that n bytes from an address on spell, little-endian
 abbrev pub value_at : Memory → ℕ → ℕ → ℕ

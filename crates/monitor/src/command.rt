@@ -1,5 +1,5 @@
 //! The command line.
-use clap::{Arg, ArgAction, Command, Error};
+use clap::{Arg, ArgAction, ArgMatches, Command, Error};
 use std::alloc::Global;
 
 /// What the program is to do.
@@ -9,25 +9,55 @@ pub enum Task<'a> {
     ReplayInput,
     /// Replay the script of a file.
     ReplayFile(&'a str),
+    /// Assemble the source in a file to the image in another.
+    Assemble { source: &'a str, image: &'a str },
+    /// List the words of the image in a file.
+    List(&'a str),
+}
+
+/// An argument that has to be given.
+fn argument<'a>(alloc: Global, name: &'a str, help: &'a str) -> Arg<'a> {
+    Arg::new(alloc, name)
+        .help(help)
+        .required(true)
+        .action(ArgAction::Set)
 }
 
 /// The commands and their arguments.
 fn commands<'a>(alloc: Global) -> Result<Command<'a>, Error> {
-    let script = Arg::new(alloc, "SCRIPT")
-        .help("the script's file")
-        .required(true)
-        .action(ArgAction::Set);
     let replay = Command::new(alloc, "replay")
         .about("Run a script, and print what each of its lines gives")
-        .arg(script)?;
+        .arg(argument(alloc, "SCRIPT", "the script's file"))?;
+    let asm = Command::new(alloc, "asm")
+        .about("Assemble a source, and write its image")
+        .arg(argument(alloc, "SOURCE", "the source's file"))?
+        .arg(argument(alloc, "IMAGE", "the image's file, which is written anew"))?;
+    let list = Command::new(alloc, "list")
+        .about("Print the words of an image that may be executed")
+        .arg(argument(alloc, "IMAGE", "the image's file"))?;
     let bench = Command::new(alloc, "bench")
         .about(
             "A RISC-V bench on an externally synchronous kernel; without a command, the script on standard input is replayed",
         )
         .no_binary_name(true)
         .subcommand_required(true)
-        .subcommand(replay)?;
+        .subcommand(replay)?
+        .subcommand(asm)?
+        .subcommand(list)?;
     Ok(bench)
+}
+
+/// What a command and its arguments ask for.
+fn task_of<'a>(name: &str, matches: &ArgMatches<'a>) -> Option<Task<'a>> {
+    match name {
+        "replay" => Some(Task::ReplayFile(matches.get_str("SCRIPT")?)),
+        "asm" => Some(Task::Assemble {
+            source: matches.get_str("SOURCE")?,
+            image: matches.get_str("IMAGE")?,
+        }),
+        "list" => Some(Task::List(matches.get_str("IMAGE")?)),
+        _ => None,
+    }
 }
 
 /// What the words, the program's name aside, ask for.
@@ -36,11 +66,9 @@ pub fn parse<'a>(alloc: Global, words: &'a [String]) -> Result<Task<'a>, Error> 
         return Ok(Task::ReplayInput);
     }
     let matches = commands(alloc)?.try_get_matches_from(words)?;
-    let Some((_, replay)) = matches.subcommand() else {
+    let Some((name, matches)) = matches.subcommand() else {
         return Ok(Task::ReplayInput);
     };
-    match replay.get_str("SCRIPT") {
-        Some(path) => Ok(Task::ReplayFile(path)),
-        None => Ok(Task::ReplayInput),
-    }
+    // Each command has its arguments here, since all are required.
+    Ok(task_of(name, matches).unwrap_or(Task::ReplayInput))
 }

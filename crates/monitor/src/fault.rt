@@ -1,4 +1,6 @@
 //! Why the program ends early.
+use assembler::{AsmFault, Cause};
+use elf32::ElfFault;
 use kernel::BootFault;
 use simdisk::DiskRefusal;
 use std::alloc::{AllocError, AllocFailed};
@@ -11,6 +13,12 @@ pub enum Fault {
     /// The first line of the script that has no form, or that may not stand where it stands.
     #[error("bench: script refused at line {line}")]
     Script { line: usize },
+    /// The first fault of a source.
+    #[error("bench: source refused: {number} {fault}")]
+    Source { number: u8, fault: AsmFault },
+    /// A file that holds no image, and the first check that it fails.
+    #[error("bench: image refused: {number} {fault}")]
+    Image { number: u8, fault: ElfFault },
     #[error("bench: out of memory")]
     OutOfMemory,
     /// A file that cannot be read or is no text, or a stream that cannot be written.
@@ -22,7 +30,7 @@ impl Fault {
     /// The exit status.
     pub fn status(&self) -> u8 {
         match self {
-            Fault::Script { .. } => 2,
+            Fault::Script { .. } | Fault::Source { .. } | Fault::Image { .. } => 2,
             Fault::OutOfMemory => 5,
             Fault::InputOutput => 6,
         }
@@ -49,6 +57,31 @@ impl From<BootFault> for Fault {
     }
 }
 
+impl From<AsmFault> for Fault {
+    fn from(fault: AsmFault) -> Fault {
+        match fault.why {
+            Cause::OutOfMemory => Fault::OutOfMemory,
+            why => Fault::Source {
+                number: why as u8,
+                fault,
+            },
+        }
+    }
+}
+
+impl From<ElfFault> for Fault {
+    fn from(fault: ElfFault) -> Fault {
+        match fault {
+            ElfFault::OutOfMemory => Fault::OutOfMemory,
+            fault => Fault::Image {
+                number: fault.number(),
+                fault,
+            },
+        }
+    }
+}
+
+/// A disk of zeros, the only one that is made here, is refused for want of memory alone.
 impl From<DiskRefusal> for Fault {
     fn from(_refusal: DiskRefusal) -> Fault {
         Fault::OutOfMemory

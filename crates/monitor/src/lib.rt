@@ -3,8 +3,11 @@
 
 mod command;
 mod fault;
+mod list;
+mod print;
 mod program;
 mod replay;
 mod script;
+mod source;
 
 pub use program::bench;

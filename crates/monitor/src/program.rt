@@ -1,26 +1,57 @@
 //! The whole program.
 use crate::command::{Task, parse};
 use crate::fault::Fault;
-use crate::replay::replay;
+use crate::list::list;
+use crate::print::print;
+use crate::replay::{image_in, replay};
+use crate::source::assemble_source;
 use clap::Error;
 use clap::error::ErrorKind;
 use std::io::{Read, Write};
 use std::rt::Files;
 use std::{fs, io};
 
-/// Does what the words ask for.
+/// Does a task.
+fn perform<R: Files + AllocGlobal, I: Read, O: Write>(
+    rt: &R,
+    task: Task<'_>,
+    input: &mut I,
+    out: &mut O,
+) -> Result<(), Fault> {
+    match task {
+        Task::ReplayInput => {
+            let text = io::read_to_string(rt.alloc(), input)?;
+            replay(rt, text.as_str(), out)?;
+        }
+        Task::ReplayFile(path) => {
+            let text = fs::read_to_string(rt, path)?;
+            replay(rt, text.as_str(), out)?;
+        }
+        Task::Assemble { source, image } => {
+            let text = fs::read_to_string(rt, source)?;
+            let assembled = assemble_source(rt.alloc(), text.as_str())?;
+            fs::write(rt, image, assembled.file.as_slice())?;
+            print(out, &assembled.line)?;
+        }
+        Task::List(path) => {
+            let image = image_in(rt, path)?;
+            list(rt.alloc(), &image, out)?;
+        }
+    }
+    Ok(())
+}
+
+/// Does a task. What it printed goes out, also where a fault ends it early.
 fn run<R: Files + AllocGlobal, I: Read, O: Write>(
     rt: &R,
     task: Task<'_>,
     input: &mut I,
     out: &mut O,
 ) -> Result<(), Fault> {
-    let text = match task {
-        Task::ReplayInput => io::read_to_string(rt.alloc(), input)?,
-        Task::ReplayFile(path) => fs::read_to_string(rt, path)?,
-    };
-    replay(rt.alloc(), text.as_str(), out)?;
-    out.flush()?;
+    let done = perform(rt, task, input, out);
+    let flushed = out.flush();
+    done?;
+    flushed?;
     Ok(())
 }
 
@@ -32,6 +63,13 @@ fn end<E: Write>(fault: Fault, err: &mut E) -> u8 {
     status
 }
 
+/// Prints the help that was asked for.
+fn print_help<O: Write>(help: &Error, out: &mut O) -> Result<(), Fault> {
+    write!(out, "{help}")?;
+    out.flush()?;
+    Ok(())
+}
+
 /// The end at a faulty command line, or at help that was asked for.
 fn end_usage<O: Write, E: Write>(error: &Error, out: &mut O, err: &mut E) -> u8 {
     if error.kind() == ErrorKind::OutOfMemory {
@@ -41,9 +79,9 @@ fn end_usage<O: Write, E: Write>(error: &Error, out: &mut O, err: &mut E) -> u8 
         let _ = write!(err, "{error}");
         return 1;
     }
-    match write!(out, "{error}") {
+    match print_help(error, out) {
         Ok(()) => 0,
-        Err(_) => end(Fault::InputOutput, err),
+        Err(fault) => end(fault, err),
     }
 }
 

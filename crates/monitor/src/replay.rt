@@ -3,45 +3,59 @@ ghost use Rattle.std.specs.Prelude.{◌≡◌, ◌≤◌, ◌<◌, length, IfOk}
 ghost use Rattle.std.specs.List.{AllByRecursion};
 
 use crate::fault::Fault;
-use crate::script::{ProgramText, Script, Step, Terminal};
+use crate::print::print;
+use crate::script::{Script, ScriptProgram, Source, Step, Terminal};
 use disk_model::zeros_hold_nothing;
+use elf32::Image;
 use kernel::{Answer, Core, Program, Refused, SimDisk};
-use machine::Image;
 use machine_model::{Reply, Stop};
 use std::alloc::Global;
+use std::fs;
 use std::io::Write;
+use std::rt::Files;
+
+/// The image in a file of the host.
+pub fn image_in<R: Files + AllocGlobal>(rt: &R, path: &str) -> Result<Image, Fault> {
+    let file = fs::read(rt, path)?;
+    Ok(elf32::parse(rt.alloc(), &file)?)
+}
+
+/// The image of a script's program.
+fn image_of<R: Files + AllocGlobal>(rt: &R, source: &Source) -> Result<Image, Fault> {
+    match source {
+        Source::Words(words) => Ok(Image::from_text(rt.alloc(), words.as_slice())?),
+        Source::Image(path) => image_in(rt, path.as_str()),
+    }
+}
 
 /// The programs of a script, to be booted.
-fn programs_of(alloc: Global, texts: &[ProgramText]) -> Result<Vec<Program>, Fault>
-    ensures len { IfOk result (λ programs. length programs.items ≡ length texts.now) }
-    ensures terminals { IfOk result (λ programs. AllByRecursion (λ p. p.terminal < 8) programs.items) }
+fn programs_of<R: Files + AllocGlobal>(
+    rt: &R,
+    programs: &[ScriptProgram],
+) -> Result<Vec<Program>, Fault>
+    ensures len { IfOk result (λ booted. length booted.items ≡ length programs.now) }
+    ensures terminals { IfOk result (λ booted. AllByRecursion (λ p. p.terminal < 8) booted.items) }
 {
-    let mut programs = Vec::new(alloc);
-    for text in texts {
-        programs.push(Program {
-            image: Image::from_text(alloc, &text.words)?,
-            terminal: text.terminal,
+    let mut booted = Vec::new(rt.alloc());
+    for program in programs {
+        booted.push(Program {
+            image: image_of(rt, &program.source)?,
+            terminal: program.terminal.number,
         })?;
     }
-    Ok(programs)
+    Ok(booted)
 }
 
 /// Boots the programs of a script on a disk of zeros.
-fn boot(alloc: Global, texts: &[ProgramText]) -> Result<Core, Fault>
-    requires some { 1 ≤ length texts.now }
-    requires few { length texts.now ≤ 8 }
+fn boot<R: Files + AllocGlobal>(rt: &R, programs: &[ScriptProgram]) -> Result<Core, Fault>
+    requires some { 1 ≤ length programs.now }
+    requires few { length programs.now ≤ 8 }
 {
-    let programs = programs_of(alloc, texts)?;
+    let alloc = rt.alloc();
+    let programs = programs_of(rt, programs)?;
     let disk = SimDisk::zero(alloc)?;
     zeros_hold_nothing();
     Ok(Core::boot(alloc, disk, programs, Vec::new(alloc))?)
-}
-
-/// Writes a line.
-fn print<O: Write>(out: &mut O, line: &String) -> Result<(), Fault> {
-    out.write_all(line.as_bytes())?;
-    out.write_all(b"\n")?;
-    Ok(())
 }
 
 /// Where a Turn stopped.
@@ -146,10 +160,15 @@ fn play<O: Write>(alloc: Global, core: &mut Core, step: Step, out: &mut O) -> Re
     }
 }
 
-/// Runs a script, and prints what each of its lines gives.
-pub fn replay<O: Write>(alloc: Global, text: &str, out: &mut O) -> Result<(), Fault> {
+/// Runs a script, and prints what each of its lines gives. The script is read whole before any image that it names.
+pub fn replay<R: Files + AllocGlobal, O: Write>(
+    rt: &R,
+    text: &str,
+    out: &mut O,
+) -> Result<(), Fault> {
+    let alloc = rt.alloc();
     let script = Script::parse(alloc, text)?;
-    let mut core = boot(alloc, &script.programs)?;
+    let mut core = boot(rt, &script.programs)?;
     for step in &script.steps {
         play(alloc, &mut core, *step, out)?;
     }
@@ -166,7 +185,7 @@ mod tests {
     fn a_trap_ends_its_process(rt: HostRuntime) -> Result<(), Fail> {
         let alloc = rt.alloc();
         let script = Script::parse(alloc, "program 0 00100073\nturn 1 5\nenter 1\n")?;
-        let mut core = boot(alloc, &script.programs)?;
+        let mut core = boot(&rt, &script.programs)?;
         assert_eq!(rt; core.ended(1)?, None);
         core.apply(Event::Turn { pid: 1, n: 5 })?;
         core.apply(Event::Enter { pid: 1 })?;

@@ -15,14 +15,38 @@ const TERMINALS: u32 = 8;
 /// The most words of a program: 60 pages.
 const MOST_WORDS: usize = 15360;
 
-/// A program of a script: its terminal, 0 to 7, and its words, 1 to 15,360, for the addresses from 0x00010000 on.
+/// The words of a program, 1 to 15,360, for the addresses from 0x00010000 on.
 #[derive(Drop)]
-pub struct ProgramText {
-    pub terminal: u32,
-    pub words: Vec<u32>,
-    ghost terminal_there: { terminal < 8 },
-    ghost some_words: { 0 < vec_len words },
-    ghost few_words: { vec_len words ≤ 15360 },
+pub struct Words {
+    words: Vec<u32>,
+    ghost some: { 0 < vec_len words },
+    ghost few: { vec_len words ≤ 15360 },
+}
+
+impl Words {
+    /// The words in order.
+    pub fn as_slice(&self) -> &[u32]
+        ensures some { 0 < length result.now }
+        ensures few { length result.now ≤ 15360 }
+    {
+        self.words.as_slice()
+    }
+}
+
+/// Where a program comes from.
+#[derive(Drop)]
+pub enum Source {
+    /// The script itself.
+    Words(Words),
+    /// The image in a file of the host, at this path.
+    Image(String),
+}
+
+/// A program that a script sets up.
+#[derive(Drop)]
+pub struct ScriptProgram {
+    pub terminal: Terminal,
+    pub source: Source,
 }
 
 /// A line of a script that is no set-up line.
@@ -46,14 +70,14 @@ pub struct Terminal {
 /// A script: its programs in order, and its steps in order.
 #[derive(Drop)]
 pub struct Script {
-    pub programs: Vec<ProgramText>,
+    pub programs: Vec<ScriptProgram>,
     pub steps: Vec<Step>,
 }
 
 /// A line of a script that is neither empty nor a comment.
 #[derive(Drop)]
 enum Line {
-    Program(ProgramText),
+    Program(ScriptProgram),
     Step(Step),
 }
 
@@ -96,24 +120,49 @@ fn numbers_of(alloc: Global, texts: &[&str]) -> Result<Option<Vec<u32>>, AllocEr
     Ok(Some(numbers))
 }
 
+/// The words of a program line. None where one has no form, or where there are none or too many.
+fn words_of(alloc: Global, texts: &[&str]) -> Result<Option<Words>, AllocError> {
+    if texts.is_empty() || texts.len() > MOST_WORDS {
+        return Ok(None);
+    }
+    match numbers_of(alloc, texts)? {
+        Some(words) => Ok(Some(Words { words })),
+        None => Ok(None),
+    }
+}
+
 /// The program of a line `program T WORD..`, without its first word. None where it has no such form.
-fn program_of(alloc: Global, words: &[&str]) -> Result<Option<ProgramText>, AllocError> {
+fn program_of(alloc: Global, words: &[&str]) -> Result<Option<ScriptProgram>, AllocError> {
     let [first, texts @ ..] = words else {
         return Ok(None);
     };
     let Some(terminal) = terminal_of(first) else {
         return Ok(None);
     };
-    if texts.is_empty() || texts.len() > MOST_WORDS {
-        return Ok(None);
-    }
-    match numbers_of(alloc, texts)? {
-        Some(words) => Ok(Some(ProgramText {
-            terminal: terminal.number,
-            words,
+    match words_of(alloc, texts)? {
+        Some(words) => Ok(Some(ScriptProgram {
+            terminal,
+            source: Source::Words(words),
         })),
         None => Ok(None),
     }
+}
+
+/// The program of a line `image T PATH`, without its first word. None where it has no such form.
+fn image_of(alloc: Global, words: &[&str]) -> Result<Option<ScriptProgram>, AllocError> {
+    let [first, path] = words else {
+        return Ok(None);
+    };
+    let Some(terminal) = terminal_of(first) else {
+        return Ok(None);
+    };
+    if path.is_empty() {
+        return Ok(None);
+    }
+    Ok(Some(ScriptProgram {
+        terminal,
+        source: Source::Image(String::from_str(alloc, path)?),
+    }))
 }
 
 /// The step of a line, if it has the form of one.
@@ -138,13 +187,19 @@ fn step_of(words: &[&str]) -> Option<Step> {
 fn line_of(alloc: Global, text: &str) -> Result<Option<Line>, AllocError> {
     let words: Vec<&str> = text.split(' ').collect(alloc)?;
     match words.as_slice() {
-        ["program", rest @ ..] => Ok(program_of(alloc, rest)?.map(|text| Line::Program(text))),
+        ["program", rest @ ..] => Ok(program_of(alloc, rest)?.map(|program| Line::Program(
+            program,
+        ))),
+        ["image", rest @ ..] => Ok(image_of(alloc, rest)?.map(|program| Line::Program(program))),
         others => Ok(step_of(others).map(|step| Line::Step(step))),
     }
 }
 
 /// Adds a program to those of a script, if it is not a ninth one.
-fn push_program(programs: &mut Vec<ProgramText>, program: ProgramText) -> Result<bool, AllocError>
+fn push_program(
+    programs: &mut Vec<ScriptProgram>,
+    program: ScriptProgram,
+) -> Result<bool, AllocError>
     requires { vec_len programs.old ≤ 8 }
     ensures { vec_len programs.new ≤ 8 }
 {
@@ -156,8 +211,8 @@ fn push_program(programs: &mut Vec<ProgramText>, program: ProgramText) -> Result
 }
 
 impl Script {
-    /// Reads a script whole. Refused is the first line that has no form, or is a `program` line behind a line that is
-    /// none, or a ninth one; and where there is no such line, line 1 of a script without a `program` line. Lines are
+    /// Reads a script whole. Refused is the first line that has no form, or is a `program` or `image` line behind a
+    /// line that is none, or a ninth one; and where there is no such line, line 1 of a script without either. Lines are
     /// counted from 1 and end at a line feed; empty ones and those that begin with `#` are skipped.
     pub fn parse(alloc: Global, text: &str) -> Result<Script, Fault>
         ensures some { IfOk result (λ script. 1 ≤ vec_len script.programs) }

@@ -1,5 +1,5 @@
 -- One screen more.
-use Rattle.std.proofs.Common.{◌≡◌, subst, sym, List}
+use Rattle.std.proofs.Common.{subst, sym, List}
 use Rattle.kernel.specs.declared.screen.Screen.{Screen}
 use Rattle.kernel.specs.First.{AreEmpty}
 use Rattle.kernel.proofs.Beginning.{empty-none, empty-more}

@@ -1,10 +1,10 @@
 -- One task more, and in the end all.
-use Rattle.std.proofs.Common.{◌≡◌, ℕ, ◌+◌, ◌-◌, ◌∷◌, [], List, ap, sym, subst, ◌∙◌, arith, slice_get, Some, None, replicate, length, Option}
-use Rattle.kernel_model.specs.declared.descriptor.Descriptor.{Descriptor}
+use Rattle.std.proofs.Common.{◌≡◌, ◌+◌, ◌-◌, ◌∷◌, List, ap, sym, subst, ◌∙◌, arith, slice_get, Some, None, replicate}
+use Rattle.machine_model.specs.Access.{HoldsBytes}
+use Rattle.machine_model.specs.States.{State}
 use Rattle.kernel_model.specs.declared.descriptor.Descriptor.TheVariants.{Tape, Terminal}
 use Rattle.kernel.specs.declared.boot.Program.{Program}
 use Rattle.kernel.specs.declared.task.Task.{Task}
-use Rattle.kernel.specs.First.{IsFirst, AreFirst}
 use Rattle.kernel.proofs.Lists.{get-there}
 use Rattle.kernel.proofs.Beginning.{FirstSo, first-none, first-more}
 use Rattle.kernel.proofs.boot.first_tasks.Goals as goal
@@ -21,7 +21,8 @@ loop-place-preserved c =
     first-more c.args.programs.now c.loop-place.tasks.items c.push.new.self.items c.loop-place.place p c.new-task.result c.loop-place.invariant there
     (record {
       number = c.new-task.ensures.pid;
-      machine = c.new-task.ensures.machine ∙ c.in_ok-machine.ensures;
+      machine = c.new-task.ensures.machine ∙ c.in_ok-machine.ensures.first;
+      bytes = subst (λ (s : State). HoldsBytes s.hart.memory) (sym c.new-task.ensures.machine) c.in_ok-machine.ensures.bytes;
       descriptors = c.new-task.ensures.descriptors ∙ ap (λ n. Some (Tape n) ∷ Some (Terminal p.terminal) ∷ replicate 14 None) back;
       replies = c.new-task.ensures.replies;
       marks = c.new-task.ensures.marks;

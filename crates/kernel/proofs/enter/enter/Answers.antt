@@ -1,5 +1,5 @@
 -- The parts do what the run says.
-use Rattle.std.proofs.Common.{◌≡◌, ◌∙◌, ap, sym, refl, subst, ℕ, List, Option, Some, None, is_some, true, slice_get, length}
+use Rattle.std.proofs.Common.{◌≡◌, ◌∙◌, ap, sym, refl, subst, List, Option, Some, None, is_some, slice_get, length}
 use Rattle.std.proofs.lemmas.Bool.{false≢true}
 use Rattle.machine_model.specs.States.{stands_at}
 use Rattle.machine_model.specs.declared.stop.Stop.{Stop}

@@ -1,5 +1,5 @@
 -- A terminal of its number, and none.
-use Rattle.std.proofs.Common.{◌≡◌, ◌≤◌, ◌∙◌, ap, sym, refl, Option, Some, ◌+◌, ◌<◌, ◌++◌, ℕ, List, replicate, length, vec_len, rules, arith}
+use Rattle.std.proofs.Common.{◌≡◌, ◌≤◌, ◌∙◌, ap, ◌<◌, ◌++◌, ℕ, List, replicate, length, vec_len, rules, arith}
 use Rattle.kernel.specs.declared.screen.Screen.{Screen}
 use Rattle.kernel.proofs.EnterLists.{get-there}
 use Rattle.kernel.proofs.EnterResults.{on-ok-three, on-err-three}

@@ -1,5 +1,5 @@
 -- Nothing has changed but room.
-use Rattle.std.proofs.Common.{rules, refl, ℕ, subst}
+use Rattle.std.proofs.Common.{refl, ℕ, subst}
 use Rattle.kernel.specs.Entering.{StayScreens}
 use Rattle.kernel.proofs.EnterResults.{on-err-two}
 use Rattle.kernel.proofs.enter.ready.Goals as goal

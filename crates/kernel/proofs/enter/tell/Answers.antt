@@ -1,5 +1,5 @@
 -- An end.
-use Rattle.std.proofs.Common.{List, ℕ, sym, subst, option_to_list}
+use Rattle.std.proofs.Common.{sym, subst, option_to_list}
 use Rattle.kernel_model.specs.declared.request.Verdict.{Verdict}
 use Rattle.kernel.specs.Entering.{IsTold}
 use Rattle.kernel.proofs.enter.tell.Goals as goal

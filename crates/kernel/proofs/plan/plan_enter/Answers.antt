@@ -1,5 +1,5 @@
 -- A plan, at a trap and at a call.
-use Rattle.std.proofs.Common.{◌≡◌, ◌∙◌, ap, sym, refl, Option, Some, ◌+◌}
+use Rattle.std.proofs.Common.{◌≡◌, ◌∙◌, ap, Some, ◌+◌}
 use Rattle.machine_model.specs.declared.stop.Stop.{Stop}
 use Rattle.machine_model.specs.declared.stop.Stop.TheVariants.{Call}
 use Rattle.kernel.proofs.EnterPlans.{trap-plans, result-plans, stands-call}

@@ -1,5 +1,5 @@
 -- The Turn and the Enter are done.
-use Rattle.std.proofs.Common.{◌≡◌, ◌∙◌, ap, sym, refl, subst, ℕ, List, ◌++◌, ◌∷◌, [], option_to_list}
+use Rattle.std.proofs.Common.{◌∙◌, ap, sym, refl, subst, ℕ, List, ◌++◌, ◌∷◌, [], option_to_list}
 use Rattle.disk_model.specs.Storage.{Storage}
 use Rattle.disk_model.specs.declared.change.Change.{Change}
 use Rattle.commit_deps.specs.declared.dependencies.Marked.{Marked}

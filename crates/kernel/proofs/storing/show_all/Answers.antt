@@ -1,5 +1,5 @@
 -- One screen more has advanced, and in the end all.
-use Rattle.std.proofs.Common.{◌≡◌, ◌<◌, arith, length, sym, ap, ◌∙◌, subst, slice_get, Some, get_or}
+use Rattle.std.proofs.Common.{◌<◌, arith, length, ap, get_or}
 use Rattle.kernel.specs.Advanced.{IsAdvanced}
 use Rattle.kernel.specs.declared.screen.Screen.{Screen}
 use Rattle.kernel.proofs.Lists.{get-index}

@@ -1,8 +1,7 @@
 -- One more is out, or not.
-use Rattle.std.proofs.Common.{◌≡◌, ◌+◌, ◌<◌, length, sym, ap, ◌∙◌, arith, true, false, is_some, get_or, take, Bool}
+use Rattle.std.proofs.Common.{◌≡◌, ◌+◌, sym, ap, ◌∙◌, arith, is_some, get_or}
 use Rattle.std.proofs.lemmas.List.Sums.{count_by_more_yes, count_by_more_no}
 use Rattle.kernel.specs.declared.task.Task.{Task}
-use Rattle.kernel.specs.Tasks.{count_out}
 use Rattle.kernel.proofs.tasks.count_out.Goals as goal
 use Rattle.kernel.proofs.tasks.count_out.Goals.{then-is_out, else-is_out}
 

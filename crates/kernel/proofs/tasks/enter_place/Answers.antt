@@ -1,7 +1,5 @@
 -- The refusal is that of the task at the process's place.
-use Rattle.std.proofs.Common.{◌≡◌, ◌<◌, sym, ap, ◌∙◌, arith, Some, None, is_some, Option, length, slice_get, subst, ◌^◌, ◌+◌, ◌≤◌}
-use Rattle.kernel_model.specs.Answers.{turn_refusal}
-use Rattle.kernel.specs.Tasks.{process_of}
+use Rattle.std.proofs.Common.{◌≡◌, sym, ◌∙◌, Some, slice_get}
 use Rattle.kernel.specs.declared.task.Task.{Task}
 use Rattle.kernel.proofs.Lists.{get-there}
 use Rattle.kernel.proofs.Turning.{enter-place}

@@ -1,5 +1,5 @@
 -- One task more has moved on, and in the end all.
-use Rattle.std.proofs.Common.{◌≡◌, ◌<◌, arith, length, sym, ap, ◌∙◌, subst, slice_get, Some, get_or, refl}
+use Rattle.std.proofs.Common.{◌<◌, arith, length, ap, get_or, refl}
 use Rattle.kernel.specs.Advanced.{IsMoved}
 use Rattle.kernel.specs.declared.task.Task.{Task}
 use Rattle.kernel.proofs.Lists.{get-index}

@@ -1,11 +1,10 @@
 -- The refusal is that of the task at the process's place.
-use Rattle.std.proofs.Common.{◌≡◌, ◌<◌, sym, ap, ◌∙◌, arith, Some, None, is_some, Option, length, slice_get, subst, ◌^◌, ◌+◌, ◌≤◌}
-use Rattle.kernel_model.specs.Answers.{turn_refusal}
+use Rattle.std.proofs.Common.{◌≡◌, sym, ◌∙◌, Some, is_some, slice_get, subst, ◌^◌, ◌+◌, ◌≤◌}
 use Rattle.kernel.specs.Tasks.{process_of}
 use Rattle.kernel.specs.declared.task.Task.{Task}
 use Rattle.kernel.proofs.Lists.{get-there}
 use Rattle.kernel.proofs.Refusing.{turn-fine}
-use Rattle.kernel.proofs.Turning.{turn-place, ran-tasks}
+use Rattle.kernel.proofs.Turning.{turn-place}
 use Rattle.kernel.proofs.tasks.turn_place.Goals as goal
 
 pub returns-in-Some-turn_refused-clause-refused : goal.returns-in-Some-turn_refused-clause-refused

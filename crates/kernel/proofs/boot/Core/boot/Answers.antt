@@ -1,13 +1,13 @@
 -- A core at boot.
-use Rattle.std.proofs.Common.{◌≡◌, ap, sym, subst, ◌∙◌, List, [], length}
+use Rattle.std.proofs.Common.{ap, sym, subst, ◌∙◌, List}
 use Rattle.disk_model.specs.Runs.{begun as storage_at}
 use Rattle.kernel_model.specs.declared.event.Event.{Event}
 use Rattle.kernel.specs.Cores.{IsCore}
-use Rattle.kernel.specs.First.{AreFirst, AreEmpty}
+use Rattle.kernel.specs.First.{AreFirst}
 use Rattle.kernel.specs.declared.boot.Booted.{Booted}
 use Rattle.kernel.specs.declared.boot.Program.{Program}
 use Rattle.kernel.specs.declared.shared.Shared.{Shared}
-use Rattle.kernel.proofs.Beginning.{first-core, lendings-first}
+use Rattle.kernel.proofs.Beginning.{first-core, lendings-first, programs-hold}
 use Rattle.kernel.proofs.boot.Core.boot.Goals as goal
 
 pub invariant_of-result : goal.invariant_of-result
@@ -23,4 +23,8 @@ invariant_of-result c =
 
 pub returns-clause-lendings : goal.returns-clause-lendings
 returns-clause-lendings c = lendings-first c.args.programs.items c.in_ok-tasks.tasks.items
+    (subst (λ (ps : List Program). AreFirst ps c.in_ok-tasks.tasks.items) c.deref.ensures.value c.in_ok-tasks.ensures)
+
+pub returns-clause-bytes : goal.returns-clause-bytes
+returns-clause-bytes c = programs-hold c.args.programs.items c.in_ok-tasks.tasks.items
     (subst (λ (ps : List Program). AreFirst ps c.in_ok-tasks.tasks.items) c.deref.ensures.value c.in_ok-tasks.ensures)

@@ -1,18 +1,16 @@
 -- A Cut of the parts is a Cut of the core.
-use Rattle.std.proofs.Common.{◌≡◌, subst, ap, ◌∙◌, sym, length, drop, List, rules, Result, Ok, Err}
+use Rattle.std.proofs.Common.{◌≡◌, subst, ap, ◌∙◌, sym, length, drop, List, rules}
 use Rattle.std.specs.Prelude.{IfOk, IfErr}
 use Rattle.std.specs.List.{AllByRecursion}
 use Rattle.disk_model.specs.Files.{IsFormed}
 use Rattle.disk_model.specs.declared.change.Change.{Change}
 use Rattle.kernel_model.specs.Answers.{Kernel, Applies, Refuses, cut_refusal}
-use Rattle.kernel_model.specs.declared.answer.Answer.{Answer}
-use Rattle.kernel_model.specs.declared.answer.Refused.{Refused}
 use Rattle.kernel_model.specs.declared.event.Event.TheVariants.{Cut}
 use Rattle.kernel.specs.Cores.{kernel_of}
 use Rattle.kernel.specs.Storing.{WasCut}
 use Rattle.kernel.specs.Tests.{full_of}
 use Rattle.kernel.specs.declared.task.Task.{Task}
-use Rattle.kernel.proofs.Writing.{cut-core, cut-applies, files-made, changes-formed}
+use Rattle.kernel.proofs.Writing.{cut-core, cut-applies, changes-formed}
 use Rattle.kernel.specs.Cores.{run_of}
 use Rattle.kernel.proofs.boot.Core.cut.Goals as goal
 

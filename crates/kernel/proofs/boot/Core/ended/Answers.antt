@@ -1,16 +1,15 @@
 -- The end of a trace that is handed out is that of the run.
-use Rattle.std.proofs.Common.{◌≡◌, ◌+◌, ◌<◌, ap, sym, subst, ◌∙◌, arith, rules, length, slice_get, Some, Option, is_some, true, List}
+use Rattle.std.proofs.Common.{◌≡◌, ◌+◌, ap, sym, subst, ◌∙◌, rules, length, slice_get, Some, Option, is_some, true, List}
 use Rattle.disk_model.specs.Storage.{Storage}
 use Rattle.kernel_model.specs.Answers.{Kernel, now, process_of}
-use Rattle.kernel_model.specs.Shown.{handed, replies_in, end_in}
+use Rattle.kernel_model.specs.Shown.{handed, end_in}
 use Rattle.kernel_model.specs.State.{Process}
 use Rattle.kernel.specs.Cores.{run_of}
 use Rattle.kernel.specs.Handing.{handed_end_of}
-use Rattle.kernel.specs.Seen.{IsTrace}
 use Rattle.kernel.specs.Tests.{IsPlaceOf}
 use Rattle.kernel.specs.declared.task.Task.{Task}
 use Rattle.kernel.proofs.Lists.{get-there}
-use Rattle.kernel.proofs.Releasing.{replies-is, end-is, there-is}
+use Rattle.kernel.proofs.Releasing.{end-is, there-is}
 use Rattle.kernel.proofs.boot.Core.ended.Goals as goal
 
 pub returns-in-Some-clause-status : goal.returns-in-Some-clause-status

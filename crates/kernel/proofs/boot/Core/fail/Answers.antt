@@ -1,5 +1,5 @@
 -- A Fail of the parts is a Fail of the core.
-use Rattle.std.proofs.Common.{◌≡◌, subst, ap, ◌∙◌, length, List, rules, Bool}
+use Rattle.std.proofs.Common.{◌≡◌, subst, ap, ◌∙◌, length, List, rules}
 use Rattle.kernel_model.specs.Answers.{Kernel, Applies}
 use Rattle.kernel_model.specs.declared.event.Event.TheVariants.{Fail}
 use Rattle.kernel.specs.Cores.{kernel_of}

@@ -1,10 +1,13 @@
 -- The next process of a core is lent.
-use Rattle.std.proofs.Common.{◌≡◌, ℕ, List, length, false, Option, Some, None, sym, ap, subst, ◌∙◌, arith}
+use Rattle.std.proofs.Common.{◌≡◌, ℕ, ◌+◌, ◌*◌, ◌^◌, ◌≤◌, List, length, map, false, Option, Some, None, sym, ap, subst, ◌∙◌, arith}
 use Rattle.std.specs.Vec.{with_items}
 use Rattle.std.proofs.lemmas.List.{with_items_is}
 use Rattle.kernel.specs.Lending.{full_for_loan_of, next_fit, Lent, LendsNext}
+use Rattle.kernel.specs.Tasks.{count_out, lending_of, AreFewLoans}
 use Rattle.kernel.specs.declared.loan.Loan.{Loan}
 use Rattle.kernel.specs.declared.task.Task.{Task}
+use Rattle.kernel_model.specs.declared.event.Event.{Event}
+use Rattle.kernel.proofs.FewLoans.{few-longer}
 use Rattle.kernel.proofs.LendKept.{lent-core, lends-one, lends-none}
 use Rattle.kernel.proofs.boot.Core.lend.Goals as goal
 
@@ -14,6 +17,13 @@ given-of : (quantum behind : ℕ) (slice old new kept : List Task) (given : Opti
 given-of quantum behind slice old new kept given was same h =
     subst (λ (ts : List Task). LendsNext quantum behind ts kept given) was
     (subst (λ (ts : List Task). LendsNext quantum behind slice ts given) (sym same) h)
+
+pub lend_next-requires : goal.lend_next-requires
+lend_next-requires c =
+    let history : List Event = c.self.inside.history.items in
+    let room : length history + 2 * count_out c.self.inside.tasks.items ≤ 2 ^ 40 = c.self.invariant.room in
+    subst (λ (ts : List Task). AreFewLoans (2 ^ 40) (map lending_of ts)) (sym c.deref_mut.ensures.value)
+    (few-longer (length history) (2 ^ 40) (map lending_of c.self.inside.tasks.items) (omega (arith, room)) c.self.invariant.loans)
 
 pub returns-in_default : goal.returns-in_default
 returns-in_default c =

@@ -3,7 +3,7 @@ use Rattle.std.proofs.Common.{◌≡◌, ◌∙◌, sym, slice_get, get_or, Some
 use Rattle.kernel_model.specs.declared.event.Event.{Event}
 use Rattle.kernel_model.specs.declared.event.Event.TheVariants.{Turn}
 use Rattle.kernel.proofs.Lists.{get-index}
-use Rattle.kernel.proofs.Scripting.{Scripted, scripted-none, scripted-more, scripted-still}
+use Rattle.kernel.proofs.Scripting.{scripted-none, scripted-more, scripted-still}
 use Rattle.kernel.proofs.boot.Core.run_script.Goals as goal
 
 pub loop-count-init : goal.loop-count-init

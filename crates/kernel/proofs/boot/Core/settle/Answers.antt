@@ -1,10 +1,10 @@
 -- The core keeps its parts, and its history grows by the result's events.
-use Rattle.std.proofs.Common.{◌≡◌, ◌∙◌, ap, sym, refl, subst, ℕ, List, Bool, true, false, Option, Some, None, IsTrue, slice_get, slice_set, rules}
+use Rattle.std.proofs.Common.{◌≡◌, ◌∙◌, sym, subst, ℕ, List, Bool, true, false, Some, None, IsTrue, slice_get, slice_set, rules}
 use Rattle.std.proofs.lemmas.Bool.{false≢true}
 use Rattle.std.specs.Prelude.{IfOk, OnOk, OnErr}
 use Rattle.machine_model.specs.States.{stands_at}
-use Rattle.kernel_model.specs.Answers.{Kernel}
-use Rattle.kernel_model.specs.Loans.{IsOfLoan, settled, settled_answer}
+use Rattle.kernel_model.specs.Answers.{Kernel, AllAccepted}
+use Rattle.kernel_model.specs.Loans.{IsOfLoan, returned, events_of, settled, settled_answer}
 use Rattle.kernel_model.specs.declared.event.Event.{Event}
 use Rattle.kernel.specs.Cores.{kernel_of}
 use Rattle.kernel.specs.Loaned.{loan_result}
@@ -16,6 +16,7 @@ use Rattle.kernel.specs.declared.task.Task.{Task}
 use Rattle.kernel.proofs.EnterLists.{get-there}
 use Rattle.kernel.proofs.EnterResults.{on-ok-any}
 use Rattle.kernel.proofs.EnterWorld.{few-files, names-there}
+use Rattle.kernel.proofs.SettleAccepted.{events-accepted}
 use Rattle.kernel.proofs.SettleCore.{own-loan, loan-own, turn-result, enter-result, settle-core, settle-events, settle-answer, settle-only, settle-err, same-of}
 use Rattle.kernel.specs.Cores.{run_of}
 use Rattle.kernel.proofs.boot.Core.settle.Goals as goal
@@ -89,6 +90,23 @@ returns-in-None-clause-own c =
     let of : IsLoanOf t d = c.is_of_loan.ensures.0 (subst (λ (x : Bool). IsTrue x) (sym c.if-not-is_of_loan.false) yes) in
     on-ok-any c.settle_turn.result
     (subst (λ (k : Kernel). IsOfLoan k (loan_result d)) c.self.view_is (own-loan b history tasks c.self.inside.shared last place t d c.self.invariant placed.number there of))
+
+pub returns-in-None-clause-fine : goal.returns-in-None-clause-fine
+returns-in-None-clause-fine c =
+    let b : Booted = c.self.inside.booted in
+    let tasks : List Task = c.self.inside.tasks.items in
+    let history : List Event = c.self.inside.history.items in
+    let last : ℕ = c.self.inside.last_lent in
+    let place : ℕ = c.in-Some.place in
+    let d : Done = c.args.done in
+    let t : Task = c.index_mut-task.result.now in
+    let placed : IsPlaceOf tasks d.pid place = subst (λ (ts : List Task). IsPlaceOf ts d.pid place) c.deref.ensures.value c.in-Some.ensures in
+    let there : slice_get tasks place ≡ Some t = get-there tasks place t placed.there c.index_mut-task.ensures.value in
+    let yes : IsTrue true = search rules in
+    let of : IsLoanOf t d = c.is_of_loan.ensures.0 (subst (λ (x : Bool). IsTrue x) (sym c.if-not-is_of_loan.false) yes) in
+    on-ok-any c.settle_turn.result
+    (subst (λ (k : Kernel). AllAccepted (returned k d.pid) (events_of (loan_result d))) c.self.view_is
+    (events-accepted b history tasks c.self.inside.shared last place t d c.self.invariant placed.number there of))
 
 pub returns-in-None-clause-events : goal.returns-in-None-clause-events
 returns-in-None-clause-events c =
@@ -193,6 +211,23 @@ returns-in-Some-stopped-clause-own c =
     let of : IsLoanOf t d = c.is_of_loan.ensures.0 (subst (λ (x : Bool). IsTrue x) (sym c.if-not-is_of_loan.false) yes) in
     on-ok-any c.settle_enter.result
     (subst (λ (k : Kernel). IsOfLoan k (loan_result d)) c.self.view_is (own-loan b history tasks c.self.inside.shared last place t d c.self.invariant placed.number there of))
+
+pub returns-in-Some-stopped-clause-fine : goal.returns-in-Some-stopped-clause-fine
+returns-in-Some-stopped-clause-fine c =
+    let b : Booted = c.self.inside.booted in
+    let tasks : List Task = c.self.inside.tasks.items in
+    let history : List Event = c.self.inside.history.items in
+    let last : ℕ = c.self.inside.last_lent in
+    let place : ℕ = c.in-Some.place in
+    let d : Done = c.args.done in
+    let t : Task = c.index_mut-task.result.now in
+    let placed : IsPlaceOf tasks d.pid place = subst (λ (ts : List Task). IsPlaceOf ts d.pid place) c.deref.ensures.value c.in-Some.ensures in
+    let there : slice_get tasks place ≡ Some t = get-there tasks place t placed.there c.index_mut-task.ensures.value in
+    let yes : IsTrue true = search rules in
+    let of : IsLoanOf t d = c.is_of_loan.ensures.0 (subst (λ (x : Bool). IsTrue x) (sym c.if-not-is_of_loan.false) yes) in
+    on-ok-any c.settle_enter.result
+    (subst (λ (k : Kernel). AllAccepted (returned k d.pid) (events_of (loan_result d))) c.self.view_is
+    (events-accepted b history tasks c.self.inside.shared last place t d c.self.invariant placed.number there of))
 
 pub returns-in-Some-stopped-clause-events : goal.returns-in-Some-stopped-clause-events
 returns-in-Some-stopped-clause-events c =

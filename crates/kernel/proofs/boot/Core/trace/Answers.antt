@@ -1,15 +1,13 @@
 -- The replies of a trace that are handed out are those of the run.
-use Rattle.std.proofs.Common.{◌≡◌, ◌+◌, ◌<◌, ap, sym, subst, ◌∙◌, arith, rules, length, slice_get, Some, Option, is_some, true, List}
+use Rattle.std.proofs.Common.{◌≡◌, ◌+◌, ap, sym, subst, ◌∙◌, rules, length, slice_get, Some, Option, is_some, true, List}
 use Rattle.kernel_model.specs.Answers.{Kernel, now, process_of}
-use Rattle.kernel_model.specs.Shown.{handed, replies_in, end_in}
+use Rattle.kernel_model.specs.Shown.{handed, replies_in}
 use Rattle.kernel_model.specs.State.{Process}
 use Rattle.kernel.specs.Cores.{run_of}
-use Rattle.kernel.specs.Handing.{handed_end_of}
-use Rattle.kernel.specs.Seen.{IsTrace}
 use Rattle.kernel.specs.Tests.{IsPlaceOf}
 use Rattle.kernel.specs.declared.task.Task.{Task}
 use Rattle.kernel.proofs.Lists.{get-there}
-use Rattle.kernel.proofs.Releasing.{replies-is, end-is, there-is}
+use Rattle.kernel.proofs.Releasing.{replies-is, there-is}
 use Rattle.kernel.proofs.boot.Core.trace.Goals as goal
 
 pub returns-in-Some-clause-replies : goal.returns-in-Some-clause-replies

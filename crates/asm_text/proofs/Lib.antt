@@ -1,0 +1,12 @@
+-- The lemmas.
+pub mod Choices
+pub mod Names
+pub mod Strings
+pub mod Quotes
+pub mod Numbers
+pub mod Digits
+pub mod Finding
+pub mod Reading
+pub mod Sources
+pub mod Slices
+pub mod Unique

@@ -1,0 +1,17 @@
+-- What a fault says.
+use Rattle.std.specs.Prelude.{◌≡◌, ℕ}
+use Rattle.asm_text.specs.declared.fault.Cause.{Cause}
+use Rattle.asm_text.specs.declared.fault.Cause.TheVariants.{Syntax, OutOfMemory}
+use Rattle.asm_text.specs.declared.fault.TextFault.{TextFault}
+
+-- want of memory stands at 1:1
+abbrev pub out_of_memory : TextFault
+out_of_memory = record { why = OutOfMemory; line = 1; column = 1 }
+
+-- where a fault of each cause stands: one of syntax as given, want of memory at 1:1
+abbrev pub StandsBy : Cause → (ℕ → ℕ → Type 0) → ℕ → ℕ → Type 0
+StandsBy Syntax Is line column = Is line column
+StandsBy OutOfMemory Is line column = (line ≡ 1) × (column ≡ 1)
+
+abbrev pub Stands : (ℕ → ℕ → Type 0) → TextFault → Type 0
+Stands Is fault = StandsBy fault.why Is fault.line fault.column

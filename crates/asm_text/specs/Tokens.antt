@@ -1,0 +1,99 @@
+-- Tokens, one after the other in a line.
+use Rattle.std.specs.Prelude.{◌≡◌, ◌≢◌, ℕ, ◌+◌, ◌&&◌, ◌==◌, Bool, true, false, List, [], ◌∷◌, ◌++◌, length}
+use Rattle.std.specs.List.{AllPass}
+use Rattle.asm_text.specs.Letters.{is_name_byte, is_blank, IsWord, IsRunEnd}
+use Rattle.asm_text.specs.Numbers.{IsNumber, has_sign}
+use Rattle.asm_text.specs.Strings.{IsString}
+use Rattle.asm_text.specs.declared.token.TokenKind.{TokenKind}
+use Rattle.asm_text.specs.declared.token.TokenKind.TheVariants.{Word, Number, Text, Comma, Colon, Open, Close, Plus, Minus}
+use Rattle.asm_text.specs.declared.token.Token.{Token}
+
+-- The form of each kind of token. Directly behind a word `+` and `-` are tokens of their own; anywhere else `-` begins a
+-- number, and `+` nothing.
+abbrev pub IsForm : Bool → TokenKind → List ℕ → Type 0
+IsForm behind_word Word text = IsWord text
+IsForm behind_word (Number n) text = IsNumber text n × ((behind_word && has_sign text) ≡ false)
+IsForm behind_word (Text contents) text = IsString contents text
+IsForm behind_word Comma text = text ≡ 44 ∷ []
+IsForm behind_word Colon text = text ≡ 58 ∷ []
+IsForm behind_word Open text = text ≡ 40 ∷ []
+IsForm behind_word Close text = text ≡ 41 ∷ []
+IsForm behind_word Plus text = (text ≡ 43 ∷ []) × (behind_word ≡ true)
+IsForm behind_word Minus text = (text ≡ 45 ∷ []) × (behind_word ≡ true)
+
+abbrev pub is_word : TokenKind → Bool
+is_word Word = true
+is_word (Number n) = false
+is_word (Text contents) = false
+is_word Comma = false
+is_word Colon = false
+is_word Open = false
+is_word Close = false
+is_word Plus = false
+is_word Minus = false
+
+-- words and numbers are whole: no letter, digit or `_` comes behind them
+abbrev pub IsWhole : TokenKind → List ℕ → Type 0
+IsWhole Word rest = IsRunEnd is_name_byte rest
+IsWhole (Number n) rest = IsRunEnd is_name_byte rest
+IsWhole (Text contents) rest = Unit {0}
+IsWhole Comma rest = Unit {0}
+IsWhole Colon rest = Unit {0}
+IsWhole Open rest = Unit {0}
+IsWhole Close rest = Unit {0}
+IsWhole Plus rest = Unit {0}
+IsWhole Minus rest = Unit {0}
+
+-- the text of a token, and what comes behind it
+abbrev pub IsToken : Bool → TokenKind → List ℕ → List ℕ → Type 0
+IsToken behind_word kind text rest = IsForm behind_word kind text × IsWhole kind rest
+
+-- A place in a line: its byte in the source, the bytes from there to the line's end, and whether a word ends there.
+pub record Place : Type 0 where
+  pub at : ℕ
+  pub bytes : List ℕ
+  pub behind_word : Bool
+
+abbrev pub line_start : ℕ → List ℕ → Place
+line_start from line = record { at = from; bytes = line; behind_word = false }
+
+-- from one place over blanks, if any, to another
+pub record IsOverBlanks (p q : Place) : Type 0 where
+  pub blanks : List ℕ
+  pub parted : p.bytes ≡ blanks ++ q.bytes
+  pub blank : AllPass is_blank blanks
+  pub place : q.at ≡ p.at + length blanks
+  pub directly : q.behind_word ≡ (p.behind_word && (length blanks == 0))
+
+-- from one place over a token to the place behind it
+pub record IsOverToken (t : Token) (p q : Place) : Type 0 where
+  pub text : List ℕ
+  pub parted : p.bytes ≡ text ++ q.bytes
+  pub form : IsToken p.behind_word t.kind text q.bytes
+  pub first : t.start ≡ p.at
+  pub last : t.end ≡ p.at + length text
+  pub place : q.at ≡ t.end
+  pub directly : q.behind_word ≡ is_word t.kind
+
+-- from one place over blanks, if any, and over a token behind them
+pub record IsNext (p : Place) (t : Token) (q : Place) : Type 0 where
+  pub between : Place
+  pub blanks : IsOverBlanks p between
+  pub token : IsOverToken t between q
+
+-- from one place to another over items, step by step
+abbrev pub Leads : {P X : Type 0} → (P → X → P → Type 0) → P → List X → P → Type 0
+Leads Step p [] q = p ≡ q
+Leads {P} Step p (x ∷ xs) q = (m : P) × Step p x m × Leads Step m xs q
+
+-- the line is at its end, or a comment takes the rest of it
+abbrev pub IsEndOrComment : List ℕ → Type 0
+IsEndOrComment [] = Unit {0}
+IsEndOrComment (b ∷ bs) = b ≡ 35
+
+-- no blank, comment or token stands here, and the line goes on
+abbrev pub IsNothing : Bool → List ℕ → Type 0
+IsNothing behind_word [] = ⊥
+IsNothing behind_word (b ∷ bs) =
+    (is_blank b ≡ false) × (b ≢ 35)
+    × ((kind : TokenKind) (text rest : List ℕ) → b ∷ bs ≡ text ++ rest → IsToken behind_word kind text rest → ⊥)

@@ -1,0 +1,73 @@
+//! The tokens of a line.
+ghost use Rattle.std.specs.Prelude.{◌≡◌, ◌+◌, ◌<◌, ◌^◌, ◌&&◌, ◌==◌, length, MatchResult};
+ghost use Rattle.std.specs.Bool.{MatchBool};
+ghost use Rattle.asm_text.specs.Tokens.{IsEndOrComment};
+ghost use Rattle.asm_text.specs.Scan.{GoesOn};
+ghost use Rattle.asm_text.specs.Text.{IsLine, IsLineFault};
+ghost use Rattle.asm_text.specs.Faults.{Stands};
+
+use crate::fault::{Cause, TextFault};
+use crate::runs::blank_len;
+use crate::scan::token_at;
+use crate::token::{Line, Token, Tokens};
+use std::alloc::Global;
+
+/// Whether a word ends here, these many blanks further on.
+fn still_behind(word: bool, blanks: usize) -> bool
+    ensures { result ≡ (word && (blanks == 0)) }
+{
+    word && blanks == 0
+}
+
+/// Whether the line is at its end here, or a comment takes the rest of it.
+fn is_over(rest: &[u8]) -> bool
+    ensures { MatchBool result (IsEndOrComment rest.now) (GoesOn rest.now) }
+{
+    match rest {
+        [] => true,
+        [first, ..] => *first == b'#',
+    }
+}
+
+/// The line of these bytes, the first of which is byte `start` of the source.
+pub fn line_at(alloc: Global, number: usize, start: usize, bytes: &[u8]) -> Result<Line, TextFault>
+    requires { start + length bytes.now < 2 ^ 63 }
+    ensures { MatchResult result
+        (λ l. IsLine number start bytes.now l)
+        (λ f. Stands (λ line column. (line ≡ number) × IsLineFault start bytes.now column) f) }
+{
+    let mut tokens = Vec::new(alloc);
+    let mut at = start;
+    let mut rest = bytes;
+    let mut behind_word = false;
+    loop {
+        let blanks = blank_len(rest);
+        let (_, here) = rest.split_at(blanks);
+        at += blanks;
+        let directly = still_behind(behind_word, blanks);
+        if is_over(here) {
+            return Ok(Line {
+                number,
+                start,
+                end: start + bytes.len(),
+                tokens: Tokens::new(tokens),
+            });
+        }
+        let Some((kind, len)) = token_at(alloc, directly, here)? else {
+            return Err(TextFault {
+                why: Cause::Syntax,
+                line: number,
+                column: at - start + 1,
+            });
+        };
+        let (_, behind) = here.split_at(len);
+        behind_word = kind.is_word();
+        tokens.push(Token {
+            kind,
+            start: at,
+            end: at + len,
+        })?;
+        at += len;
+        rest = behind;
+    }
+}

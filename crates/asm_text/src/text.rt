@@ -1,0 +1,38 @@
+//! The lines of a source.
+ghost use Rattle.std.specs.Prelude.{MatchResult, IfOk, All};
+ghost use Rattle.asm_text.specs.Text.{IsText, FirstFault};
+ghost use Rattle.asm_text.specs.Spans.{HasSlices};
+ghost use Rattle.asm_text.specs.Faults.{Stands};
+
+use crate::fault::TextFault;
+use crate::line::line_at;
+use crate::runs::line_len;
+use crate::token::Line;
+use std::alloc::Global;
+
+/// All lines of a source with their tokens, also those with none. A source of n line feeds has n + 1 lines, the last of
+/// them perhaps empty. A comment runs from `#` to the line's end and may hold any bytes.
+///
+/// A fault of syntax stands at the first byte that begins no token: at the opening quote of a faulty string, at the first
+/// byte of a faulty number (at its `-`, where it has one) and of a word of over 64 bytes. Which tokens may follow which
+/// is not looked at.
+pub fn lines(alloc: Global, source: &str) -> Result<Vec<Line>, TextFault>
+    // Exactly the source's lines and tokens, or its first fault.
+    ensures exact { MatchResult result (λ ls. IsText source.now ls.items) (λ f. Stands (FirstFault source.now) f) }
+    // What follows for each line: it lies in the source, its tokens in it, and each token's bytes have its form.
+    ensures slices { IfOk result (λ ls. All (HasSlices source.now) ls.items) }
+{
+    let mut lines = Vec::new(alloc);
+    let mut start = 0;
+    let mut rest = source.as_bytes();
+    loop {
+        let (line, behind) = rest.split_at(line_len(rest));
+        let read = line_at(alloc, lines.len() + 1, start, line)?;
+        lines.push(read)?;
+        let [_, next @ ..] = behind else {
+            return Ok(lines);
+        };
+        start += line.len() + 1;
+        rest = next;
+    }
+}

@@ -1,0 +1,79 @@
+-- What the passes make may be loaded.
+use Rattle.std.proofs.Common.{◌≡◌, ℕ, suc, zero, ◌+◌, ◌*◌, ◌/◌, ◌%◌, ◌^◌, ◌<◌, ◌≤◌, subst, List, [], ◌∷◌, ◌++◌, length, drop, refl, sym, ap, ◌∙◌, arith, length-drop}
+use Rattle.std.specs.Prelude.{All}
+use Rattle.std.specs.Int.{to_le_bytes, w32}
+use Rattle.std.proofs.lemmas.List.{length-append}
+use Rattle.std.proofs.lemmas.List.Elements.{All-cons}
+use Rattle.machine_model.specs.Access.{low_bytes}
+use Rattle.elf32.specs.declared.image.Segment.{Segment}
+use Rattle.elf32.specs.Images.{IsLoadable, IsProfile, bytes_of_words}
+use Rattle.assembler.specs.Assembly.{pages, data_base, words_of, text_segment, data_segment, data_segments}
+use Rattle.assembler.specs.declared.filling.Cell.{Cell}
+
+-- the four bytes of a word
+pub low_bytes-le : (word : ℕ) → to_le_bytes w32 word ≡ low_bytes 4 word
+low_bytes-le word =
+    let second : word / 65536 ≡ word / 256 / 256 = omega arith in
+    let third : word / 16777216 ≡ word / 256 / 256 / 256 = omega arith in
+    ap (λ (n : ℕ). word % 256 ∷ word / 256 % 256 ∷ n % 256 ∷ word / 16777216 % 256 ∷ []) second
+    ∙ ap (λ (n : ℕ). word % 256 ∷ word / 256 % 256 ∷ word / 256 / 256 % 256 ∷ n % 256 ∷ []) third
+
+length-low_bytes : (n value : ℕ) → length (low_bytes n value) ≡ n
+length-low_bytes zero value = refl
+length-low_bytes (suc n) value = ap suc (length-low_bytes n (value / 2 ^ 8))
+
+-- text has four bytes for each word
+pub text_length : (cells : List Cell) → length (bytes_of_words (words_of cells)) ≡ 4 * length cells
+text_length [] = refl
+text_length (c ∷ cells) = omega (arith, length-append (low_bytes 4 c.word) (bytes_of_words (words_of cells)), length-low_bytes 4 c.word, text_length cells)
+
+-- bytes that with those of the words left are those of all, have four for each word so far
+pub text-ends : (front : List ℕ) (cells : List Cell) (i : ℕ) → length cells ≤ i → front ++ bytes_of_words (words_of (drop i cells)) ≡ bytes_of_words (words_of cells) → length front ≡ 4 * length cells
+text-ends front cells i ended is =
+    omega (arith, ap length is, length-append front (bytes_of_words (words_of (drop i cells))), text_length (drop i cells), text_length cells, length-drop i cells)
+
+All-none : {X : Type 0} (P : X → Type 0) → All P []
+All-none P k d lt = absurd (omega (arith, lt))
+
+loadable-text : (bytes : List ℕ) → 0 < length bytes → length bytes ≤ 245760 → IsLoadable (text_segment bytes)
+loadable-text bytes some few = record { present = some; within = omega arith; some_right = refl; not_both = refl; above = omega arith; below = omega arith }
+
+loadable-data : (at : ℕ) (bytes : List ℕ) → 0 < length bytes → length bytes ≤ 245760 → 65536 ≤ at → at ≤ 311296 → IsLoadable (data_segment at bytes)
+loadable-data at bytes some few low high = record { present = some; within = omega arith; some_right = refl; not_both = refl; above = low; below = omega arith }
+
+-- an image of at most 60 pages, with an entry in its text, may be loaded
+profile-segments : (entry count : ℕ) (text bytes : List ℕ) → length text ≡ 4 * count → pages (4 * count) + pages (length bytes) ≤ 60 → entry % 4 ≡ 0 → 65536 ≤ entry → entry < 65536 + 4 * count
+    → IsProfile (record { entry = entry; segments = text_segment text ∷ data_segments (data_base count) bytes })
+profile-segments entry count text [] len fits aligned low high = record {
+  some = omega arith;
+  few = omega arith;
+  loadable = All-cons IsLoadable (text_segment text) [] (loadable-text text (omega arith) (omega arith)) (All-none IsLoadable);
+  ascending = (omega arith, tt);
+  small = omega arith;
+  aligned = aligned;
+  in_code = (0, text_segment text, omega arith, refl, (refl, low, omega arith));
+}
+profile-segments entry count text (b ∷ bytes) len fits aligned low high = record {
+  some = omega arith;
+  few = omega arith;
+  loadable = All-cons IsLoadable (text_segment text) (data_segment (data_base count) (b ∷ bytes) ∷ []) (loadable-text text (omega arith) (omega arith)) (All-cons IsLoadable (data_segment (data_base count) (b ∷ bytes)) [] (loadable-data (data_base count) (b ∷ bytes) (omega arith) (omega arith) (omega arith) (omega arith)) (All-none IsLoadable));
+  ascending = (omega arith, (omega arith, tt));
+  small = omega arith;
+  aligned = aligned;
+  in_code = (0, text_segment text, omega arith, refl, (refl, low, omega arith));
+}
+
+pub profile-image : (entry : ℕ) (cells : List Cell) (bytes : List ℕ) (segments : List Segment) → segments ≡ text_segment (bytes_of_words (words_of cells)) ∷ data_segments (data_base (length cells)) bytes
+    → pages (4 * length cells) + pages (length bytes) ≤ 60 → entry % 4 ≡ 0 → 65536 ≤ entry → entry < 65536 + 4 * length cells → IsProfile (record { entry = entry; segments = segments })
+profile-image entry cells bytes segments is fits aligned low high =
+    subst (λ (list : List Segment). IsProfile (record { entry = entry; segments = list })) (sym is)
+    (profile-segments entry (length cells) (bytes_of_words (words_of cells)) bytes (text_length cells) fits aligned low high)
+
+-- the same of the parts as the code has them
+pub profile-parts : (entry : ℕ) (cells given : List Cell) (text bytes : List ℕ) (base count : ℕ) (segments : List Segment) → segments ≡ text_segment text ∷ data_segments base bytes → text ≡ bytes_of_words (words_of given) → given ≡ cells → base ≡ data_base count → count ≡ length cells
+    → pages (4 * length cells) + pages (length bytes) ≤ 60 → entry % 4 ≡ 0 → 65536 ≤ entry → entry < 65536 + 4 * length cells → IsProfile (record { entry = entry; segments = segments })
+profile-parts entry cells given text bytes base count segments is spelled same at counts fits aligned low high =
+    let words : List Cell → List ℕ = λ (x : List Cell). bytes_of_words (words_of x) in
+    profile-image entry cells bytes segments
+    (is ∙ ap (λ (t : List ℕ). text_segment t ∷ data_segments base bytes) (spelled ∙ ap words same) ∙ ap (λ (b : ℕ). text_segment (words cells) ∷ data_segments b bytes) (at ∙ ap data_base counts))
+    fits aligned low high

@@ -1,0 +1,33 @@
+-- What a fault says.
+use Rattle.std.specs.Prelude.{ℕ, ◌+◌, ◌-◌, min, List, length, Result, Ok, Err}
+use Rattle.asm_text.specs.declared.fault.TextFault.{TextFault}
+use Rattle.asm_text.specs.declared.fault.Cause as text
+use Rattle.asm_text.specs.declared.fault.Cause.TheVariants as text_cause
+use Rattle.asm_text.specs.declared.token.Line.{Line}
+use Rattle.assembler.specs.declared.fault.Cause.{Cause}
+use Rattle.assembler.specs.declared.fault.Cause.TheVariants.{Syntax, OutOfMemory}
+use Rattle.assembler.specs.declared.fault.AsmFault.{AsmFault}
+
+-- a fault of the source as a whole stands at 1:1
+abbrev pub whole : Cause → AsmFault
+whole why = record { why = why; line = 1; column = 1 }
+
+abbrev pub out_of_memory : AsmFault
+out_of_memory = whole OutOfMemory
+
+-- a fault at a place of the source that lies in a line; columns count its bytes from 1
+abbrev pub fault_at : List ℕ → Line → Cause → ℕ → AsmFault
+fault_at source line why at = record { why = why; line = line.number; column = min at (length source) - line.start + 1 }
+
+-- a fault of the source's tokens
+abbrev pub cause_of : text.Cause → Cause
+cause_of text_cause.Syntax = Syntax
+cause_of text_cause.OutOfMemory = OutOfMemory
+
+abbrev pub of_text : TextFault → AsmFault
+of_text fault = record { why = cause_of fault.why; line = fault.line; column = fault.column }
+
+-- a fault at a place in a line
+abbrev pub at_line : {A : Type 0} → List ℕ → Line → Cause → Result A ℕ → Result A AsmFault
+at_line source line why (Ok x) = Ok x
+at_line source line why (Err at) = Err (fault_at source line why at)

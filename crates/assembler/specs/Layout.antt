@@ -1,0 +1,126 @@
+-- The first pass: each line's statement goes to the section that the last `.text` or `.data` before it names, behind what
+-- is there, and a label stands where its line begins.
+use Rattle.std.specs.Prelude.{ℕ, ℤ, pos, negsuc, ◌+◌, ◌*◌, ◌/◌, ◌%◌, ◌||◌, ◌==◌, min, Bool, true, false, if◌then◌else◌, List, [], ◌∷◌, Option, Some, None, is_some, Result, Ok, Err, length}
+use Rattle.std.specs.FinMap.{get, insert, empty}
+use Rattle.asm_text.specs.declared.token.Token.{Token}
+use Rattle.asm_text.specs.declared.token.TokenKind.{TokenKind}
+use Rattle.asm_text.specs.declared.token.TokenKind.TheVariants as kind
+use Rattle.asm_text.specs.declared.token.Line.{Line}
+use Rattle.assembler.specs.Steps.{and_then}
+use Rattle.assembler.specs.Tokens.{text_at, number_of}
+use Rattle.assembler.specs.Statements.{label_read, statement_read}
+use Rattle.assembler.specs.Expansion.{words_taken}
+use Rattle.assembler.specs.Faults.{fault_at, at_line}
+use Rattle.assembler.specs.Labels.{SpotsByName}
+use Rattle.assembler.specs.declared.fault.AsmFault.{AsmFault}
+use Rattle.assembler.specs.declared.fault.Cause.TheVariants.{Syntax, DoubleLabel, Range}
+use Rattle.assembler.specs.declared.labels.Spot.{Spot}
+use Rattle.assembler.specs.declared.statement.Label.{Label}
+use Rattle.assembler.specs.declared.statement.Statement.{Statement}
+use Rattle.assembler.specs.declared.statement.Statement.TheVariants as statement
+use Rattle.assembler.specs.declared.layout.Position.{Position}
+use Rattle.assembler.specs.declared.layout.Layout.{Layout}
+
+-- a length, up to 2^32 - 1: a section of that length is too large in any case
+abbrev pub counted : ℕ → ℕ
+counted n = min n 4294967295
+
+-- before the first line: nothing, in text
+abbrev pub start : Position
+start = record { in_data = false; words = 0; bytes = 0 }
+
+abbrev pub start_layout : Layout
+start_layout = record { position = start; labels = empty }
+
+-- where a label stands: how many words of text or bytes of data come before it
+abbrev pub spot_of : Position → Spot
+spot_of p = record { in_data = p.in_data; offset = if p.in_data then p.bytes else p.words }
+
+-- the numbers among tokens, each with its place
+abbrev pub with_number : Option ℤ → ℕ → List (ℤ × ℕ) → List (ℤ × ℕ)
+with_number None at numbers = numbers
+with_number (Some n) at numbers = (n, at) ∷ numbers
+
+abbrev pub numbers_in : List Token → List (ℤ × ℕ)
+numbers_in [] = []
+numbers_in (t ∷ ts) = with_number (number_of t.kind) t.start (numbers_in ts)
+
+-- the first string among tokens
+abbrev pub first_string : TokenKind → List ℕ → List ℕ
+first_string (kind.Text bytes) others = bytes
+first_string _ others = others
+
+abbrev pub string_in : List Token → List ℕ
+string_in [] = []
+string_in (t ∷ ts) = first_string t.kind (string_in ts)
+
+-- a number that is not negative
+abbrev pub magnitude : ℤ → ℕ
+magnitude (pos n) = n
+magnitude (negsuc n) = 0
+
+-- so many words, as words of text or bytes of data
+abbrev pub units_of : ℕ → Bool → ℕ
+units_of words in_data = if in_data then 4 * words else words
+
+-- so many zero bytes, as words of text or bytes of data
+abbrev pub space_units : ℤ → Bool → ℕ
+space_units n in_data = if in_data then magnitude n else magnitude n / 4
+
+-- further on by words of text, by bytes of data, and by words or bytes of the section that statements go to
+abbrev pub with_words : Position → ℕ → Position
+with_words p n = record { in_data = p.in_data; words = counted (p.words + n); bytes = p.bytes }
+
+abbrev pub with_bytes : Position → ℕ → Position
+with_bytes p n = record { in_data = p.in_data; words = p.words; bytes = counted (p.bytes + n) }
+
+abbrev pub advanced : Position → ℕ → Position
+advanced p n = if p.in_data then with_bytes p n else with_words p n
+
+-- in text, or in data
+abbrev pub within : Position → Bool → Position
+within p in_data = record { in_data = in_data; words = p.words; bytes = p.bytes }
+
+-- the position behind a statement of a line with these tokens
+abbrev pub after : Position → Statement → List Token → Position
+after p statement.Nothing tokens = p
+after p statement.Text tokens = within p false
+after p statement.Data tokens = within p true
+after p statement.Words tokens = advanced p (counted (units_of (length (numbers_in tokens)) p.in_data))
+after p statement.Bytes tokens = with_bytes p (counted (length (numbers_in tokens)))
+after p statement.Ascii tokens = with_bytes p (counted (length (string_in tokens)))
+after p (statement.Space n at) tokens = advanced p (counted (space_units n p.in_data))
+after p (statement.Instruction m o) tokens = advanced p (counted (units_of (words_taken m o) p.in_data))
+
+-- a `.space` is not negative, and in text a number of whole words
+abbrev pub is_space : Bool → ℤ → Bool
+is_space in_data (pos n) = in_data || (n % 4 == 0)
+is_space in_data (negsuc n) = false
+
+abbrev pub space_checked : List ℕ → Line → Bool → Statement → Result (Unit {0}) AsmFault
+space_checked source line in_data (statement.Space n at) = if is_space in_data n then Ok tt else Err (fault_at source line Range at)
+space_checked source line in_data s = Ok tt
+
+-- the labels with that of a line, at a position
+abbrev pub label_declared : List ℕ → Line → Label → Position → SpotsByName → Result SpotsByName AsmFault
+label_declared source line label p labels =
+    let name = text_at source label.start label.end in
+    if is_some (get labels name) then Err (fault_at source line DoubleLabel label.start) else Ok (insert labels name (spot_of p))
+
+abbrev pub labelled : List ℕ → Line → Option Label → Position → SpotsByName → Result SpotsByName AsmFault
+labelled source line None p labels = Ok labels
+labelled source line (Some label) p labels = label_declared source line label p labels
+
+-- the layout behind a line: first its label, then its statement
+abbrev pub placed : List ℕ → Line → Layout → Result Layout AsmFault
+placed source line l =
+    and_then (at_line source line Syntax (label_read source line.tokens)) (λ r.
+    and_then (labelled source line r.0 l.position l.labels) (λ labels.
+    and_then (at_line source line Syntax (statement_read source l.position.in_data line.end r.1)) (λ s.
+    and_then (space_checked source line l.position.in_data s) (λ _.
+    Ok (record { position = after l.position s line.tokens; labels = labels })))))
+
+-- the layout behind all lines, or the first fault
+abbrev pub all_placed : List ℕ → List Line → Layout → Result Layout AsmFault
+all_placed source [] l = Ok l
+all_placed source (line ∷ lines) l = and_then (placed source line l) (λ m. all_placed source lines m)

@@ -1,0 +1,99 @@
+//! Why a source is refused, and where.
+ghost use Rattle.std.specs.Prelude.{◌≡◌};
+ghost use Rattle.assembler.specs.Faults.{out_of_memory, whole, fault_at, of_text};
+
+use asm_text::{Line, TextFault};
+use std::alloc::{AllocError, AllocFailed};
+use thiserror::Error;
+
+/// What is wrong.
+#[derive(Clone, Copy, Debug, PartialEq, Eq, Error)]
+pub enum Cause {
+    /// The source has no line, statement or operand of this form.
+    #[error("Syntax")]
+    Syntax = 1,
+    /// No label has this name.
+    #[error("UnknownName")]
+    UnknownName = 2,
+    /// A label of this name stands further up.
+    #[error("DoubleLabel")]
+    DoubleLabel = 3,
+    /// A number does not fit its field, or a target is out of reach.
+    #[error("Range")]
+    Range = 4,
+    /// No label `_start` stands before a word of text.
+    #[error("NoStart")]
+    NoStart = 5,
+    /// The source has over 1,048,576 bytes, or the image over 60 pages.
+    #[error("TooLarge")]
+    TooLarge = 6,
+    /// Memory ran out.
+    #[error("OutOfMemory")]
+    OutOfMemory = 7,
+}
+
+/// Why a source is refused, and where: lines and columns are counted from 1, columns in bytes. What concerns no place
+/// stands at 1:1.
+#[derive(Clone, Copy, Debug, PartialEq, Eq, Error)]
+#[error("{why} at {line}:{column}")]
+pub struct AsmFault {
+    pub why: Cause,
+    pub line: usize,
+    pub column: usize,
+}
+
+impl AsmFault {
+    /// A fault of the source as a whole.
+    pub fn whole(why: Cause) -> AsmFault
+        ensures { result ≡ whole why }
+    {
+        AsmFault {
+            why,
+            line: 1,
+            column: 1,
+        }
+    }
+}
+
+/// A fault at a place of the source that lies in a line.
+pub fn fault_at(source: &[u8], line: &Line, why: Cause, at: usize) -> AsmFault
+    ensures { result ≡ fault_at source.now line.now why at }
+{
+    AsmFault {
+        why,
+        line: line.number,
+        column: at.min(source.len()).saturating_sub(line.start) + 1,
+    }
+}
+
+impl From<AllocError> for AsmFault {
+    ghost from_gives = { λ _ fault. fault ≡ out_of_memory };
+
+    fn from(_error: AllocError) -> AsmFault {
+        AsmFault::whole(Cause::OutOfMemory)
+    }
+}
+
+impl<T: Drop> From<AllocFailed<T>> for AsmFault {
+    ghost from_gives = { λ _ fault. fault ≡ out_of_memory };
+
+    fn from(_failed: AllocFailed<T>) -> AsmFault {
+        AsmFault::whole(Cause::OutOfMemory)
+    }
+}
+
+impl From<TextFault> for AsmFault {
+    ghost from_gives = { λ text fault. fault ≡ of_text text };
+
+    fn from(fault: TextFault) -> AsmFault {
+        let why = match fault.why {
+            asm_text::Cause::Syntax => Cause::Syntax,
+            asm_text::Cause::OutOfMemory => Cause::OutOfMemory,
+        };
+        AsmFault {
+            why,
+            line: fault.line,
+            column: fault.column,
+        }
+    }
+}

@@ -1,0 +1,342 @@
+//! The second pass: the words of text and the bytes of data.
+ghost use Rattle.std.specs.Prelude.{◌≡◌, ◌≢◌, ◌≤ℤ◌, ◌+ℤ◌, ◌-ℤ◌, pos, Ok, Err, IfOk, IfErr, OnOk};
+ghost use Rattle.assembler.specs.Faults.{out_of_memory};
+ghost use Rattle.assembler.specs.Layout.{numbers_in, spot_of};
+ghost use Rattle.assembler.specs.Filling.{shown, address_of, distance_of, byte_of, put_word, put_numbers, put_bytes, put_string, put_space, put_expansion, instruction_of, instruction_put, bytes_filled, statement_filled, filled, contents_filled};
+
+use crate::encoding::word;
+use crate::expansion::{Expansion, expanded};
+use crate::fault::{AsmFault, Cause, fault_at};
+use crate::fields::modulo_word;
+use crate::labels::{Labels, Spot};
+use crate::layout::{Position, magnitude, string_in};
+use crate::literal::Literal;
+use crate::mnemonic::Mnemonic;
+use crate::operands::{Operands, Value};
+use crate::statement::{Statement, read_statement, split_label};
+use crate::tokens::{number_of, text_at};
+use asm_text::{Line, Token};
+use std::alloc::Global;
+
+/// A word of text, and the line of its statement.
+#[derive(Clone, Copy)]
+pub struct Cell {
+    pub word: u32,
+    pub line: usize,
+}
+
+/// What the sections hold.
+#[derive(Drop)]
+pub struct Output {
+    pub cells: Vec<Cell>,
+    pub bytes: Vec<u8>,
+}
+
+/// Goes over all lines again, where the labels stand as they say and data begins at its base. A fault is the first of
+/// them: a label that is not there, or a number that does not fit.
+pub fn fill<'a>(
+    alloc: Global,
+    source: &'a [u8],
+    labels: &Labels<'a>,
+    data_base: u32,
+    lines: &[Line],
+) -> Result<Output, AsmFault>
+    ensures ok { IfOk result (λ o. contents_filled (record { source = source.now; labels = labels.now; data_base = data_base }) lines.now ≡ Ok (shown o)) }
+    ensures err { IfErr result (λ f. f ≢ out_of_memory
+        → contents_filled (record { source = source.now; labels = labels.now; data_base = data_base }) lines.now ≡ Err f) }
+{
+    let mut position = Position::start();
+    let mut output = Output {
+        cells: Vec::new(alloc),
+        bytes: Vec::new(alloc),
+    };
+    for line in lines {
+        position = fill_line(source, labels, data_base, line, position, &mut output)?;
+    }
+    Ok(output)
+}
+
+/// Goes over a line, and answers the position behind it.
+fn fill_line<'a>(
+    source: &'a [u8],
+    labels: &Labels<'a>,
+    data_base: u32,
+    line: &Line,
+    position: Position,
+    output: &mut Output,
+) -> Result<Position, AsmFault>
+    ensures ok { IfOk result (λ p. filled (record { source = source.now; labels = labels.now; data_base = data_base }) line.now
+        (record { position = position; contents = shown output.old }) ≡ Ok (record { position = p; contents = shown output.new })) }
+    ensures err { IfErr result (λ f. f ≢ out_of_memory → filled (record { source = source.now; labels = labels.now; data_base = data_base }) line.now
+        (record { position = position; contents = shown output.old }) ≡ Err f) }
+{
+    let tokens = line.tokens.as_slice();
+    let (_, rest) = match split_label(source, tokens) {
+        Ok(split) => split,
+        Err(at) => return Err(fault_at(source, line, Cause::Syntax, at)),
+    };
+    let statement = match read_statement(source, position.in_data, line.end, rest) {
+        Ok(statement) => statement,
+        Err(at) => return Err(fault_at(source, line, Cause::Syntax, at)),
+    };
+    fill_statement(
+        source, labels, data_base, line, position, &statement, output,
+    )?;
+    Ok(position.after(&statement, tokens))
+}
+
+/// Adds what a line's statement at a position holds.
+fn fill_statement<'a>(
+    source: &'a [u8],
+    labels: &Labels<'a>,
+    data_base: u32,
+    line: &Line,
+    position: Position,
+    statement: &Statement,
+    output: &mut Output,
+) -> Result<(), AsmFault>
+    ensures ok { OnOk result (statement_filled (record { source = source.now; labels = labels.now; data_base = data_base }) line.now
+        position statement.now (shown output.old) ≡ Ok (shown output.new)) }
+    ensures err { IfErr result (λ f. f ≢ out_of_memory → statement_filled (record { source = source.now; labels = labels.now; data_base = data_base }) line.now
+        position statement.now (shown output.old) ≡ Err f) }
+{
+    let tokens = line.tokens.as_slice();
+    match statement {
+        Statement::Nothing | Statement::Text | Statement::Data => Ok(()),
+        Statement::Words => put_numbers(position.in_data, line.number, tokens, output),
+        Statement::Bytes => fill_bytes(source, line, output),
+        Statement::Ascii => put_string(tokens, output),
+        Statement::Space(size, _) => {
+            put_space(position.in_data, line.number, magnitude(*size), output)
+        }
+        Statement::Instruction(mnemonic, operands) => {
+            let number = number_at(source, labels, data_base, position, operands.value);
+            fill_instruction(
+                source,
+                line,
+                position.in_data,
+                *mnemonic,
+                operands,
+                number,
+                output,
+            )
+        }
+    }
+}
+
+/// What a value is at a position: a label its distance from there.
+fn number_at<'a>(
+    source: &'a [u8],
+    labels: &Labels<'a>,
+    data_base: u32,
+    position: Position,
+    value: Value,
+) -> Option<i64>
+    ensures { result ≡ distance_of (record { source = source.now; labels = labels.now; data_base = data_base })
+        (pos (address_of data_base (spot_of position))) value }
+{
+    let pc = address(data_base, position.spot());
+    distance(source, labels, data_base, pc, value)
+}
+
+/// Adds the words of an instruction with its number, if there is one.
+fn fill_instruction(
+    source: &[u8],
+    line: &Line,
+    in_data: bool,
+    mnemonic: Mnemonic,
+    operands: &Operands,
+    number: Option<i64>,
+    output: &mut Output,
+) -> Result<(), AsmFault>
+    ensures ok { OnOk result (instruction_put source.now line.now in_data mnemonic operands.now number (shown output.old) ≡ Ok (shown output.new)) }
+    ensures err { IfErr result (λ f. f ≢ out_of_memory
+        → instruction_put source.now line.now in_data mnemonic operands.now number (shown output.old) ≡ Err f) }
+{
+    match instruction(source, line, mnemonic, operands, number) {
+        Ok(expansion) => put_expansion(in_data, line.number, expansion, output),
+        Err(fault) => Err(fault),
+    }
+}
+
+/// The expansion of an instruction with its number, if there is one.
+fn instruction(
+    source: &[u8],
+    line: &Line,
+    mnemonic: Mnemonic,
+    operands: &Operands,
+    number: Option<i64>,
+) -> Result<Expansion, AsmFault>
+    ensures { result ≡ instruction_of source.now line.now mnemonic operands.now number }
+{
+    let Some(number) = number else {
+        return Err(fault_at(source, line, Cause::UnknownName, operands.at));
+    };
+    match expanded(mnemonic, operands, number) {
+        Some(expansion) => Ok(expansion),
+        None => Err(fault_at(source, line, Cause::Range, operands.at)),
+    }
+}
+
+/// The address of a place in a section: text begins at 0x00010000.
+fn address(data_base: u32, spot: Spot) -> i64
+    ensures value { result ≡ pos (address_of data_base spot) }
+    ensures low { pos 0 ≤ℤ result }
+    ensures high { result ≤ℤ pos 17179934720 }
+{
+    let offset = i64::from(spot.offset);
+    if spot.in_data {
+        i64::from(data_base) + offset
+    } else {
+        65536 + 4 * offset
+    }
+}
+
+/// What a value is: a number as it is, and a label its distance from an address; none where there is no such label.
+fn distance<'a>(
+    source: &'a [u8],
+    labels: &Labels<'a>,
+    data_base: u32,
+    pc: i64,
+    value: Value,
+) -> Option<i64>
+    requires low { pos 0 ≤ℤ pc }
+    requires high { pc ≤ℤ pos 17179934720 }
+    ensures { result ≡ distance_of (record { source = source.now; labels = labels.now; data_base = data_base }) pc value }
+{
+    match value {
+        Value::Number(number) => Some(number.value()),
+        Value::Above { start, end, by } => {
+            let spot = labels.get(text_at(source, start, end))?;
+            Some(above(address(data_base, spot), by, pc))
+        }
+        Value::Below { start, end, by } => {
+            let spot = labels.get(text_at(source, start, end))?;
+            Some(below(address(data_base, spot), by, pc))
+        }
+    }
+}
+
+/// A number above an address, as a distance from another.
+fn above(address: i64, by: Literal, pc: i64) -> i64
+    requires at_low { pos 0 ≤ℤ address }
+    requires at_high { address ≤ℤ pos 17179934720 }
+    requires low { pos 0 ≤ℤ pc }
+    requires high { pc ≤ℤ pos 17179934720 }
+    ensures { result ≡ (address +ℤ by) -ℤ pc }
+{
+    address + by.value() - pc
+}
+
+/// A number below an address, as a distance from another.
+fn below(address: i64, by: Literal, pc: i64) -> i64
+    requires at_low { pos 0 ≤ℤ address }
+    requires at_high { address ≤ℤ pos 17179934720 }
+    requires low { pos 0 ≤ℤ pc }
+    requires high { pc ≤ℤ pos 17179934720 }
+    ensures { result ≡ (address -ℤ by) -ℤ pc }
+{
+    address - by.value() - pc
+}
+
+/// Adds a word of a line's statement.
+fn put_word(in_data: bool, line: usize, word: u32, output: &mut Output) -> Result<(), AsmFault>
+    ensures ok { OnOk result (put_word in_data line word (shown output.old) ≡ shown output.new) }
+    ensures err { IfErr result (λ f. f ≡ out_of_memory) }
+{
+    if in_data {
+        output.bytes.extend_from_slice(&word.to_le_bytes())?;
+    } else {
+        output.cells.push(Cell { word, line })?;
+    }
+    Ok(())
+}
+
+/// Adds the words of an expansion.
+fn put_expansion(
+    in_data: bool,
+    line: usize,
+    expansion: Expansion,
+    output: &mut Output,
+) -> Result<(), AsmFault>
+    ensures ok { OnOk result (put_expansion in_data line expansion (shown output.old) ≡ shown output.new) }
+    ensures err { IfErr result (λ f. f ≡ out_of_memory) }
+{
+    match expansion {
+        Expansion::One(first) => put_word(in_data, line, word(&first), output),
+        Expansion::Two(first, second) => {
+            put_word(in_data, line, word(&first), output)?;
+            put_word(in_data, line, word(&second), output)
+        }
+    }
+}
+
+/// Adds the numbers among tokens, each as a word.
+fn put_numbers(
+    in_data: bool,
+    line: usize,
+    tokens: &[Token],
+    output: &mut Output,
+) -> Result<(), AsmFault>
+    ensures ok { OnOk result (put_numbers in_data line (numbers_in tokens.now) (shown output.old) ≡ shown output.new) }
+    ensures err { IfErr result (λ f. f ≡ out_of_memory) }
+{
+    for token in tokens {
+        if let Some(number) = number_of(&token.kind) {
+            put_word(in_data, line, modulo_word(number.value()), output)?;
+        }
+    }
+    Ok(())
+}
+
+/// Adds the bytes of the first string among tokens to data.
+fn put_string(tokens: &[Token], output: &mut Output) -> Result<(), AsmFault>
+    ensures ok { OnOk result (put_string tokens.now (shown output.old) ≡ shown output.new) }
+    ensures err { IfErr result (λ f. f ≡ out_of_memory) }
+{
+    output.bytes.extend_from_slice(string_in(tokens))?;
+    Ok(())
+}
+
+/// Adds zero bytes, in text as words.
+fn put_space(in_data: bool, line: usize, size: u32, output: &mut Output) -> Result<(), AsmFault>
+    ensures ok { OnOk result (put_space in_data line size (shown output.old) ≡ shown output.new) }
+    ensures err { IfErr result (λ f. f ≡ out_of_memory) }
+{
+    if in_data {
+        let len = output.bytes.len();
+        output.bytes.resize(len + size as usize, 0)?;
+    } else {
+        let len = output.cells.len();
+        let cell = Cell { word: 0, line };
+        output.cells.resize(len + size as usize / 4, cell)?;
+    }
+    Ok(())
+}
+
+/// Adds the numbers of a line, each as a byte.
+fn fill_bytes(source: &[u8], line: &Line, output: &mut Output) -> Result<(), AsmFault>
+    ensures ok { OnOk result (bytes_filled source.now line.now (shown output.old) ≡ Ok (shown output.new)) }
+    ensures err { IfErr result (λ f. f ≢ out_of_memory → bytes_filled source.now line.now (shown output.old) ≡ Err f) }
+{
+    for token in line.tokens.as_slice() {
+        if let Some(number) = number_of(&token.kind) {
+            match byte(number) {
+                Some(byte) => output.bytes.push(byte)?,
+                None => return Err(fault_at(source, line, Cause::Range, token.start)),
+            }
+        }
+    }
+    Ok(())
+}
+
+/// A number as a byte, from -128 to 255.
+fn byte(number: Literal) -> Option<u8>
+    ensures { result ≡ byte_of number }
+{
+    let value = number.value();
+    if value < -128 || value > 255 {
+        return None;
+    }
+    Some((value.cast_unsigned() % 256) as u8)
+}

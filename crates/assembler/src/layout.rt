@@ -1,0 +1,266 @@
+//! The first pass: where the labels stand, and how long the sections are.
+ghost use Rattle.std.specs.Prelude.{◌≡◌, ◌≢◌, Ok, Err, IfOk, IfErr, OnOk, length};
+ghost use Rattle.assembler.specs.Faults.{out_of_memory};
+ghost use Rattle.assembler.specs.Layout.{start, start_layout, spot_of, counted, with_words, with_bytes, advanced, within, after, space_units, string_in, numbers_in, space_checked, label_declared, units_of, placed, all_placed, magnitude};
+
+use crate::expansion::words_taken;
+use crate::fault::{AsmFault, Cause, fault_at};
+use crate::labels::{Labels, Spot};
+use crate::literal::Literal;
+use crate::statement::{Label, Statement, read_statement, split_label};
+use crate::tokens::{number_of, text_at};
+use asm_text::{Line, Token, TokenKind};
+use std::alloc::Global;
+
+/// How far the sections have come: the section that statements go to, the words of text and the bytes of data. A number
+/// that has reached 2^32 - 1 stays there, as a section of that length is too large in any case.
+#[derive(Clone, Copy)]
+pub struct Position {
+    pub in_data: bool,
+    pub words: u32,
+    pub bytes: u32,
+}
+
+impl Position {
+    /// Before the first line.
+    pub fn start() -> Position
+        ensures { result ≡ start }
+    {
+        Position {
+            in_data: false,
+            words: 0,
+            bytes: 0,
+        }
+    }
+
+    /// Where a label stands here.
+    pub fn spot(self) -> Spot
+        ensures { result ≡ spot_of self }
+    {
+        Spot {
+            in_data: self.in_data,
+            offset: if self.in_data { self.bytes } else { self.words },
+        }
+    }
+
+    /// Further on by words of text.
+    fn with_words(self, count: u32) -> Position
+        ensures { result ≡ with_words self count }
+    {
+        Position {
+            in_data: self.in_data,
+            words: self.words.saturating_add(count),
+            bytes: self.bytes,
+        }
+    }
+
+    /// Further on by bytes of data.
+    fn with_bytes(self, count: u32) -> Position
+        ensures { result ≡ with_bytes self count }
+    {
+        Position {
+            in_data: self.in_data,
+            words: self.words,
+            bytes: self.bytes.saturating_add(count),
+        }
+    }
+
+    /// Further on in the section that statements go to, by its words or bytes.
+    fn advanced(self, size: u32) -> Position
+        ensures { result ≡ advanced self size }
+    {
+        if self.in_data {
+            self.with_bytes(size)
+        } else {
+            self.with_words(size)
+        }
+    }
+
+    /// In the section of text, or that of data.
+    fn within(self, in_data: bool) -> Position
+        ensures { result ≡ within self in_data }
+    {
+        Position {
+            in_data,
+            words: self.words,
+            bytes: self.bytes,
+        }
+    }
+
+    /// Behind a statement of a line with these tokens.
+    pub fn after(self, statement: &Statement, tokens: &[Token]) -> Position
+        ensures { result ≡ after self statement.now tokens.now }
+    {
+        match statement {
+            Statement::Nothing => self,
+            Statement::Text => self.within(false),
+            Statement::Data => self.within(true),
+            Statement::Words => self.advanced(number_units(tokens, self.in_data)),
+            Statement::Bytes => self.with_bytes(number_count(tokens)),
+            Statement::Ascii => self.with_bytes(string_len(tokens)),
+            Statement::Space(size, _) => self.advanced(space_units(*size, self.in_data)),
+            Statement::Instruction(mnemonic, operands) => {
+                self.advanced(units(words_taken(*mnemonic, operands), self.in_data))
+            }
+        }
+    }
+}
+
+/// What the first pass finds.
+#[derive(Drop)]
+pub struct Layout<'a> {
+    pub position: Position,
+    pub labels: Labels<'a>,
+}
+
+/// Goes over all lines. A fault is the first of them: a statement of a wrong form, a label that is there already, or a
+/// `.space` that no section can hold.
+pub fn lay_out<'a>(alloc: Global, source: &'a [u8], lines: &[Line]) -> Result<Layout<'a>, AsmFault>
+    ensures ok { IfOk result (λ l. all_placed source.now lines.now start_layout ≡ Ok l) }
+    ensures err { IfErr result (λ f. f ≢ out_of_memory → all_placed source.now lines.now start_layout ≡ Err f) }
+{
+    let mut position = Position::start();
+    let mut labels = Labels::new(alloc);
+    for line in lines {
+        position = place(source, line, position, &mut labels)?;
+    }
+    Ok(Layout { position, labels })
+}
+
+/// Goes over a line, and answers the position behind it.
+fn place<'a>(
+    source: &'a [u8],
+    line: &Line,
+    position: Position,
+    labels: &mut Labels<'a>,
+) -> Result<Position, AsmFault>
+    ensures ok { IfOk result (λ p. placed source.now line.now (record { position = position; labels = labels.old })
+        ≡ Ok (record { position = p; labels = labels.new })) }
+    ensures err { IfErr result (λ f. f ≢ out_of_memory
+        → placed source.now line.now (record { position = position; labels = labels.old }) ≡ Err f) }
+{
+    let tokens = line.tokens.as_slice();
+    let (label, rest) = match split_label(source, tokens) {
+        Ok(split) => split,
+        Err(at) => return Err(fault_at(source, line, Cause::Syntax, at)),
+    };
+    if let Some(label) = label {
+        declare(source, line, label, position, labels)?;
+    }
+    let statement = match read_statement(source, position.in_data, line.end, rest) {
+        Ok(statement) => statement,
+        Err(at) => return Err(fault_at(source, line, Cause::Syntax, at)),
+    };
+    check_space(source, line, position.in_data, &statement)?;
+    Ok(position.after(&statement, tokens))
+}
+
+/// Takes in the label of a line.
+fn declare<'a>(
+    source: &'a [u8],
+    line: &Line,
+    label: Label,
+    position: Position,
+    labels: &mut Labels<'a>,
+) -> Result<(), AsmFault>
+    ensures ok { OnOk result (label_declared source.now line.now label position labels.old ≡ Ok labels.new) }
+    ensures err { IfErr result (λ f. f ≢ out_of_memory
+        → label_declared source.now line.now label position labels.old ≡ Err f) }
+{
+    let name = text_at(source, label.start, label.end);
+    if labels.get(name).is_some() {
+        return Err(fault_at(source, line, Cause::DoubleLabel, label.start));
+    }
+    labels.insert(name, position.spot())?;
+    Ok(())
+}
+
+/// Refuses a `.space` of a negative size, and in text one of no whole words.
+fn check_space(
+    source: &[u8],
+    line: &Line,
+    in_data: bool,
+    statement: &Statement,
+) -> Result<(), AsmFault>
+    ensures { result ≡ space_checked source.now line.now in_data statement.now }
+{
+    let Statement::Space(size, at) = statement else {
+        return Ok(());
+    };
+    let size = size.value();
+    if size < 0 || !in_data && size % 4 != 0 {
+        return Err(fault_at(source, line, Cause::Range, *at));
+    }
+    Ok(())
+}
+
+/// So many words in words of text or bytes of data, up to 2^32 - 1.
+fn units(words: u32, in_data: bool) -> u32
+    ensures { result ≡ counted (units_of words in_data) }
+{
+    if in_data {
+        words.saturating_mul(4)
+    } else {
+        words
+    }
+}
+
+/// How many words of text, or bytes of data, the numbers among tokens take as words, up to 2^32 - 1.
+fn number_units(tokens: &[Token], in_data: bool) -> u32
+    ensures { result ≡ counted (units_of (length (numbers_in tokens.now)) in_data) }
+{
+    let count = number_count(tokens);
+    if in_data {
+        count.saturating_mul(4)
+    } else {
+        count
+    }
+}
+
+/// How many words of text, or bytes of data, so many zero bytes take.
+fn space_units(size: Literal, in_data: bool) -> u32
+    ensures { result ≡ counted (space_units size in_data) }
+{
+    let bytes = magnitude(size);
+    if in_data { bytes } else { bytes / 4 }
+}
+
+/// How many bytes the first string among tokens has, up to 2^32 - 1.
+fn string_len(tokens: &[Token]) -> u32
+    ensures { result ≡ counted (length (string_in tokens.now)) }
+{
+    let len = string_in(tokens).len();
+    len.min(u32::MAX as usize) as u32
+}
+
+/// A number that is not negative.
+pub fn magnitude(number: Literal) -> u32
+    ensures { result ≡ magnitude number }
+{
+    number.value().max(0) as u32
+}
+
+/// How many tokens are numbers, up to 2^32 - 1.
+fn number_count(tokens: &[Token]) -> u32
+    ensures { result ≡ counted (length (numbers_in tokens.now)) }
+{
+    let mut count: u32 = 0;
+    for token in tokens {
+        if number_of(&token.kind).is_some() {
+            count = count.saturating_add(1);
+        }
+    }
+    count
+}
+
+/// The first string among tokens.
+pub fn string_in(tokens: &[Token]) -> &[u8]
+    ensures { result.now ≡ string_in tokens.now }
+{
+    for token in tokens {
+        if let TokenKind::Text(bytes) = &token.kind {
+            return bytes.as_slice();
+        }
+    }
+    &[]
+}

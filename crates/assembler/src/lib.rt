@@ -1,0 +1,24 @@
+//! An assembler: sources to images and listings.
+#![tactic(auto)]
+
+mod assembly;
+mod encoding;
+mod expansion;
+mod fault;
+mod fields;
+mod filling;
+mod labels;
+mod layout;
+mod listing;
+mod literal;
+mod mnemonic;
+mod names;
+mod operands;
+mod statement;
+#[cfg(test)]
+mod tests;
+mod tokens;
+
+pub use assembly::assemble;
+pub use fault::{AsmFault, Cause};
+pub use listing::{Listing, Row};

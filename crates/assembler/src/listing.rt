@@ -1,0 +1,57 @@
+//! The listing of a program's text.
+ghost use Rattle.std.specs.Prelude.{◌≡◌, ◌≤◌, length, IfOk};
+ghost use Rattle.assembler.specs.Assembly.{rows_from};
+
+use crate::filling::Cell;
+use std::alloc::{AllocError, Global};
+use std::marker::Model;
+
+/// A word of text: its address, the word, and the line of the source, from 1, whose statement it is of.
+#[derive(Clone, Copy, Debug, PartialEq, Eq)]
+pub struct Row {
+    pub address: u32,
+    pub word: u32,
+    pub line: usize,
+}
+
+/// The words of a program's text, in ascending order. A contract sees the list of its rows.
+#[derive(Debug, Drop)]
+pub struct Listing {
+    rows: Vec<Row>,
+}
+
+impl Model for Listing {
+    ghost use Rattle.std.specs.Prelude.{List};
+    ghost use Rattle.assembler.specs.declared.listing.Row.{Row};
+
+    ghost Value = { List Row };
+
+    ghost view = { λ l. l.rows.items };
+}
+
+impl Listing {
+    /// The rows, in ascending order of their addresses.
+    pub fn rows(&self) -> &[Row]
+        ensures { result.now ≡ self.now }
+    {
+        self.rows.as_slice()
+    }
+}
+
+/// The listing of words of text.
+pub fn list_cells(alloc: Global, cells: &[Cell]) -> Result<Listing, AllocError>
+    requires { length cells.now ≤ 61440 }
+    ensures { IfOk result (λ l. l ≡ rows_from 65536 cells.now) }
+{
+    let mut rows = Vec::with_capacity(alloc, cells.len())?;
+    let mut address: u32 = 65536;
+    for cell in cells {
+        rows.push(Row {
+            address,
+            word: cell.word,
+            line: cell.line,
+        })?;
+        address += 4;
+    }
+    Ok(Listing { rows })
+}

@@ -1,0 +1,12 @@
+-- The lemmas.
+pub mod Words
+pub mod Numbers
+pub mod Headers
+pub mod Passing
+pub mod Profile
+pub mod FirstFaults
+pub mod Written
+pub mod FieldsBack
+pub mod SegmentsBack
+pub mod ChecksPass
+pub mod RoundTrip

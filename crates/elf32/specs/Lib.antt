@@ -1,0 +1,7 @@
+-- The definitions.
+pub mod Images
+pub mod Fields
+pub mod Faults
+pub mod Checks
+pub mod Names
+pub mod Files

@@ -1,0 +1,91 @@
+//! What may be loaded.
+ghost use Rattle.std.specs.Prelude.{◌≡◌, ◌<◌, ◌≤◌, length, IfOk};
+ghost use Rattle.elf32.specs.Images.{IsProfile, program_of_words};
+
+use crate::little_endian::put_words;
+use byte_list::Bytes;
+use machine_model::Rights;
+use std::alloc::{AllocError, Global};
+use std::marker::Model;
+
+/// A run of a program's memory, with one set of rights.
+#[derive(Debug, Drop)]
+pub struct Segment {
+    /// The address of its first byte.
+    pub vaddr: u32,
+    /// How many bytes of memory it takes.
+    pub memsz: u32,
+    /// The rights of its pages.
+    pub rights: Rights,
+    /// Its first bytes; the rest, up to `memsz`, are 0.
+    pub bytes: Bytes,
+}
+
+/// A program that may be loaded: its type keeps the profile, `IsProfile`.
+#[derive(Debug, Drop)]
+pub struct Image {
+    entry: u32,
+    segments: Vec<Segment>,
+}
+
+impl Model for Image {
+    ghost use Rattle.elf32.specs.Images.{Program, program_code};
+
+    ghost Value = { Program };
+
+    ghost coded = { program_code };
+
+    ghost use Rattle.elf32.specs.Images.{IsProfile};
+
+    ghost view = { λ i. record { entry = i.entry; segments = i.segments.items } };
+
+    ghost invariant = { λ i. IsProfile (record { entry = i.entry; segments = i.segments.items }) };
+}
+
+impl Image {
+    /// A program of segments, in ascending order, that begins at `entry`.
+    pub fn new(entry: u32, segments: Vec<Segment>) -> Image
+        requires { IsProfile (record { entry = entry; segments = segments.items }) }
+        ensures { result ≡ record { entry = entry; segments = segments.items } }
+    {
+        Image { entry, segments }
+    }
+
+    /// The program of words at 0x00010000, each little-endian, which may be read and executed and begins with its
+    /// first word.
+    pub fn from_text(alloc: Global, words: &[u32]) -> Result<Image, AllocError>
+        requires some { 0 < length words.now }
+        requires fits { length words.now ≤ 15360 }
+        ensures { IfOk result (λ image. image ≡ program_of_words words.now) }
+    {
+        let mut bytes = Vec::new(alloc);
+        put_words(&mut bytes, words)?;
+        let text = Segment {
+            vaddr: 0x0001_0000,
+            memsz: 4 * words.len() as u32,
+            rights: Rights {
+                read: true,
+                write: false,
+                execute: true,
+            },
+            bytes: Bytes::new(bytes),
+        };
+        let segments = vec![in alloc; text]?;
+        Ok(Image::new(0x0001_0000, segments))
+    }
+
+    /// The address of the first instruction.
+    pub fn entry(&self) -> u32
+        ensures { result ≡ self.now.entry }
+    {
+        self.entry
+    }
+
+    /// The segments, in ascending order.
+    pub fn segments(&self) -> &[Segment]
+        ensures value { result.now ≡ self.now.segments }
+        ensures profile { IsProfile self.now }
+    {
+        self.segments.as_slice()
+    }
+}

@@ -1,0 +1,19 @@
+//! Images of programs, and the ELF32 files that hold them.
+#![tactic(auto)]
+
+mod checks;
+mod fault;
+mod header;
+mod image;
+mod laws;
+mod little_endian;
+mod parsing;
+#[cfg(test)]
+mod tests;
+mod writing;
+
+pub use fault::ElfFault;
+pub use image::{Image, Segment};
+pub use laws::round_trips;
+pub use parsing::parse;
+pub use writing::write;

@@ -1,0 +1,30 @@
+//! How many of the first marks pass, counted on from an earlier count.
+ghost use Rattle.std.specs.Prelude.{◌≡◌, ◌≤◌, length, drop, nat_le, if◌then◌else◌};
+ghost use Rattle.kernel.specs.Marked.{front_of};
+
+use commit_deps::{Mark, front};
+
+/// How many of the first marks are known to pass: those that did before, unless fewer changes are committed now.
+fn known(counted: usize, before: u64, committed: u64) -> usize
+    ensures { result ≡ (if nat_le before committed then counted else 0) }
+{
+    if before <= committed { counted } else { 0 }
+}
+
+/// The marks behind the first so many.
+fn behind(marks: &[Mark], count: usize) -> &[Mark]
+    requires { count ≤ length marks.now }
+    ensures { result.now ≡ drop count marks.now }
+{
+    &marks[count..]
+}
+
+/// How many marks stand before the first that is not among the first `committed` changes, where the first `counted` are
+/// among the first `before`. Looks only at the marks behind these, unless fewer changes are committed than before.
+pub fn front_from(marks: &[Mark], counted: usize, before: u64, committed: u64) -> usize
+    requires { counted ≤ front_of before marks.now }
+    ensures { result ≡ front_of committed marks.now }
+{
+    let passed = known(counted, before, committed);
+    passed + front(behind(marks, passed), committed)
+}

@@ -1,0 +1,155 @@
+-- A memory that holds bytes holds bytes after each instruction, and after a reply whose bytes are bytes.
+use Rattle.std.proofs.Common.{◌≡◌, ℕ, zero, suc, ◌+◌, ◌/◌, ◌%◌, ◌^◌, ◌<◌, ◌==◌, Bool, true, false, cond, List, [], ◌∷◌, Option, Some, None, refl, sym, subst, arith}
+use Rattle.std.specs.Prelude.{if◌then◌else◌, Result, Ok, Err}
+use Rattle.std.specs.List.{AllByRecursion}
+use Rattle.std.specs.FinMap.{get}
+use Rattle.formats.specs.Table.{instr_of}
+use Rattle.formats.specs.declared.instr.Instr.{Instr}
+use Rattle.formats.specs.declared.instr.Instr.TheVariants as instr
+use Rattle.machine_model.specs.Memory.{Memory, Cell}
+use Rattle.machine_model.specs.Access.{HoldsBytes, byte_of, bytes_at, fetched, low_bytes, put_bytes, size, stored, to_write, access_fault, with_byte}
+use Rattle.machine_model.specs.Effects.{Hart, Effect, Becomes, Stands, effect, jumps, load_effect, store_effect, stores, reg}
+use Rattle.machine_model.specs.States.{State, Stepped, Goes, Halts, Ran, counted, by_instr, by_fetch, next, run, replied}
+use Rattle.machine_model.specs.declared.access.BusFault.{BusFault}
+use Rattle.machine_model.specs.declared.access.Width.{Width}
+use Rattle.machine_model.specs.declared.access.Width.TheVariants.{Byte, Half, Word}
+use Rattle.machine_model.specs.declared.reply.Reply.{Reply}
+use Rattle.machine_model.specs.declared.stop.Cause.TheVariants as cause
+use Rattle.machine_model.specs.declared.stop.Stop.TheVariants.{Trap}
+use Rattle.machine_model.proofs.Memories.{get-insert}
+use Rattle.kernel_laws.proofs.Machines.{run_none, run_stands, run_on}
+
+abbrev pub AreBytes : List ℕ → Type 0
+AreBytes bytes = AllByRecursion (λ b. b < 256) bytes
+
+-- a byte is put
+put_one : (m : Memory) (at b : ℕ) (c : Option Cell) → b < 256 → HoldsBytes m → HoldsBytes (with_byte m at b c)
+put_one m at b None small h q = h q
+put_one m at b (Some cell) small h q =
+    let new : Cell = record { byte = b; rights = cell.rights } in
+    subst (λ (o : Option Cell). byte_of o < 256) (sym (get-insert m at new q)) (by (q == at))
+  where
+    by : (t : Bool) → byte_of (cond t (Some (record { byte = b; rights = cell.rights })) (get m q)) < 256
+    by true = small
+    by false = h q
+
+pub put_bytes-holds : (bytes : List ℕ) (m : Memory) (at : ℕ) → AreBytes bytes → HoldsBytes m → HoldsBytes (put_bytes m at bytes)
+put_bytes-holds [] m at small h = h
+put_bytes-holds (b ∷ bytes) m at small h = put_bytes-holds bytes (with_byte m at b (get m at)) (at + 1) small.1 (put_one m at b (get m at) small.0 h)
+
+low_bytes-small : (n value : ℕ) → AreBytes (low_bytes n value)
+low_bytes-small zero value = tt
+low_bytes-small (suc n) value = (omega arith, low_bytes-small n (value / 2 ^ 8))
+
+stored-holds : (m : Memory) (at : ℕ) (width : Width) (value : ℕ) → HoldsBytes m → HoldsBytes (stored m at width value)
+stored-holds m at width value h = put_bytes-holds (low_bytes (size width) value) m at (low_bytes-small (size width) value) h
+
+pub bytes_at-small : (m : Memory) (at n : ℕ) → HoldsBytes m → AreBytes (bytes_at m at n)
+bytes_at-small m at zero h = tt
+bytes_at-small m at (suc n) h = (h at, bytes_at-small m (at + 1) n h)
+
+-- the memory of the hart that an instruction makes, if it makes one, holds bytes
+abbrev MakesBytes : Effect → Type 0
+MakesBytes (Becomes h) = HoldsBytes h.memory
+MakesBytes (Stands stop) = Unit {0}
+
+jump_makes : (h : Hart) (registers : List ℕ) (target : ℕ) → HoldsBytes h.memory → MakesBytes (jumps h registers target)
+jump_makes h registers target m = by (target % 4 == 0)
+  where
+    by : (b : Bool) → MakesBytes (if b then Becomes (record { registers = registers; pc = target; memory = h.memory }) else Stands (Trap cause.MisalignedTarget))
+    by true = m
+    by false = tt
+
+load_makes : (h : Hart) (rd : ℕ) (extended : ℕ → ℕ) (r : Result ℕ BusFault) → HoldsBytes h.memory → MakesBytes (load_effect h rd extended r)
+load_makes h rd extended (Ok value) m = m
+load_makes h rd extended (Err fault) m = tt
+
+store_makes : (h : Hart) (at : ℕ) (width : Width) (value : ℕ) → HoldsBytes h.memory → MakesBytes (stores h at width value)
+store_makes h at width value m = by (access_fault to_write h.memory at width)
+  where
+    by : (f : Option BusFault) → MakesBytes (store_effect h (stored h.memory at width value) f)
+    by None = stored-holds h.memory at width value m
+    by (Some fault) = tt
+
+effect_makes : (i : Instr) (h : Hart) → HoldsBytes h.memory → MakesBytes (effect i h)
+unfolding effect
+effect_makes (instr.Lui rd imm) h m = m
+effect_makes (instr.Auipc rd imm) h m = m
+effect_makes (instr.Jal rd offset) h m = jump_makes h _ _ m
+effect_makes (instr.Jalr rd rs1 imm) h m = jump_makes h _ _ m
+effect_makes (instr.Beq rs1 rs2 offset) h m = jump_makes h _ _ m
+effect_makes (instr.Bne rs1 rs2 offset) h m = jump_makes h _ _ m
+effect_makes (instr.Blt rs1 rs2 offset) h m = jump_makes h _ _ m
+effect_makes (instr.Bge rs1 rs2 offset) h m = jump_makes h _ _ m
+effect_makes (instr.Bltu rs1 rs2 offset) h m = jump_makes h _ _ m
+effect_makes (instr.Bgeu rs1 rs2 offset) h m = jump_makes h _ _ m
+effect_makes (instr.Lb rd rs1 imm) h m = load_makes h rd _ _ m
+effect_makes (instr.Lh rd rs1 imm) h m = load_makes h rd _ _ m
+effect_makes (instr.Lw rd rs1 imm) h m = load_makes h rd _ _ m
+effect_makes (instr.Lbu rd rs1 imm) h m = load_makes h rd _ _ m
+effect_makes (instr.Lhu rd rs1 imm) h m = load_makes h rd _ _ m
+effect_makes (instr.Sb rs1 rs2 imm) h m = store_makes h _ Byte (reg h rs2) m
+effect_makes (instr.Sh rs1 rs2 imm) h m = store_makes h _ Half (reg h rs2) m
+effect_makes (instr.Sw rs1 rs2 imm) h m = store_makes h _ Word (reg h rs2) m
+effect_makes (instr.Addi rd rs1 imm) h m = m
+effect_makes (instr.Slti rd rs1 imm) h m = m
+effect_makes (instr.Sltiu rd rs1 imm) h m = m
+effect_makes (instr.Xori rd rs1 imm) h m = m
+effect_makes (instr.Ori rd rs1 imm) h m = m
+effect_makes (instr.Andi rd rs1 imm) h m = m
+effect_makes (instr.Slli rd rs1 amount) h m = m
+effect_makes (instr.Srli rd rs1 amount) h m = m
+effect_makes (instr.Srai rd rs1 amount) h m = m
+effect_makes (instr.Add rd rs1 rs2) h m = m
+effect_makes (instr.Sub rd rs1 rs2) h m = m
+effect_makes (instr.Sll rd rs1 rs2) h m = m
+effect_makes (instr.Slt rd rs1 rs2) h m = m
+effect_makes (instr.Sltu rd rs1 rs2) h m = m
+effect_makes (instr.Xor rd rs1 rs2) h m = m
+effect_makes (instr.Srl rd rs1 rs2) h m = m
+effect_makes (instr.Sra rd rs1 rs2) h m = m
+effect_makes (instr.Or rd rs1 rs2) h m = m
+effect_makes (instr.And rd rs1 rs2) h m = m
+effect_makes (instr.Mul rd rs1 rs2) h m = m
+effect_makes (instr.Mulh rd rs1 rs2) h m = m
+effect_makes (instr.Mulhsu rd rs1 rs2) h m = m
+effect_makes (instr.Mulhu rd rs1 rs2) h m = m
+effect_makes (instr.Div rd rs1 rs2) h m = m
+effect_makes (instr.Divu rd rs1 rs2) h m = m
+effect_makes (instr.Rem rd rs1 rs2) h m = m
+effect_makes (instr.Remu rd rs1 rs2) h m = m
+effect_makes instr.Fence h m = m
+effect_makes instr.Ecall h m = tt
+effect_makes instr.Ebreak h m = tt
+
+-- so does the memory of the state that comes next
+abbrev GoesToBytes : Stepped → Type 0
+GoesToBytes (Goes t) = HoldsBytes t.hart.memory
+GoesToBytes (Halts stop) = Unit {0}
+
+counted_goes : (count : ℕ) (e : Effect) → MakesBytes e → GoesToBytes (counted count e)
+counted_goes count (Becomes h) m = m
+counted_goes count (Stands stop) m = tt
+
+instr_goes : (s : State) (o : Option Instr) → HoldsBytes s.hart.memory → GoesToBytes (by_instr s o)
+instr_goes s None m = tt
+instr_goes s (Some i) m = counted_goes s.count (effect i s.hart) (effect_makes i s.hart m)
+
+fetch_goes : (s : State) (r : Result ℕ BusFault) → HoldsBytes s.hart.memory → GoesToBytes (by_fetch s r)
+fetch_goes s (Err fault) m = tt
+fetch_goes s (Ok word) m = instr_goes s (instr_of word) m
+
+next_goes : (s : State) → HoldsBytes s.hart.memory → GoesToBytes (next s)
+unfolding next
+next_goes s m = fetch_goes s (fetched s.hart.memory s.hart.pc) m
+
+-- and of each that a run comes to
+pub run_holds : (n : ℕ) (s : State) → HoldsBytes s.hart.memory → HoldsBytes (run n s).state.hart.memory
+run_holds zero s m = subst (λ (r : Ran). HoldsBytes r.state.hart.memory) (sym (run_none s)) m
+run_holds (suc n) s m = elim (next s) as (λ o. next s ≡ o → GoesToBytes o → HoldsBytes (run (suc n) s).state.hart.memory) [
+  | Goes t ↦ λ e k. subst (λ (r : Ran). HoldsBytes r.state.hart.memory) (sym (run_on n s t e)) (run_holds n t k)
+  | Halts stop ↦ λ e k. subst (λ (r : Ran). HoldsBytes r.state.hart.memory) (sym (run_stands n s stop e)) m
+] refl (next_goes s m)
+
+pub replied_holds : (s : State) (r : Reply) → AreBytes r.bytes → HoldsBytes s.hart.memory → HoldsBytes (replied s r).hart.memory
+replied_holds s r small m = put_bytes-holds r.bytes s.hart.memory r.at small m

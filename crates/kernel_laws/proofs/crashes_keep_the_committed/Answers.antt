@@ -1,0 +1,6 @@
+-- The law of crashes of the disk, at the moves that the events are.
+use Rattle.kernel_laws.proofs.Crashing.{crash_keeps}
+use Rattle.kernel_laws.proofs.crashes_keep_the_committed.Goals as goal
+
+pub returns : goal.returns
+returns c b es held bytes = crash_keeps c.crashes.ensures c.checkpoints_fit.ensures b es held bytes

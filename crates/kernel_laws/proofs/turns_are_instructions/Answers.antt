@@ -1,0 +1,12 @@
+-- The run with its Turns written out is possible, and alike but for what Turns leave in the log.
+use Rattle.kernel_model.specs.World.{begun, after}
+use Rattle.kernel_model.specs.Fine.{after_fine, unfolded}
+use Rattle.kernel_laws.proofs.Viewing.{same_view}
+use Rattle.kernel_laws.proofs.WritingOut.{unfolded_alike}
+use Rattle.kernel_laws.proofs.turns_are_instructions.Goals as goal
+
+pub returns : goal.returns
+returns _ = record {
+  possible = λ b es. (unfolded_alike es (begun b)).0;
+  same = λ b es. same_view (after_fine (begun b) (unfolded (begun b) es)) (after (begun b) es) (unfolded_alike es (begun b)).1;
+}

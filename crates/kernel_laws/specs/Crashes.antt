@@ -1,0 +1,21 @@
+-- What a whole run promises of its files if it ends in a crash.
+use Rattle.std.specs.Prelude.{ℕ, ◌≤◌, List, length, take}
+use Rattle.disk_model.specs.Files.{files_after}
+use Rattle.disk_model.specs.Held.{IsHeld}
+use Rattle.disk_model.specs.Crash.{IsCrashOf}
+use Rattle.kernel_model.specs.Paths.{changes_of}
+use Rattle.kernel_model.specs.World.{World, Boot}
+use Rattle.kernel_model.specs.Answers.{committed}
+
+-- The disk holds the files that a front of the run's changes made of the boot's, and each committed change is in that front.
+pub record HoldsFront (b : Boot) (w : World) (disk : List ℕ) : Type 0 where
+  pub count : ℕ
+  pub every_committed : committed w ≤ count
+  pub among : count ≤ length (changes_of w.log)
+  pub held : IsHeld disk (files_after b.files (take count (changes_of w.log)))
+
+-- If the run ends here in a crash, then whatever disk the crash leaves holds the files after such a front. A moment is between
+-- events: within an event at most one completion comes first, and then submissions follow, so that each disk in between is one
+-- that a crash before or after the event may leave.
+abbrev pub SurvivesCrash : Boot → World → Type 0
+SurvivesCrash b w = (left : List ℕ) → IsCrashOf w.storage.drive left → HoldsFront b w left

@@ -1,0 +1,141 @@
+//! What a loan costs: the time to lend a machine and to take its result back, as a ratio to the time of its run.
+#![tactic(auto)]
+
+ghost use Rattle.std.specs.Prelude.{◌≤◌};
+
+use anyhow::Error;
+use bursts::run_loan;
+use disk_model::zeros_hold_nothing;
+use kernel::{Core, Program, SimDisk};
+use std::alloc::{AllocError, Global};
+use std::env;
+use std::time::{Clock, Duration, Instant};
+
+/// How many instructions a loan runs.
+const QUANTUM: u32 = 10_000;
+
+/// How many loans are measured for each size.
+const LOANS: u32 = 500;
+
+/// The file header of an image with two segments, whose entry is 0x00010000.
+const FILE_HEADER: [u32; 13] = [
+    0x464C_457F,
+    0x0001_0101,
+    0,
+    0,
+    0x00F3_0002,
+    1,
+    0x0001_0000,
+    52,
+    0,
+    0,
+    0x0020_0034,
+    2,
+    0,
+];
+
+/// A loop without end: adds 1 to t0, stores it on the stack, loads it again, adds it to t2.
+const LOOP: [u8; 20] = [
+    0x93, 0x82, 0x12, 0x00, // addi t0,t0,1
+    0x23, 0x2e, 0x51, 0xfe, // sw t0,-4(sp)
+    0x03, 0x23, 0xc1, 0xff, // lw t1,-4(sp)
+    0xb3, 0x83, 0x63, 0x00, // add t2,t2,t1
+    0x6f, 0xf0, 0x1f, 0xff, // jal zero,-16
+];
+
+/// The file of the loop's image, with so many pages of data beside it.
+fn file_of(alloc: Global, pages: u32) -> Result<Vec<u8>, AllocError>
+    requires { pages ≤ 51 }
+{
+    let text = [1, 0x1000, 0x0001_0000, 0x0001_0000, 20, 20, 5, 0x1000];
+    let data = [
+        1,
+        0x2000,
+        0x0001_1000,
+        0x0001_1000,
+        0,
+        4096 * pages,
+        6,
+        0x1000,
+    ];
+    let mut file = Vec::new(alloc);
+    for words in [FILE_HEADER.as_slice(), text.as_slice(), data.as_slice()] {
+        for word in words {
+            file.extend_from_slice(&word.to_le_bytes())?;
+        }
+    }
+    file.resize(0x1000, 0)?;
+    file.extend_from_slice(&LOOP)?;
+    file.resize(0x2000, 0)?;
+    Ok(file)
+}
+
+/// A core of the loop alone, with so many pages of data.
+fn boot(alloc: Global, pages: u32) -> Result<Core, Error>
+    requires { pages ≤ 51 }
+{
+    let program = Program {
+        image: elf32::parse(alloc, &file_of(alloc, pages)?)?,
+        terminal: 0,
+    };
+    let disk = SimDisk::zero(alloc)?;
+    zeros_hold_nothing();
+    Ok(Core::boot(alloc, disk, vec![in alloc; program]?, Vec::new(alloc))?)
+}
+
+/// Times that were measured: of lends and settles, and of runs.
+#[derive(Clone, Copy)]
+struct Times {
+    loans: Duration,
+    runs: Duration,
+}
+
+impl Times {
+    /// What lending and taking back took of the time of the run, in thousandths.
+    fn ratio(&self) -> u128 {
+        self.loans.as_nanos().saturating_mul(1000) / self.runs.as_nanos().max(1)
+    }
+}
+
+/// Lends the process, runs it and takes it back, so many times.
+fn measure<R: Clock>(rt: &R, core: &mut Core, loans: u32) -> Result<Times, Error> {
+    let mut times = Times {
+        loans: Duration::ZERO,
+        runs: Duration::ZERO,
+    };
+    for _ in 0..loans {
+        let start = Instant::now(rt)?;
+        let Some(loan) = core.lend(QUANTUM)? else {
+            break;
+        };
+        let lent = Instant::now(rt)?;
+        let done = run_loan(loan);
+        let ran = Instant::now(rt)?;
+        if core.settle(done).is_err() {
+            break;
+        }
+        let settled = Instant::now(rt)?;
+        let loan = lent
+            .duration_since(start)
+            .saturating_add(settled.duration_since(ran));
+        times.loans = times.loans.saturating_add(loan);
+        times.runs = times.runs.saturating_add(ran.duration_since(lent));
+    }
+    Ok(times)
+}
+
+fn main(rt: HostRuntime) -> Result<(), Error> {
+    let words: Vec<String> = env::args(&rt)?.collect(rt.alloc())?;
+    if words.len() > 1 {
+        println!(rt;
+            "loan_cost prints what a loan costs beside the run of its {QUANTUM} instructions; it takes no words"
+        )?;
+        return Ok(());
+    }
+    for pages in [1, 16, 51] {
+        let mut core = boot(rt.alloc(), pages)?;
+        let ratio = measure(&rt, &mut core, LOANS)?.ratio();
+        println!(rt; "{pages} pages of data: lend and settle take {ratio} thousandths of the run")?;
+    }
+    Ok(())
+}

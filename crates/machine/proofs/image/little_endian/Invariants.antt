@@ -1,7 +1,0 @@
--- The bytes of the words so far.
-use Rattle.std.proofs.Common.{◌≡◌, take}
-use Rattle.machine.specs.Images.{bytes_of_words}
-use Rattle.machine.proofs.image.little_endian.Given as goal
-
-abbrev pub invariant-loop-word : goal.invariant-loop-word
-invariant-loop-word l = l.bytes.items ≡ bytes_of_words (take l.word-index l.words)
