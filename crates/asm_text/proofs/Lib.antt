@@ -10,3 +10,4 @@ pub mod Reading
 pub mod Sources
 pub mod Slices
 pub mod Unique
+pub mod Every

@@ -13,7 +13,7 @@ use Rattle.asm_text.specs.declared.token.Token.{Token}
 use Rattle.asm_text.specs.declared.token.Line.{Line}
 
 -- a form has at least one byte
-some_text : (w : Bool) (kind : TokenKind) (text : List ℕ) → IsForm w kind text → 0 < length text
+pub some_text : (w : Bool) (kind : TokenKind) (text : List ℕ) → IsForm w kind text → 0 < length text
 some_text w Word [] f = absurd f
 some_text w (Number n) [] f = absurd (let value = f.0 in let no : ⊥ = cc in no)
 some_text w (Text contents) [] f = absurd (let quoted = f.quoted in let no : ⊥ = cc in no)

@@ -17,7 +17,7 @@ use Rattle.assembler.specs.declared.layout.Layout.{Layout}
 use Rattle.assembler.proofs.Stepping.{and_then-ok}
 use Rattle.assembler.proofs.Sizes.{IsMeasured, measured-all}
 
-same_contents : (c d : Contents) → ◌≡◌ {A = Result Contents AsmFault} (Ok c) (Ok d) → c ≡ d
+pub same_contents : (c d : Contents) → ◌≡◌ {A = Result Contents AsmFault} (Ok c) (Ok d) → c ≡ d
 same_contents c d is = cc
 
 fitting : (w len : ℕ) → w ≡ counted len → w ≤ 245760 → len ≡ w
@@ -64,7 +64,7 @@ listing-of : (at : ℕ) (cells : List Cell) → AreListed at (bytes_of_words (wo
 listing-of at [] = refl
 listing-of at (c ∷ cells) = (bytes_of_words (words_of cells), refl, refl, listing-of (at + 4) cells)
 
-same_assembled : (a b : Assembled) → ◌≡◌ {A = Result Assembled AsmFault} (Ok a) (Ok b) → a ≡ b
+pub same_assembled : (a b : Assembled) → ◌≡◌ {A = Result Assembled AsmFault} (Ok a) (Ok b) → a ≡ b
 same_assembled a b is = cc
 
 -- what the passes make is listed

@@ -13,7 +13,7 @@ complement-sub : (g n : ℕ) → n < g → complement g (pos n -ℤ pos g) ≡ n
 complement-sub g n p = grind (arith, ints)
 
 -- a field with a sign gives back its bits
-complement-signed : (h g n : ℕ) → g ≡ h + h → n < g → complement g (if nat_lt n h then pos n else pos n -ℤ pos g) ≡ n
+pub complement-signed : (h g n : ℕ) → g ≡ h + h → n < g → complement g (if nat_lt n h then pos n else pos n -ℤ pos g) ≡ n
 complement-signed h g n e p =
     elim (nat_lt n h) as (λ b. nat_lt n h ≡ b → complement g (if b then pos n else pos n -ℤ pos g) ≡ n) [
       | true ↦ λ _. refl

@@ -11,7 +11,7 @@ use Rattle.assembler.specs.Statements.{label_read, statement_read}
 use Rattle.assembler.specs.Expansion.{expansion_of, word_count, words_taken, modulo_word}
 use Rattle.assembler.specs.Faults.{at_line}
 use Rattle.assembler.specs.Labels.{SpotsByName}
-use Rattle.assembler.specs.Layout.{counted, with_bytes, advanced, within, after, units_of, space_units, numbers_in, string_in, magnitude, labelled, space_checked, placed, all_placed, spot_of}
+use Rattle.assembler.specs.Layout.{counted, with_bytes, advanced, within, after, units_of, space_units, numbers_in, string_in, space_bytes, labelled, space_checked, placed, all_placed, spot_of}
 use Rattle.assembler.specs.Filling.{Contents, Filling, Scope, put_word, put_numbers, put_bytes, put_space, put_expansion, byte_of, instruction_of, instruction_filled, bytes_filled, statement_filled, filled, all_filled, distance_of, address_of}
 use Rattle.assembler.specs.declared.fault.AsmFault.{AsmFault}
 use Rattle.assembler.specs.declared.fault.Cause.TheVariants.{Syntax, Range}
@@ -171,20 +171,22 @@ measured-statement scope line p statement.Ascii c d m is =
     subst (λ (x : Contents). IsMeasured (with_bytes p (counted (length string))) x) (same_contents longer d is)
     (measured-bytes p (length string) c longer m refl (length-append c.bytes string))
 measured-statement scope line p (statement.Space n at) c d m is =
-    let longer : Contents = put_space p.in_data line.number (magnitude n) c in
+    let longer : Contents = put_space p.in_data line.number (space_bytes n) c in
     subst (λ (x : Contents). IsMeasured (advanced p (counted (space_units n p.in_data))) x) (same_contents longer d is)
-    (measured-put p (space_units n p.in_data) c longer m (longer-space p.in_data line.number (magnitude n) c))
+    (measured-put p (space_units n p.in_data) c longer m (longer-space p.in_data line.number (space_bytes n) c))
 measured-statement scope line p (statement.Instruction mnemonic o) c d m is = measured-instruction scope line p mnemonic o c d m is
 
 -- what a line of the first pass shows
-record IsPlaced (source : List ℕ) (line : Line) (l m : Layout) : Type 0 where
-  split : Option Label × List Token
-  made : Statement
-  front : label_read source line.tokens ≡ Ok split
-  body : statement_read source l.position.in_data line.end split.1 ≡ Ok made
-  position : after l.position made line.tokens ≡ m.position
+pub record IsPlaced (source : List ℕ) (line : Line) (l m : Layout) : Type 0 where
+  pub split : Option Label × List Token
+  pub made : Statement
+  pub front : label_read source line.tokens ≡ Ok split
+  pub label : labelled source line split.0 l.position l.labels ≡ Ok m.labels
+  pub body : statement_read source l.position.in_data line.end split.1 ≡ Ok made
+  pub space : space_checked source line l.position.in_data made ≡ Ok tt
+  pub position : after l.position made line.tokens ≡ m.position
 
-same_layout : (l m : Layout) → ◌≡◌ {A = Result Layout AsmFault} (Ok l) (Ok m) → l ≡ m
+pub same_layout : (l m : Layout) → ◌≡◌ {A = Result Layout AsmFault} (Ok l) (Ok m) → l ≡ m
 same_layout l m is = cc
 
 -- the steps of the first pass on a line, from the last
@@ -197,30 +199,36 @@ placed_stated source line l r labels = and_then (at_line source line Syntax (sta
 abbrev placed_labelled : List ℕ → Line → Layout → (Option Label × List Token) → Result Layout AsmFault
 placed_labelled source line l r = and_then (labelled source line r.0 l.position l.labels) (λ labels. placed_stated source line l r labels)
 
-placed-is : (source : List ℕ) (line : Line) (l m : Layout) → placed source line l ≡ Ok m → IsPlaced source line l m
+ok_labels : (r : Result SpotsByName AsmFault) (labels given : SpotsByName) → labels ≡ given → r ≡ Ok labels → r ≡ Ok given
+ok_labels r labels given same is = subst (λ (x : SpotsByName). r ≡ Ok x) same is
+
+pub placed-is : (source : List ℕ) (line : Line) (l m : Layout) → placed source line l ≡ Ok m → IsPlaced source line l m
 placed-is source line l m is =
     let (r, front, is2) = and_then-ok (at_line source line Syntax (label_read source line.tokens)) (placed_labelled source line l) m is in
-    let (labels, _, is3) = and_then-ok (labelled source line r.0 l.position l.labels) (placed_stated source line l r) m is2 in
+    let (labels, label, is3) = and_then-ok (labelled source line r.0 l.position l.labels) (placed_stated source line l r) m is2 in
     let (s, body, is4) = and_then-ok (at_line source line Syntax (statement_read source l.position.in_data line.end r.1)) (placed_checked source line l labels) m is3 in
-    let (_, _, is5) = and_then-ok (space_checked source line l.position.in_data s) (λ (u : Unit {0}). Ok (record { position = after l.position s line.tokens; labels = labels })) m is4 in
+    let (_, space, is5) = and_then-ok (space_checked source line l.position.in_data s) (λ (u : Unit {0}). Ok (record { position = after l.position s line.tokens; labels = labels })) m is4 in
+    let same : record { position = after l.position s line.tokens; labels = labels } ≡ m = same_layout (record { position = after l.position s line.tokens; labels = labels }) m is5 in
     record {
       split = r;
       made = s;
       front = at_line-ok source line Syntax (label_read source line.tokens) r front;
+      label = ok_labels (labelled source line r.0 l.position l.labels) labels m.labels (ap (λ (x : Layout). x.labels) same) label;
       body = at_line-ok source line Syntax (statement_read source l.position.in_data line.end r.1) s body;
-      position = ap (λ (x : Layout). x.position) (same_layout (record { position = after l.position s line.tokens; labels = labels }) m is5);
+      space = space;
+      position = ap (λ (x : Layout). x.position) same;
     }
 
 -- what a line of the second pass shows
-record IsFilled (scope : Scope) (line : Line) (f g : Filling) : Type 0 where
-  split : Option Label × List Token
-  made : Statement
-  front : label_read scope.source line.tokens ≡ Ok split
-  body : statement_read scope.source f.position.in_data line.end split.1 ≡ Ok made
-  position : after f.position made line.tokens ≡ g.position
-  contents : statement_filled scope line f.position made f.contents ≡ Ok g.contents
+pub record IsFilled (scope : Scope) (line : Line) (f g : Filling) : Type 0 where
+  pub split : Option Label × List Token
+  pub made : Statement
+  pub front : label_read scope.source line.tokens ≡ Ok split
+  pub body : statement_read scope.source f.position.in_data line.end split.1 ≡ Ok made
+  pub position : after f.position made line.tokens ≡ g.position
+  pub contents : statement_filled scope line f.position made f.contents ≡ Ok g.contents
 
-same_filling : (f g : Filling) → ◌≡◌ {A = Result Filling AsmFault} (Ok f) (Ok g) → f ≡ g
+pub same_filling : (f g : Filling) → ◌≡◌ {A = Result Filling AsmFault} (Ok f) (Ok g) → f ≡ g
 same_filling f g is = cc
 
 ok_contents : (f g : Filling) → f ≡ g → ◌≡◌ {A = Result Contents AsmFault} (Ok f.contents) (Ok g.contents)
@@ -236,7 +244,7 @@ filled_put scope line f s = and_then (statement_filled scope line f.position s f
 abbrev pub filled_stated : Scope → Line → Filling → (Option Label × List Token) → Result Filling AsmFault
 filled_stated scope line f r = and_then (at_line scope.source line Syntax (statement_read scope.source f.position.in_data line.end r.1)) (λ s. filled_put scope line f s)
 
-filled-is : (scope : Scope) (line : Line) (f g : Filling) → filled scope line f ≡ Ok g → IsFilled scope line f g
+pub filled-is : (scope : Scope) (line : Line) (f g : Filling) → filled scope line f ≡ Ok g → IsFilled scope line f g
 filled-is scope line f g is =
     let (r, front, is2) = and_then-ok (at_line scope.source line Syntax (label_read scope.source line.tokens)) (filled_stated scope line f) g is in
     let (s, body, is3) = and_then-ok (at_line scope.source line Syntax (statement_read scope.source f.position.in_data line.end r.1)) (filled_put scope line f) g is2 in
@@ -251,14 +259,14 @@ filled-is scope line f g is =
       contents = put ∙ ok_contents _ g same;
     }
 
-same_split : (source : List ℕ) (line : Line) (a b : Option Label × List Token) → label_read source line.tokens ≡ Ok a → label_read source line.tokens ≡ Ok b → a ≡ b
+pub same_split : (source : List ℕ) (line : Line) (a b : Option Label × List Token) → label_read source line.tokens ≡ Ok a → label_read source line.tokens ≡ Ok b → a ≡ b
 same_split source line a b p q = let same : ◌≡◌ {A = Result (Option Label × List Token) ℕ} (Ok a) (Ok b) = sym p ∙ q in cc
 
-same_statement : (r : Result Statement ℕ) (s t : Statement) → r ≡ Ok s → r ≡ Ok t → s ≡ t
+pub same_statement : (r : Result Statement ℕ) (s t : Statement) → r ≡ Ok s → r ≡ Ok t → s ≡ t
 same_statement r s t p q = let same : ◌≡◌ {A = Result Statement ℕ} (Ok s) (Ok t) = sym p ∙ q in cc
 
 -- from one position both passes go to one position
-same_position : (scope : Scope) (line : Line) (l m : Layout) (f g : Filling) → l.position ≡ f.position → placed scope.source line l ≡ Ok m → filled scope line f ≡ Ok g → m.position ≡ g.position
+pub same_position : (scope : Scope) (line : Line) (l m : Layout) (f g : Filling) → l.position ≡ f.position → placed scope.source line l ≡ Ok m → filled scope line f ≡ Ok g → m.position ≡ g.position
 same_position scope line l m f g at is js =
     let first : IsPlaced scope.source line l m = placed-is scope.source line l m is in
     let second : IsFilled scope line f g = filled-is scope line f g js in
@@ -269,7 +277,7 @@ same_position scope line l m f g at is js =
     let made : first.made ≡ second.made = same_statement (statement_read scope.source f.position.in_data line.end second.split.1) first.made second.made body second.body in
     sym first.position ∙ ap (λ (p : Position). after p first.made line.tokens) at ∙ ap (λ (s : Statement). after f.position s line.tokens) made ∙ second.position
 
-measured-filled : (scope : Scope) (line : Line) (f g : Filling) → IsMeasured f.position f.contents → filled scope line f ≡ Ok g → IsMeasured g.position g.contents
+pub measured-filled : (scope : Scope) (line : Line) (f g : Filling) → IsMeasured f.position f.contents → filled scope line f ≡ Ok g → IsMeasured g.position g.contents
 measured-filled scope line f g m is =
     let step : IsFilled scope line f g = filled-is scope line f g is in
     subst (λ (p : Position). IsMeasured p g.contents) step.position (measured-statement scope line f.position step.made f.contents g.contents m step.contents)

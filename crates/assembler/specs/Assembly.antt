@@ -8,7 +8,7 @@ use Rattle.asm_text.specs.declared.token.Line.{Line}
 use Rattle.assembler.specs.Steps.{and_then}
 use Rattle.assembler.specs.Faults.{whole}
 use Rattle.assembler.specs.Layout.{start_layout, all_placed}
-use Rattle.assembler.specs.Filling.{Contents, contents_filled}
+use Rattle.assembler.specs.Filling.{Scope, Contents, contents_filled}
 use Rattle.assembler.specs.declared.fault.AsmFault.{AsmFault}
 use Rattle.assembler.specs.declared.fault.Cause.TheVariants.{Syntax, NoStart, TooLarge}
 use Rattle.assembler.specs.declared.labels.Spot.{Spot}
@@ -71,12 +71,16 @@ pub record Assembled : Type 0 where
 abbrev pub assembled : ℕ → Contents → Assembled
 assembled entry c = record { image = image_of entry c; listing = rows_from 65536 c.cells }
 
+-- what the second pass knows behind the first
+abbrev pub scope_of : List ℕ → Layout → Scope
+scope_of source l = record { source = source; labels = l.labels; data_base = data_base l.position.words }
+
 -- what the passes make of the lines of a source, or their first fault
 abbrev pub assembly : List ℕ → List Line → Result Assembled AsmFault
 assembly source lines =
     and_then (all_placed source lines start_layout) (λ l.
     and_then (entry_of l) (λ entry.
-    and_then (contents_filled (record { source = source; labels = l.labels; data_base = data_base l.position.words }) lines) (λ c.
+    and_then (contents_filled (scope_of source l) lines) (λ c.
     Ok (assembled entry c))))
 
 -- the longest source, in bytes

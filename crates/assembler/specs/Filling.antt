@@ -12,7 +12,7 @@ use Rattle.assembler.specs.Encoding.{word_of}
 use Rattle.assembler.specs.Expansion.{expansion_of, modulo_word}
 use Rattle.assembler.specs.Faults.{fault_at, at_line}
 use Rattle.assembler.specs.Labels.{SpotsByName}
-use Rattle.assembler.specs.Layout.{start, spot_of, after, numbers_in, string_in, magnitude}
+use Rattle.assembler.specs.Layout.{start, spot_of, after, numbers_in, string_in, space_bytes}
 use Rattle.assembler.specs.declared.fault.AsmFault.{AsmFault}
 use Rattle.assembler.specs.declared.fault.Cause.TheVariants.{Syntax, UnknownName, Range}
 use Rattle.assembler.specs.declared.labels.Spot.{Spot}
@@ -124,10 +124,11 @@ statement_filled scope line p statement.Data c = Ok c
 statement_filled scope line p statement.Words c = Ok (put_numbers p.in_data line.number (numbers_in line.tokens) c)
 statement_filled scope line p statement.Bytes c = bytes_filled scope.source line c
 statement_filled scope line p statement.Ascii c = Ok (put_string line.tokens c)
-statement_filled scope line p (statement.Space n at) c = Ok (put_space p.in_data line.number (magnitude n) c)
+statement_filled scope line p (statement.Space n at) c = Ok (put_space p.in_data line.number (space_bytes n) c)
 statement_filled scope line p (statement.Instruction m o) c = instruction_filled scope line p m o c
 
--- the sections behind a line
+-- The sections behind a line. Behind a first pass without a fault no Syntax comes here: that pass read each line from the
+-- same position, with the same outcome.
 abbrev pub filled : Scope → Line → Filling → Result Filling AsmFault
 filled scope line f =
     and_then (at_line scope.source line Syntax (label_read scope.source line.tokens)) (λ r.

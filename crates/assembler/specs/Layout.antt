@@ -54,10 +54,10 @@ abbrev pub string_in : List Token → List ℕ
 string_in [] = []
 string_in (t ∷ ts) = first_string t.kind (string_in ts)
 
--- a number that is not negative
-abbrev pub magnitude : ℤ → ℕ
-magnitude (pos n) = n
-magnitude (negsuc n) = 0
+-- how many bytes a `.space` of a number has: that many; none, where it is negative, which the first pass refuses
+abbrev pub space_bytes : ℤ → ℕ
+space_bytes (pos n) = n
+space_bytes (negsuc n) = 0
 
 -- so many words, as words of text or bytes of data
 abbrev pub units_of : ℕ → Bool → ℕ
@@ -65,7 +65,7 @@ units_of words in_data = if in_data then 4 * words else words
 
 -- so many zero bytes, as words of text or bytes of data
 abbrev pub space_units : ℤ → Bool → ℕ
-space_units n in_data = if in_data then magnitude n else magnitude n / 4
+space_units n in_data = if in_data then space_bytes n else space_bytes n / 4
 
 -- further on by words of text, by bytes of data, and by words or bytes of the section that statements go to
 abbrev pub with_words : Position → ℕ → Position

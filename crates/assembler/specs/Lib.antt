@@ -13,3 +13,7 @@ pub mod Layout
 pub mod Filling
 pub mod Assembly
 pub mod Listed
+pub mod Instructions
+pub mod Sections
+pub mod Loads
+pub mod Laws

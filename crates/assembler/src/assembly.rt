@@ -5,13 +5,14 @@ ghost use Rattle.assembler.specs.Faults.{out_of_memory};
 ghost use Rattle.assembler.specs.Assembly.{pages, data_base, IsTextAddress, start_at, entry_of, words_of, image_of, text_segment, data_segment, data_segments, assembly, Assembles, FaultOf};
 ghost use Rattle.assembler.specs.Filling.{shown};
 ghost use Rattle.assembler.specs.Listed.{IsListedIn};
+ghost use Rattle.assembler.specs.Instructions.{ListsInstructions};
 
 use crate::fault::{AsmFault, Cause};
 use crate::filling::{Cell, Output, fill};
 use crate::labels::Spot;
 use crate::layout::{Layout, lay_out};
 use crate::listing::{Listing, list_cells};
-use asm_text::{Line, lines};
+use asm_text::{Line, lines, one_reading};
 use byte_list::Bytes;
 use elf32::{Image, Segment};
 use machine_model::Rights;
@@ -25,19 +26,22 @@ const SOURCE_LIMIT: usize = 1_048_576;
 /// Text begins at 0x00010000 and may be read and executed; data, if there is any, begins at the next page and may be read
 /// and written. The program begins at the label `_start`.
 ///
-/// The first fault of a source is: `TooLarge`, where it has over 1,048,576 bytes; `Syntax` in its tokens; then, line by
-/// line, `Syntax` of a label or statement, `DoubleLabel`, and `Range` of a `.space`; `TooLarge`, where text and data take
-/// over 60 pages; `NoStart`, where no `_start` stands before a word of text; then, from left to right, `UnknownName` and
-/// `Range` of an operand. Want of memory is `OutOfMemory`, at 1:1.
+/// The first fault of a source is: `TooLarge`, where it has over 1,048,576 bytes; `Syntax` in its tokens, on whatever line;
+/// then line by line, and on one line in this order, `Syntax` of what stands in the place of a label, `DoubleLabel`, `Syntax`
+/// of the statement, and `Range` of a `.space`; `TooLarge`, where text and data take over 60 pages; `NoStart`, where no
+/// `_start` stands before a word of text; then line by line, and on one line from left to right, `UnknownName` and `Range` of
+/// an operand. Want of memory is `OutOfMemory`, at 1:1, and may come at any time.
 pub fn assemble(alloc: Global, source: &str) -> Result<(Image, Listing), AsmFault>
     ensures assembled { IfOk result (λ r. Assembles source.now r.0 r.1) }
     ensures listed { IfOk result (λ r. IsListedIn r.0 r.1) }
+    ensures meant { IfOk result (λ r. ListsInstructions source.now r.1) }
     ensures refused { IfErr result (λ f. f ≢ out_of_memory → FaultOf source.now f) }
 {
     if source.len() > SOURCE_LIMIT {
         return Err(AsmFault::whole(Cause::TooLarge));
     }
     let lines = lines(alloc, source)?;
+    one_reading();
     assemble_lines(alloc, source.as_bytes(), lines.as_slice())
 }
 

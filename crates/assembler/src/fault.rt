@@ -18,7 +18,10 @@ pub enum Cause {
     /// A label of this name stands further up.
     #[error("DoubleLabel")]
     DoubleLabel = 3,
-    /// A number does not fit its field, or a target is out of reach.
+    /// A number does not fit where it stands. On the first pass: a `.space` of a negative size, or in text of one that is no
+    /// multiple of 4. On the second, behind all faults of the first: a byte outside -128 to 255; an immediate, or the offset
+    /// of a load or a store, outside -2048 to 2047; upper bits outside 0 to 0xFFFFF; a shift outside 0 to 31; a target whose
+    /// distance is no multiple of 4, or outside -4096 to 4092 of a branch, -1048576 to 1048572 of a jump.
     #[error("Range")]
     Range = 4,
     /// No label `_start` stands before a word of text.

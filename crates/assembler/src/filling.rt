@@ -9,7 +9,7 @@ use crate::expansion::{Expansion, expanded};
 use crate::fault::{AsmFault, Cause, fault_at};
 use crate::fields::modulo_word;
 use crate::labels::{Labels, Spot};
-use crate::layout::{Position, magnitude, string_in};
+use crate::layout::{Position, space_bytes, string_in};
 use crate::literal::Literal;
 use crate::mnemonic::Mnemonic;
 use crate::operands::{Operands, Value};
@@ -33,7 +33,8 @@ pub struct Output {
 }
 
 /// Goes over all lines again, where the labels stand as they say and data begins at its base. A fault is the first of
-/// them: a label that is not there, or a number that does not fit.
+/// them: a label that is not there, or a number that does not fit. Behind a first pass without a fault no line has one of
+/// its form: that pass read each line at the same position, and would have met it.
 pub fn fill<'a>(
     alloc: Global,
     source: &'a [u8],
@@ -107,7 +108,7 @@ fn fill_statement<'a>(
         Statement::Bytes => fill_bytes(source, line, output),
         Statement::Ascii => put_string(tokens, output),
         Statement::Space(size, _) => {
-            put_space(position.in_data, line.number, magnitude(*size), output)
+            put_space(position.in_data, line.number, space_bytes(*size), output)
         }
         Statement::Instruction(mnemonic, operands) => {
             let number = number_at(source, labels, data_base, position, operands.value);

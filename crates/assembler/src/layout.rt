@@ -1,7 +1,7 @@
 //! The first pass: where the labels stand, and how long the sections are.
 ghost use Rattle.std.specs.Prelude.{◌≡◌, ◌≢◌, Ok, Err, IfOk, IfErr, OnOk, length};
 ghost use Rattle.assembler.specs.Faults.{out_of_memory};
-ghost use Rattle.assembler.specs.Layout.{start, start_layout, spot_of, counted, with_words, with_bytes, advanced, within, after, space_units, string_in, numbers_in, space_checked, label_declared, units_of, placed, all_placed, magnitude};
+ghost use Rattle.assembler.specs.Layout.{start, start_layout, spot_of, counted, with_words, with_bytes, advanced, within, after, space_units, string_in, numbers_in, space_checked, label_declared, units_of, placed, all_placed, space_bytes};
 
 use crate::expansion::words_taken;
 use crate::fault::{AsmFault, Cause, fault_at};
@@ -221,7 +221,7 @@ fn number_units(tokens: &[Token], in_data: bool) -> u32
 fn space_units(size: Literal, in_data: bool) -> u32
     ensures { result ≡ counted (space_units size in_data) }
 {
-    let bytes = magnitude(size);
+    let bytes = space_bytes(size);
     if in_data { bytes } else { bytes / 4 }
 }
 
@@ -233,9 +233,9 @@ fn string_len(tokens: &[Token]) -> u32
     len.min(u32::MAX as usize) as u32
 }
 
-/// A number that is not negative.
-pub fn magnitude(number: Literal) -> u32
-    ensures { result ≡ magnitude number }
+/// How many bytes a `.space` of a number has: none where it is negative, which `check_space` refuses.
+pub fn space_bytes(number: Literal) -> u32
+    ensures { result ≡ space_bytes number }
 {
     number.value().max(0) as u32
 }

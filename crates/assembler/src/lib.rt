@@ -8,6 +8,7 @@ mod fault;
 mod fields;
 mod filling;
 mod labels;
+mod laws;
 mod layout;
 mod listing;
 mod literal;
@@ -21,4 +22,5 @@ mod tokens;
 
 pub use assembly::assemble;
 pub use fault::{AsmFault, Cause};
+pub use laws::{images_are_by_lines, loads_are_right, one_outcome, parts_add_up, word_meanings};
 pub use listing::{Listing, Row};

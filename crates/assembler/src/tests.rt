@@ -51,7 +51,84 @@ fn loads_of_a_number(rt: HostRuntime) -> Result<(), Fail> {
     assert_words(&rt, alloc, "_start: li a0,2048", &[0x00001537, 0x80050513])?;
     assert_words(&rt, alloc, "_start: li a0,0x12345000", &[0x12345537])?;
     assert_words(&rt, alloc, "_start: li a0,-2147483648", &[0x80000537])?;
+    assert_words(&rt, alloc, "_start: li a0,-2049", &[0xFFFFF537, 0x7FF50513])?;
+    assert_words(&rt, alloc, "_start: li a0,0x80000000", &[0x80000537])?;
     assert_words(&rt, alloc, "_start: li zero,0", &[0x00000013])
+}
+
+#[test]
+fn addresses_of_labels(rt: HostRuntime) -> Result<(), Fail> {
+    let alloc = rt.alloc();
+    assert_words(
+        &rt,
+        alloc,
+        "_start: nop\nla a0,_start",
+        &[0x00000013, 0x00000517, 0xFFC50513],
+    )?;
+    let (_, back) = assemble(alloc, "m: .space 4096\n_start: la a0,m")?;
+    assert_eq!(rt; back.rows().len(), 1026);
+    let words: [u32; 2] = [0xFFFFF517, 0x00050513];
+    for (row, word) in back.rows().iter().skip(1024).zip(words) {
+        assert_eq!(rt; row.word, word);
+    }
+    let (_, ahead) = assemble(alloc, "_start: la a0,m\n.space 2040\nm: nop")?;
+    assert_eq!(rt; ahead.rows().len(), 513);
+    let words: [u32; 2] = [0x00001517, 0x80050513];
+    for (row, word) in ahead.rows().iter().zip(words) {
+        assert_eq!(rt; row.word, word);
+    }
+    let (image, _) = assemble(alloc, "nop\n_start: ecall")?;
+    assert_eq!(rt; image.entry(), 0x00010004);
+    Ok(())
+}
+
+#[test]
+fn sixty_pages(rt: HostRuntime) -> Result<(), Fail> {
+    let alloc = rt.alloc();
+    let (image, listing) = assemble(alloc, "_start: .space 245760")?;
+    assert_eq!(rt; image.segments().len(), 1);
+    assert_eq!(rt; listing.rows().len(), 61440);
+    let (image, _) = assemble(alloc, "_start: .space 241664\n.data\n.space 4096")?;
+    assert_eq!(rt; image.segments().len(), 2);
+    assert_eq!(rt;
+        image.segments().last().map(|data| data.vaddr),
+        Some(0x4B000)
+    );
+    assert_fault(
+        &rt,
+        alloc,
+        "_start: .space 241664\n.data\n.space 4097",
+        Cause::TooLarge,
+        1,
+        1,
+    );
+    Ok(())
+}
+
+#[test]
+fn order_of_faults(rt: HostRuntime) {
+    let alloc = rt.alloc();
+    let cases = [
+        ("_start: foo\n nop @", Cause::Syntax, 2, 6),
+        ("_start: nop\n_start: .space -4", Cause::DoubleLabel, 2, 1),
+        ("_start: nop\n.foo: .space -4", Cause::Syntax, 2, 1),
+        (".foo: bar\n_start: nop\n_start: nop", Cause::Syntax, 1, 1),
+        (
+            "_start: nop\n_start: nop\n.foo: nop",
+            Cause::DoubleLabel,
+            2,
+            1,
+        ),
+        ("nop\n_start:", Cause::NoStart, 1, 1),
+        ("_start: j foo+4", Cause::UnknownName, 1, 11),
+        ("_start: j foo-4", Cause::UnknownName, 1, 11),
+        ("_start: lw a0,2048(sp)", Cause::Range, 1, 15),
+        ("_start: sw a0,-2049(sp)", Cause::Range, 1, 15),
+        ("_start: lui a0,0x100000", Cause::Range, 1, 16),
+    ];
+    for (source, why, line, column) in cases {
+        assert_fault(&rt, alloc, source, why, line, column);
+    }
 }
 
 #[test]

@@ -2,6 +2,12 @@
 #![tactic(auto)]
 
 #[cfg(test)]
+mod call_cases;
+#[cfg(test)]
+mod child_cases;
+#[cfg(test)]
+mod play;
+#[cfg(test)]
 mod tests;
 
 use std::process::ExitCode;

@@ -4,20 +4,21 @@ ghost use Rattle.std.specs.Prelude.{◌<◌, ◌≤◌, length};
 use elf32::Image;
 use std::alloc::Global;
 use std::fs;
+use std::io::{self, Error, ErrorKind, Write};
 use std::process::Abort;
 use std::rt::Files;
 use std::test::Fail;
 
 /// What a run wrote, and its exit status.
 #[derive(Drop)]
-struct Ran {
-    out: Vec<u8>,
-    err: Vec<u8>,
-    status: u8,
+pub struct Ran {
+    pub out: Vec<u8>,
+    pub err: Vec<u8>,
+    pub status: u8,
 }
 
 /// Runs the program with these words, parted by blanks, on an input.
-fn run<R: Files + AllocGlobal>(rt: &R, words: &str, input: &[u8]) -> Result<Ran, Fail> {
+pub fn run<R: Files + AllocGlobal>(rt: &R, words: &str, input: &[u8]) -> Result<Ran, Fail> {
     let mut list = Vec::new(rt.alloc());
     for word in words.split_whitespace() {
         list.push(String::from_str(rt.alloc(), word)?)?;
@@ -30,7 +31,11 @@ fn run<R: Files + AllocGlobal>(rt: &R, words: &str, input: &[u8]) -> Result<Ran,
 }
 
 /// Runs a script that is read from the input, compares what it prints, and wants status 0.
-fn expect<R: Files + AllocGlobal + Abort>(rt: &R, script: &str, printed: &str) -> Result<(), Fail> {
+pub fn expect<R: Files + AllocGlobal + Abort>(
+    rt: &R,
+    script: &str,
+    printed: &str,
+) -> Result<(), Fail> {
     let ran = run(rt, "", script.as_bytes())?;
     assert_eq!(rt; ran.status, 0, "{script}");
     assert_eq!(rt; ran.out.as_slice(), printed.as_bytes(), "{script}");
@@ -206,6 +211,23 @@ fn refused_scripts(rt: HostRuntime) -> Result<(), Fail> {
         ("program 0 0000007g\n", 1),
         ("program 0 +0000073\n", 1),
         ("program 0 00000073\ndrain\n", 2),
+        // tapes: a tape alone, faulty numbers, faulty bytes, a second line for one tape, and one behind an event
+        ("tape 0 68\n", 1),
+        ("program 0 00000073\ntape\n", 2),
+        ("program 0 00000073\ntape 0\n", 2),
+        ("program 0 00000073\ntape 8 68\n", 2),
+        ("program 0 00000073\ntape +0 68\n", 2),
+        ("program 0 00000073\ntape  0 68\n", 2),
+        ("program 0 00000073\ntape 0 \n", 2),
+        ("program 0 00000073\ntape 0 686\n", 2),
+        ("program 0 00000073\ntape 0 6g\n", 2),
+        ("program 0 00000073\ntape 0 0x68\n", 2),
+        ("program 0 00000073\ntape 0 --\n", 2),
+        ("program 0 00000073\ntape 0 68-\n", 2),
+        ("program 0 00000073\ntape 0 68 69\n", 2),
+        ("program 0 00000073\ntape 1 -\ntape 0 68\ntape 1 69\n", 4),
+        ("program 0 00000073\ntape 1 69\ntape 1 -\n", 3),
+        ("program 0 00000073\ntape 0 68\ncut\ntape 1 -\n", 4),
     ];
     for (script, line) in scripts {
         let ran = run(&rt, "", script.as_bytes())?;
@@ -247,6 +269,31 @@ fn largest_program(rt: HostRuntime) -> Result<(), Fail> {
 }
 
 #[test]
+fn longest_tape(rt: HostRuntime) -> Result<(), Fail> {
+    let mut script = String::from_str(rt.alloc(), "tape 7 ")?;
+    for _ in 0..65536 {
+        script.push_str("aB")?;
+    }
+    let rest = "program 0 00100073\ntape 0 -\nturn 1 5\n";
+    expect(
+        &rt,
+        format!(in rt.alloc(); "{script}\n{rest}")?.as_str(),
+        "ran 0 trap 6\n",
+    )?;
+    let ran = run(
+        &rt,
+        "",
+        format!(in rt.alloc(); "{script}aB\n{rest}")?.as_bytes(),
+    )?;
+    assert_eq!(rt; ran.status, 2);
+    assert_eq!(rt;
+        ran.err.as_slice(),
+        b"bench: script refused at line 1\n".as_slice()
+    );
+    Ok(())
+}
+
+#[test]
 fn statuses(rt: HostRuntime) -> Result<(), Fail> {
     // a script that is no text, and one that is not there
     let ran = run(&rt, "", b"program 0 00000073\n\xff\n")?;
@@ -283,6 +330,58 @@ fn statuses(rt: HostRuntime) -> Result<(), Fail> {
     assert!(rt; !ran.out.is_empty());
     assert!(rt; ran.err.is_empty());
     Ok(())
+}
+
+/// An output that takes so many writes, and then fails.
+#[derive(Drop)]
+struct Output {
+    writes: usize,
+    room: usize,
+}
+
+impl Write for Output {
+    fn write(&mut self, buf: &[u8]) -> io::Result<usize> {
+        if self.writes >= self.room {
+            return Err(Error::from(ErrorKind::BrokenPipe));
+        }
+        self.writes += 1;
+        Ok(buf.len())
+    }
+
+    fn flush(&mut self) -> io::Result<()> {
+        Ok(())
+    }
+}
+
+/// Runs `bench` with this word, if it is one, on a script of eight lines of output; wants this status, and so many writes.
+fn expect_writes<R: Files + AllocGlobal + Abort>(
+    rt: &R,
+    word: &str,
+    room: usize,
+    status: u8,
+    said: &str,
+) -> Result<(), Fail> {
+    let mut words = Vec::new(rt.alloc());
+    if !word.is_empty() {
+        words.push(String::from_str(rt.alloc(), word)?)?;
+    }
+    let mut input =
+        b"program 0 00100073\nturn 1 0\nturn 1 0\nshown 0\ntrace 1\ncut\nturn 1 5\nenter 1\nshown 1\n".as_slice();
+    let mut out = Output { writes: 0, room };
+    let mut err = Vec::new(rt.alloc());
+    let ended = monitor::bench(rt, &words, &mut input, &mut out, &mut err);
+    assert_eq!(rt; ended, status);
+    assert_eq!(rt; out.writes, room);
+    assert_eq!(rt; err.as_slice(), said.as_bytes());
+    Ok(())
+}
+
+#[test]
+fn output_goes_out_at_once(rt: HostRuntime) -> Result<(), Fail> {
+    expect_writes(&rt, "", 1, 0, "")?;
+    expect_writes(&rt, "--help", 1, 0, "")?;
+    expect_writes(&rt, "", 0, 6, "bench: input or output failed\n")?;
+    expect_writes(&rt, "--help", 0, 6, "bench: input or output failed\n")
 }
 
 #[test]

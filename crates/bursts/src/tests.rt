@@ -1,8 +1,9 @@
-//! Cores by hand: a lent process, results of other loans, a script of events.
+//! Cores by hand: a lent process, results of other loans, a script of events, a tape.
 ghost use Rattle.std.specs.Prelude.{◌≡◌, ◌<◌, ◌≤◌, IfOk, length};
 ghost use Rattle.std.specs.List.{AllByRecursion};
 
 use crate::{Done, run_loan};
+use byte_list::Bytes;
 use disk_model::zeros_hold_nothing;
 use kernel::{Answer, Core, Event, Outcome, Program, Refused, SimDisk};
 use machine::Image;
@@ -51,6 +52,25 @@ const PRINTER: [u32; 10] = [
 /// Stops at EBREAK, at once.
 const BREAKER: [u32; 1] = [0x0010_0073];
 
+/// Reads its tape by two bytes at a time, writes each part to its terminal, and ends with its number once none are left.
+const READER: [u32; 15] = [
+    0x0000_0513,
+    0xFFC1_0593,
+    0x0020_0613,
+    0x0030_0893,
+    0x0000_0073,
+    0x0005_0C63,
+    0x0005_0613,
+    0x0010_0513,
+    0x0020_0893,
+    0x0000_0073,
+    0xFD9F_F06F,
+    0x0090_0893,
+    0x0000_0073,
+    0x0010_0893,
+    0x0000_0073,
+];
+
 /// A program of these words, for this terminal.
 fn program(alloc: Global, words: &[u32], terminal: u32) -> Result<Program, Fail>
     requires some { 0 < length words.now }
@@ -63,22 +83,23 @@ fn program(alloc: Global, words: &[u32], terminal: u32) -> Result<Program, Fail>
     })
 }
 
-/// A core of these programs, on a disk of zeros.
-fn boot_of(alloc: Global, programs: Vec<Program>) -> Result<Core, Fail>
+/// A core of these programs and tapes, on a disk of zeros.
+fn boot_of(alloc: Global, programs: Vec<Program>, tapes: Vec<Bytes>) -> Result<Core, Fail>
     requires some { 1 ≤ length programs.items }
     requires few { length programs.items ≤ 8 }
     requires terminals { AllByRecursion (λ p. p.terminal < 8) programs.items }
+    requires few_tapes { length tapes.items ≤ 8 }
 {
     let disk = SimDisk::zero(alloc)?;
     zeros_hold_nothing();
-    Ok(Core::boot(alloc, disk, programs, Vec::new(alloc))?)
+    Ok(Core::boot(alloc, disk, programs, tapes)?)
 }
 
 /// A core of the writer, for terminal 0, and of the printer, for terminal 1.
 fn boot(alloc: Global) -> Result<Core, Fail> {
     let writer = program(alloc, &WRITER, 0)?;
     let printer = program(alloc, &PRINTER, 1)?;
-    boot_of(alloc, vec![in alloc; writer, printer]?)
+    boot_of(alloc, vec![in alloc; writer, printer]?, Vec::new(alloc))
 }
 
 /// Runs a loan of this quantum, where one is to be had.
@@ -168,7 +189,7 @@ fn a_lent_process_is_with_its_borrower(rt: HostRuntime) -> Result<(), Fail> {
 fn a_script_stops_at_a_refusal(rt: HostRuntime) -> Result<(), Fail> {
     let alloc = rt.alloc();
     let breaker = program(alloc, &BREAKER, 0)?;
-    let mut core = boot_of(alloc, vec![in alloc; breaker]?)?;
+    let mut core = boot_of(alloc, vec![in alloc; breaker]?, Vec::new(alloc))?;
     let events = [
         Event::Turn { pid: 1, n: 5 },
         Event::Enter { pid: 1 },
@@ -281,4 +302,19 @@ fn loans_give_what_turns_give(rt: HostRuntime) -> Result<(), Fail> {
     let mut other = core_by_events(&rt, alloc, core.history())?;
     stay_alike(&rt, alloc, &mut core, &mut other)?;
     ended_well(&rt, &core)
+}
+
+#[test]
+fn a_tape_is_read_to_its_end(rt: HostRuntime) -> Result<(), Fail> {
+    let alloc = rt.alloc();
+    let reader = program(alloc, &READER, 3)?;
+    let tape = Bytes::copy_of(alloc, b"abc")?;
+    let mut core = boot_of(alloc, vec![in alloc; reader]?, vec![in alloc; tape]?)?;
+    run_by_loans(&rt, &mut core, 100)?;
+    assert_eq!(rt; core.shown(3), b"abc".as_slice());
+    let (numbers, end) = told(alloc, &core, 1)?;
+    // a read and a write of two bytes, of one, a read of none, and its number
+    assert_eq!(rt; numbers.as_slice(), [2, 2, 1, 1, 0, 1].as_slice());
+    assert_eq!(rt; end, Some(1));
+    Ok(())
 }

@@ -1,5 +1,5 @@
 -- How many files there are after a change, and whether descriptors name them.
-use Rattle.std.proofs.Common.{◌≡◌, ℕ, zero, suc, ◌+◌, ◌<◌, ◌≤◌, true, false, List, [], ◌∷◌, length, map, slice_get, slice_set, Option, Some, None, refl, sym, ◌∙◌, arith, length-append}
+use Rattle.std.proofs.Common.{◌≡◌, ℕ, zero, suc, ◌+◌, ◌<◌, ◌≤◌, true, false, List, [], ◌∷◌, length, slice_get, slice_set, Option, Some, None, refl, sym, ◌∙◌, arith, length-append}
 use Rattle.std.specs.List.{AllByRecursion, list_all, position_from}
 use Rattle.std.specs.Prelude.{cond}
 use Rattle.std.specs.Str.{bytes_eq}
@@ -18,8 +18,9 @@ use Rattle.kernel_model.specs.State.{changed_by}
 use Rattle.kernel_model.specs.Steps.{set_slots}
 use Rattle.kernel_model.specs.declared.descriptor.Descriptor.{Descriptor}
 use Rattle.kernel_model.specs.declared.descriptor.Descriptor.TheVariants as descriptor
+use Rattle.kernel_model.specs.declared.descriptor.PipeEnd.TheVariants as pipe_end
 use Rattle.kernel_model.specs.declared.effect.Slot.{Slot}
-use Rattle.calls.specs.Plans.{NamesFile, NamesFiles}
+use Rattle.calls.specs.Plans.{NamesFile, NamesFiles, NamesPipe, NamesPipes}
 
 length-with_bytes : (files : List NamedFile) (place : ℕ) (o : Option NamedFile) (f : List ℕ → List ℕ) → length (with_bytes files place o f) ≡ length files
 length-with_bytes files place None f = refl
@@ -44,26 +45,39 @@ NamesFile-more : (n m : ℕ) → n ≤ m → (d : Option Descriptor) → NamesFi
 NamesFile-more n m le (Some (descriptor.File file offset writes)) h = omega arith
 NamesFile-more n m le (Some (descriptor.Tape t)) h = tt
 NamesFile-more n m le (Some (descriptor.Terminal t)) h = tt
+NamesFile-more n m le (Some (descriptor.Pipe end)) h = tt
 NamesFile-more n m le None h = tt
 
+-- what holds of all descriptors, if something stronger does
+all-others : (P Q : Option Descriptor → Type 0) → ((d : Option Descriptor) → P d → Q d) → (ds : List (Option Descriptor)) → AllByRecursion P ds → AllByRecursion Q ds
+all-others P Q others [] h = tt
+all-others P Q others (d ∷ ds) h = (others d h.0, all-others P Q others ds h.1)
+
+all-set : (P : Option Descriptor → Type 0) (ds : List (Option Descriptor)) (fd : ℕ) (d : Option Descriptor) → P d → AllByRecursion P ds → AllByRecursion P (slice_set ds fd d)
+all-set P [] fd d h hs = tt
+all-set P (x ∷ xs) zero d h hs = (h, hs.1)
+all-set P (x ∷ xs) (suc fd) d h hs = (hs.0, all-set P xs fd d h hs.1)
+
+-- what holds of all descriptors, and of all that are set
+pub all-set_slots : (P : Option Descriptor → Type 0) (slots : List Slot) (ds : List (Option Descriptor)) → AllByRecursion (λ (slot : Slot). P slot.holds) slots
+    → AllByRecursion P ds → AllByRecursion P (set_slots ds slots)
+all-set_slots P [] ds h hs = hs
+all-set_slots P (slot ∷ slots) ds h hs = all-set_slots P slots (slice_set ds slot.fd slot.holds) h.1 (all-set P ds slot.fd slot.holds h.0 hs)
+
 pub NamesFiles-more : (n m : ℕ) → n ≤ m → (ds : List (Option Descriptor)) → NamesFiles n ds → NamesFiles m ds
-NamesFiles-more n m le [] h = tt
-NamesFiles-more n m le (d ∷ ds) h = (NamesFile-more n m le d h.0, NamesFiles-more n m le ds h.1)
+NamesFiles-more n m le ds h = all-others (NamesFile n) (NamesFile m) (NamesFile-more n m le) ds h
 
-pub NamesFiles-set : (n : ℕ) (ds : List (Option Descriptor)) (fd : ℕ) (d : Option Descriptor) → NamesFile n d → NamesFiles n ds → NamesFiles n (slice_set ds fd d)
-NamesFiles-set n [] fd d h hs = tt
-NamesFiles-set n (x ∷ xs) zero d h hs = (h, hs.1)
-NamesFiles-set n (x ∷ xs) (suc fd) d h hs = (hs.0, NamesFiles-set n xs fd d h hs.1)
+-- among more pipes, a descriptor still names one
+NamesPipe-more : (n m : ℕ) → n ≤ m → (d : Option Descriptor) → NamesPipe n d → NamesPipe m d
+NamesPipe-more n m le (Some (descriptor.Pipe (pipe_end.Read k))) h = omega arith
+NamesPipe-more n m le (Some (descriptor.Pipe (pipe_end.Write k))) h = omega arith
+NamesPipe-more n m le (Some (descriptor.File file offset writes)) h = tt
+NamesPipe-more n m le (Some (descriptor.Tape t)) h = tt
+NamesPipe-more n m le (Some (descriptor.Terminal t)) h = tt
+NamesPipe-more n m le None h = tt
 
-pub NamesFiles-set_slots : (n : ℕ) (slots : List Slot) (ds : List (Option Descriptor)) → AllByRecursion (λ (slot : Slot). NamesFile n slot.holds) slots → NamesFiles n ds → NamesFiles n (set_slots ds slots)
-NamesFiles-set_slots n [] ds h hs = hs
-NamesFiles-set_slots n (slot ∷ slots) ds h hs =
-    NamesFiles-set_slots n slots (slice_set ds slot.fd slot.holds) h.1 (NamesFiles-set n ds slot.fd slot.holds h.0 hs)
-
--- closed descriptors name none
-pub NamesFiles-closed : (n : ℕ) (ds : List (Option Descriptor)) → NamesFiles n (map (λ d. None) ds)
-NamesFiles-closed n [] = tt
-NamesFiles-closed n (d ∷ ds) = (tt, NamesFiles-closed n ds)
+pub NamesPipes-more : (n m : ℕ) → n ≤ m → (ds : List (Option Descriptor)) → NamesPipes n ds → NamesPipes m ds
+NamesPipes-more n m le ds h = all-others (NamesPipe n) (NamesPipe m) (NamesPipe-more n m le) ds h
 
 pub NamesFile-descriptor_at : (n : ℕ) (ds : List (Option Descriptor)) (fd : ℕ) → NamesFiles n ds → NamesFile n (descriptor_at ds fd)
 NamesFile-descriptor_at n [] fd h = tt

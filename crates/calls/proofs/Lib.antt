@@ -1,8 +1,12 @@
 -- Lemmas.
 pub mod Copied
 pub mod Naming
-pub mod Slots
-pub mod Cases
+pub mod Placing
+pub mod Ending
 pub mod Files
-pub mod Edits
+pub mod Fitting
+pub mod Cases
+pub mod Seeing
+pub mod Stepping
+pub mod Sound
 pub mod Planned

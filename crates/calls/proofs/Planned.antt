@@ -1,58 +1,106 @@
 -- What holds of a row holds of a plan that says the same.
-use Rattle.std.proofs.Common.{◌≡◌, ◌⊎◌, List, length, Option, Some, None, Result, Ok, Err, IfOk, IfSome, option_to_list, sym, subst}
+use Rattle.std.proofs.Common.{◌≡◌, inr, ℕ, List, Option, Some, None, Result, Ok, Err, IfOk, IfSome, sym, ap, ◌∙◌, subst}
 use Rattle.std.specs.declared.alloc.AllocError.{AllocError}
 use Rattle.disk_model.specs.declared.change.Change.{Change}
 use Rattle.disk_model.specs.declared.change.NamedFile.{NamedFile}
-use Rattle.kernel_model.specs.Rows.{Effect}
-use Rattle.kernel_model.specs.State.{changed_by}
-use Rattle.kernel_model.specs.Steps.{set_slots}
+use Rattle.kernel_model.specs.Rows.{Effect, row, closing}
+use Rattle.kernel_model.specs.declared.carrier.Carrier.{Carrier}
 use Rattle.kernel_model.specs.declared.descriptor.Descriptor.{Descriptor}
+use Rattle.kernel_model.specs.declared.descriptor.PipeEnd.{PipeEnd}
 use Rattle.kernel_model.specs.declared.effect.Output.{Output}
+use Rattle.kernel_model.specs.declared.effect.PipeStep.{PipeStep}
 use Rattle.kernel_model.specs.declared.effect.Slot.{Slot}
+use Rattle.kernel_model.specs.declared.effect.TapeRead.{TapeRead}
+use Rattle.kernel_model.specs.declared.request.Request.{Request}
 use Rattle.kernel_model.specs.declared.request.Verdict.{Verdict}
+use Rattle.kernel_model.specs.declared.request.Verdict.TheVariants.{Waits, Replies, Ends}
 use Rattle.calls.specs.declared.plan.Plan.{Plan}
-use Rattle.calls.specs.Plans.{IsPlan, IsPossible, CarriesBytes, NamesFiles, HasNoBytes}
-use Rattle.calls.proofs.Edits.{HasOneEdit, IsBare, MayChange}
+use Rattle.calls.specs.Plans.{IsPlan, IsPossible, CarriesBytes, MayAllStep, OpensAlone, EditsPipesAlone, EditsAs}
+use Rattle.calls.specs.Shares.{shared_of}
+use Rattle.pipes.specs.Seen.{Seen}
+use Rattle.calls.proofs.Stepping.{drops-may, drops-open-none}
+use Rattle.calls.proofs.Sound.{Kept, IsFine, EditsLittle, EditsWhere, IsSound, row-sound}
 
-one_edit-of : (e : Effect) (plan : Plan) → IsPlan plan e → HasOneEdit e → (plan.change ≡ None) ⊎ (plan.output ≡ None)
-one_edit-of e plan is h =
-    let at_change = subst (λ (x : Option Change). (x ≡ None) ⊎ (e.output ≡ None)) (sym is.change) h in
-    subst (λ (x : Option Output). (plan.change ≡ None) ⊎ (x ≡ None)) (sym is.output) at_change
+-- the effect of which a plan speaks
+abbrev pub effect_of : Plan → Effect
+effect_of plan = record {
+  told = plan.told;
+  reads = plan.reads.items;
+  writes = plan.writes.items;
+  change = plan.change;
+  output = plan.output;
+  tape = plan.tape;
+  pipes = plan.pipes.items;
+  slots = plan.slots.items;
+  child = plan.child;
+  collects = plan.collects;
+}
 
-pub planned-one_edit : (r : Result Plan AllocError) (e : Effect) → HasOneEdit e → IfOk r (λ plan. IsPlan plan e)
-    → IfOk r (λ plan. (plan.change ≡ None) ⊎ (plan.output ≡ None))
-planned-one_edit (Ok plan) e h is = one_edit-of e plan is h
-planned-one_edit (Err why) e h is = tt
+is-effect : (plan : Plan) (e : Effect) → IsPlan plan e → e ≡ effect_of plan
+is-effect plan e is =
+    let e1 : Effect = record e { told = plan.told } in
+    let e2 : Effect = record e1 { reads = plan.reads.items } in
+    let e3 : Effect = record e2 { writes = plan.writes.items } in
+    let e4 : Effect = record e3 { change = plan.change } in
+    let e5 : Effect = record e4 { output = plan.output } in
+    let e6 : Effect = record e5 { tape = plan.tape } in
+    let e7 : Effect = record e6 { pipes = plan.pipes.items } in
+    let e8 : Effect = record e7 { slots = plan.slots.items } in
+    let e9 : Effect = record e8 { child = plan.child } in
+    ap (λ (x : Verdict). record e { told = x }) (sym is.told)
+    ∙ ap (λ (x : List Carrier). record e1 { reads = x }) (sym is.reads)
+    ∙ ap (λ (x : List Carrier). record e2 { writes = x }) (sym is.writes)
+    ∙ ap (λ (x : Option Change). record e3 { change = x }) (sym is.change)
+    ∙ ap (λ (x : Option Output). record e4 { output = x }) (sym is.output)
+    ∙ ap (λ (x : Option TapeRead). record e5 { tape = x }) (sym is.tape)
+    ∙ ap (λ (x : List PipeStep). record e6 { pipes = x }) (sym is.pipes)
+    ∙ ap (λ (x : List Slot). record e7 { slots = x }) (sym is.slots)
+    ∙ ap (λ (x : Option ℕ). record e8 { child = x }) (sym is.child)
+    ∙ ap (λ (x : Option ℕ). record e9 { collects = x }) (sym is.collects)
 
-pub planned-bare : (r : Result Plan AllocError) (e : Effect) → IsBare e → IfOk r (λ plan. IsPlan plan e)
-    → IfOk r (λ plan. HasNoBytes plan.told)
-planned-bare (Ok plan) e h is = subst (λ (x : Verdict). HasNoBytes x) (sym is.told) h
-planned-bare (Err why) e h is = tt
+-- a plan that says a row, for a caller with these descriptors, is as sound as the row
+pub planned : (r : Result Plan AllocError) (k : Kept) (p : ℕ) (asked : Request) (ds : List (Option Descriptor)) → ds ≡ k.descriptors → IsFine k asked
+    → IfOk r (λ plan. IsPlan plan (row (shared_of k.statuses k.files k.seen k.tapes) p ds k.children asked))
+    → IfOk r (λ plan. IsSound k asked (effect_of plan))
+planned (Err why) k p asked ds same fine is = tt
+planned (Ok plan) k p asked ds same fine is =
+    let e = row (shared_of k.statuses k.files k.seen k.tapes) p k.descriptors k.children asked in
+    let at : IsPlan plan e =
+    subst (λ (xs : List (Option Descriptor)). IsPlan plan (row (shared_of k.statuses k.files k.seen k.tapes) p xs k.children asked)) same is in
+    subst (IsSound k asked) (is-effect plan e at) (row-sound k p asked fine)
 
-pub planned-possible : (r : Result Plan AllocError) (files : List NamedFile) (e : Effect) → IfSome e.change (IsPossible files) → IfOk r (λ plan. IsPlan plan e)
-    → IfOk r (λ plan. IfSome plan.change (IsPossible files))
-planned-possible (Ok plan) files e h is = subst (λ (x : Option Change). IfSome x (IsPossible files)) (sym is.change) h
-planned-possible (Err why) files e h is = tt
+-- what follows for every plan follows for one that may be refused
+pub if_planned : (r : Result Plan AllocError) (P Q : Plan → Type 0) → ((plan : Plan) → P plan → Q plan) → IfOk r P → IfOk r Q
+if_planned (Err why) P Q more h = tt
+if_planned (Ok plan) P Q more h = more plan h
 
-both : (files : List NamedFile) (c : Option Change) → IfSome c (λ x. CarriesBytes x → IsPossible files x) → IfSome c CarriesBytes → IfSome c (IsPossible files)
-both files None h bytes = tt
-both files (Some c) h bytes = h bytes
+both_planned : (files : List NamedFile) (c : Option Change) → IfSome c (λ x. CarriesBytes x → IsPossible files x) → IfSome c CarriesBytes → IfSome c (IsPossible files)
+both_planned files None h bytes = tt
+both_planned files (Some c) h bytes = h bytes
 
-pub carried-possible : (r : Result Plan AllocError) (files : List NamedFile) (e : Effect) → MayChange files e → IfOk r (λ plan. IsPlan plan e)
-    → IfOk r (λ plan. IfSome plan.change CarriesBytes) → IfOk r (λ plan. IfSome plan.change (IsPossible files))
-carried-possible (Ok plan) files e h is bytes =
-    both files plan.change (subst (λ (x : Option Change). IfSome x (λ c. CarriesBytes c → IsPossible files c)) (sym is.change) h) bytes
-carried-possible (Err why) files e h is bytes = tt
+-- a change that carries bytes is possible
+pub carried : (r : Result Plan AllocError) (k : Kept) (asked : Request) → IfOk r (λ plan. IsSound k asked (effect_of plan))
+    → IfOk r (λ plan. IfSome plan.change CarriesBytes) → IfOk r (λ plan. IfSome plan.change (IsPossible k.files))
+carried (Err why) k asked sound bytes = tt
+carried (Ok plan) k asked sound bytes = both_planned k.files plan.change sound.possible bytes
 
-named-of : (files : List NamedFile) (ds : List (Option Descriptor)) (e : Effect) (plan : Plan) → IsPlan plan e
-    → NamesFiles (length (changed_by files e.change)) (set_slots ds e.slots)
-    → NamesFiles (length (changed_by files plan.change)) (set_slots ds (option_to_list plan.slot))
-named-of files ds e plan is h =
-    let at_change = subst (λ (x : Option Change). NamesFiles (length (changed_by files x)) (set_slots ds e.slots)) (sym is.change) h in
-    subst (λ (x : List Slot). NamesFiles (length (changed_by files plan.change)) (set_slots ds x)) (sym is.slots) at_change
+alone : (plan : Plan) → EditsLittle (effect_of plan) → EditsPipesAlone plan
+alone plan h = record { change = h.change; output = h.output; tape = h.tape; slots = h.slots; child = h.child; collects = h.collects }
 
-pub planned-named : (r : Result Plan AllocError) (files : List NamedFile) (ds : List (Option Descriptor)) (e : Effect)
-    → NamesFiles (length (changed_by files e.change)) (set_slots ds e.slots) → IfOk r (λ plan. IsPlan plan e)
-    → IfOk r (λ plan. NamesFiles (length (changed_by files plan.change)) (set_slots ds (option_to_list plan.slot)))
-planned-named (Ok plan) files ds e h is = named-of files ds e plan is h
-planned-named (Err why) files ds e h is = tt
+-- what a plan edits, by what it tells
+pub edits-as : (plan : Plan) (told : Verdict) → EditsWhere told (effect_of plan) → EditsAs told plan
+edits-as plan Waits h = (alone plan h.0, h.1)
+edits-as plan (Replies reply) h = tt
+edits-as plan (Ends status) h = alone plan h
+
+-- a plan that ends its caller, with these ends of pipes
+pub ending-edits : (plan : Plan) (ends : List PipeEnd) (status : ℕ) → IsPlan plan (closing ends (Ends status)) → EditsAs plan.told plan
+ending-edits plan ends status is =
+    subst (λ (told : Verdict). EditsAs told plan) (sym is.told)
+    (record { change = is.change; output = is.output; tape = is.tape; slots = is.slots; child = is.child; collects = is.collects })
+
+pub ending-steps : (plan : Plan) (ends : List PipeEnd) (status : ℕ) → IsPlan plan (closing ends (Ends status)) → (seen : List Seen) → MayAllStep seen plan.pipes.items
+ending-steps plan ends status is seen = subst (MayAllStep seen) (sym is.pipes) (drops-may ends seen)
+
+pub ending-opens : (plan : Plan) (ends : List PipeEnd) (status : ℕ) → IsPlan plan (closing ends (Ends status)) → OpensAlone plan.pipes.items
+ending-opens plan ends status is = subst OpensAlone (sym is.pipes) (inr (drops-open-none ends))

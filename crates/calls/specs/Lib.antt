@@ -1,4 +1,6 @@
 -- The definitions.
 pub mod Errors
 pub mod Wholes
+pub mod Places
+pub mod Shares
 pub mod Plans

@@ -1,15 +1,26 @@
 -- What the code plans for a call, against the table of calls, and what a kernel may rest on in a plan.
-use Rattle.std.specs.Prelude.{◌≡◌, ℕ, ◌<◌, List, [], Option, Some, None, option_to_list}
+use Rattle.std.specs.Prelude.{◌≡◌, ℕ, ◌+◌, ◌<◌, ◌≤◌, ◌⊎◌, true, List, [], ◌∷◌, length, drop, slice_get, Option, Some, None, IfSome}
 use Rattle.std.specs.List.{AllByRecursion}
 use Rattle.disk_model.specs.declared.change.Change.{Change}
 use Rattle.disk_model.specs.declared.change.Change.TheVariants as change
 use Rattle.disk_model.specs.declared.change.NamedFile.{NamedFile}
 use Rattle.disk_model.specs.Files.{IsFormed, MayCome}
-use Rattle.kernel_model.specs.Rows.{Effect}
+use Rattle.machine_model.specs.Access.{is_writable}
+use Rattle.machine_model.specs.Memory.{Memory}
+use Rattle.kernel_model.specs.Rows.{Effect, most_processes}
+use Rattle.kernel_model.specs.State.{TapeState}
 use Rattle.kernel_model.specs.declared.descriptor.Descriptor.{Descriptor}
 use Rattle.kernel_model.specs.declared.descriptor.Descriptor.TheVariants as descriptor
+use Rattle.kernel_model.specs.declared.descriptor.PipeEnd.TheVariants as pipe_end
+use Rattle.kernel_model.specs.declared.effect.Output.{Output}
+use Rattle.kernel_model.specs.declared.effect.PipeStep.{PipeStep}
+use Rattle.kernel_model.specs.declared.effect.PipeStep.TheVariants as pipe_step
+use Rattle.kernel_model.specs.declared.effect.Slot.{Slot}
+use Rattle.kernel_model.specs.declared.effect.TapeRead.{TapeRead}
 use Rattle.kernel_model.specs.declared.request.Verdict.{Verdict}
 use Rattle.kernel_model.specs.declared.request.Verdict.TheVariants.{Waits, Replies, Ends}
+use Rattle.pipes.specs.Seen.{Seen}
+use Rattle.pipes.specs.Stepping.{seen_after, MayStep}
 use Rattle.calls.specs.declared.plan.Plan.{Plan}
 
 -- the plan says the same as this row of the table
@@ -19,18 +30,50 @@ pub record IsPlan (plan : Plan) (effect : Effect) : Type 0 where
   pub writes : plan.writes.items ≡ effect.writes
   pub change : plan.change ≡ effect.change
   pub output : plan.output ≡ effect.output
-  pub slots : option_to_list plan.slot ≡ effect.slots
+  pub tape : plan.tape ≡ effect.tape
+  pub pipes : plan.pipes.items ≡ effect.pipes
+  pub slots : plan.slots.items ≡ effect.slots
+  pub child : plan.child ≡ effect.child
+  pub collects : plan.collects ≡ effect.collects
 
 -- a descriptor that stands for a file stands for one of so many
 abbrev pub NamesFile : ℕ → Option Descriptor → Type 0
 NamesFile count (Some (descriptor.File file offset writes)) = file < count
 NamesFile count (Some (descriptor.Tape tape)) = Unit {0}
 NamesFile count (Some (descriptor.Terminal terminal)) = Unit {0}
+NamesFile count (Some (descriptor.Pipe end)) = Unit {0}
 NamesFile count None = Unit {0}
 
 -- each of these descriptors that stands for a file stands for one of so many
 abbrev pub NamesFiles : ℕ → List (Option Descriptor) → Type 0
 NamesFiles count ds = AllByRecursion (NamesFile count) ds
+
+-- a descriptor that stands for an end of a pipe stands for one of so many pipes
+abbrev pub NamesPipe : ℕ → Option Descriptor → Type 0
+NamesPipe count (Some (descriptor.Pipe (pipe_end.Read k))) = k < count
+NamesPipe count (Some (descriptor.Pipe (pipe_end.Write k))) = k < count
+NamesPipe count (Some (descriptor.File file offset writes)) = Unit {0}
+NamesPipe count (Some (descriptor.Tape tape)) = Unit {0}
+NamesPipe count (Some (descriptor.Terminal terminal)) = Unit {0}
+NamesPipe count None = Unit {0}
+
+-- each of these descriptors that stands for an end of a pipe stands for one of so many pipes
+abbrev pub NamesPipes : ℕ → List (Option Descriptor) → Type 0
+NamesPipes count ds = AllByRecursion (NamesPipe count) ds
+
+-- the pipes, as they are seen, after these steps, the first of them first
+abbrev pub all_seen : List Seen → List PipeStep → List Seen
+all_seen seen [] = seen
+all_seen seen (step ∷ steps) = all_seen (seen_after seen step) steps
+
+-- for each of these steps there is room where it comes
+abbrev pub MayAllStep : List Seen → List PipeStep → Type 0
+MayAllStep seen [] = Unit {0}
+MayAllStep seen (step ∷ steps) = MayStep seen step × MayAllStep (seen_after seen step) steps
+
+-- the next process by number, where there are so many, and not too many
+abbrev pub IsNext : ℕ → ℕ → Type 0
+IsNext count child = (child ≡ count + 1) × (count < most_processes)
 
 -- the numbers that a write carries are bytes
 abbrev pub CarriesBytes : Change → Type 0
@@ -42,8 +85,51 @@ CarriesBytes (change.Empty file) = Unit {0}
 abbrev pub IsPossible : List NamedFile → Change → Type 0
 IsPossible files c = IsFormed c × MayCome files c
 
--- a reply gives no bytes
-abbrev pub HasNoBytes : Verdict → Type 0
-HasNoBytes Waits = Unit {0}
-HasNoBytes (Replies reply) = (reply.bytes ≡ []) × (reply.at ≡ 0)
-HasNoBytes (Ends status) = Unit {0}
+-- so many bytes are left of the tape that they are read from
+abbrev pub AreLeft : List TapeState → TapeRead → Type 0
+AreLeft tapes r = IfSome (slice_get tapes r.tape) (λ tape. r.count ≤ length (drop tape.place tape.bytes))
+
+-- of a change, an output and a tape that is read, at most one is there
+pub record AtMostOne (change : Option Change) (output : Option Output) (tape : Option TapeRead) : Type 0 where
+  pub change_or_output : (change ≡ None) ⊎ (output ≡ None)
+  pub change_or_tape : (change ≡ None) ⊎ (tape ≡ None)
+  pub output_or_tape : (output ≡ None) ⊎ (tape ≡ None)
+
+-- of descriptors that are set, a child that is made and one that is collected, at most one is there
+pub record AtMostOneEntry (slots : List Slot) (child collects : Option ℕ) : Type 0 where
+  pub slots_or_child : (slots ≡ []) ⊎ (child ≡ None)
+  pub slots_or_collects : (slots ≡ []) ⊎ (collects ≡ None)
+  pub child_or_collects : (child ≡ None) ⊎ (collects ≡ None)
+
+-- a step of the pipes that opens none
+abbrev pub OpensNone : PipeStep → Type 0
+OpensNone pipe_step.Open = ⊥
+OpensNone (pipe_step.Put k bytes) = Unit {0}
+OpensNone (pipe_step.Take k count) = Unit {0}
+OpensNone (pipe_step.Add end) = Unit {0}
+OpensNone (pipe_step.Drop end) = Unit {0}
+
+-- either one pipe is opened, and nothing else happens to the pipes, or none is
+abbrev pub OpensAlone : List PipeStep → Type 0
+OpensAlone steps = (steps ≡ pipe_step.Open ∷ []) ⊎ AllByRecursion OpensNone steps
+
+-- nothing changes but the pipes
+pub record EditsPipesAlone (plan : Plan) : Type 0 where
+  pub change : plan.change ≡ None
+  pub output : plan.output ≡ None
+  pub tape : plan.tape ≡ None
+  pub slots : plan.slots.items ≡ []
+  pub child : plan.child ≡ None
+  pub collects : plan.collects ≡ None
+
+-- a plan that waits changes nothing, and one that ends its process nothing but the pipes
+abbrev pub EditsAs : Verdict → Plan → Type 0
+EditsAs Waits plan = EditsPipesAlone plan × (plan.pipes.items ≡ [])
+EditsAs (Replies reply) plan = Unit {0}
+EditsAs (Ends status) plan = EditsPipesAlone plan
+
+-- the bytes of a reply may be written at its place
+abbrev pub MayBePlaced : Memory → Verdict → Type 0
+MayBePlaced memory Waits = Unit {0}
+MayBePlaced memory (Replies reply) = is_writable memory reply.at (length reply.bytes) ≡ true
+MayBePlaced memory (Ends status) = Unit {0}

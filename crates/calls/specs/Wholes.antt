@@ -2,7 +2,7 @@
 use Rattle.std.specs.Prelude.{◌≡◌, ℕ, ◌≤◌, length, List, Option, IfSome}
 use Rattle.kernel_model.specs.Requests.{most_bytes, longest_name}
 use Rattle.kernel_model.specs.declared.request.Request.{Request}
-use Rattle.kernel_model.specs.declared.request.Request.TheVariants.{Exit, Write, Open, Unknown}
+use Rattle.kernel_model.specs.declared.request.Request.TheVariants.{Exit, Write, Read, Open, Close, Pipe, Fork, Wait, GetPid, Seek, Sync, Unknown}
 
 -- bytes that are there are n, and n is at most so many
 abbrev pub AreWhole : ℕ → ℕ → Option (List ℕ) → Type 0
@@ -12,5 +12,13 @@ AreWhole most n bytes = IfSome bytes (λ bs. (length bs ≡ n) × (n ≤ most))
 abbrev pub IsWhole : Request → Type 0
 IsWhole (Exit status) = Unit {0}
 IsWhole (Write fd n bytes) = AreWhole most_bytes n bytes
+IsWhole (Read fd at n fits) = Unit {0}
 IsWhole (Open n mode name) = AreWhole longest_name n name
+IsWhole (Close fd) = Unit {0}
+IsWhole (Pipe at fits) = Unit {0}
+IsWhole Fork = Unit {0}
+IsWhole (Wait at fits) = Unit {0}
+IsWhole GetPid = Unit {0}
+IsWhole (Seek fd offset) = Unit {0}
+IsWhole Sync = Unit {0}
 IsWhole Unknown = Unit {0}

@@ -7,11 +7,13 @@ ghost use Rattle.calls.specs.Errors.{code_of};
 pub enum Errno {
     NoSuchFile = 2,
     BadDescriptor = 9,
+    NoChild = 10,
     BadAddress = 14,
     BadArgument = 22,
     TableFull = 23,
     TooManyDescriptors = 24,
     FileTooLarge = 27,
+    NoReader = 32,
     NoSuchCall = 38,
 }
 

@@ -1,17 +1,25 @@
 //! The calls of the kernel: what a process asks for, and what that comes to.
 #![tactic(auto)]
 
-mod descriptors;
+mod ends;
 mod errno;
+mod fork;
 mod open;
+mod pipe;
 mod plan;
+mod read;
 mod request;
+mod seek;
+mod tapes;
 #[cfg(test)]
 mod tests;
+mod told;
+mod wait;
 mod write;
 
-pub use descriptors::Descriptors;
+pub use ends::plan_end;
 pub use errno::Errno;
-pub use kernel_model::{Descriptor, Output, Request, Slot, Verdict};
-pub use plan::{Plan, plan_call, plan_end};
+pub use kernel_model::{Descriptor, Output, PipeStep, Request, Slot, TapeRead, Verdict};
+pub use plan::{Plan, plan_call};
 pub use request::request_of;
+pub use tapes::TapeTable;

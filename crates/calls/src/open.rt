@@ -1,10 +1,9 @@
 //! The row of open.
 ghost use Rattle.std.specs.Prelude.{◌≡◌, ◌≤◌, ◌<◌, ◌==◌, length, IfOk};
 ghost use Rattle.std.specs.List.{list_all};
-ghost use Rattle.kernel_model.specs.Rows.{is_name_byte, file_named, names_of, only, number, opened, open_emptied, open_there, open_made, open_free, row_open};
+ghost use Rattle.kernel_model.specs.Rows.{is_name_byte, file_named, names_of, only, number, opened, open_emptied, open_there, open_new, open_made, open_free, row_open};
 ghost use Rattle.calls.specs.Plans.{IsPlan};
 
-use crate::descriptors::Descriptors;
 use crate::errno::Errno;
 use crate::plan::Plan;
 use crate::request::LONGEST_NAME;
@@ -12,6 +11,7 @@ use byte_list::Bytes;
 use disk_model::Change;
 use files::FileTable;
 use kernel_model::{Carrier, Descriptor, Slot};
+use processes::Descriptors;
 use std::alloc::{AllocError, Global};
 
 /// The most files.
@@ -99,20 +99,21 @@ fn open_free(
 }
 
 /// A reply of a descriptor that stands for the start of a file.
-fn opened(alloc: Global, fd: usize, file: u16, writes: bool) -> Plan
+fn opened(alloc: Global, fd: usize, file: u16, writes: bool) -> Result<Plan, AllocError>
     requires { fd < 16 }
-    ensures { IsPlan result (record (only (number fd)) { slots = opened fd file writes }) }
+    ensures { IfOk result
+        (λ plan. IsPlan plan (record (only (number fd)) { slots = opened fd file writes })) }
 {
     let mut plan = Plan::number(alloc, fd as u32);
-    plan.slot = Some(Slot {
+    plan.slots.push(Slot {
         fd,
         holds: Some(Descriptor::File {
             file,
             offset: 0,
             writes,
         }),
-    });
-    plan
+    })?;
+    Ok(plan)
 }
 
 /// A file that is there is opened as it stands.
@@ -120,7 +121,7 @@ fn open_there(alloc: Global, fd: usize, file: u16, writes: bool) -> Result<Plan,
     requires { fd < 16 }
     ensures { IfOk result (λ plan. IsPlan plan (open_there fd file writes)) }
 {
-    let mut plan = opened(alloc, fd, file, writes);
+    let mut plan = opened(alloc, fd, file, writes)?;
     plan.reads.push(Carrier::Names)?;
     Ok(plan)
 }
@@ -130,7 +131,7 @@ fn open_emptied(alloc: Global, fd: usize, file: u16) -> Result<Plan, AllocError>
     requires { fd < 16 }
     ensures { IfOk result (λ plan. IsPlan plan (open_emptied fd file)) }
 {
-    let mut plan = opened(alloc, fd, file, true);
+    let mut plan = opened(alloc, fd, file, true)?;
     plan.reads.push(Carrier::Names)?;
     plan.reads.push(Carrier::File(file))?;
     plan.writes.push(Carrier::File(file))?;
@@ -149,8 +150,15 @@ fn open_made(alloc: Global, fd: usize, count: usize, name: Bytes) -> Result<Plan
         plan.writes.push(Carrier::Names)?;
         return Ok(plan);
     }
-    let file = count as u16;
-    let mut plan = opened(alloc, fd, file, true);
+    open_new(alloc, fd, count as u16, name)
+}
+
+/// A new file of this number is opened to be written.
+fn open_new(alloc: Global, fd: usize, file: u16, name: Bytes) -> Result<Plan, AllocError>
+    requires { fd < 16 }
+    ensures { IfOk result (λ plan. IsPlan plan (open_new fd file name)) }
+{
+    let mut plan = opened(alloc, fd, file, true)?;
     plan.reads.push(Carrier::Names)?;
     plan.reads.push(Carrier::File(file))?;
     plan.writes.push(Carrier::Names)?;

@@ -1,25 +1,40 @@
 //! What a call comes to, before anything is changed: the table of calls.
-ghost use Rattle.std.specs.Prelude.{◌≡◌, ◌≤◌, ◌⊎◌, length, option_to_list, IfOk, IfSome};
-ghost use Rattle.kernel_model.specs.Rows.{row, row_end, only, number, failure};
-ghost use Rattle.kernel_model.specs.State.{changed_by};
+ghost use Rattle.std.specs.Prelude.{◌≡◌, ◌≤◌, ◌<◌, ◌+◌, ◌^◌, ℕ, length, IfOk, IfSome};
+ghost use Rattle.std.specs.List.{AllByRecursion, Contains};
+ghost use Rattle.disk_model.specs.declared.change.NamedFile.{NamedFile};
+ghost use Rattle.machine_model.specs.States.{State};
+ghost use Rattle.kernel_model.specs.Requests.{request_of};
+ghost use Rattle.kernel_model.specs.Rows.{row, only, number, failure};
+ghost use Rattle.kernel_model.specs.State.{Shared, changed_by};
 ghost use Rattle.kernel_model.specs.Steps.{set_slots};
+ghost use Rattle.pipes.specs.Stepping.{HasAtMost};
+ghost use Rattle.processes.specs.Parts.{part_at, descriptors_in, children_in, statuses_of};
 ghost use Rattle.calls.specs.Errors.{code_of};
+ghost use Rattle.calls.specs.Shares.{shared_of, IsKept};
 ghost use Rattle.calls.specs.Wholes.{IsWhole};
-ghost use Rattle.calls.specs.Plans.{IsPlan, IsPossible, NamesFiles, HasNoBytes};
+ghost use Rattle.calls.specs.Plans.{IsPlan, IsPossible, CarriesBytes, NamesFiles, NamesPipes, all_seen, MayAllStep, IsNext, AreLeft, AtMostOne, AtMostOneEntry, OpensAlone, EditsAs, MayBePlaced};
 
-use crate::descriptors::Descriptors;
+use crate::ends::{are_few, close, plan_end};
 use crate::errno::Errno;
+use crate::fork::fork;
 use crate::open::open;
+use crate::pipe::pipe;
+use crate::read::{Place, read};
+use crate::seek::seek;
+use crate::tapes::TapeTable;
+use crate::told::number;
+use crate::wait::wait;
 use crate::write::write;
-use byte_list::Bytes;
 use disk_model::Change;
 use files::FileTable;
-use kernel_model::{Carrier, Output, Request, Slot, Verdict};
-use machine_model::Reply;
+use kernel_model::{Carrier, Output, PipeStep, Request, Slot, TapeRead, Verdict};
+use pipes::PipeTable;
+use processes::{Descriptors, ProcTable};
 use std::alloc::{AllocError, Global};
 
 /// What a call comes to: what the caller is told, the carriers that it reads and writes beside the caller's own, and what
-/// changes: the files, a terminal, or a descriptor of the caller.
+/// changes: the files, a terminal, a tape's place, the pipes, descriptors of the caller, and of its children one that is
+/// made or one that is collected, by its number.
 #[derive(Drop)]
 pub struct Plan {
     pub told: Verdict,
@@ -27,12 +42,16 @@ pub struct Plan {
     pub writes: Vec<Carrier>,
     pub change: Option<Change>,
     pub output: Option<Output>,
-    pub slot: Option<Slot>,
+    pub tape: Option<TapeRead>,
+    pub pipes: Vec<PipeStep>,
+    pub slots: Vec<Slot>,
+    pub child: Option<u32>,
+    pub collects: Option<u32>,
 }
 
 impl Plan {
     /// The caller is told this, and nothing else comes of it.
-    fn only(alloc: Global, told: Verdict) -> Plan
+    pub(crate) fn only(alloc: Global, told: Verdict) -> Plan
         ensures { IsPlan result (only told) }
     {
         Plan {
@@ -41,7 +60,11 @@ impl Plan {
             writes: Vec::new(alloc),
             change: None,
             output: None,
-            slot: None,
+            tape: None,
+            pipes: Vec::new(alloc),
+            slots: Vec::new(alloc),
+            child: None,
+            collects: None,
         }
     }
 
@@ -49,8 +72,7 @@ impl Plan {
     pub(crate) fn number(alloc: Global, a0: u32) -> Plan
         ensures { IsPlan result (only (number a0)) }
     {
-        let bytes = Bytes::empty(alloc);
-        Plan::only(alloc, Verdict::Replies(Reply { a0, at: 0, bytes }))
+        Plan::only(alloc, number(alloc, a0))
     }
 
     /// A reply of an error, which changes nothing.
@@ -61,36 +83,111 @@ impl Plan {
     }
 }
 
-/// The end of a process with a status, by a call or a trap.
-pub fn plan_end(alloc: Global, status: u32) -> Plan
-    ensures { IsPlan result (row_end status) }
+/// The descriptors of a process.
+fn descriptors_of(processes: &ProcTable, pid: u32) -> &Descriptors
+    requires from_1 { 0 < pid }
+    requires there { pid ≤ length processes.now.parts }
+    ensures value { result.now ≡ descriptors_in (part_at processes.now.parts pid) }
+    ensures few { length result.now ≤ 16 }
 {
-    Plan::only(alloc, Verdict::Ends(status))
+    let descriptors = processes.descriptors(pid).unwrap();
+    are_few(descriptors);
+    descriptors
 }
 
-/// What the request of a process comes to.
-pub fn plan_call(
+/// The row of a request.
+fn plan_row(
     alloc: Global,
     files: &FileTable,
+    pipes: &PipeTable,
+    tapes: &TapeTable,
+    processes: &ProcTable,
+    pid: u32,
     descriptors: &Descriptors,
     request: Request,
 ) -> Result<Plan, AllocError>
-    requires files { length files.now ≤ 32 }
+    requires few { length files.now ≤ 32 }
+    requires short { AllByRecursion (λ (f : NamedFile). length f.bytes ≤ 16384) files.now }
     requires whole { IsWhole request }
-    requires named { NamesFiles (length files.now) descriptors.now }
-    ensures row { IfOk result
-        (λ plan. IsPlan plan (row (record { files = files.now }) descriptors.now request)) }
-    ensures one_edit { IfOk result (λ plan. (plan.change ≡ None) ⊎ (plan.output ≡ None)) }
-    ensures possible { IfOk result (λ plan. IfSome plan.change (IsPossible files.now)) }
-    ensures named { IfOk result (λ plan.
-        NamesFiles (length (changed_by files.now plan.change))
-        (set_slots descriptors.now (option_to_list plan.slot))) }
-    ensures no_bytes { IfOk result (λ plan. HasNoBytes plan.told) }
+    ensures row { IfOk result (λ plan. IsPlan plan
+        (row (shared_of (statuses_of processes.now.parts) files.now pipes.now tapes.now) pid descriptors.now
+        (children_in (part_at processes.now.parts pid)) request)) }
+    ensures carries { IfOk result (λ plan. IfSome plan.change CarriesBytes) }
 {
     match request {
-        Request::Exit { status } => Ok(plan_end(alloc, status % 256)),
-        Request::Write { fd, n, bytes } => write(alloc, descriptors, fd, n, bytes),
+        Request::Exit { status } => plan_end(alloc, descriptors, status % 256),
+        Request::Write { fd, n, bytes } => write(alloc, pipes, descriptors, fd, n, bytes),
+        Request::Read { fd, at, n, fits } => {
+            read(
+                alloc,
+                files,
+                pipes,
+                tapes,
+                descriptors,
+                fd,
+                Place { at, n, fits },
+            )
+        }
         Request::Open { n, mode, name } => open(alloc, files, descriptors, n, mode, name),
+        Request::Close { fd } => close(alloc, descriptors, fd),
+        Request::Pipe { at, fits } => pipe(alloc, pipes, descriptors, at, fits),
+        Request::Fork => fork(alloc, processes, descriptors),
+        Request::Wait { at, fits } => wait(alloc, processes, pid, at, fits),
+        Request::GetPid => Ok(Plan::number(alloc, pid)),
+        Request::Seek { fd, offset } => seek(alloc, descriptors, fd, offset),
+        Request::Sync => Ok(Plan::number(alloc, 0)),
         Request::Unknown => Ok(Plan::failure(alloc, Errno::NoSuchCall)),
     }
+}
+
+/// What a request of process `pid` comes to; nothing changes. Where a machine asks this request, the bytes of the reply may
+/// be written at their place in that machine. Refused for want of memory alone.
+pub fn plan_call(
+    alloc: Global,
+    files: &FileTable,
+    pipes: &PipeTable,
+    tapes: &TapeTable,
+    processes: &ProcTable,
+    pid: u32,
+    request: Request,
+) -> Result<Plan, AllocError>
+    requires from_1 { 0 < pid }
+    requires there { pid ≤ length processes.now.parts }
+    requires few { length files.now ≤ 32 }
+    requires short { AllByRecursion (λ (f : NamedFile). length f.bytes ≤ 16384) files.now }
+    requires whole { IsWhole request }
+    requires named { NamesFiles (length files.now) (descriptors_in (part_at processes.now.parts pid)) }
+    ensures row { (s : Shared) → IsKept s (statuses_of processes.now.parts) files.now pipes.now tapes.now
+        → IfOk result (λ plan. IsPlan plan (row s pid (descriptors_in (part_at processes.now.parts pid))
+        (children_in (part_at processes.now.parts pid)) request)) }
+    ensures one_edit { IfOk result (λ plan. AtMostOne plan.change plan.output plan.tape) }
+    ensures one_entry { IfOk result (λ plan. AtMostOneEntry plan.slots.items plan.child plan.collects) }
+    ensures opens { IfOk result (λ plan. OpensAlone plan.pipes.items) }
+    ensures edits { IfOk result (λ plan. EditsAs plan.told plan) }
+    ensures possible { IfOk result (λ plan. IfSome plan.change (IsPossible files.now)) }
+    ensures named { IfOk result (λ plan. NamesFiles (length (changed_by files.now plan.change))
+        (set_slots (descriptors_in (part_at processes.now.parts pid)) plan.slots.items)) }
+    ensures left { IfOk result (λ plan. IfSome plan.tape (AreLeft tapes.now)) }
+    ensures steps { (s : Shared) (n : ℕ) → IsKept s (statuses_of processes.now.parts) files.now pipes.now tapes.now
+        → AllByRecursion (HasAtMost n) s.pipes → n + 16 < 2 ^ 64
+        → IfOk result (λ plan. MayAllStep pipes.now plan.pipes.items) }
+    ensures pipes { NamesPipes (length pipes.now) (descriptors_in (part_at processes.now.parts pid))
+        → IfOk result (λ plan. NamesPipes (length (all_seen pipes.now plan.pipes.items))
+        (set_slots (descriptors_in (part_at processes.now.parts pid)) plan.slots.items)) }
+    ensures child { IfOk result (λ plan. IfSome plan.child (IsNext (length processes.now.parts))) }
+    ensures collects { IfOk result (λ plan. IfSome plan.collects (Contains (children_in (part_at processes.now.parts pid)))) }
+    ensures place { IfOk result
+        (λ plan. (s : State) → request ≡ request_of s → MayBePlaced s.hart.memory plan.told) }
+{
+    let descriptors = descriptors_of(processes, pid);
+    plan_row(
+        alloc,
+        files,
+        pipes,
+        tapes,
+        processes,
+        pid,
+        descriptors,
+        request,
+    )
 }

@@ -1,6 +1,6 @@
 //! The call at which a machine stands.
 ghost use Rattle.std.specs.Prelude.{◌≡◌, IfOk};
-ghost use Rattle.kernel_model.specs.Requests.{read_bytes, request_of as request_at};
+ghost use Rattle.kernel_model.specs.Requests.{read_bytes, may_be_placed, most_bytes, request_of as request_at};
 ghost use Rattle.calls.specs.Wholes.{AreWhole, IsWhole};
 
 use byte_list::Bytes;
@@ -12,6 +12,12 @@ use std::alloc::{AllocError, Global};
 
 /// The most bytes that one call moves.
 pub const MOST_BYTES: u32 = 1024;
+
+/// The bytes of two words, as which a pipe's descriptors are written.
+const PAIR_SIZE: u32 = 8;
+
+/// The bytes of a word, as which a child's status is written.
+const WORD_SIZE: u32 = 4;
 
 /// The longest name of a file, in bytes.
 pub const LONGEST_NAME: u32 = 32;
@@ -37,6 +43,13 @@ fn named_bytes(
     }
 }
 
+/// Whether n bytes that a call gives are not too many, and the process may write them at an address.
+fn may_be_placed(machine: &Machine, at: u32, n: u32) -> bool
+    ensures { result ≡ may_be_placed machine.now.hart.memory most_bytes at n }
+{
+    n <= MOST_BYTES && machine.space().writable(at, n)
+}
+
 /// The call that the registers name: its number in a7, its arguments in a0 to a2, with the bytes that it names. Refused
 /// for want of memory alone.
 pub fn request_of(alloc: Global, machine: &Machine) -> Result<Request, AllocError>
@@ -53,11 +66,30 @@ pub fn request_of(alloc: Global, machine: &Machine) -> Result<Request, AllocErro
             n: a2,
             bytes: named_bytes(alloc, machine, a1, a2, MOST_BYTES)?,
         }),
+        3 => Ok(Request::Read {
+            fd: a0,
+            at: a1,
+            n: a2,
+            fits: may_be_placed(machine, a1, a2),
+        }),
         4 => Ok(Request::Open {
             n: a1,
             mode: a2,
             name: named_bytes(alloc, machine, a0, a1, LONGEST_NAME)?,
         }),
+        5 => Ok(Request::Close { fd: a0 }),
+        6 => Ok(Request::Pipe {
+            at: a0,
+            fits: machine.space().writable(a0, PAIR_SIZE),
+        }),
+        7 => Ok(Request::Fork),
+        8 => Ok(Request::Wait {
+            at: a0,
+            fits: a0 == 0 || machine.space().writable(a0, WORD_SIZE),
+        }),
+        9 => Ok(Request::GetPid),
+        10 => Ok(Request::Seek { fd: a0, offset: a1 }),
+        11 => Ok(Request::Sync),
         _ => Ok(Request::Unknown),
     }
 }

@@ -1,22 +1,26 @@
 //! The row of write.
-ghost use Rattle.std.specs.Prelude.{◌≡◌, ◌≤◌, ◌<◌, length, IfOk, IfSome};
+ghost use Rattle.std.specs.Prelude.{◌≡◌, ◌≤◌, ◌<◌, [], length, slice_get, map, IfOk, IfSome};
 ghost use Rattle.std.specs.List.{AllByRecursion};
 ghost use Rattle.kernel_model.specs.Requests.{most_bytes};
-ghost use Rattle.kernel_model.specs.Rows.{descriptor_at, may_write, write_file, write_to, row_write};
+ghost use Rattle.kernel_model.specs.Rows.{descriptor_at, may_write, write_file, put_some, write_pipe, write_to, row_write};
 ghost use Rattle.calls.specs.Plans.{IsPlan, CarriesBytes};
+ghost use Rattle.calls.specs.Shares.{pipe_of, things};
 ghost use Rattle.calls.specs.Wholes.{AreWhole};
 
-use crate::descriptors::Descriptors;
+use crate::ends::on_pipe;
 use crate::errno::Errno;
 use crate::plan::Plan;
 use crate::request::MOST_BYTES;
+use crate::told::number;
 use byte_list::Bytes;
 use disk_model::Change;
-use kernel_model::{Carrier, Descriptor, Output, Slot};
+use kernel_model::{Carrier, Descriptor, Output, PipeEnd, PipeStep, Slot, Verdict};
+use pipes::{Pipe, PipeTable};
+use processes::Descriptors;
 use std::alloc::{AllocError, Global};
 
 /// The most bytes of a file.
-const LONGEST_FILE: u32 = 16384;
+pub const LONGEST_FILE: u32 = 16384;
 
 /// Whether bytes may be written through a descriptor.
 fn may_write(descriptor: Option<Descriptor>) -> bool
@@ -25,6 +29,7 @@ fn may_write(descriptor: Option<Descriptor>) -> bool
     match descriptor {
         Some(Descriptor::Terminal(_)) => true,
         Some(Descriptor::File { writes, .. }) => writes,
+        Some(Descriptor::Pipe(end)) => matches!(end, PipeEnd::Write(_)),
         Some(Descriptor::Tape(_)) | None => false,
     }
 }
@@ -41,6 +46,7 @@ fn count(bytes: &[u8]) -> u32
 /// A write of n bytes through a descriptor: the tests in their order, then by what it stands for.
 pub fn write(
     alloc: Global,
+    pipes: &PipeTable,
     descriptors: &Descriptors,
     fd: u32,
     n: u32,
@@ -48,7 +54,8 @@ pub fn write(
 ) -> Result<Plan, AllocError>
     requires { AreWhole most_bytes n bytes }
     ensures row { IfOk result
-        (λ plan. IsPlan plan (row_write (descriptor_at descriptors.now fd) fd n bytes)) }
+        (λ plan. IsPlan plan
+        (row_write (things [] pipes.now []) (descriptor_at descriptors.now fd) fd n bytes)) }
     ensures carries { IfOk result (λ plan. IfSome plan.change CarriesBytes) }
 {
     let to = descriptors.get(fd);
@@ -63,19 +70,21 @@ pub fn write(
     }
     match bytes {
         None => Ok(Plan::failure(alloc, Errno::BadAddress)),
-        Some(bytes) => write_to(alloc, to, fd as usize, bytes),
+        Some(bytes) => write_to(alloc, pipes, to, fd as usize, bytes),
     }
 }
 
 /// A write of these bytes, by what the descriptor stands for.
 fn write_to(
     alloc: Global,
+    pipes: &PipeTable,
     to: Option<Descriptor>,
     fd: usize,
     bytes: Bytes,
 ) -> Result<Plan, AllocError>
     requires { length bytes ≤ most_bytes }
-    ensures row { IfOk result (λ plan. IsPlan plan (write_to to fd bytes)) }
+    ensures row { IfOk result
+        (λ plan. IsPlan plan (write_to (things [] pipes.now []) to fd bytes)) }
     ensures carries { IfOk result (λ plan. IfSome plan.change CarriesBytes) }
 {
     match to {
@@ -91,6 +100,7 @@ fn write_to(
                 writes: true,
             },
         ) => write_file(alloc, fd, file, offset, bytes),
+        Some(Descriptor::Pipe(PipeEnd::Write(pipe))) => write_pipe(alloc, pipes, pipe, bytes),
         _ => Ok(Plan::failure(alloc, Errno::BadDescriptor)),
     }
 }
@@ -119,13 +129,55 @@ fn write_file(
         offset,
         bytes,
     });
-    plan.slot = Some(Slot {
+    plan.slots.push(Slot {
         fd,
         holds: Some(Descriptor::File {
             file,
             offset: offset + n,
             writes: true,
         }),
-    });
+    })?;
+    Ok(plan)
+}
+
+/// A write of these bytes to a pipe: refused where none can read it any more, and waiting where it is full.
+fn write_pipe(alloc: Global, pipes: &PipeTable, pipe: u32, bytes: Bytes) -> Result<Plan, AllocError>
+    requires { length bytes ≤ most_bytes }
+    ensures row { IfOk result
+        (λ plan. IsPlan plan (write_pipe pipe bytes (slice_get (map pipe_of pipes.now) pipe))) }
+    ensures carries { IfOk result (λ plan. IfSome plan.change CarriesBytes) }
+{
+    match pipes.get(pipe) {
+        Some(to) => write_held(alloc, pipe, to, bytes),
+        None => Ok(Plan::failure(alloc, Errno::BadDescriptor)),
+    }
+}
+
+/// A write of these bytes to a pipe that is there.
+fn write_held(alloc: Global, pipe: u32, to: &Pipe, bytes: Bytes) -> Result<Plan, AllocError>
+    requires { length bytes ≤ most_bytes }
+    ensures row { IfOk result (λ plan. IsPlan plan (write_pipe pipe bytes (Some (pipe_of to.now)))) }
+    ensures carries { IfOk result (λ plan. IfSome plan.change CarriesBytes) }
+{
+    if to.readers() == 0 {
+        return on_pipe(alloc, pipe, number(alloc, Errno::NoReader.reply()));
+    }
+    let room = to.room();
+    if room == 0 {
+        return on_pipe(alloc, pipe, Verdict::Waits);
+    }
+    put_some(alloc, pipe, bytes.as_slice(), room)
+}
+
+/// A write of as many of these bytes to a pipe as there is room for.
+fn put_some(alloc: Global, pipe: u32, bytes: &[u8], room: usize) -> Result<Plan, AllocError>
+    requires { length bytes.now ≤ most_bytes }
+    ensures row { IfOk result (λ plan. IsPlan plan (put_some pipe bytes.now room)) }
+    ensures carries { IfOk result (λ plan. IfSome plan.change CarriesBytes) }
+{
+    let taken = &bytes[..room.min(bytes.len())];
+    let mut plan = on_pipe(alloc, pipe, number(alloc, taken.len() as u32))?;
+    let bytes = Bytes::copy_of(alloc, taken)?;
+    plan.pipes.push(PipeStep::Put { pipe, bytes })?;
     Ok(plan)
 }

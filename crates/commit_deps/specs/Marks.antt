@@ -11,7 +11,7 @@ pub record IsMarkOf (mark : ℕ) (log : List Entry) (e : Entry) : Type 0 where
 
 -- an event that reads these carriers and does nothing else
 abbrev pub reader : List Carrier → Entry
-reader rs = record { process = 0; reads = rs; writes = []; change = None; output = None; item = None }
+reader rs = record { process = 0; reads = rs; writes = []; change = None; output = None; item = None; child = None }
 
 -- the number of the change that the event e makes behind the log, if it makes one
 abbrev pub change_number : List Entry → Entry → Option ℕ

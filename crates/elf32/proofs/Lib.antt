@@ -10,3 +10,4 @@ pub mod FieldsBack
 pub mod SegmentsBack
 pub mod ChecksPass
 pub mod RoundTrip
+pub mod Soundness

@@ -28,7 +28,7 @@ some_step : (b : Bool) (v r s : Option ElfFault) (w : ElfFault) → (r ≡ Some 
 some_step true v r s w f e = e
 some_step false v r s w f e = f e
 
-none_step : (b : Bool) (x : ElfFault) (r s t : Option ElfFault) → (r ≡ None → s ≡ t) → cond b (Some x) r ≡ None → cond b (Some x) s ≡ t
+pub none_step : (b : Bool) (x : ElfFault) (r s t : Option ElfFault) → (r ≡ None → s ≡ t) → cond b (Some x) r ≡ None → cond b (Some x) s ≡ t
 none_step true x r s t f e = absurd cc
 none_step false x r s t f e = f e
 

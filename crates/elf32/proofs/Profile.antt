@@ -51,11 +51,11 @@ all_loadable file [] good sized ranged = tt
 all_loadable file (h ∷ hs) good sized ranged = (loadable file h good.0 sized.0 ranged.0, all_loadable file hs good.1 sized.1 ranged.1)
 
 -- the first of these segments begins on this page or above
-abbrev BeginsAbove : ℕ → List ProgramHeader → Type 0
+abbrev pub BeginsAbove : ℕ → List ProgramHeader → Type 0
 BeginsAbove page [] = Unit {0}
 BeginsAbove page (h ∷ hs) = page ≤ first_page_of h
 
-begins_above : (h : ProgramHeader) (hs : List ProgramHeader) → meets_next h hs ≡ false → BeginsAbove (last_page_of h + 1) hs
+pub begins_above : (h : ProgramHeader) (hs : List ProgramHeader) → meets_next h hs ≡ false → BeginsAbove (last_page_of h + 1) hs
 unfolding meets_next
 begins_above h [] e = tt
 begins_above h (next ∷ hs) e = omega (arith, leb-false (first_page_of next) (last_page_of h) e)

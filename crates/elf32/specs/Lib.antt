@@ -5,3 +5,4 @@ pub mod Faults
 pub mod Checks
 pub mod Names
 pub mod Files
+pub mod Sound

@@ -14,6 +14,6 @@ mod writing;
 
 pub use fault::ElfFault;
 pub use image::{Image, Segment};
-pub use laws::round_trips;
+pub use laws::{round_trips, sound_files};
 pub use parsing::parse;
 pub use writing::write;

@@ -1,7 +1,7 @@
 //! The table of files, which changes fold into.
 #![tactic(auto)]
 
-ghost use Rattle.std.specs.Prelude.{◌≡◌, ◌<◌, ◌+◌, ℕ, IfOk, OnOk, OnErr, length, slice_index_or, []};
+ghost use Rattle.std.specs.Prelude.{◌≡◌, ◌<◌, ◌+◌, ℕ, IfOk, OnOk, OnErr, length, slice_get, slice_index_or, take, drop, option_map, []};
 ghost use Rattle.disk_model.specs.declared.change.NamedFile.{NamedFile};
 ghost use Rattle.disk_model.specs.declared.change.Change.TheVariants.{Create, Write, Empty};
 ghost use Rattle.disk_model.specs.Files.{changed, patched};
@@ -72,6 +72,14 @@ fn patched_of(alloc: Global, old: &[u8], offset: usize, bytes: &[u8]) -> Result<
     Ok(next)
 }
 
+/// At most n of these bytes, from an offset on; none where the offset lies past their end.
+fn part_of(bytes: &[u8], offset: usize, n: usize) -> &[u8]
+    ensures { result.now ≡ take n (drop offset bytes.now) }
+{
+    let rest = &bytes[offset.min(bytes.len())..];
+    &rest[..n.min(rest.len())]
+}
+
 impl FileTable {
     /// No files. Takes no memory.
     pub fn new(alloc: Global) -> FileTable
@@ -119,6 +127,16 @@ impl FileTable {
         ensures { (d : NamedFile) → result ≡ length (slice_index_or self.now place d).bytes }
     {
         self.bytes(place).len()
+    }
+
+    /// At most n bytes of the file at a place, from an offset on: fewer where it ends before, and none past its end. None
+    /// where there is no file at the place.
+    pub fn read(&self, place: usize, offset: usize, n: usize) -> Option<&[u8]>
+        ensures { option_map (λ bytes. bytes.now) result
+            ≡ option_map (λ f. take n (drop offset f.bytes)) (slice_get self.now place) }
+    {
+        let file = self.files.get(place)?;
+        Some(part_of(file.bytes.as_slice(), offset, n))
     }
 
     /// A new and empty file of this name, behind the others.
@@ -203,6 +221,10 @@ mod tests {
             })?;
         }
         assert_eq!(rt; files.count(), 2);
+        assert_eq!(rt; files.read(1, 3, 9), Some(b"cd".as_slice()));
+        assert_eq!(rt; files.read(1, 3, 1), Some(b"c".as_slice()));
+        assert_eq!(rt; files.read(1, 6, 1), Some(b"".as_slice()));
+        assert_eq!(rt; files.read(2, 0, 1), None);
         assert_eq!(rt; files.find(b"g"), Some(1));
         assert_eq!(rt; files.find(b"h"), None);
         assert_eq!(rt; files.name(0), b"f".as_slice());

@@ -1,25 +1,26 @@
 -- The parts of a core at boot keep what the run says before any event.
-use Rattle.std.proofs.Common.{◌≡◌, ℕ, zero, suc, ◌+◌, ◌≤◌, ◌⊎◌, inl, inr, List, [], ◌∷◌, ◌++◌, length, map, slice_get, Option, Some, None, is_some, count_by, refl, sym, ap, subst, ◌∙◌, arith}
+use Rattle.std.proofs.Common.{◌≡◌, ℕ, zero, suc, ◌+◌, ◌≤◌, ◌⊎◌, inl, inr, List, [], ◌∷◌, ◌++◌, length, map, take, slice_get, Option, Some, None, is_some, IfSome, count_by, refl, sym, ap, subst, ◌∙◌, arith}
 use Rattle.std.specs.List.{AllByRecursion}
 use Rattle.commit_deps.specs.Keeps.{Keeps}
-use Rattle.calls.specs.Plans.{NamesFiles}
+use Rattle.pipes.specs.Seen.{Seen}
+use Rattle.processes.specs.Parts.{Part, part_of, boot_part}
 use Rattle.disk_model.specs.Runs.{begun as storage_at}
 use Rattle.kernel_model.specs.Answers.{Lending}
 use Rattle.kernel_model.specs.Entries.{Item, Got}
 use Rattle.kernel_model.specs.State.{Process}
-use Rattle.kernel_model.specs.World.{BootProgram, Boot, begun, first_process, processes_from}
-use Rattle.kernel_model.specs.declared.descriptor.Descriptor.{Descriptor}
+use Rattle.kernel_model.specs.World.{BootProgram, Boot, begun, first_process, processes_from, tapes_of, tape_count}
 use Rattle.machine_model.specs.Access.{HoldsBytes}
 use Rattle.machine_model.specs.States.{State}
 use Rattle.machine.specs.First.{first_state}
 use Rattle.machine_model.specs.declared.reply.Reply.{Reply}
 use Rattle.kernel.specs.Booting.{program_of, nothing_lent}
 use Rattle.kernel.specs.Cores.{boot_of, IsCore}
-use Rattle.kernel.specs.First.{IsFirst, AreFirst, IsEmptyScreen, AreEmpty}
+use Rattle.kernel.specs.First.{IsFirst, AreFirst, parts_from, IsEmptyScreen, AreEmpty}
 use Rattle.kernel.specs.Marked.{AreMarked, front_of}
-use Rattle.kernel.specs.Mirrors.{IsTask}
+use Rattle.kernel.specs.Mirrors.{IsTask, IsPart, ArePipes}
 use Rattle.kernel.specs.Seen.{AreScreens, end_items, end_marks}
-use Rattle.kernel.specs.Tasks.{process_of, status_of, lending_of, count_out, needed, unsettled, AreFewLoans}
+use Rattle.kernel.specs.Waiting.{is_asleep}
+use Rattle.kernel.specs.Tasks.{machine_of, out_of, process_of, bare, status_of, lending_of, count_out, needed, unsettled, AreFewLoans}
 use Rattle.kernel.specs.declared.boot.Booted.{Booted}
 use Rattle.kernel.specs.declared.boot.Program.{Program}
 use Rattle.kernel.specs.declared.screen.Screen.{Screen}
@@ -44,12 +45,12 @@ length-more [] x n h = omega arith
 length-more (y ∷ ys) x n h = let rest : length (ys ++ x ∷ []) ≡ length ys + 1 = length-more ys x (length ys) refl in omega arith
 
 -- ---- the processes
-first-process : (i : ℕ) (p : Program) (t : Task) → IsFirst i p t → process_of t ≡ first_process i (program_of p)
+first-process : (i : ℕ) (p : Program) (t : Task) → IsFirst i p t → process_of t ≡ bare (first_process i (program_of p))
 first-process i p t h = let status : status_of t.trace.end ≡ None = ap (λ (e : Option End). status_of e) h.end in cc
 
 first-processes : (k : ℕ) (programs : List Program) (tasks : List Task) → length tasks ≡ length programs
-    → ((i : ℕ) (t : Task) → slice_get tasks i ≡ Some t → (p : Program) × (slice_get programs i ≡ Some p) × (process_of t ≡ first_process (k + i) (program_of p)))
-    → map process_of tasks ≡ processes_from k (map program_of programs)
+    → ((i : ℕ) (t : Task) → slice_get tasks i ≡ Some t → (p : Program) × (slice_get programs i ≡ Some p) × (process_of t ≡ bare (first_process (k + i) (program_of p))))
+    → map process_of tasks ≡ map bare (processes_from k (map program_of programs))
 first-processes k [] [] l h = refl
 first-processes k [] (t ∷ ts) l h = absurd (omega arith)
 first-processes k (p ∷ ps) [] l h = absurd (omega arith)
@@ -57,13 +58,13 @@ first-processes k (p ∷ ps) (t ∷ ts) l h =
     let first = h 0 t refl in
     let same : p ≡ first.0 = cc in
     let at : k + 0 ≡ k = omega arith in
-    let head : process_of t ≡ first_process k (program_of p) =
-    first.2 ∙ ap (λ i. first_process i (program_of first.0)) at ∙ ap (λ (q : Program). first_process k (program_of q)) (sym same) in
+    let head : process_of t ≡ bare (first_process k (program_of p)) =
+    first.2 ∙ ap (λ i. bare (first_process i (program_of first.0))) at ∙ ap (λ (q : Program). bare (first_process k (program_of q))) (sym same) in
     ap (λ (q : Process). q ∷ map process_of ts) head
-    ∙ ap (λ (qs : List Process). first_process k (program_of p) ∷ qs) (first-processes (k + 1) ps ts (omega arith) (λ i u there.
+    ∙ ap (λ (qs : List Process). bare (first_process k (program_of p)) ∷ qs) (first-processes (k + 1) ps ts (omega arith) (λ i u there.
     let next = h (suc i) u there in
     let place : k + suc i ≡ (k + 1) + i = omega arith in
-    (next.0, next.1, next.2 ∙ ap (λ j. first_process j (program_of next.0)) place)))
+    (next.0, next.1, next.2 ∙ ap (λ j. bare (first_process j (program_of next.0))) place)))
 
 -- ---- the loans
 first-lendings : (programs : List Program) (tasks : List Task) → length tasks ≡ length programs
@@ -81,7 +82,7 @@ pub lendings-first : (programs : List Program) (tasks : List Task) → AreFirst 
 lendings-first programs tasks h = first-lendings programs tasks h.count (λ i t there.
     let one = h.each i t there in
     let loans : t.loans ≡ 0 = one.2.loans in
-    let out : t.out ≡ None = one.2.out in
+    let out : out_of t ≡ None = one.2.out in
     let same : lending_of t ≡ nothing_lent one.0 = cc in
     (one.0, one.1, same))
 
@@ -124,8 +125,8 @@ programs-hold programs tasks h = each-holds programs tasks h.count (λ i t there
     (one.0, one.1, subst (λ (s : State). HoldsBytes s.hart.memory) one.2.machine one.2.bytes))
 
 -- ---- one task
-first-task : (b : Boot) (i : ℕ) (p : Program) (t : Task) → IsFirst i p t → IsTask (begun b) i t
-first-task b i p t h = record {
+first-task : (b : Boot) (told i : ℕ) (p : Program) (t : Task) → IsFirst i p t → IsTask (begun b) told i t
+first-task b told i p t h = record {
   number = h.number;
   trace = record {
     items = ap (λ (rs : List Reply). map (λ (r : Reply). Got r) rs ++ end_items t.trace.end) h.replies
@@ -134,15 +135,50 @@ first-task b i p t h = record {
         (subst (λ (e : Option End). AreMarked {A = Item} [] (end_marks e)) (sym h.end) tt);
     handed = h.handed ∙ ap (λ (ms : List ℕ). front_of 0 ms) (sym h.marks);
   };
-  named = subst (λ (ds : List (Option Descriptor)). NamesFiles (length b.files) ds) (sym h.descriptors)
-      (tt, (tt, (tt, (tt, (tt, (tt, (tt, (tt, (tt, (tt, (tt, (tt, (tt, (tt, (tt, (tt, tt))))))))))))))));
   budget =
-      let count : t.machine.count ≡ 0 = ap (λ (s : State). s.count) h.machine in
-      let none : needed t.out ≡ 0 = ap (λ (o : Option ℕ). needed o) h.out in
+      let count : (machine_of t).count ≡ 0 = ap (λ (s : State). s.count) h.machine in
+      let none : needed (out_of t) ≡ 0 = ap (λ (o : Option ℕ). needed o) h.out in
       omega (arith, count, none);
-  awake = refl;
+  waits = ap (λ (o : Option ℕ). is_asleep told o) (sym h.waited);
+  since = subst (λ (o : Option ℕ). IfSome o (λ before. before ≤ told)) (sym h.waited) tt;
   running = λ e. h.end;
 }
+
+-- ---- the parts of the processes
+pub parts-first : (k : ℕ) (programs : List Program) → parts_from k programs ≡ map part_of (processes_from k (map program_of programs))
+parts-first k [] = refl
+parts-first k (p ∷ ps) = ap (λ (xs : List Part). boot_part k p.terminal ∷ xs) (parts-first (k + 1) ps)
+
+parts-fine : (k : ℕ) (programs : List Program) → AllByRecursion (IsPart 0) (parts_from k programs)
+parts-fine k [] = tt
+parts-fine k (p ∷ ps) = (
+  record { count = refl; named = (tt, (tt, (tt, (tt, (tt, (tt, (tt, (tt, (tt, (tt, (tt, (tt, (tt, (tt, (tt, (tt, tt)))))))))))))))) },
+  parts-fine (k + 1) ps,
+)
+
+-- one program more
+pub parts-more : (k i : ℕ) (programs : List Program) (p : Program) → slice_get programs i ≡ Some p
+    → parts_from k (take (i + 1) programs) ≡ parts_from k (take i programs) ++ boot_part (k + i) p.terminal ∷ []
+parts-more k i [] p e = cc
+parts-more k zero (q ∷ qs) p e =
+    let same : q ≡ p = cc in
+    let place : k ≡ k + 0 = omega arith in
+    ap (λ (x : Program). boot_part k x.terminal ∷ []) same ∙ ap (λ (n : ℕ). boot_part n p.terminal ∷ []) place
+parts-more k (suc i) (q ∷ qs) p e =
+    let next : suc i + 1 ≡ suc (i + 1) = omega arith in
+    let place : (k + 1) + i ≡ k + suc i = omega arith in
+    ap (λ (n : ℕ). parts_from k (take n (q ∷ qs))) next
+    ∙ ap (λ (xs : List Part). boot_part k q.terminal ∷ xs) (parts-more (k + 1) i qs p e)
+    ∙ ap (λ (n : ℕ). boot_part k q.terminal ∷ (parts_from (k + 1) (take i qs) ++ boot_part n p.terminal ∷ [])) place
+
+pub parts-length : (k : ℕ) (programs : List Program) → length (parts_from k programs) ≡ length programs
+parts-length k [] = refl
+parts-length k (p ∷ ps) = ap (λ n. suc n) (parts-length (k + 1) ps)
+
+pub take-short : {A : Type 0} (n : ℕ) (xs : List A) → length (take n xs) ≤ length xs
+take-short zero xs = omega arith
+take-short (suc n) [] = omega arith
+take-short (suc n) (x ∷ xs) = let rest : length (take n xs) ≤ length xs = take-short n xs in omega (arith, rest)
 
 -- ---- the screens
 first-screens : (screens : List Screen) → AreEmpty 8 screens → AreScreens 0 [] screens
@@ -157,18 +193,26 @@ first-screens screens h = record {
 
 -- ---- all parts
 pub first-core : (b : Booted) (tasks : List Task) (s : Shared) → AreFirst b.programs.items tasks → AreEmpty 8 s.screens.items
-    → Keeps [] s.dependencies.marks → s.changes.items ≡ [] → s.files ≡ [] → s.disk ≡ storage_at b.disk 64
+    → Keeps [] s.dependencies.marks → s.changes.items ≡ [] → s.files ≡ [] → s.tapes ≡ tapes_of tape_count b.tapes.value.items
+    → s.processes.parts ≡ parts_from 0 b.programs.items → s.pipes ≡ [] → s.told ≡ 0 → s.disk ≡ storage_at b.disk 64
     → IsCore b [] tasks s
-first-core b tasks s first empty keeps changes files disk = record {
+first-core b tasks s first empty keeps changes files tapes parts pipes told disk = record {
   mirrors = record {
     each = record {
       processes = first-processes 0 b.programs.items tasks first.count (λ i t there.
           let one = first.each i t there in
           let place : 0 + i ≡ i = omega arith in
-          (one.0, one.1, first-process i one.0 t one.2 ∙ ap (λ j. first_process j (program_of one.0)) (sym place)));
-      each = λ i t there. let one = first.each i t there in first-task (boot_of b) i one.0 t one.2;
+          (one.0, one.1, first-process i one.0 t one.2 ∙ ap (λ j. bare (first_process j (program_of one.0))) (sym place)));
+      each = λ i t there. let one = first.each i t there in first-task (boot_of b) s.told i one.0 t one.2;
     };
     changes = record { changes = changes; possible = tt; files = files; made = refl };
+    tapes = tapes;
+    parts = record {
+      same = parts ∙ parts-first 0 b.programs.items;
+      each = subst (λ (xs : List Part). AllByRecursion (IsPart 0) xs) (sym parts) (parts-fine 0 b.programs.items);
+    };
+    pipes = subst (λ (x : List Seen). ArePipes (begun (boot_of b)) x) (sym pipes) (record { shown = record { shown = refl; within = tt }; few = tt });
+    counted = omega (arith, told);
     kept = keeps;
     screens = first-screens s.screens.items empty;
     disk = disk;

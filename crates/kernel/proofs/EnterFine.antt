@@ -6,7 +6,7 @@ use Rattle.kernel_model.specs.declared.answer.Refused.{Refused}
 use Rattle.kernel_model.specs.State.{Process, process_at}
 use Rattle.kernel_model.specs.declared.answer.Refused.TheVariants as refused
 use Rattle.kernel_model.specs.Answers.{first_of, ◌⇒◌, has_ended, is_stopped, count_at, enter_refusal, limit}
-use Rattle.kernel.specs.Tasks.{process_of, lending_of, status_of}
+use Rattle.kernel.specs.Tasks.{machine_of, out_of, process_of, lending_of, status_of}
 use Rattle.kernel.specs.Tests.{lent_of, enter_refusal_of}
 use Rattle.kernel.specs.declared.task.Task.{Task}
 use Rattle.kernel.specs.declared.trace.End.{End}
@@ -33,9 +33,9 @@ not-false false h = cc
 -- the task of an Enter that is not refused
 pub record IsFineTask (t : Task) (full : Bool) : Type 0 where
   pub running : t.trace.end ≡ None
-  pub here : t.out ≡ None
-  pub stopped : is_some (stands_at t.machine) ≡ true
-  pub few : t.machine.count < 2 ^ 40
+  pub here : out_of t ≡ None
+  pub stopped : is_some (stands_at (machine_of t)) ≡ true
+  pub few : (machine_of t).count < 2 ^ 40
   pub room : full ≡ false
 
 none-status : (e : Option End) → is_some (status_of e) ≡ false → e ≡ None
@@ -46,16 +46,16 @@ pub none-some : {A : Type 0} (o : Option A) → is_some o ≡ false → o ≡ No
 none-some None h = refl
 none-some (Some x) h = cc
 
-fine-by : (t : Task) (full : Bool) → enter_refusal (Some (process_of t)) (is_some t.out) full ≡ None → IsFineTask t full
+fine-by : (t : Task) (full : Bool) → enter_refusal (Some (process_of t)) (is_some (out_of t)) full ≡ None → IsFineTask t full
 fine-by t full h =
-    let all = none-of-five false (is_some (status_of t.trace.end)) (is_some t.out) (not (is_some (stands_at t.machine))) (nat_le limit t.machine.count || full)
+    let all = none-of-five false (is_some (status_of t.trace.end)) (is_some (out_of t)) (not (is_some (stands_at (machine_of t)))) (nat_le limit (machine_of t).count || full)
     refused.NoProcess refused.Ended refused.Lent refused.NotStopped refused.Budget h in
-    let last = or-false (nat_le limit t.machine.count) full all.4 in
+    let last = or-false (nat_le limit (machine_of t).count) full all.4 in
     record {
       running = none-status t.trace.end all.1;
-      here = none-some t.out all.2;
-      stopped = not-false (is_some (stands_at t.machine)) all.3;
-      few = leb-false limit t.machine.count last.0;
+      here = none-some (out_of t) all.2;
+      stopped = not-false (is_some (stands_at (machine_of t))) all.3;
+      few = leb-false limit (machine_of t).count last.0;
       room = last.1;
     }
 
@@ -67,14 +67,14 @@ process-of tasks pid place t number there =
     rw next (get-map process_of tasks place t there)
 
 lent-of : (tasks : List Task) (pid place : ℕ) (t : Task) → pid ≡ place + 1 → slice_get tasks place ≡ Some t
-    → lent_of tasks pid ≡ is_some t.out
+    → lent_of tasks pid ≡ is_some (out_of t)
 lent-of tasks pid place t number there =
     let next : pid ≡ suc place = omega arith in
     rw (next, get-map lending_of tasks place t there) refl
 
 -- the refusal is that of the task
 pub refusal-of : (tasks : List Task) (full : Bool) (pid place : ℕ) (t : Task) → pid ≡ place + 1 → slice_get tasks place ≡ Some t
-    → enter_refusal_of tasks full pid ≡ enter_refusal (Some (process_of t)) (is_some t.out) full
+    → enter_refusal_of tasks full pid ≡ enter_refusal (Some (process_of t)) (is_some (out_of t)) full
 refusal-of tasks full pid place t number there =
     ap (λ (o : Option Process). enter_refusal o (lent_of tasks pid) full) (process-of tasks pid place t number there)
     ∙ ap (λ (b : Bool). enter_refusal (Some (process_of t)) b full) (lent-of tasks pid place t number there)

@@ -26,6 +26,10 @@ get-index (y ∷ ys) (suc i) d h = get-index ys i d (omega arith)
 pub get-there : {A : Type 0} (xs : List A) (i : ℕ) (x : A) → i < length xs → x ≡ slice_index_or xs i x → slice_get xs i ≡ Some x
 get-there xs i x h e = get-index xs i x h ∙ ap (λ y. Some y) (sym e)
 
+-- the same of a list for which room was taken
+pub get-reserved : {A : Type 0} (xs ys : List A) (i : ℕ) (x : A) → ys ≡ xs → i < length xs → x ≡ slice_index_or ys i x → slice_get xs i ≡ Some x
+get-reserved xs ys i x same h e = get-there xs i x h (e ∙ ap (λ zs. slice_index_or zs i x) same)
+
 -- a place at which something stands is within
 pub get-within : {A : Type 0} (xs : List A) (i : ℕ) (x : A) → slice_get xs i ≡ Some x → i < length xs
 get-within [] i x e = cc

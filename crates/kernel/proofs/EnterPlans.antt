@@ -1,185 +1,470 @@
 -- What a plan says comes of an Enter.
-use Rattle.std.proofs.Common.{◌≡◌, ℕ, ◌+◌, ◌==◌, ◌||◌, ◌⊎◌, inl, not, nat_lt, nat_le, Bool, true, false, if◌then◌else◌, List, [], ◌∷◌, length, map, Option, Some, None, IfSome, IfOk, Result, Ok, Err, option_to_list, refl, sym, ap, subst, ◌∙◌}
-use Rattle.std.specs.List.{list_all}
+use Rattle.std.proofs.Common.{◌≡◌, ℕ, zero, suc, ◌+◌, ◌^◌, ◌<◌, ◌≤◌, ◌==◌, ◌||◌, inl, not, nat_lt, nat_le, Bool, true, false, if◌then◌else◌, List, [], ◌∷◌, ◌++◌, length, map, filter, slice_get, slice_set, Option, Some, None, is_some, option_to_list, IfSome, IfOk, Result, Ok, Err, refl, sym, ap, subst, ◌∙◌, arith}
+use Rattle.std.specs.List.{list_all, AllByRecursion}
 use Rattle.disk_model.specs.declared.change.Change.{Change}
 use Rattle.disk_model.specs.declared.change.NamedFile.{NamedFile}
-use Rattle.machine_model.specs.States.{State, stands_at, next, by_step, Stepped, Goes, Halts}
+use Rattle.machine_model.specs.States.{State, stands_at, next, by_step, Stepped, Goes, Halts, replied}
 use Rattle.machine_model.specs.declared.stop.Stop.{Stop}
 use Rattle.machine_model.specs.declared.stop.Stop.TheVariants.{Limit, Call, Trap}
 use Rattle.machine_model.specs.declared.stop.Cause.{Cause}
 use Rattle.machine.proofs.Keeping.{next-not_limit}
-use Rattle.calls.specs.Plans.{IsPlan, IsPossible, NamesFiles, HasNoBytes}
+use Rattle.calls.specs.Plans.{IsPlan, IsPossible, NamesFiles, AreLeft, AtMostOne, AtMostOneEntry, OpensAlone, MayBePlaced, EditsAs, EditsPipesAlone, IsNext, MayAllStep}
+use Rattle.calls.specs.Shares.{IsKept}
 use Rattle.calls.specs.declared.plan.Plan.{Plan}
+use Rattle.pipes.specs.Stepping.{HasAtMost}
+use Rattle.processes.specs.Parts.{Part, part_of, part_at, descriptors_in, children_in, statuses_of}
+use Rattle.kernel_model.specs.State.{SyncState, Shared as Seen, PipeState, TapeState, Process, shared, process_at, put_process, changed_by, read_by, all_stepped, unread}
 use Rattle.kernel_model.specs.Requests.{request_of, longest_name, most_bytes}
-use Rattle.kernel_model.specs.Rows.{Effect, row, row_end, row_write, row_open, write_to, write_read, open_named, open_free, open_file, number, cause_number, may_write, names_of, descriptor_at, longest_file, most_files, is_name_byte, free_descriptor, file_named}
-use Rattle.kernel_model.specs.State.{SyncState, Shared, Process, shared, put_process, changed_by}
-use Rattle.kernel_model.specs.Steps.{Transition, effect_at, set_slots, after_effect, after_effect_if}
+use Rattle.kernel_model.specs.Rows.{Effect, row, row_end, row_write, row_read, row_open, row_close, row_seek, row_pipe, row_fork, row_wait, write_to, write_read, write_pipe, read_tape, read_file, read_pipe, read_from, open_named, open_free, open_file, pipe_free, wait_ended, EndedChild, first_ended, cause_number, may_write, may_read, names_of, descriptor_at, ends_of, number, pipe_size, most_pipes, most_processes, longest_file, most_files, is_name_byte, free_descriptor, free_behind, file_named}
+use Rattle.kernel_model.specs.Steps.{Transition, step, after_enter, impossible, effect_at, set_slots, children_after, is_collected, forked, after_effect, after_effect_if}
 use Rattle.kernel_model.specs.declared.carrier.Carrier.{Carrier}
 use Rattle.kernel_model.specs.declared.carrier.Carrier.TheVariants.{Proc}
 use Rattle.kernel_model.specs.declared.descriptor.Descriptor.{Descriptor}
 use Rattle.kernel_model.specs.declared.descriptor.Descriptor.TheVariants as descriptor
+use Rattle.kernel_model.specs.declared.descriptor.PipeEnd.{PipeEnd}
+use Rattle.kernel_model.specs.declared.descriptor.PipeEnd.TheVariants as pipe_end
 use Rattle.kernel_model.specs.declared.effect.Output.{Output}
+use Rattle.kernel_model.specs.declared.effect.PipeStep.{PipeStep}
+use Rattle.kernel_model.specs.declared.effect.PipeStep.TheVariants as pipe_step
 use Rattle.kernel_model.specs.declared.effect.Slot.{Slot}
+use Rattle.kernel_model.specs.declared.effect.TapeRead.{TapeRead}
+use Rattle.kernel_model.specs.declared.event.Event.TheVariants.{Enter}
 use Rattle.kernel_model.specs.declared.request.Request.{Request}
-use Rattle.kernel_model.specs.declared.request.Request.TheVariants.{Exit, Write, Open, Unknown}
+use Rattle.kernel_model.specs.declared.request.Request.TheVariants.{Exit, Write, Read, Open, Close, Pipe, Fork, Wait, GetPid, Seek, Sync, Unknown}
 use Rattle.kernel_model.specs.declared.request.Verdict.{Verdict}
 use Rattle.kernel_model.specs.declared.request.Verdict.TheVariants.{Waits, Replies, Ends}
-use Rattle.kernel.specs.Entering.{item_of, machine_after, descriptors_after, status_after, MayBeTold, planned, PlansEnter}
+use Rattle.kernel.specs.Entering.{Sight, IsSightOf, HaveRoom, item_of, machine_after, descriptors_after, status_after, writes_of, MayBeTold, effect_of, planned, AreSteps, PlansEnter}
 
--- ---- no call of the table waits, and one that ends its process does nothing else
-abbrev IsRowOf : Verdict → Option Change → Option Output → List Slot → Type 0
-IsRowOf Waits change output slots = ⊥
-IsRowOf (Replies r) change output slots = Unit {0}
-IsRowOf (Ends status) change output slots = (change ≡ None) × (output ≡ None) × (slots ≡ [])
+-- ---- a row has few steps of pipes
+record IsRow (e : Effect) : Type 0 where
+  few : length e.pipes ≤ 16
 
-abbrev IsRow : Effect → Type 0
-IsRow e = IsRowOf e.told e.change e.output e.slots
+quiet : (e : Effect) → e.pipes ≡ [] → IsRow e
+quiet e none = let size : length e.pipes ≡ 0 = ap (λ (steps : List PipeStep). length steps) none in record { few = omega (arith, size) }
 
 if-row : (b : Bool) (x y : Effect) → IsRow x → IsRow y → IsRow (if b then x else y)
 if-row true x y h g = h
 if-row false x y h g = g
 
-write_to-row : (d : Option Descriptor) (fd : ℕ) (bytes : List ℕ) → IsRow (write_to d fd bytes)
-write_to-row (Some (descriptor.Terminal t)) fd bytes = tt
-write_to-row (Some (descriptor.File file offset true)) fd bytes = if-row (nat_lt longest_file (offset + length bytes)) _ _ tt tt
-write_to-row (Some (descriptor.File file offset false)) fd bytes = tt
-write_to-row (Some (descriptor.Tape t)) fd bytes = tt
-write_to-row None fd bytes = tt
+ends-few : (ds : List (Option Descriptor)) → length (ends_of ds) ≤ length ds
+ends-few [] = omega arith
+ends-few (Some (descriptor.Pipe end) ∷ ds) = let rest = ends-few ds in omega (arith, rest)
+ends-few (Some (descriptor.Tape t) ∷ ds) = let rest = ends-few ds in omega (arith, rest)
+ends-few (Some (descriptor.Terminal t) ∷ ds) = let rest = ends-few ds in omega (arith, rest)
+ends-few (Some (descriptor.File file offset writes) ∷ ds) = let rest = ends-few ds in omega (arith, rest)
+ends-few (None ∷ ds) = let rest = ends-few ds in omega (arith, rest)
 
-write_read-row : (d : Option Descriptor) (fd : ℕ) (bytes : Option (List ℕ)) → IsRow (write_read d fd bytes)
-write_read-row d fd None = tt
-write_read-row d fd (Some bytes) = write_to-row d fd bytes
+length-map : {A B : Type 0} (f : A → B) (xs : List A) → length (map f xs) ≡ length xs
+length-map f [] = refl
+length-map f (x ∷ xs) = ap (λ n. suc n) (length-map f xs)
 
-write-row : (d : Option Descriptor) (fd n : ℕ) (bytes : Option (List ℕ)) → IsRow (row_write d fd n bytes)
-write-row d fd n bytes =
-    if-row (not (may_write d)) _ _ tt (if-row (nat_lt most_bytes n) _ _ tt (if-row (n == 0) _ _ tt (write_read-row d fd bytes)))
+each-few : (f : PipeEnd → PipeStep) (ds : List (Option Descriptor)) → length ds ≤ 16 → length (map f (ends_of ds)) ≤ 16
+each-few f ds few = let size = length-map f (ends_of ds) in let less = ends-few ds in omega (arith, size, less, few)
+
+write_pipe-row : (k : ℕ) (bytes : List ℕ) (o : Option PipeState) → IsRow (write_pipe k bytes o)
+write_pipe-row k bytes None = quiet _ refl
+write_pipe-row k bytes (Some p) =
+    if-row (p.readers == 0) _ _ (quiet _ refl) (if-row (nat_le pipe_size (length (unread p))) _ _ (quiet _ refl)
+    (record { few = omega arith }))
+
+write_to-row : (s : Seen) (d : Option Descriptor) (fd : ℕ) (bytes : List ℕ) → IsRow (write_to s d fd bytes)
+write_to-row s (Some (descriptor.Terminal t)) fd bytes = quiet _ refl
+write_to-row s (Some (descriptor.File file offset true)) fd bytes = if-row (nat_lt longest_file (offset + length bytes)) _ _ (quiet _ refl) (quiet _ refl)
+write_to-row s (Some (descriptor.File file offset false)) fd bytes = quiet _ refl
+write_to-row s (Some (descriptor.Pipe (pipe_end.Write k))) fd bytes = write_pipe-row k bytes (slice_get s.pipes k)
+write_to-row s (Some (descriptor.Pipe (pipe_end.Read k))) fd bytes = quiet _ refl
+write_to-row s (Some (descriptor.Tape t)) fd bytes = quiet _ refl
+write_to-row s None fd bytes = quiet _ refl
+
+write_read-row : (s : Seen) (d : Option Descriptor) (fd : ℕ) (bytes : Option (List ℕ)) → IsRow (write_read s d fd bytes)
+write_read-row s d fd None = quiet _ refl
+write_read-row s d fd (Some bytes) = write_to-row s d fd bytes
+
+write-row : (s : Seen) (d : Option Descriptor) (fd n : ℕ) (bytes : Option (List ℕ)) → IsRow (row_write s d fd n bytes)
+write-row s d fd n bytes =
+    if-row (not (may_write d)) _ _ (quiet _ refl) (if-row (nat_lt most_bytes n) _ _ (quiet _ refl) (if-row (n == 0) _ _ (quiet _ refl) (write_read-row s d fd bytes)))
+
+read_tape-row : (t at n : ℕ) (o : Option TapeState) → IsRow (read_tape t at n o)
+read_tape-row t at n None = quiet _ refl
+read_tape-row t at n (Some tape) = quiet _ refl
+
+read_file-row : (fd file offset at n : ℕ) (o : Option NamedFile) → IsRow (read_file fd file offset at n o)
+read_file-row fd file offset at n None = quiet _ refl
+read_file-row fd file offset at n (Some f) = quiet _ refl
+
+read_pipe-row : (k at n : ℕ) (o : Option PipeState) → IsRow (read_pipe k at n o)
+read_pipe-row k at n None = quiet _ refl
+read_pipe-row k at n (Some p) =
+    if-row (nat_lt 0 (length (unread p))) _ _ (record { few = omega arith })
+    (if-row (p.writers == 0) _ _ (quiet _ refl) (quiet _ refl))
+
+read_from-row : (s : Seen) (d : Option Descriptor) (fd at n : ℕ) → IsRow (read_from s d fd at n)
+read_from-row s (Some (descriptor.Tape t)) fd at n = read_tape-row t at n (slice_get s.tapes t)
+read_from-row s (Some (descriptor.File file offset false)) fd at n = read_file-row fd file offset at n (slice_get s.files file)
+read_from-row s (Some (descriptor.File file offset true)) fd at n = quiet _ refl
+read_from-row s (Some (descriptor.Pipe (pipe_end.Read k))) fd at n = read_pipe-row k at n (slice_get s.pipes k)
+read_from-row s (Some (descriptor.Pipe (pipe_end.Write k))) fd at n = quiet _ refl
+read_from-row s (Some (descriptor.Terminal t)) fd at n = quiet _ refl
+read_from-row s None fd at n = quiet _ refl
+
+read-row : (s : Seen) (d : Option Descriptor) (fd at n : ℕ) (fits : Bool) → IsRow (row_read s d fd at n fits)
+read-row s d fd at n fits =
+    if-row (not (may_read d)) _ _ (quiet _ refl) (if-row (nat_lt most_bytes n) _ _ (quiet _ refl) (if-row (n == 0) _ _ (quiet _ refl)
+    (if-row (not fits) _ _ (quiet _ refl) (read_from-row s d fd at n))))
 
 open_file-row : (count fd mode : ℕ) (name : List ℕ) (o : Option ℕ) → IsRow (open_file count fd mode name o)
-open_file-row count fd mode name (Some file) = if-row (mode == 2) _ _ tt tt
-open_file-row count fd mode name None = if-row (mode == 2) _ _ (if-row (nat_le most_files count) _ _ tt tt) tt
+open_file-row count fd mode name (Some file) = if-row (mode == 2) _ _ (quiet _ refl) (quiet _ refl)
+open_file-row count fd mode name None = if-row (mode == 2) _ _ (if-row (nat_le most_files count) _ _ (quiet _ refl) (quiet _ refl)) (quiet _ refl)
 
 open_free-row : (names : List (List ℕ)) (o : Option ℕ) (mode : ℕ) (name : List ℕ) → IsRow (open_free names o mode name)
-open_free-row names None mode name = tt
+open_free-row names None mode name = quiet _ refl
 open_free-row names (Some fd) mode name = open_file-row (length names) fd mode name (file_named names name)
 
 open_named-row : (names : List (List ℕ)) (ds : List (Option Descriptor)) (mode : ℕ) (name : Option (List ℕ)) → IsRow (open_named names ds mode name)
-open_named-row names ds mode None = tt
-open_named-row names ds mode (Some name) = if-row (not (list_all is_name_byte name)) _ _ tt (open_free-row names (free_descriptor ds) mode name)
+open_named-row names ds mode None = quiet _ refl
+open_named-row names ds mode (Some name) = if-row (not (list_all is_name_byte name)) _ _ (quiet _ refl) (open_free-row names (free_descriptor ds) mode name)
 
 open-row : (names : List (List ℕ)) (ds : List (Option Descriptor)) (n mode : ℕ) (name : Option (List ℕ)) → IsRow (row_open names ds n mode name)
 open-row names ds n mode name =
-    if-row (nat_lt 2 mode) _ _ tt (if-row ((n == 0) || nat_lt longest_name n) _ _ tt (open_named-row names ds mode name))
+    if-row (nat_lt 2 mode) _ _ (quiet _ refl) (if-row ((n == 0) || nat_lt longest_name n) _ _ (quiet _ refl) (open_named-row names ds mode name))
 
-row-row : (s : Shared) (ds : List (Option Descriptor)) (r : Request) → IsRow (row s ds r)
-row-row s ds (Exit status) = (refl, refl, refl)
-row-row s ds (Write fd n bytes) = write-row (descriptor_at ds fd) fd n bytes
-row-row s ds (Open n mode name) = open-row (names_of s.files) ds n mode name
-row-row s ds Unknown = tt
+close-row : (d : Option Descriptor) (fd : ℕ) → IsRow (row_close d fd)
+close-row None fd = quiet _ refl
+close-row (Some d) fd = record { few = each-few pipe_step.Drop (Some d ∷ []) (omega arith) }
+
+seek-row : (d : Option Descriptor) (fd offset : ℕ) → IsRow (row_seek d fd offset)
+seek-row (Some (descriptor.File file old writes)) fd offset = if-row (nat_lt longest_file offset) _ _ (quiet _ refl) (quiet _ refl)
+seek-row (Some (descriptor.Tape t)) fd offset = quiet _ refl
+seek-row (Some (descriptor.Terminal t)) fd offset = quiet _ refl
+seek-row (Some (descriptor.Pipe end)) fd offset = quiet _ refl
+seek-row None fd offset = quiet _ refl
+
+pipe_free-row : (count at : ℕ) (reader writer : Option ℕ) → IsRow (pipe_free count at reader writer)
+pipe_free-row count at (Some reader) (Some writer) =
+    if-row (nat_le most_pipes count) _ _ (quiet _ refl) (record { few = omega arith })
+pipe_free-row count at (Some reader) None = quiet _ refl
+pipe_free-row count at None writer = quiet _ refl
+
+pipe-row : (count : ℕ) (ds : List (Option Descriptor)) (at : ℕ) (fits : Bool) → IsRow (row_pipe count ds at fits)
+pipe-row count ds at fits = if-row (not fits) _ _ (quiet _ refl) (pipe_free-row count at (free_descriptor ds) (free_behind ds (free_descriptor ds)))
+
+fork-row : (count : ℕ) (ds : List (Option Descriptor)) → length ds ≤ 16 → IsRow (row_fork count ds)
+fork-row count ds few = if-row (nat_le most_processes count) _ _ (quiet _ refl) (record { few = each-few pipe_step.Add ds few })
+
+wait_ended-row : (at : ℕ) (children : List ℕ) (o : Option EndedChild) → IsRow (wait_ended at children o)
+wait_ended-row at children None = quiet _ refl
+wait_ended-row at children (Some e) = quiet _ refl
+
+wait-row : (statuses : List (Option ℕ)) (children : List ℕ) (at : ℕ) (fits : Bool) → IsRow (row_wait statuses children at fits)
+wait-row statuses children at fits =
+    if-row (not fits) _ _ (quiet _ refl) (if-row (length children == 0) _ _ (quiet _ refl) (wait_ended-row at children (first_ended statuses children)))
+
+row-row : (s : Seen) (pid : ℕ) (ds : List (Option Descriptor)) (children : List ℕ) (r : Request) → length ds ≤ 16 → IsRow (row s pid ds children r)
+row-row s pid ds children (Exit status) few = record { few = each-few pipe_step.Drop ds few }
+row-row s pid ds children (Write fd n bytes) few = write-row s (descriptor_at ds fd) fd n bytes
+row-row s pid ds children (Read fd at n fits) few = read-row s (descriptor_at ds fd) fd at n fits
+row-row s pid ds children (Open n mode name) few = open-row (names_of s.files) ds n mode name
+row-row s pid ds children (Close fd) few = close-row (descriptor_at ds fd) fd
+row-row s pid ds children (Pipe at fits) few = pipe-row (length s.pipes) ds at fits
+row-row s pid ds children Fork few = fork-row (length s.statuses) ds few
+row-row s pid ds children (Wait at fits) few = wait-row s.statuses children at fits
+row-row s pid ds children GetPid few = quiet _ refl
+row-row s pid ds children (Seek fd offset) few = seek-row (descriptor_at ds fd) fd offset
+row-row s pid ds children Sync few = quiet _ refl
+row-row s pid ds children Unknown few = quiet _ refl
 
 -- ---- what comes of an effect is what the plan says
-abbrev planned_by : SyncState → ℕ → Process → Verdict → List Carrier → List Carrier → Option Change → Option Output → List Slot → Transition
-planned_by s pid p told reads writes change output slots = record {
+abbrev planned_told : SyncState → ℕ → Process → Plan → Verdict → Transition
+planned_told s pid p plan told = record {
   state = record {
     processes = put_process s.processes pid (record {
       state = machine_after p.state told;
-      descriptors = descriptors_after p.descriptors told slots;
-      status = status_after told;
-    });
-    files = changed_by s.files change;
-    tapes = s.tapes;
+      descriptors = descriptors_after p.descriptors told plan.slots.items;
+      children = children_after p.children (effect_of plan);
+      status = status_after told p.status;
+    }) ++ forked p plan.child;
+    files = changed_by s.files plan.change;
+    pipes = all_stepped s.pipes plan.pipes.items;
+    tapes = read_by s.tapes plan.tape;
   };
-  entry = record { process = pid; reads = Proc pid ∷ reads; writes = Proc pid ∷ writes; change = change; output = output; item = item_of told };
+  entry = record {
+    process = pid;
+    reads = Proc pid ∷ plan.reads.items;
+    writes = writes_of pid told plan.writes.items;
+    change = plan.change;
+    output = plan.output;
+    item = item_of told;
+    child = plan.child;
+  };
 }
 
-effect-by : (s : SyncState) (pid : ℕ) (p : Process) (told : Verdict) (reads writes : List Carrier) (change : Option Change) (output : Option Output) (slots : List Slot)
-    → IsRowOf told change output slots
-    → after_effect s pid p (record { told = told; reads = reads; writes = writes; change = change; output = output; slots = slots }) told
-    ≡ planned_by s pid p told reads writes change output slots
-effect-by s pid p Waits reads writes change output slots h = absurd h
-effect-by s pid p (Replies r) reads writes change output slots h = refl
-effect-by s pid p (Ends status) reads writes change output slots h =
-    ap (λ (c : Option Change). planned_by s pid p (Ends status) reads writes c None slots) (sym h.0)
-    ∙ ap (λ (o : Option Output). planned_by s pid p (Ends status) reads writes change o slots) (sym h.1)
+put-same : (ps : List Process) (pid : ℕ) (p : Process) → process_at ps pid ≡ Some p → put_process ps pid p ≡ ps
+put-same ps zero p e = refl
+put-same ps (suc k) p e = by ps k e
+  where
+    by : (xs : List Process) (i : ℕ) → slice_get xs i ≡ Some p → slice_set xs i p ≡ xs
+    by [] i e = refl
+    by (x ∷ xs) zero e = let same : p ≡ x = cc in ap (λ (y : Process). y ∷ xs) same
+    by (x ∷ xs) (suc i) e = ap (λ (ys : List Process). x ∷ ys) (by xs i e)
 
-effect-planned : (s : SyncState) (pid : ℕ) (p : Process) (plan : Plan) (e : Effect) → IsPlan plan e → IsRow e
-    → after_effect s pid p e e.told ≡ planned s pid p plan
-effect-planned s pid p plan e is h =
-    effect-by s pid p e.told e.reads e.writes e.change e.output e.slots h
-    ∙ ap (λ (v : Verdict). planned_by s pid p v e.reads e.writes e.change e.output e.slots) (sym is.told)
-    ∙ ap (λ (v : List Carrier). planned_by s pid p plan.told v e.writes e.change e.output e.slots) (sym is.reads)
-    ∙ ap (λ (v : List Carrier). planned_by s pid p plan.told plan.reads.items v e.change e.output e.slots) (sym is.writes)
-    ∙ ap (λ (v : Option Change). planned_by s pid p plan.told plan.reads.items plan.writes.items v e.output e.slots) (sym is.change)
-    ∙ ap (λ (v : Option Output). planned_by s pid p plan.told plan.reads.items plan.writes.items plan.change v e.slots) (sym is.output)
-    ∙ ap (λ (v : List Slot). planned_by s pid p plan.told plan.reads.items plan.writes.items plan.change plan.output v) (sym is.slots)
+pub append-none : {A : Type 0} (xs : List A) → xs ++ [] ≡ xs
+append-none [] = refl
+append-none (x ∷ xs) = ap (λ ys. x ∷ ys) (append-none xs)
+
+pub all-kept : (cs : List ℕ) → filter (λ child. not (is_collected None child)) cs ≡ cs
+all-kept [] = refl
+all-kept (c ∷ cs) = ap (λ xs. c ∷ xs) (all-kept cs)
+
+children-kept : (cs : List ℕ) → filter (λ child. not (is_collected None child)) cs ++ [] ≡ cs
+children-kept cs = append-none (filter (λ child. not (is_collected None child)) cs) ∙ all-kept cs
+
+-- the edits are these
+abbrev edited : SyncState → ℕ → Process → Plan → Verdict → Option Change → Option Output → Option TapeRead → List PipeStep → Option ℕ → Option ℕ → Transition
+edited s pid p plan told change output tape pipes child collects = record {
+  state = record {
+    processes = put_process s.processes pid (record {
+      state = machine_after p.state told;
+      descriptors = descriptors_after p.descriptors told plan.slots.items;
+      children = filter (λ other. not (is_collected collects other)) p.children ++ option_to_list child;
+      status = status_after told p.status;
+    }) ++ forked p child;
+    files = changed_by s.files change;
+    pipes = all_stepped s.pipes pipes;
+    tapes = read_by s.tapes tape;
+  };
+  entry = record {
+    process = pid;
+    reads = Proc pid ∷ plan.reads.items;
+    writes = writes_of pid told plan.writes.items;
+    change = change;
+    output = output;
+    item = item_of told;
+    child = child;
+  };
+}
+
+pipes-alone : (s : SyncState) (pid : ℕ) (p : Process) (plan : Plan) (told : Verdict) (pipes : List PipeStep) → EditsPipesAlone plan → plan.pipes.items ≡ pipes
+    → edited s pid p plan told None None None pipes None None ≡ planned_told s pid p plan told
+pipes-alone s pid p plan told pipes h steps =
+    ap (λ c. edited s pid p plan told c None None pipes None None) (sym h.change)
+    ∙ ap (λ o. edited s pid p plan told plan.change o None pipes None None) (sym h.output)
+    ∙ ap (λ t. edited s pid p plan told plan.change plan.output t pipes None None) (sym h.tape)
+    ∙ ap (λ x. edited s pid p plan told plan.change plan.output plan.tape x None None) (sym steps)
+    ∙ ap (λ c. edited s pid p plan told plan.change plan.output plan.tape plan.pipes.items c None) (sym h.child)
+    ∙ ap (λ c. edited s pid p plan told plan.change plan.output plan.tape plan.pipes.items plan.child c) (sym h.collects)
+
+told-planned : (s : SyncState) (pid : ℕ) (p : Process) (plan : Plan) (told : Verdict) → EditsAs told plan → process_at s.processes pid ≡ Some p → p.status ≡ None
+    → after_effect s pid p (effect_of plan) told ≡ planned_told s pid p plan told
+told-planned s pid p plan Waits edits there running =
+    let same : put_process s.processes pid (record p { children = filter (λ other. not (is_collected None other)) p.children ++ [] }) ++ [] ≡ s.processes =
+    append-none (put_process s.processes pid (record p { children = filter (λ other. not (is_collected None other)) p.children ++ [] }))
+    ∙ ap (λ (cs : List ℕ). put_process s.processes pid (record p { children = cs })) (children-kept p.children)
+    ∙ put-same s.processes pid p there in
+    ap (λ (ps : List Process). record {
+      state = record { processes = ps; files = s.files; pipes = s.pipes; tapes = s.tapes };
+      entry = record { process = pid; reads = Proc pid ∷ plan.reads.items; writes = []; change = None; output = None; item = None; child = None };
+    }) (sym same)
+    ∙ pipes-alone s pid p plan Waits [] edits.0 edits.1
+told-planned s pid p plan (Replies r) edits there running =
+    ap (λ (o : Option ℕ). record {
+      state = record {
+        processes = put_process s.processes pid (record {
+          state = replied p.state r;
+          descriptors = set_slots p.descriptors plan.slots.items;
+          children = children_after p.children (effect_of plan);
+          status = o;
+        }) ++ forked p plan.child;
+        files = changed_by s.files plan.change;
+        pipes = all_stepped s.pipes plan.pipes.items;
+        tapes = read_by s.tapes plan.tape;
+      };
+      entry = record {
+        process = pid;
+        reads = Proc pid ∷ plan.reads.items;
+        writes = Proc pid ∷ plan.writes.items;
+        change = plan.change;
+        output = plan.output;
+        item = item_of (Replies r);
+        child = plan.child;
+      };
+    }) (sym running)
+told-planned s pid p plan (Ends status) edits there running =
+    let ended : List ℕ → Process = λ cs. record { state = p.state; descriptors = map (λ d. None) p.descriptors; children = cs; status = Some status } in
+    let same : put_process s.processes pid (ended (filter (λ other. not (is_collected None other)) p.children ++ [])) ++ [] ≡ put_process s.processes pid (ended p.children) =
+    append-none (put_process s.processes pid (ended (filter (λ other. not (is_collected None other)) p.children ++ [])))
+    ∙ ap (λ (cs : List ℕ). put_process s.processes pid (ended cs)) (children-kept p.children) in
+    ap (λ (ps : List Process). record {
+      state = record { processes = ps; files = s.files; pipes = all_stepped s.pipes plan.pipes.items; tapes = s.tapes };
+      entry = record {
+        process = pid;
+        reads = Proc pid ∷ plan.reads.items;
+        writes = Proc pid ∷ plan.writes.items;
+        change = None;
+        output = None;
+        item = item_of (Ends status);
+        child = None;
+      };
+    }) (sym same)
+    ∙ pipes-alone s pid p plan (Ends status) plan.pipes.items edits refl
+
+plan-effect : (plan : Plan) (e : Effect) → IsPlan plan e → e ≡ effect_of plan
+plan-effect plan e is =
+    ap (λ (v : Verdict). record e { told = v }) (sym is.told)
+    ∙ ap (λ (v : List Carrier). record e { told = plan.told; reads = v }) (sym is.reads)
+    ∙ ap (λ (v : List Carrier). record e { told = plan.told; reads = plan.reads.items; writes = v }) (sym is.writes)
+    ∙ ap (λ (v : Option Change). record (effect_of plan) { change = v; output = e.output; tape = e.tape; pipes = e.pipes; slots = e.slots; child = e.child; collects = e.collects }) (sym is.change)
+    ∙ ap (λ (v : Option Output). record (effect_of plan) { output = v; tape = e.tape; pipes = e.pipes; slots = e.slots; child = e.child; collects = e.collects }) (sym is.output)
+    ∙ ap (λ (v : Option TapeRead). record (effect_of plan) { tape = v; pipes = e.pipes; slots = e.slots; child = e.child; collects = e.collects }) (sym is.tape)
+    ∙ ap (λ (v : List PipeStep). record (effect_of plan) { pipes = v; slots = e.slots; child = e.child; collects = e.collects }) (sym is.pipes)
+    ∙ ap (λ (v : List Slot). record (effect_of plan) { slots = v; child = e.child; collects = e.collects }) (sym is.slots)
+    ∙ ap (λ (v : Option ℕ). record (effect_of plan) { child = v; collects = e.collects }) (sym is.child)
+    ∙ ap (λ (v : Option ℕ). record (effect_of plan) { collects = v }) (sym is.collects)
+
+-- the step of a process that is there and has not ended
+step-by : (s : SyncState) (pid : ℕ) (p : Process) (plan : Plan) (e : Effect) → IsPlan plan e → EditsAs plan.told plan
+    → process_at s.processes pid ≡ Some p → p.status ≡ None → effect_at (shared s) pid p (stands_at p.state) ≡ Some e
+    → step s (Enter pid) ≡ planned s pid p plan
+step-by s pid p plan e is edits there running at =
+    ap (λ (o : Option Process). after_enter s pid o) there
+    ∙ ap (λ (o : Option ℕ). if is_some o then impossible pid s else after_effect_if s pid p (effect_at (shared s) pid p (stands_at p.state))) running
+    ∙ ap (λ (o : Option Effect). after_effect_if s pid p o) (at ∙ ap (λ (x : Effect). Some x) (plan-effect plan e is))
+    ∙ told-planned s pid p plan plan.told edits there running
+
+-- ---- what is seen of the process
+pub part-seen : (ps : List Process) (pid : ℕ) (p : Process) → process_at ps pid ≡ Some p → part_at (map part_of ps) pid ≡ Some (part_of p)
+part-seen ps zero p e = cc
+part-seen ps (suc k) p e = by ps k e
+  where
+    by : (xs : List Process) (i : ℕ) → slice_get xs i ≡ Some p → slice_get (map part_of xs) i ≡ Some (part_of p)
+    by [] i e = cc
+    by (x ∷ xs) zero e = let same : x ≡ p = cc in ap (λ (y : Process). Some (part_of y)) same
+    by (x ∷ xs) (suc i) e = by xs i e
+
+pub part-at : (state : SyncState) (seen : Sight) (pid : ℕ) (p : Process) → IsSightOf state seen → process_at state.processes pid ≡ Some p
+    → part_at seen.parts pid ≡ Some (part_of p)
+part-at state seen pid p sight there = ap (λ (parts : List Part). part_at parts pid) sight.parts ∙ part-seen state.processes pid p there
+
+statuses : (ps : List Process) → map (λ (p : Process). p.status) ps ≡ statuses_of (map part_of ps)
+statuses [] = refl
+statuses (p ∷ ps) = ap (λ (xs : List (Option ℕ)). p.status ∷ xs) (statuses ps)
+
+kept : (state : SyncState) (seen : Sight) → IsSightOf state seen → IsKept (shared state) (statuses_of seen.parts) seen.files seen.pipes seen.tapes
+kept state seen sight = record {
+  statuses = statuses state.processes ∙ ap (λ (parts : List Part). statuses_of parts) (sym sight.parts);
+  files = sym sight.files;
+  pipes = sight.pipes;
+  tapes = sym sight.tapes;
+}
 
 -- ---- at a call
-call-effect : (state : SyncState) (files : List NamedFile) (s : State) (ds : List (Option Descriptor)) (p : Process)
-    → state.files ≡ files → p.state ≡ s → p.descriptors ≡ ds → stands_at s ≡ Some Call
-    → effect_at (shared state) p (stands_at p.state) ≡ Some (row (record { files = files }) ds (request_of s))
-call-effect state files s ds p files_are state_is ds_are stands =
-    ap (λ (o : Option Stop). effect_at (shared state) p o) (ap stands_at state_is ∙ stands)
-    ∙ ap (λ (fs : List NamedFile). Some (row (record { files = fs }) p.descriptors (request_of p.state))) files_are
-    ∙ ap (λ (xs : List (Option Descriptor)). Some (row (record { files = files }) xs (request_of p.state))) ds_are
-    ∙ ap (λ (t : State). Some (row (record { files = files }) ds (request_of t))) state_is
+told-row : (s : State) (told : Verdict) → stands_at s ≡ Some Call → MayBePlaced s.hart.memory told → MayBeTold s told
+told-row s Waits stands place = tt
+told-row s (Replies r) stands place = (stands, place)
+told-row s (Ends status) stands place = tt
 
-told-row : (s : State) (told : Verdict) (change : Option Change) (output : Option Output) (slots : List Slot) → stands_at s ≡ Some Call
-    → IsRowOf told change output slots → HasNoBytes told → MayBeTold s told
-told-row s Waits change output slots stands h none = absurd h
-told-row s (Replies r) change output slots stands h none = (stands, none.0, none.1)
-told-row s (Ends status) change output slots stands h none = tt
-
-closed-names : (n : ℕ) (ds : List (Option Descriptor)) → NamesFiles n (map (λ d. None) ds)
+pub closed-names : (n : ℕ) (ds : List (Option Descriptor)) → NamesFiles n (map (λ d. None) ds)
 closed-names n [] = tt
 closed-names n (d ∷ ds) = (tt, closed-names n ds)
 
-names-after : (s : State) (n : ℕ) (ds : List (Option Descriptor)) (told : Verdict) (slots : List Slot) → MayBeTold s told
-    → NamesFiles n (set_slots ds slots) → NamesFiles n (descriptors_after ds told slots)
-names-after s n ds Waits slots fine h = absurd fine
-names-after s n ds (Replies r) slots fine h = h
-names-after s n ds (Ends status) slots fine h = closed-names n ds
+names-after : (n m : ℕ) (ds : List (Option Descriptor)) (told : Verdict) (slots : List Slot) → NamesFiles n (set_slots ds slots)
+    → ((r : Verdict) → told ≡ Waits → slots ≡ []) → NamesFiles n (descriptors_after ds told slots)
+names-after n m ds Waits slots h none = subst (λ (xs : List Slot). NamesFiles n (set_slots ds xs)) (none Waits refl) h
+names-after n m ds (Replies r) slots h none = h
+names-after n m ds (Ends status) slots h none = closed-names n ds
 
-pub call-plans : (files : List NamedFile) (s : State) (ds : List (Option Descriptor)) (plan : Plan) → stands_at s ≡ Some Call
-    → IsPlan plan (row (record { files = files }) ds (request_of s))
-    → (plan.change ≡ None) ⊎ (plan.output ≡ None)
-    → IfSome plan.change (IsPossible files)
-    → NamesFiles (length (changed_by files plan.change)) (set_slots ds (option_to_list plan.slot))
-    → HasNoBytes plan.told
-    → PlansEnter files s ds plan
-call-plans files s ds plan stands is edit possible named none =
-    let e = row (record { files = files }) ds (request_of s) in
-    let fine : IsRow e = row-row (record { files = files }) ds (request_of s) in
-    let told : MayBeTold s plan.told =
-    subst (λ (v : Verdict). MayBeTold s v) (sym is.told)
-    (told-row s e.told e.change e.output e.slots stands fine (subst (λ (v : Verdict). HasNoBytes v) is.told none)) in
+waits-nothing : (plan : Plan) (told : Verdict) → EditsAs told plan → told ≡ Waits → plan.slots.items ≡ []
+waits-nothing plan Waits edits e = edits.0.slots
+waits-nothing plan (Replies r) edits e = cc
+waits-nothing plan (Ends status) edits e = cc
+
+steps-of : (plan : Plan) (e : Effect) → IsPlan plan e → IsRow e → OpensAlone plan.pipes.items → AreSteps plan.pipes.items
+steps-of plan e is few kind = record { kind = kind; few = subst (λ (steps : List PipeStep). length steps ≤ 16) (sym is.pipes) few.few }
+
+-- what is seen, as a state that may be looked at
+abbrev sight_shared : Sight → List PipeState → Seen
+sight_shared seen pipes = record { statuses = statuses_of seen.parts; files = seen.files; pipes = pipes; tapes = seen.tapes }
+
+pub call-plans : (seen : Sight) (pid : ℕ) (s : State) (plan : Plan) → stands_at s ≡ Some Call
+    → length (descriptors_in (part_at seen.parts pid)) ≤ 16 → HaveRoom seen.pipes
+    → ((x : Seen) → IsKept x (statuses_of seen.parts) seen.files seen.pipes seen.tapes
+    → IsPlan plan (row x pid (descriptors_in (part_at seen.parts pid)) (children_in (part_at seen.parts pid)) (request_of s)))
+    → AtMostOne plan.change plan.output plan.tape
+    → AtMostOneEntry plan.slots.items plan.child plan.collects
+    → OpensAlone plan.pipes.items
+    → EditsAs plan.told plan
+    → IfSome plan.change (IsPossible seen.files)
+    → NamesFiles (length (changed_by seen.files plan.change)) (set_slots (descriptors_in (part_at seen.parts pid)) plan.slots.items)
+    → IfSome plan.tape (AreLeft seen.tapes)
+    → ((x : Seen) (n : ℕ) → IsKept x (statuses_of seen.parts) seen.files seen.pipes seen.tapes → AllByRecursion (HasAtMost n) x.pipes → n + 16 < 2 ^ 64
+    → MayAllStep seen.pipes plan.pipes.items)
+    → IfSome plan.child (IsNext (length seen.parts))
+    → MayBePlaced s.hart.memory plan.told
+    → PlansEnter seen pid s plan
+call-plans seen pid s plan stands count ends is edit entry opens edits possible named left may child place =
+    let ds : List (Option Descriptor) = descriptors_in (part_at seen.parts pid) in
+    let x : Seen = sight_shared seen ends.pipes in
+    let look : IsKept x (statuses_of seen.parts) seen.files seen.pipes seen.tapes = record { statuses = refl; files = refl; pipes = ends.shown; tapes = refl } in
+    let e : Effect = row x pid ds (children_in (part_at seen.parts pid)) (request_of s) in
+    let fine : IsRow e = row-row x pid ds (children_in (part_at seen.parts pid)) (request_of s) count in
     record {
-      goes = λ state pid p files_are state_is ds_are.
-          ap (λ (o : Option Effect). after_effect_if state pid p o) (call-effect state files s ds p files_are state_is ds_are stands)
-          ∙ effect-planned state pid p plan e is fine;
-      told = told;
-      one_edit = edit;
+      goes = λ state p sight there state_is running.
+          let part : part_at seen.parts pid ≡ Some (part_of p) = part-at state seen pid p sight there in
+          step-by state pid p plan (row (shared state) pid ds (children_in (part_at seen.parts pid)) (request_of s)) (is (shared state) (kept state seen sight)) edits there running
+          (ap (λ (o : Option Stop). effect_at (shared state) pid p o) (ap stands_at state_is ∙ stands)
+          ∙ ap (λ (o : Option Part). Some (row (shared state) pid (descriptors_in o) (children_in o) (request_of p.state))) (sym part)
+          ∙ ap (λ (t : State). Some (row (shared state) pid ds (children_in (part_at seen.parts pid)) (request_of t))) state_is);
+      told = told-row s plan.told stands place;
+      edits = edits;
+      one_edit = edit.change_or_output;
+      one_child = entry.child_or_collects;
       possible = possible;
-      named = names-after s (length (changed_by files plan.change)) ds plan.told (option_to_list plan.slot) told named;
+      left = left;
+      named = names-after (length (changed_by seen.files plan.change)) 0 ds plan.told plan.slots.items named (λ r waits. waits-nothing plan plan.told edits waits);
+      steps = steps-of plan e (is x look) fine opens;
+      may = may x ends.most look ends.few ends.room;
+      child = child;
     }
 
 -- ---- at a trap
-trap-effect : (state : SyncState) (s : State) (p : Process) (cause : Cause) → p.state ≡ s → stands_at s ≡ Some (Trap cause)
-    → effect_at (shared state) p (stands_at p.state) ≡ Some (row_end (256 + cause_number cause))
-trap-effect state s p cause state_is stands = ap (λ (o : Option Stop). effect_at (shared state) p o) (ap stands_at state_is ∙ stands)
+pub trap-plans : (seen : Sight) (pid : ℕ) (s : State) (plan : Plan) (cause : Cause) (status : ℕ)
+    → stands_at s ≡ Some (Trap cause) → status ≡ 256 + cause_number cause
+    → length (descriptors_in (part_at seen.parts pid)) ≤ 16
+    → IsPlan plan (row_end (descriptors_in (part_at seen.parts pid)) status)
+    → EditsAs plan.told plan → OpensAlone plan.pipes.items → MayAllStep seen.pipes plan.pipes.items
+    → PlansEnter seen pid s plan
+trap-plans seen pid s plan cause status stands number count is edits opens may =
+    let ds : List (Option Descriptor) = descriptors_in (part_at seen.parts pid) in
+    record {
+      goes = λ state p sight there state_is running.
+          let part : part_at seen.parts pid ≡ Some (part_of p) = part-at state seen pid p sight there in
+          step-by state pid p plan (row_end ds status) is edits there running
+          (ap (λ (o : Option Stop). effect_at (shared state) pid p o) (ap stands_at state_is ∙ stands)
+          ∙ ap (λ (o : Option Part). Some (row_end (descriptors_in o) (256 + cause_number cause))) (sym part)
+          ∙ ap (λ n. Some (row_end ds n)) (sym number));
+      told = subst (λ (v : Verdict). MayBeTold s v) (sym is.told) tt;
+      edits = edits;
+      one_edit = inl is.change;
+      one_child = inl is.child;
+      possible = subst (λ (o : Option Change). IfSome o (IsPossible seen.files)) (sym is.change) tt;
+      left = subst (λ (o : Option TapeRead). IfSome o (AreLeft seen.tapes)) (sym is.tape) tt;
+      named =
+          subst (λ (v : Verdict). NamesFiles (length (changed_by seen.files plan.change)) (descriptors_after ds v plan.slots.items)) (sym is.told)
+          (closed-names (length (changed_by seen.files plan.change)) ds);
+      steps = steps-of plan (row_end ds status) is (record { few = each-few pipe_step.Drop ds count }) opens;
+      may = may;
+      child = subst (λ (o : Option ℕ). IfSome o (IsNext (length seen.parts))) (sym is.child) tt;
+    }
 
-pub trap-plans : (files : List NamedFile) (s : State) (ds : List (Option Descriptor)) (plan : Plan) (cause : Cause) (status : ℕ)
-    → stands_at s ≡ Some (Trap cause) → status ≡ 256 + cause_number cause → IsPlan plan (row_end status) → PlansEnter files s ds plan
-trap-plans files s ds plan cause status stands number is = record {
-  goes = λ state pid p files_are state_is ds_are.
-      ap (λ (o : Option Effect). after_effect_if state pid p o)
-      (trap-effect state s p cause state_is stands ∙ ap (λ n. Some (row_end n)) (sym number))
-      ∙ effect-planned state pid p plan (row_end status) is (refl, refl, refl);
-  told = subst (λ (v : Verdict). MayBeTold s v) (sym is.told) tt;
-  one_edit = inl is.change;
-  possible = subst (λ (o : Option Change). IfSome o (IsPossible files)) (sym is.change) tt;
-  named =
-      subst (λ (v : Verdict). NamesFiles (length (changed_by files plan.change)) (descriptors_after ds v (option_to_list plan.slot))) (sym is.told)
-      (closed-names (length (changed_by files plan.change)) ds);
-}
+pub trap-result : {E : Type 0} (seen : Sight) (pid : ℕ) (s : State) (r : Result Plan E) (cause : Cause) (status : ℕ)
+    → stands_at s ≡ Some (Trap cause) → status ≡ 256 + cause_number cause
+    → length (descriptors_in (part_at seen.parts pid)) ≤ 16
+    → IfOk r (λ plan. IsPlan plan (row_end (descriptors_in (part_at seen.parts pid)) status))
+    → IfOk r (λ plan. EditsAs plan.told plan)
+    → IfOk r (λ plan. OpensAlone plan.pipes.items)
+    → IfOk r (λ plan. MayAllStep seen.pipes plan.pipes.items)
+    → IfOk r (λ plan. PlansEnter seen pid s plan)
+trap-result seen pid s (Ok plan) cause status stands number count is edits opens may = trap-plans seen pid s plan cause status stands number count is edits opens may
+trap-result seen pid s (Err e) cause status stands number count is edits opens may = tt
 
 -- a state that stands somewhere, and at no trap, stands at a call
 pub stands-call : (s : State) (stop : Stop) → stands_at s ≡ Some stop → ((c : Cause) → stop ≡ Trap c → ⊥) → stop ≡ Call
@@ -192,14 +477,25 @@ stands-call s Limit h none = by (next s) refl h
     by (Halts stop) is at = absurd (next-not_limit s (is ∙ (let same : stop ≡ Limit = cc in ap (λ (x : Stop). Halts x) same)))
 
 -- the same of a result
-pub result-plans : {E : Type 0} (files : List NamedFile) (s : State) (ds : List (Option Descriptor)) (r : Result Plan E) (request : Request)
+pub result-plans : {E : Type 0} (seen : Sight) (pid : ℕ) (s : State) (r : Result Plan E) (request : Request)
     → stands_at s ≡ Some Call → request ≡ request_of s
-    → IfOk r (λ plan. IsPlan plan (row (record { files = files }) ds request))
-    → IfOk r (λ plan. (plan.change ≡ None) ⊎ (plan.output ≡ None))
-    → IfOk r (λ plan. IfSome plan.change (IsPossible files))
-    → IfOk r (λ plan. NamesFiles (length (changed_by files plan.change)) (set_slots ds (option_to_list plan.slot)))
-    → IfOk r (λ plan. HasNoBytes plan.told)
-    → IfOk r (λ plan. PlansEnter files s ds plan)
-result-plans files s ds (Ok plan) request stands asks is edit possible named none =
-    call-plans files s ds plan stands (subst (λ (q : Request). IsPlan plan (row (record { files = files }) ds q)) asks is) edit possible named none
-result-plans files s ds (Err e) request stands asks is edit possible named none = tt
+    → length (descriptors_in (part_at seen.parts pid)) ≤ 16 → HaveRoom seen.pipes
+    → ((x : Seen) → IsKept x (statuses_of seen.parts) seen.files seen.pipes seen.tapes
+    → IfOk r (λ plan. IsPlan plan (row x pid (descriptors_in (part_at seen.parts pid)) (children_in (part_at seen.parts pid)) request)))
+    → IfOk r (λ plan. AtMostOne plan.change plan.output plan.tape)
+    → IfOk r (λ plan. AtMostOneEntry plan.slots.items plan.child plan.collects)
+    → IfOk r (λ plan. OpensAlone plan.pipes.items)
+    → IfOk r (λ plan. EditsAs plan.told plan)
+    → IfOk r (λ plan. IfSome plan.change (IsPossible seen.files))
+    → IfOk r (λ plan. NamesFiles (length (changed_by seen.files plan.change)) (set_slots (descriptors_in (part_at seen.parts pid)) plan.slots.items))
+    → IfOk r (λ plan. IfSome plan.tape (AreLeft seen.tapes))
+    → ((x : Seen) (n : ℕ) → IsKept x (statuses_of seen.parts) seen.files seen.pipes seen.tapes → AllByRecursion (HasAtMost n) x.pipes → n + 16 < 2 ^ 64
+    → IfOk r (λ plan. MayAllStep seen.pipes plan.pipes.items))
+    → IfOk r (λ plan. IfSome plan.child (IsNext (length seen.parts)))
+    → IfOk r (λ plan. (t : State) → request ≡ request_of t → MayBePlaced t.hart.memory plan.told)
+    → IfOk r (λ plan. PlansEnter seen pid s plan)
+result-plans seen pid s (Ok plan) request stands asks count ends is edit entry opens edits possible named left may child place =
+    call-plans seen pid s plan stands count ends
+    (λ x look. subst (λ (q : Request). IsPlan plan (row x pid (descriptors_in (part_at seen.parts pid)) (children_in (part_at seen.parts pid)) q)) asks (is x look))
+    edit entry opens edits possible named left may child (place s asks)
+result-plans seen pid s (Err e) request stands asks count ends is edit entry opens edits possible named left may child place = tt

@@ -1,64 +1,95 @@
 -- Tasks after an Enter.
-use Rattle.std.proofs.Common.{◌≡◌, ℕ, suc, ◌+◌, ◌^◌, ◌<◌, ◌≤◌, ◌==◌, ◌&&◌, inl, inr, Bool, true, false, List, [], ◌∷◌, ◌++◌, length, map, replicate, slice_get, slice_set, Option, Some, None, is_some, if◌then◌else◌, option_to_list, refl, sym, ap, subst, ◌∙◌, arith}
-use Rattle.std.specs.List.{fold}
+use Rattle.std.proofs.Common.{◌≡◌, ℕ, zero, suc, ◌+◌, ◌^◌, ◌<◌, ◌≤◌, ◌⊎◌, ◌==◌, ◌&&◌, inl, inr, Bool, true, false, List, [], ◌∷◌, ◌++◌, length, map, replicate, slice_get, slice_set, Option, Some, None, is_some, IfSome, if◌then◌else◌, option_to_list, refl, sym, ap, subst, ◌∙◌, arith}
+use Rattle.std.proofs.lemmas.Bool.{eq-eqb, ne_eqb}
 use Rattle.disk_model.specs.declared.change.Change.{Change}
 use Rattle.disk_model.specs.declared.change.Change.TheVariants.{Create, Write, Empty}
 use Rattle.disk_model.specs.declared.change.NamedFile.{NamedFile}
 use Rattle.disk_model.specs.Files.{changed, with_bytes, patched}
 use Rattle.disk_model.specs.Storage.{is_empty}
-use Rattle.machine_model.specs.States.{State}
+use Rattle.machine_model.specs.States.{State, replied}
 use Rattle.machine_model.specs.declared.reply.Reply.{Reply}
-use Rattle.calls.specs.Plans.{NamesFile, NamesFiles}
+use Rattle.calls.specs.Plans.{NamesFile, NamesFiles, IsNext}
 use Rattle.calls.specs.declared.plan.Plan.{Plan}
 use Rattle.commit_deps.specs.Marks.{IsMarkOf}
 use Rattle.kernel_model.specs.Entries.{Entry, Item, Got, End as Ended}
-use Rattle.kernel_model.specs.Loans.{waits_after, is_waiting}
-use Rattle.kernel_model.specs.Shown.{Given, given_by, told}
+use Rattle.kernel_model.specs.Loans.{is_waiting}
+use Rattle.kernel_model.specs.Shown.{Given, given_by, is_made, told}
 use Rattle.kernel_model.specs.State.{Process, put_process, changed_by}
-use Rattle.kernel_model.specs.Steps.{Transition}
+use Rattle.kernel_model.specs.Steps.{Transition, forked, zero_reply}
 use Rattle.kernel_model.specs.World.{World}
-use Rattle.kernel_model.proofs.Runs.{told-entry}
+use Rattle.kernel_model.specs.declared.carrier.Carrier.{Carrier}
 use Rattle.kernel_model.specs.declared.descriptor.Descriptor.{Descriptor}
 use Rattle.kernel_model.specs.declared.descriptor.Descriptor.TheVariants as descriptor
-use Rattle.kernel_model.specs.declared.effect.Slot.{Slot}
 use Rattle.kernel_model.specs.declared.request.Verdict.{Verdict}
 use Rattle.kernel_model.specs.declared.request.Verdict.TheVariants.{Waits, Replies, Ends}
-use Rattle.kernel.specs.Entering.{item_of, machine_after, descriptors_after, status_after, replies_of, reply_marks, end_after, MayBeTold, entry_of, process_after, planned, PlansEnter, IsTold}
+use Rattle.kernel.specs.Entering.{item_of, machine_after, status_after, writes_of, replies_of, reply_marks, end_after, entry_of, process_after, planned, IsTold, IsForked, IsChild}
 use Rattle.kernel.specs.Marked.{AreMarked, whats}
 use Rattle.kernel.specs.Mirrors.{IsTask, AreTasks}
 use Rattle.kernel.specs.Seen.{IsTrace, end_items, end_marks}
-use Rattle.kernel.specs.Tasks.{process_of, needed, status_of}
+use Rattle.kernel.specs.Tasks.{machine_of, out_of, process_of, bare, needed, status_of}
+use Rattle.kernel.specs.Waiting.{is_asleep, told_after, waited_after}
+use Rattle.kernel.specs.declared.plan.Entering.{Entering}
 use Rattle.kernel.specs.declared.task.Task.{Task}
 use Rattle.kernel.specs.declared.trace.End.{End}
 use Rattle.kernel.specs.declared.trace.Trace.{Trace}
 use Rattle.kernel.proofs.EnterFine.{IsFineTask}
 use Rattle.kernel.proofs.EnterLists.{map-set, get-set, length-set-at, are-marked-more, whats-more, append-none, items-here, items-elsewhere}
+use Rattle.kernel.proofs.Quiet.{told-own, told-made, waiting-more}
+use Rattle.kernel.proofs.Turning.{IsProcessOf}
 
 -- the run after a transition that the disk does not see
 abbrev pub world_after : World → Transition → World
 world_after w t = record { sync = t.state; log = w.log ++ t.entry ∷ []; storage = w.storage }
 
--- ---- an event that tells something ends all waiting
-fold-snoc : {A B : Type 0} (f : A → B → A) (a : A) (xs : List B) (x : B) → fold f a (xs ++ x ∷ []) ≡ f (fold f a xs) x
-fold-snoc f a [] x = refl
-fold-snoc f a (y ∷ ys) x = fold-snoc f (f a y) ys x
+-- ---- waiting
+-- whether process p waits after an event, by what the event did
+abbrev waits_by : ℕ → Bool → Option Item → ℕ → List Carrier → Bool
+waits_by p before item process writes = if is_some item then false else if (process == p) && is_empty writes then true else before
 
-pub waiting-ends : (p : ℕ) (log : List Entry) (e : Entry) → is_some e.item ≡ true → is_waiting p (log ++ e ∷ []) ≡ false
-waiting-ends p log e tells =
-    fold-snoc (waits_after p) false log e
-    ∙ ap (λ (b : Bool). if b then false else if (e.process == p) && is_empty e.writes then true else is_waiting p log) tells
+awake-later : (told : ℕ) (o : Option ℕ) → IfSome o (λ before. before ≤ told) → is_asleep (told + 1) o ≡ false
+awake-later told None h = refl
+awake-later told (Some before) h = ne_eqb before (told + 1) (λ e. absurd (omega arith))
 
-pub tells-something : (s : State) (v : Verdict) → MayBeTold s v → is_some (item_of v) ≡ true
-tells-something s Waits h = absurd h
-tells-something s (Replies r) h = refl
-tells-something s (Ends status) h = refl
+waits-told : (v : Verdict) (told p : ℕ) (b : Bool) (waited : Option ℕ) (cs : List Carrier) → IfSome waited (λ before. before ≤ told)
+    → waits_by p b (item_of v) p (writes_of p v cs) ≡ is_asleep (told_after v told) (waited_after v told waited)
+waits-told Waits told p b waited cs since =
+    ap (λ (x : Bool). if x && true then true else b) (eq-eqb p p refl) ∙ sym (eq-eqb told told refl)
+waits-told (Replies r) told p b waited cs since = sym (awake-later told waited since)
+waits-told (Ends status) told p b waited cs since = sym (awake-later told waited since)
+
+waits-other : (v : Verdict) (told p q : ℕ) (b : Bool) (waited : Option ℕ) (cs : List Carrier) → (q ≡ p → ⊥) → IfSome waited (λ before. before ≤ told)
+    → b ≡ is_asleep told waited → waits_by p b (item_of v) q (writes_of q v cs) ≡ is_asleep (told_after v told) waited
+waits-other Waits told p q b waited cs other since h =
+    ap (λ (x : Bool). if x && true then true else b) (ne_eqb q p (λ e. other e)) ∙ h
+waits-other (Replies r) told p q b waited cs other since h = sym (awake-later told waited since)
+waits-other (Ends status) told p q b waited cs other since h = sym (awake-later told waited since)
+
+told-grows : (v : Verdict) (told : ℕ) → told ≤ told_after v told
+told-grows Waits told = omega arith
+told-grows (Replies r) told = omega arith
+told-grows (Ends status) told = omega arith
+
+pub told-by-one : (v : Verdict) (told : ℕ) → told_after v told ≤ told + 1
+told-by-one Waits told = omega arith
+told-by-one (Replies r) told = omega arith
+told-by-one (Ends status) told = omega arith
+
+since-more : (n m : ℕ) (o : Option ℕ) → n ≤ m → IfSome o (λ before. before ≤ n) → IfSome o (λ before. before ≤ m)
+since-more n m None more h = tt
+since-more n m (Some before) more h = omega (arith, more, h)
+
+since-told : (v : Verdict) (told : ℕ) (waited : Option ℕ) → IfSome waited (λ before. before ≤ told)
+    → IfSome (waited_after v told waited) (λ before. before ≤ told_after v told)
+since-told Waits told waited h = omega arith
+since-told (Replies r) told waited h = since-more told (told + 1) waited (omega arith) h
+since-told (Ends status) told waited h = since-more told (told + 1) waited (omega arith) h
 
 -- ---- files grow in number
 with_bytes-length : (files : List NamedFile) (place : ℕ) (o : Option NamedFile) (f : List ℕ → List ℕ) → length (with_bytes files place o f) ≡ length files
 with_bytes-length files place None f = refl
 with_bytes-length files place (Some file) f = length-set-at files place (record { name = file.name; bytes = f file.bytes })
 
-length-snoc : {A : Type 0} (xs : List A) (x : A) → length (xs ++ x ∷ []) ≡ length xs + 1
+pub length-snoc : {A : Type 0} (xs : List A) (x : A) → length (xs ++ x ∷ []) ≡ length xs + 1
 length-snoc [] x = omega arith
 length-snoc (y ∷ ys) x = let rest : length (ys ++ x ∷ []) ≡ length ys + 1 = length-snoc ys x in omega arith
 
@@ -77,6 +108,7 @@ name-more : (n m : ℕ) (d : Option Descriptor) → n ≤ m → NamesFile n d �
 name-more n m (Some (descriptor.File file offset writes)) h g = omega arith
 name-more n m (Some (descriptor.Tape tape)) h g = tt
 name-more n m (Some (descriptor.Terminal terminal)) h g = tt
+name-more n m (Some (descriptor.Pipe end)) h g = tt
 name-more n m None h g = tt
 
 pub names-more : (n m : ℕ) (ds : List (Option Descriptor)) → n ≤ m → NamesFiles n ds → NamesFiles m ds
@@ -88,57 +120,87 @@ got-append : (xs ys : List Reply) → map (λ r. Got r) (xs ++ ys) ≡ map (λ r
 got-append [] ys = refl
 got-append (x ∷ xs) ys = ap (λ zs. Got x ∷ zs) (got-append xs ys)
 
-items-by : (s : State) (v : Verdict) (mark : ℕ) (rs : List Reply) → MayBeTold s v
+items-by : (v : Verdict) (mark : ℕ) (rs : List Reply)
     → map (λ r. Got r) (rs ++ replies_of v) ++ end_items (end_after v mark None) ≡ map (λ r. Got r) rs ++ option_to_list (item_of v)
-items-by s Waits mark rs h = absurd h
-items-by s (Replies r) mark rs h = append-none (map (λ r. Got r) (rs ++ r ∷ [])) ∙ got-append rs (r ∷ [])
-items-by s (Ends status) mark rs h = ap (λ xs. map (λ r. Got r) xs ++ Ended status ∷ []) (append-none rs)
+items-by Waits mark rs = ap (λ xs. map (λ r. Got r) xs ++ []) (append-none rs)
+items-by (Replies r) mark rs = append-none (map (λ r. Got r) (rs ++ r ∷ [])) ∙ got-append rs (r ∷ [])
+items-by (Ends status) mark rs = ap (λ xs. map (λ r. Got r) xs ++ Ended status ∷ []) (append-none rs)
 
-marks-by : (s : State) (v : Verdict) (mark : ℕ) (ms : List ℕ) → MayBeTold s v
+marks-by : (v : Verdict) (mark : ℕ) (ms : List ℕ)
     → (ms ++ reply_marks v mark) ++ end_marks (end_after v mark None) ≡ ms ++ replicate (length (option_to_list (item_of v))) mark
-marks-by s Waits mark ms h = absurd h
-marks-by s (Replies r) mark ms h = append-none (ms ++ mark ∷ [])
-marks-by s (Ends status) mark ms h = ap (λ xs. xs ++ mark ∷ []) (append-none ms)
+marks-by Waits mark ms = append-none (ms ++ [])
+marks-by (Replies r) mark ms = append-none (ms ++ mark ∷ [])
+marks-by (Ends status) mark ms = ap (λ xs. xs ++ mark ∷ []) (append-none ms)
 
-pub trace-told : (c : ℕ) (log : List Entry) (e : Entry) (p : ℕ) (s : State) (v : Verdict) (slots : List Slot) (mark : ℕ) (t t' : Task)
-    → e.process ≡ p → e.item ≡ item_of v → IsMarkOf mark log e → MayBeTold s v → t.trace.end ≡ None
-    → IsTold v slots mark c t t' → IsTrace c log p t.trace → IsTrace c (log ++ e ∷ []) p t'.trace
-trace-told c log e p s v slots mark t t' here tells is_mark may running new h =
+-- the items and marks of a process that has not ended
+running-items : (c : ℕ) (log : List Entry) (p : ℕ) (t : Trace) → t.end ≡ None → IsTrace c log p t → map (λ r. Got r) t.replies.items ≡ whats (told p log)
+running-items c log p t running h =
+    sym (append-none (map (λ r. Got r) t.replies.items))
+    ∙ sym (ap (λ (o : Option End). map (λ r. Got r) t.replies.items ++ end_items o) running)
+    ∙ h.items
+
+running-marks : (c : ℕ) (log : List Entry) (p : ℕ) (t : Trace) → t.end ≡ None → IsTrace c log p t → AreMarked (told p log) t.marks.items
+running-marks c log p t running h =
+    subst (λ (ms : List ℕ). AreMarked (told p log) ms)
+    (ap (λ (o : Option End). t.marks.items ++ end_marks o) running ∙ append-none t.marks.items) h.marks
+
+pub trace-told : (c : ℕ) (log : List Entry) (e : Entry) (p : ℕ) (v : Verdict) (mark before : ℕ) (t t' : Task)
+    → e.process ≡ p → e.item ≡ item_of v → is_made e.child p ≡ false → IsMarkOf mark log e → t.trace.end ≡ None
+    → IsTold v mark c before t t' → IsTrace c log p t.trace → IsTrace c (log ++ e ∷ []) p t'.trace
+trace-told c log e p v mark before t t' here tells unmade is_mark running new h =
     let items : List Item = option_to_list (item_of v) in
     let more : told p (log ++ e ∷ []) ≡ told p log ++ given_by log e items =
-    told-entry p log e
+    told-own p log e unmade
     ∙ ap (λ (xs : List Item). told p log ++ given_by log e xs) (items-here p e here ∙ ap (λ (o : Option Item). option_to_list o) tells) in
-    let end : t'.trace.end ≡ end_after v mark None = new.end ∙ ap (end_after v mark) running in
-    let old_items : map (λ r. Got r) t.trace.replies.items ≡ whats (told p log) =
-    sym (append-none (map (λ r. Got r) t.trace.replies.items))
-    ∙ sym (ap (λ (o : Option End). map (λ r. Got r) t.trace.replies.items ++ end_items o) running)
-    ∙ h.items in
-    let old_marks : AreMarked (told p log) t.trace.marks.items =
-    subst (λ (ms : List ℕ). AreMarked (told p log) ms)
-    (ap (λ (o : Option End). t.trace.marks.items ++ end_marks o) running ∙ append-none t.trace.marks.items) h.marks in
+    let end : t'.trace.end ≡ end_after v mark None = new.trace.end ∙ ap (end_after v mark) running in
     let new_marks : t'.trace.marks.items ++ end_marks t'.trace.end ≡ t.trace.marks.items ++ replicate (length items) mark =
-    ap (λ (ms : List ℕ). ms ++ end_marks t'.trace.end) new.marks
+    ap (λ (ms : List ℕ). ms ++ end_marks t'.trace.end) new.trace.marks
     ∙ ap (λ (o : Option End). (t.trace.marks.items ++ reply_marks v mark) ++ end_marks o) end
-    ∙ marks-by s v mark t.trace.marks.items may in
+    ∙ marks-by v mark t.trace.marks.items in
     record {
       items =
-          ap (λ (rs : List Reply). map (λ r. Got r) rs ++ end_items t'.trace.end) new.replies
+          ap (λ (rs : List Reply). map (λ r. Got r) rs ++ end_items t'.trace.end) new.trace.replies
           ∙ ap (λ (o : Option End). map (λ r. Got r) (t.trace.replies.items ++ replies_of v) ++ end_items o) end
-          ∙ items-by s v mark t.trace.replies.items may
-          ∙ ap (λ (xs : List Item). xs ++ items) old_items
+          ∙ items-by v mark t.trace.replies.items
+          ∙ ap (λ (xs : List Item). xs ++ items) (running-items c log p t.trace running h)
           ∙ sym (ap (λ (gs : List (Given Item)). whats gs) more ∙ whats-more (told p log) log e items);
       marks =
           subst (λ (ms : List ℕ). AreMarked (told p (log ++ e ∷ [])) ms) (sym new_marks)
           (subst (λ (gs : List (Given Item)). AreMarked gs (t.trace.marks.items ++ replicate (length items) mark)) (sym more)
-          (are-marked-more (told p log) t.trace.marks.items log e mark items old_marks is_mark));
-      handed = new.handed h.handed;
+          (are-marked-more (told p log) t.trace.marks.items log e mark items (running-marks c log p t.trace running h) is_mark));
+      handed = new.trace.handed h.handed;
+    }
+
+-- the trace of a process that it made
+trace-forked : (c : ℕ) (log : List Entry) (e : Entry) (p q mark : ℕ) (s : State) (t : Trace) (u : Task)
+    → e.process ≡ p → is_made e.child q ≡ true → IsMarkOf mark log e → t.end ≡ None
+    → IsForked mark c s t u → IsTrace c log p t → IsTrace c (log ++ e ∷ []) q u.trace
+trace-forked c log e p q mark s t u here made is_mark running new h =
+    let zero_item : List Item = Got zero_reply ∷ [] in
+    let more : told q (log ++ e ∷ []) ≡ told p log ++ given_by log e zero_item =
+    told-made q log e made ∙ ap (λ (k : ℕ). told k log ++ given_by log e zero_item) here in
+    let new_marks : u.trace.marks.items ++ end_marks u.trace.end ≡ t.marks.items ++ mark ∷ [] =
+    ap (λ (o : Option End). u.trace.marks.items ++ end_marks o) new.end ∙ append-none u.trace.marks.items ∙ new.marks in
+    record {
+      items =
+          ap (λ (o : Option End). map (λ r. Got r) u.trace.replies.items ++ end_items o) new.end
+          ∙ append-none (map (λ r. Got r) u.trace.replies.items)
+          ∙ ap (λ (rs : List Reply). map (λ r. Got r) rs) new.replies
+          ∙ got-append t.replies.items (zero_reply ∷ [])
+          ∙ ap (λ (xs : List Item). xs ++ zero_item) (running-items c log p t running h)
+          ∙ sym (ap (λ (gs : List (Given Item)). whats gs) more ∙ whats-more (told p log) log e zero_item);
+      marks =
+          subst (λ (ms : List ℕ). AreMarked (told q (log ++ e ∷ [])) ms) (sym new_marks)
+          (subst (λ (gs : List (Given Item)). AreMarked gs (t.marks.items ++ mark ∷ [])) (sym more)
+          (are-marked-more (told p log) t.marks.items log e mark zero_item (running-marks c log p t running h) is_mark));
+      handed = new.handed;
     }
 
 -- the trace of another process
-pub trace-other : (c : ℕ) (log : List Entry) (e : Entry) (p : ℕ) (t : Trace) → (e.process ≡ p → ⊥) → IsTrace c log p t → IsTrace c (log ++ e ∷ []) p t
-trace-other c log e p t other h =
+pub trace-other : (c : ℕ) (log : List Entry) (e : Entry) (p : ℕ) (t : Trace) → (e.process ≡ p → ⊥) → is_made e.child p ≡ false → IsTrace c log p t → IsTrace c (log ++ e ∷ []) p t
+trace-other c log e p t other unmade h =
     let same : told p (log ++ e ∷ []) ≡ told p log =
-    told-entry p log e
+    told-own p log e unmade
     ∙ ap (λ (xs : List Item). told p log ++ given_by log e xs) (items-elsewhere p e other)
     ∙ append-none (told p log) in
     record {
@@ -147,79 +209,188 @@ trace-other c log e p t other h =
       handed = h.handed;
     }
 
+-- ---- which process was made
+unmade : (o : Option ℕ) (n k : ℕ) → IfSome o (IsNext n) → k < n → is_made o (k + 1) ≡ false
+unmade None n k next less = refl
+unmade (Some child) n k next less = ne_eqb child (k + 1) (λ e. absurd (omega (arith, next.0)))
+
+made-last : (o : Option ℕ) (n child : ℕ) → IfSome o (IsNext n) → o ≡ Some child → is_made o (n + 1) ≡ true
+made-last None n child next is = cc
+made-last (Some other) n child next is = eq-eqb other (n + 1) next.0
+
+next-is : (o : Option ℕ) (n child : ℕ) → IfSome o (IsNext n) → o ≡ Some child → child ≡ n + 1
+next-is None n child next is = cc
+next-is (Some other) n child next is = let same : other ≡ child = cc in sym same ∙ next.0
+
 -- ---- the tasks
 machine-count : (s : State) (v : Verdict) → (machine_after s v).count ≤ s.count + 1
 machine-count s Waits = omega arith
 machine-count s (Replies r) = omega arith
 machine-count s (Ends status) = omega arith
 
-pub told-task : (w : World) (files : List NamedFile) (pid place : ℕ) (full : Bool) (t t' : Task) (plan : Plan) (mark : ℕ)
-    → pid ≡ place + 1 → files ≡ w.sync.files → IsFineTask t full → PlansEnter files t.machine t.descriptors plan
+told-task : (w : World) (before pid place n : ℕ) (full : Bool) (q : Process) (t t' : Task) (plan : Plan) (mark : ℕ)
+    → pid ≡ place + 1 → place < n → IsFineTask t full → IfSome plan.child (IsNext n)
     → IsMarkOf mark w.log (entry_of pid plan)
-    → IsTold plan.told (option_to_list plan.slot) mark w.storage.committed t t'
-    → IsTask w place t → IsTask (world_after w (planned w.sync pid (process_of t) plan)) place t'
-told-task w files pid place full t t' plan mark number files_are fine plans is_mark new h =
-    let out : t'.out ≡ None = new.out ∙ fine.here in
-    let none : needed t'.out ≡ 0 = ap needed out in
-    let count : t'.machine.count ≤ t.machine.count + 1 =
-    subst (λ (s : State). s.count ≤ t.machine.count + 1) (sym new.machine) (machine-count t.machine plan.told) in
-    let few : t.machine.count < 2 ^ 40 = fine.few in
+    → IsTold plan.told mark w.storage.committed before t t'
+    → IsTask w before place t → IsTask (world_after w (planned w.sync pid q plan)) (told_after plan.told before) place t'
+told-task w before pid place n full q t t' plan mark number within fine child is_mark new h =
+    let out : out_of t' ≡ None = new.out ∙ fine.here in
+    let none : needed (out_of t') ≡ 0 = ap needed out in
+    let count : (machine_of t').count ≤ (machine_of t).count + 1 =
+    subst (λ (s : State). s.count ≤ (machine_of t).count + 1) (sym new.machine) (machine-count (machine_of t) plan.told) in
+    let few : (machine_of t).count < 2 ^ 40 = fine.few in
     record {
       number = new.pid ∙ h.number;
-      trace = trace-told w.storage.committed w.log (entry_of pid plan) (place + 1) t.machine plan.told (option_to_list plan.slot) mark t t'
-          number refl is_mark plans.told fine.running new h.trace;
-      named =
-          subst (λ (fs : List NamedFile). NamesFiles (length (changed_by fs plan.change)) t'.descriptors) files_are
-          (subst (λ (ds : List (Option Descriptor)). NamesFiles (length (changed_by files plan.change)) ds) (sym new.descriptors) plans.named);
+      trace = trace-told w.storage.committed w.log (entry_of pid plan) (place + 1) plan.told mark before t t'
+          number refl (unmade plan.child n place child within) is_mark fine.running new h.trace;
       budget = omega (arith, none, count, few);
-      awake = waiting-ends (place + 1) w.log (entry_of pid plan) (tells-something t.machine plan.told plans.told);
+      waits =
+          waiting-more (place + 1) w.log (entry_of pid plan)
+          ∙ ap (λ (k : ℕ). waits_by (place + 1) (is_waiting (place + 1) w.log) (item_of plan.told) k (writes_of k plan.told plan.writes.items)) number
+          ∙ waits-told plan.told before (place + 1) (is_waiting (place + 1) w.log) t.trace.waited plan.writes.items h.since
+          ∙ ap (λ (o : Option ℕ). is_asleep (told_after plan.told before) o) (sym new.trace.waited);
+      since =
+          subst (λ (o : Option ℕ). IfSome o (λ x. x ≤ told_after plan.told before)) (sym new.trace.waited)
+          (since-told plan.told before t.trace.waited h.since);
       running = λ lent. cc (ap (λ (o : Option ℕ). is_some o) out);
     }
 
-pub other-task : (w : World) (pid place k : ℕ) (p : Process) (s : State) (u : Task) (plan : Plan)
-    → pid ≡ place + 1 → (k ≡ place → ⊥) → MayBeTold s plan.told → IsTask w k u → IsTask (world_after w (planned w.sync pid p plan)) k u
-other-task w pid place k p s u plan number other may h = record {
+other-task : (w : World) (before pid place k n : ℕ) (q : Process) (u : Task) (plan : Plan)
+    → pid ≡ place + 1 → (k ≡ place → ⊥) → k < n → IfSome plan.child (IsNext n)
+    → IsTask w before k u → IsTask (world_after w (planned w.sync pid q plan)) (told_after plan.told before) k u
+other-task w before pid place k n q u plan number other within child h = record {
   number = h.number;
-  trace = trace-other w.storage.committed w.log (entry_of pid plan) (k + 1) u.trace (λ same. other (omega arith)) h.trace;
-  named = names-more (length w.sync.files) (length (changed_by w.sync.files plan.change)) u.descriptors (files-grow w.sync.files plan.change) h.named;
+  trace = trace-other w.storage.committed w.log (entry_of pid plan) (k + 1) u.trace (λ same. other (omega arith)) (unmade plan.child n k child within) h.trace;
   budget = h.budget;
-  awake = waiting-ends (k + 1) w.log (entry_of pid plan) (tells-something s plan.told may);
+  waits =
+      waiting-more (k + 1) w.log (entry_of pid plan)
+      ∙ waits-other plan.told before (k + 1) pid (is_waiting (k + 1) w.log) u.trace.waited plan.writes.items (λ same. other (omega arith)) h.since h.waits;
+  since = since-more before (told_after plan.told before) u.trace.waited (told-grows plan.told before) h.since;
   running = h.running;
 }
 
-status-by : (v : Verdict) (mark : ℕ) → status_of (end_after v mark None) ≡ status_after v
+child-waits : (v : Verdict) (p q : ℕ) (b : Bool) (cs : List Carrier) → is_some (item_of v) ≡ true → waits_by p b (item_of v) q (writes_of q v cs) ≡ false
+child-waits Waits p q b cs h = cc
+child-waits (Replies r) p q b cs h = refl
+child-waits (Ends status) p q b cs h = refl
+
+child-task : (w : World) (before pid place n : ℕ) (full : Bool) (q : Process) (t u : Task) (plan : Plan) (mark : ℕ)
+    → pid ≡ place + 1 → IsFineTask t full → IfSome plan.child (IsNext n) → plan.child ≡ Some u.pid → is_some (item_of plan.told) ≡ true
+    → IsMarkOf mark w.log (entry_of pid plan)
+    → IsForked mark w.storage.committed (machine_of t) t.trace u
+    → IsTask w before place t → IsTask (world_after w (planned w.sync pid q plan)) (told_after plan.told before) n u
+child-task w before pid place n full q t u plan mark number fine child is tells is_mark new h =
+    let none : needed (out_of u) ≡ 0 = ap needed new.out in
+    let count : (machine_of u).count ≡ (machine_of t).count + 1 = ap (λ (s : State). s.count) new.machine in
+    let few : (machine_of t).count < 2 ^ 40 = fine.few in
+    record {
+      number = next-is plan.child n u.pid child is;
+      trace = trace-forked w.storage.committed w.log (entry_of pid plan) (place + 1) (n + 1) mark (machine_of t) t.trace u
+          number (made-last plan.child n u.pid child is) is_mark fine.running new h.trace;
+      budget = omega (arith, none, count, few);
+      waits =
+          waiting-more (n + 1) w.log (entry_of pid plan)
+          ∙ child-waits plan.told (n + 1) pid (is_waiting (n + 1) w.log) plan.writes.items tells
+          ∙ ap (λ (o : Option ℕ). is_asleep (told_after plan.told before) o) (sym new.waited);
+      since = subst (λ (o : Option ℕ). IfSome o (λ x. x ≤ told_after plan.told before)) (sym new.waited) tt;
+      running = λ lent. new.end;
+    }
+
+-- ---- the list of them
+pub map-append : {A B : Type 0} (f : A → B) (xs ys : List A) → map f (xs ++ ys) ≡ map f xs ++ map f ys
+map-append f [] ys = refl
+map-append f (x ∷ xs) ys = ap (λ zs. f x ∷ zs) (map-append f xs ys)
+
+pub get-joined : {A : Type 0} (xs : List A) (o : Option A) (i : ℕ) (y : A) → slice_get (xs ++ option_to_list o) i ≡ Some y
+    → (slice_get xs i ≡ Some y) ⊎ ((i ≡ length xs) × (o ≡ Some y))
+get-joined [] None i y e = cc
+get-joined [] (Some x) zero y e = inr (refl, e)
+get-joined [] (Some x) (suc i) y e = cc
+get-joined (z ∷ zs) o zero y e = inl e
+get-joined (z ∷ zs) o (suc i) y e = elim (get-joined zs o i y e) [
+  | inl h ↦ inl h
+  | inr h ↦ inr (ap (λ n. suc n) h.0, h.1)
+]
+
+pub get-within : {A : Type 0} (xs : List A) (i : ℕ) (x : A) → slice_get xs i ≡ Some x → i < length xs
+get-within [] i x e = cc
+get-within (y ∷ ys) zero x e = omega arith
+get-within (y ∷ ys) (suc i) x e = let rest : i < length ys = get-within ys i x e in omega arith
+
+pub length-map : {A B : Type 0} (f : A → B) (xs : List A) → length (map f xs) ≡ length xs
+length-map f [] = refl
+length-map f (x ∷ xs) = ap (λ n. suc n) (length-map f xs)
+
+status-by : (v : Verdict) (mark : ℕ) → status_of (end_after v mark None) ≡ status_after v None
 status-by Waits mark = refl
 status-by (Replies r) mark = refl
 status-by (Ends status) mark = refl
 
-process-by : (t t' : Task) (full : Bool) (plan : Plan) (mark c : ℕ) → IsFineTask t full
-    → IsTold plan.told (option_to_list plan.slot) mark c t t' → process_of t' ≡ process_after (process_of t) plan
-process-by t t' full plan mark c fine new =
-    let status : status_of t'.trace.end ≡ status_after plan.told =
-    ap status_of (new.end ∙ ap (end_after plan.told mark) fine.running) ∙ status-by plan.told mark in
-    ap (λ (s : State). record { state = s; descriptors = t'.descriptors; status = status_of t'.trace.end }) new.machine
-    ∙ ap (λ (ds : List (Option Descriptor)). record { state = machine_after t.machine plan.told; descriptors = ds; status = status_of t'.trace.end }) new.descriptors
-    ∙ ap (λ (o : Option ℕ). record { state = machine_after t.machine plan.told; descriptors = descriptors_after t.descriptors plan.told (option_to_list plan.slot); status = o }) status
+process-told : (q : Process) (t t' : Task) (full : Bool) (plan : Plan) (mark c before : ℕ) → IsFineTask t full → q.state ≡ machine_of t → q.status ≡ None
+    → IsTold plan.told mark c before t t' → process_of t' ≡ bare (process_after q plan)
+process-told q t t' full plan mark c before fine state running new =
+    let status : status_of t'.trace.end ≡ status_after plan.told q.status =
+    ap status_of (new.trace.end ∙ ap (end_after plan.told mark) fine.running) ∙ status-by plan.told mark
+    ∙ ap (λ (o : Option ℕ). status_after plan.told o) (sym running) in
+    ap (λ (s : State). record { state = s; descriptors = []; children = []; status = status_of t'.trace.end })
+    (new.machine ∙ ap (λ (s : State). machine_after s plan.told) (sym state))
+    ∙ ap (λ (o : Option ℕ). record { state = machine_after q.state plan.told; descriptors = []; children = []; status = o }) status
 
-pub told-tasks : (w : World) (files : List NamedFile) (tasks : List Task) (pid place : ℕ) (full : Bool) (t t' : Task) (plan : Plan) (mark : ℕ)
-    → pid ≡ place + 1 → slice_get tasks place ≡ Some t → files ≡ w.sync.files → IsFineTask t full → PlansEnter files t.machine t.descriptors plan
-    → IsMarkOf mark w.log (entry_of pid plan)
-    → IsTold plan.told (option_to_list plan.slot) mark w.storage.committed t t'
-    → AreTasks w tasks → AreTasks (world_after w (planned w.sync pid (process_of t) plan)) (slice_set tasks place t')
-told-tasks w files tasks pid place full t t' plan mark number there files_are fine plans is_mark new h =
-    let v : World = world_after w (planned w.sync pid (process_of t) plan) in
-    let next : pid ≡ suc place = omega arith in
+process-made : (e : Entering) (c : ℕ) (q : Process) (t : Task) (o : Option Task) → q.state ≡ machine_of t → IsChild e c (machine_of t) t.trace o
+    → map process_of (option_to_list o) ≡ map bare (forked q e.plan.child)
+process-made e c q t None state made = ap (λ (x : Option ℕ). map bare (forked q x)) (sym made)
+process-made e c q t (Some u) state made =
+    ap (λ (s : State). record { state = s; descriptors = []; children = []; status = status_of u.trace.end } ∷ [])
+    (made.1.machine ∙ ap (λ (s : State). replied s zero_reply) (sym state))
+    ∙ ap (λ (x : Option End). record { state = replied q.state zero_reply; descriptors = []; children = []; status = status_of x } ∷ []) made.1.end
+    ∙ ap (λ (x : Option ℕ). map bare (forked q x)) (sym made.0)
+
+-- the made process is that which its plan names
+child-is : (e : Entering) (c : ℕ) (s : State) (r : Trace) (o : Option Task) (u : Task) → o ≡ Some u → IsChild e c s r o
+    → (e.plan.child ≡ Some u.pid) × IsForked e.mark c s r u
+child-is e c s r o u is made = let P : Option Task → Type 0 = λ x. IsChild e c s r x in subst P is made
+
+pub told-tasks : (w : World) (before : ℕ) (tasks : List Task) (pid place : ℕ) (full : Bool) (t t' : Task) (e : Entering) (child : Option Task)
+    → pid ≡ place + 1 → slice_get tasks place ≡ Some t → IsFineTask t full → (of : IsProcessOf w.sync.processes pid t)
+    → IfSome e.plan.child (IsNext (length tasks))
+    → (is_some e.plan.child ≡ true → is_some (item_of e.plan.told) ≡ true)
+    → IsMarkOf e.mark w.log (entry_of pid e.plan)
+    → IsTold e.plan.told e.mark w.storage.committed before t t'
+    → IsChild e w.storage.committed (machine_of t) t.trace child
+    → AreTasks w before tasks
+    → AreTasks (world_after w (planned w.sync pid of.process e.plan)) (told_after e.plan.told before) (slice_set tasks place t' ++ option_to_list child)
+told-tasks w before tasks pid place full t t' e child number there fine of next tells is_mark new made h =
+    let plan : Plan = e.plan in
+    let q : Process = of.process in
+    let v : World = world_after w (planned w.sync pid q plan) in
+    let after : ℕ = told_after plan.told before in
+    let behind : pid ≡ suc place = omega arith in
+    let size : length (slice_set tasks place t') ≡ length tasks = length-set-at tasks place t' in
+    let running : q.status ≡ None = of.status ∙ ap status_of fine.running in
     record {
       processes =
-          map-set process_of tasks place t'
+          map-append process_of (slice_set tasks place t') (option_to_list child)
+          ∙ ap (λ (ps : List Process). ps ++ map process_of (option_to_list child))
+          (map-set process_of tasks place t'
           ∙ ap (λ (ps : List Process). slice_set ps place (process_of t')) h.processes
-          ∙ ap (λ (p : Process). slice_set w.sync.processes place p) (process-by t t' full plan mark w.storage.committed fine new)
-          ∙ sym (ap (λ n. put_process w.sync.processes n (process_after (process_of t) plan)) next);
-      each = λ k u at. elim (get-set tasks place k t' u at) as (λ _. IsTask v k u) [
-        | inl g ↦
-            subst (λ (x : Task). IsTask v k x) (sym g.1)
-            (subst (λ (j : ℕ). IsTask v j t') (sym g.0)
-            (told-task w files pid place full t t' plan mark number files_are fine plans is_mark new (h.each place t there)))
-        | inr g ↦ other-task w pid place k (process_of t) t.machine u plan number g.0 plans.told (h.each k u g.1)
+          ∙ ap (λ (p : Process). slice_set (map bare w.sync.processes) place p) (process-told q t t' full plan e.mark w.storage.committed before fine of.state running new)
+          ∙ sym (map-set bare w.sync.processes place (process_after q plan))
+          ∙ ap (λ n. map bare (put_process w.sync.processes n (process_after q plan))) (sym behind))
+          ∙ ap (λ (ps : List Process). map bare (put_process w.sync.processes pid (process_after q plan)) ++ ps)
+          (process-made e w.storage.committed q t child of.state made)
+          ∙ sym (map-append bare (put_process w.sync.processes pid (process_after q plan)) (forked q plan.child));
+      each = λ k u at. elim (get-joined (slice_set tasks place t') child k u at) as (λ _. IsTask v after k u) [
+        | inl g ↦ elim (get-set tasks place k t' u g) as (λ _. IsTask v after k u) [
+          | inl s ↦
+              subst (λ (x : Task). IsTask v after k x) (sym s.1)
+              (subst (λ (j : ℕ). IsTask v after j t') (sym s.0)
+              (told-task w before pid place (length tasks) full q t t' plan e.mark number (get-within tasks place t there) fine next is_mark new (h.each place t there)))
+          | inr s ↦ other-task w before pid place k (length tasks) q u plan number s.0 (get-within tasks k u s.1) next (h.each k u s.1)
+        ]
+        | inr g ↦
+            (let one = child-is e w.storage.committed (machine_of t) t.trace child u g.1 made in
+            subst (λ (j : ℕ). IsTask v after j u) (sym (g.0 ∙ size))
+            (child-task w before pid place (length tasks) full q t u plan e.mark number fine next one.0
+            (tells (ap (λ (o : Option ℕ). is_some o) one.0)) is_mark one.1 (h.each place t there)))
       ];
     }

@@ -1,12 +1,12 @@
 -- A core whose next process is lent.
-use Rattle.std.proofs.Common.{◌≡◌, ℕ, zero, suc, ◌+◌, ◌-◌, ◌*◌, ◌^◌, ◌<◌, ◌≤◌, ◌⊎◌, inl, inr, Bool, true, false, ◌&&◌, not, nat_lt, nat_le, cond, List, [], ◌∷◌, ◌++◌, length, take, drop, map, slice_get, slice_set, slice_index_or, Option, Some, None, is_some, option_map, refl, sym, ap, subst, ◌∙◌, arith}
+use Rattle.std.proofs.Common.{◌≡◌, ℕ, zero, suc, ◌+◌, ◌-◌, ◌*◌, ◌^◌, ◌<◌, ◌≤◌, ◌⊎◌, inl, inr, Bool, true, false, ◌&&◌, not, nat_lt, nat_le, cond, List, [], ◌∷◌, ◌++◌, length, take, drop, map, slice_get, slice_set, slice_index_or, Option, Some, None, is_some, IfSome, option_map, refl, sym, ap, subst, ◌∙◌, arith}
 use Rattle.std.specs.Prelude.{find, fold, if◌then◌else◌}
 use Rattle.std.proofs.lemmas.Bool.{ltb-false, leb-true}
 use Rattle.std.proofs.lemmas.List.{map-set}
 use Rattle.std.proofs.lemmas.List.Sums.{sum_by-set}
 use Rattle.std.proofs.lemmas.Option.{slice_get_within, slice_get-get_or, slice_get-map}
-use Rattle.std.proofs.Math.Bool.{and-true}
 use Rattle.std.proofs.Math.Seq.{map-set_same}
+use Rattle.machine_model.specs.States.{State}
 use Rattle.kernel_model.specs.Answers.{Kernel, Lending, lending_at, quantum_out, process_of as process_in, is_lent, loans_out, now, limit, has_ended, count_at}
 use Rattle.kernel_model.specs.Loans.{is_waiting, is_lendable, pick, is_full_for_loan, loan_count, loans_in, loan_refusal, put_lending, with_loan, numbers_to, IsNextLoan}
 use Rattle.kernel_model.specs.State.{Process}
@@ -14,17 +14,21 @@ use Rattle.kernel_model.specs.World.{World}
 use Rattle.kernel_model.specs.declared.answer.Refused.TheVariants as refused
 use Rattle.kernel_model.specs.declared.event.Event.{Event}
 use Rattle.kernel.specs.Cores.{run_of, kernel_of, IsCore}
-use Rattle.kernel.specs.Lending.{full_for_loan_of, is_fit, next_fit, lent_task, Lent}
+use Rattle.kernel.specs.Lending.{full_for_loan_of, is_fit, next_fit, IsLent, Lent}
 use Rattle.kernel.specs.Loaned.{loan_out}
 use Rattle.kernel.specs.Mirrors.{IsTask, AreTasks}
-use Rattle.kernel.specs.Tasks.{status_of, process_of, lending_of, count_out}
+use Rattle.kernel.specs.Seen.{IsTrace}
+use Rattle.kernel.specs.Tasks.{machine_of, out_of, status_of, process_of, bare, lending_of, count_out, needed, unsettled}
+use Rattle.kernel.specs.Waiting.{is_asleep}
 use Rattle.kernel.specs.declared.boot.Booted.{Booted}
 use Rattle.kernel.specs.declared.loan.Loan.{Loan}
 use Rattle.kernel.specs.declared.shared.Shared.{Shared}
 use Rattle.kernel.specs.declared.trace.End.{End}
+use Rattle.kernel.specs.declared.trace.Trace.{Trace}
 use Rattle.kernel.specs.declared.task.Task.{Task}
 use Rattle.kernel.proofs.FewLoans.{few-put, few-here}
 use Rattle.kernel.proofs.LendPick.{find-round}
+use Rattle.kernel.proofs.Turning.{IsProcessOf, process-there}
 
 length-map : {A B : Type 0} (f : A → B) (xs : List A) → length (map f xs) ≡ length xs
 length-map f [] = refl
@@ -47,16 +51,17 @@ sum_from-map f w n [] = refl
 sum_from-map f w n (x ∷ xs) = sum_from-map f w (n + w (f x)) xs
 
 -- one more is out
-count_out-lent : (quantum : ℕ) (tasks : List Task) (place : ℕ) (t : Task) → slice_get tasks place ≡ Some t → is_some t.out ≡ false
-    → count_out (slice_set tasks place (lent_task quantum t)) ≡ count_out tasks + 1
-count_out-lent quantum tasks place t there here =
-    let weight : Task → ℕ = λ u. cond (is_some u.out) 1 0 in
+count_out-lent : (quantum : ℕ) (tasks : List Task) (place : ℕ) (t u : Task) → slice_get tasks place ≡ Some t → is_some (out_of t) ≡ false
+    → out_of u ≡ Some quantum → count_out (slice_set tasks place u) ≡ count_out tasks + 1
+count_out-lent quantum tasks place t u there here out =
+    let weight : Task → ℕ = λ u. cond (is_some (out_of u)) 1 0 in
     let within : place < length tasks = slice_get_within tasks place t there in
     let at : slice_get tasks place ≡ Some (slice_index_or tasks place t) = slice_get-get_or tasks place t within in
     let same : slice_index_or tasks place t ≡ t = cc in
     let none : weight (slice_index_or tasks place t) ≡ 0 = ap weight same ∙ ap (λ b. cond b 1 0) here in
-    let sums : count_out (slice_set tasks place (lent_task quantum t)) + weight (slice_index_or tasks place t) ≡ count_out tasks + 1 =
-    sum_by-set weight tasks place (lent_task quantum t) t within in
+    let one : weight u ≡ 1 = ap (λ (o : Option ℕ). cond (is_some o) 1 0) out in
+    let sums : count_out (slice_set tasks place u) + weight (slice_index_or tasks place t) ≡ count_out tasks + weight u =
+    sum_by-set weight tasks place u t within in
     omega arith
 
 loans_out-is : (b : Booted) (history : List Event) (tasks : List Task) (last : ℕ) → loans_out (kernel_of b history tasks last) ≡ count_out tasks
@@ -69,8 +74,8 @@ full-is b history tasks last = ap (λ n. nat_lt (2 ^ 40 - 2) (length history + 2
 
 -- ---- what a task that fits is
 pub record IsFit (quantum : ℕ) (t : Task) : Type 0 where
-  pub here : is_some t.out ≡ false
-  pub few : t.machine.count + (quantum + 1) ≤ 2 ^ 40
+  pub here : is_some (out_of t) ≡ false
+  pub few : (machine_of t).count + (quantum + 1) ≤ 2 ^ 40
   pub runs : t.trace.end ≡ None
 
 both : (a b : Bool) → (a && b) ≡ true → (a ≡ true) × (b ≡ true)
@@ -85,57 +90,77 @@ no-end : (o : Option End) → is_some (status_of o) ≡ false → o ≡ None
 no-end None h = refl
 no-end (Some e) h = cc
 
-pub fits : (quantum : ℕ) (t : Task) → is_fit quantum t ≡ true → IsFit quantum t
-fits quantum t h =
-    let a = both (not (is_some (status_of t.trace.end)) && not (is_some t.out)) (nat_le (t.machine.count + quantum + 1) (2 ^ 40)) h in
-    let b = both (not (is_some (status_of t.trace.end))) (not (is_some t.out)) a.0 in
-    let few : t.machine.count + quantum + 1 ≤ 2 ^ 40 = leb-true (t.machine.count + quantum + 1) (2 ^ 40) a.1 in
-    record { here = unless (is_some t.out) b.1; few = omega arith; runs = no-end t.trace.end (unless (is_some (status_of t.trace.end)) b.0) }
+pub fits : (quantum told : ℕ) (t : Task) → is_fit quantum told t ≡ true → IsFit quantum t
+fits quantum told t h =
+    let ended : Bool = not (is_some (status_of t.trace.end)) in
+    let here : Bool = not (is_some (out_of t)) in
+    let room : Bool = nat_le ((machine_of t).count + quantum + 1) (2 ^ 40) in
+    let z = both (ended && here && room) (not (is_asleep told t.trace.waited)) h in
+    let a = both (ended && here) room z.0 in
+    let b = both ended here a.0 in
+    let few : (machine_of t).count + quantum + 1 ≤ 2 ^ 40 = leb-true ((machine_of t).count + quantum + 1) (2 ^ 40) a.1 in
+    record { here = unless (is_some (out_of t)) b.1; few = omega arith; runs = no-end t.trace.end (unless (is_some (status_of t.trace.end)) b.0) }
 
 -- ---- the invariant
-lent-task : (w : World) (place quantum : ℕ) (t : Task) → IsTask w place t → is_fit quantum t ≡ true → IsTask w place (lent_task quantum t)
-lent-task w place quantum t h fit = record {
-  number = h.number;
-  trace = h.trace;
-  named = h.named;
-  budget = (fits quantum t fit).few;
-  awake = h.awake;
-  running = λ e. (fits quantum t fit).runs;
+lent-task : (w : World) (told place quantum : ℕ) (t u : Task) → IsTask w told place t → is_fit quantum told t ≡ true → IsLent quantum t u → IsTask w told place u
+lent-task w told place quantum t u h fit lent = record {
+  number = lent.pid ∙ h.number;
+  trace = subst (λ (r : Trace). IsTrace w.storage.committed w.log (place + 1) r) (sym lent.trace) h.trace;
+  budget =
+      let count : (machine_of u).count ≡ (machine_of t).count = ap (λ (s : State). s.count) lent.machine in
+      let more : needed (out_of u) ≡ quantum + 1 = ap needed lent.out in
+      let few = (fits quantum told t fit).few in
+      omega (arith, count, more, few);
+  waits = h.waits ∙ ap (λ (r : Trace). is_asleep told r.waited) (sym lent.trace);
+  since = subst (λ (r : Trace). IfSome r.waited (λ before. before ≤ told)) (sym lent.trace) h.since;
+  running = λ e. ap (λ (r : Trace). r.end) lent.trace ∙ (fits quantum told t fit).runs;
 }
 
-lent-tasks : (w : World) (tasks : List Task) (place quantum : ℕ) (t : Task) → AreTasks w tasks → slice_get tasks place ≡ Some t → is_fit quantum t ≡ true
-    → AreTasks w (slice_set tasks place (lent_task quantum t))
-lent-tasks w tasks place quantum t h there fit =
+process-lent : (quantum : ℕ) (t u : Task) → IsLent quantum t u → process_of u ≡ process_of t
+process-lent quantum t u lent =
+    ap (λ (s : State). record { state = s; descriptors = []; children = []; status = status_of u.trace.end }) lent.machine
+    ∙ ap (λ (r : Trace). record { state = machine_of t; descriptors = []; children = []; status = status_of r.end }) lent.trace
+
+lent-tasks : (w : World) (told : ℕ) (tasks : List Task) (place quantum : ℕ) (t u : Task) → AreTasks w told tasks → slice_get tasks place ≡ Some t → is_fit quantum told t ≡ true
+    → IsLent quantum t u → AreTasks w told (slice_set tasks place u)
+lent-tasks w told tasks place quantum t u h there fit lent =
     let within : place < length tasks = slice_get_within tasks place t there in
     let at : slice_get tasks place ≡ Some (slice_index_or tasks place t) = slice_get-get_or tasks place t within in
     let same : slice_index_or tasks place t ≡ t = cc in
     record {
-      processes = map-set_same process_of tasks place (lent_task quantum t) t (ap process_of (sym same)) ∙ h.processes;
-      each = λ i u found. elim (get-set tasks place i (lent_task quantum t) u found) [
-        | inl s ↦ subst (λ (k : ℕ). IsTask w k u) (sym s.0)
-            (subst (λ (v : Task). IsTask w place v) (sym s.1) (lent-task w place quantum t (h.each place t there) fit))
-        | inr s ↦ h.each i u s
+      processes = map-set_same process_of tasks place u t (process-lent quantum t u lent ∙ ap process_of (sym same)) ∙ h.processes;
+      each = λ i x found. elim (get-set tasks place i u x found) [
+        | inl s ↦ subst (λ (k : ℕ). IsTask w told k x) (sym s.0)
+            (subst (λ (v : Task). IsTask w told place v) (sym s.1) (lent-task w told place quantum t u (h.each place t there) fit lent))
+        | inr s ↦ h.each i x s
       ];
     }
 
 pub lent-core : (b : Booted) (history : List Event) (old new : List Task) (shared : Shared) (quantum behind : ℕ) (loan : Loan)
-    → IsCore b history old shared → full_for_loan_of (length history) old ≡ false → Lent quantum behind old new loan → IsCore b history new shared
+    → IsCore b history old shared → full_for_loan_of (length history) old ≡ false → Lent quantum shared.told behind old new loan → IsCore b history new shared
 lent-core b history old new shared quantum behind loan h room lent =
     let t : Task = lent.task in
+    let u : Task = lent.later in
     let few : length history + 2 * count_out old ≤ 2 ^ 40 - 2 = ltb-false (2 ^ 40 - 2) (length history + 2 * count_out old) room in
-    let more : count_out (slice_set old lent.place (lent_task quantum t)) ≡ count_out old + 1 =
-    count_out-lent quantum old lent.place t lent.there (fits quantum t lent.fit).here in
-    let had : t.loans ≤ length history = few-here (length history) old lent.place t h.loans lent.there (fits quantum t lent.fit).here in
+    let more : count_out (slice_set old lent.place u) ≡ count_out old + 1 =
+    count_out-lent quantum old lent.place t u lent.there (fits quantum shared.told t lent.fit).here lent.lent.out in
+    let had : t.loans ≤ length history = few-here (length history) old lent.place t h.loans lent.there (fits quantum shared.told t lent.fit).here in
+    let loans : u.loans ≡ t.loans + 1 = lent.lent.loans in
+    let one : unsettled (out_of u) ≡ 1 = ap unsettled lent.lent.out in
     subst (λ (ts : List Task). IsCore b history ts shared) (sym lent.after) (record {
       mirrors = record {
-        each = lent-tasks (run_of b history) old lent.place quantum t h.mirrors.each lent.there lent.fit;
+        each = lent-tasks (run_of b history) shared.told old lent.place quantum t u h.mirrors.each lent.there lent.fit lent.lent;
         changes = h.mirrors.changes;
+        tapes = h.mirrors.tapes;
+        parts = h.mirrors.parts;
+        pipes = h.mirrors.pipes;
+        counted = h.mirrors.counted;
         kept = h.mirrors.kept;
         screens = h.mirrors.screens;
         disk = h.mirrors.disk;
       };
       room = omega arith;
-      loans = few-put (length history) old lent.place (lent_task quantum t) (omega (arith, had)) h.loans;
+      loans = few-put (length history) old lent.place u (omega (arith, had, loans, one)) h.loans;
     })
 
 -- ---- the process that is picked
@@ -143,51 +168,53 @@ abbrev pub lendable_by : Option Process → Bool → Bool → ℕ → Bool
 lendable_by p lent waiting quantum =
     is_some p && not (has_ended p) && not lent && nat_le (count_at p + quantum + 1) limit && not waiting
 
-process-there : (b : Booted) (history : List Event) (tasks : List Task) (shared : Shared) (last place : ℕ) (t : Task)
-    → IsCore b history tasks shared → slice_get tasks place ≡ Some t → process_in (kernel_of b history tasks last) (suc place) ≡ Some (process_of t)
-process-there b history tasks shared last place t h there =
-    ap (λ (ps : List Process). slice_get ps place) (sym h.mirrors.each.processes)
-    ∙ slice_get-map process_of tasks place
-    ∙ ap (λ o. option_map process_of o) there
+process-at : (b : Booted) (history : List Event) (tasks : List Task) (shared : Shared) (place : ℕ) (t : Task)
+    → IsCore b history tasks shared → slice_get tasks place ≡ Some t → IsProcessOf (run_of b history).sync.processes (suc place) t
+process-at b history tasks shared place t h there = process-there (run_of b history) shared.told tasks (suc place) place t h.mirrors.each (omega arith) there
 
 lending-there : (tasks : List Task) (place : ℕ) (t : Task) → slice_get tasks place ≡ Some t → lending_at (map lending_of tasks) (suc place) ≡ Some (lending_of t)
 lending-there tasks place t there = slice_get-map lending_of tasks place ∙ ap (λ o. option_map lending_of o) there
 
 lendable-is : (b : Booted) (history : List Event) (tasks : List Task) (shared : Shared) (last quantum place : ℕ) (t : Task)
     → IsCore b history tasks shared → slice_get tasks place ≡ Some t
-    → is_lendable (kernel_of b history tasks last) quantum (suc place) ≡ is_fit quantum t
+    → is_lendable (kernel_of b history tasks last) quantum (suc place) ≡ is_fit quantum shared.told t
 lendable-is b history tasks shared last quantum place t h there =
     let k : Kernel = kernel_of b history tasks last in
+    let of : IsProcessOf (run_of b history).sync.processes (suc place) t = process-at b history tasks shared place t h there in
     let next : place + 1 ≡ suc place = omega arith in
-    let awake : is_waiting (suc place) (now k).log ≡ false =
-    ap (λ p. is_waiting p (run_of b history).log) (sym next) ∙ (h.mirrors.each.each place t there).awake in
-    let lent : is_lent k (suc place) ≡ is_some t.out = ap (λ (o : Option Lending). is_some (quantum_out o)) (lending-there tasks place t there) in
-    ap (λ (o : Option Process). lendable_by o (is_lent k (suc place)) (is_waiting (suc place) (now k).log) quantum) (process-there b history tasks shared last place t h there)
+    let waits : is_waiting (suc place) (now k).log ≡ is_asleep shared.told t.trace.waited =
+    ap (λ p. is_waiting p (run_of b history).log) (sym next) ∙ (h.mirrors.each.each place t there).waits in
+    let lent : is_lent k (suc place) ≡ is_some (out_of t) = ap (λ (o : Option Lending). is_some (quantum_out o)) (lending-there tasks place t there) in
+    ap (λ (o : Option Process). lendable_by o (is_lent k (suc place)) (is_waiting (suc place) (now k).log) quantum) of.there
+    ∙ ap (λ (o : Option ℕ). not (is_some o) && not (is_lent k (suc place)) && nat_le (of.process.state.count + quantum + 1) limit && not (is_waiting (suc place) (now k).log)) of.status
+    ∙ ap (λ (s : State). not (is_some (status_of t.trace.end)) && not (is_lent k (suc place)) && nat_le (s.count + quantum + 1) limit && not (is_waiting (suc place) (now k).log)) of.state
     ∙ ap (λ v. lendable_by (Some (process_of t)) v (is_waiting (suc place) (now k).log) quantum) lent
-    ∙ ap (λ v. lendable_by (Some (process_of t)) (is_some t.out) v quantum) awake
-    ∙ and-true (is_fit quantum t)
+    ∙ ap (λ v. lendable_by (Some (process_of t)) (is_some (out_of t)) v quantum) waits
 
 pub pick-is : (b : Booted) (history : List Event) (tasks : List Task) (shared : Shared) (last quantum : ℕ) → IsCore b history tasks shared
-    → pick (kernel_of b history tasks last) quantum ≡ option_map (λ i. suc i) (next_fit quantum last tasks)
+    → pick (kernel_of b history tasks last) quantum ≡ option_map (λ i. suc i) (next_fit quantum shared.told last tasks)
 pick-is b history tasks shared last quantum h =
     let k : Kernel = kernel_of b history tasks last in
     let count : length (now k).sync.processes ≡ length tasks =
-    ap (λ (ps : List Process). length ps) (sym h.mirrors.each.processes) ∙ length-map process_of tasks in
+    sym (length-map bare (now k).sync.processes) ∙ ap (λ (ps : List Process). length ps) (sym h.mirrors.each.processes) ∙ length-map process_of tasks in
     ap (λ n. find (is_lendable k quantum) (drop last (numbers_to n) ++ take last (numbers_to n))) count
-    ∙ find-round (is_lendable k quantum) (is_fit quantum) last tasks (λ i t there. lendable-is b history tasks shared last quantum i t h there)
+    ∙ find-round (is_lendable k quantum) (is_fit quantum shared.told) last tasks (λ i t there. lendable-is b history tasks shared last quantum i t h there)
 
 -- ---- the loan
-lending-lent : (quantum : ℕ) (tasks : List Task) (place : ℕ) (t : Task) → slice_get tasks place ≡ Some t
-    → map lending_of (slice_set tasks place (lent_task quantum t))
-    ≡ put_lending (map lending_of tasks) (suc place) (record { loans = t.loans + 1; out = Some quantum })
-lending-lent quantum tasks place t there = map-set lending_of tasks place (lent_task quantum t)
+lending-lent : (quantum : ℕ) (tasks : List Task) (place : ℕ) (t u : Task) → IsLent quantum t u
+    → map lending_of (slice_set tasks place u) ≡ put_lending (map lending_of tasks) (suc place) (record { loans = t.loans + 1; out = Some quantum })
+lending-lent quantum tasks place t u lent =
+    map-set lending_of tasks place u
+    ∙ ap (λ (n : ℕ). slice_set (map lending_of tasks) place (record { loans = n; out = out_of u })) lent.loans
+    ∙ ap (λ (o : Option ℕ). slice_set (map lending_of tasks) place (record { loans = t.loans + 1; out = o })) lent.out
 
 pub loan-is : (b : Booted) (history : List Event) (old new : List Task) (shared : Shared) (last quantum : ℕ) (loan : Loan)
-    → IsCore b history old shared → Lent quantum last old new loan
+    → IsCore b history old shared → Lent quantum shared.told last old new loan
     → IsNextLoan (kernel_of b history old last) (kernel_of b history new loan.pid) quantum (loan_out loan)
 loan-is b history old new shared last quantum loan h lent =
     let k : Kernel = kernel_of b history old last in
     let t : Task = lent.task in
+    let of : IsProcessOf (run_of b history).sync.processes (suc lent.place) t = process-at b history old shared lent.place t h lent.there in
     let number : loan.pid ≡ suc lent.place = let n : t.pid ≡ lent.place + 1 = (h.mirrors.each.each lent.place t lent.there).number in
     let p : loan.pid ≡ t.pid = lent.given.process in omega arith in
     let loans : loan_count k (suc lent.place) ≡ t.loans = ap (λ (o : Option Lending). loans_in o) (lending-there old lent.place t lent.there) in
@@ -203,11 +230,12 @@ loan-is b history old new shared last quantum loan h lent =
       turn = lent.given.turn ∙ ap (λ n. n + 1) (sym loans) ∙ ap (λ p. loan_count k p + 1) (sym number);
       asked = lent.given.quantum;
       began = ap (λ p. option_map (λ (q : Process). q.state) (process_in k p)) number
-          ∙ ap (λ o. option_map (λ (q : Process). q.state) o) (process-there b history old shared last lent.place t h lent.there)
+          ∙ ap (λ o. option_map (λ (q : Process). q.state) o) of.there
+          ∙ ap (λ (s : State). Some s) of.state
           ∙ ap (λ s. Some s) (sym lent.given.began);
       machine = loan.same;
       noted = ap (λ ts. lends (map lending_of ts) loan.pid) lent.after
-          ∙ ap (λ ls. lends ls loan.pid) (lending-lent quantum old lent.place t lent.there)
+          ∙ ap (λ ls. lends ls loan.pid) (lending-lent quantum old lent.place t lent.later lent.lent)
           ∙ ap (λ p. lends (put_lending k.lendings (suc lent.place) (record { loans = t.loans + 1; out = Some quantum })) p) number
           ∙ ap put (sym loans)
           ∙ ap (λ p. with_loan k p quantum) (sym number);
@@ -219,7 +247,7 @@ unrefused : (b : Booted) (history : List Event) (old : List Task) (last : ℕ) �
 unrefused b history old last room = ap (λ v. if v then Some refused.Budget else None) (full-is b history old last ∙ room)
 
 pub lends-one : (b : Booted) (history : List Event) (old new : List Task) (shared : Shared) (last quantum : ℕ) (loan : Loan) (k : Kernel)
-    → kernel_of b history old last ≡ k → IsCore b history old shared → full_for_loan_of (length history) old ≡ false → Lent quantum last old new loan
+    → kernel_of b history old last ≡ k → IsCore b history old shared → full_for_loan_of (length history) old ≡ false → Lent quantum shared.told last old new loan
     → (loan_refusal k ≡ None) × IsNextLoan k (kernel_of b history new loan.pid) quantum (loan_out loan)
 lends-one b history old new shared last quantum loan k e h room lent =
     subst (λ (v : Kernel). (loan_refusal v ≡ None) × IsNextLoan v (kernel_of b history new loan.pid) quantum (loan_out loan)) e
@@ -227,7 +255,7 @@ lends-one b history old new shared last quantum loan k e h room lent =
 
 pub lends-none : (b : Booted) (history : List Event) (old new : List Task) (shared : Shared) (last quantum : ℕ) (k : Kernel)
     → kernel_of b history old last ≡ k → IsCore b history old shared → full_for_loan_of (length history) old ≡ false
-    → next_fit quantum last old ≡ None → new ≡ old
+    → next_fit quantum shared.told last old ≡ None → new ≡ old
     → (loan_refusal k ≡ None) × ((pick k quantum ≡ None) × (kernel_of b history new last ≡ k))
 lends-none b history old new shared last quantum k e h room none same =
     subst (λ (v : Kernel). (loan_refusal v ≡ None) × ((pick v quantum ≡ None) × (kernel_of b history new last ≡ v))) e (

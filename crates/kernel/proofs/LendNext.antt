@@ -6,15 +6,15 @@ use Rattle.kernel.proofs.LendPick.{round-passes}
 use Rattle.std.proofs.lemmas.Option.{slice_get_within, slice_get-get_or}
 
 -- the task at this place fits
-pub record IsFitThere (quantum : ℕ) (tasks : List Task) (place : ℕ) (t : Task) : Type 0 where
+pub record IsFitThere (quantum told : ℕ) (tasks : List Task) (place : ℕ) (t : Task) : Type 0 where
   pub there : slice_get tasks place ≡ Some t
-  pub fit : is_fit quantum t ≡ true
+  pub fit : is_fit quantum told t ≡ true
 
-pub fit-there : (quantum behind : ℕ) (tasks : List Task) (place : ℕ) (d : Task) → next_fit quantum behind tasks ≡ Some place
-    → IsFitThere quantum tasks place (slice_index_or tasks place d)
-fit-there quantum behind tasks place d e =
-    let h = round-passes (is_fit quantum) behind tasks place e in
+pub fit-there : (quantum told behind : ℕ) (tasks : List Task) (place : ℕ) (d : Task) → next_fit quantum told behind tasks ≡ Some place
+    → IsFitThere quantum told tasks place (slice_index_or tasks place d)
+fit-there quantum told behind tasks place d e =
+    let h = round-passes (is_fit quantum told) behind tasks place e in
     let within : place < length tasks = slice_get_within tasks place h.item h.there in
     let there : slice_get tasks place ≡ Some (slice_index_or tasks place d) = slice_get-get_or tasks place d within in
     let same : slice_index_or tasks place d ≡ h.item = cc in
-    record { there = there; fit = ap (λ t. is_fit quantum t) same ∙ h.passes }
+    record { there = there; fit = ap (λ t. is_fit quantum told t) same ∙ h.passes }

@@ -4,6 +4,7 @@ pub mod Beginning
 pub mod EnterCore
 pub mod EnterFine
 pub mod EnterLists
+pub mod EnterParts
 pub mod EnterPlans
 pub mod EnterResults
 pub mod EnterScreens
@@ -16,6 +17,7 @@ pub mod LendNext
 pub mod LendPick
 pub mod Lists
 pub mod Moving
+pub mod Performing
 pub mod Quiet
 pub mod Refusing
 pub mod Releasing
@@ -23,5 +25,6 @@ pub mod Scripting
 pub mod SettleAccepted
 pub mod SettleCore
 pub mod SettleWorld
+pub mod Telling
 pub mod Turning
 pub mod Writing

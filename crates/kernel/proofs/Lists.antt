@@ -1,5 +1,6 @@
 -- Lists by their places.
-use Rattle.std.proofs.Common.{◌≡◌, ℕ, zero, suc, ◌+◌, ◌<◌, ◌⊎◌, inl, inr, Bool, List, [], ◌∷◌, ◌++◌, length, map, slice_get, slice_set, slice_index_or, Some, count_by, refl, sym, ap, ◌∙◌, arith, if◌then◌else◌}
+use Rattle.std.proofs.Common.{◌≡◌, ℕ, zero, suc, ◌+◌, ◌<◌, ◌≤◌, ◌⊎◌, inl, inr, Bool, List, [], ◌∷◌, ◌++◌, length, map, take, get_or, slice_get, slice_set, slice_index_or, Some, count_by, refl, sym, ap, subst, ◌∙◌, arith, if◌then◌else◌}
+use Rattle.std.specs.List.{AllByRecursion}
 use Rattle.std.proofs.lemmas.List.Sums.{sum_by-cons}
 
 pub map-set : {A B : Type 0} (f : A → B) (xs : List A) (i : ℕ) (x : A) → map f (slice_set xs i x) ≡ slice_set (map f xs) i (f x)
@@ -66,3 +67,18 @@ count-map f p (x ∷ xs) =
 pub length-snoc : {A : Type 0} (xs : List A) (x : A) → length (xs ++ x ∷ []) ≡ length xs + 1
 length-snoc [] x = omega arith
 length-snoc (y ∷ ys) x = let rest : length (ys ++ x ∷ []) ≡ length ys + 1 = length-snoc ys x in omega arith
+
+-- what holds of the first i elements and of the next holds of one more
+pub all-more : {A : Type 0} (P : A → Type 0) (xs : List A) (i : ℕ) (x : A) → i < length xs → x ≡ get_or xs i x → AllByRecursion P (take i xs) → P x
+    → AllByRecursion P (take (i + 1) xs)
+all-more P [] i x within is h one = absurd (omega arith)
+all-more P (y ∷ ys) zero x within is h one = (subst P is one, tt)
+all-more {A} P (y ∷ ys) (suc i) x within is h one =
+    let next : suc i + 1 ≡ suc (i + 1) = omega arith in
+    subst (λ (k : ℕ). AllByRecursion P (take k (y ∷ ys))) (sym next) (h.0, all-more P ys i x (omega arith) is h.1 one)
+
+-- what holds of as many elements as there are holds of all
+pub all-taken : {A : Type 0} (P : A → Type 0) (xs : List A) (i : ℕ) → length xs ≤ i → AllByRecursion P (take i xs) → AllByRecursion P xs
+all-taken P [] i all h = tt
+all-taken P (y ∷ ys) zero all h = absurd (omega arith)
+all-taken P (y ∷ ys) (suc i) all h = (h.0, all-taken P ys i (omega arith) h.1)

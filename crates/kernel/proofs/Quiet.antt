@@ -4,13 +4,13 @@ use Rattle.std.specs.List.{fold}
 use Rattle.std.proofs.lemmas.Bool.{ne_eqb}
 use Rattle.disk_model.specs.Files.{Follow, files_after}
 use Rattle.disk_model.specs.declared.change.Change.{Change}
-use Rattle.kernel_model.specs.Entries.{Entry, Item}
+use Rattle.kernel_model.specs.Entries.{Entry, Item, Got}
 use Rattle.kernel_model.specs.Loans.{waits_after, is_waiting}
 use Rattle.kernel_model.specs.Paths.{changes_of, with_change}
-use Rattle.kernel_model.specs.Shown.{Given, given_by, each_from, bytes_for, printed, items_for, told}
-use Rattle.kernel_model.specs.Steps.{own_entry, disk_entry}
+use Rattle.kernel_model.specs.Shown.{Given, given_by, each_from, bytes_for, printed, items_for, is_made, told}
+use Rattle.kernel_model.specs.Steps.{own_entry, disk_entry, zero_reply}
 use Rattle.kernel_model.specs.World.{World}
-use Rattle.kernel_model.proofs.Runs.{each_from-append, append-nil}
+use Rattle.kernel_model.proofs.Runs.{each_from-append, append-nil, told-entry}
 use Rattle.kernel_model.specs.declared.effect.Output.{Output}
 use Rattle.kernel.specs.Marked.{AreMarked, whats}
 use Rattle.kernel.specs.Seen.{IsScreen, AreScreens, IsTrace, end_marks}
@@ -19,17 +19,18 @@ use Rattle.kernel.specs.declared.screen.Screen.{Screen}
 use Rattle.kernel.specs.declared.shared.Shared.{Shared}
 use Rattle.kernel.specs.declared.trace.Trace.{Trace}
 
--- the event changes no file, prints nothing and tells nothing
+-- the event changes no file, prints nothing, tells nothing and makes no process
 pub record IsSilent (e : Entry) : Type 0 where
   pub change : e.change ≡ None
   pub output : e.output ≡ None
   pub item : e.item ≡ None
+  pub child : e.child ≡ None
 
 pub own-silent : (pid : ℕ) → IsSilent (own_entry pid)
-own-silent pid = record { change = refl; output = refl; item = refl }
+own-silent pid = record { change = refl; output = refl; item = refl; child = refl }
 
 pub disk-silent : IsSilent disk_entry
-disk-silent = record { change = refl; output = refl; item = refl }
+disk-silent = record { change = refl; output = refl; item = refl; child = refl }
 
 -- an event that gives nothing
 pub each-nothing : {A : Type 0} (f : Entry → List A) (log : List Entry) (e : Entry) → f e ≡ [] → each_from f [] (log ++ e ∷ []) ≡ each_from f [] log
@@ -45,8 +46,23 @@ if-nil false xs h = refl
 pub printed-quiet : (t : ℕ) (log : List Entry) (e : Entry) → e.output ≡ None → printed t (log ++ e ∷ []) ≡ printed t log
 printed-quiet t log e h = each-nothing (λ (d : Entry). bytes_for t d.output) log e (ap (λ (o : Option Output). bytes_for t o) h)
 
-pub told-quiet : (p : ℕ) (log : List Entry) (e : Entry) → e.item ≡ None → told p (log ++ e ∷ []) ≡ told p log
-told-quiet p log e h = each-nothing (items_for p) log e (if-nil (e.process == p) (option_to_list e.item) (ap (λ (o : Option Item). option_to_list o) h))
+-- what a process was told after an event that did not make it, and after the one that did
+pub told-own : (p : ℕ) (log : List Entry) (e : Entry) → is_made e.child p ≡ false → told p (log ++ e ∷ []) ≡ told p log ++ given_by log e (items_for p e)
+told-own p log e h =
+    told-entry p log e
+    ∙ ap (λ (b : Bool). if b then told e.process log ++ given_by log e (Got zero_reply ∷ []) else told p log ++ given_by log e (items_for p e)) h
+
+pub told-made : (p : ℕ) (log : List Entry) (e : Entry) → is_made e.child p ≡ true
+    → told p (log ++ e ∷ []) ≡ told e.process log ++ given_by log e (Got zero_reply ∷ [])
+told-made p log e h =
+    told-entry p log e
+    ∙ ap (λ (b : Bool). if b then told e.process log ++ given_by log e (Got zero_reply ∷ []) else told p log ++ given_by log e (items_for p e)) h
+
+pub told-quiet : (p : ℕ) (log : List Entry) (e : Entry) → IsSilent e → told p (log ++ e ∷ []) ≡ told p log
+told-quiet p log e h =
+    told-own p log e (ap (λ (o : Option ℕ). is_made o p) h.child)
+    ∙ ap (λ (xs : List Item). told p log ++ given_by log e xs) (if-nil (e.process == p) (option_to_list e.item) (ap (λ (o : Option Item). option_to_list o) h.item))
+    ∙ append-nil (told p log)
 
 pub changes-quiet : (log : List Entry) (e : Entry) → e.change ≡ None → changes_of (log ++ e ∷ []) ≡ changes_of log
 changes-quiet [] e h = ap (λ (o : Option Change). with_change o []) h
@@ -71,7 +87,7 @@ screens-quiet c log e ss silent h = record {
 -- a trace stays
 pub trace-quiet : (c : ℕ) (log : List Entry) (e : Entry) (p : ℕ) (t : Trace) → IsSilent e → IsTrace c log p t → IsTrace c (log ++ e ∷ []) p t
 trace-quiet c log e p t silent h =
-    let same : told p (log ++ e ∷ []) ≡ told p log = told-quiet p log e silent.item in
+    let same : told p (log ++ e ∷ []) ≡ told p log = told-quiet p log e silent in
     record {
       items = h.items ∙ ap (λ (gs : List (Given Item)). whats gs) (sym same);
       marks = subst (λ (gs : List (Given Item)). AreMarked gs (t.marks.items ++ end_marks t.end)) (sym same) h.marks;

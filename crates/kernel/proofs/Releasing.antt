@@ -1,5 +1,5 @@
 -- What a core shows and hands out is what the run releases.
-use Rattle.std.proofs.Common.{◌≡◌, ℕ, suc, ◌+◌, ◌==◌, ◌&&◌, Bool, true, false, nat_le, if◌then◌else◌, List, [], ◌∷◌, ◌++◌, length, take, map, slice_get, Option, Some, None, refl, sym, ap, ◌∙◌, arith}
+use Rattle.std.proofs.Common.{◌≡◌, ℕ, suc, ◌+◌, ◌==◌, ◌&&◌, Bool, true, false, nat_le, if◌then◌else◌, List, [], ◌∷◌, ◌++◌, length, take, map, slice_get, Option, Some, None, is_some, refl, sym, ap, ◌∙◌, arith}
 use Rattle.std.proofs.lemmas.Bool.{eqb-true, eqb-false, eq-eqb, ne_eqb}
 use Rattle.kernel_model.specs.Entries.{Item, Got, End as Ended}
 use Rattle.kernel_model.specs.Paths.{is_settled}
@@ -20,7 +20,7 @@ use Rattle.kernel.specs.declared.task.Task.{Task}
 use Rattle.kernel.specs.declared.trace.End.{End}
 use Rattle.kernel.specs.declared.trace.Trace.{Trace}
 use Rattle.kernel_model.specs.declared.event.Event.{Event}
-use Rattle.kernel.proofs.Turning.{process-place}
+use Rattle.kernel.proofs.Turning.{IsProcessOf, process-there, none-bare}
 
 take-more : {A : Type 0} (n : ℕ) (x : A) (xs : List A) → take (1 + n) (x ∷ xs) ≡ x ∷ take n xs
 take-more n x xs = let more : 1 + n ≡ suc n = omega arith in ap (λ m. take m (x ∷ xs)) more
@@ -121,10 +121,12 @@ end-is w p t size h =
 
 -- ---- whether there is such a process
 pub there-is : (b : Booted) (history : List Event) (tasks : List Task) (s : Shared) (pid place : ℕ) (t : Task) → IsCore b history tasks s
-    → IsPlaceOf tasks pid place → slice_get tasks place ≡ Some t → process_at (run_of b history).sync.processes pid ≡ Some (process_of t)
+    → IsPlaceOf tasks pid place → slice_get tasks place ≡ Some t → is_some (process_at (run_of b history).sync.processes pid) ≡ true
 there-is b history tasks s pid place t h placed there =
-    ap (λ (ps : List Process). process_at ps pid) (sym h.mirrors.each.processes) ∙ process-place tasks pid place t placed.number there
+    let of : IsProcessOf (run_of b history).sync.processes pid t = process-there (run_of b history) s.told tasks pid place t h.mirrors.each placed.number there in
+    ap (λ (o : Option Process). is_some o) of.there
 
 pub none-is : (b : Booted) (history : List Event) (tasks : List Task) (s : Shared) (pid : ℕ) → IsCore b history tasks s
     → process_at (map process_of tasks) pid ≡ None → process_at (run_of b history).sync.processes pid ≡ None
-none-is b history tasks s pid h none = ap (λ (ps : List Process). process_at ps pid) (sym h.mirrors.each.processes) ∙ none
+none-is b history tasks s pid h none =
+    none-bare (run_of b history).sync.processes pid (ap (λ (ps : List Process). process_at ps pid) (sym h.mirrors.each.processes) ∙ none)

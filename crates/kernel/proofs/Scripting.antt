@@ -1,6 +1,5 @@
 -- Events applied in turn.
-use Rattle.std.proofs.Common.{◌≡◌, ℕ, zero, suc, ◌+◌, true, false, List, [], ◌∷◌, ◌++◌, take, slice_get, Some, None, Result, Ok, Err, is_err, sym, ap, subst, ◌∙◌, arith, append_assoc}
-use Rattle.kernel_model.proofs.Runs.{append-nil}
+use Rattle.std.proofs.Common.{◌≡◌, ℕ, zero, suc, ◌+◌, true, false, List, [], ◌∷◌, ◌++◌, take, slice_get, Some, None, Result, Ok, Err, is_err, refl, sym, ap, subst, ◌∙◌, arith}
 use Rattle.kernel_model.specs.Answers.{Kernel, Applies, AllAccepted, refusal, with_event, with_events}
 use Rattle.kernel_model.specs.declared.answer.Answer.{Answer}
 use Rattle.kernel_model.specs.declared.answer.Refused.{Refused}
@@ -10,10 +9,6 @@ use Rattle.kernel_model.specs.declared.event.Event.{Event}
 pub record Scripted (first now : Kernel) (events : List Event) (i : ℕ) : Type 0 where
   pub grown : now ≡ with_events first (take i events)
   pub accepted : AllAccepted first (take i events)
-
--- the core with this history
-abbrev with_history : Kernel → List Event → Kernel
-with_history k es = record k { history = es }
 
 take-snoc : {A : Type 0} (xs : List A) (i : ℕ) (x : A) → slice_get xs i ≡ Some x → take (i + 1) xs ≡ take i xs ++ x ∷ []
 take-snoc [] i x e = cc
@@ -25,22 +20,16 @@ take-snoc (y ∷ ys) (suc i) x e =
     let more : suc i + 1 ≡ suc (i + 1) = omega arith in
     ap (λ n. take n (y ∷ ys)) more ∙ ap (λ zs. y ∷ zs) (take-snoc ys i x e)
 
-no-events : (k : Kernel) → with_events k [] ≡ k
-no-events k = ap (λ (es : List Event). with_history k es) (append-nil k.history)
-
-one-first : (k : Kernel) (e : Event) (es : List Event) → with_events (with_event k e) es ≡ with_events k (e ∷ es)
-one-first k e es = ap (λ (hs : List Event). with_history k hs) (append_assoc k.history (e ∷ []) es)
-
 one-last : (k : Kernel) (es : List Event) (e : Event) → with_event (with_events k es) e ≡ with_events k (es ++ e ∷ [])
-one-last k es e = ap (λ (hs : List Event). with_history k hs) (append_assoc k.history es (e ∷ []))
+one-last k [] e = refl
+one-last k (x ∷ es) e = one-last (with_event k x) es e
 
 accepted-more : (k : Kernel) (es : List Event) (e : Event) → AllAccepted k es → refusal (with_events k es) e ≡ None → AllAccepted k (es ++ e ∷ [])
-accepted-more k [] e h r = (subst (λ (j : Kernel). refusal j e ≡ None) (no-events k) r, tt)
-accepted-more k (x ∷ es) e h r =
-    (h.0, accepted-more (with_event k x) es e h.1 (subst (λ (j : Kernel). refusal j e ≡ None) (sym (one-first k x es)) r))
+accepted-more k [] e h r = (r, tt)
+accepted-more k (x ∷ es) e h r = (h.0, accepted-more (with_event k x) es e h.1 r)
 
 pub scripted-none : (k : Kernel) (events : List Event) → Scripted k k events 0
-scripted-none k events = record { grown = sym (no-events k); accepted = tt }
+scripted-none k events = record { grown = refl; accepted = tt }
 
 pub scripted-more : (first now new : Kernel) (events : List Event) (i : ℕ) (e : Event) (r : Result Answer Refused) → slice_get events i ≡ Some e
     → Scripted first now events i → Applies now e new r → is_err r ≡ false → Scripted first new events (i + 1)

@@ -3,7 +3,7 @@ use Rattle.std.proofs.Common.{◌≡◌, ℕ, zero, suc, ◌+◌, ◌*◌, ◌^�
 use Rattle.std.proofs.lemmas.Bool.{le-ltb, lt-leb}
 use Rattle.machine_model.specs.States.{State, Stepped, Goes, Halts, Ran, next, run, stands_at}
 use Rattle.machine.proofs.Running.{run-zero, run-goes, run-halts}
-use Rattle.kernel_model.specs.Answers.{Kernel, Lending, AllAccepted, refusal, turn_refusal, enter_refusal, first_of, ◌⇒◌, limit, is_full, lending_at, with_event}
+use Rattle.kernel_model.specs.Answers.{Kernel, Lending, AllAccepted, refusal, turn_refusal, enter_refusal, first_of, ◌⇒◌, limit, is_full, lending_at, with_child, with_event}
 use Rattle.kernel_model.specs.Loans.{returned, events_of, put_lending, loans_in}
 use Rattle.kernel_model.specs.State.{Process, process_at, put_process}
 use Rattle.kernel_model.specs.Steps.{after_run}
@@ -16,19 +16,20 @@ use Rattle.kernel_model.specs.declared.event.Event.TheVariants.{Turn, Enter}
 use Rattle.kernel.specs.Cores.{boot_of, run_of, kernel_of, IsCore}
 use Rattle.kernel.specs.Loaned.{loan_result}
 use Rattle.kernel.specs.Settling.{IsLoanOf}
-use Rattle.kernel.specs.Tasks.{process_of, status_of, lending_of, count_out, needed}
+use Rattle.kernel.specs.Tasks.{machine_of, out_of, status_of, lending_of, count_out, needed}
 use Rattle.kernel.specs.Tests.{lent_of}
 use Rattle.kernel.specs.declared.boot.Booted.{Booted}
 use Rattle.kernel.specs.declared.loan.Done.{Done}
 use Rattle.kernel.specs.declared.shared.Shared.{Shared}
 use Rattle.kernel.specs.declared.task.Task.{Task}
 use Rattle.kernel.specs.declared.trace.End.{End}
+use Rattle.kernel.specs.declared.whereabouts.Whereabouts.TheVariants.{Here}
 use Rattle.kernel.proofs.Applying.{full-is}
-use Rattle.kernel.proofs.EnterLists.{map-set, get-map, get-within}
+use Rattle.kernel.proofs.EnterLists.{map-set, get-within}
 use Rattle.kernel.proofs.Lists.{length-snoc}
 use Rattle.kernel.proofs.SettleCore.{process-in, lending-of, count-back, reached}
 use Rattle.kernel.proofs.SettleWorld.{get-set-here, out-running, back-happens}
-use Rattle.kernel.proofs.Turning.{lending-place}
+use Rattle.kernel.proofs.Turning.{IsProcessOf, lending-place, turn-child}
 
 -- ---- a run does no more than it was asked for
 run-within : (n : ℕ) (s : State) → (run n s).count ≤ n
@@ -48,8 +49,8 @@ run-within (suc n) s = by (λ t. run-within n t) (next s) refl
 
 done-within : (d : Done) → d.count ≤ d.quantum
 done-within d =
-    let counts : (run d.quantum d.began).count ≡ d.count = ap (λ (r : Ran). r.count) d.ran in
-    let few : (run d.quantum d.began).count ≤ d.quantum = run-within d.quantum d.began in
+    let counts : (run d.quantum d.began.value).count ≡ d.count = ap (λ (r : Ran). r.count) d.ran in
+    let few : (run d.quantum d.began.value).count ≤ d.quantum = run-within d.quantum d.began.value in
     omega (arith, counts, few)
 
 -- ---- what is accepted
@@ -90,7 +91,7 @@ enter-accepted o p lent full there running here stands few room =
 -- ---- the core once the process is back
 -- the task once it is back, with the machine of which it was lent
 abbrev pub returned_task : Task → Task
-returned_task t = record t { out = None }
+returned_task t = record t { whereabouts = Here (machine_of t) }
 
 returned-is : (b : Booted) (history : List Event) (tasks : List Task) (last pid place : ℕ) (t : Task) → pid ≡ place + 1 → slice_get tasks place ≡ Some t
     → kernel_of b history (slice_set tasks place (returned_task t)) last ≡ returned (kernel_of b history tasks last) pid
@@ -116,15 +117,15 @@ process-put ps pid place p number within =
     ap (λ (k : ℕ). process_at (put_process ps k p) k) next ∙ get-set-here ps place p within
 
 process-after : (b : Booted) (history : List Event) (tasks : List Task) (s : Shared) (pid place n q : ℕ) (t : Task) → IsCore b history tasks s
-    → pid ≡ place + 1 → slice_get tasks place ≡ Some t → t.out ≡ Some q
-    → process_at (run_of b (history ++ Turn pid n ∷ [])).sync.processes pid ≡ Some (after_run n (process_of t))
-process-after b history tasks s pid place n q t h number there out =
+    → pid ≡ place + 1 → slice_get tasks place ≡ Some t → out_of t ≡ Some q → (of : IsProcessOf (run_of b history).sync.processes pid t)
+    → process_at (run_of b (history ++ Turn pid n ∷ [])).sync.processes pid ≡ Some (after_run n of.process)
+process-after b history tasks s pid place n q t h number there out of =
     let w : World = run_of b history in
-    let mapped : slice_get w.sync.processes place ≡ Some (process_of t) =
-    ap (λ (ps : List Process). slice_get ps place) (sym h.mirrors.each.processes) ∙ get-map process_of tasks place t there in
+    let next : pid ≡ suc place = omega arith in
+    let mapped : slice_get w.sync.processes place ≡ Some of.process = ap (λ (k : ℕ). process_at w.sync.processes k) (sym next) ∙ of.there in
     ap (λ (v : World). process_at v.sync.processes pid)
-    (after-append (begun (boot_of b)) history (Turn pid n) ∙ back-happens w tasks s pid place n q t h.mirrors number there out)
-    ∙ process-put w.sync.processes pid place (after_run n (process_of t)) number (get-within w.sync.processes place (process_of t) mapped)
+    (after-append (begun (boot_of b)) history (Turn pid n) ∙ back-happens w tasks s pid place n q t h.mirrors of there out)
+    ∙ process-put w.sync.processes pid place (after_run n of.process) number (get-within w.sync.processes place of.process mapped)
 
 -- ---- the events
 turn-event : (b : Booted) (history : List Event) (tasks : List Task) (s : Shared) (last place : ℕ) (t : Task) (d : Done) → IsCore b history tasks s
@@ -133,16 +134,18 @@ turn-event : (b : Booted) (history : List Event) (tasks : List Task) (s : Shared
 turn-event b history tasks s last place t d h number there of =
     let u : Task = returned_task t in
     let task = h.mirrors.each.each place t there in
-    let budget : t.machine.count + (d.quantum + 1) ≤ 2 ^ 40 = subst (λ (o : Option ℕ). t.machine.count + needed o ≤ 2 ^ 40) of.out task.budget in
+    let budget : (machine_of t).count + (d.quantum + 1) ≤ 2 ^ 40 = subst (λ (o : Option ℕ). (machine_of t).count + needed o ≤ 2 ^ 40) of.out task.budget in
     let done : d.count ≤ d.quantum = done-within d in
     let less : count_out (slice_set tasks place u) + 1 ≡ count_out tasks = count-back tasks place d.quantum t u there of.out refl in
     let was : length history + 2 * count_out tasks ≤ 2 ^ 40 = h.room in
-    turn-accepted (process_at (run_of b history).sync.processes d.pid) (process_of t) (lent_of (slice_set tasks place u) d.pid)
+    let own : IsProcessOf (run_of b history).sync.processes d.pid t = process-in b history tasks s d.pid place t h number there in
+    let count : own.process.state.count ≡ (machine_of t).count = ap (λ (x : State). x.count) own.state in
+    turn-accepted (process_at (run_of b history).sync.processes d.pid) own.process (lent_of (slice_set tasks place u) d.pid)
     (is_full (kernel_of b history (slice_set tasks place u) last)) d.count
-    (process-in b history tasks s d.pid place t h number there)
-    (ap (λ (e : Option End). is_some (status_of e)) (out-running (run_of b history) place t d.quantum task of.out))
+    own.there
+    (ap (λ (o : Option ℕ). is_some o) own.status ∙ ap (λ (e : Option End). is_some (status_of e)) (out-running (run_of b history) s.told place t d.quantum task of.out))
     (lending-place (slice_set tasks place u) d.pid place u number (get-set-here tasks place u (get-within tasks place t there)))
-    (omega (arith, budget, done))
+    (omega (arith, budget, done, count))
     (not-full b history (slice_set tasks place u) last (omega (arith, less, was)))
 
 enter-event : (b : Booted) (history : List Event) (tasks : List Task) (s : Shared) (last place : ℕ) (t : Task) (d : Done) → IsCore b history tasks s
@@ -152,17 +155,19 @@ enter-event b history tasks s last place t d h number there of stands =
     let u : Task = returned_task t in
     let later : List Event = history ++ Turn d.pid d.count ∷ [] in
     let task = h.mirrors.each.each place t there in
-    let came : d.machine ≡ (run d.count t.machine).state = reached t d of in
+    let came : d.machine ≡ (run d.count (machine_of t)).state = reached t d of in
     let less : count_out (slice_set tasks place u) + 1 ≡ count_out tasks = count-back tasks place d.quantum t u there of.out refl in
     let was : length history + 2 * count_out tasks ≤ 2 ^ 40 = h.room in
     let longer : length later ≡ length history + 1 = length-snoc history (Turn d.pid d.count) in
-    enter-accepted (process_at (run_of b later).sync.processes d.pid) (after_run d.count (process_of t)) (lent_of (slice_set tasks place u) d.pid)
+    let own : IsProcessOf (run_of b history).sync.processes d.pid t = process-in b history tasks s d.pid place t h number there in
+    let goes : d.machine ≡ (run d.count own.process.state).state = came ∙ ap (λ (x : State). (run d.count x).state) (sym own.state) in
+    enter-accepted (process_at (run_of b later).sync.processes d.pid) (after_run d.count own.process) (lent_of (slice_set tasks place u) d.pid)
     (is_full (kernel_of b later (slice_set tasks place u) last))
-    (process-after b history tasks s d.pid place d.count d.quantum t h number there of.out)
-    (ap (λ (e : Option End). is_some (status_of e)) (out-running (run_of b history) place t d.quantum task of.out))
+    (process-after b history tasks s d.pid place d.count d.quantum t h number there of.out own)
+    (ap (λ (o : Option ℕ). is_some o) own.status ∙ ap (λ (e : Option End). is_some (status_of e)) (out-running (run_of b history) s.told place t d.quantum task of.out))
     (lending-place (slice_set tasks place u) d.pid place u number (get-set-here tasks place u (get-within tasks place t there)))
-    (subst (λ (x : State). is_some (stands_at x) ≡ true) came stands)
-    (subst (λ (x : State). x.count < 2 ^ 40) came d.room)
+    (subst (λ (x : State). is_some (stands_at x) ≡ true) goes stands)
+    (subst (λ (x : State). x.count < 2 ^ 40) goes d.room)
     (not-full b later (slice_set tasks place u) last (omega (arith, less, was, longer)))
 
 pub events-accepted : (b : Booted) (history : List Event) (tasks : List Task) (s : Shared) (last place : ℕ) (t : Task) (d : Done) → IsCore b history tasks s
@@ -170,11 +175,16 @@ pub events-accepted : (b : Booted) (history : List Event) (tasks : List Task) (s
     → AllAccepted (returned (kernel_of b history tasks last) d.pid) (events_of (loan_result d))
 events-accepted b history tasks s last place t d h number there of =
     let k : Kernel = kernel_of b history (slice_set tasks place (returned_task t)) last in
+    let w : World = run_of b history in
+    let ls : List Lending = map lending_of (slice_set tasks place (returned_task t)) in
+    let later : Kernel = kernel_of b (history ++ Turn d.pid d.count ∷ []) (slice_set tasks place (returned_task t)) last in
+    let same : with_event k (Turn d.pid d.count) ≡ later =
+    ap (λ (o : Option ℕ). record { boot = boot_of b; history = history ++ Turn d.pid d.count ∷ []; lendings = with_child ls o; last_lent = last }) (turn-child w.sync d.pid d.count) in
     subst (λ (x : Kernel). AllAccepted x (events_of (loan_result d))) (returned-is b history tasks last d.pid place t number there) (
       turn-event b history tasks s last place t d h number there of,
-      elim (is_some (stands_at d.machine)) as (λ (v : Bool). is_some (stands_at d.machine) ≡ v
-          → AllAccepted (with_event k (Turn d.pid d.count)) (if v then Enter d.pid ∷ [] else [])) [
+      subst (λ (x : Kernel). AllAccepted x (if is_some (stands_at d.machine) then Enter d.pid ∷ [] else [])) (sym same) (elim (is_some (stands_at d.machine)) as (λ (v : Bool). is_some (stands_at d.machine) ≡ v
+          → AllAccepted later (if v then Enter d.pid ∷ [] else [])) [
             | true ↦ λ stands. (enter-event b history tasks s last place t d h number there of stands, tt)
             | false ↦ λ stands. tt
-          ] refl,
+          ] refl),
     )

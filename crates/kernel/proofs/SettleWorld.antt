@@ -1,46 +1,49 @@
 -- A loan's result in the parts is a Turn, and an Enter, of the run.
-use Rattle.std.proofs.Common.{◌≡◌, ℕ, zero, suc, ◌+◌, ◌^◌, ◌<◌, inl, inr, Bool, true, false, ◌&&◌, ◌||◌, not, nat_lt, List, [], ◌∷◌, ◌++◌, length, slice_get, slice_set, Option, Some, None, is_some, refl, sym, ap, subst, ◌∙◌, arith}
+use Rattle.std.proofs.Common.{◌≡◌, ℕ, zero, suc, ◌+◌, ◌^◌, ◌<◌, inl, inr, Bool, true, false, ◌&&◌, ◌||◌, not, nat_lt, List, [], ◌∷◌, ◌++◌, length, map, option_to_list, slice_get, slice_set, Option, Some, None, is_some, refl, sym, ap, subst, ◌∙◌, arith}
 use Rattle.machine_model.specs.States.{State, Stepped, Goes, Halts, Ran, ran, next, run, after, stands_at}
 use Rattle.machine.proofs.Running.{run-zero, run-goes, run-halts}
 use Rattle.calls.specs.declared.plan.Plan.{Plan}
 use Rattle.commit_deps.specs.Marks.{IsMarkOf, reader}
 use Rattle.commit_deps.proofs.Readers.{settled-reader, settled-union, settled-event}
 use Rattle.kernel_model.specs.Answers.{outcome_of}
-use Rattle.kernel_model.specs.Entries.{Entry, Item, meets}
+use Rattle.kernel_model.specs.Entries.{Entry, meets}
 use Rattle.kernel_model.specs.Paths.{is_settled, change_count}
 use Rattle.kernel_model.proofs.Paths.{count_of}
-use Rattle.kernel_model.specs.State.{Process, process_at, put_process}
+use Rattle.kernel_model.specs.State.{Process, put_process}
 use Rattle.kernel_model.specs.Steps.{step, own_entry, after_run}
 use Rattle.kernel_model.specs.World.{World, happens}
 use Rattle.kernel_model.specs.declared.carrier.Carrier.{Carrier}
 use Rattle.kernel_model.specs.declared.carrier.Carrier.TheVariants.{Proc}
 use Rattle.kernel_model.specs.declared.answer.Outcome.{Outcome}
-use Rattle.kernel_model.specs.declared.descriptor.Descriptor.{Descriptor}
 use Rattle.kernel_model.specs.declared.event.Event.TheVariants.{Turn, Enter}
-use Rattle.kernel.specs.Entering.{entry_of, PlansEnter, IsEntered, IsSameTask}
-use Rattle.kernel.specs.Mirrors.{IsTask, Mirrors}
+use Rattle.kernel.specs.Entering.{seen_of, entry_of, PlansEnter, IsEntered, IsChild, IsSameTask}
+use Rattle.kernel.specs.Mirrors.{IsTask, AreTasks, Mirrors}
 use Rattle.kernel.specs.Seen.{AreScreens}
 use Rattle.kernel.specs.Settling.{IsBack, IsTurnNoted, IsTurnEntered}
-use Rattle.kernel.specs.Tasks.{process_of, status_of}
+use Rattle.kernel.specs.Tasks.{machine_of, out_of, process_of, bare, status_of}
 use Rattle.kernel.specs.declared.screen.Screen.{Screen}
 use Rattle.kernel.specs.declared.shared.Shared.{Shared}
 use Rattle.kernel.specs.declared.task.Task.{Task}
 use Rattle.kernel.specs.declared.trace.End.{End}
-use Rattle.kernel.proofs.EnterFine.{IsFineTask, process-of}
+use Rattle.kernel.specs.declared.whereabouts.Whereabouts.TheVariants.{Here}
+use Rattle.kernel.proofs.EnterFine.{IsFineTask}
 use Rattle.kernel.proofs.EnterLists.{map-set, get-set, get-within}
-use Rattle.kernel.proofs.EnterWorld.{entered-at, entered-item, entering-mark, same-task}
+use Rattle.kernel.proofs.EnterParts.{parts-quiet, pipes-quiet, counted-quiet}
+use Rattle.kernel.proofs.EnterWorld.{entered-at, entered-entry, entering-mark, same-task}
 use Rattle.kernel.proofs.Quiet.{own-silent, screens-quiet, trace-quiet, changes-part, waits-own}
-use Rattle.kernel.proofs.Turning.{world_with, turn_of, turn-happens}
+use Rattle.kernel.proofs.Turning.{IsProcessOf, bare-of, process-there, world_with, turn_of, turn-happens, turn-parts}
 
 pub back-same : (m : State) (t t' u : Task) → IsSameTask t t' → IsBack m t' u → IsBack m t u
 back-same m t t' u same back = record {
   pid = back.pid ∙ same.pid;
   machine = back.machine;
-  descriptors = back.descriptors ∙ same.descriptors;
-  replies = back.replies ∙ same.replies;
-  marks = back.marks ∙ same.marks;
-  end = back.end ∙ same.end;
-  handed = back.handed ∙ same.handed;
+  trace = record {
+    replies = back.trace.replies ∙ same.trace.replies;
+    marks = back.trace.marks ∙ same.trace.marks;
+    end = back.trace.end ∙ same.trace.end;
+    handed = back.trace.handed ∙ same.trace.handed;
+    waited = back.trace.waited ∙ same.trace.waited;
+  };
   loans = back.loans ∙ same.loans;
   out = back.out;
 }
@@ -119,73 +122,79 @@ mark-later m log pid plan h =
     }
 
 -- ---- the Turn
-back-task : (w : World) (pid place : ℕ) (q : Process) (m : State) (t u : Task) → m.count < 2 ^ 40 → IsBack m t u → IsTask w place t
-    → IsTask (world_with w (turn_of w pid q)) place u
-back-task w pid place q m t u few back h =
+back-task : (w : World) (told pid place : ℕ) (q : Process) (m : State) (t u : Task) → m.count < 2 ^ 40 → IsBack m t u → IsTask w told place t
+    → IsTask (world_with w (turn_of w pid q)) told place u
+back-task w told pid place q m t u few back h =
     let v : World = world_with w (turn_of w pid q) in
-    let t1 : Task = record t { machine = m; out = None } in
-    let there : IsTask v place t1 = record {
+    let t1 : Task = record t { whereabouts = Here m } in
+    let there : IsTask v told place t1 = record {
       number = h.number;
       trace = trace-quiet w.storage.committed w.log (own_entry pid) (place + 1) t.trace (own-silent pid) h.trace;
-      named = h.named;
       budget = omega (arith, few);
-      awake = waits-own (place + 1) pid w.log ∙ h.awake;
+      waits = waits-own (place + 1) pid w.log ∙ h.waits;
+      since = h.since;
       running = λ lent. cc;
     } in
-    same-task v place t1 u
-    (record { pid = back.pid; machine = back.machine; descriptors = back.descriptors; replies = back.replies; marks = back.marks; end = back.end; handed = back.handed; loans = back.loans; out = back.out })
+    same-task v told place t1 u
+    (record { pid = back.pid; machine = back.machine; trace = back.trace; loans = back.loans; out = back.out })
     there
 
-away-task : (w : World) (pid place : ℕ) (q : Process) (u : Task) → IsTask w place u → IsTask (world_with w (turn_of w pid q)) place u
-away-task w pid place q u h = record {
+away-task : (w : World) (told pid place : ℕ) (q : Process) (u : Task) → IsTask w told place u → IsTask (world_with w (turn_of w pid q)) told place u
+away-task w told pid place q u h = record {
   number = h.number;
   trace = trace-quiet w.storage.committed w.log (own_entry pid) (place + 1) u.trace (own-silent pid) h.trace;
-  named = h.named;
   budget = h.budget;
-  awake = waits-own (place + 1) pid w.log ∙ h.awake;
+  waits = waits-own (place + 1) pid w.log ∙ h.waits;
+  since = h.since;
   running = h.running;
 }
 
-process-back : (n : ℕ) (m : State) (t u : Task) → m ≡ (run n t.machine).state → IsBack m t u → process_of u ≡ after_run n (process_of t)
+process-back : (n : ℕ) (m : State) (t u : Task) → m ≡ (run n (machine_of t)).state → IsBack m t u → process_of u ≡ after_run n (process_of t)
 process-back n m t u reached back =
-    ap (λ (s : State). record { state = s; descriptors = u.descriptors; status = status_of u.trace.end }) (back.machine ∙ reached)
-    ∙ ap (λ (ds : List (Option Descriptor)). record { state = (run n t.machine).state; descriptors = ds; status = status_of u.trace.end }) back.descriptors
-    ∙ ap (λ (o : Option End). record { state = (run n t.machine).state; descriptors = t.descriptors; status = status_of o }) back.end
+    ap (λ (s : State). record { state = s; descriptors = []; children = []; status = status_of u.trace.end }) (back.machine ∙ reached)
+    ∙ ap (λ (o : Option End). record { state = (run n (machine_of t)).state; descriptors = []; children = []; status = status_of o }) back.trace.end
 
 -- a task that is out has not ended
-pub out-running : (w : World) (place : ℕ) (t : Task) (q : ℕ) → IsTask w place t → t.out ≡ Some q → t.trace.end ≡ None
-out-running w place t q h out = h.running (ap (λ (o : Option ℕ). is_some o) out)
+pub out-running : (w : World) (told place : ℕ) (t : Task) (q : ℕ) → IsTask w told place t → out_of t ≡ Some q → t.trace.end ≡ None
+out-running w told place t q h out = h.running (ap (λ (o : Option ℕ). is_some o) out)
 
-pub back-happens : (w : World) (tasks : List Task) (s : Shared) (pid place n q : ℕ) (t : Task) → Mirrors w tasks s → pid ≡ place + 1
-    → slice_get tasks place ≡ Some t → t.out ≡ Some q
-    → happens w (Turn pid n) ≡ world_with w (turn_of w pid (after_run n (process_of t)))
-back-happens w tasks s pid place n q t h number there out =
-    turn-happens w pid n (process_of t)
-    (ap (λ (ps : List Process). process_at ps pid) (sym h.each.processes) ∙ process-of tasks pid place t number there)
-    (ap (λ (o : Option End). is_some (status_of o)) (out-running w place t q (h.each.each place t there) out))
+pub back-happens : (w : World) (tasks : List Task) (s : Shared) (pid place n q : ℕ) (t : Task) → Mirrors w tasks s → (of : IsProcessOf w.sync.processes pid t)
+    → slice_get tasks place ≡ Some t → out_of t ≡ Some q
+    → happens w (Turn pid n) ≡ world_with w (turn_of w pid (after_run n of.process))
+back-happens w tasks s pid place n q t h of there out =
+    turn-happens w pid n of.process of.there
+    (ap (λ (o : Option ℕ). is_some o) of.status
+    ∙ ap (λ (o : Option End). is_some (status_of o)) (out-running w s.told place t q (h.each.each place t there) out))
 
 pub back-mirrors : (w : World) (tasks : List Task) (s s' : Shared) (pid place n q : ℕ) (m : State) (t u : Task) → Mirrors w tasks s → pid ≡ place + 1
-    → slice_get tasks place ≡ Some t → t.out ≡ Some q → m ≡ (run n t.machine).state → m.count < 2 ^ 40
+    → slice_get tasks place ≡ Some t → out_of t ≡ Some q → m ≡ (run n (machine_of t)).state → m.count < 2 ^ 40
     → IsBack m t u → IsTurnNoted pid s s' → Mirrors (happens w (Turn pid n)) (slice_set tasks place u) s'
 back-mirrors w tasks s s' pid place n q m t u h number there out reached few back noted =
-    let p : Process = after_run n (process_of t) in
+    let of : IsProcessOf w.sync.processes pid t = process-there w s.told tasks pid place t h.each number there in
+    let p : Process = after_run n of.process in
     let v : World = world_with w (turn_of w pid p) in
     let next : pid ≡ suc place = omega arith in
-    subst (λ (x : World). Mirrors x (slice_set tasks place u) s') (sym (back-happens w tasks s pid place n q t h number there out)) (record {
-      each = record {
+    subst (λ (x : World). Mirrors x (slice_set tasks place u) s') (sym (back-happens w tasks s pid place n q t h of there out)) (record {
+      each = subst (λ (k : ℕ). AreTasks v k (slice_set tasks place u)) (sym noted.told) (record {
         processes =
             map-set process_of tasks place u
             ∙ ap (λ (ps : List Process). slice_set ps place (process_of u)) h.each.processes
-            ∙ ap (λ (x : Process). slice_set w.sync.processes place x) (process-back n m t u reached back)
-            ∙ sym (ap (λ k. put_process w.sync.processes k p) next);
-        each = λ k x at. elim (get-set tasks place k u x at) as (λ _. IsTask v k x) [
+            ∙ ap (λ (x : Process). slice_set (map bare w.sync.processes) place x) (process-back n m t u reached back)
+            ∙ ap (λ (x : Process). slice_set (map bare w.sync.processes) place (after_run n x)) (sym (bare-of of))
+            ∙ sym (map-set bare w.sync.processes place p)
+            ∙ sym (ap (λ k. map bare (put_process w.sync.processes k p)) next);
+        each = λ k x at. elim (get-set tasks place k u x at) as (λ _. IsTask v s.told k x) [
           | inl g ↦
-              subst (λ (y : Task). IsTask v k y) (sym g.1)
-              (subst (λ (j : ℕ). IsTask v j u) (sym g.0) (back-task w pid place p m t u few back (h.each.each place t there)))
-          | inr g ↦ away-task w pid k p x (h.each.each k x g.1)
+              subst (λ (y : Task). IsTask v s.told k y) (sym g.1)
+              (subst (λ (j : ℕ). IsTask v s.told j u) (sym g.0) (back-task w s.told pid place p m t u few back (h.each.each place t there)))
+          | inr g ↦ away-task w s.told pid k p x (h.each.each k x g.1)
         ];
-      };
+      });
       changes = changes-part w v s s' (own_entry pid) (own-silent pid) refl refl noted.changes noted.files h.changes;
+      tapes = noted.tapes ∙ h.tapes;
+      parts = parts-quiet w v s.processes.parts s'.processes.parts refl (turn-parts w.sync.processes pid n of.process of.there) noted.parts h.parts;
+      pipes = pipes-quiet w v s.pipes s'.pipes (own_entry pid) refl refl noted.pipes h.pipes;
+      counted = counted-quiet w v s.told s'.told (own_entry pid) refl (let is : s'.told ≡ s.told = noted.told in omega (arith, is)) h.counted;
       kept = noted.noted w.log h.kept;
       screens =
           subst (λ (ss : List Screen). AreScreens w.storage.committed (w.log ++ own_entry pid ∷ []) ss) (sym noted.screens)
@@ -204,43 +213,58 @@ set-again [] i x y = refl
 set-again (z ∷ zs) zero x y = refl
 set-again (z ∷ zs) (suc i) x y = ap (λ vs. z ∷ vs) (set-again zs i x y)
 
--- the run after a Turn and an Enter, and what the Enter came to
-pub record IsSettledBoth (w : World) (tasks : List Task) (s' : Shared) (pid n : ℕ) (outcome : Outcome) : Type 0 where
+-- the run after a Turn and an Enter, what the Enter came to, and the process that it made
+pub record IsSettledBoth (w : World) (tasks : List Task) (s' : Shared) (pid n : ℕ) (outcome : Outcome) (child : Option ℕ) : Type 0 where
   pub mirrors : Mirrors (happens (happens w (Turn pid n)) (Enter pid)) tasks s'
   pub outcome_is : outcome ≡ outcome_of (step (happens w (Turn pid n)).sync (Enter pid)).entry.item
+  pub child_is : child ≡ (step (happens w (Turn pid n)).sync (Enter pid)).entry.child
 
-pub both-mirrors : (w : World) (tasks : List Task) (s s' : Shared) (pid place n q : ℕ) (m : State) (t u : Task) (outcome : Outcome)
-    → Mirrors w tasks s → pid ≡ place + 1 → slice_get tasks place ≡ Some t → t.out ≡ Some q → m ≡ (run n t.machine).state → m.count < 2 ^ 40
+pub both-mirrors : (w : World) (tasks : List Task) (s s' : Shared) (pid place n q : ℕ) (m : State) (t u : Task) (outcome : Outcome) (child : Option Task)
+    → Mirrors w tasks s → pid ≡ place + 1 → slice_get tasks place ≡ Some t → out_of t ≡ Some q → m ≡ (run n (machine_of t)).state → m.count < 2 ^ 40
     → is_some (stands_at m) ≡ true
-    → IsTurnEntered pid m t u s s' outcome → IsSettledBoth w (slice_set tasks place u) s' pid n outcome
-both-mirrors w tasks s s' pid place n q m t u outcome h number there out reached few stands e =
+    → (e : IsTurnEntered pid m t u s s' outcome child)
+    → IsSettledBoth w (slice_set tasks place u ++ option_to_list child) s' pid n outcome e.entering.plan.child
+both-mirrors w tasks s s' pid place n q m t u outcome child h number there out reached few stands e =
     let s1 : Shared = record s { dependencies = record { marks = e.marks; room = 0 } } in
     let w1 : World = happens w (Turn pid n) in
     let tasks1 : List Task = slice_set tasks place e.middle in
+    let of : IsProcessOf w.sync.processes pid t = process-there w s.told tasks pid place t h.each number there in
     let h1 : Mirrors w1 tasks1 s1 =
     back-mirrors w tasks s s1 pid place n q m t e.middle h number there out reached few e.back
-    (record { noted = e.turn; changes = refl; files = refl; screens = refl; disk = refl }) in
+    (record { noted = e.turn; changes = refl; files = refl; tapes = refl; pipes = refl; parts = refl; told = refl; screens = refl; disk = refl }) in
     let there1 : slice_get tasks1 place ≡ Some e.middle = get-set-here tasks place e.middle (get-within tasks place t there) in
     let fine : IsFineTask e.middle false = record {
-      running = e.back.end ∙ out-running w place t q (h.each.each place t there) out;
+      running = e.back.trace.end ∙ out-running w s.told place t q (h.each.each place t there) out;
       here = e.back.out;
       stopped = ap (λ (x : State). is_some (stands_at x)) e.back.machine ∙ stands;
       few = subst (λ (x : State). x.count < 2 ^ 40) (sym e.back.machine) few;
       room = refl;
     } in
-    let plans : PlansEnter s.files e.middle.machine e.middle.descriptors e.entering.plan =
-    subst (λ (x : State). PlansEnter s.files x e.middle.descriptors e.entering.plan) (sym e.back.machine)
-    (subst (λ (ds : List (Option Descriptor)). PlansEnter s.files m ds e.entering.plan) (sym e.back.descriptors) e.plans.plan) in
-    let log : w1.log ≡ w.log ++ own_entry pid ∷ [] = ap (λ (x : World). x.log) (back-happens w tasks s pid place n q t h number there out) in
+    let plans : PlansEnter (seen_of s) pid (machine_of e.middle) e.entering.plan =
+    subst (λ (x : State). PlansEnter (seen_of s) pid x e.entering.plan) (sym e.back.machine) e.plans.plan in
+    let made : IsChild e.entering s.disk.committed (machine_of e.middle) e.middle.trace child =
+    subst (λ (x : State). IsChild e.entering s.disk.committed x e.middle.trace child) (sym e.back.machine) e.made in
+    let log : w1.log ≡ w.log ++ own_entry pid ∷ [] = ap (λ (x : World). x.log) (back-happens w tasks s pid place n q t h of there out) in
     let mark : IsMarkOf e.entering.mark w1.log (entry_of pid e.entering.plan) =
     subst (λ (l : List Entry). IsMarkOf e.entering.mark l (entry_of pid e.entering.plan)) (sym log)
-    (mark-later e.entering.mark w.log pid e.entering.plan (entering-mark w tasks s pid m t.descriptors e.entering h e.plans)) in
-    let done : IsEntered e.entering s1 s' = record { kept = e.kept; changes = e.changes; files = e.files; disk = e.disk; screens = e.screens } in
+    (mark-later e.entering.mark w.log pid e.entering.plan (entering-mark w tasks s pid m e.entering h e.plans)) in
+    let done : IsEntered e.entering s1 s' = record {
+      kept = e.kept;
+      changes = e.changes;
+      files = e.files;
+      tapes = e.tapes;
+      pipes = e.pipes;
+      parts = e.parts;
+      told = e.count;
+      disk = e.disk;
+      screens = e.screens;
+    } in
+    let entry : (step w1.sync (Enter pid)).entry ≡ entry_of pid e.entering.plan =
+    entered-entry w1 tasks1 s1 pid place false e.middle e.entering.plan h1 number there1 fine plans in
     record {
       mirrors =
-          subst (λ (ts : List Task). Mirrors (happens w1 (Enter pid)) ts s') (set-again tasks place e.middle u)
-          (entered-at w1 tasks1 s1 s' pid place false e.middle u e.entering h1 number there1 fine plans e.plans.writes mark e.told done);
-      outcome_is =
-          e.outcome_is
-          ∙ sym (ap (λ (o : Option Item). outcome_of o) (entered-item w1 tasks1 s1 pid place false e.middle e.entering.plan h1 number there1 fine plans));
+          subst (λ (ts : List Task). Mirrors (happens w1 (Enter pid)) (ts ++ option_to_list child) s') (set-again tasks place e.middle u)
+          (entered-at w1 tasks1 s1 s' pid place false e.middle u e.entering child h1 number there1 fine e.plans.process plans e.plans.writes mark e.told made done);
+      outcome_is = e.outcome_is ∙ sym (ap (λ (x : Entry). outcome_of x.item) entry);
+      child_is = sym (ap (λ (x : Entry). x.child) entry);
     }

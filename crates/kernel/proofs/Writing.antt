@@ -1,5 +1,5 @@
 -- The disk's events of the parts are those of the run.
-use Rattle.std.proofs.Common.{◌≡◌, ℕ, zero, suc, ◌+◌, ◌*◌, ◌^◌, ◌<◌, ◌≤◌, Bool, true, false, not, List, [], ◌∷◌, ◌++◌, length, map, drop, slice_get, Option, Some, None, is_some, is_none, count_by, if◌then◌else◌, Result, Ok, Err, refl, sym, ap, subst, ◌∙◌, arith}
+use Rattle.std.proofs.Common.{◌≡◌, ℕ, zero, suc, ◌+◌, ◌*◌, ◌^◌, ◌<◌, ◌≤◌, Bool, true, false, not, List, [], ◌∷◌, ◌++◌, length, map, drop, slice_get, Option, Some, None, is_some, IfSome, is_none, count_by, if◌then◌else◌, Result, Ok, Err, refl, sym, ap, subst, ◌∙◌, arith}
 use Rattle.std.specs.Prelude.{IfOk, IfErr, OnOk, OnErr}
 use Rattle.std.specs.List.{AllByRecursion}
 use Rattle.std.proofs.lemmas.Bool.{leb-false}
@@ -26,14 +26,14 @@ use Rattle.kernel_model.specs.declared.event.Event.{Event}
 use Rattle.kernel_model.specs.declared.event.Event.TheVariants.{Cut, Complete, Fail}
 use Rattle.machine_model.specs.States.{State}
 use Rattle.machine_model.specs.declared.reply.Reply.{Reply}
-use Rattle.calls.specs.Plans.{NamesFiles}
+use Rattle.kernel.specs.Waiting.{is_asleep}
 use Rattle.kernel.specs.Advanced.{IsAdvanced, AreAdvanced, IsMoved, AreMoved}
 use Rattle.kernel.specs.Cores.{boot_of, run_of, kernel_of, IsCore}
 use Rattle.kernel.specs.Marked.{AreMarked, front_of}
 use Rattle.kernel.specs.Mirrors.{IsTask, AreTasks, AreChanges, Mirrors}
 use Rattle.kernel.specs.Seen.{IsScreen, AreScreens, IsTrace, end_items, end_marks}
 use Rattle.kernel.specs.Storing.{WasCut, IsCompleted, HasFailed}
-use Rattle.kernel.specs.Tasks.{process_of, status_of, lending_of, count_out, needed}
+use Rattle.kernel.specs.Tasks.{machine_of, out_of, process_of, status_of, lending_of, count_out, needed}
 use Rattle.kernel.specs.Tests.{full_of}
 use Rattle.kernel.specs.declared.boot.Booted.{Booted}
 use Rattle.kernel.specs.declared.screen.Screen.{Screen}
@@ -45,6 +45,7 @@ use Rattle.kernel.proofs.FewLoans.{few-same}
 use Rattle.kernel.proofs.Applying.{full-is, refused-applies}
 use Rattle.kernel.proofs.Refusing.{none-of-two, none-of-four}
 use Rattle.kernel.proofs.Lists.{length-snoc, count-map}
+use Rattle.kernel.proofs.EnterParts.{parts-quiet, pipes-quiet, counted-quiet}
 use Rattle.kernel.proofs.Quiet.{disk-silent, screens-quiet, trace-quiet, changes-part, waits-disk}
 
 -- the disk's events write no carrier
@@ -82,18 +83,18 @@ trace-moved c d log p t t' h replies marks end handed = record {
 }
 
 -- ---- the tasks
-task-moved : (w : World) (st : Storage) (place : ℕ) (t t' : Task) → IsTask w place t → IsMoved st.committed t t' → IsTask (stored_world w st) place t'
-task-moved w st place t t' h m = record {
+task-moved : (w : World) (told : ℕ) (st : Storage) (place : ℕ) (t t' : Task) → IsTask w told place t → IsMoved st.committed t t' → IsTask (stored_world w st) told place t'
+task-moved w told st place t t' h m = record {
   number = m.number ∙ h.number;
   trace = trace-moved w.storage.committed st.committed (w.log ++ disk_entry ∷ []) (place + 1) t.trace t'.trace
       (trace-quiet w.storage.committed w.log disk_entry (place + 1) t.trace disk-silent h.trace) m.replies m.marks m.end m.handed;
-  named = subst (λ ds. NamesFiles (length w.sync.files) ds) (sym m.descriptors) h.named;
   budget =
-      let same : t'.machine.count ≡ t.machine.count = ap (λ (s : State). s.count) m.machine in
-      let out : needed t'.out ≡ needed t.out = ap (λ (o : Option ℕ). needed o) m.out in
-      let before : t.machine.count + needed t.out ≤ 2 ^ 40 = h.budget in
+      let same : (machine_of t').count ≡ (machine_of t).count = ap (λ (s : State). s.count) m.machine in
+      let out : needed (out_of t') ≡ needed (out_of t) = ap (λ (o : Option ℕ). needed o) m.out in
+      let before : (machine_of t).count + needed (out_of t) ≤ 2 ^ 40 = h.budget in
       omega (arith, same, out, before);
-  awake = waits-disk place w.log ∙ h.awake;
+  waits = waits-disk place w.log ∙ h.waits ∙ ap (λ (o : Option ℕ). is_asleep told o) (sym m.waited);
+  since = subst (λ (o : Option ℕ). IfSome o (λ before. before ≤ told)) (sym m.waited) h.since;
   running = λ e. m.end ∙ h.running (ap (λ (o : Option ℕ). is_some o) (sym m.out) ∙ e);
 }
 
@@ -123,28 +124,28 @@ pub tasks-lendings : (c : ℕ) (old new : List Task) → AreMoved c old new → 
 tasks-lendings c old new m = map-each lending_of old new m.count
     (λ i t there. let before = m.each i t there in (before.0, before.1, lending-moved c before.0 t before.2))
 
-pub tasks-moved : (w : World) (st : Storage) (old new : List Task) → AreTasks w old → AreMoved st.committed old new → AreTasks (stored_world w st) new
-tasks-moved w st old new h m = record {
+pub tasks-moved : (w : World) (told : ℕ) (st : Storage) (old new : List Task) → AreTasks w told old → AreMoved st.committed old new → AreTasks (stored_world w st) told new
+tasks-moved w told st old new h m = record {
   processes = tasks-processes st.committed old new m ∙ h.processes;
-  each = λ i t there. let before = m.each i t there in task-moved w st i before.0 t (h.each i before.0 before.1) before.2;
+  each = λ i t there. let before = m.each i t there in task-moved w told st i before.0 t (h.each i before.0 before.1) before.2;
 }
 
 -- where no more is committed, each task has moved to itself
-still : (w : World) (place : ℕ) (t : Task) → IsTask w place t → IsMoved w.storage.committed t t
-still w place t h = record {
+still : (w : World) (told place : ℕ) (t : Task) → IsTask w told place t → IsMoved w.storage.committed t t
+still w told place t h = record {
   number = refl;
   machine = refl;
-  descriptors = refl;
   loans = refl;
   out = refl;
   replies = refl;
   marks = refl;
   end = refl;
+  waited = refl;
   handed = h.trace.handed;
 }
 
-tasks-still : (w : World) (tasks : List Task) → AreTasks w tasks → AreMoved w.storage.committed tasks tasks
-tasks-still w tasks h = record { count = refl; each = λ i t there. (t, there, still w i t (h.each i t there)) }
+tasks-still : (w : World) (told : ℕ) (tasks : List Task) → AreTasks w told tasks → AreMoved w.storage.committed tasks tasks
+tasks-still w told tasks h = record { count = refl; each = λ i t there. (t, there, still w told i t (h.each i t there)) }
 
 screens-still : (c : ℕ) (log : List Entry) (screens : List Screen) → AreScreens c log screens → AreAdvanced c screens screens
 screens-still c log screens h = record {
@@ -153,13 +154,23 @@ screens-still c log screens h = record {
 }
 
 -- ---- all parts after an event of the disk
+-- the pipes, the table of processes and the count of what was told stay
+pub record IsSameRest (old new : Shared) : Type 0 where
+  pub pipes : new.pipes ≡ old.pipes
+  pub parts : new.processes.parts ≡ old.processes.parts
+  pub told : new.told ≡ old.told
+
 pub stored-mirrors : (w : World) (st st' : Storage) (old new : List Task) (s s' : Shared) → Mirrors w old s → st' ≡ st
     → AreMoved st.committed old new → AreAdvanced st.committed s.screens.items s'.screens.items
-    → s'.dependencies.marks ≡ s.dependencies.marks → s'.changes.items ≡ s.changes.items → s'.files ≡ s.files → s'.disk ≡ st'
+    → s'.dependencies.marks ≡ s.dependencies.marks → s'.changes.items ≡ s.changes.items → s'.files ≡ s.files → s'.tapes ≡ s.tapes → IsSameRest s s' → s'.disk ≡ st'
     → Mirrors (stored_world w st) new s'
-stored-mirrors w st st' old new s s' h same moved advanced marks changes files disk = record {
-  each = tasks-moved w st old new h.each moved;
+stored-mirrors w st st' old new s s' h same moved advanced marks changes files tapes rest disk = record {
+  each = subst (λ (n : ℕ). AreTasks (stored_world w st) n new) (sym rest.told) (tasks-moved w s.told st old new h.each moved);
   changes = changes-part w (stored_world w st) s s' disk_entry disk-silent refl refl changes files h.changes;
+  tapes = tapes ∙ h.tapes;
+  parts = parts-quiet w (stored_world w st) s.processes.parts s'.processes.parts refl refl rest.parts h.parts;
+  pipes = pipes-quiet w (stored_world w st) s.pipes s'.pipes disk_entry refl refl rest.pipes h.pipes;
+  counted = counted-quiet w (stored_world w st) s.told s'.told disk_entry refl (let is : s'.told ≡ s.told = rest.told in omega (arith, is)) h.counted;
   kept = subst (λ (ms : List Marked). Keeps (w.log ++ disk_entry ∷ []) ms) (sym marks) (keeps-disk w.log s.dependencies.marks h.kept);
   screens = screens-moved w.storage.committed st.committed (w.log ++ disk_entry ∷ []) s.screens.items s'.screens.items
       (screens-quiet w.storage.committed w.log disk_entry s.screens.items disk-silent h.screens) advanced;
@@ -171,9 +182,9 @@ pub still-mirrors : (w : World) (st st' : Storage) (tasks : List Task) (s : Shar
     → Mirrors (stored_world w st) tasks (record s { disk = st' })
 still-mirrors w st st' tasks s h same committed =
     stored-mirrors w st st' tasks tasks s (record s { disk = st' }) h same
-    (subst (λ (c : ℕ). AreMoved c tasks tasks) (sym committed) (tasks-still w tasks h.each))
+    (subst (λ (c : ℕ). AreMoved c tasks tasks) (sym committed) (tasks-still w s.told tasks h.each))
     (subst (λ (c : ℕ). AreAdvanced c s.screens.items s.screens.items) (sym committed) (screens-still w.storage.committed w.log s.screens.items h.screens))
-    refl refl refl refl
+    refl refl refl refl (record { pipes = refl; parts = refl; told = refl }) refl
 
 -- ---- the core after an event of the disk
 pub stored-core : (b : Booted) (history history' : List Event) (old new : List Task) (s s' : Shared) (e : Event) (st : Storage) (full : Bool)
@@ -234,7 +245,7 @@ fail-core b history history' tasks s d at full (Ok a) h is done grown x y =
     let same : d ≡ st = done.disk ∙ ap (λ (t : Storage). failed t at) h.mirrors.disk in
     let none : st.committed ≡ w.storage.committed = failed-committed w.storage at in
     stored-core b history history' tasks tasks s (record s { disk = d }) (Fail at) st full h is (write-fine s.disk at full done.fine) grown refl
-    (subst (λ (c : ℕ). AreMoved c tasks tasks) (sym none) (tasks-still w tasks h.mirrors.each))
+    (subst (λ (c : ℕ). AreMoved c tasks tasks) (sym none) (tasks-still w s.told tasks h.mirrors.each))
     (still-mirrors w st d tasks s h.mirrors same none)
 fail-core b history history' tasks s d at full (Err why) h is done grown x y = same-stored b history history' tasks s d x y h
 
@@ -256,9 +267,9 @@ pub completed-core : (b : Booted) (history history' : List Event) (old new : Lis
     → IsCore b history old s → full ≡ full_of (length history) old
     → IsCompleted s.disk s'.disk at full committed → history' ≡ history ++ Complete at ∷ []
     → AreMoved committed old new → AreAdvanced committed s.screens.items s'.screens.items
-    → s'.dependencies.marks ≡ s.dependencies.marks → s'.changes.items ≡ s.changes.items → s'.files ≡ s.files
+    → s'.dependencies.marks ≡ s.dependencies.marks → s'.changes.items ≡ s.changes.items → s'.files ≡ s.files → s'.tapes ≡ s.tapes → IsSameRest s s'
     → IsCore b history' new s'
-completed-core b history history' old new s s' at committed full h is done grown moved advanced marks changes files =
+completed-core b history history' old new s s' at committed full h is done grown moved advanced marks changes files tapes rest =
     let w : World = run_of b history in
     let st : Storage = completed w.storage at in
     let same : s'.disk ≡ st = done.disk ∙ ap (λ (t : Storage). completed t at) h.mirrors.disk in
@@ -266,7 +277,7 @@ completed-core b history history' old new s s' at committed full h is done grown
     let moved_so : AreMoved st.committed old new = subst (λ (c : ℕ). AreMoved c old new) count moved in
     stored-core b history history' old new s s' (Complete at) st full h is (write-fine s.disk at full done.fine) grown refl moved_so
     (stored-mirrors w st s'.disk old new s s' h.mirrors same moved_so
-    (subst (λ (c : ℕ). AreAdvanced c s.screens.items s'.screens.items) count advanced) marks changes files refl)
+    (subst (λ (c : ℕ). AreAdvanced c s.screens.items s'.screens.items) count advanced) marks changes files tapes rest refl)
 
 pub completed-applies : (b : Booted) (history history' : List Event) (old new : List Task) (s : Shared) (d : Storage) (last at committed : ℕ) (full : Bool)
     → IsCore b history old s → full ≡ full_of (length history) old
@@ -345,7 +356,7 @@ cut-core b history history' tasks s d full (Ok a) h is done grown x y =
     let same : d ≡ st = done.disk ∙ cut-same w s h.mirrors.changes h.mirrors.disk in
     let none : st.committed ≡ w.storage.committed = cut-committed w.storage (drop w.storage.committed (changes_of w.log)) w.sync.files in
     stored-core b history history' tasks tasks s (record s { disk = d }) Cut st full h is (cut-fine s.disk (drop s.disk.committed s.changes.items) full done.fine) grown refl
-    (subst (λ (c : ℕ). AreMoved c tasks tasks) (sym none) (tasks-still w tasks h.mirrors.each))
+    (subst (λ (c : ℕ). AreMoved c tasks tasks) (sym none) (tasks-still w s.told tasks h.mirrors.each))
     (still-mirrors w st d tasks s h.mirrors same none)
 cut-core b history history' tasks s d full (Err why) h is done grown x y = same-stored b history history' tasks s d x y h
 

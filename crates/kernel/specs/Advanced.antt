@@ -1,6 +1,7 @@
 -- What a commit does to screens and traces.
 use Rattle.std.specs.Prelude.{◌≡◌, ℕ, List, length, slice_get, Some}
 use Rattle.kernel.specs.Marked.{front_of}
+use Rattle.kernel.specs.Tasks.{machine_of, out_of}
 use Rattle.kernel.specs.declared.screen.Screen.{Screen}
 use Rattle.kernel.specs.declared.task.Task.{Task}
 
@@ -18,13 +19,13 @@ pub record AreAdvanced (c : ℕ) (old new : List Screen) : Type 0 where
 -- the task after c changes are committed
 pub record IsMoved (c : ℕ) (old new : Task) : Type 0 where
   pub number : new.pid ≡ old.pid
-  pub machine : new.machine ≡ old.machine
-  pub descriptors : new.descriptors ≡ old.descriptors
+  pub machine : machine_of new ≡ machine_of old
   pub loans : new.loans ≡ old.loans
-  pub out : new.out ≡ old.out
+  pub out : out_of new ≡ out_of old
   pub replies : new.trace.replies.items ≡ old.trace.replies.items
   pub marks : new.trace.marks.items ≡ old.trace.marks.items
   pub end : new.trace.end ≡ old.trace.end
+  pub waited : new.trace.waited ≡ old.trace.waited
   pub handed : new.trace.handed ≡ front_of c old.trace.marks.items
 
 -- all tasks after c changes are committed

@@ -12,7 +12,7 @@ use Rattle.kernel.specs.declared.task.Task.{Task}
 
 -- what a core was booted from
 abbrev pub boot_of : Booted → Boot
-boot_of b = boot_with b.programs.items b.tapes.items b.disk
+boot_of b = boot_with b.programs.items b.tapes.value.items b.disk
 
 -- the run of a core
 abbrev pub run_of : Booted → List Event → World

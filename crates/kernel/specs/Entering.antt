@@ -1,25 +1,37 @@
 -- What an Enter does to the parts of a core.
-use Rattle.std.specs.Prelude.{◌≡◌, ℕ, ◌<◌, ◌⊎◌, List, [], ◌∷◌, ◌++◌, length, map, Option, Some, None, IfSome, option_to_list, vec_len, vec_capacity}
+use Rattle.std.specs.Prelude.{◌≡◌, ℕ, ◌+◌, ◌^◌, ◌<◌, ◌≤◌, ◌⊎◌, true, List, [], ◌∷◌, ◌++◌, length, map, Option, Some, None, IfSome, option_to_list, vec_len, vec_capacity}
+use Rattle.std.specs.List.{AllByRecursion}
 use Rattle.disk_model.specs.declared.change.NamedFile.{NamedFile}
+use Rattle.machine_model.specs.Access.{is_writable}
 use Rattle.machine_model.specs.States.{State, stands_at, replied}
 use Rattle.machine_model.specs.declared.reply.Reply.{Reply}
 use Rattle.machine_model.specs.declared.stop.Stop.TheVariants.{Call}
-use Rattle.calls.specs.Plans.{IsPossible, NamesFiles}
+use Rattle.calls.specs.Plans.{IsPossible, NamesFiles, AreLeft, EditsAs, IsNext, MayAllStep, OpensAlone, OpensNone, all_seen}
 use Rattle.calls.specs.declared.plan.Plan.{Plan}
 use Rattle.commit_deps.specs.Keeps.{Keeps}
 use Rattle.commit_deps.specs.Marks.{IsMarkOf}
 use Rattle.commit_deps.specs.declared.dependencies.Marked.{Marked}
 use Rattle.kernel_model.specs.Entries.{Entry, Item, Got, End as Ended}
 use Rattle.kernel_model.specs.Paths.{changes_of}
-use Rattle.kernel_model.specs.State.{SyncState, Process, shared, put_process, changed_by}
-use Rattle.kernel_model.specs.Steps.{Transition, effect_at, set_slots, after_effect_if}
+use Rattle.kernel_model.specs.Rows.{Effect}
+use Rattle.kernel_model.specs.State.{SyncState, Process, PipeState, TapeState, new_pipe, process_at, put_process, changed_by, read_by, all_stepped}
+use Rattle.kernel_model.specs.Steps.{Transition, step, set_slots, children_after, forked, zero_reply}
+use Rattle.kernel_model.specs.declared.carrier.Carrier.{Carrier}
 use Rattle.kernel_model.specs.declared.carrier.Carrier.TheVariants.{Proc}
 use Rattle.kernel_model.specs.declared.descriptor.Descriptor.{Descriptor}
+use Rattle.kernel_model.specs.declared.effect.PipeStep.{PipeStep}
+use Rattle.kernel_model.specs.declared.effect.PipeStep.TheVariants.{Open}
 use Rattle.kernel_model.specs.declared.effect.Slot.{Slot}
+use Rattle.kernel_model.specs.declared.event.Event.TheVariants.{Enter}
 use Rattle.kernel_model.specs.declared.request.Verdict.{Verdict}
 use Rattle.kernel_model.specs.declared.request.Verdict.TheVariants.{Waits, Replies, Ends}
+use Rattle.pipes.specs.Seen.{Seen, Shows, seen_of as seen_pipe}
+use Rattle.pipes.specs.Stepping.{HasAtMost}
+use Rattle.processes.specs.Parts.{Part, part_of, part_at, with_part, child_part, descriptors_in}
 use Rattle.kernel.specs.Marked.{front_of}
 use Rattle.kernel.specs.Seen.{AreScreens}
+use Rattle.kernel.specs.Tasks.{machine_of, out_of}
+use Rattle.kernel.specs.Waiting.{told_after, waited_after}
 use Rattle.kernel.specs.declared.plan.Entering.{Entering}
 use Rattle.kernel.specs.declared.screen.Screen.{Screen}
 use Rattle.kernel.specs.declared.shared.Shared.{Shared}
@@ -48,10 +60,10 @@ descriptors_after ds (Replies r) slots = set_slots ds slots
 descriptors_after ds (Ends status) slots = map (λ d. None) ds
 
 -- its status
-abbrev pub status_after : Verdict → Option ℕ
-status_after Waits = None
-status_after (Replies r) = None
-status_after (Ends status) = Some status
+abbrev pub status_after : Verdict → Option ℕ → Option ℕ
+status_after Waits before = before
+status_after (Replies r) before = before
+status_after (Ends status) before = Some status
 
 -- the reply, if it is one
 abbrev pub replies_of : Verdict → List Reply
@@ -71,81 +83,216 @@ end_after Waits mark end = end
 end_after (Replies r) mark end = end
 end_after (Ends status) mark end = Some (record { status = status; mark = mark })
 
--- a process that stands here may be told this: an end, or at a call a reply without bytes
+-- the carriers that its event writes, where these are those of its call: none where it has to wait
+abbrev pub writes_of : ℕ → Verdict → List Carrier → List Carrier
+writes_of pid Waits carriers = []
+writes_of pid (Replies r) carriers = Proc pid ∷ carriers
+writes_of pid (Ends status) carriers = Proc pid ∷ carriers
+
+-- a process that stands here may be told this: at a call a reply whose bytes may be written at their place, or anything else
 abbrev pub MayBeTold : State → Verdict → Type 0
-MayBeTold s Waits = ⊥
-MayBeTold s (Replies r) = (stands_at s ≡ Some Call) × (r.bytes ≡ []) × (r.at ≡ 0)
+MayBeTold s Waits = Unit {0}
+MayBeTold s (Replies r) = (stands_at s ≡ Some Call) × (is_writable s.hart.memory r.at (length r.bytes) ≡ true)
 MayBeTold s (Ends status) = Unit {0}
 
 -- ---- what a plan comes to
+
+-- what calls may look at, of what is shared
+pub record Sight : Type 0 where
+  pub parts : List Part
+  pub files : List NamedFile
+  pub pipes : List Seen
+  pub tapes : List TapeState
+
+abbrev pub seen_of : Shared → Sight
+seen_of s = record { parts = s.processes.parts; files = s.files; pipes = s.pipes; tapes = s.tapes }
+
+-- this is seen of a state
+pub record IsSightOf (state : SyncState) (seen : Sight) : Type 0 where
+  pub parts : seen.parts ≡ map part_of state.processes
+  pub files : seen.files ≡ state.files
+  pub pipes : Shows state.pipes seen.pipes
+  pub tapes : seen.tapes ≡ state.tapes
+
+-- there may be 16 more descriptors for each end of these pipes
+pub record HaveRoom (seen : List Seen) : Type 0 where
+  pub pipes : List PipeState
+  pub most : ℕ
+  pub shown : Shows pipes seen
+  pub few : AllByRecursion (HasAtMost most) pipes
+  pub room : most + 16 < 2 ^ 64
+
+-- A plan may be made for process pid: it is there and has no more than 16 descriptors, which name files that are there; the
+-- files are few and short, and there is room for its descriptors once more.
+pub record MayPlan (seen : Sight) (pid : ℕ) : Type 0 where
+  pub from_1 : 0 < pid
+  pub there : pid ≤ length seen.parts
+  pub few : length seen.files ≤ 32
+  pub short : AllByRecursion (λ (f : NamedFile). length f.bytes ≤ 16384) seen.files
+  pub named : NamesFiles (length seen.files) (descriptors_in (part_at seen.parts pid))
+  pub count : length (descriptors_in (part_at seen.parts pid)) ≤ 16
+  pub ends : HaveRoom seen.pipes
+
+-- what the plan says
+abbrev pub effect_of : Plan → Effect
+effect_of plan = record {
+  told = plan.told;
+  reads = plan.reads.items;
+  writes = plan.writes.items;
+  change = plan.change;
+  output = plan.output;
+  tape = plan.tape;
+  pipes = plan.pipes.items;
+  slots = plan.slots.items;
+  child = plan.child;
+  collects = plan.collects;
+}
 
 -- the entry of an Enter of process pid
 abbrev pub entry_of : ℕ → Plan → Entry
 entry_of pid plan = record {
   process = pid;
   reads = Proc pid ∷ plan.reads.items;
-  writes = Proc pid ∷ plan.writes.items;
+  writes = writes_of pid plan.told plan.writes.items;
   change = plan.change;
   output = plan.output;
   item = item_of plan.told;
+  child = plan.child;
+}
+
+-- the process's part
+abbrev pub part_after : Part → Plan → Part
+part_after part plan = record {
+  descriptors = descriptors_after part.descriptors plan.told plan.slots.items;
+  children = children_after part.children (effect_of plan);
+  status = status_after plan.told part.status;
 }
 
 -- the process
 abbrev pub process_after : Process → Plan → Process
 process_after p plan = record {
   state = machine_after p.state plan.told;
-  descriptors = descriptors_after p.descriptors plan.told (option_to_list plan.slot);
-  status = status_after plan.told;
+  descriptors = (part_after (part_of p) plan).descriptors;
+  children = (part_after (part_of p) plan).children;
+  status = (part_after (part_of p) plan).status;
 }
+
+-- the process's part once it has made a child of this number or collected this one
+abbrev pub family_of : Part → Plan → Part
+family_of part plan = record part { children = children_after part.children (effect_of plan) }
+
+-- the part of the process that is made, if one is
+abbrev pub born : Option Part → Option ℕ → List Part
+born None child = []
+born (Some part) None = []
+born (Some part) (Some child) = child_part part ∷ []
+
+-- all parts once it has
+abbrev pub with_children : List Part → ℕ → Plan → List Part
+with_children parts pid plan = with_part parts pid (part_at parts pid) (λ part. family_of part plan) ++ born (part_at parts pid) plan.child
+
+-- all parts
+abbrev pub parts_after : List Part → ℕ → Plan → List Part
+parts_after parts pid plan = with_part parts pid (part_at parts pid) (λ part. part_after part plan) ++ born (part_at parts pid) plan.child
 
 -- the state after it, and its entry
 abbrev pub planned : SyncState → ℕ → Process → Plan → Transition
 planned s pid p plan = record {
-  state = record { processes = put_process s.processes pid (process_after p plan); files = changed_by s.files plan.change; tapes = s.tapes };
+  state = record {
+    processes = put_process s.processes pid (process_after p plan) ++ forked p plan.child;
+    files = changed_by s.files plan.change;
+    pipes = all_stepped s.pipes plan.pipes.items;
+    tapes = read_by s.tapes plan.tape;
+  };
   entry = entry_of pid plan;
 }
 
--- The plan says what comes of the call or the trap at which a process stands, with these files. It changes a file or
--- writes to a terminal, and not both.
-pub record PlansEnter (files : List NamedFile) (s : State) (ds : List (Option Descriptor)) (plan : Plan) : Type 0 where
-  pub goes : (state : SyncState) (pid : ℕ) (p : Process) → state.files ≡ files → p.state ≡ s → p.descriptors ≡ ds
-      → after_effect_if state pid p (effect_at (shared state) p (stands_at p.state)) ≡ planned state pid p plan
+-- the steps of one event: a pipe is made, or pipes that were made before are used, and each end at most 16 times
+pub record AreSteps (steps : List PipeStep) : Type 0 where
+  pub kind : OpensAlone steps
+  pub few : length steps ≤ 16
+
+-- The plan says what comes of the call or the trap at which process pid stands, which sees this. It changes a file or writes
+-- to a terminal, and not both; it makes a child or collects one, and not both; and it reads no more of a tape than is left.
+pub record PlansEnter (seen : Sight) (pid : ℕ) (s : State) (plan : Plan) : Type 0 where
+  pub goes : (state : SyncState) (p : Process) → IsSightOf state seen → process_at state.processes pid ≡ Some p → p.state ≡ s → p.status ≡ None
+      → step state (Enter pid) ≡ planned state pid p plan
   pub told : MayBeTold s plan.told
+  pub edits : EditsAs plan.told plan
   pub one_edit : (plan.change ≡ None) ⊎ (plan.output ≡ None)
-  pub possible : IfSome plan.change (IsPossible files)
-  pub named : NamesFiles (length (changed_by files plan.change)) (descriptors_after ds plan.told (option_to_list plan.slot))
+  pub one_child : (plan.child ≡ None) ⊎ (plan.collects ≡ None)
+  pub possible : IfSome plan.change (IsPossible seen.files)
+  pub left : IfSome plan.tape (AreLeft seen.tapes)
+  pub named : NamesFiles (length (changed_by seen.files plan.change)) (descriptors_after (descriptors_in (part_at seen.parts pid)) plan.told plan.slots.items)
+  pub steps : AreSteps plan.pipes.items
+  pub may : MayAllStep seen.pipes plan.pipes.items
+  pub child : IfSome plan.child (IsNext (length seen.parts))
+
+-- the pipe that is to be made, if the first of these steps makes one
+abbrev pub IsSpare : List PipeStep → Option Seen → Type 0
+IsSpare steps None = AllByRecursion OpensNone steps
+IsSpare steps (Some pipe) = (steps ≡ Open ∷ []) × (pipe ≡ seen_pipe new_pipe)
 
 -- The plan, all carriers that it writes, and its mark, where these marks are kept and there are so many changes.
-pub record IsEntering (marks : List Marked) (count : ℕ) (files : List NamedFile) (pid : ℕ) (s : State) (ds : List (Option Descriptor)) (e : Entering) : Type 0 where
-  pub plan : PlansEnter files s ds e.plan
-  pub writes : e.writes.items ≡ Proc pid ∷ e.plan.writes.items
+pub record IsEntering (marks : List Marked) (count : ℕ) (seen : Sight) (pid : ℕ) (s : State) (e : Entering) : Type 0 where
+  pub process : e.pid ≡ pid
+  pub plan : PlansEnter seen pid s e.plan
+  pub writes : e.writes.items ≡ (entry_of pid e.plan).writes
   pub mark : (log : List Entry) → Keeps log marks → length (changes_of log) ≡ count → IsMarkOf e.mark log (entry_of pid e.plan)
+  pub spare : IsSpare e.plan.pipes.items e.spare
+
+-- ---- the process that is made
+
+-- the task of a process that is made by an event of this mark, where its parent's machine and trace are these
+pub record IsForked (mark c : ℕ) (s : State) (parent : Trace) (u : Task) : Type 0 where
+  pub machine : machine_of u ≡ replied s zero_reply
+  pub replies : u.trace.replies.items ≡ parent.replies.items ++ zero_reply ∷ []
+  pub marks : u.trace.marks.items ≡ parent.marks.items ++ mark ∷ []
+  pub handed : u.trace.handed ≡ front_of c u.trace.marks.items
+  pub end : u.trace.end ≡ None
+  pub waited : u.trace.waited ≡ None
+  pub loans : u.loans ≡ 0
+  pub out : out_of u ≡ None
+
+-- the same, if the plan makes a process
+abbrev pub IsChild : Entering → ℕ → State → Trace → Option Task → Type 0
+IsChild e c s parent None = e.plan.child ≡ None
+IsChild e c s parent (Some u) = (e.plan.child ≡ Some u.pid) × IsForked e.mark c s parent u
 
 -- ---- what is done
 
--- the task after it was told this by an event of this mark, where c changes are committed
-pub record IsTold (told : Verdict) (slots : List Slot) (mark c : ℕ) (old new : Task) : Type 0 where
+-- the trace after the process was told this by an event of this mark, where c changes are committed, and so many had told
+-- something before
+pub record IsToldTrace (told : Verdict) (mark c before : ℕ) (old new : Trace) : Type 0 where
+  pub replies : new.replies.items ≡ old.replies.items ++ replies_of told
+  pub marks : new.marks.items ≡ old.marks.items ++ reply_marks told mark
+  pub end : new.end ≡ end_after told mark old.end
+  pub handed : old.handed ≡ front_of c old.marks.items → new.handed ≡ front_of c new.marks.items
+  pub waited : new.waited ≡ waited_after told before old.waited
+
+-- the task after it was told this
+pub record IsTold (told : Verdict) (mark c before : ℕ) (old new : Task) : Type 0 where
   pub pid : new.pid ≡ old.pid
-  pub machine : new.machine ≡ machine_after old.machine told
-  pub descriptors : new.descriptors ≡ descriptors_after old.descriptors told slots
-  pub replies : new.trace.replies.items ≡ old.trace.replies.items ++ replies_of told
-  pub marks : new.trace.marks.items ≡ old.trace.marks.items ++ reply_marks told mark
-  pub end : new.trace.end ≡ end_after told mark old.trace.end
-  pub handed : old.trace.handed ≡ front_of c old.trace.marks.items → new.trace.handed ≡ front_of c new.trace.marks.items
+  pub machine : machine_of new ≡ machine_after (machine_of old) told
+  pub trace : IsToldTrace told mark c before old.trace new.trace
   pub loans : new.loans ≡ old.loans
-  pub out : new.out ≡ old.out
+  pub out : out_of new ≡ out_of old
+
+-- the same trace, though there may be room for more
+pub record IsSameTrace (old new : Trace) : Type 0 where
+  pub replies : new.replies.items ≡ old.replies.items
+  pub marks : new.marks.items ≡ old.marks.items
+  pub end : new.end ≡ old.end
+  pub handed : new.handed ≡ old.handed
+  pub waited : new.waited ≡ old.waited
 
 -- the same task, though there may be room for more
 pub record IsSameTask (old new : Task) : Type 0 where
   pub pid : new.pid ≡ old.pid
-  pub machine : new.machine ≡ old.machine
-  pub descriptors : new.descriptors ≡ old.descriptors
-  pub replies : new.trace.replies.items ≡ old.trace.replies.items
-  pub marks : new.trace.marks.items ≡ old.trace.marks.items
-  pub end : new.trace.end ≡ old.trace.end
-  pub handed : new.trace.handed ≡ old.trace.handed
+  pub machine : machine_of new ≡ machine_of old
+  pub trace : IsSameTrace old.trace new.trace
   pub loans : new.loans ≡ old.loans
-  pub out : new.out ≡ old.out
+  pub out : out_of new ≡ out_of old
 
 -- there is room for one more reply
 pub record HasRoom (t : Trace) : Type 0 where
@@ -166,23 +313,36 @@ pub record IsSameShared (old new : Shared) : Type 0 where
   pub marks : new.dependencies.marks ≡ old.dependencies.marks
   pub changes : new.changes.items ≡ old.changes.items
   pub files : new.files ≡ old.files
+  pub tapes : new.tapes ≡ old.tapes
+  pub pipes : new.pipes ≡ old.pipes
+  pub parts : new.processes.parts ≡ old.processes.parts
+  pub told : new.told ≡ old.told
   pub disk : new.disk ≡ old.disk
   pub screens : StayScreens old.disk.committed old.screens.items new.screens.items
 
--- a plan's change of the files, or its output, is done
+-- a plan's change of the files, or its output, is done; the rest takes no memory, and is still to be done
 pub record IsPerformed (plan : Plan) (mark : ℕ) (old new : Shared) : Type 0 where
   pub dependencies : new.dependencies ≡ old.dependencies
   pub changes : new.changes.items ≡ old.changes.items
   pub files : new.files ≡ changed_by old.files plan.change
+  pub tapes : new.tapes ≡ old.tapes
+  pub pipes : new.pipes ≡ old.pipes
+  pub processes : new.processes ≡ old.processes
+  pub told : new.told ≡ old.told
   pub disk : new.disk ≡ old.disk
   pub screens : ArePrinted old.disk.committed plan mark old.screens.items new.screens.items
   pub room : vec_len new.changes < vec_capacity new.changes
 
--- an event of this mark is noted, and its change
+-- an event of this mark is noted, with its change; the tape that it reads is past what was read, the steps of its pipes are done,
+-- and so is what becomes of its process's part
 pub record IsNoted (e : Entering) (old new : Shared) : Type 0 where
   pub kept : (log : List Entry) (x : Entry) → Keeps log old.dependencies.marks → IsMarkOf e.mark log x → x.writes ≡ e.writes.items → Keeps (log ++ x ∷ []) new.dependencies.marks
   pub changes : new.changes.items ≡ old.changes.items ++ option_to_list e.plan.change
   pub files : new.files ≡ old.files
+  pub tapes : new.tapes ≡ read_by old.tapes e.plan.tape
+  pub pipes : new.pipes ≡ all_seen old.pipes e.plan.pipes.items
+  pub parts : new.processes.parts ≡ parts_after old.processes.parts e.pid e.plan
+  pub told : new.told ≡ told_after e.plan.told old.told
   pub disk : new.disk ≡ old.disk
   pub screens : new.screens.items ≡ old.screens.items
 
@@ -191,5 +351,21 @@ pub record IsEntered (e : Entering) (old new : Shared) : Type 0 where
   pub kept : (log : List Entry) (x : Entry) → Keeps log old.dependencies.marks → IsMarkOf e.mark log x → x.writes ≡ e.writes.items → Keeps (log ++ x ∷ []) new.dependencies.marks
   pub changes : new.changes.items ≡ old.changes.items ++ option_to_list e.plan.change
   pub files : new.files ≡ changed_by old.files e.plan.change
+  pub tapes : new.tapes ≡ read_by old.tapes e.plan.tape
+  pub pipes : new.pipes ≡ all_seen old.pipes e.plan.pipes.items
+  pub parts : new.processes.parts ≡ parts_after old.processes.parts e.pid e.plan
+  pub told : new.told ≡ told_after e.plan.told old.told
+  pub disk : new.disk ≡ old.disk
+  pub screens : ArePrinted old.disk.committed e.plan e.mark old.screens.items new.screens.items
+
+-- an Enter is ready: its change or its output is done, and the rest is as before
+pub record IsReadied (e : Entering) (old new : Shared) : Type 0 where
+  pub marks : new.dependencies.marks ≡ old.dependencies.marks
+  pub changes : new.changes.items ≡ old.changes.items
+  pub files : new.files ≡ changed_by old.files e.plan.change
+  pub tapes : new.tapes ≡ old.tapes
+  pub pipes : new.pipes ≡ old.pipes
+  pub parts : new.processes.parts ≡ old.processes.parts
+  pub told : new.told ≡ old.told
   pub disk : new.disk ≡ old.disk
   pub screens : ArePrinted old.disk.committed e.plan e.mark old.screens.items new.screens.items

@@ -1,8 +1,9 @@
 -- What a core's parts are at boot.
-use Rattle.std.specs.Prelude.{◌≡◌, ℕ, ◌+◌, List, [], ◌∷◌, length, replicate, slice_get, Some, None}
+use Rattle.std.specs.Prelude.{◌≡◌, ℕ, ◌+◌, List, [], ◌∷◌, length, slice_get, Some, None}
 use Rattle.machine_model.specs.Access.{HoldsBytes}
 use Rattle.machine.specs.First.{first_state}
-use Rattle.kernel_model.specs.declared.descriptor.Descriptor.TheVariants.{Tape, Terminal}
+use Rattle.processes.specs.Parts.{Part, boot_part}
+use Rattle.kernel.specs.Tasks.{machine_of, out_of}
 use Rattle.kernel.specs.declared.boot.Program.{Program}
 use Rattle.kernel.specs.declared.screen.Screen.{Screen}
 use Rattle.kernel.specs.declared.task.Task.{Task}
@@ -10,20 +11,25 @@ use Rattle.kernel.specs.declared.task.Task.{Task}
 -- the task of the program at this place, from 0, before any event
 pub record IsFirst (place : ℕ) (p : Program) (t : Task) : Type 0 where
   pub number : t.pid ≡ place + 1
-  pub machine : t.machine ≡ first_state p.image
-  pub bytes : HoldsBytes t.machine.hart.memory
-  pub descriptors : t.descriptors ≡ Some (Tape place) ∷ Some (Terminal p.terminal) ∷ replicate 14 None
+  pub machine : machine_of t ≡ first_state p.image
+  pub bytes : HoldsBytes (machine_of t).hart.memory
   pub replies : t.trace.replies.items ≡ []
   pub marks : t.trace.marks.items ≡ []
   pub handed : t.trace.handed ≡ 0
   pub end : t.trace.end ≡ None
+  pub waited : t.trace.waited ≡ None
   pub loans : t.loans ≡ 0
-  pub out : t.out ≡ None
+  pub out : out_of t ≡ None
 
 -- the tasks of these programs, before any event
 pub record AreFirst (programs : List Program) (tasks : List Task) : Type 0 where
   pub count : length tasks ≡ length programs
   pub each : (i : ℕ) (t : Task) → slice_get tasks i ≡ Some t → (p : Program) × (slice_get programs i ≡ Some p) × IsFirst i p t
+
+-- the parts of these programs' processes before any event, the first of which reads tape i
+abbrev pub parts_from : ℕ → List Program → List Part
+parts_from i [] = []
+parts_from i (p ∷ ps) = boot_part i p.terminal ∷ parts_from (i + 1) ps
 
 -- a screen with no bytes
 pub record IsEmptyScreen (s : Screen) : Type 0 where

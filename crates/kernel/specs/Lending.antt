@@ -1,6 +1,7 @@
 -- Which process is lent next, and what a loan does to its task.
 use Rattle.std.specs.Prelude.{◌≡◌, ℕ, ◌+◌, ◌-◌, ◌*◌, ◌^◌, ◌&&◌, not, nat_lt, nat_le, Bool, true, List, take, drop, Option, Some, None, is_some, MatchOption, position, slice_get, slice_set}
-use Rattle.kernel.specs.Tasks.{status_of, count_out}
+use Rattle.kernel.specs.Tasks.{machine_of, out_of, status_of, count_out}
+use Rattle.kernel.specs.Waiting.{is_asleep}
 use Rattle.kernel.specs.declared.loan.Loan.{Loan}
 use Rattle.kernel.specs.declared.task.Task.{Task}
 
@@ -8,9 +9,12 @@ use Rattle.kernel.specs.declared.task.Task.{Task}
 abbrev pub full_for_loan_of : ℕ → List Task → Bool
 full_for_loan_of events tasks = nat_lt (2 ^ 40 - 2) (events + 2 * count_out tasks)
 
--- the task has not ended, is not out, and has room for a quantum and one more instruction
-abbrev pub is_fit : ℕ → Task → Bool
-is_fit quantum t = not (is_some (status_of t.trace.end)) && not (is_some t.out) && nat_le (t.machine.count + quantum + 1) (2 ^ 40)
+-- the task has not ended, is not out, has room for a quantum and one more instruction, and does not wait, where so many Enters
+-- told their process something
+abbrev pub is_fit : ℕ → ℕ → Task → Bool
+is_fit quantum told t =
+    not (is_some (status_of t.trace.end)) && not (is_some (out_of t)) && nat_le ((machine_of t).count + quantum + 1) (2 ^ 40)
+    && not (is_asleep told t.trace.waited)
 
 -- a place among those from `behind` on, or else one before them
 abbrev pub place_among : ℕ → Option ℕ → Option ℕ → Option ℕ
@@ -18,30 +22,36 @@ place_among behind (Some place) before = Some (behind + place)
 place_among behind None before = before
 
 -- the place of the first task that fits behind so many tasks, and round again
-abbrev pub next_fit : ℕ → ℕ → List Task → Option ℕ
-next_fit quantum behind tasks = place_among behind (position (is_fit quantum) (drop behind tasks)) (position (is_fit quantum) (take behind tasks))
+abbrev pub next_fit : ℕ → ℕ → ℕ → List Task → Option ℕ
+next_fit quantum told behind tasks = place_among behind (position (is_fit quantum told) (drop behind tasks)) (position (is_fit quantum told) (take behind tasks))
 
--- the task once it is lent for a quantum
-abbrev pub lent_task : ℕ → Task → Task
-lent_task quantum t = record t { loans = t.loans + 1; out = Some quantum }
+-- the task once it is lent for a quantum, from the state that it keeps
+pub record IsLent (quantum : ℕ) (old new : Task) : Type 0 where
+  pub pid : new.pid ≡ old.pid
+  pub machine : machine_of new ≡ machine_of old
+  pub trace : new.trace ≡ old.trace
+  pub loans : new.loans ≡ old.loans + 1
+  pub out : out_of new ≡ Some quantum
 
 -- the loan is one of this task, for a quantum
 pub record IsLoanOf (n : ℕ) (t : Task) (loan : Loan) : Type 0 where
   pub process : loan.pid ≡ t.pid
   pub turn : loan.turn ≡ t.loans + 1
   pub quantum : loan.quantum ≡ n
-  pub began : loan.began ≡ t.machine
+  pub began : loan.began.value ≡ machine_of t
 
 -- the next task was lent
-pub record Lent (quantum behind : ℕ) (old new : List Task) (loan : Loan) : Type 0 where
+pub record Lent (quantum told behind : ℕ) (old new : List Task) (loan : Loan) : Type 0 where
   pub place : ℕ
   pub task : Task
-  pub next : next_fit quantum behind old ≡ Some place
+  pub next : next_fit quantum told behind old ≡ Some place
   pub there : slice_get old place ≡ Some task
-  pub fit : is_fit quantum task ≡ true
+  pub fit : is_fit quantum told task ≡ true
   pub given : IsLoanOf quantum task loan
-  pub after : new ≡ slice_set old place (lent_task quantum task)
+  pub later : Task
+  pub lent : IsLent quantum task later
+  pub after : new ≡ slice_set old place later
 
 -- the next task was lent, or none was where none fits
-abbrev pub LendsNext : ℕ → ℕ → List Task → List Task → Option Loan → Type 0
-LendsNext quantum behind old new given = MatchOption given ((next_fit quantum behind old ≡ None) × (new ≡ old)) (λ loan. Lent quantum behind old new loan)
+abbrev pub LendsNext : ℕ → ℕ → ℕ → List Task → List Task → Option Loan → Type 0
+LendsNext quantum told behind old new given = MatchOption given ((next_fit quantum told behind old ≡ None) × (new ≡ old)) (λ loan. Lent quantum told behind old new loan)

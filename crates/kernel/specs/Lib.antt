@@ -15,3 +15,5 @@ pub mod Settling
 pub mod Storing
 pub mod Tasks
 pub mod Tests
+pub mod Waiting
+pub mod Whereabouts

@@ -8,7 +8,7 @@ use Rattle.kernel.specs.declared.loan.Done.{Done}
 
 -- a loan as it is handed out
 abbrev pub loan_out : Loan → LoanOut
-loan_out l = record { process = l.pid; turn = l.turn; quantum = l.quantum; began = l.began; machine = l.machine }
+loan_out l = record { process = l.pid; turn = l.turn; quantum = l.quantum; began = l.began.value; machine = l.machine }
 
 -- what was lent, or why nothing was
 abbrev pub lent_out : Result (Option Loan) Refused → Result (Option LoanOut) Refused
@@ -17,4 +17,4 @@ lent_out (Err why) = Err why
 
 -- a loan's result as it is handed in
 abbrev pub loan_result : Done → LoanResult
-loan_result d = record { process = d.pid; turn = d.turn; quantum = d.quantum; began = d.began; reached = ran d.count d.machine d.stop }
+loan_result d = record { process = d.pid; turn = d.turn; quantum = d.quantum; began = d.began.value; reached = ran d.count d.machine d.stop }

@@ -1,28 +1,42 @@
 -- What a core's tasks stand for.
-use Rattle.std.specs.Prelude.{◌≡◌, ℕ, ◌+◌, ◌≤◌, List, Option, Some, None, is_some, count_by, slice_get, slice_set}
-use Rattle.machine_model.specs.States.{run}
+use Rattle.std.specs.Prelude.{◌≡◌, ℕ, ◌+◌, ◌≤◌, List, [], Option, Some, None, is_some, count_by, slice_get, slice_set}
+use Rattle.machine_model.specs.States.{State, run}
 use Rattle.machine_model.specs.declared.stop.Stop.{Stop}
 use Rattle.kernel_model.specs.State.{Process}
 use Rattle.kernel_model.specs.Answers.{Lending}
+use Rattle.kernel.specs.Whereabouts.{state_in, quantum_in}
 use Rattle.kernel.specs.declared.task.Task.{Task}
 use Rattle.kernel.specs.declared.trace.End.{End}
+use Rattle.kernel.specs.declared.whereabouts.Whereabouts.TheVariants.{Here}
+
+-- the state of its machine, or that with which it was lent
+abbrev pub machine_of : Task → State
+machine_of t = state_in t.whereabouts
+
+-- the quantum of the loan on which it is out
+abbrev pub out_of : Task → Option ℕ
+out_of t = quantum_in t.whereabouts
 
 -- the status of a process that has ended so, if it has
 abbrev pub status_of : Option End → Option ℕ
 status_of None = None
 status_of (Some e) = Some e.status
 
--- the process that a task is
+-- a process without what the table of processes alone keeps of it
+abbrev pub bare : Process → Process
+bare p = record { state = p.state; descriptors = []; children = []; status = p.status }
+
+-- the process that a task is, without that
 abbrev pub process_of : Task → Process
-process_of t = record { state = t.machine; descriptors = t.descriptors; status = status_of t.trace.end }
+process_of t = record { state = machine_of t; descriptors = []; children = []; status = status_of t.trace.end }
 
 -- how a task stands with its loans
 abbrev pub lending_of : Task → Lending
-lending_of t = record { loans = t.loans; out = t.out }
+lending_of t = record { loans = t.loans; out = out_of t }
 
 -- how many tasks are out on loan
 abbrev pub count_out : List Task → ℕ
-count_out tasks = count_by (λ (t : Task). is_some t.out) tasks
+count_out tasks = count_by (λ (t : Task). is_some (out_of t)) tasks
 
 -- how many loans of a process have come to no event yet
 abbrev pub unsettled : Option ℕ → ℕ
@@ -38,11 +52,12 @@ abbrev pub needed : Option ℕ → ℕ
 needed None = 0
 needed (Some quantum) = quantum + 1
 
--- the task at this place ran at most n instructions, and came so far
+-- the task at this place ran at most n instructions here, and came so far
 pub record RanAt (old new : List Task) (place n count : ℕ) (stop : Stop) : Type 0 where
   pub task : Task
   pub there : slice_get old place ≡ Some task
-  pub after : new ≡ slice_set old place (record task { machine = (run n task.machine).state })
-  pub counts : count ≡ (run n task.machine).count
-  pub stops : stop ≡ (run n task.machine).stop
-  pub within : (run n task.machine).state.count ≤ task.machine.count + n
+  pub here : out_of task ≡ None
+  pub after : new ≡ slice_set old place (record task { whereabouts = Here (run n (machine_of task)).state })
+  pub counts : count ≡ (run n (machine_of task)).count
+  pub stops : stop ≡ (run n (machine_of task)).stop
+  pub within : (run n (machine_of task)).state.count ≤ (machine_of task).count + n

@@ -1,25 +1,29 @@
 //! The core, and how it is booted.
-ghost use Rattle.std.specs.Prelude.{◌≡◌, ◌≤◌, ◌<◌, [], length, map, IfOk, true};
+ghost use Rattle.std.specs.Prelude.{ℕ, List, ◌≡◌, ◌≤◌, ◌<◌, [], length, map, IfOk, true};
 ghost use Rattle.std.specs.List.{AllByRecursion};
 ghost use Rattle.disk_model.specs.Held.{IsHeldTo};
 ghost use Rattle.disk_model.specs.Runs.{quiet};
 ghost use Rattle.kernel_model.specs.World.{HoldsItsFiles};
-ghost use Rattle.kernel_model.specs.Bytes.{ProgramsHoldBytes};
+ghost use Rattle.kernel_model.specs.Bytes.{ProgramsHoldBytes, TapesHoldBytes};
 ghost use Rattle.kernel.specs.Booting.{boot_with, nothing_lent};
-ghost use Rattle.kernel.specs.First.{AreFirst, AreEmpty};
+ghost use Rattle.kernel.specs.First.{AreFirst, AreEmpty, parts_from};
 
 use crate::screen::Screen;
 use crate::shared::Shared;
 use crate::task::Task;
 use byte_list::Bytes;
+use calls::TapeTable;
 use commit_deps::Dependencies;
 use files::FileTable;
 use group_commit::Committer;
 use kernel_model::Event;
 use machine::{Image, Machine};
+use pipes::PipeTable;
+use processes::ProcTable;
 use simdisk::SimDisk;
 use std::alloc::{AllocError, Global};
 use std::marker::Model;
+use std::sync::Arc;
 use thiserror::Error;
 
 /// How many terminals there are.
@@ -49,7 +53,8 @@ impl From<AllocError> for BootFault {
 #[derive(Drop)]
 pub struct Booted {
     pub programs: Vec<Program>,
-    pub tapes: Vec<Bytes>,
+    /// Shared with the table of what is read of them.
+    pub tapes: Arc<Vec<Bytes>>,
     pub disk: Bytes,
 }
 
@@ -85,8 +90,8 @@ impl Core {
     /// The core of 1 to 8 programs, which are processes 1 and up, and of the tapes that they read: program i has tape i.
     /// The disk holds no files. Refused for want of memory alone.
     ///
-    /// Its boot meets both premises under which `kernel_laws::headline` speaks of crashes: the disk holds its files, and
-    /// the memory of each program holds bytes.
+    /// Its boot meets all three premises under which `kernel_laws::headline` speaks of crashes: the disk holds its files,
+    /// and the memory of each program and each tape hold bytes.
     pub fn boot(
         alloc: Global,
         disk: SimDisk,
@@ -105,10 +110,14 @@ impl Core {
         ensures last_lent { IfOk result (λ core. core.last_lent ≡ 0) }
         ensures held { IfOk result (λ core. HoldsItsFiles core.boot) }
         ensures bytes { IfOk result (λ core. ProgramsHoldBytes core.boot) }
+        ensures tapes { IfOk result (λ core. TapesHoldBytes core.boot) }
     {
         let bytes = Bytes::copy_of(alloc, disk.bytes())?;
         let tasks = first_tasks(alloc, &programs)?;
+        let processes = first_processes(alloc, &programs)?;
         let screens = empty_screens(alloc)?;
+        let tapes = share(alloc, tapes)?;
+        let table = TapeTable::new(Arc::try_clone(&tapes)?);
         let booted = Booted {
             programs,
             tapes,
@@ -118,6 +127,10 @@ impl Core {
             dependencies: Dependencies::new(alloc),
             changes: Vec::new(alloc),
             files: FileTable::new(alloc),
+            tapes: table,
+            pipes: PipeTable::new(alloc)?,
+            processes,
+            told: 0,
             screens,
             disk: Committer::new(alloc, disk),
         };
@@ -132,6 +145,29 @@ impl Core {
     }
 }
 
+/// The tapes, to be shared.
+fn share(alloc: Global, tapes: Vec<Bytes>) -> Result<Arc<Vec<Bytes>>, AllocError>
+    ensures same { IfOk result (λ shared. shared.value.items ≡ tapes.items) }
+    ensures bytes { AllByRecursion (λ (tape : List ℕ). AllByRecursion (λ (byte : ℕ). byte < 256) tape) tapes.items }
+{
+    hold_bytes(&tapes);
+    Ok(Arc::new(alloc, tapes)?)
+}
+
+/// The tapes hold bytes. Going over them changes nothing, and is for this alone: a contract sees a tape as a list of numbers.
+fn hold_bytes(tapes: &[Bytes])
+    ensures { AllByRecursion (λ (tape : List ℕ). AllByRecursion (λ (byte : ℕ). byte < 256) tape) tapes.now }
+{
+    for tape in tapes {
+        are_bytes(tape.as_slice());
+    }
+}
+
+/// The items of a slice of bytes are bytes.
+fn are_bytes(bytes: &[u8])
+    ensures { AllByRecursion (λ (byte : ℕ). byte < 256) bytes.now }
+{}
+
 /// The tasks of these programs, processes 1 and up.
 fn first_tasks(alloc: Global, programs: &[Program]) -> Result<Vec<Task>, AllocError>
     requires { length programs.now ≤ 8 }
@@ -140,10 +176,22 @@ fn first_tasks(alloc: Global, programs: &[Program]) -> Result<Vec<Task>, AllocEr
     let mut tasks = Vec::new(alloc);
     for (place, program) in programs.iter().enumerate() {
         let machine = Machine::load(alloc, &program.image)?;
-        let task = Task::new(alloc, place as u32 + 1, machine, program.terminal);
+        let task = Task::new(alloc, place as u32 + 1, machine);
         tasks.push(task)?;
     }
     Ok(tasks)
+}
+
+/// What is kept of the processes of these programs beside their machines: program i reads tape i.
+fn first_processes(alloc: Global, programs: &[Program]) -> Result<ProcTable, AllocError>
+    requires { length programs.now ≤ 8 }
+    ensures { IfOk result (λ processes. processes.parts ≡ parts_from 0 programs.now) }
+{
+    let mut processes = ProcTable::new(alloc);
+    for (place, program) in programs.iter().enumerate() {
+        processes.boot(place as u32, program.terminal)?;
+    }
+    Ok(processes)
 }
 
 /// The screens of terminals 0 to 7, with no bytes.

@@ -1,34 +1,45 @@
 //! An Enter: a process is told what its call, or its trap, comes to.
-ghost use Rattle.std.specs.Prelude.{ℕ, ◌≡◌, ◌+◌, ◌*◌, ◌<◌, ◌≤◌, ◌^◌, ◌⊎◌, ◌++◌, ◌∷◌, [], List, length, map, None, is_some, replicate, vec_len, vec_capacity, option_to_list, IfOk, IfErr, OnOk, OnErr};
-ghost use Rattle.kernel_model.specs.Answers.{Applies, Refuses, outcome_of, entered as answer_to};
+ghost use Rattle.std.specs.Prelude.{ℕ, ◌≡◌, ◌+◌, ◌*◌, ◌<◌, ◌≤◌, ◌^◌, ◌⊎◌, ◌++◌, ◌∷◌, [], List, length, map, Some, None, is_some, replicate, vec_len, vec_capacity, option_to_list, IfOk, IfErr, IfSome, OnOk, OnErr};
+ghost use Rattle.std.specs.List.{AllByRecursion};
+ghost use Rattle.machine_model.specs.States.{stands_at};
+ghost use Rattle.calls.specs.Plans.{AreLeft, IsNext, MayAllStep, OpensNone, all_seen};
+ghost use Rattle.pipes.specs.Stepping.{seen_after, MayStep};
+ghost use Rattle.processes.specs.Parts.{part_at, with_part, with_slots};
+ghost use Rattle.processes.specs.Table.{HasRoom as HasChildRoom};
+ghost use Rattle.kernel_model.specs.Answers.{Applies, Refuses, outcome_of, with_child, entered as answer_to};
 ghost use Rattle.kernel_model.specs.Entries.{Entry};
-ghost use Rattle.kernel_model.specs.State.{changed_by};
+ghost use Rattle.kernel_model.specs.State.{changed_by, read_by};
 ghost use Rattle.kernel_model.specs.Steps.{step};
 ghost use Rattle.kernel_model.specs.World.{World, happens};
-ghost use Rattle.kernel_model.specs.declared.effect.Slot.{Slot};
+ghost use Rattle.kernel_model.specs.declared.answer.Refused.TheVariants.{OutOfMemory};
 ghost use Rattle.kernel_model.specs.declared.request.Verdict.TheVariants.{Replies as Told, Ends as Over};
 ghost use Rattle.commit_deps.specs.Marks.{IsMarkOf};
-ghost use Rattle.kernel.specs.Entering.{item_of, MayBeTold, IsTold, HasRoom, StayScreens, ArePrinted, IsSameTask, IsSameShared, PlansEnter, IsPerformed, IsNoted, IsEntered};
+ghost use Rattle.kernel.specs.Entering.{seen_of, item_of, machine_after, parts_after, with_children, MayBeTold, MayPlan, IsSpare, IsToldTrace, HasRoom, StayScreens, ArePrinted, IsSameTrace, IsSameShared, IsEntering, IsChild, IsPerformed, IsReadied, IsNoted};
 ghost use Rattle.kernel.specs.Marked.{front_of};
 ghost use Rattle.kernel.specs.Mirrors.{Mirrors};
 ghost use Rattle.kernel.specs.Seen.{AreScreens};
 ghost use Rattle.kernel.specs.Tasks.{count_out, lending_of};
 ghost use Rattle.kernel.specs.Tests.{full_of, enter_refusal_of};
+ghost use Rattle.kernel.specs.Waiting.{told_after};
 
 use crate::boot::Core;
-use crate::plan::{Entering, prepare};
+use crate::plan::{Entering, prepare, prepare_child};
 use crate::screen::Screen;
 use crate::shared::Shared;
 use crate::task::Task;
 use crate::tasks::{enter_place, is_full};
-use crate::trace::End;
+use crate::trace::{End, Trace};
 use crate::turn::reserve;
-use calls::{Plan, Verdict};
+use crate::whereabouts::Whereabouts;
+use calls::{PipeStep, Plan, Slot, Verdict};
 use commit_deps::Mark;
 use disk_model::Change;
 use files::FileTable;
-use kernel_model::{Answer, Event, Outcome, Output, Refused, Slot};
-use machine_model::Reply;
+use kernel_model::{Answer, Event, Outcome, Output, Refused};
+use machine::Machine;
+use machine_model::{Reply, Stop};
+use pipes::{Pipe, PipeTable};
+use processes::ProcTable;
 use std::alloc::{AllocError, Global};
 
 /// The answer to an Enter.
@@ -107,17 +118,17 @@ fn perform(
     }
 }
 
-/// Takes the memory that is left to be taken for an Enter, and does what it changes outside its process. Where memory
-/// runs out nothing has changed.
-pub fn ready(task: &mut Task, shared: &mut Shared, entering: &Entering) -> Result<(), AllocError>
+/// Takes the memory that is left to be taken for an Enter, and does what it changes outside its process that may still fail.
+/// Where memory runs out nothing has changed.
+fn ready(trace: &mut Trace, shared: &mut Shared, entering: &Entering) -> Result<(), AllocError>
     requires { (entering.now.plan.change ≡ None) ⊎ (entering.now.plan.output ≡ None) }
-    ensures task { IsSameTask task.old task.new }
-    ensures room { OnOk result (HasRoom task.new.trace) }
+    ensures trace { IsSameTrace trace.old trace.new }
+    ensures room { OnOk result (HasRoom trace.new) }
     ensures done { OnOk result (IsPerformed entering.now.plan entering.now.mark shared.old shared.new) }
     ensures err { OnErr result (IsSameShared shared.old shared.new) }
 {
     shared.changes.reserve(1)?;
-    task.trace.reserve()?;
+    trace.reserve()?;
     let committed = shared.disk.committed();
     perform(
         &mut shared.files,
@@ -128,90 +139,271 @@ pub fn ready(task: &mut Task, shared: &mut Shared, entering: &Entering) -> Resul
     )
 }
 
-/// A process gets the reply to its call, and a descriptor. Takes no memory.
-fn take_reply(task: &mut Task, reply: Reply, slot: Option<Slot>, mark: Mark, committed: u64)
-    requires fine { MayBeTold task.old.machine (Told reply) }
-    requires budget { task.old.machine.count < 2 ^ 40 }
-    requires room { HasRoom task.old.trace }
-    ensures { IsTold (Told reply) (option_to_list slot) mark committed task.old task.new }
+/// Takes all memory for an Enter of a process whose machine is this one, and stands here, for so many events and carriers more,
+/// and does what it changes outside its process that may still fail. Answers what the Enter comes to, and the process that it
+/// makes. Where memory runs out nothing has changed.
+pub fn prepare_enter(
+    alloc: Global,
+    history: &mut Vec<Event>,
+    pid: u32,
+    stop: Stop,
+    machine: &Machine,
+    trace: &mut Trace,
+    shared: &mut Shared,
+    more: usize,
+) -> Result<(Entering, Option<Task>), Refused>
+    requires stands { stands_at machine.now ≡ Some stop }
+    requires budget { machine.now.count < 2 ^ 40 }
+    requires fine { MayPlan (seen_of shared.old) pid }
+    requires few { more ≤ 1 }
+    ensures history { history.new.items ≡ history.old.items }
+    ensures events { OnOk result (vec_len history.new + 1 + more ≤ vec_capacity history.new) }
+    ensures replies { OnOk result (HasRoom trace.new) }
+    ensures trace { IsSameTrace trace.old trace.new }
+    ensures writes { IfOk result (λ r. length r.0.writes.items + more ≤ shared.new.dependencies.room) }
+    ensures changes { OnOk result (vec_len shared.new.changes < vec_capacity shared.new.changes) }
+    ensures children { OnOk result (HasChildRoom shared.new.processes pid) }
+    ensures entering { IfOk result (λ r. IsEntering shared.old.dependencies.marks (length shared.old.changes.items) (seen_of shared.old) pid machine.now r.0) }
+    ensures child { IfOk result (λ r. IsChild r.0 shared.old.disk.committed machine.now trace.old r.1) }
+    ensures done { IfOk result (λ r. IsReadied r.0 shared.old shared.new) }
+    ensures err { OnErr result (IsSameShared shared.old shared.new) }
+    ensures cause { IfErr result (λ why. why ≡ OutOfMemory) }
 {
-    task.machine.reply(&reply);
-    task.trace.append(reply, mark);
-    task.trace.advance(committed);
-    if let Some(slot) = slot {
-        task.descriptors.set(slot);
+    let entering = prepare(alloc, pid, stop, machine, shared)?;
+    let committed = shared.disk.committed();
+    let child = prepare_child(alloc, machine, trace, &entering, committed)?;
+    reserve(
+        history,
+        &mut shared.dependencies,
+        1 + more,
+        entering.writes.len() + more,
+    )?;
+    shared.processes.reserve(pid)?;
+    ready(trace, shared, &entering)?;
+    Ok((entering, child))
+}
+
+/// One step of a pipe that was made before. Takes no memory.
+fn step_pipe(pipes: &mut PipeTable, step: &PipeStep)
+    requires plain { OpensNone step.now }
+    requires may { MayStep pipes.old step.now }
+    ensures { pipes.new ≡ seen_after pipes.old step.now }
+{
+    match step {
+        PipeStep::Open => unreachable!(),
+        PipeStep::Put { pipe, bytes } => pipes.put(*pipe, bytes.as_slice()),
+        PipeStep::Take { pipe, count } => pipes.take(*pipe, *count),
+        PipeStep::Add(end) => pipes.add_end(*end),
+        PipeStep::Drop(end) => pipes.drop_end(*end),
     }
 }
 
-/// A process ends.
-fn take_end(task: &mut Task, status: u32, mark: Mark)
-    ensures { (slots : List Slot) (c : ℕ) → IsTold (Over status) slots mark c task.old task.new }
+/// Steps of pipes that were made before. Takes no memory.
+fn step_all(pipes: &mut PipeTable, steps: &[PipeStep])
+    requires plain { AllByRecursion OpensNone steps.now }
+    requires may { MayAllStep pipes.old steps.now }
+    ensures { pipes.new ≡ all_seen pipes.old steps.now }
 {
-    task.descriptors.close_all();
-    task.trace.end = Some(End { status, mark });
+    for step in steps {
+        step_pipe(pipes, step);
+    }
 }
 
-/// The process is told what its call came to. Takes no memory.
-fn tell(task: &mut Task, told: Verdict, slot: Option<Slot>, mark: Mark, committed: u64) -> Outcome
-    requires fine { MayBeTold task.old.machine told }
-    requires budget { task.old.machine.count < 2 ^ 40 }
-    requires room { HasRoom task.old.trace }
+/// The steps of a plan: a pipe that is ready is the next by number, or pipes that were made before are used. Takes no memory.
+fn step_pipes(pipes: &mut PipeTable, steps: &[PipeStep], spare: Option<Pipe>)
+    requires spare { IsSpare steps.now spare }
+    requires may { MayAllStep pipes.old steps.now }
+    ensures { pipes.new ≡ all_seen pipes.old steps.now }
+{
+    match spare {
+        Some(pipe) => pipes.push(pipe),
+        None => step_all(pipes, steps),
+    }
+}
+
+/// Descriptors of a process stand for something else from now on. Takes no memory.
+fn set_all(processes: &mut ProcTable, pid: u32, slots: &[Slot])
+    ensures { processes.new.parts ≡ with_part processes.old.parts pid (part_at processes.old.parts pid) (with_slots slots.now) }
+{
+    for slot in slots {
+        processes.set(pid, *slot);
+    }
+}
+
+/// A process makes a child, or collects one. Takes no memory.
+fn change_children(processes: &mut ProcTable, pid: u32, plan: &Plan)
+    requires from_1 { 0 < pid }
+    requires there { pid ≤ length processes.old.parts }
+    requires child { IfSome plan.now.child (IsNext (length processes.old.parts)) }
+    requires one { (plan.now.child ≡ None) ⊎ (plan.now.collects ≡ None) }
+    requires room { HasChildRoom processes.old pid }
+    ensures { processes.new.parts ≡ with_children processes.old.parts pid plan.now }
+{
+    match plan.child {
+        Some(_) => {
+            let _ = processes.fork(pid);
+        }
+        None => {
+            if let Some(child) = plan.collects {
+                processes.collect(pid, child);
+            }
+        }
+    }
+}
+
+/// What becomes of the parts of all processes by a plan. Takes no memory.
+fn change_parts(processes: &mut ProcTable, pid: u32, plan: &Plan)
+    requires from_1 { 0 < pid }
+    requires there { pid ≤ length processes.old.parts }
+    requires child { IfSome plan.now.child (IsNext (length processes.old.parts)) }
+    requires one { (plan.now.child ≡ None) ⊎ (plan.now.collects ≡ None) }
+    requires room { HasChildRoom processes.old pid }
+    ensures { processes.new.parts ≡ parts_after processes.old.parts pid plan.now }
+{
+    change_children(processes, pid, plan);
+    match &plan.told {
+        Verdict::Waits => {}
+        Verdict::Replies(_) => set_all(processes, pid, &plan.slots),
+        Verdict::Ends(status) => processes.end(pid, *status),
+    }
+}
+
+/// A process gets the reply to its call.
+fn take_reply(machine: &mut Machine, trace: &mut Trace, reply: Reply, mark: Mark, committed: u64)
+    requires fine { MayBeTold machine.old (Told reply) }
+    requires budget { machine.old.count < 2 ^ 40 }
+    requires room { HasRoom trace.old }
+    ensures machine { machine.new ≡ machine_after machine.old (Told reply) }
+    ensures trace { (told : ℕ) → IsToldTrace (Told reply) mark committed told trace.old trace.new }
+{
+    machine.reply(&reply);
+    trace.append(reply, mark);
+    trace.advance(committed);
+}
+
+/// The process is told what its call came to, where so many Enters told their process something before. Takes no memory.
+fn tell(
+    machine: &mut Machine,
+    trace: &mut Trace,
+    told: Verdict,
+    before: u64,
+    mark: Mark,
+    committed: u64,
+) -> Outcome
+    requires fine { MayBeTold machine.old told }
+    requires budget { machine.old.count < 2 ^ 40 }
+    requires room { HasRoom trace.old }
     ensures outcome { result ≡ outcome_of (item_of told) }
-    ensures told { IsTold told (option_to_list slot) mark committed task.old task.new }
+    ensures machine { machine.new ≡ machine_after machine.old told }
+    ensures trace { IsToldTrace told mark committed before trace.old trace.new }
 {
     match told {
-        Verdict::Waits => Outcome::Waits,
+        Verdict::Waits => {
+            trace.waited = Some(before);
+            Outcome::Waits
+        }
         Verdict::Replies(reply) => {
-            take_reply(task, reply, slot, mark, committed);
+            take_reply(machine, trace, reply, mark, committed);
             Outcome::Entered
         }
         Verdict::Ends(status) => {
-            take_end(task, status, mark);
+            trace.end = Some(End { status, mark });
             Outcome::Ended
         }
     }
 }
 
-/// Does the rest of an Enter whose plan is performed. Takes no memory.
-pub fn finish(task: &mut Task, shared: &mut Shared, entering: Entering) -> Outcome
-    requires fine { MayBeTold task.old.machine entering.plan.told }
-    requires budget { task.old.machine.count < 2 ^ 40 }
-    requires room { HasRoom task.old.trace }
+/// How many Enters told their process something after one of this plan, where so many did before.
+fn count_told(told: &Verdict, before: u64) -> u64
+    requires { before < 2 ^ 63 }
+    ensures { result ≡ told_after told.now before }
+{
+    match told {
+        Verdict::Waits => before,
+        Verdict::Replies(_) => before + 1,
+        Verdict::Ends(_) => before + 1,
+    }
+}
+
+/// Notes what an Enter changes that is shared. Takes no memory.
+fn note_enter(shared: &mut Shared, pid: u32, plan: &Plan, spare: Option<Pipe>)
+    requires from_1 { 0 < pid }
+    requires there { pid ≤ length shared.old.processes.parts }
+    requires child { IfSome plan.now.child (IsNext (length shared.old.processes.parts)) }
+    requires one { (plan.now.child ≡ None) ⊎ (plan.now.collects ≡ None) }
+    requires room { HasChildRoom shared.old.processes pid }
+    requires left { IfSome plan.now.tape (AreLeft shared.old.tapes) }
+    requires spare { IsSpare plan.now.pipes.items spare }
+    requires may { MayAllStep shared.old.pipes plan.now.pipes.items }
+    requires few { shared.old.told < 2 ^ 63 }
+    ensures shared { shared.new ≡ record shared.old {
+      tapes = read_by shared.old.tapes plan.now.tape;
+      pipes = all_seen shared.old.pipes plan.now.pipes.items;
+      processes = shared.new.processes;
+      told = told_after plan.now.told shared.old.told;
+    } }
+    ensures parts { shared.new.processes.parts ≡ parts_after shared.old.processes.parts pid plan.now }
+{
+    if let Some(read) = plan.tape {
+        shared.tapes.advance(read);
+    }
+    step_pipes(&mut shared.pipes, &plan.pipes, spare);
+    change_parts(&mut shared.processes, pid, plan);
+    shared.told = count_told(&plan.told, shared.told);
+}
+
+/// Does the rest of an Enter that is prepared. Takes no memory.
+pub fn finish(
+    machine: &mut Machine,
+    trace: &mut Trace,
+    shared: &mut Shared,
+    entering: Entering,
+) -> Outcome
+    requires fine { MayBeTold machine.old entering.plan.told }
+    requires budget { machine.old.count < 2 ^ 40 }
+    requires room { HasRoom trace.old }
     requires writes { length entering.writes.items ≤ shared.old.dependencies.room }
     requires changes { vec_len shared.old.changes < vec_capacity shared.old.changes }
+    requires from_1 { 0 < entering.pid }
+    requires there { entering.pid ≤ length shared.old.processes.parts }
+    requires child { IfSome entering.plan.child (IsNext (length shared.old.processes.parts)) }
+    requires one { (entering.plan.child ≡ None) ⊎ (entering.plan.collects ≡ None) }
+    requires children { HasChildRoom shared.old.processes entering.pid }
+    requires left { IfSome entering.plan.tape (AreLeft shared.old.tapes) }
+    requires spare { IsSpare entering.plan.pipes.items entering.spare }
+    requires may { MayAllStep shared.old.pipes entering.plan.pipes.items }
+    requires few { shared.old.told < 2 ^ 63 }
     ensures outcome { result ≡ outcome_of (item_of entering.plan.told) }
-    ensures told { IsTold entering.plan.told (option_to_list entering.plan.slot) entering.mark shared.old.disk.committed task.old task.new }
+    ensures machine { machine.new ≡ machine_after machine.old entering.plan.told }
+    ensures trace { IsToldTrace entering.plan.told entering.mark shared.old.disk.committed shared.old.told trace.old trace.new }
     ensures noted { IsNoted entering shared.old shared.new }
 {
-    let Entering { plan, writes, mark } = entering;
+    let before = shared.told;
+    let committed = shared.disk.committed();
+    let Entering {
+        pid,
+        plan,
+        writes,
+        mark,
+        spare,
+    } = entering;
     shared.dependencies.note(&writes, mark);
-    let Plan {
-        told,
-        change,
-        slot,
-        ..
-    } = plan;
+    note_enter(shared, pid, &plan, spare);
+    let Plan { told, change, .. } = plan;
     if let Some(change) = change {
         shared.changes.push(change).unwrap();
     }
-    let committed = shared.disk.committed();
-    tell(task, told, slot, mark, committed)
+    tell(machine, trace, told, before, mark, committed)
 }
 
-/// Does an Enter that is prepared. Where memory runs out nothing has changed.
-fn act(task: &mut Task, shared: &mut Shared, entering: Entering) -> Result<Outcome, AllocError>
-    requires edit { (entering.plan.change ≡ None) ⊎ (entering.plan.output ≡ None) }
-    requires fine { MayBeTold task.old.machine entering.plan.told }
-    requires budget { task.old.machine.count < 2 ^ 40 }
-    requires writes { length entering.writes.items ≤ shared.old.dependencies.room }
-    ensures outcome { IfOk result (λ o. o ≡ outcome_of (item_of entering.plan.told)) }
-    ensures told { OnOk result (IsTold entering.plan.told (option_to_list entering.plan.slot) entering.mark shared.old.disk.committed task.old task.new) }
-    ensures done { OnOk result (IsEntered entering shared.old shared.new) }
-    ensures err_task { OnErr result (IsSameTask task.old task.new) }
-    ensures err_shared { OnErr result (IsSameShared shared.old shared.new) }
+/// A process that was made comes behind the others. Takes no memory.
+pub fn join(tasks: &mut Vec<Task>, child: Option<Task>)
+    requires { vec_len tasks.old < vec_capacity tasks.old }
+    ensures { tasks.new.items ≡ tasks.old.items ++ option_to_list child }
 {
-    ready(task, shared, &entering)?;
-    Ok(finish(task, shared, entering))
+    if let Some(child) = child {
+        tasks.push(child).unwrap();
+    }
 }
 
 /// The process enters the kernel. Refused, with nothing changed: NoProcess, Ended, Lent, NotStopped, Budget, OutOfMemory.
@@ -222,7 +414,7 @@ pub fn enter(
     shared: &mut Shared,
     pid: u32,
 ) -> Result<Answer, Refused>
-    requires mirrors { (w : World) × Mirrors w tasks.old.items shared.old }
+    requires mirrors { (w : World) × Mirrors w tasks.old.items shared.old × (length w.log ≤ 2 ^ 40) }
     requires room { length history.old.items + 2 * count_out tasks.old.items ≤ 2 ^ 40 }
     ensures fine { OnOk result (enter_refusal_of tasks.old.items (full_of (length history.old.items) tasks.old.items) pid ≡ None) }
     ensures answer { IfOk result (λ a. (w : World) → Mirrors w tasks.old.items shared.old
@@ -230,20 +422,27 @@ pub fn enter(
     ensures mirrors { OnOk result ((w : World) → Mirrors w tasks.old.items shared.old
         → Mirrors (happens w (Event.Enter pid)) tasks.new.items shared.new) }
     ensures history { OnOk result (history.new.items ≡ history.old.items ++ Event.Enter pid ∷ []) }
-    ensures lendings { map lending_of tasks.new.items ≡ map lending_of tasks.old.items }
+    ensures lendings { OnOk result ((w : World) → Mirrors w tasks.old.items shared.old
+        → map lending_of tasks.new.items ≡ with_child (map lending_of tasks.old.items) (step w.sync (Event.Enter pid)).entry.child) }
     ensures refused { IfErr result (λ why. Refuses (enter_refusal_of tasks.old.items (full_of (length history.old.items) tasks.old.items) pid) why) }
     ensures same { OnErr result ((w : World) → Mirrors w tasks.old.items shared.old → Mirrors w tasks.new.items shared.new) }
     ensures same_history { OnErr result (history.new.items ≡ history.old.items) }
+    ensures same_lendings { OnErr result (map lending_of tasks.new.items ≡ map lending_of tasks.old.items) }
 {
     let full = is_full(history.len(), tasks);
     let place = enter_place(tasks, full, pid)?;
+    tasks.reserve(1)?;
     let task = &mut tasks[place];
-    let Some(stop) = task.machine.stopped() else {
+    let Whereabouts::Here(machine) = &mut task.whereabouts else {
+        return Err(Refused::Lent);
+    };
+    let Some(stop) = machine.stopped() else {
         return Err(Refused::NotStopped);
     };
-    let entering = prepare(alloc, pid, stop, &task.machine, &task.descriptors, shared)?;
-    reserve(history, &mut shared.dependencies, 1, entering.writes.len())?;
-    let outcome = act(task, shared, entering)?;
+    let trace = &mut task.trace;
+    let (entering, child) = prepare_enter(alloc, history, pid, stop, machine, trace, shared, 0)?;
+    let outcome = finish(machine, trace, shared, entering);
+    join(tasks, child);
     history.push(Event::Enter { pid }).unwrap();
     Ok(entered(outcome))
 }

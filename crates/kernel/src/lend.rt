@@ -1,17 +1,20 @@
 //! Machines lent out.
-ghost use Rattle.std.specs.Prelude.{◌≡◌, ◌+◌, ◌*◌, ◌^◌, ◌≤◌, map, take, drop, position, true, IfOk, IfErr, OnErr};
+ghost use Rattle.std.specs.Prelude.{◌≡◌, ◌+◌, ◌*◌, ◌^◌, ◌<◌, ◌≤◌, None, map, take, drop, position, IfOk, IfErr, OnOk, OnErr};
 ghost use Rattle.kernel_model.specs.Loans.{Lends};
 ghost use Rattle.kernel_model.specs.declared.answer.Refused.TheVariants.{OutOfMemory};
-ghost use Rattle.kernel.specs.Lending.{full_for_loan_of, is_fit, next_fit, lent_task, IsLoanOf, LendsNext};
+ghost use Rattle.kernel.specs.Lending.{full_for_loan_of, is_fit, next_fit, IsLent, IsLoanOf, LendsNext};
 ghost use Rattle.kernel.specs.Loaned.{lent_out};
-ghost use Rattle.kernel.specs.Tasks.{count_out, lending_of, AreFewLoans};
+ghost use Rattle.kernel.specs.Tasks.{machine_of, out_of, count_out, lending_of, AreFewLoans};
 
 use crate::boot::Core;
 use crate::loan::Loan;
 use crate::task::{LIMIT, Task};
 use crate::tasks::count_out;
+use crate::whereabouts::Whereabouts;
 use kernel_model::Refused;
-use std::alloc::Global;
+use std::alloc::{AllocError, Global};
+use std::mem;
+use std::sync::Arc;
 
 /// Whether a history of so many events has no room for the two events of one more loan.
 fn is_full_for_loan(events: usize, tasks: &[Task]) -> bool
@@ -21,62 +24,71 @@ fn is_full_for_loan(events: usize, tasks: &[Task]) -> bool
     events as u64 + 2 * count_out(tasks) as u64 > LIMIT - 2
 }
 
-/// Whether a process may be lent for a quantum of instructions, and one more. No process has to wait, since no call waits.
-fn is_lendable(task: &Task, quantum: u32) -> bool
-    ensures { result ≡ is_fit quantum task.now }
+/// Whether a process may be lent for a quantum of instructions, and one more, where so many Enters told their process
+/// something.
+fn is_lendable(task: &Task, told: u64, quantum: u32) -> bool
+    ensures { result ≡ is_fit quantum told task.now }
 {
-    let count = task.machine.count();
+    let count = task.machine().count();
     task.trace.end.is_none()
-        && task.out.is_none()
+        && !task.is_out()
         && count < LIMIT
         && count + u64::from(quantum) < LIMIT
+        && !task.trace.is_asleep(told)
 }
 
 /// The first process that may be lent behind the first so many, by its distance from them.
-fn first_lendable_behind(tasks: &[Task], behind: usize, quantum: u32) -> Option<usize>
-    ensures { result ≡ position (is_fit quantum) (drop behind tasks.now) }
+fn first_lendable_behind(tasks: &[Task], behind: usize, told: u64, quantum: u32) -> Option<usize>
+    ensures { result ≡ position (is_fit quantum told) (drop behind tasks.now) }
 {
     tasks
         .iter()
         .skip(behind)
-        .position(|task| is_lendable(task, quantum))
+        .position(|task| is_lendable(task, told, quantum))
 }
 
 /// The place of the first process that may be lent among the first so many.
-fn first_lendable_of(tasks: &[Task], count: usize, quantum: u32) -> Option<usize>
-    ensures { result ≡ position (is_fit quantum) (take count tasks.now) }
+fn first_lendable_of(tasks: &[Task], count: usize, told: u64, quantum: u32) -> Option<usize>
+    ensures { result ≡ position (is_fit quantum told) (take count tasks.now) }
 {
     tasks
         .iter()
         .take(count)
-        .position(|task| is_lendable(task, quantum))
+        .position(|task| is_lendable(task, told, quantum))
 }
 
 /// The place of the next process that may be lent behind the first so many, by rising place and round again.
-fn next_lendable(tasks: &[Task], behind: usize, quantum: u32) -> Option<usize>
-    ensures { result ≡ next_fit quantum behind tasks.now }
+fn next_lendable(tasks: &[Task], behind: usize, told: u64, quantum: u32) -> Option<usize>
+    ensures { result ≡ next_fit quantum told behind tasks.now }
 {
-    match first_lendable_behind(tasks, behind, quantum) {
+    match first_lendable_behind(tasks, behind, told, quantum) {
         Some(further) => Some(behind + further),
-        None => first_lendable_of(tasks, behind, quantum),
+        None => first_lendable_of(tasks, behind, told, quantum),
     }
 }
 
-/// Lends a process: a copy of its machine to run, and one to tell from which state. Where memory runs out nothing has
-/// changed.
+/// Lends a process: its machine leaves, and a copy stays, which tells from which state it ran and is shared with the loan.
+/// Where memory runs out nothing has changed.
 fn lend_task(alloc: Global, task: &mut Task, quantum: u32) -> Result<Loan, Refused>
-    requires fit { is_fit quantum task.old ≡ true }
+    requires here { out_of task.old ≡ None }
+    requires room { (machine_of task.old).count + quantum < 2 ^ 40 }
     requires few { task.old.loans ≤ 2 ^ 40 }
     ensures loan { IfOk result (λ loan. IsLoanOf quantum task.old loan) }
-    ensures task { IfOk result (λ loan. task.new ≡ lent_task quantum task.old) }
+    ensures task { OnOk result (IsLent quantum task.old task.new) }
     ensures cause { IfErr result (λ why. why ≡ OutOfMemory) }
     ensures same { OnErr result (task.new ≡ task.old) }
 {
     let turn = task.loans + 1;
-    let began = task.machine.try_clone(alloc)?;
-    let machine = task.machine.try_clone(alloc)?;
+    let copy = task.machine().try_clone(alloc)?;
+    let began = Arc::new(alloc, copy).map_err(AllocError::from)?;
+    let out = Whereabouts::Out {
+        began: Arc::try_clone(&began)?,
+        quantum,
+    };
+    let Whereabouts::Here(machine) = mem::replace(&mut task.whereabouts, out) else {
+        unreachable!()
+    };
     task.loans = turn;
-    task.out = Some(quantum);
     Ok(Loan {
         pid: task.pid,
         turn,
@@ -92,14 +104,15 @@ fn lend_next(
     alloc: Global,
     tasks: &mut [Task],
     behind: usize,
+    told: u64,
     quantum: u32,
 ) -> Result<Option<Loan>, Refused>
     requires { AreFewLoans (2 ^ 40) (map lending_of tasks.old) }
-    ensures done { IfOk result (λ given. LendsNext quantum behind tasks.old tasks.new given) }
+    ensures done { IfOk result (λ given. LendsNext quantum told behind tasks.old tasks.new given) }
     ensures cause { IfErr result (λ why. why ≡ OutOfMemory) }
     ensures same { OnErr result (tasks.new ≡ tasks.old) }
 {
-    let Some(place) = next_lendable(tasks, behind, quantum) else {
+    let Some(place) = next_lendable(tasks, behind, told, quantum) else {
         return Ok(None);
     };
     let loan = lend_task(alloc, &mut tasks[place], quantum)?;
@@ -118,7 +131,8 @@ impl Core {
             return Err(Refused::Budget);
         }
         let behind = self.last_lent as usize;
-        let Some(loan) = lend_next(self.alloc, &mut self.tasks, behind, quantum)? else {
+        let told = self.shared.told;
+        let Some(loan) = lend_next(self.alloc, &mut self.tasks, behind, told, quantum)? else {
             return Ok(None);
         };
         self.last_lent = loan.pid;

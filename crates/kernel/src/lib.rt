@@ -17,6 +17,7 @@ mod tasks;
 mod trace;
 mod turn;
 mod views;
+mod whereabouts;
 
 pub use boot::{BootFault, Core, Program};
 pub use kernel_laws::interleavings;

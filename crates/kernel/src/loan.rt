@@ -5,18 +5,19 @@ ghost use Rattle.machine_model.specs.States.{run, ran};
 use kernel_model::Refused;
 use machine::Machine;
 use machine_model::Stop;
+use std::sync::Arc;
 
 /// A machine that is lent out, to run at most `quantum` instructions. `turn` is the loan's number among those of the
-/// process, from 1; `began` is the state from which it runs.
+/// process, from 1; `began` is the state from which it runs, shared with the core.
 #[derive(Drop)]
 pub struct Loan {
     pub pid: u32,
     pub turn: u64,
     pub quantum: u32,
-    pub began: Machine,
+    pub began: Arc<Machine>,
     pub machine: Machine,
-    ghost same: { machine ≡ began },
-    ghost budget: { began.count + quantum < 2 ^ 40 },
+    ghost same: { machine ≡ began.value },
+    ghost budget: { began.value.count + quantum < 2 ^ 40 },
 }
 
 /// What a loan came to. Its type keeps that the machine is `count` instructions of the table after `began`, and that it
@@ -26,11 +27,11 @@ pub struct Done {
     pub pid: u32,
     pub turn: u64,
     pub quantum: u32,
-    pub began: Machine,
+    pub began: Arc<Machine>,
     pub machine: Machine,
     pub count: u32,
     pub stop: Stop,
-    ghost ran: { run quantum began ≡ ran count machine stop },
+    ghost ran: { run quantum began.value ≡ ran count machine stop },
     ghost room: { machine.count < 2 ^ 40 },
 }
 

@@ -1,26 +1,33 @@
 //! What an Enter comes to, found with all its memory before anything changes.
-ghost use Rattle.std.specs.Prelude.{◌≡◌, ◌+◌, ◌<◌, ◌≤◌, ◌^◌, ◌∷◌, length, vec_len, IfOk, Some, is_some, if◌then◌else◌};
-ghost use Rattle.machine_model.specs.States.{stands_at};
+ghost use Rattle.std.specs.Prelude.{◌≡◌, ◌+◌, ◌<◌, ◌≤◌, ◌^◌, ◌∷◌, length, vec_len, IfOk, Some, None, true, is_some, if◌then◌else◌};
+ghost use Rattle.machine_model.specs.States.{stands_at, replied};
+ghost use Rattle.processes.specs.Parts.{descriptors_in, part_at};
 ghost use Rattle.kernel_model.specs.Rows.{cause_number};
+ghost use Rattle.kernel_model.specs.Steps.{zero_reply};
 ghost use Rattle.kernel_model.specs.declared.carrier.Carrier.TheVariants.{Proc};
-ghost use Rattle.calls.specs.Plans.{NamesFiles};
-ghost use Rattle.kernel.specs.Entering.{PlansEnter, IsEntering};
+ghost use Rattle.kernel.specs.Entering.{seen_of, writes_of, MayPlan, AreSteps, IsSpare, PlansEnter, IsEntering, IsChild};
 
 use crate::shared::Shared;
-use calls::{Descriptors, Plan, plan_call, plan_end, request_of};
+use crate::task::Task;
+use crate::trace::{Trace, zero_reply};
+use calls::{PipeStep, Plan, Verdict, plan_call, plan_end, request_of};
 use commit_deps::{Carrier, Mark};
 use disk_model::Change;
-use files::FileTable;
 use machine::Machine;
 use machine_model::{Cause, Stop};
+use pipes::Pipe;
+use processes::{Descriptors, ProcTable};
 use std::alloc::{AllocError, Global};
 
-/// What an Enter comes to: its plan, all carriers that its event writes, and the event's mark.
+/// What an Enter of a process comes to: its plan, all carriers that its event writes, the event's mark, and the pipe that it
+/// makes, if it makes one.
 #[derive(Drop)]
 pub struct Entering {
+    pub pid: u32,
     pub plan: Plan,
     pub writes: Vec<Carrier>,
     pub mark: Mark,
+    pub spare: Option<Pipe>,
 }
 
 /// The number that a trap of this cause tells.
@@ -30,22 +37,44 @@ fn number_of(cause: Cause) -> u32
     cause as u32
 }
 
+/// The descriptors of a process that is there.
+fn descriptors_of(processes: &ProcTable, pid: u32) -> &Descriptors
+    requires from_1 { 0 < pid }
+    requires there { pid ≤ length processes.now.parts }
+    ensures { result.now ≡ descriptors_in (part_at processes.now.parts pid) }
+{
+    processes.descriptors(pid).unwrap()
+}
+
 /// The plan of the Enter of a process whose machine stands here, at a call or at a trap.
 pub fn plan_enter(
     alloc: Global,
+    pid: u32,
     stop: Stop,
     machine: &Machine,
-    files: &FileTable,
-    descriptors: &Descriptors,
+    shared: &Shared,
 ) -> Result<Plan, AllocError>
     requires stands { stands_at machine.now ≡ Some stop }
-    requires files { length files.now ≤ 32 }
-    requires named { NamesFiles (length files.now) descriptors.now }
-    ensures { IfOk result (λ plan. PlansEnter files.now machine.now descriptors.now plan) }
+    requires fine { MayPlan (seen_of shared.now) pid }
+    ensures { IfOk result (λ plan. PlansEnter (seen_of shared.now) pid machine.now plan) }
 {
     match stop {
-        Stop::Trap(cause) => Ok(plan_end(alloc, 256 + number_of(cause))),
-        _ => plan_call(alloc, files, descriptors, request_of(alloc, machine)?),
+        Stop::Trap(cause) => {
+            let descriptors = descriptors_of(&shared.processes, pid);
+            plan_end(alloc, descriptors, 256 + number_of(cause))
+        }
+        _ => {
+            let request = request_of(alloc, machine)?;
+            plan_call(
+                alloc,
+                &shared.files,
+                &shared.pipes,
+                &shared.tapes,
+                &shared.processes,
+                pid,
+                request,
+            )
+        }
     }
 }
 
@@ -59,6 +88,17 @@ pub fn with_own(alloc: Global, pid: u32, carriers: &[Carrier]) -> Result<Vec<Car
     Ok(all)
 }
 
+/// The carriers that the event of a plan writes: none where the process has to wait.
+fn all_writes(alloc: Global, pid: u32, plan: &Plan) -> Result<Vec<Carrier>, AllocError>
+    ensures { IfOk result (λ all. all.items ≡ writes_of pid plan.now.told plan.now.writes.items) }
+{
+    match &plan.told {
+        Verdict::Waits => Ok(Vec::new(alloc)),
+        Verdict::Replies(_) => with_own(alloc, pid, &plan.writes),
+        Verdict::Ends(_) => with_own(alloc, pid, &plan.writes),
+    }
+}
+
 /// The number of a plan's change, if it makes one, where there are so many.
 fn change_number(change: &Option<Change>, changes: usize) -> Option<u64>
     ensures { result ≡ (if is_some change.now then Some changes else None) }
@@ -69,25 +109,77 @@ fn change_number(change: &Option<Change>, changes: usize) -> Option<u64>
     }
 }
 
-/// What an Enter of a process comes to whose machine is this one, and stands here. Its change, if it makes one, gets the next number.
+/// The pipe that these steps make, if they make one.
+fn spare_pipe(alloc: Global, steps: &[PipeStep]) -> Result<Option<Pipe>, AllocError>
+    requires { AreSteps steps.now }
+    ensures { IfOk result (λ spare. IsSpare steps.now spare) }
+{
+    match steps.first() {
+        Some(PipeStep::Open) => {
+            let pipe = Pipe::new(alloc)?;
+            Ok(Some(pipe))
+        }
+        _ => Ok(None),
+    }
+}
+
+/// What an Enter of a process comes to whose machine is this one, and stands here. Its change, if it makes one, gets the next
+/// number.
 pub fn prepare(
     alloc: Global,
     pid: u32,
     stop: Stop,
     machine: &Machine,
-    descriptors: &Descriptors,
     shared: &Shared,
 ) -> Result<Entering, AllocError>
     requires stands { stands_at machine.now ≡ Some stop }
-    requires files { length shared.now.files ≤ 32 }
-    requires named { NamesFiles (length shared.now.files) descriptors.now }
+    requires fine { MayPlan (seen_of shared.now) pid }
     requires count { vec_len shared.now.changes < 2 ^ 63 }
-    ensures { IfOk result (λ e. IsEntering shared.now.dependencies.marks (length shared.now.changes.items) shared.now.files pid machine.now descriptors.now e) }
+    ensures { IfOk result (λ e. IsEntering shared.now.dependencies.marks (length shared.now.changes.items) (seen_of shared.now) pid machine.now e) }
 {
-    let plan = plan_enter(alloc, stop, machine, &shared.files, descriptors)?;
+    let plan = plan_enter(alloc, pid, stop, machine, shared)?;
     let reads = with_own(alloc, pid, &plan.reads)?;
-    let writes = with_own(alloc, pid, &plan.writes)?;
+    let writes = all_writes(alloc, pid, &plan)?;
+    let spare = spare_pipe(alloc, &plan.pipes)?;
     let change = change_number(&plan.change, shared.changes.len());
     let mark = shared.dependencies.mark(&reads, change);
-    Ok(Entering { plan, writes, mark })
+    Ok(Entering {
+        pid,
+        plan,
+        writes,
+        mark,
+        spare,
+    })
+}
+
+/// The machine of a process that a fork makes: its parent's, told 0.
+fn forked_machine(alloc: Global, machine: &Machine) -> Result<Machine, AllocError>
+    requires stands { stands_at machine.now ≡ Some Stop.Call }
+    requires budget { machine.now.count < 2 ^ 40 }
+    ensures { IfOk result (λ m. m ≡ replied machine.now zero_reply) }
+{
+    let mut child = machine.try_clone(alloc)?;
+    child.reply(&zero_reply(alloc));
+    Ok(child)
+}
+
+/// The process that an Enter makes, if it makes one, where its parent's machine and trace are these, and so many changes are
+/// committed.
+pub fn prepare_child(
+    alloc: Global,
+    machine: &Machine,
+    trace: &Trace,
+    entering: &Entering,
+    committed: u64,
+) -> Result<Option<Task>, AllocError>
+    requires stands { is_some entering.now.plan.child ≡ true → stands_at machine.now ≡ Some Stop.Call }
+    requires budget { machine.now.count < 2 ^ 40 }
+    ensures { IfOk result (λ child. IsChild entering.now committed machine.now trace.now child) }
+{
+    let Some(pid) = entering.plan.child else {
+        return Ok(None);
+    };
+    let machine = forked_machine(alloc, machine)?;
+    let trace = trace.forked(alloc, entering.mark, committed)?;
+    Ok(Some(Task::made(pid, machine, trace)))
 }

@@ -1,7 +1,6 @@
 //! Loans' results taken back.
 ghost use Rattle.std.specs.Prelude.{ℕ, ◌≡◌, ◌≢◌, ◌+◌, ◌<◌, ◌≤◌, ◌^◌, ◌++◌, ◌∷◌, [], ◌↔◌, IsTrue, List, length, vec_len, vec_capacity, Some, None, IfOk, IfErr, OnOk, OnErr};
 ghost use Rattle.machine_model.specs.States.{stands_at};
-ghost use Rattle.calls.specs.Plans.{NamesFiles};
 ghost use Rattle.commit_deps.specs.Keeps.{Keeps};
 ghost use Rattle.kernel_model.specs.Answers.{AllAccepted};
 ghost use Rattle.kernel_model.specs.Entries.{Entry};
@@ -9,18 +8,18 @@ ghost use Rattle.kernel_model.specs.Loans.{IsOfLoan, returned, events_of, settle
 ghost use Rattle.kernel_model.specs.Steps.{own_entry};
 ghost use Rattle.kernel_model.specs.declared.answer.Refused.TheVariants.{Stranger, OutOfMemory};
 ghost use Rattle.kernel_model.specs.declared.answer.Outcome.{Outcome};
-ghost use Rattle.kernel.specs.Entering.{IsEntering, IsSameTask, IsSameShared, HasRoom};
+ghost use Rattle.kernel.specs.Entering.{seen_of, MayPlan, IsSameTask, IsSameShared};
 ghost use Rattle.kernel.specs.Loaned.{loan_result};
-ghost use Rattle.kernel.specs.Settling.{IsLoanOf, IsBack, IsOwnNoted, IsTurnNoted, IsReadied, IsTurnEntered};
+ghost use Rattle.kernel.specs.Settling.{IsLoanOf, IsBack, IsOwnNoted, IsTurnNoted, IsTurnEntered, IsCallSettled, IsUnsettled};
 
 use crate::boot::Core;
-use crate::enter::{finish, ready};
+use crate::enter::{finish, join, prepare_enter};
 use crate::loan::{Done, Rejected};
-use crate::plan::{Entering, prepare};
 use crate::shared::Shared;
 use crate::task::Task;
 use crate::tasks::place_of;
 use crate::turn::reserve;
+use crate::whereabouts::Whereabouts;
 use commit_deps::{Carrier, Dependencies};
 use kernel_model::{Answer, Event, Refused};
 use machine::Machine;
@@ -31,16 +30,19 @@ use std::alloc::Global;
 fn is_of_loan(task: &Task, done: &Done) -> bool
     ensures { IsTrue result ↔ IsLoanOf task.now done.now }
 {
-    task.out == Some(done.quantum) && task.loans == done.turn && task.machine.is_same(&done.began)
+    match &task.whereabouts {
+        Whereabouts::Here(_) => false,
+        Whereabouts::Out { began, quantum } => {
+            *quantum == done.quantum && task.loans == done.turn && began.is_same(&done.began)
+        }
+    }
 }
 
 /// The process is back, with the machine that it was lent by.
 fn come_back(task: &mut Task, machine: Machine)
-    ensures back { IsBack machine task.old task.new }
-    ensures room { HasRoom task.old.trace → HasRoom task.new.trace }
+    ensures { IsBack machine task.old task.new }
 {
-    task.machine = machine;
-    task.out = None;
+    task.whereabouts = Whereabouts::Here(machine);
 }
 
 /// Notes the Turn of a process. Takes no memory.
@@ -52,49 +54,6 @@ fn note_turn(dependencies: &mut Dependencies, pid: u32)
     let own = [Carrier::Proc(pid)];
     let mark = dependencies.mark(&own, None);
     dependencies.note(&own, mark);
-}
-
-/// Takes all memory for a result's Turn and its Enter, and does what the Enter changes outside its process. Where memory
-/// runs out nothing has changed.
-fn prepare_enter(
-    alloc: Global,
-    history: &mut Vec<Event>,
-    task: &mut Task,
-    shared: &mut Shared,
-    done: &Done,
-    stop: Stop,
-) -> Result<Entering, Refused>
-    requires stands { stands_at done.now.machine ≡ Some stop }
-    requires files { length shared.old.files ≤ 32 }
-    requires named { NamesFiles (length shared.old.files) task.old.descriptors }
-    ensures history { history.new.items ≡ history.old.items }
-    ensures events { OnOk result (vec_len history.new + 2 ≤ vec_capacity history.new) }
-    ensures replies { OnOk result (HasRoom task.new.trace) }
-    ensures task { IsSameTask task.old task.new }
-    ensures writes { IfOk result (λ e. length e.writes.items + 1 ≤ shared.new.dependencies.room) }
-    ensures changes { OnOk result (vec_len shared.new.changes < vec_capacity shared.new.changes) }
-    ensures entering { IfOk result (λ e. IsEntering shared.old.dependencies.marks (length shared.old.changes.items) shared.old.files
-        done.now.pid done.now.machine task.old.descriptors e) }
-    ensures done { IfOk result (λ e. IsReadied e shared.old shared.new) }
-    ensures err { OnErr result (IsSameShared shared.old shared.new) }
-    ensures cause { IfErr result (λ why. why ≡ OutOfMemory) }
-{
-    let entering = prepare(
-        alloc,
-        done.pid,
-        stop,
-        &done.machine,
-        &task.descriptors,
-        shared,
-    )?;
-    reserve(
-        history,
-        &mut shared.dependencies,
-        2,
-        entering.writes.len() + 1,
-    )?;
-    ready(task, shared, &entering)?;
-    Ok(entering)
 }
 
 /// Takes a result back whose machine stands nowhere: it becomes a Turn.
@@ -137,7 +96,8 @@ fn settle_turn(
     })
 }
 
-/// Takes a result back whose machine stands here: it becomes a Turn and an Enter.
+/// Takes a result back whose machine stands here: it becomes a Turn and an Enter. Answers what the Enter came to, and the
+/// process that it made.
 fn settle_enter(
     alloc: Global,
     history: &mut Vec<Event>,
@@ -145,12 +105,12 @@ fn settle_enter(
     shared: &mut Shared,
     done: Done,
     at: Stop,
-) -> Result<Answer, Rejected>
+) -> Result<(Answer, Option<Task>), Rejected>
     requires stands { stands_at done.machine ≡ Some at }
-    requires files { length shared.old.files ≤ 32 }
-    requires named { NamesFiles (length shared.old.files) task.old.descriptors }
-    ensures done { IfOk result (λ a. (o : Outcome) × (a ≡ Answer.Settled done.count done.stop (Some o))
-        × IsTurnEntered done.pid done.machine task.old task.new shared.old shared.new o) }
+    requires fine { MayPlan (seen_of shared.old) done.pid }
+    requires few { shared.old.told < 2 ^ 63 }
+    ensures done { IfOk result (λ r. (o : Outcome) × (r.0 ≡ Answer.Settled done.count done.stop (Some o))
+        × IsTurnEntered done.pid done.machine task.old task.new shared.old shared.new o r.1) }
     ensures history { OnOk result (history.new.items ≡ history.old.items ++ Event.Turn done.pid done.count ∷ Event.Enter done.pid ∷ []) }
     ensures same_task { OnErr result (IsSameTask task.old task.new) }
     ensures same_shared { OnErr result (IsSameShared shared.old shared.new) }
@@ -158,29 +118,74 @@ fn settle_enter(
     ensures cause { IfErr result (λ r. r.why ≡ OutOfMemory) }
     ensures back { IfErr result (λ r. r.done ≡ done) }
 {
-    let Ok(entering) = prepare_enter(alloc, history, task, shared, &done, at) else {
+    let pid = done.pid;
+    let trace = &mut task.trace;
+    let Ok((entering, child)) = prepare_enter(
+        alloc,
+        history,
+        pid,
+        at,
+        &done.machine,
+        trace,
+        shared,
+        1,
+    ) else {
         return Err(Rejected {
             why: Refused::OutOfMemory,
             done,
         });
     };
     let Done {
-        pid,
-        machine,
+        mut machine,
         count,
         stop,
         ..
     } = done;
     note_turn(&mut shared.dependencies, pid);
+    let outcome = finish(&mut machine, &mut task.trace, shared, entering);
     come_back(task, machine);
-    let outcome = finish(task, shared, entering);
     history.push(Event::Turn { pid, n: count }).unwrap();
     history.push(Event::Enter { pid }).unwrap();
-    Ok(Answer::Settled {
+    let answer = Answer::Settled {
         count,
         stop,
         outcome: Some(outcome),
-    })
+    };
+    Ok((answer, child))
+}
+
+/// Takes a result back of the process at this place, whose machine stands here: it becomes a Turn and an Enter.
+fn settle_call(
+    alloc: Global,
+    history: &mut Vec<Event>,
+    tasks: &mut Vec<Task>,
+    shared: &mut Shared,
+    done: Done,
+    place: usize,
+    at: Stop,
+) -> Result<Answer, Rejected>
+    requires there { place < length tasks.old.items }
+    requires stands { stands_at done.machine ≡ Some at }
+    requires fine { MayPlan (seen_of shared.old) done.pid }
+    requires few { shared.old.told < 2 ^ 63 }
+    ensures done { IfOk result (λ a. IsCallSettled done place tasks.old.items tasks.new.items shared.old shared.new a) }
+    ensures history { OnOk result (history.new.items ≡ history.old.items ++ Event.Turn done.pid done.count ∷ Event.Enter done.pid ∷ []) }
+    ensures same { OnErr result (IsUnsettled place tasks.old.items tasks.new.items) }
+    ensures same_shared { OnErr result (IsSameShared shared.old shared.new) }
+    ensures same_history { OnErr result (history.new.items ≡ history.old.items) }
+    ensures cause { IfErr result (λ r. r.why ≡ OutOfMemory) }
+    ensures back { IfErr result (λ r. r.done ≡ done) }
+{
+    if tasks.reserve(1).is_err() {
+        return Err(Rejected {
+            why: Refused::OutOfMemory,
+            done,
+        });
+    }
+    let task = &mut tasks[place];
+    let (answer, child) = settle_enter(alloc, history, task, shared, done, at)?;
+    join(tasks, child);
+    Ok(answer)
 }
 
 impl Core {
@@ -212,12 +217,13 @@ impl Core {
         }
         match done.machine.stopped() {
             None => settle_turn(&mut self.history, task, &mut self.shared, done),
-            Some(at) => settle_enter(
+            Some(at) => settle_call(
                 self.alloc,
                 &mut self.history,
-                task,
+                &mut self.tasks,
                 &mut self.shared,
                 done,
+                place,
                 at,
             ),
         }

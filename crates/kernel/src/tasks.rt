@@ -1,12 +1,13 @@
 //! The tasks of all processes.
-ghost use Rattle.std.specs.Prelude.{◌≡◌, ◌+◌, ◌*◌, ◌^◌, ◌≤◌, ◌<◌, None, Some, length, map, slice_get, MatchOption, MatchResult, IfOk, IfErr};
+ghost use Rattle.std.specs.Prelude.{◌≡◌, ◌+◌, ◌*◌, ◌^◌, ◌≤◌, ◌<◌, None, Some, true, is_some, length, map, slice_get, MatchOption, MatchResult, IfOk, IfErr, OnErr};
 ghost use Rattle.kernel_model.specs.State.{process_at};
-ghost use Rattle.kernel.specs.Tasks.{process_of, count_out, RanAt};
+ghost use Rattle.kernel.specs.Tasks.{machine_of, out_of, process_of, count_out, RanAt};
 ghost use Rattle.kernel.specs.Tests.{full_of, turn_refusal_of, enter_refusal_of, IsPlaceOf};
 ghost use Rattle.kernel.specs.Advanced.{AreMoved};
 ghost use Rattle.kernel.specs.declared.task.Task.{Task};
 
 use crate::task::{LIMIT, Task};
+use crate::whereabouts::Whereabouts;
 use kernel_model::Refused;
 use machine_model::Stop;
 
@@ -47,7 +48,7 @@ pub fn is_full(events: usize, tasks: &[Task]) -> bool
 pub fn turn_place(tasks: &[Task], full: bool, pid: u32, n: u32) -> Result<usize, Refused>
     ensures fine { IfOk result (λ place. turn_refusal_of tasks.now full pid n ≡ None) }
     ensures place { IfOk result (λ place. IsPlaceOf tasks.now pid place) }
-    ensures room { IfOk result (λ place. (t : Task) → slice_get tasks.now place ≡ Some t → t.machine.count + n ≤ 2 ^ 40) }
+    ensures room { IfOk result (λ place. (t : Task) → slice_get tasks.now place ≡ Some t → (machine_of t).count + n ≤ 2 ^ 40) }
     ensures refused { IfErr result (λ why. turn_refusal_of tasks.now full pid n ≡ Some why) }
 {
     let Some(place) = place_of(tasks, pid) else {
@@ -76,14 +77,19 @@ pub fn enter_place(tasks: &[Task], full: bool, pid: u32) -> Result<usize, Refuse
     }
 }
 
-/// The machine of the task at this place runs at most n instructions.
-pub fn run_at(tasks: &mut [Task], place: usize, n: u32) -> (u32, Stop)
+/// The machine of the task at this place runs at most n instructions. Refused, with nothing changed: Lent.
+pub fn run_at(tasks: &mut [Task], place: usize, n: u32) -> Result<(u32, Stop), Refused>
     requires there { place < length tasks.old }
-    requires room { (t : Task) → slice_get tasks.old place ≡ Some t → t.machine.count + n ≤ 2 ^ 40 }
-    ensures { RanAt tasks.old tasks.new place n result.0 result.1 }
+    requires room { (t : Task) → slice_get tasks.old place ≡ Some t → (machine_of t).count + n ≤ 2 ^ 40 }
+    ensures ran { IfOk result (λ r. RanAt tasks.old tasks.new place n r.0 r.1) }
+    ensures lent { OnErr result ((t : Task) → slice_get tasks.old place ≡ Some t → is_some (out_of t) ≡ true) }
+    ensures same { OnErr result (tasks.new ≡ tasks.old) }
 {
     let task = &mut tasks[place];
-    task.machine.run(n)
+    match &mut task.whereabouts {
+        Whereabouts::Here(machine) => Ok(machine.run(n)),
+        Whereabouts::Out { .. } => Err(Refused::Lent),
+    }
 }
 
 /// More of what all processes were told may be handed out, now that so many changes are committed.

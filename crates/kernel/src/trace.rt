@@ -1,14 +1,18 @@
-//! A process's replies and its end, and how many of them are handed out.
-ghost use Rattle.std.specs.Prelude.{◌≡◌, ◌+◌, ◌<◌, ◌≤◌, ◌++◌, ◌∷◌, ◌==◌, ◌&&◌, [], None, OnOk, vec_len, vec_capacity, take, length, nat_le, if◌then◌else◌, Option};
+//! A process's replies and its end, how many of them are handed out, and whether it waits for more.
+ghost use Rattle.std.specs.Prelude.{◌≡◌, ◌+◌, ◌<◌, ◌≤◌, ◌++◌, ◌∷◌, ◌==◌, ◌&&◌, [], None, OnOk, IfOk, vec_len, vec_capacity, take, length, nat_le, if◌then◌else◌, Option};
+ghost use Rattle.kernel_model.specs.Steps.{zero_reply};
 ghost use Rattle.kernel.specs.Marked.{front_of};
 ghost use Rattle.kernel.specs.Handing.{handed_end_of};
+ghost use Rattle.kernel.specs.Waiting.{is_asleep};
 
 use crate::front::front_from;
+use byte_list::Bytes;
 use commit_deps::Mark;
 use machine_model::Reply;
 use std::alloc::{AllocError, Global};
 
-/// How a process ended, and the mark of the event that ended it.
+/// How a process ended, and the mark of the event that ended it. The table of processes has the status too, at which a wait
+/// of the parent looks at once; this one is handed out in its turn, as the last that the process was told.
 #[derive(Clone, Copy, Debug, PartialEq, Eq)]
 pub struct End {
     pub status: u32,
@@ -16,7 +20,8 @@ pub struct End {
 }
 
 /// The replies to a process's calls, the mark of the event of each, how many are handed out, how many changes were
-/// committed when they were counted, and its end.
+/// committed when they were counted, its end, and, where its last Enter had to wait, how many Enters had told their
+/// process something until then.
 #[derive(Drop)]
 pub struct Trace {
     pub replies: Vec<Reply>,
@@ -24,6 +29,7 @@ pub struct Trace {
     pub handed: usize,
     pub committed: u64,
     pub end: Option<End>,
+    pub waited: Option<u64>,
     ghost aligned: { vec_len marks ≡ vec_len replies },
     ghost within: { handed ≤ vec_len replies },
     ghost counted: { handed ≤ front_of committed marks.items },
@@ -36,6 +42,7 @@ impl Trace {
         ensures marks { result.marks.items ≡ [] }
         ensures handed { result.handed ≡ 0 }
         ensures end { result.end ≡ None }
+        ensures waited { result.waited ≡ None }
     {
         Trace {
             replies: Vec::new(alloc),
@@ -43,6 +50,17 @@ impl Trace {
             handed: 0,
             committed: 0,
             end: None,
+            waited: None,
+        }
+    }
+
+    /// Whether the process still waits, where so many Enters told their process something.
+    pub fn is_asleep(&self, told: u64) -> bool
+        ensures { result ≡ is_asleep told self.now.waited }
+    {
+        match self.waited {
+            Some(before) => before == told,
+            None => false,
         }
     }
 
@@ -74,6 +92,7 @@ impl Trace {
         ensures same_marks { self.new.marks.items ≡ self.old.marks.items }
         ensures same_handed { self.new.handed ≡ self.old.handed }
         ensures same_end { self.new.end ≡ self.old.end }
+        ensures same_waited { self.new.waited ≡ self.old.waited }
     {
         self.replies.reserve(1)?;
         self.marks.reserve(1)
@@ -87,6 +106,7 @@ impl Trace {
         ensures marks { self.new.marks.items ≡ self.old.marks.items ++ mark ∷ [] }
         ensures handed { self.new.handed ≡ self.old.handed }
         ensures end { self.new.end ≡ self.old.end }
+        ensures waited { self.new.waited ≡ self.old.waited }
     {
         self.replies.push(reply).unwrap();
         self.marks.push(mark).unwrap();
@@ -98,8 +118,67 @@ impl Trace {
         ensures replies { self.new.replies ≡ self.old.replies }
         ensures marks { self.new.marks ≡ self.old.marks }
         ensures end { self.new.end ≡ self.old.end }
+        ensures waited { self.new.waited ≡ self.old.waited }
     {
         self.handed = front_from(&self.marks, self.handed, self.committed, committed);
         self.committed = committed;
     }
+
+    /// The trace of a process that a fork of this one makes by an event of this mark, where so many changes are committed:
+    /// the same replies, and then one of 0.
+    pub fn forked(&self, alloc: Global, mark: Mark, committed: u64) -> Result<Trace, AllocError>
+        ensures replies { IfOk result (λ trace. trace.replies.items ≡ self.now.replies.items ++ zero_reply ∷ []) }
+        ensures marks { IfOk result (λ trace. trace.marks.items ≡ self.now.marks.items ++ mark ∷ []) }
+        ensures handed { IfOk result (λ trace. trace.handed ≡ front_of committed trace.marks.items) }
+        ensures end { IfOk result (λ trace. trace.end ≡ None) }
+        ensures waited { IfOk result (λ trace. trace.waited ≡ None) }
+    {
+        let mut replies = copies_of(alloc, &self.replies)?;
+        replies.push(zero_reply(alloc))?;
+        let mut marks = Vec::new(alloc);
+        marks.extend_from_slice(&self.marks)?;
+        marks.push(mark)?;
+        let handed = front_from(&marks, 0, 0, committed);
+        Ok(Trace {
+            replies,
+            marks,
+            handed,
+            committed,
+            end: None,
+            waited: None,
+        })
+    }
+}
+
+/// The reply of 0, without bytes. Takes no memory.
+pub fn zero_reply(alloc: Global) -> Reply
+    ensures { result ≡ zero_reply }
+{
+    Reply {
+        a0: 0,
+        at: 0,
+        bytes: Bytes::empty(alloc),
+    }
+}
+
+/// A copy of a reply.
+fn copy_of(alloc: Global, reply: &Reply) -> Result<Reply, AllocError>
+    ensures { IfOk result (λ copy. copy ≡ reply.now) }
+{
+    Ok(Reply {
+        a0: reply.a0,
+        at: reply.at,
+        bytes: reply.bytes.try_clone(alloc)?,
+    })
+}
+
+/// Copies of these replies.
+fn copies_of(alloc: Global, replies: &[Reply]) -> Result<Vec<Reply>, AllocError>
+    ensures { IfOk result (λ copies. copies.items ≡ replies.now) }
+{
+    let mut copies = Vec::new(alloc);
+    for reply in replies {
+        copies.push(copy_of(alloc, reply)?)?;
+    }
+    Ok(copies)
 }

@@ -62,7 +62,7 @@ pub fn turn(
     let full = is_full(history.len(), tasks);
     let place = turn_place(tasks, full, pid, n)?;
     reserve(history, dependencies, 1, 1)?;
-    let (count, stop) = run_at(tasks, place, n);
+    let (count, stop) = run_at(tasks, place, n)?;
     note_own(dependencies, pid);
     history.push(Event::Turn { pid, n }).unwrap();
     Ok(Answer::Ran { count, stop })

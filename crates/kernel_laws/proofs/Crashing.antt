@@ -4,12 +4,11 @@ use Rattle.disk_model.specs.declared.change.Change.{Change}
 use Rattle.disk_model.specs.declared.change.NamedFile.{NamedFile}
 use Rattle.disk_model.specs.Files.{Follow, IsMade, files_after}
 use Rattle.disk_model.specs.Held.{IsHeldTo, IsHeld, joined}
-use Rattle.disk_model.specs.Rebuild.{CanBeRebuilt}
 use Rattle.disk_model.specs.Storage.{Storage, cut, completed, failed}
 use Rattle.disk_model.specs.Runs.{Move, Comes, Cuts, Completes, Fails, Run, first_run, moved, ran, changes_of as changes_in}
 use Rattle.disk_model.specs.Crash.{IsCrashOf}
 use Rattle.disk_model.proofs.Reading.{follow_both}
-use Rattle.kernel_model.specs.Bytes.{ProgramsHoldBytes}
+use Rattle.kernel_model.specs.Bytes.{ProgramsHoldBytes, TapesHoldBytes}
 use Rattle.kernel_model.specs.Entries.{Entry}
 use Rattle.kernel_model.specs.Paths.{changes_of}
 use Rattle.kernel_model.specs.Steps.{disk_entry, step}
@@ -22,7 +21,7 @@ use Rattle.kernel_laws.specs.Crashes.{SurvivesCrash}
 use Rattle.kernel_laws.proofs.Possible.{IsPossible}
 use Rattle.kernel_laws.proofs.Sound.{AreFit, step_fit, begun_fit}
 
--- ---- the disk's laws
+-- ---- the disk's law
 
 -- what a crash of a disk's run leaves
 abbrev pub CrashLaw : Type 0
@@ -31,10 +30,6 @@ CrashLaw = (disk : List ℕ) (gate : ℕ) (files : List NamedFile) → IsHeldTo 
     → (left : List ℕ) → IsCrashOf (ran files (first_run disk gate) moves).storage.drive left
     → (k : ℕ) × ((ran files (first_run disk gate) moves).storage.committed ≤ k) × (k ≤ length (changes_in moves))
     × IsHeld left (files_after files (take k (changes_in moves)))
-
--- files that changes make are few
-abbrev pub FewLaw : Type 0
-FewLaw = (files : List NamedFile) → IsMade files → CanBeRebuilt files
 
 -- ---- an event as moves of the disk
 
@@ -145,9 +140,9 @@ after_runs : (b : Boot) (es : List Event) (w : World) → IsDiskRun b w → IsDi
 after_runs b [] w h = h
 after_runs b (e ∷ es) w h = after_runs b es (happens w e) (happens_runs b w e h)
 
-begun_runs : (b : Boot) → length b.files ≤ 32 → ProgramsHoldBytes b → IsDiskRun b (begun b)
-begun_runs b few bytes = record {
-  fit = begun_fit b few bytes;
+begun_runs : (b : Boot) → IsMade b.files → ProgramsHoldBytes b → TapesHoldBytes b → IsDiskRun b (begun b)
+begun_runs b made programs tapes = record {
+  fit = begun_fit b made programs tapes;
   folded = refl;
   possible = tt;
   moves = [];
@@ -167,7 +162,8 @@ run_survives law b w held h left crash =
       held = subst (λ (cs : List Change). IsHeld left (files_after b.files (take k.0 cs))) h.changes k.3;
     }
 
-pub crash_keeps : CrashLaw → FewLaw → (b : Boot) (es : List Event) → HoldsItsFiles b → ProgramsHoldBytes b → SurvivesCrash b (after (begun b) es)
-crash_keeps law few b es held bytes =
+pub crash_keeps : CrashLaw → (b : Boot) (es : List Event) → HoldsItsFiles b → ProgramsHoldBytes b → TapesHoldBytes b
+    → SurvivesCrash b (after (begun b) es)
+crash_keeps law b es held programs tapes =
     let made : IsMade b.files = (joined held.reads.groups, held.reads.possible, held.reads.makes) in
-    run_survives law b (after (begun b) es) held (after_runs b es (begun b) (begun_runs b (few b.files made).few bytes))
+    run_survives law b (after (begun b) es) held (after_runs b es (begun b) (begun_runs b made programs tapes))

@@ -1,11 +1,11 @@
 -- What holds of each element of a list.
-use Rattle.std.proofs.Common.{◌≡◌, ℕ, zero, suc, List, [], ◌∷◌, slice_get, slice_set, Some, subst}
+use Rattle.std.proofs.Common.{ℕ, zero, suc, List, [], ◌∷◌, slice_get, slice_set, IfSome}
 use Rattle.std.specs.List.{AllByRecursion}
 
-pub each_get : {A : Type 0} (P : A → Type 0) (xs : List A) (i : ℕ) (x : A) → AllByRecursion P xs → slice_get xs i ≡ Some x → P x
-each_get P [] i x h e = cc
-each_get {A} P (y ∷ ys) zero x h e = let same : y ≡ x = cc in subst P same h.0
-each_get P (y ∷ ys) (suc i) x h e = each_get P ys i x h.1 e
+pub each_at : {A : Type 0} (P : A → Type 0) (xs : List A) (i : ℕ) → AllByRecursion P xs → IfSome (slice_get xs i) P
+each_at P [] i h = tt
+each_at P (y ∷ ys) zero h = h.0
+each_at P (y ∷ ys) (suc i) h = each_at P ys i h.1
 
 pub each_set : {A : Type 0} (P : A → Type 0) (xs : List A) (i : ℕ) (x : A) → P x → AllByRecursion P xs → AllByRecursion P (slice_set xs i x)
 each_set P [] i x p h = tt

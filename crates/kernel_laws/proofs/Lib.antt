@@ -2,7 +2,9 @@ pub mod Machines
 pub mod Fronts
 pub mod Processes
 pub mod Others
+pub mod Children
 pub mod Replies
+pub mod Descent
 pub mod Whole
 pub mod Quiet
 pub mod Swap

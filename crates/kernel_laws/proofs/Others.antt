@@ -1,14 +1,15 @@
--- An event leaves other processes as they are, and finds and leaves the same whatever they are.
-use Rattle.std.proofs.Common.{◌≡◌, ℕ, true, false, if◌then◌else◌, List, length, Option, Some, None, is_some, refl, sym, ap, ◌∙◌}
-use Rattle.machine_model.specs.States.{stands_at}
-use Rattle.kernel_model.specs.State.{SyncState, shared, Process, process_at, put_process, with_process}
+-- An event leaves other processes as they are, and finds and leaves the same wherever their machines are.
+use Rattle.std.proofs.Common.{◌≡◌, ℕ, zero, suc, ◌+◌, true, false, if◌then◌else◌, List, [], ◌∷◌, ◌++◌, map, length, length-append, slice_get, slice_set, Option, Some, None, is_some, refl, sym, ap, ◌∙◌, add-zero}
+use Rattle.machine_model.specs.States.{State, stands_at}
+use Rattle.machine_model.specs.declared.reply.Reply.{Reply}
+use Rattle.kernel_model.specs.State.{SyncState, Shared, shared, Process, process_at, put_process, with_process}
 use Rattle.kernel_model.specs.Rows.{Effect}
-use Rattle.kernel_model.specs.Steps.{Transition, own_entry, impossible, after_run, after_reply, after_end, after_turn, effect_at, after_effect, after_effect_if, after_enter, step}
+use Rattle.kernel_model.specs.Steps.{Transition, own_entry, impossible, after_run, after_reply, forked, after_end, after_turn, effect_at, after_effect, after_effect_if, after_enter, step}
 use Rattle.kernel_model.specs.declared.event.Event.{Event}
 use Rattle.kernel_model.specs.declared.event.Event.TheVariants.{Turn, Enter, Cut, Complete, Fail}
 use Rattle.kernel_model.specs.declared.request.Verdict.{Verdict}
 use Rattle.kernel_model.specs.declared.request.Verdict.TheVariants.{Waits, Replies, Ends}
-use Rattle.kernel_laws.proofs.Processes.{put_put, at_put, length_put}
+use Rattle.kernel_laws.proofs.Processes.{put_put, at_put, length_put, put_append, at_append}
 
 -- the event is none of process p's
 abbrev pub IsNotOf : ℕ → Event → Type 0
@@ -25,99 +26,158 @@ flip n e = n (sym e)
 abbrev pub moved : ℕ → Process → Transition → Transition
 moved p x t = record { state = with_process t.state p x; entry = t.entry }
 
+-- the process at another state of its machine
+abbrev pub at_state : Process → State → Process
+at_state y t = record y { state = t }
+
+-- a machine's state is no part of how its process has ended
+statuses_set : (ps : List Process) (i : ℕ) (y : Process) (t : State) → slice_get ps i ≡ Some y
+    → map (λ (p : Process). p.status) (slice_set ps i (at_state y t)) ≡ map (λ (p : Process). p.status) ps
+statuses_set [] i y t e = cc
+statuses_set (z ∷ zs) zero y t e = let same : y ≡ z = cc in ap (λ (w : Process). w.status ∷ map (λ (p : Process). p.status) zs) same
+statuses_set (z ∷ zs) (suc i) y t e = ap (λ ws. z.status ∷ ws) (statuses_set zs i y t e)
+
+statuses_put : (ps : List Process) (p : ℕ) (y : Process) (t : State) → process_at ps p ≡ Some y
+    → map (λ (p : Process). p.status) (put_process ps p (at_state y t)) ≡ map (λ (p : Process). p.status) ps
+statuses_put ps zero y t e = cc
+statuses_put ps (suc i) y t e = statuses_set ps i y t e
+
+-- calls see nothing of a process's machine but their own's
+shared_same : (s : SyncState) (p : ℕ) (y : Process) (t : State) → process_at s.processes p ≡ Some y → shared (with_process s p (at_state y t)) ≡ shared s
+shared_same s p y t at = ap (λ (xs : List (Option ℕ)). record (shared s) { statuses = xs }) (statuses_put s.processes p y t at)
+
 turn_moves : (s : SyncState) (p q n : ℕ) (x : Process) (o : Option Process) → (p ≡ q → ⊥) → after_turn (with_process s p x) q n o ≡ moved p x (after_turn s q n o)
 turn_moves s p q n x None ne = refl
-turn_moves s p q n x (Some y) ne = elim (is_some y.status) as (λ b.
-    (if b then impossible q (with_process s p x) else record { state = with_process (with_process s p x) q (after_run n y); entry = own_entry q })
-    ≡ moved p x (if b then impossible q s else record { state = with_process s q (after_run n y); entry = own_entry q })) [
+turn_moves s p q n x (Some z) ne = elim (is_some z.status) as (λ b.
+    (if b then impossible q (with_process s p x) else record { state = with_process (with_process s p x) q (after_run n z); entry = own_entry q })
+    ≡ moved p x (if b then impossible q s else record { state = with_process s q (after_run n z); entry = own_entry q })) [
       | true ↦ refl
-      | false ↦ ap (λ (ps : List Process). record { state = record s { processes = ps }; entry = own_entry q }) (put_put s.processes p q x (after_run n y) ne)
+      | false ↦ ap (λ (ps : List Process). record { state = record s { processes = ps }; entry = own_entry q }) (put_put s.processes p q x (after_run n z) ne)
     ]
 
 -- what an effect does, given what the processes become
 abbrev with_processes : SyncState → ℕ → Process → Effect → Verdict → List Process → Transition
-with_processes s q y e v ps = record {
-  state = record { processes = ps; files = (after_effect s q y e v).state.files; tapes = (after_effect s q y e v).state.tapes };
-  entry = (after_effect s q y e v).entry;
+with_processes s q z e v ps = record {
+  state = record (after_effect s q z e v).state { processes = ps };
+  entry = (after_effect s q z e v).entry;
 }
 
-effect_moves : (s : SyncState) (p q : ℕ) (x y : Process) (e : Effect) (v : Verdict) → (p ≡ q → ⊥) → after_effect (with_process s p x) q y e v ≡ moved p x (after_effect s q y e v)
-effect_moves s p q x y e Waits ne = refl
-effect_moves s p q x y e (Replies r) ne = ap (with_processes s q y e (Replies r)) (put_put s.processes p q x (after_reply y e r) ne)
-effect_moves s p q x y e (Ends status) ne = ap (with_processes s q y e (Ends status)) (put_put s.processes p q x (after_end y status) ne)
+effect_moves : (s : SyncState) (p q : ℕ) (x y z : Process) (e : Effect) (v : Verdict) → process_at s.processes p ≡ Some y → (p ≡ q → ⊥)
+    → after_effect (with_process s p x) q z e v ≡ moved p x (after_effect s q z e v)
+effect_moves s p q x y z e Waits at ne = refl
+effect_moves s p q x y z e (Replies r) at ne =
+    let there : process_at (put_process s.processes q (after_reply z e r)) p ≡ Some y = at_put s.processes q p (after_reply z e r) (flip ne) ∙ at in
+    ap (λ (ps : List Process). with_processes s q z e (Replies r) (ps ++ forked z e.child)) (put_put s.processes p q x (after_reply z e r) ne)
+    ∙ ap (with_processes s q z e (Replies r)) (sym (put_append (put_process s.processes q (after_reply z e r)) (forked z e.child) p x y there))
+effect_moves s p q x y z e (Ends status) at ne = ap (with_processes s q z e (Ends status)) (put_put s.processes p q x (after_end z status) ne)
 
-effect_if_moves : (s : SyncState) (p q : ℕ) (x y : Process) (o : Option Effect) → (p ≡ q → ⊥) → after_effect_if (with_process s p x) q y o ≡ moved p x (after_effect_if s q y o)
-effect_if_moves s p q x y None ne = refl
-effect_if_moves s p q x y (Some e) ne = effect_moves s p q x y e e.told ne
+effect_if_moves : (s : SyncState) (p q : ℕ) (x y z : Process) (o : Option Effect) → process_at s.processes p ≡ Some y → (p ≡ q → ⊥)
+    → after_effect_if (with_process s p x) q z o ≡ moved p x (after_effect_if s q z o)
+effect_if_moves s p q x y z None at ne = refl
+effect_if_moves s p q x y z (Some e) at ne = effect_moves s p q x y z e e.told at ne
 
-enter_moves : (s : SyncState) (p q : ℕ) (x : Process) (o : Option Process) → (p ≡ q → ⊥) → after_enter (with_process s p x) q o ≡ moved p x (after_enter s q o)
-enter_moves s p q x None ne = refl
-enter_moves s p q x (Some y) ne = elim (is_some y.status) as (λ b.
-    (if b then impossible q (with_process s p x) else after_effect_if (with_process s p x) q y (effect_at (shared s) y (stands_at y.state)))
-    ≡ moved p x (if b then impossible q s else after_effect_if s q y (effect_at (shared s) y (stands_at y.state)))) [
+enter_moves : (s : SyncState) (p q : ℕ) (y : Process) (t : State) (o : Option Process) → process_at s.processes p ≡ Some y → (p ≡ q → ⊥)
+    → after_enter (with_process s p (at_state y t)) q o ≡ moved p (at_state y t) (after_enter s q o)
+enter_moves s p q y t None at ne = refl
+enter_moves s p q y t (Some z) at ne = elim (is_some z.status) as (λ b.
+    (if b then impossible q (with_process s p x) else after_effect_if (with_process s p x) q z (effect_at (shared (with_process s p x)) q z (stands_at z.state)))
+    ≡ moved p x (if b then impossible q s else after_effect_if s q z (effect_at (shared s) q z (stands_at z.state)))) [
       | true ↦ refl
-      | false ↦ effect_if_moves s p q x y (effect_at (shared s) y (stands_at y.state)) ne
+      | false ↦
+          ap (λ (seen : Shared). after_effect_if (with_process s p x) q z (effect_at seen q z (stands_at z.state))) (shared_same s p y t at)
+          ∙ effect_if_moves s p q x y z (effect_at (shared s) q z (stands_at z.state)) at ne
     ]
+  where
+    x : Process
+    x = at_state y t
 
--- an event of another process does the same where process p is another
-pub step_moves : (s : SyncState) (p : ℕ) (x : Process) (e : Event) → IsNotOf p e → step (with_process s p x) e ≡ moved p x (step s e)
-step_moves s p x (Turn q n) ne = ap (λ o. after_turn (with_process s p x) q n o) (at_put s.processes p q x ne) ∙ turn_moves s p q n x (process_at s.processes q) ne
-step_moves s p x (Enter q) ne = ap (λ o. after_enter (with_process s p x) q o) (at_put s.processes p q x ne) ∙ enter_moves s p q x (process_at s.processes q) ne
-step_moves s p x Cut ne = refl
-step_moves s p x (Complete k) ne = refl
-step_moves s p x (Fail k) ne = refl
+-- an event of another process does the same where process p's machine is at another state
+pub step_moves : (s : SyncState) (p : ℕ) (y : Process) (t : State) (e : Event) → process_at s.processes p ≡ Some y → IsNotOf p e
+    → step (with_process s p (at_state y t)) e ≡ moved p (at_state y t) (step s e)
+step_moves s p y t (Turn q n) at ne =
+    ap (λ o. after_turn (with_process s p (at_state y t)) q n o) (at_put s.processes p q (at_state y t) ne)
+    ∙ turn_moves s p q n (at_state y t) (process_at s.processes q) ne
+step_moves s p y t (Enter q) at ne =
+    ap (λ o. after_enter (with_process s p (at_state y t)) q o) (at_put s.processes p q (at_state y t) ne)
+    ∙ enter_moves s p q y t (process_at s.processes q) at ne
+step_moves s p y t Cut at ne = refl
+step_moves s p y t (Complete k) at ne = refl
+step_moves s p y t (Fail k) at ne = refl
 
--- the processes after a transition are those before, but that process q may be another
-abbrev Puts : SyncState → ℕ → Transition → Type 0
-Puts s q t = (ps : List Process) × (t.state.processes ≡ ps) × ((p : ℕ) → (p ≡ q → ⊥) → process_at ps p ≡ process_at s.processes p) × (length ps ≡ length s.processes)
+-- how many processes an event made, where it may have made this one
+abbrev pub made_count : Option ℕ → ℕ
+made_count child = if is_some child then 1 else 0
 
-puts_none : (s : SyncState) (q : ℕ) (t : Transition) → t.state.processes ≡ s.processes → Puts s q t
-puts_none s q t h = (s.processes, h, λ p ne. refl, refl)
+-- Each process but q that is there before a transition is there after it, and there are as many, and the one that is made.
+record Keeps (s : SyncState) (q : ℕ) (t : Transition) : Type 0 where
+  others : (p : ℕ) (y : Process) → process_at s.processes p ≡ Some y → (p ≡ q → ⊥) → process_at t.state.processes p ≡ Some y
+  as_many : length t.state.processes ≡ length s.processes + made_count t.entry.child
 
-puts_one : (s : SyncState) (q : ℕ) (t : Transition) (y : Process) → t.state.processes ≡ put_process s.processes q y → Puts s q t
-puts_one s q t y h = (put_process s.processes q y, h, λ p ne. at_put s.processes q p y (flip ne), length_put s.processes q y)
+-- none is made
+none_more : (n : ℕ) (o : Option ℕ) → o ≡ None → n ≡ n + made_count o
+none_more n o h = sym (add-zero n) ∙ ap (λ (c : Option ℕ). n + made_count c) (sym h)
 
-turn_puts : (s : SyncState) (q n : ℕ) (o : Option Process) → Puts s q (after_turn s q n o)
-turn_puts s q n None = puts_none s q (impossible q s) refl
-turn_puts s q n (Some y) = elim (is_some y.status) as (λ b. Puts s q (if b then impossible q s else record { state = with_process s q (after_run n y); entry = own_entry q })) [
-  | true ↦ puts_none s q (impossible q s) refl
-  | false ↦ puts_one s q (record { state = with_process s q (after_run n y); entry = own_entry q }) (after_run n y) refl
+keeps_all : (s : SyncState) (q : ℕ) (t : Transition) → t.state.processes ≡ s.processes → t.entry.child ≡ None → Keeps s q t
+keeps_all s q t h none = record {
+  others = λ p y at ne. ap (λ ps. process_at ps p) h ∙ at;
+  as_many = ap (λ (ps : List Process). length ps) h ∙ none_more (length s.processes) t.entry.child none;
+}
+
+keeps_others : (s : SyncState) (q : ℕ) (t : Transition) (z : Process) → t.state.processes ≡ put_process s.processes q z → t.entry.child ≡ None → Keeps s q t
+keeps_others s q t z h none = record {
+  others = λ p y at ne. ap (λ ps. process_at ps p) h ∙ at_put s.processes q p z (flip ne) ∙ at;
+  as_many = ap (λ (ps : List Process). length ps) h ∙ length_put s.processes q z ∙ none_more (length s.processes) t.entry.child none;
+}
+
+length-forked : (z : Process) (o : Option ℕ) → length (forked z o) ≡ made_count o
+length-forked z None = refl
+length-forked z (Some child) = refl
+
+reply_keeps : (s : SyncState) (q : ℕ) (z : Process) (e : Effect) (r : Reply) → Keeps s q (after_effect s q z e (Replies r))
+reply_keeps s q z e r =
+    let ps = put_process s.processes q (after_reply z e r) in
+    record {
+      others = λ p y at ne. at_append ps (forked z e.child) p y (at_put s.processes q p (after_reply z e r) (flip ne) ∙ at);
+      as_many = length-append ps (forked z e.child)
+          ∙ ap (λ (n : ℕ). n + length (forked z e.child)) (length_put s.processes q (after_reply z e r))
+          ∙ ap (λ (n : ℕ). length s.processes + n) (length-forked z e.child);
+    }
+
+turn_keeps : (s : SyncState) (q n : ℕ) (o : Option Process) → Keeps s q (after_turn s q n o)
+turn_keeps s q n None = keeps_all s q (impossible q s) refl refl
+turn_keeps s q n (Some z) = elim (is_some z.status) as (λ b. Keeps s q (if b then impossible q s else record { state = with_process s q (after_run n z); entry = own_entry q })) [
+  | true ↦ keeps_all s q (impossible q s) refl refl
+  | false ↦ keeps_others s q (record { state = with_process s q (after_run n z); entry = own_entry q }) (after_run n z) refl refl
 ]
 
-effect_puts : (s : SyncState) (q : ℕ) (y : Process) (e : Effect) (v : Verdict) → Puts s q (after_effect s q y e v)
-effect_puts s q y e Waits = puts_none s q (after_effect s q y e Waits) refl
-effect_puts s q y e (Replies r) = puts_one s q (after_effect s q y e (Replies r)) (after_reply y e r) refl
-effect_puts s q y e (Ends status) = puts_one s q (after_effect s q y e (Ends status)) (after_end y status) refl
+effect_keeps : (s : SyncState) (q : ℕ) (z : Process) (e : Effect) (v : Verdict) → Keeps s q (after_effect s q z e v)
+effect_keeps s q z e Waits = keeps_all s q (after_effect s q z e Waits) refl refl
+effect_keeps s q z e (Replies r) = reply_keeps s q z e r
+effect_keeps s q z e (Ends status) = keeps_others s q (after_effect s q z e (Ends status)) (after_end z status) refl refl
 
-effect_if_puts : (s : SyncState) (q : ℕ) (y : Process) (o : Option Effect) → Puts s q (after_effect_if s q y o)
-effect_if_puts s q y None = puts_none s q (impossible q s) refl
-effect_if_puts s q y (Some e) = effect_puts s q y e e.told
+effect_if_keeps : (s : SyncState) (q : ℕ) (z : Process) (o : Option Effect) → Keeps s q (after_effect_if s q z o)
+effect_if_keeps s q z None = keeps_all s q (impossible q s) refl refl
+effect_if_keeps s q z (Some e) = effect_keeps s q z e e.told
 
-enter_puts : (s : SyncState) (q : ℕ) (o : Option Process) → Puts s q (after_enter s q o)
-enter_puts s q None = puts_none s q (impossible q s) refl
-enter_puts s q (Some y) = elim (is_some y.status) as (λ b. Puts s q (if b then impossible q s else after_effect_if s q y (effect_at (shared s) y (stands_at y.state)))) [
-  | true ↦ puts_none s q (impossible q s) refl
-  | false ↦ effect_if_puts s q y (effect_at (shared s) y (stands_at y.state))
+enter_keeps : (s : SyncState) (q : ℕ) (o : Option Process) → Keeps s q (after_enter s q o)
+enter_keeps s q None = keeps_all s q (impossible q s) refl refl
+enter_keeps s q (Some z) = elim (is_some z.status) as (λ b. Keeps s q (if b then impossible q s else after_effect_if s q z (effect_at (shared s) q z (stands_at z.state)))) [
+  | true ↦ keeps_all s q (impossible q s) refl refl
+  | false ↦ effect_if_keeps s q z (effect_at (shared s) q z (stands_at z.state))
 ]
 
-stays : (s : SyncState) (p q : ℕ) (t : Transition) → Puts s q t → (p ≡ q → ⊥) → process_at t.state.processes p ≡ process_at s.processes p
-stays s p q t h ne = ap (λ ps. process_at ps p) h.1 ∙ h.2 p ne
+-- an event leaves a process that is there, and of which it is not, as it is
+pub step_keeps : (s : SyncState) (p : ℕ) (y : Process) (e : Event) → process_at s.processes p ≡ Some y → IsNotOf p e → process_at (step s e).state.processes p ≡ Some y
+step_keeps s p y (Turn q n) at ne = (turn_keeps s q n (process_at s.processes q)).others p y at ne
+step_keeps s p y (Enter q) at ne = (enter_keeps s q (process_at s.processes q)).others p y at ne
+step_keeps s p y Cut at ne = at
+step_keeps s p y (Complete k) at ne = at
+step_keeps s p y (Fail k) at ne = at
 
--- an event leaves a process of which it is not as it is
-pub step_keeps : (s : SyncState) (p : ℕ) (e : Event) → IsNotOf p e → process_at (step s e).state.processes p ≡ process_at s.processes p
-step_keeps s p (Turn q n) ne = stays s p q (step s (Turn q n)) (turn_puts s q n (process_at s.processes q)) ne
-step_keeps s p (Enter q) ne = stays s p q (step s (Enter q)) (enter_puts s q (process_at s.processes q)) ne
-step_keeps s p Cut ne = refl
-step_keeps s p (Complete k) ne = refl
-step_keeps s p (Fail k) ne = refl
-
-same_length : (s : SyncState) (q : ℕ) (t : Transition) → Puts s q t → length t.state.processes ≡ length s.processes
-same_length s q t h = ap (λ ps. length ps) h.1 ∙ h.3
-
--- and there are as many processes as before
-pub step_length : (s : SyncState) (e : Event) → length (step s e).state.processes ≡ length s.processes
-step_length s (Turn q n) = same_length s q (step s (Turn q n)) (turn_puts s q n (process_at s.processes q))
-step_length s (Enter q) = same_length s q (step s (Enter q)) (enter_puts s q (process_at s.processes q))
-step_length s Cut = refl
-step_length s (Complete k) = refl
-step_length s (Fail k) = refl
+-- and there are as many processes as before, and the one that is made
+pub step_length : (s : SyncState) (e : Event) → length (step s e).state.processes ≡ length s.processes + made_count (step s e).entry.child
+step_length s (Turn q n) = (turn_keeps s q n (process_at s.processes q)).as_many
+step_length s (Enter q) = (enter_keeps s q (process_at s.processes q)).as_many
+step_length s Cut = none_more (length s.processes) None refl
+step_length s (Complete k) = none_more (length s.processes) None refl
+step_length s (Fail k) = none_more (length s.processes) None refl

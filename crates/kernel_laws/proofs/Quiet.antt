@@ -5,10 +5,10 @@ use Rattle.std.proofs.lemmas.Bool.{eqb-true, eq-eqb, false≢true, and_parts, or
 use Rattle.disk_model.specs.declared.change.Change.{Change}
 use Rattle.kernel_model.specs.declared.carrier.Carrier.{Carrier}
 use Rattle.kernel_model.specs.declared.carrier.Carrier.TheVariants.{Proc, File, Names, Pipe, Pipes, Tasks, Tape}
-use Rattle.kernel_model.specs.Entries.{Entry, Item, meets, is_same}
+use Rattle.kernel_model.specs.Entries.{Entry, Item, Got, meets, is_same}
 use Rattle.kernel_model.specs.Paths.{wanted, is_settled_from, is_settled, change_count, changes_of, with_change}
-use Rattle.kernel_model.specs.Steps.{own_entry}
-use Rattle.kernel_model.specs.Shown.{Given, given_by, each_from, front, released, printed, bytes_for, told, items_for}
+use Rattle.kernel_model.specs.Steps.{own_entry, zero_reply}
+use Rattle.kernel_model.specs.Shown.{Given, given_by, each_from, front, released, printed, bytes_for, told, told_from, told_with, is_made, items_for}
 use Rattle.kernel_model.specs.Views.{contents, SameGiven}
 use Rattle.kernel_model.proofs.Meets.{meets-append}
 use Rattle.kernel_model.proofs.Runs.{append-nil}
@@ -19,9 +19,9 @@ only_own (Proc p ∷ []) (Proc q ∷ []) = p == q
 only_own (Proc p ∷ []) [] = true
 only_own _ _ = false
 
--- it touched nothing but its own process
+-- it touched nothing but its own process, told it nothing and made none
 abbrev pub is_quiet : Entry → Bool
-is_quiet d = not (is_some d.change) && (not (is_some d.output) && (not (is_some d.item) && only_own d.reads d.writes))
+is_quiet d = not (is_some d.change) && (not (is_some d.output) && (not (is_some d.item) && (not (is_some d.child) && only_own d.reads d.writes)))
 
 abbrev pub telling : List Entry → List Entry
 telling [] = []
@@ -53,6 +53,7 @@ pub record Quiet (d : Entry) : Type 0 where
   pub change : d.change ≡ None
   pub output : d.output ≡ None
   pub item : d.item ≡ None
+  pub child : d.child ≡ None
   pub carriers : (p : ℕ) × (d.reads ≡ Proc p ∷ []) × ((d.writes ≡ Proc p ∷ []) ⊎ (d.writes ≡ []))
 
 own_carriers : (rs ws : List Carrier) → only_own rs ws ≡ true → (p : ℕ) × (rs ≡ Proc p ∷ []) × ((ws ≡ Proc p ∷ []) ⊎ (ws ≡ []))
@@ -65,11 +66,13 @@ quiet_of d h =
     let a = and_parts (not (is_some d.change)) _ h in
     let b = and_parts (not (is_some d.output)) _ a.1 in
     let e = and_parts (not (is_some d.item)) _ b.1 in
+    let f = and_parts (not (is_some d.child)) _ e.1 in
     record {
       change = is_none_of d.change a.0;
       output = is_none_of d.output b.0;
       item = is_none_of d.item e.0;
-      carriers = own_carriers d.reads d.writes e.1;
+      child = is_none_of d.child f.0;
+      carriers = own_carriers d.reads d.writes f.1;
     }
 
 -- the changes are the same
@@ -212,35 +215,75 @@ each_told {A} c f none past (d ∷ ds) =
         ap (λ zs. zs ++ marked c (each_from f (telling past ++ d ∷ []) (telling ds))) (marks_of c past d (f d))
         ∙ sym (marked-append c (given_by (telling past) d (f d)) (each_from f (telling past ++ d ∷ []) (telling ds)))
 
-released_told : {A : Type 0} (c : ℕ) (f : Entry → List A) → ((d : Entry) → Quiet d → f d ≡ []) → (ds : List Entry)
-    → released c (each_from f [] ds) ≡ released c (each_from f [] (telling ds))
-released_told c f none ds =
-    released_seen c (each_from f [] ds)
-    ∙ ap seen (each_told c f none [] ds)
-    ∙ sym (released_seen c (each_from f [] (telling ds)))
-
 contents_marked : {A : Type 0} (c : ℕ) (xs : List (Given A)) → contents xs ≡ map (λ (m : Mark A). m.what) (marked c xs)
 contents_marked c [] = refl
 contents_marked c (x ∷ xs) = ap (λ ys. x.what ∷ ys) (contents_marked c xs)
 
-contents_told : {A : Type 0} (f : Entry → List A) → ((d : Entry) → Quiet d → f d ≡ []) → (ds : List Entry)
-    → contents (each_from f [] ds) ≡ contents (each_from f [] (telling ds))
-contents_told {A} f none ds =
-    contents_marked 0 (each_from f [] ds)
-    ∙ ap (λ (ms : List (Mark A)). map (λ (m : Mark A). m.what) ms) (each_told 0 f none [] ds)
-    ∙ sym (contents_marked 0 (each_from f [] (telling ds)))
+-- the same was given where it is settled alike
+given_same : {A : Type 0} (xs ys : List (Given A)) → ((c : ℕ) → marked c xs ≡ marked c ys) → SameGiven xs ys
+given_same {A} xs ys same = record {
+  whole = contents_marked 0 xs ∙ ap (λ (ms : List (Mark A)). map (λ (m : Mark A). m.what) ms) (same 0) ∙ sym (contents_marked 0 ys);
+  fronts = λ c. released_seen c xs ∙ ap seen (same c) ∙ sym (released_seen c ys);
+}
 
 -- the same is given without the quiet events
-given_told : {A : Type 0} (f : Entry → List A) → ((d : Entry) → Quiet d → f d ≡ []) → (ds : List Entry)
-    → SameGiven (each_from f [] ds) (each_from f [] (telling ds))
-given_told f none ds = record { whole = contents_told f none ds; fronts = λ c. released_told c f none ds }
-
 pub printed_told : (t : ℕ) (ds : List Entry) → SameGiven (printed t ds) (printed t (telling ds))
-printed_told t ds = given_told (λ d. bytes_for t d.output) (λ d q. ap (bytes_for t) q.output) ds
+printed_told t ds = given_same (printed t ds) (printed t (telling ds)) (λ c. each_told c (λ d. bytes_for t d.output) (λ d q. ap (bytes_for t) q.output) [] ds)
 
 no_items : (b : Bool) (o : Option Item) → o ≡ None → (if b then option_to_list o else []) ≡ []
 no_items true o h = ap (λ (x : Option Item). option_to_list x) h
 no_items false o h = refl
 
+-- what each process was told is settled alike
+abbrev SameTold : ℕ → (ℕ → List (Given Item)) → (ℕ → List (Given Item)) → Type 0
+SameTold c before after = (p : ℕ) → marked c (before p) ≡ marked c (after p)
+
+-- what process p was told after one more event, by whether the event made p
+abbrev pub told_if : (ℕ → List (Given Item)) → List Entry → Entry → ℕ → Bool → List (Given Item)
+told_if before past d p made = if made then before d.process ++ given_by past d (Got zero_reply ∷ []) else before p ++ given_by past d (items_for p d)
+
+-- where it was so before an event, it is so after it
+marked_more : {A : Type 0} (c : ℕ) (past : List Entry) (d : Entry) (xs ys : List (Given A)) (zs : List A) → marked c xs ≡ marked c ys
+    → marked c (xs ++ given_by past d zs) ≡ marked c (ys ++ given_by (telling past) d zs)
+marked_more {A} c past d xs ys zs same =
+    marked-append c xs (given_by past d zs)
+    ∙ ap (λ (ms : List (Mark A)). ms ++ marked c (given_by past d zs)) same
+    ∙ ap (λ (ms : List (Mark A)). marked c ys ++ ms) (marks_of c past d zs)
+    ∙ sym (marked-append c ys (given_by (telling past) d zs))
+
+loud_tells : (c : ℕ) (before after : ℕ → List (Given Item)) (past : List Entry) (d : Entry) → SameTold c before after
+    → SameTold c (told_with before past d) (told_with after (telling past) d)
+loud_tells c before after past d same p = elim (is_made d.child p) as (λ b. marked c (told_if before past d p b) ≡ marked c (told_if after (telling past) d p b)) [
+  | true ↦ marked_more c past d (before d.process) (after d.process) (Got zero_reply ∷ []) (same d.process)
+  | false ↦ marked_more c past d (before p) (after p) (items_for p d) (same p)
+]
+
+-- a quiet event tells no process anything
+quiet_tells : (before : ℕ → List (Given Item)) (past : List Entry) (d : Entry) → Quiet d → (p : ℕ) → told_with before past d p ≡ before p
+quiet_tells before past d q p =
+    ap (λ (o : Option ℕ). told_if before past d p (is_made o p)) q.child
+    ∙ ap (λ (xs : List Item). before p ++ given_by past d xs) (no_items (d.process == p) d.item q.item)
+    ∙ append-nil (before p)
+
+-- so it stays through the events behind one, where they keep it so
+marks_on : (c : ℕ) (ds past : List Entry) (d : Entry) (before after : ℕ → List (Given Item)) (b : Bool) → is_quiet d ≡ b → SameTold c before after
+    → ((now : ℕ → List (Given Item)) → SameTold c (told_with before past d) now
+    → SameTold c (told_from (told_with before past d) (past ++ d ∷ []) ds) (told_from now (telling (past ++ d ∷ [])) (telling ds)))
+    → SameTold c (told_from before past (d ∷ ds)) (told_from after (telling past) (if b then telling ds else d ∷ telling ds))
+marks_on c ds past d before after true h same on =
+    subst (λ (ps : List Entry). SameTold c (told_from before past (d ∷ ds)) (told_from after ps (telling ds)))
+    (telling-append past (d ∷ []) ∙ ap (λ (b : Bool). telling past ++ (if b then [] else d ∷ [])) h ∙ append-nil (telling past))
+    (on after (λ p. ap (λ (xs : List (Given Item)). marked c xs) (quiet_tells before past d (quiet_of d h) p) ∙ same p))
+marks_on c ds past d before after false h same on =
+    subst (λ (ps : List Entry). SameTold c (told_from before past (d ∷ ds)) (told_from (told_with after (telling past) d) ps (telling ds)))
+    (telling-append past (d ∷ []) ∙ ap (λ (b : Bool). telling past ++ (if b then [] else d ∷ [])) h)
+    (on (told_with after (telling past) d) (loud_tells c before after past d same))
+
+marks_told : (c : ℕ) (ds past : List Entry) (before after : ℕ → List (Given Item)) → SameTold c before after
+    → SameTold c (told_from before past ds) (told_from after (telling past) (telling ds))
+marks_told c [] past before after same = same
+marks_told c (d ∷ ds) past before after same =
+    marks_on c ds past d before after (is_quiet d) refl same (λ now tells. marks_told c ds (past ++ d ∷ []) (told_with before past d) now tells)
+
 pub told_told : (p : ℕ) (ds : List Entry) → SameGiven (told p ds) (told p (telling ds))
-told_told p ds = given_told (items_for p) (λ d q. no_items (d.process == p) d.item q.item) ds
+told_told p ds = given_same (told p ds) (told p (telling ds)) (λ c. marks_told c ds [] (λ q. []) (λ q. []) (λ q. refl) p)

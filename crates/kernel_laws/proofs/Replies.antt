@@ -6,22 +6,24 @@ use Rattle.machine_model.specs.declared.stop.Stop.{Stop}
 use Rattle.machine_model.specs.declared.stop.Stop.TheVariants.{Limit, Call, Trap}
 use Rattle.machine_model.specs.States.{State, stands_at}
 use Rattle.kernel_model.specs.Entries.{Entry, Item, Got, End}
-use Rattle.kernel_model.specs.State.{SyncState, shared, Process, process_at, with_process}
+use Rattle.kernel_model.specs.State.{SyncState, shared, Process, process_at, put_process, with_process}
 use Rattle.kernel_model.specs.Requests.{request_of}
 use Rattle.kernel_model.specs.Rows.{Effect, row, row_end, cause_number}
-use Rattle.kernel_model.specs.Steps.{Transition, own_entry, impossible, after_run, after_reply, after_end, after_turn, effect_at, after_effect, after_effect_if, after_enter, step}
-use Rattle.kernel_model.specs.Shown.{Given, given_by, items_for, told, replies_in}
+use Rattle.kernel_model.specs.Steps.{Transition, own_entry, impossible, after_run, after_reply, zero_reply, forked, after_end, after_turn, effect_at, after_effect, after_effect_if, after_enter, step}
+use Rattle.kernel_model.specs.Shown.{Given, given_by, is_made, items_for, told, replies_in}
 use Rattle.kernel_model.specs.World.{World, happens, after}
 use Rattle.kernel_model.specs.declared.event.Event.{Event}
 use Rattle.kernel_model.specs.declared.event.Event.TheVariants.{Turn, Enter, Cut, Complete, Fail}
 use Rattle.kernel_model.specs.declared.request.Verdict.{Verdict}
 use Rattle.kernel_model.specs.declared.request.Verdict.TheVariants.{Waits, Replies, Ends}
-use Rattle.kernel_model.proofs.Runs.{append-nil, each_from-append}
+use Rattle.kernel_model.proofs.Runs.{append-nil, told-entry}
 use Rattle.kernel_model.specs.Views.{contents}
 use Rattle.kernel_laws.specs.Promises.{ComesTo, IsRunOn}
 use Rattle.kernel_laws.proofs.Machines.{comes_on, comes_replied}
-use Rattle.kernel_laws.proofs.Processes.{at_same}
+use Rattle.kernel_laws.proofs.Processes.{at_same, at_append}
 use Rattle.kernel_laws.proofs.Others.{step_keeps}
+use Rattle.kernel_laws.proofs.Children.{step_not_made}
+use Rattle.kernel_laws.proofs.Quiet.{told_if}
 
 -- what is given, and the replies among it, one entry after the other
 contents-append : {A : Type 0} (xs ys : List (Given A)) → contents (xs ++ ys) ≡ contents xs ++ contents ys
@@ -37,15 +39,31 @@ replies_in-append [] ys = refl
 replies_in-append (Got r ∷ xs) ys = ap (λ rs. r ∷ rs) (replies_in-append xs ys)
 replies_in-append (End status ∷ xs) ys = replies_in-append xs ys
 
-abbrev replies_of : ℕ → List Entry → List Reply
+abbrev pub replies_of : ℕ → List Entry → List Reply
 replies_of p log = replies_in (contents (told p log))
 
-replies_of-entry : (p : ℕ) (log : List Entry) (e : Entry) → replies_of p (log ++ e ∷ []) ≡ replies_of p log ++ replies_in (items_for p e)
-replies_of-entry p log e =
-    ap (λ xs. replies_in (contents xs)) (each_from-append (items_for p) [] log e)
-    ∙ ap (λ xs. replies_in xs) (contents-append (told p log) (given_by log e (items_for p e)))
-    ∙ replies_in-append (contents (told p log)) (contents (given_by log e (items_for p e)))
-    ∙ ap (λ xs. replies_of p log ++ replies_in xs) (contents-given_by log e (items_for p e))
+replies_more : (xs : List (Given Item)) (past : List Entry) (e : Entry) (items : List Item)
+    → replies_in (contents (xs ++ given_by past e items)) ≡ replies_in (contents xs) ++ replies_in items
+replies_more xs past e items =
+    ap (λ ys. replies_in ys) (contents-append xs (given_by past e items))
+    ∙ replies_in-append (contents xs) (contents (given_by past e items))
+    ∙ ap (λ ys. replies_in (contents xs) ++ replies_in ys) (contents-given_by past e items)
+
+-- what each process was told so far
+abbrev told_so : List Entry → ℕ → List (Given Item)
+told_so log q = told q log
+
+-- a process that is not made by an event has what it is told by it after its own
+replies_of-entry : (p : ℕ) (log : List Entry) (e : Entry) → is_made e.child p ≡ false → replies_of p (log ++ e ∷ []) ≡ replies_of p log ++ replies_in (items_for p e)
+replies_of-entry p log e h =
+    ap (λ (xs : List (Given Item)). replies_in (contents xs)) (told-entry p log e ∙ ap (told_if (told_so log) log e p) h)
+    ∙ replies_more (told p log) log e (items_for p e)
+
+-- and one that is has 0 after its parent's
+pub replies_of-made : (p : ℕ) (log : List Entry) (e : Entry) → is_made e.child p ≡ true → replies_of p (log ++ e ∷ []) ≡ replies_of e.process log ++ zero_reply ∷ []
+replies_of-made p log e h =
+    ap (λ (xs : List (Given Item)). replies_in (contents xs)) (told-entry p log e ∙ ap (told_if (told_so log) log e p) h)
+    ∙ replies_more (told e.process log) log e (Got zero_reply ∷ [])
 
 -- The process that stands there now went on from the old one by these replies.
 abbrev GoesOn : Process → List Reply → Option Process → Type 0
@@ -109,7 +127,7 @@ effect_goes : (s : SyncState) (p : ℕ) (old : Process) (e : Effect) (v : Verdic
 effect_goes s p old e Waits at call = stands_still old old _ _ at (no_item p (after_effect s p old e Waits).entry refl) refl
 effect_goes s p old e (Replies r) at call = (
   after_reply old e r,
-  at_same s.processes p (after_reply old e r) old at,
+  at_append (put_process s.processes p (after_reply old e r)) (forked old e.child) p (after_reply old e r) (at_same s.processes p (after_reply old e r) old at),
   λ first before come.
       subst (λ (xs : List Reply). ComesTo first (before ++ xs) (after_reply old e r).state) (sym (own_item p (Some (Got r))))
       (comes_replied first before old.state r call come),
@@ -117,16 +135,16 @@ effect_goes s p old e (Replies r) at call = (
 effect_goes s p old e (Ends status) at call = end_goes s p old e status at
 
 enter_goes : (s : SyncState) (p : ℕ) (old : Process) → process_at s.processes p ≡ Some old → OwnGoesOn s p old (after_enter s p (Some old))
-enter_goes s p old at = elim (is_some old.status) as (λ b. OwnGoesOn s p old (if b then impossible p s else after_effect_if s p old (effect_at (shared s) old (stands_at old.state)))) [
+enter_goes s p old at = elim (is_some old.status) as (λ b. OwnGoesOn s p old (if b then impossible p s else after_effect_if s p old (effect_at (shared s) p old (stands_at old.state)))) [
   | true ↦ impossible_goes s p old at
   | false ↦ by_stop (stands_at old.state) refl
 ]
   where
-    by_stop : (o : Option Stop) → stands_at old.state ≡ o → OwnGoesOn s p old (after_effect_if s p old (effect_at (shared s) old o))
+    by_stop : (o : Option Stop) → stands_at old.state ≡ o → OwnGoesOn s p old (after_effect_if s p old (effect_at (shared s) p old o))
     by_stop None h = impossible_goes s p old at
     by_stop (Some Limit) h = impossible_goes s p old at
-    by_stop (Some Call) h = let e = row (shared s) old.descriptors (request_of old.state) in effect_goes s p old e e.told at h
-    by_stop (Some (Trap cause)) h = end_goes s p old (row_end (256 + cause_number cause)) (256 + cause_number cause) at
+    by_stop (Some Call) h = let e = row (shared s) p old.descriptors old.children (request_of old.state) in effect_goes s p old e e.told at h
+    by_stop (Some (Trap cause)) h = end_goes s p old (row_end old.descriptors (256 + cause_number cause)) (256 + cause_number cause) at
 
 -- an event is of the process that its entry names
 turn_is_of : (s : SyncState) (q n : ℕ) (o : Option Process) → (after_turn s q n o).entry.process ≡ q
@@ -147,9 +165,9 @@ effect_if_is_of s q y (Some e) = effect_is_of s q y e e.told
 
 enter_is_of : (s : SyncState) (q : ℕ) (o : Option Process) → (after_enter s q o).entry.process ≡ q
 enter_is_of s q None = refl
-enter_is_of s q (Some y) = elim (is_some y.status) as (λ b. (if b then impossible q s else after_effect_if s q y (effect_at (shared s) y (stands_at y.state))).entry.process ≡ q) [
+enter_is_of s q (Some y) = elim (is_some y.status) as (λ b. (if b then impossible q s else after_effect_if s q y (effect_at (shared s) q y (stands_at y.state))).entry.process ≡ q) [
   | true ↦ refl
-  | false ↦ effect_if_is_of s q y (effect_at (shared s) y (stands_at y.state))
+  | false ↦ effect_if_is_of s q y (effect_at (shared s) q y (stands_at y.state))
 ]
 
 -- a process goes on through each event
@@ -158,28 +176,35 @@ step_goes s p old (Turn q n) at = elim (q == p) as (λ b. (q == p) ≡ b → Own
   | true ↦ λ h. subst (λ (r : ℕ). OwnGoesOn s p old (step s (Turn r n))) (sym (eqb-true q p h))
       (subst (λ (o : Option Process). OwnGoesOn s p old (after_turn s p n o)) (sym at) (turn_goes s p n old at))
   | false ↦ λ h. let ne : (p ≡ q → ⊥) = λ same. eqb-false q p h (sym same) in
-      stands_still old old _ _ (step_keeps s p (Turn q n) ne ∙ at)
+      stands_still old old _ _ (step_keeps s p old (Turn q n) at ne)
       (item_of_other p (step s (Turn q n)).entry (λ same. ne (same ∙ turn_is_of s q n (process_at s.processes q)))) refl
 ] refl
 step_goes s p old (Enter q) at = elim (q == p) as (λ b. (q == p) ≡ b → OwnGoesOn s p old (step s (Enter q))) [
   | true ↦ λ h. subst (λ (r : ℕ). OwnGoesOn s p old (step s (Enter r))) (sym (eqb-true q p h))
       (subst (λ (o : Option Process). OwnGoesOn s p old (after_enter s p o)) (sym at) (enter_goes s p old at))
   | false ↦ λ h. let ne : (p ≡ q → ⊥) = λ same. eqb-false q p h (sym same) in
-      stands_still old old _ _ (step_keeps s p (Enter q) ne ∙ at)
+      stands_still old old _ _ (step_keeps s p old (Enter q) at ne)
       (item_of_other p (step s (Enter q)).entry (λ same. ne (same ∙ enter_is_of s q (process_at s.processes q)))) refl
 ] refl
 step_goes s p old Cut at = stands_still old old _ _ at (no_item p (step s Cut).entry refl) refl
 step_goes s p old (Complete k) at = stands_still old old _ _ at (no_item p (step s (Complete k)).entry refl) refl
 step_goes s p old (Fail k) at = stands_still old old _ _ at (no_item p (step s (Fail k)).entry refl) refl
 
+-- so one that is there goes on from where it stands
+pub goes_on : (w : World) (p : ℕ) (old : Process) (e : Event) (first : State) → process_at w.sync.processes p ≡ Some old → ComesTo first (replies_of p w.log) old.state
+    → (new : Process) × (process_at (happens w e).sync.processes p ≡ Some new) × ComesTo first (replies_of p (happens w e).log) new.state
+goes_on w p old e first at comes =
+    let g = step_goes w.sync p old e at in
+    let told = replies_of-entry p w.log (step w.sync e).entry (step_not_made w.sync p old e at) in (
+      g.0,
+      g.1,
+      subst (λ (rs : List Reply). ComesTo first rs g.0.state) (sym told) (g.2 first (replies_of p w.log) comes),
+    )
+
 pub happens_runs : (w : World) (p : ℕ) (first : Process) (e : Event) → IsRunOn w p first → IsRunOn (happens w e) p first
 happens_runs w p first e h =
-    let g = step_goes w.sync p h.process e h.there in
-    record {
-      process = g.0;
-      there = g.1;
-      comes = subst (λ (rs : List Reply). ComesTo first.state rs g.0.state) (sym (replies_of-entry p w.log (step w.sync e).entry)) (g.2 first.state (replies_of p w.log) h.comes);
-    }
+    let g = goes_on w p h.process e first.state h.there h.comes in
+    record { process = g.0; there = g.1; comes = g.2 }
 
 pub after_runs : (es : List Event) (w : World) (p : ℕ) (first : Process) → IsRunOn w p first → IsRunOn (after w es) p first
 after_runs [] w p first h = h

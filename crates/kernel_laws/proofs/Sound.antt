@@ -1,56 +1,111 @@
--- All along a run descriptors stand for files that are there, memories hold bytes, and each change is possible where it comes.
-use Rattle.std.proofs.Common.{◌≡◌, ℕ, zero, suc, ◌+◌, ◌≤◌, Bool, true, false, if◌then◌else◌, List, [], ◌∷◌, length, Option, Some, None, is_some, IfSome, refl, arith}
+-- All along a run descriptors stand for files that are there, memories, tapes, pipes and files hold bytes, and each change is
+-- possible where it comes.
+use Rattle.std.proofs.Common.{ℕ, zero, suc, ◌+◌, ◌<◌, ◌≤◌, Bool, true, false, if◌then◌else◌, List, [], ◌∷◌, length, slice_get, Option, Some, None, is_some, IfSome, sym, subst, arith}
 use Rattle.std.specs.List.{AllByRecursion}
 use Rattle.disk_model.specs.declared.change.Change.{Change}
 use Rattle.disk_model.specs.declared.change.NamedFile.{NamedFile}
+use Rattle.disk_model.specs.Files.{IsMade}
+use Rattle.disk_model.proofs.Reading.{made_more}
+use Rattle.disk_model.proofs.Tidy.{IsTidy, tidy_after, all_append}
 use Rattle.machine_model.specs.Access.{HoldsBytes}
 use Rattle.machine_model.specs.States.{stands_at}
 use Rattle.machine_model.specs.declared.reply.Reply.{Reply}
-use Rattle.kernel_model.specs.Bytes.{ProgramsHoldBytes}
+use Rattle.kernel_model.specs.Bytes.{ProgramsHoldBytes, TapesHoldBytes}
 use Rattle.kernel_model.specs.Rows.{Effect}
-use Rattle.kernel_model.specs.State.{SyncState, Process, process_at, put_process, with_process, shared, changed_by}
-use Rattle.kernel_model.specs.Steps.{Transition, own_entry, impossible, after_run, after_turn, effect_at, after_reply, after_end, after_effect, after_effect_if, after_enter, step}
-use Rattle.kernel_model.specs.World.{BootProgram, Boot, processes_from, begun}
+use Rattle.kernel_model.specs.State.{SyncState, PipeState, TapeState, Process, process_at, put_process, with_process, shared, changed_by, with_place, read_by, new_pipe, with_pipe, stepped, all_stepped}
+use Rattle.kernel_model.specs.Steps.{Transition, own_entry, impossible, after_run, after_turn, effect_at, after_reply, zero_reply, forked, after_end, after_effect, after_effect_if, after_enter, step}
+use Rattle.kernel_model.specs.World.{BootProgram, Boot, processes_from, tapes_of, tape_count, begun}
+use Rattle.kernel_model.specs.declared.descriptor.PipeEnd.TheVariants.{Read, Write}
+use Rattle.kernel_model.specs.declared.effect.PipeStep.{PipeStep}
+use Rattle.kernel_model.specs.declared.effect.PipeStep.TheVariants.{Open, Put, Take, Add, Drop}
+use Rattle.kernel_model.specs.declared.effect.TapeRead.{TapeRead}
 use Rattle.kernel_model.specs.declared.event.Event.{Event}
 use Rattle.kernel_model.specs.declared.event.Event.TheVariants.{Turn, Enter, Cut, Complete, Fail}
 use Rattle.kernel_model.specs.declared.request.Verdict.{Verdict}
 use Rattle.kernel_model.specs.declared.request.Verdict.TheVariants.{Waits, Replies, Ends}
-use Rattle.kernel_laws.proofs.Bytes.{run_holds, replied_holds}
-use Rattle.kernel_laws.proofs.Each.{each_get, each_set, each_more}
-use Rattle.kernel_laws.proofs.Possible.{NameFiles, name_more, name_free, name_closed, name_set, changed-grows, changed-few, IsPossible, TellsBytes, IsSound, effect_sound}
+use Rattle.kernel_laws.proofs.Bytes.{AreBytes, run_holds, replied_holds}
+use Rattle.kernel_laws.proofs.Each.{each_at, each_set, each_more}
+use Rattle.kernel_laws.proofs.Possible.{NameFiles, name_more, name_free, name_closed, name_set, changed-grows, IsPossible, TellsBytes, PutsBytes, PutBytes, PipeHoldsBytes, TapeHoldsBytes, IsReadable, IsSound, effect_sound}
 
 -- a process whose descriptors stand for some of so many files, and whose memory holds bytes
 pub record IsFit (count : ℕ) (p : Process) : Type 0 where
   pub names : NameFiles count p.descriptors
   pub holds : HoldsBytes p.state.hart.memory
 
--- a state with at most 32 files, of which each process is so
+-- a state of which each process is so, with files that possible changes made, and pipes and tapes that hold bytes
 pub record AreFit (s : SyncState) : Type 0 where
-  pub few : length s.files ≤ 32
+  pub made : IsMade s.files
+  pub pipes : AllByRecursion PipeHoldsBytes s.pipes
+  pub tapes : AllByRecursion TapeHoldsBytes s.tapes
   pub each : AllByRecursion (IsFit (length s.files)) s.processes
 
-process_fit : (count : ℕ) (ps : List Process) (pid : ℕ) (p : Process) → AllByRecursion (IsFit count) ps → process_at ps pid ≡ Some p → IsFit count p
-process_fit count ps zero p h e = cc
-process_fit count ps (suc k) p h e = each_get (IsFit count) ps k p h e
+-- files that possible changes made are few, and hold bytes
+made_tidy : (files : List NamedFile) → IsMade files → IsTidy files
+made_tidy files made = subst IsTidy (sym made.2) (tidy_after made.0 made.1)
+
+-- so are those of a state that is fit
+readable : (s : SyncState) → AreFit s → IsReadable (shared s)
+readable s h = record { files = made_tidy s.files h.made; pipes = h.pipes; tapes = h.tapes }
+
+process_fit : (count : ℕ) (ps : List Process) (pid : ℕ) → AllByRecursion (IsFit count) ps → IfSome (process_at ps pid) (IsFit count)
+process_fit count ps zero h = tt
+process_fit count ps (suc k) h = each_at (IsFit count) ps k h
 
 put_fit : (count : ℕ) (ps : List Process) (pid : ℕ) (p : Process) → IsFit count p → AllByRecursion (IsFit count) ps → AllByRecursion (IsFit count) (put_process ps pid p)
 put_fit count ps zero p f h = h
 put_fit count ps (suc k) p f h = each_set (IsFit count) ps k p f h
 
 -- ---- the files after a change that is possible
-changed-fit : (s : SyncState) (o : Option Change) → AreFit s → IfSome o (IsPossible s.files)
-    → AreFit (record { processes = s.processes; files = changed_by s.files o; tapes = s.tapes })
-changed-fit s None h possible = record { few = h.few; each = h.each }
-changed-fit s (Some c) h possible = record {
-  few = changed-few s.files c h.few possible.1;
-  each = each_more (IsFit (length s.files)) (IsFit (length (changed_by s.files (Some c))))
-      (λ (p : Process) f. record { names = name_more (length s.files) (length (changed_by s.files (Some c))) (changed-grows s.files c) p.descriptors f.names; holds = f.holds })
-      s.processes h.each;
-}
+made_changed : (files : List NamedFile) (o : Option Change) → IsMade files → IfSome o (IsPossible files) → IsMade (changed_by files o)
+made_changed files None made possible = made
+made_changed files (Some c) made possible = made_more files c made possible.0 possible.1
 
 grows : (files : List NamedFile) (o : Option Change) → length files ≤ length (changed_by files o)
 grows files None = omega arith
 grows files (Some c) = changed-grows files c
+
+-- each process is fit still, since no change takes a file away
+one_still : (files : List NamedFile) (o : Option Change) (p : Process) → IsFit (length files) p → IsFit (length (changed_by files o)) p
+one_still files o p f = record { names = name_more (length files) (length (changed_by files o)) (grows files o) p.descriptors f.names; holds = f.holds }
+
+still_fit : (files : List NamedFile) (o : Option Change) (ps : List Process) → AllByRecursion (IsFit (length files)) ps
+    → AllByRecursion (IsFit (length (changed_by files o))) ps
+still_fit files o ps h = each_more (IsFit (length files)) (IsFit (length (changed_by files o))) (one_still files o) ps h
+
+-- ---- the tapes after a read
+
+placed_holds : (tapes : List TapeState) (t count : ℕ) (o : Option TapeState) → AllByRecursion TapeHoldsBytes tapes → IfSome o TapeHoldsBytes
+    → AllByRecursion TapeHoldsBytes (with_place tapes t count o)
+placed_holds tapes t count None h holds = h
+placed_holds tapes t count (Some tape) h holds = each_set TapeHoldsBytes tapes t (record tape { place = tape.place + count }) holds h
+
+read_holds : (tapes : List TapeState) (o : Option TapeRead) → AllByRecursion TapeHoldsBytes tapes → AllByRecursion TapeHoldsBytes (read_by tapes o)
+read_holds tapes None h = h
+read_holds tapes (Some r) h = placed_holds tapes r.tape r.count (slice_get tapes r.tape) h (each_at TapeHoldsBytes tapes r.tape h)
+
+-- ---- the pipes after steps
+
+one_holds : (pipes : List PipeState) (k : ℕ) (o : Option PipeState) (f : PipeState → PipeState) → ((p : PipeState) → PipeHoldsBytes p → PipeHoldsBytes (f p))
+    → AllByRecursion PipeHoldsBytes pipes → IfSome o PipeHoldsBytes → AllByRecursion PipeHoldsBytes (with_pipe pipes k o f)
+one_holds pipes k None f still h holds = h
+one_holds pipes k (Some p) f still h holds = each_set PipeHoldsBytes pipes k (f p) (still p holds) h
+
+pipe_holds : (pipes : List PipeState) (k : ℕ) (f : PipeState → PipeState) → ((p : PipeState) → PipeHoldsBytes p → PipeHoldsBytes (f p))
+    → AllByRecursion PipeHoldsBytes pipes → AllByRecursion PipeHoldsBytes (with_pipe pipes k (slice_get pipes k) f)
+pipe_holds pipes k f still h = one_holds pipes k (slice_get pipes k) f still h (each_at PipeHoldsBytes pipes k h)
+
+step_holds : (pipes : List PipeState) (step : PipeStep) → PutsBytes step → AllByRecursion PipeHoldsBytes pipes → AllByRecursion PipeHoldsBytes (stepped pipes step)
+step_holds pipes Open puts h = all_append PipeHoldsBytes pipes (new_pipe ∷ []) h (tt, tt)
+step_holds pipes (Put k bytes) puts h = pipe_holds pipes k _ (λ p holds. all_append (λ (b : ℕ). b < 256) p.written bytes holds puts) h
+step_holds pipes (Take k count) puts h = pipe_holds pipes k _ (λ p holds. holds) h
+step_holds pipes (Add (Read k)) puts h = pipe_holds pipes k _ (λ p holds. holds) h
+step_holds pipes (Add (Write k)) puts h = pipe_holds pipes k _ (λ p holds. holds) h
+step_holds pipes (Drop (Read k)) puts h = pipe_holds pipes k _ (λ p holds. holds) h
+step_holds pipes (Drop (Write k)) puts h = pipe_holds pipes k _ (λ p holds. holds) h
+
+steps_hold : (steps : List PipeStep) (pipes : List PipeState) → PutBytes steps → AllByRecursion PipeHoldsBytes pipes → AllByRecursion PipeHoldsBytes (all_stepped pipes steps)
+steps_hold [] pipes puts h = h
+steps_hold (step ∷ steps) pipes puts h = steps_hold steps (stepped pipes step) puts.1 (step_holds pipes step puts.0 h)
 
 -- ---- one event
 
@@ -63,7 +118,7 @@ impossible_fit : (pid : ℕ) (s : SyncState) → AreFit s → GoesFit s (impossi
 impossible_fit pid s h = record { fit = h; possible = tt }
 
 put_goes : (s : SyncState) (pid : ℕ) (p : Process) → AreFit s → IsFit (length s.files) p → AreFit (with_process s pid p)
-put_goes s pid p h f = record { few = h.few; each = put_fit (length s.files) s.processes pid p f h.each }
+put_goes s pid p h f = record { made = h.made; pipes = h.pipes; tapes = h.tapes; each = put_fit (length s.files) s.processes pid p f h.each }
 
 turn_fit : (s : SyncState) (pid n : ℕ) (o : Option Process) → AreFit s → IfSome o (IsFit (length s.files)) → GoesFit s (after_turn s pid n o)
 turn_fit s pid n None h f = impossible_fit pid s h
@@ -75,6 +130,11 @@ turn_fit s pid n (Some p) h f = by (is_some p.status)
       fit = put_goes s pid (after_run n p) h (record { names = f.names; holds = run_holds n p.state f.holds });
       possible = tt;
     }
+
+-- a process that is made has its parent's descriptors and memory
+forked_fit : (count : ℕ) (p : Process) (o : Option ℕ) → IsFit count p → AllByRecursion (IsFit count) (forked p o)
+forked_fit count p None f = tt
+forked_fit count p (Some child) f = (record { names = f.names; holds = replied_holds p.state zero_reply tt f.holds }, tt)
 
 -- the caller, once it is replied to
 replied_fit : (s : SyncState) (p : Process) (e : Effect) (r : Reply) → IsFit (length s.files) p → IsSound s.files e → TellsBytes (Replies r)
@@ -88,17 +148,27 @@ replied_fit s p e r f sound tells = record {
 effect_fit : (s : SyncState) (pid : ℕ) (p : Process) (e : Effect) (v : Verdict) → AreFit s → IsFit (length s.files) p → IsSound s.files e → TellsBytes v
     → GoesFit s (after_effect s pid p e v)
 effect_fit s pid p e Waits h f sound tells = record { fit = h; possible = tt }
-effect_fit s pid p e (Replies r) h f sound tells =
-    let changed = changed-fit s e.change h sound.change in
-    record {
-      fit = record {
-        few = changed.few;
-        each = put_fit (length (changed_by s.files e.change)) s.processes pid (after_reply p e r) (replied_fit s p e r f sound tells) changed.each;
-      };
-      possible = sound.change;
-    }
+effect_fit s pid p e (Replies r) h f sound tells = record {
+  fit = record {
+    made = made_changed s.files e.change h.made sound.change;
+    pipes = steps_hold e.pipes s.pipes sound.pipes h.pipes;
+    tapes = read_holds s.tapes e.tape h.tapes;
+    each =
+        let count = length (changed_by s.files e.change) in
+        all_append (IsFit count) (put_process s.processes pid (after_reply p e r)) (forked p e.child)
+        (put_fit count s.processes pid (after_reply p e r) (replied_fit s p e r f sound tells) (still_fit s.files e.change s.processes h.each))
+        (forked_fit count p e.child (one_still s.files e.change p f));
+  };
+  possible = sound.change;
+}
 effect_fit s pid p e (Ends status) h f sound tells = record {
-  fit = put_goes s pid (after_end p status) h (record { names = name_closed (length s.files) p.descriptors; holds = f.holds });
+  fit = record {
+    made = h.made;
+    pipes = steps_hold e.pipes s.pipes sound.pipes h.pipes;
+    tapes = h.tapes;
+    each = put_fit (length s.files) s.processes pid (after_end p status)
+        (record { names = name_closed (length s.files) p.descriptors; holds = f.holds }) h.each;
+  };
   possible = tt;
 }
 
@@ -111,20 +181,13 @@ enter_fit : (s : SyncState) (pid : ℕ) (o : Option Process) → AreFit s → If
 enter_fit s pid None h f = impossible_fit pid s h
 enter_fit s pid (Some p) h f = by (is_some p.status)
   where
-    by : (b : Bool) → GoesFit s (if b then impossible pid s else after_effect_if s pid p (effect_at (shared s) p (stands_at p.state)))
+    by : (b : Bool) → GoesFit s (if b then impossible pid s else after_effect_if s pid p (effect_at (shared s) pid p (stands_at p.state)))
     by true = impossible_fit pid s h
-    by false = effect_if_fit s pid p (effect_at (shared s) p (stands_at p.state)) h f (effect_sound (shared s) p (stands_at p.state) h.few f.names f.holds)
-
-caller_fit : (s : SyncState) (pid : ℕ) → AreFit s → IfSome (process_at s.processes pid) (IsFit (length s.files))
-caller_fit s pid h = by (process_at s.processes pid) refl
-  where
-    by : (o : Option Process) → process_at s.processes pid ≡ o → IfSome o (IsFit (length s.files))
-    by None e = tt
-    by (Some p) e = process_fit (length s.files) s.processes pid p h.each e
+    by false = effect_if_fit s pid p (effect_at (shared s) pid p (stands_at p.state)) h f (effect_sound (shared s) pid p (stands_at p.state) (readable s h) f.names f.holds)
 
 pub step_fit : (s : SyncState) (e : Event) → AreFit s → GoesFit s (step s e)
-step_fit s (Turn pid n) h = turn_fit s pid n (process_at s.processes pid) h (caller_fit s pid h)
-step_fit s (Enter pid) h = enter_fit s pid (process_at s.processes pid) h (caller_fit s pid h)
+step_fit s (Turn pid n) h = turn_fit s pid n (process_at s.processes pid) h (process_fit (length s.files) s.processes pid h.each)
+step_fit s (Enter pid) h = enter_fit s pid (process_at s.processes pid) h (process_fit (length s.files) s.processes pid h.each)
 step_fit s Cut h = record { fit = h; possible = tt }
 step_fit s (Complete at) h = record { fit = h; possible = tt }
 step_fit s (Fail at) h = record { fit = h; possible = tt }
@@ -135,5 +198,15 @@ processes_fit : (count i : ℕ) (programs : List BootProgram) → AllByRecursion
 processes_fit count i [] h = tt
 processes_fit count i (p ∷ programs) h = (record { names = (tt, (tt, name_free count 14)); holds = h.0 }, processes_fit count (i + 1) programs h.1)
 
-pub begun_fit : (b : Boot) → length b.files ≤ 32 → ProgramsHoldBytes b → AreFit (begun b).sync
-begun_fit b few h = record { few = few; each = processes_fit (length b.files) 0 b.programs h }
+tapes_hold : (n : ℕ) (tapes : List (List ℕ)) → AllByRecursion AreBytes tapes → AllByRecursion TapeHoldsBytes (tapes_of n tapes)
+tapes_hold zero tapes h = tt
+tapes_hold (suc n) [] h = (tt, tapes_hold n [] tt)
+tapes_hold (suc n) (tape ∷ tapes) h = (h.0, tapes_hold n tapes h.1)
+
+pub begun_fit : (b : Boot) → IsMade b.files → ProgramsHoldBytes b → TapesHoldBytes b → AreFit (begun b).sync
+begun_fit b made programs tapes = record {
+  made = made;
+  pipes = tt;
+  tapes = tapes_hold tape_count b.tapes tapes;
+  each = processes_fit (length b.files) 0 b.programs programs;
+}

@@ -65,9 +65,9 @@ pub swap : (w : World) (p : ℕ) (y : Process) (e : Event) → process_at w.sync
 swap w p y e at running ne =
     let x = after_run 1 y in
     let first : step w.sync (Turn p 1) ≡ record { state = with_process w.sync p x; entry = own_entry p } = turn_is w.sync p 1 y at running in
-    let moves : step (with_process w.sync p x) e ≡ moved p x (step w.sync e) = step_moves w.sync p x e ne in
+    let moves : step (with_process w.sync p x) e ≡ moved p x (step w.sync e) = step_moves w.sync p y (run 1 y.state).state e at ne in
     let next_is : step (step w.sync (Turn p 1)).state e ≡ moved p x (step w.sync e) = ap (λ (d : Transition). step d.state e) first ∙ moves in
-    let last : step (step w.sync e).state (Turn p 1) ≡ record { state = with_process (step w.sync e).state p x; entry = own_entry p } = turn_is (step w.sync e).state p 1 y (step_keeps w.sync p e ne ∙ at) running in
+    let last : step (step w.sync e).state (Turn p 1) ≡ record { state = with_process (step w.sync e).state p x; entry = own_entry p } = turn_is (step w.sync e).state p 1 y (step_keeps w.sync p y e at ne) running in
     let d = (step w.sync e).entry in
     record {
       sync = ap (λ (d : Transition). d.state) next_is ∙ sym (ap (λ (d : Transition). d.state) last);
@@ -127,7 +127,7 @@ goer w p h = from (process_at w.sync.processes p) refl h
     from (Some y) e h = record { process = y; there = e; running = not_ended (is_some y.status) (is_some (stands_at y.state)) h }
 
 still : (w : World) (p : ℕ) (e : Event) → IsNotOf p e → may_go (process_at w.sync.processes p) ≡ true → may_go (process_at (happens w e).sync.processes p) ≡ true
-still w p e ne h = ap may_go (step_keeps w.sync p e ne) ∙ h
+still w p e ne h = let g = goer w p h in ap may_go (step_keeps w.sync p g.process e g.there ne) ∙ sym (ap may_go g.there) ∙ h
 
 behind : (w : World) (p : ℕ) (e : Event) (es fs : List Event) → IsNotOf p e → may_go (process_at w.sync.processes p) ≡ true
     → Alike (after (happens (happens w e) (Turn p 1)) es) (after (happens w e) fs) → Alike (after (happens (happens w (Turn p 1)) e) es) (after (happens w e) fs)

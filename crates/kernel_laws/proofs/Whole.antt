@@ -1,16 +1,20 @@
 -- A whole run is synchronous.
-use Rattle.std.proofs.Common.{◌≡◌, List, [], ◌∷◌, ◌++◌, length, refl, sym, ◌∙◌, append_assoc}
+use Rattle.std.proofs.Common.{◌≡◌, ℕ, ◌+◌, Bool, true, false, if◌then◌else◌, List, [], ◌∷◌, ◌++◌, length, is_some, refl, sym, ap, ◌∙◌, append_assoc, add-zero, arith}
+use Rattle.std.specs.Prelude.{cond}
+use Rattle.std.proofs.lemmas.List.Sums.{sum_by-append, sum_by-cons}
+use Rattle.kernel_model.specs.Entries.{Entry}
 use Rattle.kernel_model.specs.Steps.{step}
 use Rattle.kernel_model.proofs.Runs.{append-nil}
 use Rattle.kernel_model.specs.World.{World, Boot, begun, happens, after}
 use Rattle.kernel_model.specs.Shown.{printed, told}
 use Rattle.kernel_model.specs.Answers.{committed}
 use Rattle.kernel_model.specs.declared.event.Event.{Event}
-use Rattle.kernel_laws.specs.Promises.{IsSynchronous, sync_run, sync_log}
+use Rattle.kernel_laws.specs.Promises.{IsSynchronous, sync_run, sync_log, forks}
 use Rattle.kernel_laws.proofs.Machines.{comes_at_once}
 use Rattle.kernel_laws.proofs.Fronts.{released_is}
-use Rattle.kernel_laws.proofs.Others.{step_length}
+use Rattle.kernel_laws.proofs.Others.{made_count, step_length}
 use Rattle.kernel_laws.proofs.Replies.{after_runs}
+use Rattle.kernel_laws.proofs.Descent.{after_descends, begun_descends}
 
 after_sync : (es : List Event) (w : World) → (after w es).sync ≡ sync_run w.sync es
 after_sync [] w = refl
@@ -22,9 +26,25 @@ after_log [] w = sym (append-nil w.log)
 after_log (e ∷ es) w =
     after_log es (happens w e) ∙ append_assoc w.log ((step w.sync e).entry ∷ []) (sync_log (step w.sync e).state es)
 
-after_length : (es : List Event) (w : World) → length (after w es).sync.processes ≡ length w.sync.processes
-after_length [] w = refl
-after_length (e ∷ es) w = after_length es (happens w e) ∙ step_length w.sync e
+-- one more entry
+forks-entry : (log : List Entry) (e : Entry) → forks (log ++ e ∷ []) ≡ forks log + made_count e.child
+forks-entry log e =
+    sum_by-append (λ (x : Entry). cond (is_some x.child) 1 0) log (e ∷ [])
+    ∙ ap (λ (n : ℕ). forks log + n) (sum_by-cons (λ (x : Entry). cond (is_some x.child) 1 0) e [] ∙ one (is_some e.child))
+  where
+    one : (b : Bool) → cond b 1 0 + 0 ≡ (if b then 1 else 0)
+    one true = refl
+    one false = refl
+
+-- there are so many processes, and those that the log's forks made
+abbrev HasForked : ℕ → World → Type 0
+HasForked count w = length w.sync.processes ≡ count + forks w.log
+
+after_forked : (es : List Event) (count : ℕ) (w : World) → HasForked count w → HasForked count (after w es)
+after_forked [] count w h = h
+after_forked (e ∷ es) count w h =
+    let one : HasForked count (happens w e) = omega (arith, h, step_length w.sync e, forks-entry w.log (step w.sync e).entry) in
+    after_forked es count (happens w e) one
 
 pub run_is_synchronous : (b : Boot) (es : List Event) → IsSynchronous b (after (begun b) es) es
 run_is_synchronous b es =
@@ -32,8 +52,9 @@ run_is_synchronous b es =
     record {
       sync = after_sync es (begun b);
       log = after_log es (begun b);
-      processes = λ p first at. after_runs es (begun b) p first (record { process = first; there = at; comes = comes_at_once first.state });
-      no_more = after_length es (begun b);
+      booted = λ p first at. after_runs es (begun b) p first (record { process = first; there = at; comes = comes_at_once first.state });
+      processes = after_descends b es (begun b) (begun_descends b);
+      as_many = after_forked es (length (begun b).sync.processes) (begun b) (sym (add-zero (length (begun b).sync.processes)));
       terminals = λ t. released_is (committed w) (printed t w.log);
       traces = λ p. released_is (committed w) (told p w.log);
     }

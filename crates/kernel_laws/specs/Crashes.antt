@@ -1,4 +1,6 @@
--- What a whole run promises of its files if it ends in a crash.
+-- What a whole run promises of its files if it ends in a crash. It assumes that the boot's disk holds the boot's files, and that
+-- the programs' memories and the tapes hold bytes: then files, pipes and memories hold bytes all along, so that what is written
+-- is what a disk can hold.
 use Rattle.std.specs.Prelude.{ℕ, ◌≤◌, List, length, take}
 use Rattle.disk_model.specs.Files.{files_after}
 use Rattle.disk_model.specs.Held.{IsHeld}

@@ -4,38 +4,40 @@
 ghost use Rattle.std.specs.Prelude.{List};
 ghost use Rattle.kernel_model.specs.declared.event.Event.{Event};
 ghost use Rattle.kernel_model.specs.World.{World, Boot, HoldsItsFiles, begun, after};
-ghost use Rattle.kernel_model.specs.Bytes.{ProgramsHoldBytes};
+ghost use Rattle.kernel_model.specs.Bytes.{ProgramsHoldBytes, TapesHoldBytes};
 ghost use Rattle.kernel_model.specs.Fine.{Fine, IsFine, after_fine, gathered, unfolded};
 ghost use Rattle.kernel_model.specs.Views.{SameView};
 ghost use Rattle.kernel_laws.specs.Promises.{IsSynchronous};
 ghost use Rattle.kernel_laws.specs.Crashes.{SurvivesCrash};
 ghost use Rattle.kernel_laws.specs.Gathering.{HasNoTurn, IsGathered};
 
-use disk_model::{checkpoints_fit, crashes};
+use disk_model::crashes;
 
-/// A law, the whole of what the kernel promises. Whatever events come in whatever order, each process runs as on a kernel
-/// that stores each change within its call; what is shown and handed out is the longest front that rests on committed
-/// changes alone; and a crash at any moment leaves a disk that holds the files after a front of the changes with every
-/// committed one in it.
+/// A law, the whole of what the kernel promises. Whatever events come in whatever order, each process, also one that a fork
+/// made, runs as on a kernel that stores each change within its call; what is shown and handed out is the longest front that
+/// rests on committed changes alone; and a crash at any moment leaves a disk that holds the files after a front of the changes
+/// with every committed one in it.
 ///
 /// The first two parts hold of every boot, whatever its disk. The third is of a disk that holds the files that the boot
-/// names, and of programs whose memories hold bytes: `kernel::Core::boot` ensures both of every core that it boots.
+/// names, of programs whose memories hold bytes, and of tapes that hold bytes: `kernel::Core::boot` ensures all three of every
+/// core that it boots. What a program reads comes from tapes, files and pipes into its memory, and what it writes to a file or a
+/// pipe comes from there: so all that is ever written to the disk are bytes.
 pub fn headline()
     ensures synchronous { (b : Boot) (es : List Event) → IsSynchronous b (after (begun b) es) es }
-    ensures crash { (b : Boot) (es : List Event) → HoldsItsFiles b → ProgramsHoldBytes b
+    ensures crash { (b : Boot) (es : List Event) → HoldsItsFiles b → ProgramsHoldBytes b → TapesHoldBytes b
         → SurvivesCrash b (after (begun b) es) }
 {
     crashes_keep_the_committed();
 }
 
 /// A law: a crash at any moment of any run leaves a disk that holds the files after a front of the run's changes, with
-/// every committed one in it. So a run can go on from that disk, and end in a crash again.
+/// every committed one in it. So a run can go on from that disk, and end in a crash again. Memories and tapes must hold bytes at
+/// the start, as the files on a disk do.
 pub fn crashes_keep_the_committed()
-    ensures { (b : Boot) (es : List Event) → HoldsItsFiles b → ProgramsHoldBytes b
+    ensures { (b : Boot) (es : List Event) → HoldsItsFiles b → ProgramsHoldBytes b → TapesHoldBytes b
         → SurvivesCrash b (after (begun b) es) }
 {
     crashes();
-    checkpoints_fit();
 }
 
 /// A law: whatever the interleaving of single instructions, what comes of it is what whole Turns give. Each instruction must

@@ -53,9 +53,9 @@ effect_if_changes s pid p (Some e) = effect_changes s pid p e e.told
 enter_changes : (s : SyncState) (pid : ℕ) (o : Option Process) → ChangesByEntry s (after_enter s pid o)
 enter_changes s pid None = refl
 enter_changes s pid (Some p) = elim (is_some p.status) as (λ b.
-    ChangesByEntry s (if b then impossible pid s else after_effect_if s pid p (effect_at (shared s) p (stands_at p.state)))) [
+    ChangesByEntry s (if b then impossible pid s else after_effect_if s pid p (effect_at (shared s) pid p (stands_at p.state)))) [
       | true ↦ refl
-      | false ↦ effect_if_changes s pid p (effect_at (shared s) p (stands_at p.state))
+      | false ↦ effect_if_changes s pid p (effect_at (shared s) pid p (stands_at p.state))
     ]
 
 -- so does each event

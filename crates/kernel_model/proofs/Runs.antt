@@ -1,11 +1,11 @@
 -- One more event of a run.
 use Rattle.std.proofs.Common.{◌≡◌, ℕ, Option, Some, None, option_to_list, List, [], ◌∷◌, ◌++◌, refl, sym, ap, ◌∙◌, append_assoc}
 use Rattle.disk_model.specs.declared.change.Change.{Change}
-use Rattle.kernel_model.specs.Entries.{Entry}
+use Rattle.kernel_model.specs.Entries.{Entry, Item}
 use Rattle.kernel_model.specs.Paths.{changes_of, with_change}
 use Rattle.kernel_model.specs.Answers.{Kernel, now, with_event}
 use Rattle.kernel_model.specs.World.{World, begun, happens, after}
-use Rattle.kernel_model.specs.Shown.{given_by, each_from, printed, bytes_for, told, items_for}
+use Rattle.kernel_model.specs.Shown.{Given, given_by, each_from, printed, bytes_for, told, told_from, told_with}
 use Rattle.kernel_model.specs.declared.event.Event.{Event}
 
 -- the last event happens to the run of those before it
@@ -35,8 +35,15 @@ each_from-append f past (x ∷ log) e =
 pub printed-entry : (t : ℕ) (log : List Entry) (e : Entry) → printed t (log ++ e ∷ []) ≡ printed t log ++ given_by log e (bytes_for t e.output)
 printed-entry t log e = each_from-append (λ x. bytes_for t x.output) [] log e
 
-pub told-entry : (p : ℕ) (log : List Entry) (e : Entry) → told p (log ++ e ∷ []) ≡ told p log ++ given_by log e (items_for p e)
-told-entry p log e = each_from-append (items_for p) [] log e
+told_from-append : (before : ℕ → List (Given Item)) (past log : List Entry) (e : Entry)
+    → told_from before past (log ++ e ∷ []) ≡ told_with (told_from before past log) (past ++ log) e
+told_from-append before past [] e = ap (λ ps. told_with before ps e) (sym (append-nil past))
+told_from-append before past (x ∷ log) e =
+    told_from-append (told_with before past x) (past ++ x ∷ []) log e
+    ∙ ap (λ ps. told_with (told_from (told_with before past x) (past ++ x ∷ []) log) ps e) (append_assoc past (x ∷ []) log)
+
+pub told-entry : (p : ℕ) (log : List Entry) (e : Entry) → told p (log ++ e ∷ []) ≡ told_with (λ q. told q log) log e p
+told-entry p log e = ap (λ (ts : ℕ → List (Given Item)). ts p) (told_from-append (λ q. []) [] log e)
 
 with_change-append : (o : Option Change) (cs ds : List Change) → with_change o (cs ++ ds) ≡ with_change o cs ++ ds
 with_change-append None cs ds = refl

@@ -211,13 +211,26 @@ abbrev pub Refuses : Option Refused → Refused → Type 0
 Refuses (Some why) given = given ≡ why
 Refuses None given = given ≡ refused.OutOfMemory
 
+-- a process that was never lent
+abbrev pub never_lent : Lending
+never_lent = record { loans = 0; out = None }
+
+-- how processes stand with their loans after an event that made this one, if it made one
+abbrev pub with_child : List Lending → Option ℕ → List Lending
+with_child lendings None = lendings
+with_child lendings (Some child) = lendings ++ never_lent ∷ []
+
 -- the core after one more event
 abbrev pub with_event : Kernel → Event → Kernel
-with_event k e = record k { history = k.history ++ e ∷ [] }
+with_event k e = record k {
+  history = k.history ++ e ∷ [];
+  lendings = with_child k.lendings (step (now k).sync e).entry.child;
+}
 
--- the core after these events
+-- the core after these events, the first of them first
 abbrev pub with_events : Kernel → List Event → Kernel
-with_events k es = record k { history = k.history ++ es }
+with_events k [] = k
+with_events k (e ∷ es) = with_events (with_event k e) es
 
 -- each of these events is accepted where it stands
 abbrev pub AllAccepted : Kernel → List Event → Type 0

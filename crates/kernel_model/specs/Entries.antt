@@ -39,3 +39,4 @@ pub record Entry : Type 0 where
   pub change : Option Change
   pub output : Option Output
   pub item : Option Item  -- what the process was told
+  pub child : Option ℕ  -- the number of the process that it made

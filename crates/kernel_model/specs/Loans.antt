@@ -6,7 +6,7 @@ use Rattle.machine_model.specs.States.{State, Ran, stands_at}
 use Rattle.kernel_model.specs.Entries.{Entry}
 use Rattle.kernel_model.specs.State.{Process}
 use Rattle.kernel_model.specs.Steps.{step}
-use Rattle.kernel_model.specs.Answers.{Kernel, Lending, lending_at, quantum_out, now, process_of, is_lent, loans_out, limit, Refuses, with_event, count_at, has_ended, outcome_of}
+use Rattle.kernel_model.specs.Answers.{Kernel, Lending, lending_at, quantum_out, now, process_of, is_lent, loans_out, limit, Refuses, with_event, with_events, count_at, has_ended, outcome_of}
 use Rattle.kernel_model.specs.declared.answer.Answer.{Answer}
 use Rattle.kernel_model.specs.declared.answer.Answer.TheVariants as answer_of
 use Rattle.kernel_model.specs.declared.answer.Outcome.{Outcome}
@@ -118,7 +118,7 @@ events_of r = Turn r.process r.reached.count ∷ (if is_some (stands_at r.reache
 
 -- the core once the result is taken back
 abbrev pub settled : Kernel → LoanResult → Kernel
-settled k r = record (returned k r.process) { history = k.history ++ events_of r }
+settled k r = with_events (returned k r.process) (events_of r)
 
 -- what the Enter of process p came to, which follows a Turn of n instructions
 abbrev pub outcome_after : Kernel → ℕ → ℕ → Outcome

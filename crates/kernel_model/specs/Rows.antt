@@ -1,42 +1,58 @@
 -- The table of calls: what each request comes to, its tests in their order.
-use Rattle.std.specs.Prelude.{ℕ, ◌+◌, ◌-◌, ◌^◌, ◌%◌, ◌==◌, ◌&&◌, ◌||◌, not, Bool, true, false, if◌then◌else◌, nat_lt, nat_le, List, [], ◌∷◌, length, slice_get, map, Option, Some, None, is_none, unwrap_or}
+use Rattle.std.specs.Prelude.{ℕ, zero, suc, ◌+◌, ◌-◌, ◌^◌, ◌%◌, ◌==◌, ◌&&◌, ◌++◌, ◌||◌, not, Bool, true, false, if◌then◌else◌, nat_lt, nat_le, List, [], ◌∷◌, length, slice_get, map, filter_map, take, drop, Option, Some, None, is_none, option_map, unwrap_or}
 use Rattle.std.specs.List.{list_all, position}
 use Rattle.std.specs.Str.{bytes_eq}
+use Rattle.std.specs.Int.{w32, to_le_bytes}
 use Rattle.disk_model.specs.declared.change.Change.{Change}
 use Rattle.disk_model.specs.declared.change.Change.TheVariants as change
 use Rattle.disk_model.specs.declared.change.NamedFile.{NamedFile}
 use Rattle.machine_model.specs.declared.stop.Cause.{Cause}
 use Rattle.machine_model.specs.declared.stop.Cause.TheVariants as cause
 use Rattle.kernel_model.specs.Requests.{most_bytes, longest_name}
-use Rattle.kernel_model.specs.State.{Shared}
+use Rattle.kernel_model.specs.State.{Shared, TapeState, PipeState, unread}
 use Rattle.kernel_model.specs.declared.carrier.Carrier.{Carrier}
 use Rattle.kernel_model.specs.declared.carrier.Carrier.TheVariants as carrier
 use Rattle.kernel_model.specs.declared.descriptor.Descriptor.{Descriptor}
 use Rattle.kernel_model.specs.declared.descriptor.Descriptor.TheVariants as descriptor
+use Rattle.kernel_model.specs.declared.descriptor.PipeEnd.{PipeEnd}
+use Rattle.kernel_model.specs.declared.descriptor.PipeEnd.TheVariants as pipe_end
 use Rattle.kernel_model.specs.declared.effect.Output.{Output}
+use Rattle.kernel_model.specs.declared.effect.PipeStep.{PipeStep}
+use Rattle.kernel_model.specs.declared.effect.PipeStep.TheVariants as pipe_step
 use Rattle.kernel_model.specs.declared.effect.Slot.{Slot}
+use Rattle.kernel_model.specs.declared.effect.TapeRead.{TapeRead}
 use Rattle.kernel_model.specs.declared.request.Request.{Request}
 use Rattle.kernel_model.specs.declared.request.Request.TheVariants as request
 use Rattle.kernel_model.specs.declared.request.Verdict.{Verdict}
-use Rattle.kernel_model.specs.declared.request.Verdict.TheVariants.{Replies, Ends}
+use Rattle.kernel_model.specs.declared.request.Verdict.TheVariants.{Waits, Replies, Ends}
 
 -- What a call comes to: what the caller is told, the carriers that it reads and writes beside the caller's own, and the
--- edits that it makes: a change of the files, bytes for a terminal, and descriptors of the caller.
+-- edits that it makes: a change of the files, bytes for a terminal, bytes read from a tape, steps of pipes, descriptors of the
+-- caller, and of its children one that is made or one that is collected, by its number.
 pub record Effect : Type 0 where
   pub told : Verdict
   pub reads : List Carrier
   pub writes : List Carrier
   pub change : Option Change
   pub output : Option Output
+  pub tape : Option TapeRead
+  pub pipes : List PipeStep
   pub slots : List Slot
+  pub child : Option ℕ
+  pub collects : Option ℕ
 
 -- the caller is told this, and nothing else comes of it
 abbrev pub only : Verdict → Effect
-only told = record { told = told; reads = []; writes = []; change = None; output = None; slots = [] }
+only told = record { told = told; reads = []; writes = []; change = None; output = None; tape = None; pipes = []; slots = []; child = None; collects = None }
 
 -- a reply of a number, without bytes
 abbrev pub number : ℕ → Verdict
 number n = Replies (record { a0 = n; at = 0; bytes = [] })
+
+-- a reply of a number, with these bytes for a place; the place is 0 where there are none
+abbrev pub with_bytes : ℕ → ℕ → List ℕ → Verdict
+with_bytes n at [] = number n
+with_bytes n at (b ∷ bs) = Replies (record { a0 = n; at = at; bytes = b ∷ bs })
 
 -- a reply of the word of a negative number
 abbrev pub minus : ℕ → Verdict
@@ -46,13 +62,16 @@ minus code = number (2 ^ 32 - code)
 abbrev pub failure : ℕ → Effect
 failure code = only (minus code)
 
--- The errors: no such file, bad descriptor, bad address, bad argument, table full, too many descriptors, file too large,
--- no such call.
+-- The errors: no such file, bad descriptor, no child, bad address, bad argument, table full, too many descriptors, file too large, no
+-- reader, no such call.
 abbrev pub no_such_file : ℕ
 no_such_file = 2
 
 abbrev pub bad_descriptor : ℕ
 bad_descriptor = 9
+
+abbrev pub no_child : ℕ
+no_child = 10
 
 abbrev pub bad_address : ℕ
 bad_address = 14
@@ -69,6 +88,9 @@ too_many_descriptors = 24
 abbrev pub file_too_large : ℕ
 file_too_large = 27
 
+abbrev pub no_reader : ℕ
+no_reader = 32
+
 abbrev pub no_such_call : ℕ
 no_such_call = 38
 
@@ -80,9 +102,54 @@ longest_file = 16384
 abbrev pub most_files : ℕ
 most_files = 32
 
--- the end of a process with a status, by a call or a trap: all its descriptors are closed
-abbrev pub row_end : ℕ → Effect
-row_end status = only (Ends status)
+-- the most bytes that a pipe holds
+abbrev pub pipe_size : ℕ
+pipe_size = 4096
+
+-- the most pipes of a run
+abbrev pub most_pipes : ℕ
+most_pipes = 1024
+
+-- the most processes of a run
+abbrev pub most_processes : ℕ
+most_processes = 1024
+
+-- ---- the ends of pipes
+
+-- the end of a pipe for which a descriptor stands, if it stands for one
+abbrev pub end_of : Option Descriptor → Option PipeEnd
+end_of (Some (descriptor.Pipe end)) = Some end
+end_of (Some (descriptor.Tape t)) = None
+end_of (Some (descriptor.Terminal t)) = None
+end_of (Some (descriptor.File file offset writes)) = None
+end_of None = None
+
+-- the ends for which these descriptors stand
+abbrev pub ends_of : List (Option Descriptor) → List PipeEnd
+ends_of ds = filter_map end_of ds
+
+-- the pipe of an end, as a carrier
+abbrev pub carrier_of : PipeEnd → Carrier
+carrier_of (pipe_end.Read k) = carrier.Pipe k
+carrier_of (pipe_end.Write k) = carrier.Pipe k
+
+-- what the caller is told, where the descriptors that stand for these ends are closed
+abbrev pub closing : List PipeEnd → Verdict → Effect
+closing ends told = record (only told) {
+  reads = map carrier_of ends;
+  writes = map carrier_of ends;
+  pipes = map pipe_step.Drop ends;
+}
+
+-- what the caller is told, and steps of a pipe
+abbrev pub on_pipe : ℕ → Verdict → List PipeStep → Effect
+on_pipe k told steps = record (only told) { reads = carrier.Pipe k ∷ []; writes = carrier.Pipe k ∷ []; pipes = steps }
+
+-- ---- exit
+
+-- the end of a process with these descriptors and a status, by a call or a trap: all its descriptors are closed
+abbrev pub row_end : List (Option Descriptor) → ℕ → Effect
+row_end ds status = closing (ends_of ds) (Ends status)
 
 -- the number that a trap of this cause tells
 abbrev pub cause_number : Cause → ℕ
@@ -102,6 +169,8 @@ abbrev pub may_write : Option Descriptor → Bool
 may_write (Some (descriptor.Terminal t)) = true
 may_write (Some (descriptor.File file offset writes)) = writes
 may_write (Some (descriptor.Tape t)) = false
+may_write (Some (descriptor.Pipe (pipe_end.Read k))) = false
+may_write (Some (descriptor.Pipe (pipe_end.Write k))) = true
 may_write None = false
 
 -- write, of these bytes to a file at an offset, through the descriptor fd
@@ -115,26 +184,120 @@ write_file fd file offset bytes =
       slots = record { fd = fd; holds = Some (descriptor.File file (offset + length bytes) true) } ∷ [];
     }
 
+-- write, of these bytes to a pipe with so much room: as many as there is room for
+abbrev pub put_some : ℕ → List ℕ → ℕ → Effect
+put_some k bytes room =
+    let taken = take room bytes in on_pipe k (number (length taken)) (pipe_step.Put k taken ∷ [])
+
+-- write, of these bytes to a pipe: refused where none can read it any more, and waiting where it is full
+abbrev pub write_pipe : ℕ → List ℕ → Option PipeState → Effect
+write_pipe k bytes None = failure bad_descriptor
+write_pipe k bytes (Some p) =
+    if p.readers == 0 then on_pipe k (minus no_reader) []
+    else if nat_le pipe_size (length (unread p)) then on_pipe k Waits []
+    else put_some k bytes (pipe_size - length (unread p))
+
 -- write, of these bytes through the descriptor fd, by what it stands for
-abbrev pub write_to : Option Descriptor → ℕ → List ℕ → Effect
-write_to (Some (descriptor.Terminal t)) fd bytes = record (only (number (length bytes))) { output = Some (record { terminal = t; bytes = bytes }) }
-write_to (Some (descriptor.File file offset true)) fd bytes = write_file fd file offset bytes
-write_to (Some (descriptor.File file offset false)) fd bytes = failure bad_descriptor
-write_to (Some (descriptor.Tape t)) fd bytes = failure bad_descriptor
-write_to None fd bytes = failure bad_descriptor
+abbrev pub write_to : Shared → Option Descriptor → ℕ → List ℕ → Effect
+write_to s (Some (descriptor.Terminal t)) fd bytes = record (only (number (length bytes))) { output = Some (record { terminal = t; bytes = bytes }) }
+write_to s (Some (descriptor.File file offset true)) fd bytes = write_file fd file offset bytes
+write_to s (Some (descriptor.File file offset false)) fd bytes = failure bad_descriptor
+write_to s (Some (descriptor.Pipe (pipe_end.Write k))) fd bytes = write_pipe k bytes (slice_get s.pipes k)
+write_to s (Some (descriptor.Pipe (pipe_end.Read k))) fd bytes = failure bad_descriptor
+write_to s (Some (descriptor.Tape t)) fd bytes = failure bad_descriptor
+write_to s None fd bytes = failure bad_descriptor
 
 -- write, of bytes that may be None
-abbrev pub write_read : Option Descriptor → ℕ → Option (List ℕ) → Effect
-write_read d fd None = failure bad_address
-write_read d fd (Some bytes) = write_to d fd bytes
+abbrev pub write_read : Shared → Option Descriptor → ℕ → Option (List ℕ) → Effect
+write_read s d fd None = failure bad_address
+write_read s d fd (Some bytes) = write_to s d fd bytes
 
 -- write, of n bytes through the descriptor fd, which stands for d
-abbrev pub row_write : Option Descriptor → ℕ → ℕ → Option (List ℕ) → Effect
-row_write d fd n bytes =
+abbrev pub row_write : Shared → Option Descriptor → ℕ → ℕ → Option (List ℕ) → Effect
+row_write s d fd n bytes =
     if not (may_write d) then failure bad_descriptor
     else if nat_lt most_bytes n then failure bad_argument
     else if n == 0 then only (number 0)
-    else write_read d fd bytes
+    else write_read s d fd bytes
+
+-- bytes may be read through a descriptor
+abbrev pub may_read : Option Descriptor → Bool
+may_read (Some (descriptor.Terminal t)) = false
+may_read (Some (descriptor.File file offset writes)) = not writes
+may_read (Some (descriptor.Tape t)) = true
+may_read (Some (descriptor.Pipe (pipe_end.Read k))) = true
+may_read (Some (descriptor.Pipe (pipe_end.Write k))) = false
+may_read None = false
+
+-- read, of at most n bytes of a tape, to a place
+abbrev pub read_tape : ℕ → ℕ → ℕ → Option TapeState → Effect
+read_tape t at n None = failure bad_descriptor
+read_tape t at n (Some tape) =
+    let bytes = take n (drop tape.place tape.bytes) in
+    record (only (with_bytes (length bytes) at bytes)) {
+      reads = carrier.Tape t ∷ [];
+      writes = carrier.Tape t ∷ [];
+      tape = Some (record { tape = t; count = length bytes });
+    }
+
+-- read, of at most n bytes of a file from an offset on, to a place, through the descriptor fd; none where the offset lies
+-- past the file's end
+abbrev pub read_file : ℕ → ℕ → ℕ → ℕ → ℕ → Option NamedFile → Effect
+read_file fd file offset at n None = failure bad_descriptor
+read_file fd file offset at n (Some f) =
+    let bytes = take n (drop offset f.bytes) in
+    record (only (with_bytes (length bytes) at bytes)) {
+      reads = carrier.File file ∷ [];
+      slots = record { fd = fd; holds = Some (descriptor.File file (offset + length bytes) false) } ∷ [];
+    }
+
+-- read, of at most n of these bytes, which a pipe holds, to a place
+abbrev pub take_some : ℕ → ℕ → ℕ → List ℕ → Effect
+take_some k at n held =
+    let bytes = take n held in on_pipe k (with_bytes (length bytes) at bytes) (pipe_step.Take k (length bytes) ∷ [])
+
+-- read, of at most n bytes of a pipe, to a place: none where it holds none and none can write it any more, and waiting where
+-- some still can
+abbrev pub read_pipe : ℕ → ℕ → ℕ → Option PipeState → Effect
+read_pipe k at n None = failure bad_descriptor
+read_pipe k at n (Some p) =
+    if nat_lt 0 (length (unread p)) then take_some k at n (unread p)
+    else if p.writers == 0 then on_pipe k (number 0) []
+    else on_pipe k Waits []
+
+-- read, of at most n bytes to a place through the descriptor fd, by what it stands for
+abbrev pub read_from : Shared → Option Descriptor → ℕ → ℕ → ℕ → Effect
+read_from s (Some (descriptor.Tape t)) fd at n = read_tape t at n (slice_get s.tapes t)
+read_from s (Some (descriptor.File file offset false)) fd at n = read_file fd file offset at n (slice_get s.files file)
+read_from s (Some (descriptor.File file offset true)) fd at n = failure bad_descriptor
+read_from s (Some (descriptor.Pipe (pipe_end.Read k))) fd at n = read_pipe k at n (slice_get s.pipes k)
+read_from s (Some (descriptor.Pipe (pipe_end.Write k))) fd at n = failure bad_descriptor
+read_from s (Some (descriptor.Terminal t)) fd at n = failure bad_descriptor
+read_from s None fd at n = failure bad_descriptor
+
+-- read, of at most n bytes to a place through the descriptor fd, which stands for d; they may be too many for the place
+abbrev pub row_read : Shared → Option Descriptor → ℕ → ℕ → ℕ → Bool → Effect
+row_read s d fd at n fits =
+    if not (may_read d) then failure bad_descriptor
+    else if nat_lt most_bytes n then failure bad_argument
+    else if n == 0 then only (number 0)
+    else if not fits then failure bad_address
+    else read_from s d fd at n
+
+-- close, of the descriptor fd, which stands for d
+abbrev pub row_close : Option Descriptor → ℕ → Effect
+row_close None fd = failure bad_descriptor
+row_close (Some d) fd = record (closing (ends_of (Some d ∷ [])) (number 0)) { slots = record { fd = fd; holds = None } ∷ [] }
+
+-- seek, to an offset through the descriptor fd, by what it stands for
+abbrev pub row_seek : Option Descriptor → ℕ → ℕ → Effect
+row_seek (Some (descriptor.File file old writes)) fd offset =
+    if nat_lt longest_file offset then failure bad_argument
+    else record (only (number offset)) { slots = record { fd = fd; holds = Some (descriptor.File file offset writes) } ∷ [] }
+row_seek (Some (descriptor.Tape t)) fd offset = failure bad_descriptor
+row_seek (Some (descriptor.Terminal t)) fd offset = failure bad_descriptor
+row_seek (Some (descriptor.Pipe end)) fd offset = failure bad_descriptor
+row_seek None fd offset = failure bad_descriptor
 
 -- the least free descriptor
 abbrev pub free_descriptor : List (Option Descriptor) → Option ℕ
@@ -204,13 +367,101 @@ row_open names ds n mode name =
     else if (n == 0) || nat_lt longest_name n then failure bad_argument
     else open_named names ds mode name
 
+-- the least free descriptor behind one that may be there
+abbrev pub free_behind : List (Option Descriptor) → Option ℕ → Option ℕ
+free_behind ds None = None
+free_behind ds (Some fd) = option_map (λ further. fd + 1 + further) (position is_none (drop (fd + 1) ds))
+
+-- a new pipe, the next by number, whose ends two descriptors stand for, which are written to a place as two words
+abbrev pub pipe_made : ℕ → ℕ → ℕ → ℕ → Effect
+pipe_made k at reader writer = record (only (with_bytes 0 at (to_le_bytes w32 reader ++ to_le_bytes w32 writer))) {
+  reads = carrier.Pipes ∷ carrier.Pipe k ∷ [];
+  writes = carrier.Pipes ∷ carrier.Pipe k ∷ [];
+  pipes = pipe_step.Open ∷ [];
+  slots = record { fd = reader; holds = Some (descriptor.Pipe (pipe_end.Read k)) }
+      ∷ record { fd = writer; holds = Some (descriptor.Pipe (pipe_end.Write k)) } ∷ [];
+}
+
+-- pipe, where there are so many pipes, and the two least free descriptors may be there
+abbrev pub pipe_free : ℕ → ℕ → Option ℕ → Option ℕ → Effect
+pipe_free count at (Some reader) (Some writer) =
+    if nat_le most_pipes count then record (failure table_full) { reads = carrier.Pipes ∷ []; writes = carrier.Pipes ∷ [] }
+    else pipe_made count at reader writer
+pipe_free count at (Some reader) None = failure too_many_descriptors
+pipe_free count at None writer = failure too_many_descriptors
+
+-- pipe, where there are so many pipes, with a place that may be too small for two words
+abbrev pub row_pipe : ℕ → List (Option Descriptor) → ℕ → Bool → Effect
+row_pipe count ds at fits =
+    if not fits then failure bad_address
+    else pipe_free count at (free_descriptor ds) (free_behind ds (free_descriptor ds))
+
+-- fork, where there are so many processes, by a caller with these descriptors: the next process by number, which has the
+-- caller's descriptors, and so one more for each end of a pipe
+abbrev pub row_fork : ℕ → List (Option Descriptor) → Effect
+row_fork count ds =
+    let ends = ends_of ds in
+    let carriers = map carrier_of ends in
+    let child = count + 1 in
+    if nat_le most_processes count then record (failure table_full) { reads = carrier.Tasks ∷ carriers; writes = carrier.Tasks ∷ carriers }
+    else record (only (number child)) {
+      reads = carrier.Tasks ∷ carrier.Proc child ∷ carriers;
+      writes = carrier.Tasks ∷ carrier.Proc child ∷ carriers;
+      pipes = map pipe_step.Add ends;
+      child = Some child;
+    }
+
+-- a child that has ended, and its status
+pub record EndedChild : Type 0 where
+  pub child : ℕ
+  pub status : ℕ
+
+-- the status with which process p has ended, if it has
+abbrev pub status_in : List (Option ℕ) → ℕ → Option ℕ
+status_in statuses zero = None
+status_in statuses (suc n) = unwrap_or (slice_get statuses n) None
+
+-- this child, if it has ended, or else one of those behind it
+abbrev pub ended_or : ℕ → Option ℕ → Option EndedChild → Option EndedChild
+ended_or child (Some status) behind = Some (record { child = child; status = status })
+ended_or child None behind = behind
+
+-- the first of these children that has ended
+abbrev pub first_ended : List (Option ℕ) → List ℕ → Option EndedChild
+first_ended statuses [] = None
+first_ended statuses (child ∷ children) = ended_or child (status_in statuses child) (first_ended statuses children)
+
+-- wait, with these children, where one may have ended: its number, and its status as a word at the place, unless that is 0
+abbrev pub wait_ended : ℕ → List ℕ → Option EndedChild → Effect
+wait_ended at children None = record (only Waits) { reads = map carrier.Proc children }
+wait_ended at children (Some e) =
+    record (only (if at == 0 then number e.child else with_bytes e.child at (to_le_bytes w32 e.status))) {
+      reads = map carrier.Proc children;
+      collects = Some e.child;
+    }
+
+-- wait, with these children left to collect, of processes with these statuses, with a place that may be too small for a word
+abbrev pub row_wait : List (Option ℕ) → List ℕ → ℕ → Bool → Effect
+row_wait statuses children at fits =
+    if not fits then failure bad_address
+    else if length children == 0 then failure no_child
+    else wait_ended at children (first_ended statuses children)
+
 -- the names of the files
 abbrev pub names_of : List NamedFile → List (List ℕ)
 names_of files = map (λ f. f.name) files
 
--- the table: a row for each request of a caller with these descriptors
-abbrev pub row : Shared → List (Option Descriptor) → Request → Effect
-row s ds (request.Exit status) = row_end (status % 256)
-row s ds (request.Write fd n bytes) = row_write (descriptor_at ds fd) fd n bytes
-row s ds (request.Open n mode name) = row_open (names_of s.files) ds n mode name
-row s ds request.Unknown = failure no_such_call
+-- the table: a row for each request of process p with these descriptors and these children left to collect
+abbrev pub row : Shared → ℕ → List (Option Descriptor) → List ℕ → Request → Effect
+row s p ds children (request.Exit status) = row_end ds (status % 256)
+row s p ds children (request.Write fd n bytes) = row_write s (descriptor_at ds fd) fd n bytes
+row s p ds children (request.Read fd at n fits) = row_read s (descriptor_at ds fd) fd at n fits
+row s p ds children (request.Open n mode name) = row_open (names_of s.files) ds n mode name
+row s p ds children (request.Close fd) = row_close (descriptor_at ds fd) fd
+row s p ds children (request.Pipe at fits) = row_pipe (length s.pipes) ds at fits
+row s p ds children request.Fork = row_fork (length s.statuses) ds
+row s p ds children (request.Wait at fits) = row_wait s.statuses children at fits
+row s p ds children request.GetPid = only (number p)
+row s p ds children (request.Seek fd offset) = row_seek (descriptor_at ds fd) fd offset
+row s p ds children request.Sync = only (number 0)
+row s p ds children request.Unknown = failure no_such_call

@@ -1,8 +1,9 @@
 -- What may be seen of a run from outside.
-use Rattle.std.specs.Prelude.{ℕ, ◌==◌, Bool, if◌then◌else◌, List, [], ◌∷◌, ◌++◌, map, Option, Some, None, option_to_list}
+use Rattle.std.specs.Prelude.{ℕ, ◌==◌, Bool, false, if◌then◌else◌, List, [], ◌∷◌, ◌++◌, map, Option, Some, None, option_to_list}
 use Rattle.machine_model.specs.declared.reply.Reply.{Reply}
 use Rattle.kernel_model.specs.Entries.{Entry, Item, Got, End}
 use Rattle.kernel_model.specs.Paths.{is_settled}
+use Rattle.kernel_model.specs.Steps.{zero_reply}
 use Rattle.kernel_model.specs.World.{World}
 use Rattle.kernel_model.specs.declared.effect.Output.{Output}
 
@@ -30,13 +31,30 @@ bytes_for t (Some out) = if out.terminal == t then out.bytes else []
 abbrev pub printed : ℕ → List Entry → List (Given ℕ)
 printed t log = each_from (λ e. bytes_for t e.output) [] log
 
--- what an event tells process p
+-- what an event tells process p by its call
 abbrev pub items_for : ℕ → Entry → List Item
 items_for p e = if e.process == p then option_to_list e.item else []
 
--- all items that process p was told, each with its event
+-- an event that made this process, if it made one, made process p
+abbrev pub is_made : Option ℕ → ℕ → Bool
+is_made None p = false
+is_made (Some child) p = child == p
+
+-- What process p was told after one more event, where `before` is what each process was told before it. A process that the
+-- event made was told what its parent was told before, and then 0.
+abbrev pub told_with : (ℕ → List (Given Item)) → List Entry → Entry → ℕ → List (Given Item)
+told_with before past e p =
+    if is_made e.child p then before e.process ++ given_by past e (Got zero_reply ∷ [])
+    else before p ++ given_by past e (items_for p e)
+
+-- what each process was told by these entries, which come after `past`, where `before` is what each was told by those
+abbrev pub told_from : (ℕ → List (Given Item)) → List Entry → List Entry → ℕ → List (Given Item)
+told_from before past [] = before
+told_from before past (e ∷ es) = told_from (told_with before past e) (past ++ e ∷ []) es
+
+-- all items that process p was told, its parent's before it was made among them, each with its event
 abbrev pub told : ℕ → List Entry → List (Given Item)
-told p log = each_from (items_for p) [] log
+told p log = told_from (λ q. []) [] log p
 
 -- the longest front whose elements pass
 abbrev pub front : {A : Type 0} → (A → Bool) → List A → List A

@@ -1,11 +1,11 @@
 -- What each event does to the synchronous state.
-use Rattle.std.specs.Prelude.{ℕ, ◌+◌, if◌then◌else◌, List, [], ◌∷◌, map, slice_set, Option, Some, None, is_some}
+use Rattle.std.specs.Prelude.{ℕ, ◌+◌, ◌==◌, not, Bool, false, if◌then◌else◌, List, [], ◌∷◌, ◌++◌, map, filter, slice_set, Option, Some, None, is_some, option_to_list}
 use Rattle.machine_model.specs.declared.reply.Reply.{Reply}
 use Rattle.machine_model.specs.declared.stop.Stop.{Stop}
 use Rattle.machine_model.specs.declared.stop.Stop.TheVariants.{Limit, Call, Trap}
 use Rattle.machine_model.specs.States.{run, stands_at, replied}
 use Rattle.kernel_model.specs.Entries.{Entry, Got, End}
-use Rattle.kernel_model.specs.State.{SyncState, Shared, shared, Process, process_at, put_process, with_process, changed_by}
+use Rattle.kernel_model.specs.State.{SyncState, Shared, shared, Process, process_at, put_process, with_process, changed_by, read_by, all_stepped}
 use Rattle.kernel_model.specs.Requests.{request_of}
 use Rattle.kernel_model.specs.Rows.{Effect, row, row_end, cause_number}
 use Rattle.kernel_model.specs.declared.carrier.Carrier.TheVariants.{Proc}
@@ -23,11 +23,11 @@ pub record Transition : Type 0 where
 
 -- the entry of an event of the disk
 abbrev pub disk_entry : Entry
-disk_entry = record { process = 0; reads = []; writes = []; change = None; output = None; item = None }
+disk_entry = record { process = 0; reads = []; writes = []; change = None; output = None; item = None; child = None }
 
 -- the entry of an event of process p that touches nothing but the process
 abbrev pub own_entry : ℕ → Entry
-own_entry p = record { process = p; reads = Proc p ∷ []; writes = Proc p ∷ []; change = None; output = None; item = None }
+own_entry p = record { process = p; reads = Proc p ∷ []; writes = Proc p ∷ []; change = None; output = None; item = None; child = None }
 
 -- an event of the disk: the synchronous state stays
 abbrev pub unchanged : SyncState → Transition
@@ -48,34 +48,62 @@ after_turn s pid n (Some p) =
     if is_some p.status then impossible pid s
     else record { state = with_process s pid (after_run n p); entry = own_entry pid }
 
--- what comes of the call or the trap at which a process stands
-abbrev pub effect_at : Shared → Process → Option Stop → Option Effect
-effect_at s p (Some Call) = Some (row s p.descriptors (request_of p.state))
-effect_at s p (Some (Trap cause)) = Some (row_end (256 + cause_number cause))
-effect_at s p (Some Limit) = None
-effect_at s p None = None
+-- what comes of the call or the trap at which process pid stands
+abbrev pub effect_at : Shared → ℕ → Process → Option Stop → Option Effect
+effect_at s pid p (Some Call) = Some (row s pid p.descriptors p.children (request_of p.state))
+effect_at s pid p (Some (Trap cause)) = Some (row_end p.descriptors (256 + cause_number cause))
+effect_at s pid p (Some Limit) = None
+effect_at s pid p None = None
 
 -- the descriptors after these edits, the first of them first
 abbrev pub set_slots : List (Option Descriptor) → List Slot → List (Option Descriptor)
 set_slots ds [] = ds
 set_slots ds (slot ∷ slots) = set_slots (slice_set ds slot.fd slot.holds) slots
 
+-- a child is the one that is collected
+abbrev pub is_collected : Option ℕ → ℕ → Bool
+is_collected None child = false
+is_collected (Some collected) child = child == collected
+
+-- the children left to collect, without the one that is collected, and with the one that is made
+abbrev pub children_after : List ℕ → Effect → List ℕ
+children_after children e = filter (λ child. not (is_collected e.collects child)) children ++ option_to_list e.child
+
 -- the process after a reply
 abbrev pub after_reply : Process → Effect → Reply → Process
-after_reply p e r = record { state = replied p.state r; descriptors = set_slots p.descriptors e.slots; status = None }
+after_reply p e r = record {
+  state = replied p.state r;
+  descriptors = set_slots p.descriptors e.slots;
+  children = children_after p.children e;
+  status = None;
+}
+
+-- the reply of a fork to the process that it makes
+abbrev pub zero_reply : Reply
+zero_reply = record { a0 = 0; at = 0; bytes = [] }
+
+-- the process that is made, as its parent was, if one is: it is told 0, and has no children
+abbrev pub forked : Process → Option ℕ → List Process
+forked p None = []
+forked p (Some child) = record { state = replied p.state zero_reply; descriptors = p.descriptors; children = []; status = None } ∷ []
 
 -- the process once it has ended with a status
 abbrev pub after_end : Process → ℕ → Process
-after_end p status = record { state = p.state; descriptors = map (λ d. None) p.descriptors; status = Some status }
+after_end p status = record p { descriptors = map (λ d. None) p.descriptors; status = Some status }
 
 -- what an effect does, where the caller is told this
 abbrev pub after_effect : SyncState → ℕ → Process → Effect → Verdict → Transition
 after_effect s pid p e Waits = record {
   state = s;
-  entry = record { process = pid; reads = Proc pid ∷ e.reads; writes = []; change = None; output = None; item = None };
+  entry = record { process = pid; reads = Proc pid ∷ e.reads; writes = []; change = None; output = None; item = None; child = None };
 }
 after_effect s pid p e (Replies r) = record {
-  state = record { processes = put_process s.processes pid (after_reply p e r); files = changed_by s.files e.change; tapes = s.tapes };
+  state = record {
+    processes = put_process s.processes pid (after_reply p e r) ++ forked p e.child;
+    files = changed_by s.files e.change;
+    pipes = all_stepped s.pipes e.pipes;
+    tapes = read_by s.tapes e.tape;
+  };
   entry = record {
     process = pid;
     reads = Proc pid ∷ e.reads;
@@ -83,10 +111,11 @@ after_effect s pid p e (Replies r) = record {
     change = e.change;
     output = e.output;
     item = Some (Got r);
+    child = e.child;
   };
 }
 after_effect s pid p e (Ends status) = record {
-  state = with_process s pid (after_end p status);
+  state = record (with_process s pid (after_end p status)) { pipes = all_stepped s.pipes e.pipes };
   entry = record {
     process = pid;
     reads = Proc pid ∷ e.reads;
@@ -94,6 +123,7 @@ after_effect s pid p e (Ends status) = record {
     change = None;
     output = None;
     item = Some (End status);
+    child = None;
   };
 }
 
@@ -107,7 +137,7 @@ abbrev pub after_enter : SyncState → ℕ → Option Process → Transition
 after_enter s pid None = impossible pid s
 after_enter s pid (Some p) =
     if is_some p.status then impossible pid s
-    else after_effect_if s pid p (effect_at (shared s) p (stands_at p.state))
+    else after_effect_if s pid p (effect_at (shared s) pid p (stands_at p.state))
 
 -- one event
 abbrev pub step : SyncState → Event → Transition

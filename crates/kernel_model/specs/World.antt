@@ -64,6 +64,7 @@ abbrev pub first_process : ℕ → BootProgram → Process
 first_process i p = record {
   state = p.state;
   descriptors = Some (Tape i) ∷ Some (Terminal p.terminal) ∷ replicate 14 None;
+  children = [];
   status = None;
 }
 
@@ -89,7 +90,7 @@ tape_count = 8
 -- the run before any event
 abbrev pub begun : Boot → World
 begun b = record {
-  sync = record { processes = processes_from 0 b.programs; files = b.files; tapes = tapes_of tape_count b.tapes };
+  sync = record { processes = processes_from 0 b.programs; files = b.files; pipes = []; tapes = tapes_of tape_count b.tapes };
   log = [];
   storage = storage_at b.disk b.gate;
 }

@@ -1,7 +1,16 @@
 //! What a descriptor stands for.
 
-/// What a descriptor stands for. A tape, and a file that was opened by mode 0, may be read alone; a terminal, and a
-/// file that was opened by mode 1 or 2, may be written alone.
+/// An end of a pipe, by the pipe's number.
+#[derive(Clone, Copy, Debug, PartialEq, Eq)]
+pub enum PipeEnd {
+    /// The end from which bytes are read.
+    Read(u32),
+    /// The end to which bytes are written.
+    Write(u32),
+}
+
+/// What a descriptor stands for. A tape, the read end of a pipe, and a file that was opened by mode 0, may be read alone; a
+/// terminal, the write end of a pipe, and a file that was opened by mode 1 or 2, may be written alone.
 #[derive(Clone, Copy, Debug, PartialEq, Eq)]
 pub enum Descriptor {
     /// A tape, by its number.
@@ -14,4 +23,6 @@ pub enum Descriptor {
         offset: u32,
         writes: bool,
     },
+    /// An end of a pipe.
+    Pipe(PipeEnd),
 }

@@ -1,5 +1,5 @@
 //! Edits that a call makes.
-use crate::descriptor::Descriptor;
+use crate::descriptor::{Descriptor, PipeEnd};
 use byte_list::Bytes;
 
 /// Bytes for a terminal.
@@ -14,4 +14,26 @@ pub struct Output {
 pub struct Slot {
     pub fd: usize,
     pub holds: Option<Descriptor>,
+}
+
+/// So many more bytes of a tape are read.
+#[derive(Clone, Copy, Debug, PartialEq, Eq)]
+pub struct TapeRead {
+    pub tape: u32,
+    pub count: usize,
+}
+
+/// What happens to the pipes.
+#[derive(Debug, Drop)]
+pub enum PipeStep {
+    /// A new pipe, the next by number, with one end of each kind.
+    Open,
+    /// Bytes are written to a pipe.
+    Put { pipe: u32, bytes: Bytes },
+    /// So many bytes are read from a pipe.
+    Take { pipe: u32, count: usize },
+    /// One more descriptor stands for an end.
+    Add(PipeEnd),
+    /// One descriptor fewer stands for an end.
+    Drop(PipeEnd),
 }

@@ -11,8 +11,8 @@ mod request;
 
 pub use answer::{Answer, Outcome, Refused};
 pub use carrier::Carrier;
-pub use descriptor::Descriptor;
-pub use effect::{Output, Slot};
+pub use descriptor::{Descriptor, PipeEnd};
+pub use effect::{Output, PipeStep, Slot, TapeRead};
 pub use event::Event;
 pub use laws::{files_are_folded, settled_is};
 pub use request::{Request, Verdict};

@@ -23,6 +23,40 @@ pub enum Request {
         mode: u32,
         name: Option<Bytes>,
     },
+    /// At most n bytes are read through a descriptor, to this place; `fits` says that they are not too many, and that the
+    /// process may write them there itself.
+    Read {
+        fd: u32,
+        at: u32,
+        n: u32,
+        fits: bool,
+    },
+    /// A descriptor is closed.
+    Close {
+        fd: u32,
+    },
+    /// A pipe is made, and its two descriptors written to this place; `fits` says that the process may write there itself.
+    Pipe {
+        at: u32,
+        fits: bool,
+    },
+    /// A new process is made, as this one is.
+    Fork,
+    /// A child that has ended is collected, and its status written to this place, unless that is 0; `fits` says that it is
+    /// 0, or that the process may write there itself.
+    Wait {
+        at: u32,
+        fits: bool,
+    },
+    /// The process asks for its own number.
+    GetPid,
+    /// A file is read or written next at this offset through a descriptor.
+    Seek {
+        fd: u32,
+        offset: u32,
+    },
+    /// The process asks that its changes of files be stored.
+    Sync,
     /// A call of no number of the table.
     Unknown,
 }

@@ -1,4 +1,5 @@
 //! The command line.
+use clap::error::ErrorKind;
 use clap::{Arg, ArgAction, ArgMatches, Command, Error};
 use std::alloc::Global;
 
@@ -47,7 +48,7 @@ fn commands<'a>(alloc: Global) -> Result<Command<'a>, Error> {
     Ok(bench)
 }
 
-/// What a command and its arguments ask for.
+/// What a command and its arguments ask for. None for a name that is not handled here.
 fn task_of<'a>(name: &str, matches: &ArgMatches<'a>) -> Option<Task<'a>> {
     match name {
         "replay" => Some(Task::ReplayFile(matches.get_str("SCRIPT")?)),
@@ -65,10 +66,14 @@ pub fn parse<'a>(alloc: Global, words: &'a [String]) -> Result<Task<'a>, Error> 
     if words.is_empty() {
         return Ok(Task::ReplayInput);
     }
-    let matches = commands(alloc)?.try_get_matches_from(words)?;
-    let Some((name, matches)) = matches.subcommand() else {
-        return Ok(Task::ReplayInput);
+    let mut commands = commands(alloc)?;
+    let matches = commands.try_get_matches_from_mut(words)?;
+    let asked = match matches.subcommand() {
+        Some((name, matches)) => task_of(name, matches),
+        None => None,
     };
-    // Each command has its arguments here, since all are required.
-    Ok(task_of(name, matches).unwrap_or(Task::ReplayInput))
+    match asked {
+        Some(task) => Ok(task),
+        None => Err(commands.error(ErrorKind::InvalidSubcommand, "no such command")?),
+    }
 }

@@ -7,7 +7,7 @@ use crate::replay::{image_in, replay};
 use crate::source::assemble_source;
 use clap::Error;
 use clap::error::ErrorKind;
-use std::io::{Read, Write};
+use std::io::{BufWriter, Read, Write};
 use std::rt::Files;
 use std::{fs, io};
 
@@ -86,7 +86,8 @@ fn end_usage<O: Write, E: Write>(error: &Error, out: &mut O, err: &mut E) -> u8 
 }
 
 /// The whole program: does what the words, the program's name aside, ask for, and answers the exit status. No words:
-/// replays the script on the input. What it prints goes to `out`; one line on `err` says why it ended early.
+/// replays the script on the input. What it prints goes to `out`, through a buffer that has gone out before anything is
+/// written to `err` and before the status is answered; one line on `err` says why it ended early.
 pub fn bench<R: Files + AllocGlobal, I: Read, O: Write, E: Write>(
     rt: &R,
     words: &[String],
@@ -94,11 +95,18 @@ pub fn bench<R: Files + AllocGlobal, I: Read, O: Write, E: Write>(
     out: &mut O,
     err: &mut E,
 ) -> u8 {
-    match parse(rt.alloc(), words) {
-        Err(error) => end_usage(&error, out, err),
-        Ok(task) => match run(rt, task, input, out) {
+    let mut out = match BufWriter::new(rt.alloc(), out) {
+        Ok(out) => out,
+        Err(error) => return end(Fault::from(error), err),
+    };
+    let status = match parse(rt.alloc(), words) {
+        Err(error) => end_usage(&error, &mut out, err),
+        Ok(task) => match run(rt, task, input, &mut out) {
             Ok(()) => 0,
             Err(fault) => end(fault, err),
         },
-    }
+    };
+    // What could not go out is not tried again behind the line that says so.
+    let _ = out.into_parts();
+    status
 }

@@ -1,10 +1,11 @@
 //! The run of a script.
-ghost use Rattle.std.specs.Prelude.{◌≡◌, ◌≤◌, ◌<◌, length, IfOk};
+ghost use Rattle.std.specs.Prelude.{◌≡◌, ◌≤◌, ◌<◌, length, vec_len, IfOk};
 ghost use Rattle.std.specs.List.{AllByRecursion};
 
 use crate::fault::Fault;
 use crate::print::print;
-use crate::script::{Script, ScriptProgram, Source, Step, Terminal};
+use crate::script::{Script, ScriptProgram, ScriptTape, Source, Step, TAPES, Terminal};
+use byte_list::Bytes;
 use disk_model::zeros_hold_nothing;
 use elf32::Image;
 use kernel::{Answer, Core, Program, Refused, SimDisk};
@@ -46,16 +47,32 @@ fn programs_of<R: Files + AllocGlobal>(
     Ok(booted)
 }
 
+/// The eight tapes of a boot, by their numbers: those that a script gives, the others empty.
+fn tapes_of(alloc: Global, tapes: &[ScriptTape]) -> Result<Vec<Bytes>, Fault>
+    ensures { IfOk result (λ booted. length booted.items ≡ 8) }
+{
+    let mut booted = Vec::new(alloc);
+    for number in 0..TAPES {
+        let given = tapes.iter().find(|tape| tape.number == number);
+        booted.push(match given {
+            Some(tape) => tape.bytes.try_clone(alloc)?,
+            None => Bytes::empty(alloc),
+        })?;
+    }
+    Ok(booted)
+}
+
 /// Boots the programs of a script on a disk of zeros.
-fn boot<R: Files + AllocGlobal>(rt: &R, programs: &[ScriptProgram]) -> Result<Core, Fault>
-    requires some { 1 ≤ length programs.now }
-    requires few { length programs.now ≤ 8 }
+fn boot<R: Files + AllocGlobal>(rt: &R, script: &Script) -> Result<Core, Fault>
+    requires some { 1 ≤ vec_len script.now.programs }
+    requires few { vec_len script.now.programs ≤ 8 }
 {
     let alloc = rt.alloc();
-    let programs = programs_of(rt, programs)?;
+    let programs = programs_of(rt, script.programs.as_slice())?;
+    let tapes = tapes_of(alloc, script.tapes.as_slice())?;
     let disk = SimDisk::zero(alloc)?;
     zeros_hold_nothing();
-    Ok(Core::boot(alloc, disk, programs, Vec::new(alloc))?)
+    Ok(Core::boot(alloc, disk, programs, tapes)?)
 }
 
 /// Where a Turn stopped.
@@ -168,7 +185,7 @@ pub fn replay<R: Files + AllocGlobal, O: Write>(
 ) -> Result<(), Fault> {
     let alloc = rt.alloc();
     let script = Script::parse(alloc, text)?;
-    let mut core = boot(rt, &script.programs)?;
+    let mut core = boot(rt, &script)?;
     for step in &script.steps {
         play(alloc, &mut core, *step, out)?;
     }
@@ -185,7 +202,7 @@ mod tests {
     fn a_trap_ends_its_process(rt: HostRuntime) -> Result<(), Fail> {
         let alloc = rt.alloc();
         let script = Script::parse(alloc, "program 0 00100073\nturn 1 5\nenter 1\n")?;
-        let mut core = boot(&rt, &script.programs)?;
+        let mut core = boot(&rt, &script)?;
         assert_eq!(rt; core.ended(1)?, None);
         core.apply(Event::Turn { pid: 1, n: 5 })?;
         core.apply(Event::Enter { pid: 1 })?;

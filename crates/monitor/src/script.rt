@@ -2,7 +2,8 @@
 ghost use Rattle.std.specs.Prelude.{◌≡◌, ◌<◌, ◌≤◌, IfOk, IfSome, length, vec_len};
 
 use crate::fault::Fault;
-use hex::FromHex;
+use byte_list::Bytes;
+use hex::{FromHex, FromHexError};
 use kernel::Event;
 use std::alloc::{AllocError, Global};
 
@@ -14,6 +15,12 @@ const TERMINALS: u32 = 8;
 
 /// The most words of a program: 60 pages.
 const MOST_WORDS: usize = 15360;
+
+/// How many tapes there are.
+pub const TAPES: u32 = 8;
+
+/// The most bytes of a tape.
+const MOST_TAPE_BYTES: usize = 65536;
 
 /// The words of a program, 1 to 15,360, for the addresses from 0x00010000 on.
 #[derive(Drop)]
@@ -49,6 +56,17 @@ pub struct ScriptProgram {
     pub source: Source,
 }
 
+/// A tape that a script sets up.
+#[derive(Drop)]
+pub struct ScriptTape {
+    /// 0 to 7.
+    pub number: u32,
+    /// At most 65,536.
+    pub bytes: Bytes,
+    ghost there: { number < 8 },
+    ghost short: { length bytes ≤ 65536 },
+}
+
 /// A line of a script that is no set-up line.
 #[derive(Clone, Copy, Debug, PartialEq, Eq)]
 pub enum Step {
@@ -67,10 +85,11 @@ pub struct Terminal {
     ghost there: { number < 8 },
 }
 
-/// A script: its programs in order, and its steps in order.
+/// A script: its programs in order, the tapes that it gives, at most one of each number, and its steps in order.
 #[derive(Drop)]
 pub struct Script {
     pub programs: Vec<ScriptProgram>,
+    pub tapes: Vec<ScriptTape>,
     pub steps: Vec<Step>,
 }
 
@@ -78,6 +97,7 @@ pub struct Script {
 #[derive(Drop)]
 enum Line {
     Program(ScriptProgram),
+    Tape(ScriptTape),
     Step(Step),
 }
 
@@ -165,6 +185,37 @@ fn image_of(alloc: Global, words: &[&str]) -> Result<Option<ScriptProgram>, Allo
     }))
 }
 
+/// The bytes of a word of pairs of hexadecimal digits, or none for `-`. None where it has no such form.
+fn bytes_of(alloc: Global, word: &str) -> Result<Option<Bytes>, AllocError> {
+    match word {
+        "" => Ok(None),
+        "-" => Ok(Some(Bytes::empty(alloc))),
+        digits => match hex::decode(alloc, digits) {
+            Ok(bytes) => Ok(Some(Bytes::new(bytes))),
+            Err(FromHexError::OutOfMemory) => Err(AllocError),
+            Err(_) => Ok(None),
+        },
+    }
+}
+
+/// The tape of a line `tape T HEX`, without its first word. None where it has no such form, or is too long.
+fn tape_of(alloc: Global, words: &[&str]) -> Result<Option<ScriptTape>, AllocError> {
+    let [first, text] = words else {
+        return Ok(None);
+    };
+    let Some(number) = decimal(first) else {
+        return Ok(None);
+    };
+    let Some(bytes) = bytes_of(alloc, text)? else {
+        return Ok(None);
+    };
+    if number < TAPES && bytes.as_slice().len() <= MOST_TAPE_BYTES {
+        Ok(Some(ScriptTape { number, bytes }))
+    } else {
+        Ok(None)
+    }
+}
+
 /// The step of a line, if it has the form of one.
 fn step_of(words: &[&str]) -> Option<Step> {
     let step = match words {
@@ -191,6 +242,7 @@ fn line_of(alloc: Global, text: &str) -> Result<Option<Line>, AllocError> {
             program,
         ))),
         ["image", rest @ ..] => Ok(image_of(alloc, rest)?.map(|program| Line::Program(program))),
+        ["tape", rest @ ..] => Ok(tape_of(alloc, rest)?.map(|tape| Line::Tape(tape))),
         others => Ok(step_of(others).map(|step| Line::Step(step))),
     }
 }
@@ -210,15 +262,26 @@ fn push_program(
     Ok(true)
 }
 
+/// Adds a tape to those of a script, if it is not the second of its number.
+fn push_tape(tapes: &mut Vec<ScriptTape>, tape: ScriptTape) -> Result<bool, AllocError> {
+    if tapes.iter().any(|given| given.number == tape.number) {
+        return Ok(false);
+    }
+    tapes.push(tape)?;
+    Ok(true)
+}
+
 impl Script {
-    /// Reads a script whole. Refused is the first line that has no form, or is a `program` or `image` line behind a
-    /// line that is none, or a ninth one; and where there is no such line, line 1 of a script without either. Lines are
-    /// counted from 1 and end at a line feed; empty ones and those that begin with `#` are skipped.
+    /// Reads a script whole. Refused is the first line that has no form, is a set-up line (`program`, `image` or `tape`)
+    /// behind a line that is none, is a ninth `program` or `image` line, or is a second line for one tape; and where
+    /// there is no such line, line 1 of a script without a `program` and an `image` line. Lines are counted from 1 and
+    /// end at a line feed; empty ones and those that begin with `#` are skipped.
     pub fn parse(alloc: Global, text: &str) -> Result<Script, Fault>
         ensures some { IfOk result (λ script. 1 ≤ vec_len script.programs) }
         ensures few { IfOk result (λ script. vec_len script.programs ≤ 8) }
     {
         let mut programs = Vec::new(alloc);
+        let mut tapes = Vec::new(alloc);
         let mut steps = Vec::new(alloc);
         let mut number = 0usize;
         for text in text.split('\n') {
@@ -230,6 +293,7 @@ impl Script {
                 Some(Line::Program(program)) => {
                     steps.is_empty() && push_program(&mut programs, program)?
                 }
+                Some(Line::Tape(tape)) => steps.is_empty() && push_tape(&mut tapes, tape)?,
                 Some(Line::Step(step)) => {
                     steps.push(step)?;
                     true
@@ -243,6 +307,10 @@ impl Script {
         if programs.is_empty() {
             return Err(Fault::Script { line: 1 });
         }
-        Ok(Script { programs, steps })
+        Ok(Script {
+            programs,
+            tapes,
+            steps,
+        })
     }
 }

@@ -3,4 +3,4 @@ use Rattle.kernel_laws.proofs.Crashing.{crash_keeps}
 use Rattle.kernel_laws.proofs.crashes_keep_the_committed.Goals as goal
 
 pub returns : goal.returns
-returns c b es held bytes = crash_keeps c.crashes.ensures c.checkpoints_fit.ensures b es held bytes
+returns c b es held programs tapes = crash_keeps c.crashes.ensures b es held programs tapes

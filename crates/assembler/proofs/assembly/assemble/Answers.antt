@@ -1,6 +1,7 @@
 use Rattle.std.proofs.Common.{arith, rules}
 use Rattle.std.proofs.lemmas.Result.{IfOk-weaker, IfErr-weaker}
 use Rattle.assembler.proofs.Assemblies.{line-fault, listed-made}
+use Rattle.assembler.proofs.Listings.{lists-instructions}
 use Rattle.assembler.proofs.assembly.assemble.Goals as goal
 
 pub returns-clause-refused : goal.returns-clause-refused
@@ -9,3 +10,6 @@ returns-clause-refused c =
 
 pub returns-clause-listed : goal.returns-clause-listed
 returns-clause-listed c = IfOk-weaker c.assemble_lines.result _ _ (λ r made. listed-made c.as_bytes.result.now c.as_slice.result.now r.0 r.1 made) c.assemble_lines.ensures.ok
+
+pub returns-clause-meant : goal.returns-clause-meant
+returns-clause-meant c = IfOk-weaker c.assemble_lines.result _ _ (λ r made. lists-instructions c.args.source.now c.as_bytes.result.now c.in_ok-lines.lines.items c.as_slice.result.now r.0 r.1 (search rules) (search rules) c.in_ok-lines.ensures.exact c.one_reading.ensures.lines made) c.assemble_lines.ensures.ok

@@ -1,80 +1,99 @@
--- What holds of the rows of write and open holds of their plans.
-use Rattle.std.proofs.Common.{length, Ok, subst}
-use Rattle.kernel_model.specs.Requests.{most_bytes, longest_name}
-use Rattle.kernel_model.specs.Rows.{row_write, row_open, names_of, descriptor_at, failure, no_such_call}
-use Rattle.kernel_model.specs.declared.request.Request.{Request}
-use Rattle.calls.specs.Wholes.{IsWhole, AreWhole}
-use Rattle.calls.proofs.Edits.{row_write-one_edit, row_open-one_edit, row_write-possible, row_write-named, row_write-bare, row_open-possible, row_open-named, row_open-bare, named-after}
-use Rattle.calls.proofs.Files.{NamesFile-descriptor_at}
-use Rattle.calls.proofs.Planned.{planned-one_edit, planned-bare, planned-possible, carried-possible, planned-named}
+-- What holds of the row holds of the plan.
+use Rattle.std.proofs.Common.{◌≡◌, ℕ, List, Option, IfOk, IfSome, subst, sym, ap, ◌∙◌, arith, length}
+use Rattle.std.proofs.lemmas.List.{length-map}
+use Rattle.kernel_model.specs.Rows.{Effect, row}
+use Rattle.kernel_model.specs.declared.descriptor.Descriptor.{Descriptor}
+use Rattle.processes.specs.Parts.{Part, part_at, descriptors_in, children_in, statuses_of}
+use Rattle.calls.specs.declared.plan.Plan.{Plan}
+use Rattle.calls.specs.Plans.{IsPlan, IsNext}
+use Rattle.calls.specs.Shares.{shared_of}
+use Rattle.calls.proofs.Sound.{Kept, IsSound, named-after, piped-after}
+use Rattle.calls.proofs.Seeing.{row-kept}
+use Rattle.calls.proofs.Stepping.{few-shown}
+use Rattle.calls.proofs.Fitting.{FitsIn, request-fits}
+use Rattle.calls.proofs.Planned.{effect_of, planned, if_planned, carried, edits-as}
 use Rattle.calls.proofs.plan.plan_call.Goals as goal
 
-pub returns-in-Write-clause-one_edit : goal.returns-in-Write-clause-one_edit
-returns-in-Write-clause-one_edit c =
-    let d = descriptor_at c.args.descriptors.now c.in-Write.fd in
-    planned-one_edit c.write.result (row_write d c.in-Write.fd c.in-Write.n c.in-Write.bytes)
-    (row_write-one_edit d c.in-Write.fd c.in-Write.n c.in-Write.bytes) c.write.ensures.row
+-- what is kept when the call comes
+kept-of : goal.After-plan_row → Kept
+kept-of c = record {
+  statuses = statuses_of c.args.processes.now.parts;
+  files = c.args.files.now;
+  seen = c.args.pipes.now;
+  tapes = c.args.tapes.now;
+  descriptors = descriptors_in (part_at c.args.processes.now.parts c.args.pid);
+  children = children_in (part_at c.args.processes.now.parts c.args.pid);
+}
 
-pub returns-in-Write-clause-possible : goal.returns-in-Write-clause-possible
-returns-in-Write-clause-possible c =
-    let files = c.args.files.now in
-    let ds = c.args.descriptors.now in
-    let d = descriptor_at ds c.in-Write.fd in
-    let whole : AreWhole most_bytes c.in-Write.n c.in-Write.bytes = subst (λ (r : Request). IsWhole r) c.in-Write.is c.requires.whole in
-    let named = NamesFile-descriptor_at (length files) ds c.in-Write.fd c.requires.named in
-    carried-possible c.write.result files (row_write d c.in-Write.fd c.in-Write.n c.in-Write.bytes)
-    (row_write-possible files d c.in-Write.fd c.in-Write.n c.in-Write.bytes c.requires.files named whole)
-    c.write.ensures.row c.write.ensures.carries
+-- the plan is sound
+sound-of : (c : goal.After-plan_row) → IfOk c.plan_row.result (λ plan. IsSound (kept-of c) c.args.request (effect_of plan))
+unfolding kept-of
+sound-of c =
+    planned c.plan_row.result (kept-of c) c.args.pid c.args.request c.descriptors_of-descriptors.result.now c.descriptors_of-descriptors.ensures.value
+    (record { few = c.requires.few; named = c.requires.named; whole = c.requires.whole }) c.plan_row.ensures.row
 
-pub returns-in-Write-clause-named : goal.returns-in-Write-clause-named
-returns-in-Write-clause-named c =
-    let files = c.args.files.now in
-    let ds = c.args.descriptors.now in
-    let d = descriptor_at ds c.in-Write.fd in
-    let e = row_write d c.in-Write.fd c.in-Write.n c.in-Write.bytes in
-    let named = NamesFile-descriptor_at (length files) ds c.in-Write.fd c.requires.named in
-    planned-named c.write.result files ds e
-    (named-after files ds e (row_write-named files d c.in-Write.fd c.in-Write.n c.in-Write.bytes named) c.requires.named)
-    c.write.ensures.row
+pub returns-clause-row : goal.returns-clause-row
+returns-clause-row c = λ s kept.
+    let parts = c.args.processes.now.parts in
+    let statuses = statuses_of parts in
+    let ds = descriptors_in (part_at parts c.args.pid) in
+    let children = children_in (part_at parts c.args.pid) in
+    let all = shared_of statuses c.args.files.now c.args.pipes.now c.args.tapes.now in
+    let same : row all c.args.pid c.descriptors_of-descriptors.result.now children c.args.request ≡ row s c.args.pid ds children c.args.request =
+    ap (λ (xs : List (Option Descriptor)). row all c.args.pid xs children c.args.request) c.descriptors_of-descriptors.ensures.value
+    ∙ row-kept s statuses c.args.files.now c.args.pipes.now c.args.tapes.now c.args.pid ds children c.args.request kept in
+    subst (λ (e : Effect). IfOk c.plan_row.result (λ plan. IsPlan plan e)) same c.plan_row.ensures.row
 
-pub returns-in-Write-clause-no_bytes : goal.returns-in-Write-clause-no_bytes
-returns-in-Write-clause-no_bytes c =
-    let d = descriptor_at c.args.descriptors.now c.in-Write.fd in
-    planned-bare c.write.result (row_write d c.in-Write.fd c.in-Write.n c.in-Write.bytes)
-    (row_write-bare d c.in-Write.fd c.in-Write.n c.in-Write.bytes) c.write.ensures.row
+pub returns-clause-one_edit : goal.returns-clause-one_edit
+returns-clause-one_edit c = if_planned c.plan_row.result _ _ (λ (plan : Plan) sound. sound.one_edit) (sound-of c)
 
-pub returns-in-Open-clause-one_edit : goal.returns-in-Open-clause-one_edit
-returns-in-Open-clause-one_edit c =
-    let names = names_of c.args.files.now in
-    let ds = c.args.descriptors.now in
-    planned-one_edit c.open.result (row_open names ds c.in-Open.n c.in-Open.mode c.in-Open.name)
-    (row_open-one_edit names ds c.in-Open.n c.in-Open.mode c.in-Open.name) c.open.ensures
+pub returns-clause-one_entry : goal.returns-clause-one_entry
+returns-clause-one_entry c = if_planned c.plan_row.result _ _ (λ (plan : Plan) sound. sound.one_entry) (sound-of c)
 
-pub returns-in-Open-clause-possible : goal.returns-in-Open-clause-possible
-returns-in-Open-clause-possible c =
-    let files = c.args.files.now in
-    let ds = c.args.descriptors.now in
-    let whole : AreWhole longest_name c.in-Open.n c.in-Open.name = subst (λ (r : Request). IsWhole r) c.in-Open.is c.requires.whole in
-    planned-possible c.open.result files (row_open (names_of files) ds c.in-Open.n c.in-Open.mode c.in-Open.name)
-    (row_open-possible files ds c.in-Open.n c.in-Open.mode c.in-Open.name c.requires.files whole)
-    c.open.ensures
+pub returns-clause-opens : goal.returns-clause-opens
+returns-clause-opens c = if_planned c.plan_row.result _ _ (λ (plan : Plan) sound. sound.opens) (sound-of c)
 
-pub returns-in-Open-clause-named : goal.returns-in-Open-clause-named
-returns-in-Open-clause-named c =
-    let files = c.args.files.now in
-    let ds = c.args.descriptors.now in
-    let e = row_open (names_of files) ds c.in-Open.n c.in-Open.mode c.in-Open.name in
-    planned-named c.open.result files ds e
-    (named-after files ds e (row_open-named files ds c.in-Open.n c.in-Open.mode c.in-Open.name) c.requires.named)
-    c.open.ensures
+pub returns-clause-edits : goal.returns-clause-edits
+returns-clause-edits c = if_planned c.plan_row.result _ _ (λ (plan : Plan) sound. edits-as plan plan.told sound.edits) (sound-of c)
 
-pub returns-in-Open-clause-no_bytes : goal.returns-in-Open-clause-no_bytes
-returns-in-Open-clause-no_bytes c =
-    let names = names_of c.args.files.now in
-    let ds = c.args.descriptors.now in
-    planned-bare c.open.result (row_open names ds c.in-Open.n c.in-Open.mode c.in-Open.name)
-    (row_open-bare names ds c.in-Open.n c.in-Open.mode c.in-Open.name) c.open.ensures
+pub returns-clause-possible : goal.returns-clause-possible
+unfolding kept-of
+returns-clause-possible c = carried c.plan_row.result (kept-of c) c.args.request (sound-of c) c.plan_row.ensures.carries
 
-pub returns-in-Unknown-clause-named : goal.returns-in-Unknown-clause-named
-returns-in-Unknown-clause-named c =
-    planned-named (Ok c.failure.result) c.args.files.now c.args.descriptors.now (failure no_such_call) c.requires.named c.failure.ensures
+pub returns-clause-named : goal.returns-clause-named
+unfolding kept-of
+returns-clause-named c =
+    if_planned c.plan_row.result _ _ (λ (plan : Plan) sound. named-after (kept-of c) c.args.request (effect_of plan) sound c.requires.named) (sound-of c)
+
+pub returns-clause-left : goal.returns-clause-left
+unfolding kept-of
+returns-clause-left c = if_planned c.plan_row.result _ _ (λ (plan : Plan) sound. sound.left) (sound-of c)
+
+pub returns-clause-steps : goal.returns-clause-steps
+unfolding kept-of
+returns-clause-steps c = λ s n kept few lt.
+    let size : length (descriptors_in (part_at c.args.processes.now.parts c.args.pid)) ≡ length c.descriptors_of-descriptors.result.now =
+    ap length (sym c.descriptors_of-descriptors.ensures.value) in
+    if_planned c.plan_row.result _ _ (λ (plan : Plan) sound. sound.steps n (omega arith) (few-shown n s.pipes c.args.pipes.now kept.pipes few)) (sound-of c)
+
+pub returns-clause-pipes : goal.returns-clause-pipes
+unfolding kept-of
+returns-clause-pipes c = λ names.
+    if_planned c.plan_row.result _ _ (λ (plan : Plan) sound. piped-after (kept-of c) c.args.request (effect_of plan) sound names) (sound-of c)
+
+pub returns-clause-child : goal.returns-clause-child
+unfolding kept-of
+returns-clause-child c =
+    let size : length (statuses_of c.args.processes.now.parts) ≡ length c.args.processes.now.parts =
+    length-map c.args.processes.now.parts (λ (part : Part). part.status) in
+    if_planned c.plan_row.result _ _ (λ (plan : Plan) sound. subst (λ (n : ℕ). IfSome plan.child (IsNext n)) size sound.child) (sound-of c)
+
+pub returns-clause-collects : goal.returns-clause-collects
+unfolding kept-of
+returns-clause-collects c = if_planned c.plan_row.result _ _ (λ (plan : Plan) sound. sound.collects) (sound-of c)
+
+pub returns-clause-place : goal.returns-clause-place
+unfolding kept-of
+returns-clause-place c =
+    if_planned c.plan_row.result _ _
+    (λ (plan : Plan) sound. λ s asked. sound.placed s.hart.memory (subst (FitsIn s.hart.memory) (sym asked) (request-fits s))) (sound-of c)

@@ -1,8 +1,7 @@
 -- One task more, and in the end all.
-use Rattle.std.proofs.Common.{◌≡◌, ◌+◌, ◌-◌, ◌∷◌, List, ap, sym, subst, ◌∙◌, arith, slice_get, Some, None, replicate}
+use Rattle.std.proofs.Common.{◌≡◌, List, sym, subst, ◌∙◌, arith, slice_get, Some}
 use Rattle.machine_model.specs.Access.{HoldsBytes}
 use Rattle.machine_model.specs.States.{State}
-use Rattle.kernel_model.specs.declared.descriptor.Descriptor.TheVariants.{Tape, Terminal}
 use Rattle.kernel.specs.declared.boot.Program.{Program}
 use Rattle.kernel.specs.declared.task.Task.{Task}
 use Rattle.kernel.proofs.Lists.{get-there}
@@ -17,17 +16,16 @@ loop-place-preserved c =
     let p : Program = c.index-programs-place.result in
     let there : slice_get c.args.programs.now c.loop-place.place ≡ Some p =
     get-there c.args.programs.now c.loop-place.place p c.loop-place-test.true c.index-programs-place.is in
-    let back : c.loop-place.place + 1 - 1 ≡ c.loop-place.place = omega arith in
     first-more c.args.programs.now c.loop-place.tasks.items c.push.new.self.items c.loop-place.place p c.new-task.result c.loop-place.invariant there
     (record {
       number = c.new-task.ensures.pid;
       machine = c.new-task.ensures.machine ∙ c.in_ok-machine.ensures.first;
       bytes = subst (λ (s : State). HoldsBytes s.hart.memory) (sym c.new-task.ensures.machine) c.in_ok-machine.ensures.bytes;
-      descriptors = c.new-task.ensures.descriptors ∙ ap (λ n. Some (Tape n) ∷ Some (Terminal p.terminal) ∷ replicate 14 None) back;
       replies = c.new-task.ensures.replies;
       marks = c.new-task.ensures.marks;
       handed = c.new-task.ensures.handed;
       end = c.new-task.ensures.end;
+      waited = c.new-task.ensures.waited;
       loans = c.new-task.ensures.loans;
       out = c.new-task.ensures.out;
     })

@@ -11,6 +11,10 @@ returns-clause-err c =
       marks = refl;
       changes = c.reserve.ensures.items;
       files = files;
+      tapes = refl;
+      pipes = refl;
+      parts = refl;
+      told = refl;
       disk = refl;
       screens = subst (λ (k : ℕ). StayScreens k c.args.shared.now.screens.items c.perform.new.screens.items) c.committed-committed.ensures screens;
     })

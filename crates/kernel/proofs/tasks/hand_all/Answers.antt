@@ -18,12 +18,12 @@ loop-task-preserved c =
     (record {
       number = refl;
       machine = refl;
-      descriptors = refl;
       loans = refl;
       out = refl;
       replies = ap (λ v. v.items) c.advance.ensures.replies;
       marks = ap (λ v. v.items) c.advance.ensures.marks;
       end = c.advance.ensures.end;
+      waited = c.advance.ensures.waited;
       handed = c.advance.ensures.handed;
     })
     c.loop-task.invariant

@@ -1,6 +1,6 @@
 -- The refusal is that of the task at the process's place.
 use Rattle.std.proofs.Common.{◌≡◌, sym, ◌∙◌, Some, is_some, slice_get, subst, ◌^◌, ◌+◌, ◌≤◌}
-use Rattle.kernel.specs.Tasks.{process_of}
+use Rattle.kernel.specs.Tasks.{machine_of, out_of, process_of}
 use Rattle.kernel.specs.declared.task.Task.{Task}
 use Rattle.kernel.proofs.Lists.{get-there}
 use Rattle.kernel.proofs.Refusing.{turn-fine}
@@ -25,7 +25,7 @@ pub returns-in-None-clause-room : goal.returns-in-None-clause-room
 returns-in-None-clause-room c = λ u at.
     let t : Task = c.index-tasks-place.result in
     let there : slice_get c.args.tasks.now c.in-Some.place ≡ Some t = get-there c.args.tasks.now c.in-Some.place t c.in-Some.ensures.there c.index-tasks-place.is in
-    let fine = turn-fine (process_of t) (is_some t.out) c.args.full c.args.n (sym c.in-None.ensures) in
+    let fine = turn-fine (process_of t) (is_some (out_of t)) c.args.full c.args.n (sym c.in-None.ensures) in
     let twice : Some t ≡ Some u = sym there ∙ at in
     let same : t ≡ u = cc in
-    subst (λ (v : Task). v.machine.count + c.args.n ≤ 2 ^ 40) same fine.few
+    subst (λ (v : Task). (machine_of v).count + c.args.n ≤ 2 ^ 40) same fine.few

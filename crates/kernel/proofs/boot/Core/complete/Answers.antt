@@ -20,10 +20,15 @@ invariant_of-self-2 c =
       dependencies = c.self.inside.shared.dependencies;
       changes = c.self.inside.shared.changes;
       files = c.self.inside.shared.files;
+      tapes = c.self.inside.shared.tapes;
+      pipes = c.self.inside.shared.pipes;
+      processes = c.self.inside.shared.processes;
+      told = c.self.inside.shared.told;
       screens = c.release.new.screens;
       disk = c.complete.new.disk;
     }) c.args.at c.in_ok-committed.committed c.is_full-full.result c.self.invariant full
-    c.in_ok-committed.ensures.done c.in_ok-committed.ensures.history c.release.ensures.tasks c.release.ensures.screens refl refl refl
+    c.in_ok-committed.ensures.done c.in_ok-committed.ensures.history c.release.ensures.tasks c.release.ensures.screens refl refl refl refl
+    (record { pipes = refl; parts = refl; told = refl })
 
 pub returns : goal.returns
 returns c =

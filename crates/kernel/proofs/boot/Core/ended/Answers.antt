@@ -1,9 +1,8 @@
 -- The end of a trace that is handed out is that of the run.
-use Rattle.std.proofs.Common.{◌≡◌, ◌+◌, ap, sym, subst, ◌∙◌, rules, length, slice_get, Some, Option, is_some, true, List}
+use Rattle.std.proofs.Common.{◌≡◌, ◌+◌, ap, sym, subst, ◌∙◌, rules, length, slice_get, Some, is_some, true, List}
 use Rattle.disk_model.specs.Storage.{Storage}
 use Rattle.kernel_model.specs.Answers.{Kernel, now, process_of}
 use Rattle.kernel_model.specs.Shown.{handed, end_in}
-use Rattle.kernel_model.specs.State.{Process}
 use Rattle.kernel.specs.Cores.{run_of}
 use Rattle.kernel.specs.Handing.{handed_end_of}
 use Rattle.kernel.specs.Tests.{IsPlaceOf}
@@ -38,5 +37,4 @@ returns-in-Some-clause-there c =
     let there : slice_get c.self.inside.tasks.items c.in-Some.place ≡ Some t =
     get-there c.self.inside.tasks.items c.in-Some.place t placed.there c.index-task.ensures in
     subst (λ (k : Kernel). is_some (process_of k c.args.pid) ≡ true) c.self.view_is
-    (ap (λ (o : Option Process). is_some o)
-    (there-is c.self.inside.booted c.self.inside.history.items c.self.inside.tasks.items c.self.inside.shared c.args.pid c.in-Some.place t c.self.invariant placed there))
+    (there-is c.self.inside.booted c.self.inside.history.items c.self.inside.tasks.items c.self.inside.shared c.args.pid c.in-Some.place t c.self.invariant placed there)

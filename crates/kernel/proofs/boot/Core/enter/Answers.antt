@@ -3,14 +3,22 @@ use Rattle.std.proofs.Common.{subst}
 use Rattle.kernel_model.specs.Answers.{Kernel, Applies}
 use Rattle.kernel_model.specs.declared.event.Event.TheVariants.{Enter}
 use Rattle.kernel.specs.Cores.{kernel_of}
-use Rattle.kernel.proofs.EnterCore.{enter-core, enter-applies}
+use Rattle.kernel.specs.Cores.{run_of}
+use Rattle.kernel.proofs.EnterCore.{enter-core, enter-applies, log-short}
 use Rattle.kernel.proofs.boot.Core.enter.Goals as goal
+
+pub enter-requires-clause-mirrors : goal.enter-requires-clause-mirrors
+enter-requires-clause-mirrors c = (
+  run_of c.self.inside.booted c.self.inside.history.items,
+  c.self.invariant.mirrors,
+  log-short c.self.inside.booted c.self.inside.history.items c.self.inside.tasks.items c.self.inside.shared c.self.invariant,
+)
 
 pub invariant_of-self : goal.invariant_of-self
 invariant_of-self c =
     enter-core c.self.inside.booted c.self.inside.history.items c.enter.new.history.items c.self.inside.tasks.items c.enter.new.tasks.items
     c.self.inside.shared c.enter.new.shared c.args.pid c.enter.result
-    c.self.invariant c.enter.ensures.fine c.enter.ensures.mirrors c.enter.ensures.history c.enter.ensures.lendings c.enter.ensures.same c.enter.ensures.same_history
+    c.self.invariant c.enter.ensures.fine c.enter.ensures.mirrors c.enter.ensures.history c.enter.ensures.lendings c.enter.ensures.same c.enter.ensures.same_history c.enter.ensures.same_lendings
 
 pub returns : goal.returns
 returns c =
@@ -18,4 +26,4 @@ returns c =
     c.self.view_is
     (enter-applies c.self.inside.booted c.self.inside.history.items c.enter.new.history.items c.self.inside.tasks.items c.enter.new.tasks.items
     c.self.inside.shared c.self.inside.last_lent c.args.pid c.enter.result c.self.invariant
-    c.enter.ensures.fine c.enter.ensures.answer c.enter.ensures.history c.enter.ensures.lendings c.enter.ensures.refused c.enter.ensures.same_history)
+    c.enter.ensures.fine c.enter.ensures.answer c.enter.ensures.history c.enter.ensures.lendings c.enter.ensures.refused c.enter.ensures.same_history c.enter.ensures.same_lendings)

@@ -12,11 +12,11 @@ use Rattle.kernel.proofs.LendKept.{lent-core, lends-one, lends-none}
 use Rattle.kernel.proofs.boot.Core.lend.Goals as goal
 
 -- what was lent of the tasks, which were and are these, and now are so in the core
-given-of : (quantum behind : ℕ) (slice old new kept : List Task) (given : Option Loan) → slice ≡ old → kept ≡ new
-    → LendsNext quantum behind slice new given → LendsNext quantum behind old kept given
-given-of quantum behind slice old new kept given was same h =
-    subst (λ (ts : List Task). LendsNext quantum behind ts kept given) was
-    (subst (λ (ts : List Task). LendsNext quantum behind slice ts given) (sym same) h)
+given-of : (quantum told behind : ℕ) (slice old new kept : List Task) (given : Option Loan) → slice ≡ old → kept ≡ new
+    → LendsNext quantum told behind slice new given → LendsNext quantum told behind old kept given
+given-of quantum told behind slice old new kept given was same h =
+    subst (λ (ts : List Task). LendsNext quantum told behind ts kept given) was
+    (subst (λ (ts : List Task). LendsNext quantum told behind slice ts given) (sym same) h)
 
 pub lend_next-requires : goal.lend_next-requires
 lend_next-requires c =
@@ -31,22 +31,22 @@ returns-in_default c =
     let same : (with_items c.self.inside.tasks c.lend_next.new.tasks).items ≡ c.lend_next.new.tasks = with_items_is c.self.inside.tasks c.lend_next.new.tasks whole in
     let room : full_for_loan_of (length c.self.inside.history.items) c.self.inside.tasks.items ≡ false = cc in
     let none : c.in_ok-loan.field-0 ≡ None = c.in_default.is in
-    let done : LendsNext c.args.quantum c.self.inside.last_lent c.deref_mut.result.now c.lend_next.new.tasks None =
-    subst (λ (o : Option Loan). LendsNext c.args.quantum c.self.inside.last_lent c.deref_mut.result.now c.lend_next.new.tasks o) none c.in_ok-loan.ensures.done in
+    let done : LendsNext c.args.quantum c.self.inside.shared.told c.self.inside.last_lent c.deref_mut.result.now c.lend_next.new.tasks None =
+    subst (λ (o : Option Loan). LendsNext c.args.quantum c.self.inside.shared.told c.self.inside.last_lent c.deref_mut.result.now c.lend_next.new.tasks o) none c.in_ok-loan.ensures.done in
     let was : c.deref_mut.result.now ≡ c.self.inside.tasks.items = c.deref_mut.ensures.value in
     lends-none c.self.inside.booted c.self.inside.history.items c.self.inside.tasks.items (with_items c.self.inside.tasks c.lend_next.new.tasks).items
     c.self.inside.shared c.self.inside.last_lent c.args.quantum c.args.self.now c.self.view_is c.self.invariant room
-    (ap (λ ts. next_fit c.args.quantum c.self.inside.last_lent ts) (sym was) ∙ done.0) (same ∙ done.1 ∙ was)
+    (ap (λ ts. next_fit c.args.quantum c.self.inside.shared.told c.self.inside.last_lent ts) (sym was) ∙ done.0) (same ∙ done.1 ∙ was)
 
 pub invariant_of-self-2 : goal.invariant_of-self-2
 invariant_of-self-2 c =
     let whole : length c.lend_next.new.tasks ≡ c.self.inside.tasks.len = omega arith in
     let same : (with_items c.self.inside.tasks c.lend_next.new.tasks).items ≡ c.lend_next.new.tasks = with_items_is c.self.inside.tasks c.lend_next.new.tasks whole in
     let room : full_for_loan_of (length c.self.inside.history.items) c.self.inside.tasks.items ≡ false = cc in
-    let done : LendsNext c.args.quantum c.self.inside.last_lent c.deref_mut.result.now c.lend_next.new.tasks (Some c.in-Some.loan) =
-    subst (λ (o : Option Loan). LendsNext c.args.quantum c.self.inside.last_lent c.deref_mut.result.now c.lend_next.new.tasks o) c.in-Some.is c.in_ok-loan.ensures.done in
-    let lent : Lent c.args.quantum c.self.inside.last_lent c.self.inside.tasks.items (with_items c.self.inside.tasks c.lend_next.new.tasks).items c.in-Some.loan =
-    given-of c.args.quantum c.self.inside.last_lent c.deref_mut.result.now c.self.inside.tasks.items c.lend_next.new.tasks
+    let done : LendsNext c.args.quantum c.self.inside.shared.told c.self.inside.last_lent c.deref_mut.result.now c.lend_next.new.tasks (Some c.in-Some.loan) =
+    subst (λ (o : Option Loan). LendsNext c.args.quantum c.self.inside.shared.told c.self.inside.last_lent c.deref_mut.result.now c.lend_next.new.tasks o) c.in-Some.is c.in_ok-loan.ensures.done in
+    let lent : Lent c.args.quantum c.self.inside.shared.told c.self.inside.last_lent c.self.inside.tasks.items (with_items c.self.inside.tasks c.lend_next.new.tasks).items c.in-Some.loan =
+    given-of c.args.quantum c.self.inside.shared.told c.self.inside.last_lent c.deref_mut.result.now c.self.inside.tasks.items c.lend_next.new.tasks
     (with_items c.self.inside.tasks c.lend_next.new.tasks).items (Some c.in-Some.loan) c.deref_mut.ensures.value same done in
     lent-core c.self.inside.booted c.self.inside.history.items c.self.inside.tasks.items (with_items c.self.inside.tasks c.lend_next.new.tasks).items
     c.self.inside.shared c.args.quantum c.self.inside.last_lent c.in-Some.loan c.self.invariant room lent
@@ -56,10 +56,10 @@ returns c =
     let whole : length c.lend_next.new.tasks ≡ c.self.inside.tasks.len = omega arith in
     let same : (with_items c.self.inside.tasks c.lend_next.new.tasks).items ≡ c.lend_next.new.tasks = with_items_is c.self.inside.tasks c.lend_next.new.tasks whole in
     let room : full_for_loan_of (length c.self.inside.history.items) c.self.inside.tasks.items ≡ false = cc in
-    let done : LendsNext c.args.quantum c.self.inside.last_lent c.deref_mut.result.now c.lend_next.new.tasks (Some c.in-Some.loan) =
-    subst (λ (o : Option Loan). LendsNext c.args.quantum c.self.inside.last_lent c.deref_mut.result.now c.lend_next.new.tasks o) c.in-Some.is c.in_ok-loan.ensures.done in
-    let lent : Lent c.args.quantum c.self.inside.last_lent c.self.inside.tasks.items (with_items c.self.inside.tasks c.lend_next.new.tasks).items c.in-Some.loan =
-    given-of c.args.quantum c.self.inside.last_lent c.deref_mut.result.now c.self.inside.tasks.items c.lend_next.new.tasks
+    let done : LendsNext c.args.quantum c.self.inside.shared.told c.self.inside.last_lent c.deref_mut.result.now c.lend_next.new.tasks (Some c.in-Some.loan) =
+    subst (λ (o : Option Loan). LendsNext c.args.quantum c.self.inside.shared.told c.self.inside.last_lent c.deref_mut.result.now c.lend_next.new.tasks o) c.in-Some.is c.in_ok-loan.ensures.done in
+    let lent : Lent c.args.quantum c.self.inside.shared.told c.self.inside.last_lent c.self.inside.tasks.items (with_items c.self.inside.tasks c.lend_next.new.tasks).items c.in-Some.loan =
+    given-of c.args.quantum c.self.inside.shared.told c.self.inside.last_lent c.deref_mut.result.now c.self.inside.tasks.items c.lend_next.new.tasks
     (with_items c.self.inside.tasks c.lend_next.new.tasks).items (Some c.in-Some.loan) c.deref_mut.ensures.value same done in
     lends-one c.self.inside.booted c.self.inside.history.items c.self.inside.tasks.items (with_items c.self.inside.tasks c.lend_next.new.tasks).items
     c.self.inside.shared c.self.inside.last_lent c.args.quantum c.in-Some.loan c.args.self.now c.self.view_is c.self.invariant room lent

@@ -1,5 +1,5 @@
 -- The core keeps its parts, and its history grows by the result's events.
-use Rattle.std.proofs.Common.{◌≡◌, ◌∙◌, sym, subst, ℕ, List, Bool, true, false, Some, None, IsTrue, slice_get, slice_set, rules}
+use Rattle.std.proofs.Common.{◌≡◌, ◌∙◌, sym, subst, ℕ, List, Bool, true, false, Some, None, IsTrue, ◌<◌, length, slice_get, slice_set, rules}
 use Rattle.std.proofs.lemmas.Bool.{false≢true}
 use Rattle.std.specs.Prelude.{IfOk, OnOk, OnErr}
 use Rattle.machine_model.specs.States.{stands_at}
@@ -8,16 +8,17 @@ use Rattle.kernel_model.specs.Loans.{IsOfLoan, returned, events_of, settled, set
 use Rattle.kernel_model.specs.declared.event.Event.{Event}
 use Rattle.kernel.specs.Cores.{kernel_of}
 use Rattle.kernel.specs.Loaned.{loan_result}
-use Rattle.kernel.specs.Settling.{IsLoanOf}
+use Rattle.kernel.specs.Settling.{IsLoanOf, IsCallSettled, IsUnsettled}
 use Rattle.kernel.specs.Tests.{IsPlaceOf}
 use Rattle.kernel.specs.declared.boot.Booted.{Booted}
 use Rattle.kernel.specs.declared.loan.Done.{Done}
 use Rattle.kernel.specs.declared.task.Task.{Task}
 use Rattle.kernel.proofs.EnterLists.{get-there}
+use Rattle.kernel.proofs.EnterCore.{log-short, told-few}
 use Rattle.kernel.proofs.EnterResults.{on-ok-any}
-use Rattle.kernel.proofs.EnterWorld.{few-files, names-there}
+use Rattle.kernel.proofs.EnterWorld.{may-plan}
 use Rattle.kernel.proofs.SettleAccepted.{events-accepted}
-use Rattle.kernel.proofs.SettleCore.{own-loan, loan-own, turn-result, enter-result, settle-core, settle-events, settle-answer, settle-only, settle-err, same-of}
+use Rattle.kernel.proofs.SettleCore.{own-loan, loan-own, turn-result, enter-result, settle-core, settle-events, settle-answer, settle-only, settle-err, same-of, set-same}
 use Rattle.kernel.specs.Cores.{run_of}
 use Rattle.kernel.proofs.boot.Core.settle.Goals as goal
 
@@ -39,12 +40,8 @@ returns-then-not-is_of_loan-clause-stranger c = λ why own.
     let no : IsTrue false = subst (λ (x : Bool). IsTrue x) c.if-not-is_of_loan.true yes in
     absurd (false≢true no)
 
-pub settle_enter-requires-clause-files : goal.settle_enter-requires-clause-files
-settle_enter-requires-clause-files c =
-    few-files (run_of c.self.inside.booted c.self.inside.history.items) c.self.inside.shared c.self.invariant.mirrors.changes
-
-pub settle_enter-requires-clause-named : goal.settle_enter-requires-clause-named
-settle_enter-requires-clause-named c =
+pub settle_call-requires-clause-fine : goal.settle_call-requires-clause-fine
+settle_call-requires-clause-fine c =
     let b : Booted = c.self.inside.booted in
     let tasks : List Task = c.self.inside.tasks.items in
     let history : List Event = c.self.inside.history.items in
@@ -54,7 +51,19 @@ settle_enter-requires-clause-named c =
     let t : Task = c.index_mut-task.result.now in
     let placed : IsPlaceOf tasks d.pid place = subst (λ (ts : List Task). IsPlaceOf ts d.pid place) c.deref.ensures.value c.in-Some.ensures in
     let there : slice_get tasks place ≡ Some t = get-there tasks place t placed.there c.index_mut-task.ensures.value in
-    names-there (run_of b history) tasks c.self.inside.shared place t c.self.invariant.mirrors there
+    may-plan (run_of b history) tasks c.self.inside.shared d.pid place t c.self.invariant.mirrors (log-short b history tasks c.self.inside.shared c.self.invariant) placed.number there
+
+pub settle_call-requires-clause-there : goal.settle_call-requires-clause-there
+settle_call-requires-clause-there c =
+    let placed : IsPlaceOf c.self.inside.tasks.items c.args.done.pid c.in-Some.place =
+    subst (λ (ts : List Task). IsPlaceOf ts c.args.done.pid c.in-Some.place) c.deref.ensures.value c.in-Some.ensures in
+    let there : slice_get c.self.inside.tasks.items c.in-Some.place ≡ Some c.index_mut-task.result.now =
+    get-there c.self.inside.tasks.items c.in-Some.place c.index_mut-task.result.now placed.there c.index_mut-task.ensures.value in
+    subst (λ (ts : List Task). c.in-Some.place < length ts) (sym (set-same c.self.inside.tasks.items c.in-Some.place c.index_mut-task.result.now there)) placed.there
+
+pub settle_call-requires-clause-few : goal.settle_call-requires-clause-few
+settle_call-requires-clause-few c =
+    told-few c.self.inside.booted c.self.inside.history.items c.self.inside.tasks.items c.self.inside.shared c.self.invariant
 
 pub invariant_of-self-in-None : goal.invariant_of-self-in-None
 invariant_of-self-in-None c =
@@ -72,8 +81,8 @@ invariant_of-self-in-None c =
     let stands : stands_at d.machine ≡ None = sym c.stopped.ensures ∙ c.in-None.is in
     let taken = turn-result b history c.settle_turn.new.history.items tasks c.self.inside.shared c.settle_turn.new.shared last place t c.settle_turn.new.task d c.settle_turn.result
     c.self.invariant placed.number there of stands c.settle_turn.ensures.task c.settle_turn.ensures.shared c.settle_turn.ensures.history c.settle_turn.ensures.answer in
-    settle-core b history c.settle_turn.new.history.items tasks c.self.inside.shared c.settle_turn.new.shared last place t c.settle_turn.new.task d c.settle_turn.result
-    c.self.invariant there of taken c.settle_turn.ensures.same_history (same-of c.settle_turn.result t c.settle_turn.new.task c.settle_turn.ensures.same_task) c.settle_turn.ensures.same_shared
+    settle-core b history c.settle_turn.new.history.items tasks (slice_set tasks place c.settle_turn.new.task) c.self.inside.shared c.settle_turn.new.shared last place d c.settle_turn.result
+    c.self.invariant taken c.settle_turn.ensures.same_history (same-of c.settle_turn.result tasks place t c.settle_turn.new.task there c.settle_turn.ensures.same_task) c.settle_turn.ensures.same_shared
 
 pub returns-in-None-clause-own : goal.returns-in-None-clause-own
 returns-in-None-clause-own c =
@@ -125,7 +134,7 @@ returns-in-None-clause-events c =
     let taken = turn-result b history c.settle_turn.new.history.items tasks c.self.inside.shared c.settle_turn.new.shared last place t c.settle_turn.new.task d c.settle_turn.result
     c.self.invariant placed.number there of stands c.settle_turn.ensures.task c.settle_turn.ensures.shared c.settle_turn.ensures.history c.settle_turn.ensures.answer in
     subst (λ (k : Kernel). OnOk c.settle_turn.result (kernel_of b c.settle_turn.new.history.items (slice_set tasks place c.settle_turn.new.task) last ≡ settled k (loan_result d))) c.self.view_is
-    (settle-events b history c.settle_turn.new.history.items tasks c.settle_turn.new.shared last place t c.settle_turn.new.task d c.settle_turn.result placed.number there taken)
+    (settle-events b history c.settle_turn.new.history.items tasks (slice_set tasks place c.settle_turn.new.task) c.settle_turn.new.shared last place d c.settle_turn.result placed.number taken)
 
 pub returns-in-None-clause-answer : goal.returns-in-None-clause-answer
 returns-in-None-clause-answer c =
@@ -144,7 +153,7 @@ returns-in-None-clause-answer c =
     let taken = turn-result b history c.settle_turn.new.history.items tasks c.self.inside.shared c.settle_turn.new.shared last place t c.settle_turn.new.task d c.settle_turn.result
     c.self.invariant placed.number there of stands c.settle_turn.ensures.task c.settle_turn.ensures.shared c.settle_turn.ensures.history c.settle_turn.ensures.answer in
     subst (λ (k : Kernel). IfOk c.settle_turn.result (λ a. a ≡ settled_answer k (loan_result d))) c.self.view_is
-    (settle-answer b history c.settle_turn.new.history.items tasks c.settle_turn.new.shared last place t c.settle_turn.new.task d c.settle_turn.result taken)
+    (settle-answer b history c.settle_turn.new.history.items tasks (slice_set tasks place c.settle_turn.new.task) c.settle_turn.new.shared last place d c.settle_turn.result taken)
 
 pub returns-in-None-clause-own_only : goal.returns-in-None-clause-own_only
 returns-in-None-clause-own_only c =
@@ -175,7 +184,7 @@ returns-in-None-clause-err c =
     let placed : IsPlaceOf tasks d.pid place = subst (λ (ts : List Task). IsPlaceOf ts d.pid place) c.deref.ensures.value c.in-Some.ensures in
     let there : slice_get tasks place ≡ Some t = get-there tasks place t placed.there c.index_mut-task.ensures.value in
     subst (λ (k : Kernel). OnErr c.settle_turn.result (kernel_of b c.settle_turn.new.history.items (slice_set tasks place c.settle_turn.new.task) last ≡ k)) c.self.view_is
-    (settle-err b history c.settle_turn.new.history.items tasks last place t c.settle_turn.new.task c.settle_turn.result there c.settle_turn.ensures.same_history (same-of c.settle_turn.result t c.settle_turn.new.task c.settle_turn.ensures.same_task))
+    (settle-err b history c.settle_turn.new.history.items tasks (slice_set tasks place c.settle_turn.new.task) last place c.settle_turn.result c.settle_turn.ensures.same_history (same-of c.settle_turn.result tasks place t c.settle_turn.new.task there c.settle_turn.ensures.same_task))
 
 pub invariant_of-self-in-Some-stopped : goal.invariant_of-self-in-Some-stopped
 invariant_of-self-in-Some-stopped c =
@@ -191,10 +200,15 @@ invariant_of-self-in-Some-stopped c =
     let yes : IsTrue true = search rules in
     let of : IsLoanOf t d = c.is_of_loan.ensures.0 (subst (λ (x : Bool). IsTrue x) (sym c.if-not-is_of_loan.false) yes) in
     let stands : stands_at d.machine ≡ Some c.in-Some-stopped.at = sym c.stopped.ensures ∙ c.in-Some-stopped.is in
-    let taken = enter-result b history c.settle_enter.new.history.items tasks c.self.inside.shared c.settle_enter.new.shared last place t c.settle_enter.new.task d c.in-Some-stopped.at c.settle_enter.result
-    c.self.invariant placed.number there of stands c.settle_enter.ensures.done c.settle_enter.ensures.history in
-    settle-core b history c.settle_enter.new.history.items tasks c.self.inside.shared c.settle_enter.new.shared last place t c.settle_enter.new.task d c.settle_enter.result
-    c.self.invariant there of taken c.settle_enter.ensures.same_history c.settle_enter.ensures.same_task c.settle_enter.ensures.same_shared
+    let taken = enter-result b history c.settle_call.new.history.items tasks c.settle_call.new.tasks.items c.self.inside.shared c.settle_call.new.shared last place t d c.in-Some-stopped.at c.settle_call.result
+    c.self.invariant placed.number there of stands
+    (subst (λ (ts : List Task). IfOk c.settle_call.result (λ a. IsCallSettled d place ts c.settle_call.new.tasks.items c.self.inside.shared c.settle_call.new.shared a))
+    (set-same tasks place t there) c.settle_call.ensures.done)
+    c.settle_call.ensures.history in
+    settle-core b history c.settle_call.new.history.items tasks c.settle_call.new.tasks.items c.self.inside.shared c.settle_call.new.shared last place d c.settle_call.result
+    c.self.invariant taken c.settle_call.ensures.same_history
+    (subst (λ (ts : List Task). OnErr c.settle_call.result (IsUnsettled place ts c.settle_call.new.tasks.items)) (set-same tasks place t there) c.settle_call.ensures.same)
+    c.settle_call.ensures.same_shared
 
 pub returns-in-Some-stopped-clause-own : goal.returns-in-Some-stopped-clause-own
 returns-in-Some-stopped-clause-own c =
@@ -209,7 +223,7 @@ returns-in-Some-stopped-clause-own c =
     let there : slice_get tasks place ≡ Some t = get-there tasks place t placed.there c.index_mut-task.ensures.value in
     let yes : IsTrue true = search rules in
     let of : IsLoanOf t d = c.is_of_loan.ensures.0 (subst (λ (x : Bool). IsTrue x) (sym c.if-not-is_of_loan.false) yes) in
-    on-ok-any c.settle_enter.result
+    on-ok-any c.settle_call.result
     (subst (λ (k : Kernel). IsOfLoan k (loan_result d)) c.self.view_is (own-loan b history tasks c.self.inside.shared last place t d c.self.invariant placed.number there of))
 
 pub returns-in-Some-stopped-clause-fine : goal.returns-in-Some-stopped-clause-fine
@@ -225,7 +239,7 @@ returns-in-Some-stopped-clause-fine c =
     let there : slice_get tasks place ≡ Some t = get-there tasks place t placed.there c.index_mut-task.ensures.value in
     let yes : IsTrue true = search rules in
     let of : IsLoanOf t d = c.is_of_loan.ensures.0 (subst (λ (x : Bool). IsTrue x) (sym c.if-not-is_of_loan.false) yes) in
-    on-ok-any c.settle_enter.result
+    on-ok-any c.settle_call.result
     (subst (λ (k : Kernel). AllAccepted (returned k d.pid) (events_of (loan_result d))) c.self.view_is
     (events-accepted b history tasks c.self.inside.shared last place t d c.self.invariant placed.number there of))
 
@@ -243,10 +257,13 @@ returns-in-Some-stopped-clause-events c =
     let yes : IsTrue true = search rules in
     let of : IsLoanOf t d = c.is_of_loan.ensures.0 (subst (λ (x : Bool). IsTrue x) (sym c.if-not-is_of_loan.false) yes) in
     let stands : stands_at d.machine ≡ Some c.in-Some-stopped.at = sym c.stopped.ensures ∙ c.in-Some-stopped.is in
-    let taken = enter-result b history c.settle_enter.new.history.items tasks c.self.inside.shared c.settle_enter.new.shared last place t c.settle_enter.new.task d c.in-Some-stopped.at c.settle_enter.result
-    c.self.invariant placed.number there of stands c.settle_enter.ensures.done c.settle_enter.ensures.history in
-    subst (λ (k : Kernel). OnOk c.settle_enter.result (kernel_of b c.settle_enter.new.history.items (slice_set tasks place c.settle_enter.new.task) last ≡ settled k (loan_result d))) c.self.view_is
-    (settle-events b history c.settle_enter.new.history.items tasks c.settle_enter.new.shared last place t c.settle_enter.new.task d c.settle_enter.result placed.number there taken)
+    let taken = enter-result b history c.settle_call.new.history.items tasks c.settle_call.new.tasks.items c.self.inside.shared c.settle_call.new.shared last place t d c.in-Some-stopped.at c.settle_call.result
+    c.self.invariant placed.number there of stands
+    (subst (λ (ts : List Task). IfOk c.settle_call.result (λ a. IsCallSettled d place ts c.settle_call.new.tasks.items c.self.inside.shared c.settle_call.new.shared a))
+    (set-same tasks place t there) c.settle_call.ensures.done)
+    c.settle_call.ensures.history in
+    subst (λ (k : Kernel). OnOk c.settle_call.result (kernel_of b c.settle_call.new.history.items c.settle_call.new.tasks.items last ≡ settled k (loan_result d))) c.self.view_is
+    (settle-events b history c.settle_call.new.history.items tasks c.settle_call.new.tasks.items c.settle_call.new.shared last place d c.settle_call.result placed.number taken)
 
 pub returns-in-Some-stopped-clause-answer : goal.returns-in-Some-stopped-clause-answer
 returns-in-Some-stopped-clause-answer c =
@@ -262,10 +279,13 @@ returns-in-Some-stopped-clause-answer c =
     let yes : IsTrue true = search rules in
     let of : IsLoanOf t d = c.is_of_loan.ensures.0 (subst (λ (x : Bool). IsTrue x) (sym c.if-not-is_of_loan.false) yes) in
     let stands : stands_at d.machine ≡ Some c.in-Some-stopped.at = sym c.stopped.ensures ∙ c.in-Some-stopped.is in
-    let taken = enter-result b history c.settle_enter.new.history.items tasks c.self.inside.shared c.settle_enter.new.shared last place t c.settle_enter.new.task d c.in-Some-stopped.at c.settle_enter.result
-    c.self.invariant placed.number there of stands c.settle_enter.ensures.done c.settle_enter.ensures.history in
-    subst (λ (k : Kernel). IfOk c.settle_enter.result (λ a. a ≡ settled_answer k (loan_result d))) c.self.view_is
-    (settle-answer b history c.settle_enter.new.history.items tasks c.settle_enter.new.shared last place t c.settle_enter.new.task d c.settle_enter.result taken)
+    let taken = enter-result b history c.settle_call.new.history.items tasks c.settle_call.new.tasks.items c.self.inside.shared c.settle_call.new.shared last place t d c.in-Some-stopped.at c.settle_call.result
+    c.self.invariant placed.number there of stands
+    (subst (λ (ts : List Task). IfOk c.settle_call.result (λ a. IsCallSettled d place ts c.settle_call.new.tasks.items c.self.inside.shared c.settle_call.new.shared a))
+    (set-same tasks place t there) c.settle_call.ensures.done)
+    c.settle_call.ensures.history in
+    subst (λ (k : Kernel). IfOk c.settle_call.result (λ a. a ≡ settled_answer k (loan_result d))) c.self.view_is
+    (settle-answer b history c.settle_call.new.history.items tasks c.settle_call.new.tasks.items c.settle_call.new.shared last place d c.settle_call.result taken)
 
 pub returns-in-Some-stopped-clause-own_only : goal.returns-in-Some-stopped-clause-own_only
 returns-in-Some-stopped-clause-own_only c =
@@ -280,9 +300,9 @@ returns-in-Some-stopped-clause-own_only c =
     let there : slice_get tasks place ≡ Some t = get-there tasks place t placed.there c.index_mut-task.ensures.value in
     let yes : IsTrue true = search rules in
     let of : IsLoanOf t d = c.is_of_loan.ensures.0 (subst (λ (x : Bool). IsTrue x) (sym c.if-not-is_of_loan.false) yes) in
-    settle-only c.settle_enter.result
+    settle-only c.settle_call.result
     (subst (λ (k : Kernel). IsOfLoan k (loan_result d)) c.self.view_is (own-loan b history tasks c.self.inside.shared last place t d c.self.invariant placed.number there of))
-    c.settle_enter.ensures.cause
+    c.settle_call.ensures.cause
 
 pub returns-in-Some-stopped-clause-err : goal.returns-in-Some-stopped-clause-err
 returns-in-Some-stopped-clause-err c =
@@ -295,5 +315,6 @@ returns-in-Some-stopped-clause-err c =
     let t : Task = c.index_mut-task.result.now in
     let placed : IsPlaceOf tasks d.pid place = subst (λ (ts : List Task). IsPlaceOf ts d.pid place) c.deref.ensures.value c.in-Some.ensures in
     let there : slice_get tasks place ≡ Some t = get-there tasks place t placed.there c.index_mut-task.ensures.value in
-    subst (λ (k : Kernel). OnErr c.settle_enter.result (kernel_of b c.settle_enter.new.history.items (slice_set tasks place c.settle_enter.new.task) last ≡ k)) c.self.view_is
-    (settle-err b history c.settle_enter.new.history.items tasks last place t c.settle_enter.new.task c.settle_enter.result there c.settle_enter.ensures.same_history c.settle_enter.ensures.same_task)
+    subst (λ (k : Kernel). OnErr c.settle_call.result (kernel_of b c.settle_call.new.history.items c.settle_call.new.tasks.items last ≡ k)) c.self.view_is
+    (settle-err b history c.settle_call.new.history.items tasks c.settle_call.new.tasks.items last place c.settle_call.result c.settle_call.ensures.same_history
+    (subst (λ (ts : List Task). OnErr c.settle_call.result (IsUnsettled place ts c.settle_call.new.tasks.items)) (set-same tasks place t there) c.settle_call.ensures.same))

@@ -1,0 +1,84 @@
+-- A label stays where the first pass met it.
+use Rattle.std.proofs.Common.{ℕ, ◌≡◌, Ordering, Less, Equal, Greater, Bool, true, false, cond, List, [], ◌∷◌, Result, Ok, Err, Option, Some, None, refl, sym, ap, ◌∙◌, subst}
+use Rattle.std.specs.Prelude.{is_some, if◌then◌else◌}
+use Rattle.std.specs.Cmp.Lexicographic.{slice_cmp}
+use Rattle.std.specs.Ordering.{is_eq, nat_cmp, eq_by_cmp}
+use Rattle.std.specs.FinMap.{get, insert, get-insert, slice_cmp-IsAntisymmetric, nat_cmp-IsAntisymmetric}
+use Rattle.std.proofs.lemmas.Cmp.{nat_list_cmp_total, eq_by_cmp_equiv}
+use Rattle.asm_text.specs.declared.token.Line.{Line}
+use Rattle.assembler.specs.Tokens.{text_at}
+use Rattle.assembler.specs.Labels.{SpotsByName}
+use Rattle.assembler.specs.Faults.{fault_at}
+use Rattle.assembler.specs.Layout.{spot_of, label_declared, labelled, placed, all_placed}
+use Rattle.assembler.specs.declared.fault.AsmFault.{AsmFault}
+use Rattle.assembler.specs.declared.fault.Cause.TheVariants.{DoubleLabel}
+use Rattle.assembler.specs.declared.labels.Spot.{Spot}
+use Rattle.assembler.specs.declared.layout.Position.{Position}
+use Rattle.assembler.specs.declared.layout.Layout.{Layout}
+use Rattle.assembler.specs.declared.statement.Label.{Label}
+use Rattle.assembler.proofs.Stepping.{and_then-ok}
+use Rattle.assembler.proofs.Sizes.{IsPlaced, placed-is, same_layout}
+
+same_labels : (a b : SpotsByName) → ◌≡◌ {A = Result SpotsByName AsmFault} (Ok a) (Ok b) → a ≡ b
+same_labels a b is = cc
+
+-- an inserted label is found, and the others stay
+found-inserted : (labels : SpotsByName) (name : List ℕ) (spot : Spot) → get (insert labels name spot) name ≡ Some spot
+found-inserted labels name spot =
+    get-insert nat_list_cmp_total labels name spot name ∙ ap (λ (b : Bool). cond b (Some spot) (get labels name)) ((eq_by_cmp_equiv nat_list_cmp_total).refl name)
+
+is-equal : (o : Ordering) → is_eq o ≡ true → o ≡ Equal
+is-equal Less is = cc
+is-equal Equal is = refl
+is-equal Greater is = cc
+
+others-stay : (labels : SpotsByName) (name : List ℕ) (spot : Spot) (q : List ℕ) (s : Spot) → is_some (get labels name) ≡ false → get labels q ≡ Some s → get (insert labels name spot) q ≡ Some s
+others-stay labels name spot q s absent is =
+    get-insert nat_list_cmp_total labels name spot q ∙
+    (elim (eq_by_cmp (slice_cmp nat_cmp) q name) as (λ b. eq_by_cmp (slice_cmp nat_cmp) q name ≡ b → cond b (Some spot) (get labels q) ≡ Some s) [
+      | true ↦ λ same. absurd (clash same)
+      | false ↦ λ _. is
+    ] refl)
+  where
+    clash : eq_by_cmp (slice_cmp nat_cmp) q name ≡ true → ⊥
+    clash same =
+        let names : q ≡ name = slice_cmp-IsAntisymmetric nat_cmp-IsAntisymmetric q name (is-equal (slice_cmp nat_cmp q name) same) in
+        let there : get labels name ≡ Some s = ap (get labels) (sym names) ∙ is in
+        let some : is_some (get labels name) ≡ true = ap is_some there in
+        let no : ⊥ = cc in
+        no
+
+-- what a declared label shows
+record IsDeclared (source : List ℕ) (label : Label) (p : Position) (before behind : SpotsByName) : Type 0 where
+  found : get behind (text_at source label.start label.end) ≡ Some (spot_of p)
+  stay : (q : List ℕ) (s : Spot) → get before q ≡ Some s → get behind q ≡ Some s
+
+declared-is : (source : List ℕ) (line : Line) (label : Label) (p : Position) (before behind : SpotsByName) → label_declared source line label p before ≡ Ok behind → IsDeclared source label p before behind
+declared-is source line label p before behind is =
+    elim (is_some (get before (text_at source label.start label.end))) as (λ b. is_some (get before (text_at source label.start label.end)) ≡ b
+    → ◌≡◌ {A = Result SpotsByName AsmFault} (if b then Err (fault_at source line DoubleLabel label.start) else Ok (insert before (text_at source label.start label.end) (spot_of p))) (Ok behind) → IsDeclared source label p before behind) [
+      | true ↦ λ _ no. absurd (let none : ⊥ = cc in none)
+      | false ↦ λ absent made.
+          let same : insert before (text_at source label.start label.end) (spot_of p) ≡ behind = same_labels _ _ made in
+          subst (λ (x : SpotsByName). IsDeclared source label p before x) same (record {
+            found = found-inserted before (text_at source label.start label.end) (spot_of p);
+            stay = λ q s. others-stay before (text_at source label.start label.end) (spot_of p) q s absent;
+          })
+    ] refl is
+
+labels-stay : (source : List ℕ) (line : Line) (label : Option Label) (p : Position) (before behind : SpotsByName) → labelled source line label p before ≡ Ok behind → (q : List ℕ) (s : Spot) → get before q ≡ Some s → get behind q ≡ Some s
+labels-stay source line None p before behind is q s at = subst (λ (x : SpotsByName). get x q ≡ Some s) (same_labels before behind is) at
+labels-stay source line (Some label) p before behind is q s at = (declared-is source line label p before behind is).stay q s at
+
+-- over lines a label stays where it stands
+pub all-stay : (source : List ℕ) (lines : List Line) (l m : Layout) → all_placed source lines l ≡ Ok m → (q : List ℕ) (s : Spot) → get l.labels q ≡ Some s → get m.labels q ≡ Some s
+all-stay source [] l m is q s at = subst (λ (x : Layout). get x.labels q ≡ Some s) (same_layout l m is) at
+all-stay source (line ∷ lines) l m is q s at =
+    let (n, first, rest) = and_then-ok (placed source line l) (λ (x : Layout). all_placed source lines x) m is in
+    let step : IsPlaced source line l n = placed-is source line l n first in
+    all-stay source lines n m rest q s (labels-stay source line step.split.0 l.position l.labels n.labels step.label q s at)
+
+-- behind its line a label stands where the line begins
+pub label-found : (source : List ℕ) (line : Line) (label : Label) (l m : Layout) (step : IsPlaced source line l m) → step.split.0 ≡ Some label → get m.labels (text_at source label.start label.end) ≡ Some (spot_of l.position)
+label-found source line label l m step is =
+    (declared-is source line label l.position l.labels m.labels (subst (λ (x : Option Label). labelled source line x l.position l.labels ≡ Ok m.labels) is step.label)).found

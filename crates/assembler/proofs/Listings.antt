@@ -1,0 +1,376 @@
+-- The instructions of a source are listed.
+use Rattle.std.proofs.Common.{ℕ, ℤ, pos, suc, ◌≡◌, ◌+◌, ◌*◌, ◌/◌, ◌<◌, ◌≤◌, Bool, true, false, List, [], ◌∷◌, ◌++◌, length, replicate, Result, Ok, Option, Some, None, refl, sym, ap, ◌∙◌, subst, arith, append_assoc, length-append}
+use Rattle.std.specs.Prelude.{All}
+use Rattle.std.specs.Option.{ok_or}
+use Rattle.std.proofs.lemmas.Bool.Decides.{nat_tests}
+use Rattle.std.proofs.lemmas.List.{append-nil}
+use Rattle.std.proofs.lemmas.List.Elements.{All-nil, All-cons, All-head, All-tail, All-append, All-replicate, All-weaker}
+use Rattle.elf32.specs.Images.{Program}
+use Rattle.asm_text.specs.Tokens.{Leads}
+use Rattle.asm_text.specs.Text.{LineStart, source_start, IsNextLine, IsText}
+use Rattle.asm_text.specs.declared.token.Token.{Token}
+use Rattle.asm_text.specs.declared.token.Line.{Line}
+use Rattle.assembler.specs.Steps.{and_then}
+use Rattle.assembler.specs.Statements.{statement_read}
+use Rattle.assembler.specs.Encoding.{word_of}
+use Rattle.assembler.specs.Expansion.{expansion_of, modulo_word}
+use Rattle.assembler.specs.Faults.{at_line}
+use Rattle.assembler.specs.Layout.{counted, start_layout, placed, all_placed, numbers_in, string_in, space_bytes, spot_of}
+use Rattle.assembler.specs.Filling.{Contents, Filling, Scope, start_filling, put_word, put_numbers, put_bytes, put_space, put_expansion, address_of, distance_of, instruction_of, instruction_filled, bytes_filled, statement_filled, filled, all_filled, contents_filled}
+use Rattle.assembler.specs.Assembly.{pages, scope_of, entry_of, Assembled, assembled, assembly, rows_from}
+use Rattle.assembler.specs.Instructions.{IsInstruction, instructions_of, AreInstructions, IsListedInstruction, ListsInstructions}
+use Rattle.assembler.specs.declared.fault.AsmFault.{AsmFault}
+use Rattle.assembler.specs.declared.fault.Cause.TheVariants.{Range}
+use Rattle.assembler.specs.declared.layout.Position.{Position}
+use Rattle.assembler.specs.declared.layout.Layout.{Layout}
+use Rattle.assembler.specs.declared.mnemonic.Mnemonic.{Mnemonic}
+use Rattle.assembler.specs.declared.operands.Operands.{Operands}
+use Rattle.assembler.specs.declared.expansion.Expansion.{Expansion}
+use Rattle.assembler.specs.declared.expansion.Expansion.TheVariants.{One, Two}
+use Rattle.assembler.specs.declared.statement.Label.{Label}
+use Rattle.assembler.specs.declared.statement.Statement.{Statement}
+use Rattle.assembler.specs.declared.statement.Statement.TheVariants as statement
+use Rattle.assembler.specs.declared.filling.Cell.{Cell}
+use Rattle.assembler.specs.declared.listing.Row.{Row}
+use Rattle.assembler.proofs.Stepping.{and_then-ok, and_then-each, at_line-ok, ok_or-ok}
+use Rattle.assembler.proofs.Registers.{HasRegisters, statement-known}
+use Rattle.assembler.proofs.Expansions.{AreMeant, expansion-meant}
+use Rattle.assembler.proofs.Sizes.{IsMeasured, IsFilled, filled-is, same_split, same_statement, same_position, same_filling, same_layout, measured-all}
+use Rattle.assembler.proofs.Assemblies.{assembly_from, assembly_behind, made_of, contents_shown, same_assembled, same_contents, sized}
+
+-- ---- what a line adds to text, it adds behind what is there, with its own number
+
+-- a cell is of a line from one number up to another
+abbrev IsOf : ℕ → ℕ → Cell → Type 0
+IsOf low high cell = (low ≤ cell.line) × (cell.line < high)
+
+-- text has grown by cells of lines from one number up to another
+record Grows (low high : ℕ) (c d : Contents) : Type 0 where
+  more : List Cell
+  cells : d.cells ≡ c.cells ++ more
+  lines : All (IsOf low high) more
+
+grows-none : (low high : ℕ) (c d : Contents) → d.cells ≡ c.cells → Grows low high c d
+grows-none low high c d same = record { more = []; cells = same ∙ sym (append-nil c.cells); lines = All-nil (IsOf low high) }
+
+grows-then : (low high : ℕ) (c d e : Contents) → Grows low high c d → Grows low high d e → Grows low high c e
+grows-then low high c d e p q = record {
+  more = p.more ++ q.more;
+  cells = q.cells ∙ ap (λ (x : List Cell). x ++ q.more) p.cells ∙ append_assoc c.cells p.more q.more;
+  lines = All-append (IsOf low high) p.more q.more p.lines q.lines;
+}
+
+wider : (low high bottom top : ℕ) (c d : Contents) → bottom ≤ low → high ≤ top → Grows low high c d → Grows bottom top c d
+wider low high bottom top c d a b g = record {
+  more = g.more;
+  cells = g.cells;
+  lines = All-weaker (IsOf low high) (IsOf bottom top) (λ (x : Cell) is. (omega (arith, is.0), omega (arith, is.1))) g.more g.lines;
+}
+
+grows-word : (in_data : Bool) (line word : ℕ) (c : Contents) → Grows line (line + 1) c (put_word in_data line word c)
+grows-word true line word c = grows-none line (line + 1) c _ refl
+grows-word false line word c =
+    let cell : Cell = record { word = word; line = line } in
+    record { more = cell ∷ []; cells = refl; lines = All-cons (IsOf line (line + 1)) cell [] (omega arith, omega arith) (All-nil (IsOf line (line + 1))) }
+
+grows-numbers : (in_data : Bool) (line : ℕ) (ns : List (ℤ × ℕ)) (c : Contents) → Grows line (line + 1) c (put_numbers in_data line ns c)
+grows-numbers in_data line [] c = grows-none line (line + 1) c c refl
+grows-numbers in_data line (n ∷ ns) c =
+    let d : Contents = put_word in_data line (modulo_word n.0) c in
+    grows-then line (line + 1) c d (put_numbers in_data line ns d) (grows-word in_data line (modulo_word n.0) c) (grows-numbers in_data line ns d)
+
+grows-expansion : (in_data : Bool) (line : ℕ) (e : Expansion) (c : Contents) → Grows line (line + 1) c (put_expansion in_data line e c)
+grows-expansion in_data line (One i) c = grows-word in_data line (word_of i) c
+grows-expansion in_data line (Two i j) c =
+    let d : Contents = put_word in_data line (word_of i) c in
+    grows-then line (line + 1) c d (put_word in_data line (word_of j) d) (grows-word in_data line (word_of i) c) (grows-word in_data line (word_of j) d)
+
+grows-space : (in_data : Bool) (line n : ℕ) (c : Contents) → Grows line (line + 1) c (put_space in_data line n c)
+grows-space true line n c = grows-none line (line + 1) c _ refl
+grows-space false line n c =
+    let zeros : Cell = record { word = 0; line = line } in
+    record { more = replicate (n / 4) zeros; cells = refl; lines = All-replicate (IsOf line (line + 1)) (n / 4) zeros (omega arith, omega arith) }
+
+to-same : (low high : ℕ) (c d e : Contents) → ◌≡◌ {A = Result Contents AsmFault} (Ok d) (Ok e) → Grows low high c d → Grows low high c e
+to-same low high c d e is g = subst (λ (x : Contents). Grows low high c x) (same_contents d e is) g
+
+grows-byte_list : (source : List ℕ) (line : Line) (c d : Contents) → bytes_filled source line c ≡ Ok d → Grows line.number (line.number + 1) c d
+grows-byte_list source line c d is =
+    let (bytes, _, made) = and_then-ok (at_line source line Range (put_bytes (numbers_in line.tokens) c.bytes)) (λ (x : List ℕ). Ok (record { cells = c.cells; bytes = x })) d is in
+    to-same line.number (line.number + 1) c (record { cells = c.cells; bytes = bytes }) d made (grows-none line.number (line.number + 1) c _ refl)
+
+grows-instruction : (scope : Scope) (line : Line) (p : Position) (m : Mnemonic) (o : Operands) (c d : Contents) → instruction_filled scope line p m o c ≡ Ok d → Grows line.number (line.number + 1) c d
+grows-instruction scope line p m o c d is =
+    let v : Option ℤ = distance_of scope (pos (address_of scope.data_base (spot_of p))) o.value in
+    let (e, _, put) = and_then-ok (instruction_of scope.source line m o v) (λ (x : Expansion). Ok (put_expansion p.in_data line.number x c)) d is in
+    to-same line.number (line.number + 1) c (put_expansion p.in_data line.number e c) d put (grows-expansion p.in_data line.number e c)
+
+grows-statement : (scope : Scope) (line : Line) (p : Position) (s : Statement) (c d : Contents) → statement_filled scope line p s c ≡ Ok d → Grows line.number (line.number + 1) c d
+grows-statement scope line p statement.Nothing c d is = to-same line.number (line.number + 1) c c d is (grows-none line.number (line.number + 1) c c refl)
+grows-statement scope line p statement.Text c d is = to-same line.number (line.number + 1) c c d is (grows-none line.number (line.number + 1) c c refl)
+grows-statement scope line p statement.Data c d is = to-same line.number (line.number + 1) c c d is (grows-none line.number (line.number + 1) c c refl)
+grows-statement scope line p statement.Words c d is =
+    to-same line.number (line.number + 1) c (put_numbers p.in_data line.number (numbers_in line.tokens) c) d is (grows-numbers p.in_data line.number (numbers_in line.tokens) c)
+grows-statement scope line p statement.Bytes c d is = grows-byte_list scope.source line c d is
+grows-statement scope line p statement.Ascii c d is =
+    to-same line.number (line.number + 1) c (record { cells = c.cells; bytes = c.bytes ++ string_in line.tokens }) d is (grows-none line.number (line.number + 1) c _ refl)
+grows-statement scope line p (statement.Space n at) c d is =
+    to-same line.number (line.number + 1) c (put_space p.in_data line.number (space_bytes n) c) d is (grows-space p.in_data line.number (space_bytes n) c)
+grows-statement scope line p (statement.Instruction m o) c d is = grows-instruction scope line p m o c d is
+
+grows-line : (scope : Scope) (line : Line) (f g : Filling) → filled scope line f ≡ Ok g → Grows line.number (line.number + 1) f.contents g.contents
+grows-line scope line f g is =
+    let step : IsFilled scope line f g = filled-is scope line f g is in
+    grows-statement scope line f.position step.made f.contents g.contents step.contents
+
+-- lines that are counted from a number on
+abbrev AreCounted : ℕ → List Line → Type 0
+AreCounted n [] = Unit {0}
+AreCounted n (l ∷ ls) = (l.number ≡ n) × AreCounted (n + 1) ls
+
+grows-lines : (scope : Scope) (n : ℕ) (lines : List Line) (f g : Filling) → AreCounted n lines → all_filled scope lines f ≡ Ok g → Grows n (n + length lines) f.contents g.contents
+grows-lines scope n [] f g counts is = grows-none n (n + 0) f.contents g.contents (ap (λ (x : Filling). x.contents.cells) (sym (same_filling f g is)))
+grows-lines scope n (line ∷ lines) f g counts is =
+    let (h, first, rest) = and_then-ok (filled scope line f) (λ (x : Filling). all_filled scope lines x) g is in
+    let number : line.number ≡ n = counts.0 in
+    grows-then n (n + length (line ∷ lines)) f.contents h.contents g.contents
+    (wider line.number (line.number + 1) n (n + length (line ∷ lines)) f.contents h.contents (omega arith) (omega arith) (grows-line scope line f h first))
+    (wider (n + 1) (n + 1 + length lines) n (n + length (line ∷ lines)) h.contents g.contents (omega arith) (omega arith) (grows-lines scope (n + 1) lines h g counts.1 rest))
+
+-- ---- the lines of a source are counted from 1
+
+counted-ended : (p : LineStart) (ls : List Line) (q : LineStart) → Leads IsNextLine p ls q → AreCounted p.count ls × (q.count ≡ p.count + length ls)
+counted-ended p [] q leads = (tt, omega (arith, ap (λ (x : LineStart). x.count) leads))
+counted-ended p (l ∷ ls) q leads =
+    let first = leads.1 in
+    let rest = counted-ended leads.0 ls q leads.2 in
+    let next : leads.0.count ≡ p.count + 1 = first.number in
+    ((first.line.number, subst (λ (n : ℕ). AreCounted n ls) next rest.0), omega (arith, rest.1))
+
+counted-append : (n : ℕ) (xs ys : List Line) → AreCounted n xs → AreCounted (n + length xs) ys → AreCounted n (xs ++ ys)
+counted-append n [] ys a b = subst (λ (k : ℕ). AreCounted k ys) (omega arith) b
+counted-append n (x ∷ xs) ys a b = (a.0, counted-append (n + 1) xs ys a.1 (subst (λ (k : ℕ). AreCounted k ys) (omega arith) b))
+
+counted-text : (source : List ℕ) (lines : List Line) → IsText source lines → AreCounted 1 lines
+counted-text source lines t =
+    let ended = counted-ended (source_start source) t.ended t.start t.leads in
+    let last : t.last.number ≡ 1 + length t.ended = t.line.number ∙ ended.1 in
+    subst (λ (ls : List Line). AreCounted 1 ls) (sym t.parted) (counted-append 1 t.ended (t.last ∷ []) ended.0 (last, tt))
+
+-- counted lines that are parted at one
+record IsCountedAt (n : ℕ) (before : List Line) (line : Line) (after : List Line) : Type 0 where
+  front : AreCounted n before
+  number : line.number ≡ n + length before
+  back : AreCounted (line.number + 1) after
+
+counted-parts : (n : ℕ) (before : List Line) (line : Line) (after : List Line) → AreCounted n (before ++ line ∷ after) → IsCountedAt n before line after
+counted-parts n [] line after c = record { front = tt; number = c.0 ∙ omega arith; back = subst (λ (k : ℕ). AreCounted (k + 1) after) (sym c.0) c.1 }
+counted-parts n (x ∷ xs) line after c =
+    let rest = counted-parts (n + 1) xs line after c.1 in
+    record { front = (c.0, rest.front); number = rest.number ∙ omega arith; back = rest.back }
+
+-- ---- the passes over lines that are parted
+
+pub all_filled-append : (scope : Scope) (xs ys : List Line) (f : Filling) → all_filled scope (xs ++ ys) f ≡ and_then (all_filled scope xs f) (λ (g : Filling). all_filled scope ys g)
+all_filled-append scope [] ys f = refl
+all_filled-append scope (x ∷ xs) ys f = and_then-each (filled scope x f) (λ (g : Filling). all_filled scope xs g) (λ (g : Filling). all_filled scope ys g) (λ (g : Filling). all_filled scope (xs ++ ys) g) (λ g. all_filled-append scope xs ys g)
+
+pub all_placed-append : (source : List ℕ) (xs ys : List Line) (l : Layout) → all_placed source (xs ++ ys) l ≡ and_then (all_placed source xs l) (λ (m : Layout). all_placed source ys m)
+all_placed-append source [] ys l = refl
+all_placed-append source (x ∷ xs) ys l = and_then-each (placed source x l) (λ (m : Layout). all_placed source xs m) (λ (m : Layout). all_placed source ys m) (λ (m : Layout). all_placed source (xs ++ ys) m) (λ m. all_placed-append source xs ys m)
+
+-- both passes come to one position
+pub same_positions : (scope : Scope) (lines : List Line) (l m : Layout) (f g : Filling) → l.position ≡ f.position → all_placed scope.source lines l ≡ Ok m → all_filled scope lines f ≡ Ok g → m.position ≡ g.position
+same_positions scope [] l m f g at is js = sym (ap (λ (x : Layout). x.position) (same_layout l m is)) ∙ at ∙ ap (λ (x : Filling). x.position) (same_filling f g js)
+same_positions scope (line ∷ lines) l m f g at is js =
+    let (l2, first, is2) = and_then-ok (placed scope.source line l) (λ (x : Layout). all_placed scope.source lines x) m is in
+    let (f2, second, js2) = and_then-ok (filled scope line f) (λ (x : Filling). all_filled scope lines x) g js in
+    same_positions scope lines l2 m f2 g (same_position scope line l l2 f f2 at first second) is2 js2
+
+-- ---- the cells of an instruction, and their rows
+
+-- the cells of an expansion
+abbrev cells_of : ℕ → Expansion → List Cell
+cells_of line (One i) = (record { word = word_of i; line = line }) ∷ []
+cells_of line (Two i j) = (record { word = word_of i; line = line }) ∷ (record { word = word_of j; line = line }) ∷ []
+
+cells-expansion : (line : ℕ) (e : Expansion) (c : Contents) → (put_expansion false line e c).cells ≡ c.cells ++ cells_of line e
+cells-expansion line (One i) c = refl
+cells-expansion line (Two i j) c = append_assoc c.cells ((record { word = word_of i; line = line }) ∷ []) ((record { word = word_of j; line = line }) ∷ [])
+
+-- the rows of these cells are the expansion's instructions
+are_instructions : (at line : ℕ) (e : Expansion) → AreMeant e → AreInstructions at line (instructions_of e) (rows_from at (cells_of line e))
+are_instructions at line (One i) m = (refl, refl, m, refl)
+are_instructions at line (Two i j) m = (refl, refl, m.0, (refl, refl, m.1, refl))
+
+rows-append : (at : ℕ) (xs ys : List Cell) → rows_from at (xs ++ ys) ≡ rows_from at xs ++ rows_from (at + 4 * length xs) ys
+rows-append at [] ys = ap (λ (n : ℕ). rows_from n ys) (omega arith)
+rows-append at (x ∷ xs) ys =
+    ap (λ (rows : List Row). (record { address = at; word = x.word; line = x.line }) ∷ rows)
+    (rows-append (at + 4) xs ys ∙ ap (λ (n : ℕ). rows_from (at + 4) xs ++ rows_from n ys) (omega arith))
+
+length-rows : (at : ℕ) (xs : List Cell) → length (rows_from at xs) ≡ length xs
+length-rows at [] = refl
+length-rows at (x ∷ xs) = ap suc (length-rows (at + 4) xs)
+
+-- what is said of each cell's line is said of each row's
+rows-lines : (P : ℕ → Type 0) (at : ℕ) (xs : List Cell) → All (λ (x : Cell). P x.line) xs → All (λ (r : Row). P r.line) (rows_from at xs)
+rows-lines P at [] all = All-nil (λ (r : Row). P r.line)
+rows-lines P at (x ∷ xs) all =
+    All-cons (λ (r : Row). P r.line) (record { address = at; word = x.word; line = x.line }) (rows_from (at + 4) xs)
+    (All-head (λ (x : Cell). P x.line) x xs all) (rows-lines P (at + 4) xs (All-tail (λ (x : Cell). P x.line) x xs all))
+
+-- what an instruction in text adds, behind so many words
+record IsAdded (scope : Scope) (line : Line) (words : ℕ) (m : Mnemonic) (o : Operands) (c d : Contents) : Type 0 where
+  number : ℤ
+  value : distance_of scope (pos (65536 + 4 * words)) o.value ≡ Some number
+  expansion : Expansion
+  expands : expansion_of m o number ≡ Some expansion
+  cells : d.cells ≡ c.cells ++ cells_of line.number expansion
+
+added-value : (scope : Scope) (line : Line) (words : ℕ) (m : Mnemonic) (o : Operands) (v : Option ℤ) (c d : Contents) → distance_of scope (pos (65536 + 4 * words)) o.value ≡ v
+    → and_then (instruction_of scope.source line m o v) (λ (x : Expansion). Ok (put_expansion false line.number x c)) ≡ Ok d → IsAdded scope line words m o c d
+added-value scope line words m o (Some n) c d value is =
+    let (e, expands, put) = and_then-ok (at_line scope.source line Range (ok_or (expansion_of m o n) o.at)) (λ (x : Expansion). Ok (put_expansion false line.number x c)) d is in
+    record {
+      number = n;
+      value = value;
+      expansion = e;
+      expands = ok_or-ok (expansion_of m o n) o.at e (at_line-ok scope.source line Range (ok_or (expansion_of m o n) o.at) e expands);
+      cells = ap (λ (x : Contents). x.cells) (sym (same_contents (put_expansion false line.number e c) d put)) ∙ cells-expansion line.number e c;
+    }
+added-value scope line words m o None c d value is = absurd (let no : ⊥ = cc in no)
+
+added-instruction : (scope : Scope) (line : Line) (words bytes : ℕ) (m : Mnemonic) (o : Operands) (c d : Contents) → instruction_filled scope line (record { in_data = false; words = words; bytes = bytes }) m o c ≡ Ok d → IsAdded scope line words m o c d
+added-instruction scope line words bytes m o c d is = added-value scope line words m o (distance_of scope (pos (65536 + 4 * words)) o.value) c d refl is
+
+-- ---- the whole
+
+-- a position in text, behind so many words
+text_position : (p : Position) (words : ℕ) → p.in_data ≡ false → p.words ≡ words → p ≡ record { in_data = false; words = words; bytes = p.bytes }
+text_position p words in_text behind = λ i. record { in_data = in_text i; words = behind i; bytes = p.bytes }
+
+counted-small : (w len : ℕ) → w ≡ counted len → len ≤ 61440 → len ≡ w
+counted-small w len e small = omega arith
+
+-- where the passes are at an instruction, and what it adds
+line-added : (scope : Scope) (before : List Line) (line : Line) (words : ℕ) (m : Mnemonic) (o : Operands) (g h : Filling) → IsInstruction scope.source before line words m o
+    → all_filled scope before start_filling ≡ Ok g → filled scope line g ≡ Ok h → IsAdded scope line words m o g.contents h.contents × HasRegisters o × (words ≡ counted (length g.contents.cells))
+line-added scope before line words m o g h is front here =
+    let at : is.layout.position ≡ g.position = same_positions scope before start_layout is.layout start_filling g refl is.placed front in
+    let text : is.layout.position ≡ record { in_data = false; words = words; bytes = is.layout.position.bytes } = text_position is.layout.position words is.in_text is.behind in
+    let there : g.position ≡ record { in_data = false; words = words; bytes = is.layout.position.bytes } = sym at ∙ text in
+    let step : IsFilled scope line g h = filled-is scope line g h here in
+    let split : step.split ≡ (is.label, is.statement) = same_split scope.source line step.split (is.label, is.statement) step.front is.parted in
+    let body : statement_read scope.source false line.end is.statement ≡ Ok step.made =
+    subst (λ (p : Position). statement_read scope.source p.in_data line.end is.statement ≡ Ok step.made) there
+    (subst (λ (r : Option Label × List Token). statement_read scope.source g.position.in_data line.end r.1 ≡ Ok step.made) split step.body) in
+    let made : step.made ≡ statement.Instruction m o = same_statement (statement_read scope.source false line.end is.statement) step.made (statement.Instruction m o) body is.read in
+    let put : statement_filled scope line (record { in_data = false; words = words; bytes = is.layout.position.bytes }) (statement.Instruction m o) g.contents ≡ Ok h.contents =
+    subst (λ (p : Position). statement_filled scope line p (statement.Instruction m o) g.contents ≡ Ok h.contents) there
+    (subst (λ (s : Statement). statement_filled scope line g.position s g.contents ≡ Ok h.contents) made step.contents) in
+    let measured : IsMeasured is.layout.position g.contents = measured-all scope before start_layout is.layout start_filling g refl (record { words = refl; bytes = refl }) is.placed front in
+    (added-instruction scope line words is.layout.position.bytes m o g.contents h.contents put, statement-known scope.source false line.end is.statement (statement.Instruction m o) is.read, sym is.behind ∙ measured.words)
+
+joined : (front here back middle whole : List Cell) → middle ≡ front ++ here → whole ≡ middle ++ back → whole ≡ front ++ (here ++ back)
+joined front here back middle whole p q = q ∙ ap (λ (x : List Cell). x ++ back) p ∙ append_assoc front here back
+
+-- the rows of text that is parted as the lines are
+record IsParted (scope : Scope) (line : Line) (words : ℕ) (m : Mnemonic) (o : Operands) (c : Contents) : Type 0 where
+  front : List Cell
+  back : List Cell
+  number : ℤ
+  value : distance_of scope (pos (65536 + 4 * words)) o.value ≡ Some number
+  expansion : Expansion
+  expands : expansion_of m o number ≡ Some expansion
+  meant : AreMeant expansion
+  cells : c.cells ≡ front ++ (cells_of line.number expansion ++ back)
+  behind : words ≡ counted (length front)
+  earlier : All (λ (x : Cell). x.line < line.number) front
+  later : All (λ (x : Cell). line.number < x.line) back
+
+parted-at : (scope : Scope) (before : List Line) (line : Line) (after : List Line) (words : ℕ) (m : Mnemonic) (o : Operands) (f g h : Filling) → IsCountedAt 1 before line after → IsInstruction scope.source before line words m o
+    → all_filled scope before start_filling ≡ Ok g → filled scope line g ≡ Ok h → all_filled scope after h ≡ Ok f → IsParted scope line words m o f.contents
+parted-at scope before line after words m o f g h counts instruction front here rest =
+    let (added, registers, at) = line-added scope before line words m o g h instruction front here in
+    let early : Grows 1 (1 + length before) start_filling.contents g.contents = grows-lines scope 1 before start_filling g counts.front front in
+    let late : Grows (line.number + 1) (line.number + 1 + length after) h.contents f.contents = grows-lines scope (line.number + 1) after h f counts.back rest in
+    let number : line.number ≡ 1 + length before = counts.number in
+    record {
+      front = g.contents.cells;
+      back = late.more;
+      number = added.number;
+      value = added.value;
+      expansion = added.expansion;
+      expands = added.expands;
+      meant = expansion-meant m o added.number added.expansion registers added.expands;
+      cells = joined g.contents.cells (cells_of line.number added.expansion) late.more h.contents.cells f.contents.cells added.cells late.cells;
+      behind = at;
+      earlier = subst (λ (x : List Cell). All (λ (x : Cell). x.line < line.number) x) (sym early.cells)
+          (All-weaker (IsOf 1 (1 + length before)) (λ (x : Cell). x.line < line.number) (λ (x : Cell) is. omega (arith, is.1)) early.more early.lines);
+      later = All-weaker (IsOf (line.number + 1) (line.number + 1 + length after)) (λ (x : Cell). line.number < x.line) (λ (x : Cell) is. omega (arith, is.0)) late.more late.lines;
+    }
+
+parted-lines : (scope : Scope) (before : List Line) (line : Line) (after : List Line) (words : ℕ) (m : Mnemonic) (o : Operands) (c : Contents) → IsText scope.source (before ++ line ∷ after) → IsInstruction scope.source before line words m o
+    → contents_filled scope (before ++ line ∷ after) ≡ Ok c → IsParted scope line words m o c
+parted-lines scope before line after words m o c text instruction is =
+    let (f, all, shows) = and_then-ok (all_filled scope (before ++ line ∷ after) start_filling) contents_shown c is in
+    let (g, front, behind) = and_then-ok (all_filled scope before start_filling) (λ (x : Filling). all_filled scope (line ∷ after) x) f (sym (all_filled-append scope before (line ∷ after) start_filling) ∙ all) in
+    let (h, here, rest) = and_then-ok (filled scope line g) (λ (x : Filling). all_filled scope after x) f behind in
+    subst (λ (x : Contents). IsParted scope line words m o x) (same_contents f.contents c shows)
+    (parted-at scope before line after words m o f g h (counted-parts 1 before line after (counted-text scope.source (before ++ line ∷ after) text)) instruction front here rest)
+
+-- text that fits the image has no more words than its pages hold
+pub entry-fits : (l : Layout) (entry : ℕ) → entry_of l ≡ Ok entry → pages (4 * l.position.words) + pages l.position.bytes ≤ 60
+entry-fits l entry is = grind (arith, nat_tests)
+
+-- the listing of what the passes make
+listed-instruction : (source : List ℕ) (before : List Line) (line : Line) (after : List Line) (words : ℕ) (m : Mnemonic) (o : Operands) (listing : List Row) (l : Layout) (c : Contents) → all_placed source (before ++ line ∷ after) start_layout ≡ Ok l
+    → length c.cells ≤ 61440 → rows_from 65536 c.cells ≡ listing → IsParted (scope_of source l) line words m o c → IsListedInstruction source (before ++ line ∷ after) line words m o listing
+listed-instruction source before line after words m o listing l c placed small shows parted =
+    let here : List Cell = cells_of line.number parted.expansion in
+    let short : length parted.front ≤ 61440 = omega (arith, ap length parted.cells, length-append parted.front (here ++ parted.back)) in
+    let count : length parted.front ≡ words = counted-small words (length parted.front) parted.behind short in
+    record {
+      layout = l;
+      placed = placed;
+      number = parted.number;
+      value = parted.value;
+      expansion = parted.expansion;
+      expands = parted.expands;
+      above = rows_from 65536 parted.front;
+      rows = rows_from (65536 + 4 * words) here;
+      below = rows_from (65536 + 4 * words + 4 * length here) parted.back;
+      parted = sym shows ∙ ap (rows_from 65536) parted.cells ∙ rows-append 65536 parted.front (here ++ parted.back)
+          ∙ ap (λ (n : ℕ). rows_from 65536 parted.front ++ rows_from (65536 + 4 * n) (here ++ parted.back)) count
+          ∙ ap (λ (x : List Row). rows_from 65536 parted.front ++ x) (rows-append (65536 + 4 * words) here parted.back)
+          ∙ sym (append_assoc (rows_from 65536 parted.front) (rows_from (65536 + 4 * words) here) (rows_from (65536 + 4 * words + 4 * length here) parted.back));
+      behind = length-rows 65536 parted.front ∙ count;
+      instructions = are_instructions (65536 + 4 * words) line.number parted.expansion parted.meant;
+      earlier = rows-lines (λ (n : ℕ). n < line.number) 65536 parted.front parted.earlier;
+      later = rows-lines (λ (n : ℕ). line.number < n) (65536 + 4 * words + 4 * length here) parted.back parted.later;
+    }
+
+made-lists : (source : List ℕ) (before : List Line) (line : Line) (after : List Line) (words : ℕ) (m : Mnemonic) (o : Operands) (image : Program) (listing : List Row) → IsText source (before ++ line ∷ after) → IsInstruction source before line words m o
+    → assembly source (before ++ line ∷ after) ≡ Ok (record { image = image; listing = listing }) → IsListedInstruction source (before ++ line ∷ after) line words m o listing
+made-lists source before line after words m o image listing text instruction is =
+    let lines : List Line = before ++ line ∷ after in
+    let wanted : Assembled = record { image = image; listing = listing } in
+    let (l, placed, is2) = and_then-ok (all_placed source lines start_layout) (assembly_from source lines) wanted is in
+    let (entry, starts, is3) = and_then-ok (entry_of l) (assembly_behind source lines l) wanted is2 in
+    let (c, fills, is4) = and_then-ok (contents_filled (scope_of source l) lines) (made_of entry) wanted is3 in
+    let fits : pages (4 * l.position.words) + pages l.position.bytes ≤ 60 = entry-fits l entry starts in
+    let size = sized (scope_of source l) lines l c placed fills fits in
+    let small : length c.cells ≤ 61440 = omega (arith, size.0, fits) in
+    listed-instruction source before line after words m o listing l c placed small (ap (λ (a : Assembled). a.listing) (same_assembled (assembled entry c) wanted is4))
+    (parted-lines (scope_of source l) before line after words m o c text instruction fills)
+
+-- what the passes make of the one reading of a source lists its instructions
+pub lists-instructions : (source given : List ℕ) (lines given_lines : List Line) (image : Program) (listing : List Row) → given ≡ source → given_lines ≡ lines → IsText source lines
+    → ((s : List ℕ) (ls ms : List Line) → IsText s ls → IsText s ms → ls ≡ ms) → assembly given given_lines ≡ Ok (record { image = image; listing = listing }) → ListsInstructions source listing
+lists-instructions source given lines given_lines image listing same same_lines text one is before line after words m o other instruction =
+    let made : assembly source lines ≡ Ok (record { image = image; listing = listing }) =
+    subst (λ (ls : List Line). assembly source ls ≡ Ok (record { image = image; listing = listing })) same_lines
+    (subst (λ (s : List ℕ). assembly s given_lines ≡ Ok (record { image = image; listing = listing })) same is) in
+    made-lists source before line after words m o image listing other instruction
+    (subst (λ (ls : List Line). assembly source ls ≡ Ok (record { image = image; listing = listing })) (one source lines (before ++ line ∷ after) text other) made)

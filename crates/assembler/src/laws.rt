@@ -1,0 +1,37 @@
+//! What the definitions say of every source.
+ghost use Rattle.assembler.specs.Loads.{LoadsAreRight};
+ghost use Rattle.assembler.specs.Laws.{WordsAreOfTable, PartsAddUp, ImagesAreByLines, HasOneOutcome};
+
+use asm_text::one_reading;
+
+/// A law: the words of instructions are those of the instruction table. A word below 2^32 that means an instruction is the
+/// instruction's word, which of FENCE is the one of all accesses.
+pub fn word_meanings()
+    ensures { WordsAreOfTable }
+{}
+
+/// A law: the high part of a number, shifted up by twelve bits, and its low part add up to it, modulo 2^32. So `lui` and
+/// `addi` make a number of `li`, and `auipc` and `addi` a distance of `la`.
+pub fn parts_add_up()
+    ensures { PartsAddUp }
+{}
+
+/// A law: carried out one after the other, the instructions of `li` put a word into their register, and those of `la` the
+/// address of their label; nothing else changes but the pc, which goes on behind them.
+pub fn loads_are_right()
+    ensures { LoadsAreRight }
+{}
+
+/// A law: text and data are the bytes of the statements of a source's lines, one after the other, each statement's at its own
+/// address; and a label stands at its section's base plus the bytes of that section before it.
+pub fn images_are_by_lines()
+    ensures { ImagesAreByLines }
+{}
+
+/// A law: a source has one image and listing, or one first fault, and never both. Which of them `assemble` answers, unless
+/// memory runs out.
+pub fn one_outcome()
+    ensures { HasOneOutcome }
+{
+    one_reading();
+}

@@ -1,0 +1,30 @@
+-- What calls may look at, from what is kept of it.
+use Rattle.std.specs.Prelude.{◌≡◌, ℕ, List, [], map, Option}
+use Rattle.disk_model.specs.declared.change.NamedFile.{NamedFile}
+use Rattle.kernel_model.specs.State.{Shared, PipeState, TapeState}
+use Rattle.kernel_model.specs.Rows as rows
+use Rattle.pipes.specs.Seen.{Seen, Shows}
+use Rattle.processes.specs.declared.table.EndedChild.{EndedChild}
+
+-- a child that has ended, as the table of processes gives it
+abbrev pub child_of : EndedChild → rows.EndedChild
+child_of e = record { child = e.child; status = e.status }
+
+-- a pipe to which nothing was ever written but what is seen of it
+abbrev pub pipe_of : Seen → PipeState
+pipe_of x = record { written = x.held; taken = 0; readers = x.readers; writers = x.writers }
+
+-- these files, pipes and tapes, and no processes
+abbrev pub things : List NamedFile → List Seen → List TapeState → Shared
+things files seen tapes = record { statuses = []; files = files; pipes = map pipe_of seen; tapes = tapes }
+
+-- these files, pipes and tapes, and processes that have ended so
+abbrev pub shared_of : List (Option ℕ) → List NamedFile → List Seen → List TapeState → Shared
+shared_of statuses files seen tapes = record { statuses = statuses; files = files; pipes = map pipe_of seen; tapes = tapes }
+
+-- What calls may look at: these processes have ended so, and these are the files, what is seen of the pipes, and the tapes.
+pub record IsKept (s : Shared) (ended : List (Option ℕ)) (stored : List NamedFile) (seen : List Seen) (taped : List TapeState) : Type 0 where
+  pub statuses : s.statuses ≡ ended
+  pub files : s.files ≡ stored
+  pub pipes : Shows s.pipes seen
+  pub tapes : s.tapes ≡ taped

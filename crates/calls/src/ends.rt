@@ -1,0 +1,143 @@
+//! The ends of pipes for which descriptors stand.
+ghost use Rattle.std.specs.Prelude.{◌≡◌, ◌≤◌, List, [], length, map, Some, option_to_list, IfOk};
+ghost use Rattle.kernel_model.specs.Rows.{end_of, ends_of, carrier_of, closing, on_pipe, row_close, row_end, descriptor_at};
+ghost use Rattle.kernel_model.specs.declared.effect.PipeStep.TheVariants.{Drop};
+ghost use Rattle.pipes.specs.Seen.{Seen};
+ghost use Rattle.calls.specs.Plans.{IsPlan, EditsAs, OpensAlone, MayAllStep};
+
+use crate::errno::Errno;
+use crate::plan::Plan;
+use crate::told::number;
+use kernel_model::{Carrier, Descriptor, PipeEnd, PipeStep, Slot, Verdict};
+use processes::Descriptors;
+use std::alloc::{AllocError, Global};
+
+/// How many descriptors a process has.
+const DESCRIPTORS: u32 = 16;
+
+/// The end of a pipe for which a descriptor stands, if it stands for one.
+fn end_of(descriptor: Option<Descriptor>) -> Option<PipeEnd>
+    ensures { result ≡ end_of descriptor }
+{
+    match descriptor {
+        Some(Descriptor::Pipe(end)) => Some(end),
+        _ => None,
+    }
+}
+
+/// There are no more than 16 descriptors: none can be made free behind the last.
+pub fn are_few(descriptors: &Descriptors)
+    ensures { length descriptors.now ≤ 16 }
+{
+    let mut freed = descriptors.duplicate();
+    freed.set(Slot {
+        fd: DESCRIPTORS as usize,
+        holds: None,
+    });
+    let _ = freed.free_behind(DESCRIPTORS as usize - 1);
+}
+
+/// The ends for which these descriptors stand.
+pub fn ends_of(alloc: Global, descriptors: &Descriptors) -> Result<Vec<PipeEnd>, AllocError>
+    ensures ends { IfOk result (λ ends. ends.items ≡ ends_of descriptors.now) }
+    ensures few { length descriptors.now ≤ 16 }
+{
+    are_few(descriptors);
+    let mut ends = Vec::new(alloc);
+    for fd in 0..DESCRIPTORS {
+        if let Some(end) = end_of(descriptors.get(fd)) {
+            ends.push(end)?;
+        }
+    }
+    Ok(ends)
+}
+
+/// The pipe of an end, as a carrier.
+fn carrier_of(end: PipeEnd) -> Carrier
+    ensures { result ≡ carrier_of end }
+{
+    match end {
+        PipeEnd::Read(pipe) => Carrier::Pipe(pipe),
+        PipeEnd::Write(pipe) => Carrier::Pipe(pipe),
+    }
+}
+
+/// The pipes of these ends, as carriers.
+pub fn carriers_of(alloc: Global, ends: &[PipeEnd]) -> Result<Vec<Carrier>, AllocError>
+    ensures { IfOk result (λ carriers. carriers.items ≡ map carrier_of ends.now) }
+{
+    ends.iter().map(|end| carrier_of(*end)).collect(alloc)
+}
+
+/// A step of the pipes for each of these ends: a descriptor for it is given up.
+fn drops_of(alloc: Global, ends: &[PipeEnd]) -> Result<Vec<PipeStep>, AllocError>
+    ensures { IfOk result (λ steps. steps.items ≡ map Drop ends.now) }
+{
+    ends.iter().map(|end| PipeStep::Drop(*end)).collect(alloc)
+}
+
+/// The caller is told this, and the descriptors that stand for these ends are closed.
+fn closing(alloc: Global, ends: &[PipeEnd], told: Verdict) -> Result<Plan, AllocError>
+    ensures { IfOk result (λ plan. IsPlan plan (closing ends.now told)) }
+{
+    let mut plan = Plan::only(alloc, told);
+    plan.reads = carriers_of(alloc, ends)?;
+    plan.writes = carriers_of(alloc, ends)?;
+    plan.pipes = drops_of(alloc, ends)?;
+    Ok(plan)
+}
+
+/// The end of a process with a status, by a call or a trap: each end of a pipe for which a descriptor of its stands is given
+/// up. Refused for want of memory alone.
+pub fn plan_end(alloc: Global, descriptors: &Descriptors, status: u32) -> Result<Plan, AllocError>
+    ensures row { IfOk result (λ plan. IsPlan plan (row_end descriptors.now status)) }
+    ensures edits { IfOk result (λ plan. EditsAs plan.told plan) }
+    ensures opens { IfOk result (λ plan. OpensAlone plan.pipes.items) }
+    ensures steps { (seen : List Seen) → IfOk result (λ plan. MayAllStep seen plan.pipes.items) }
+{
+    let ends = ends_of(alloc, descriptors)?;
+    closing(alloc, &ends, Verdict::Ends(status))
+}
+
+/// The caller is told this, and a descriptor is closed that may stand for an end.
+fn closing_one(alloc: Global, end: Option<PipeEnd>, told: Verdict) -> Result<Plan, AllocError>
+    ensures { IfOk result (λ plan. IsPlan plan (closing (option_to_list end) told)) }
+{
+    match end {
+        Some(end) => closing(alloc, &[end], told),
+        None => Ok(Plan::only(alloc, told)),
+    }
+}
+
+/// A close of a descriptor.
+pub fn close(alloc: Global, descriptors: &Descriptors, fd: u32) -> Result<Plan, AllocError>
+    ensures { IfOk result
+        (λ plan. IsPlan plan (row_close (descriptor_at descriptors.now fd) fd)) }
+{
+    match descriptors.get(fd) {
+        Some(descriptor) => close_there(alloc, descriptor, fd),
+        None => Ok(Plan::failure(alloc, Errno::BadDescriptor)),
+    }
+}
+
+/// A close of a descriptor that stands for this.
+fn close_there(alloc: Global, descriptor: Descriptor, fd: u32) -> Result<Plan, AllocError>
+    ensures { IfOk result (λ plan. IsPlan plan (row_close (Some descriptor) fd)) }
+{
+    let mut plan = closing_one(alloc, end_of(Some(descriptor)), number(alloc, 0))?;
+    plan.slots.push(Slot {
+        fd: fd as usize,
+        holds: None,
+    })?;
+    Ok(plan)
+}
+
+/// The caller of a call on a pipe is told this.
+pub fn on_pipe(alloc: Global, pipe: u32, told: Verdict) -> Result<Plan, AllocError>
+    ensures { IfOk result (λ plan. IsPlan plan (on_pipe pipe told [])) }
+{
+    let mut plan = Plan::only(alloc, told);
+    plan.reads.push(Carrier::Pipe(pipe))?;
+    plan.writes.push(Carrier::Pipe(pipe))?;
+    Ok(plan)
+}

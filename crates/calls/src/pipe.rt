@@ -1,0 +1,85 @@
+//! The row of pipe.
+ghost use Rattle.std.specs.Prelude.{◌≡◌, ◌<◌, ◌≤◌, ◌++◌, length, IfOk};
+ghost use Rattle.std.specs.Int.{w32, to_le_bytes};
+ghost use Rattle.kernel_model.specs.Rows.{pipe_made, row_pipe};
+ghost use Rattle.calls.specs.Plans.{IsPlan};
+
+use crate::errno::Errno;
+use crate::plan::Plan;
+use crate::told::with_bytes;
+use byte_list::Bytes;
+use kernel_model::{Carrier, Descriptor, PipeEnd, PipeStep, Slot};
+use pipes::{MOST_PIPES, PipeTable};
+use processes::Descriptors;
+use std::alloc::{AllocError, Global};
+
+/// A pipe, whose descriptors are written to a place that may be too small for them.
+pub fn pipe(
+    alloc: Global,
+    pipes: &PipeTable,
+    descriptors: &Descriptors,
+    at: u32,
+    fits: bool,
+) -> Result<Plan, AllocError>
+    ensures { IfOk result
+        (λ plan. IsPlan plan (row_pipe (length pipes.now) descriptors.now at fits)) }
+{
+    if !fits {
+        return Ok(Plan::failure(alloc, Errno::BadAddress));
+    }
+    let Some(reader) = descriptors.free() else {
+        return Ok(Plan::failure(alloc, Errno::TooManyDescriptors));
+    };
+    let Some(writer) = descriptors.free_behind(reader) else {
+        return Ok(Plan::failure(alloc, Errno::TooManyDescriptors));
+    };
+    let count = pipes.len();
+    if count >= MOST_PIPES {
+        let mut plan = Plan::failure(alloc, Errno::TableFull);
+        plan.reads.push(Carrier::Pipes)?;
+        plan.writes.push(Carrier::Pipes)?;
+        return Ok(plan);
+    }
+    pipe_made(alloc, count as u32, at, reader, writer)
+}
+
+/// Two words as bytes.
+fn pair_of(alloc: Global, first: u32, second: u32) -> Result<Bytes, AllocError>
+    ensures { IfOk result
+        (λ bytes. bytes ≡ to_le_bytes w32 first ++ to_le_bytes w32 second) }
+{
+    let mut bytes = Vec::new(alloc);
+    bytes.extend_from_slice(&first.to_le_bytes())?;
+    bytes.extend_from_slice(&second.to_le_bytes())?;
+    Ok(Bytes::new(bytes))
+}
+
+/// A new pipe, the next by number, with two descriptors for its ends.
+fn pipe_made(
+    alloc: Global,
+    pipe: u32,
+    at: u32,
+    reader: usize,
+    writer: usize,
+) -> Result<Plan, AllocError>
+    requires reader { reader < 16 }
+    requires writer { writer < 16 }
+    ensures { IfOk result (λ plan. IsPlan plan (pipe_made pipe at reader writer)) }
+{
+    let words = pair_of(alloc, reader as u32, writer as u32)?;
+    let mut plan = Plan::only(alloc, with_bytes(0, at, words));
+    plan.reads.push(Carrier::Pipes)?;
+    plan.reads.push(Carrier::Pipe(pipe))?;
+    plan.writes.push(Carrier::Pipes)?;
+    plan.writes.push(Carrier::Pipe(pipe))?;
+    plan.pipes.push(PipeStep::Open)?;
+    plan.slots.push(Slot {
+        fd: reader,
+        holds: Some(Descriptor::Pipe(PipeEnd::Read(pipe))),
+    })?;
+    plan.slots.push(Slot {
+        fd: writer,
+        holds: Some(Descriptor::Pipe(PipeEnd::Write(pipe))),
+    })?;
+    Ok(plan)
+}

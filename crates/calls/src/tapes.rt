@@ -1,0 +1,89 @@
+//! The tapes that processes read.
+ghost use Rattle.std.specs.Prelude.{◌≡◌, take, drop, slice_get, option_map};
+ghost use Rattle.kernel_model.specs.State.{read_by};
+ghost use Rattle.kernel_model.specs.World.{tapes_of, tape_count};
+ghost use Rattle.calls.specs.Plans.{AreLeft};
+ghost use Rattle.calls.specs.Places.{bytes_of};
+
+use byte_list::Bytes;
+use kernel_model::TapeRead;
+use std::marker::Model;
+use std::sync::Arc;
+
+/// How many tapes there are.
+const TAPES: usize = 8;
+
+/// The tapes, 0 to 7: the bytes of each, which are shared with whoever gave them, and the place of the next one to be read.
+#[derive(Drop)]
+pub struct TapeTable {
+    tapes: Arc<Vec<Bytes>>,
+    places: [usize; TAPES],
+}
+
+impl Model for TapeTable {
+    ghost use Rattle.std.specs.Prelude.{◌≡◌, List, length};
+    ghost use Rattle.kernel_model.specs.State.{TapeState};
+
+    ghost Value = { List TapeState };
+
+    ghost use Rattle.calls.specs.Places.{tapes_at};
+
+    ghost view = { λ t. tapes_at t.tapes.value.items t.places };
+
+    ghost invariant = { λ t. length t.places ≡ 8 };
+}
+
+/// The bytes of a tape; none where none were given.
+fn bytes_of(tapes: &[Bytes], tape: usize) -> &[u8]
+    ensures { result.now ≡ bytes_of tapes.now tape }
+{
+    match tapes.get(tape) {
+        Some(bytes) => bytes.as_slice(),
+        None => &[],
+    }
+}
+
+/// At most n of these bytes, from a place on; none where the place lies past their end.
+fn part_of(bytes: &[u8], place: usize, n: usize) -> &[u8]
+    ensures { result.now ≡ take n (drop place bytes.now) }
+{
+    let rest = &bytes[place.min(bytes.len())..];
+    &rest[..n.min(rest.len())]
+}
+
+impl TapeTable {
+    /// The tapes with these bytes, of which none is read. Tapes that are not given are empty, and more than 8 are left out.
+    /// Takes no memory.
+    pub fn new(tapes: Arc<Vec<Bytes>>) -> TapeTable
+        ensures { result ≡ tapes_of tape_count tapes.value.items }
+    {
+        TapeTable {
+            tapes,
+            places: [0; TAPES],
+        }
+    }
+
+    /// At most n bytes of a tape, from its place on: fewer where the tape ends before. None where there is no such tape.
+    pub fn read(&self, tape: u32, n: usize) -> Option<&[u8]>
+        ensures { option_map (λ bytes. bytes.now) result
+            ≡ option_map (λ tape. take n (drop tape.place tape.bytes)) (slice_get self.now tape) }
+    {
+        let tape = tape as usize;
+        let place = *self.places.get(tape)?;
+        Some(part_of(bytes_of(self.tapes.as_slice(), tape), place, n))
+    }
+
+    /// A tape goes on by so many bytes, which were read. Takes no memory.
+    pub fn advance(&mut self, read: TapeRead)
+        requires { AreLeft self.old read }
+        ensures { self.new ≡ read_by self.old (Some read) }
+    {
+        let tape = read.tape as usize;
+        if tape < TAPES {
+            let end = bytes_of(self.tapes.as_slice(), tape).len();
+            let place = self.places[tape];
+            prove!(read.count <= end.saturating_sub(place));
+            self.places[tape] = place + read.count;
+        }
+    }
+}

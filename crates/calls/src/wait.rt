@@ -1,0 +1,80 @@
+//! The row of wait.
+ghost use Rattle.std.specs.Prelude.{◌≡◌, ◌==◌, map, option_map, IfOk, if◌then◌else◌};
+ghost use Rattle.std.specs.Int.{w32, to_le_bytes};
+ghost use Rattle.kernel_model.specs.Rows.{number, with_bytes, wait_ended, row_wait};
+ghost use Rattle.kernel_model.specs.declared.carrier.Carrier.TheVariants.{Proc};
+ghost use Rattle.processes.specs.Parts.{part_at, children_in, statuses_of};
+ghost use Rattle.calls.specs.Plans.{IsPlan};
+ghost use Rattle.calls.specs.Shares.{child_of};
+
+use crate::errno::Errno;
+use crate::plan::Plan;
+use crate::told::{number, with_bytes};
+use byte_list::Bytes;
+use kernel_model::{Carrier, Verdict};
+use processes::{EndedChild, ProcTable};
+use std::alloc::{AllocError, Global};
+
+/// A wait, with a place for a status that may be too small for it.
+pub fn wait(
+    alloc: Global,
+    processes: &ProcTable,
+    pid: u32,
+    at: u32,
+    fits: bool,
+) -> Result<Plan, AllocError>
+    ensures { IfOk result (λ plan. IsPlan plan (row_wait (statuses_of processes.now.parts)
+        (children_in (part_at processes.now.parts pid)) at fits)) }
+{
+    if !fits {
+        return Ok(Plan::failure(alloc, Errno::BadAddress));
+    }
+    let children = processes.children(pid);
+    if children.is_empty() {
+        return Ok(Plan::failure(alloc, Errno::NoChild));
+    }
+    wait_ended(alloc, at, children, processes.ended_child(pid))
+}
+
+/// These processes, as carriers.
+fn procs_of(alloc: Global, processes: &[u32]) -> Result<Vec<Carrier>, AllocError>
+    ensures { IfOk result (λ carriers. carriers.items ≡ map Proc processes.now) }
+{
+    processes
+        .iter()
+        .map(|pid| Carrier::Proc(*pid))
+        .collect(alloc)
+}
+
+/// What a wait tells that collects this child.
+fn told_of(alloc: Global, at: u32, ended: EndedChild) -> Result<Verdict, AllocError>
+    ensures { IfOk result (λ told. told ≡ (if at == 0 then number ended.child
+        else with_bytes ended.child at (to_le_bytes w32 ended.status))) }
+{
+    if at == 0 {
+        return Ok(number(alloc, ended.child));
+    }
+    let status = Bytes::copy_of(alloc, &ended.status.to_le_bytes())?;
+    Ok(with_bytes(ended.child, at, status))
+}
+
+/// A wait with these children, of which the first that has ended, if one has, is this one.
+fn wait_ended(
+    alloc: Global,
+    at: u32,
+    children: &[u32],
+    ended: Option<EndedChild>,
+) -> Result<Plan, AllocError>
+    ensures { IfOk result
+        (λ plan. IsPlan plan (wait_ended at children.now (option_map child_of ended))) }
+{
+    let Some(ended) = ended else {
+        let mut plan = Plan::only(alloc, Verdict::Waits);
+        plan.reads = procs_of(alloc, children)?;
+        return Ok(plan);
+    };
+    let mut plan = Plan::only(alloc, told_of(alloc, at, ended)?);
+    plan.reads = procs_of(alloc, children)?;
+    plan.collects = Some(ended.child);
+    Ok(plan)
+}

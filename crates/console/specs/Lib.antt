@@ -1,0 +1,3 @@
+-- The definitions.
+pub mod Sinks
+pub mod Writers

@@ -1,0 +1,9 @@
+//! Text to a writer, and how much of it went out.
+#![tactic(auto)]
+
+mod pumping;
+mod sink;
+#[cfg(test)]
+mod tests;
+
+pub use pumping::{PumpFault, pump};

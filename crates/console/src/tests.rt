@@ -1,0 +1,101 @@
+//! Writers that take all, little or nothing, and fail.
+use crate::{PumpFault, pump};
+use std::alloc::Global;
+use std::io::{self, Error, ErrorKind, Write};
+use std::process::Abort;
+use std::test::Fail;
+
+const TEXT: &[u8] = b"the text that goes out";
+
+/// How a writer answers once it is full.
+#[derive(Clone, Copy)]
+enum Full {
+    TakesNothing,
+    Fails,
+}
+
+/// Takes at most so many bytes in a call, and holds at most so many.
+#[derive(Drop)]
+struct Fake {
+    held: Vec<u8>,
+    at_once: usize,
+    room: usize,
+    full: Full,
+    /// The next call is interrupted.
+    interrupted: bool,
+}
+
+impl Fake {
+    fn new(alloc: Global, at_once: usize, room: usize, full: Full) -> Fake {
+        Fake {
+            held: Vec::new(alloc),
+            at_once,
+            room,
+            full,
+            interrupted: false,
+        }
+    }
+}
+
+impl Write for Fake {
+    fn write(&mut self, buf: &[u8]) -> io::Result<usize> {
+        if self.interrupted {
+            self.interrupted = false;
+            return Err(Error::from(ErrorKind::Interrupted));
+        }
+        let count = buf.len().min(self.at_once).min(self.room);
+        if count == 0 {
+            return match self.full {
+                Full::TakesNothing => Ok(0),
+                Full::Fails => Err(Error::from(ErrorKind::BrokenPipe)),
+            };
+        }
+        self.held.extend_from_slice(&buf[..count])?;
+        self.room -= count;
+        self.interrupted = true;
+        Ok(count)
+    }
+
+    fn flush(&mut self) -> io::Result<()> {
+        Ok(())
+    }
+}
+
+/// Pumps the text from a place on, and wants all of it to go out.
+fn expect_all<R: AllocGlobal + Abort>(rt: &R, at_once: usize, from: usize) {
+    if let Some(rest) = TEXT.get(from..) {
+        let mut writer = Fake::new(rt.alloc(), at_once, TEXT.len(), Full::Fails);
+        assert_eq!(rt; pump(&mut writer, TEXT, from), Ok(TEXT.len()));
+        assert_eq!(rt; writer.held.as_slice(), rest);
+    }
+}
+
+#[test]
+fn all_goes_out(rt: HostRuntime) {
+    for at_once in [1, 5, 100] {
+        for from in [0, 4, TEXT.len()] {
+            expect_all(&rt, at_once, from);
+        }
+    }
+}
+
+#[test]
+fn a_full_writer_is_a_fault(rt: HostRuntime) {
+    let from = 4;
+    for full in [Full::TakesNothing, Full::Fails] {
+        for room in 0..TEXT.len() - from {
+            let mut writer = Fake::new(rt.alloc(), 1, room, full);
+            let upto = from + room;
+            assert_eq!(rt; pump(&mut writer, TEXT, from), Err(PumpFault { upto }));
+            assert_eq!(rt; writer.held.as_slice(), &TEXT[from..upto]);
+        }
+    }
+}
+
+#[test]
+fn a_vector_takes_all(rt: HostRuntime) -> Result<(), Fail> {
+    let mut writer = Vec::new(rt.alloc());
+    assert_eq!(rt; pump(&mut writer, TEXT, 4), Ok(22));
+    assert_eq!(rt; writer.as_slice(), b"text that goes out".as_slice());
+    Ok(())
+}

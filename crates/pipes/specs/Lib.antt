@@ -1,0 +1,3 @@
+-- The definitions.
+pub mod Seen
+pub mod Stepping

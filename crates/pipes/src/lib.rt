@@ -1,0 +1,13 @@
+//! The pipes of all processes: what each holds, and how many descriptors stand for its ends.
+#![tactic(auto)]
+
+mod laws;
+mod pipe;
+mod table;
+#[cfg(test)]
+mod tests;
+
+pub use kernel_model::PipeEnd;
+pub use laws::{ends_grow_by_one, steps_are_shown};
+pub use pipe::{PIPE_SIZE, Pipe};
+pub use table::{MOST_PIPES, PipeTable};
