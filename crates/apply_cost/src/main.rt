@@ -4,7 +4,6 @@
 
 use anyhow::Error;
 use assembler::assemble;
-use disk_model::zeros_hold_nothing;
 use kernel::{Core, Event, Program, SimDisk};
 use std::alloc::Global;
 use std::env;
@@ -116,7 +115,6 @@ impl Run {
         let (image, _) = assemble(alloc, writer.source)?;
         let program = Program { image, terminal: 0 };
         let disk = SimDisk::zero(alloc)?;
-        zeros_hold_nothing();
         let core = Core::boot(alloc, disk, vec![in alloc; program]?, Vec::new(alloc))?;
         Ok(Run {
             core,

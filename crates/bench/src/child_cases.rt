@@ -700,6 +700,33 @@ shown 0 => 50
 commit => 1
 shown 0 => 5043
 
+== a read that waits passes nothing on
+program 0
+    pipe 0x7FFFF000
+    fork
+    beqz a0,reader
+    fork
+    beqz a0,short
+    wait 0
+    write 1 &D 1
+reader:
+    fork
+    beqz a0,changer
+    read 2 0x7FFFE000 1
+short:
+    exit 0
+changer:
+    open &f 1 2
+    close 3
+1 => entered*3
+3 => ended
+2 => entered
+4 => entered*2
+2 => waits
+1 => entered*2
+shown 0 => 44
+trace 1 => 0 at 7ffff000 0200000003000000; 2; 3; 3; 1
+
 == a fork adds ends to a pipe
 program 0
     pipe 0x7FFFF000

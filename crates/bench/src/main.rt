@@ -6,9 +6,25 @@ mod call_cases;
 #[cfg(test)]
 mod child_cases;
 #[cfg(test)]
+mod cores;
+#[cfg(test)]
+mod crash_cases;
+#[cfg(test)]
+mod damage_cases;
+#[cfg(test)]
+mod disk_cases;
+#[cfg(test)]
+mod drain_cases;
+#[cfg(test)]
+mod first_run_cases;
+#[cfg(test)]
+mod plain_files;
+#[cfg(test)]
 mod play;
 #[cfg(test)]
 mod tests;
+#[cfg(test)]
+mod writer;
 
 use std::process::ExitCode;
 use std::{env, io};

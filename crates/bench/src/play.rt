@@ -15,7 +15,7 @@
 //! - `P => calls`: the same for each reply beside the calls of program P, and the kernel replies to each;
 //! - `commit => N`: the first cut of a run, with two writes, and their completions, by which N changes are committed;
 //! - `shown T => HEX`, in parts as above; `trace P => R; R; R`, or `-` for no replies, or `replies` for those beside the
-//!   program's calls;
+//!   program's calls; `files => NAME LENGTH; NAME LENGTH`, or `-` for no files;
 //! - any other line of a script, and the line that it prints.
 //!
 //! What a turn prints is left out; what stands behind `#` is a comment.
@@ -376,6 +376,21 @@ impl Case {
         Ok(replies.trace(alloc, pid)?)
     }
 
+    /// What files print.
+    fn files(&self, alloc: Global, wanted: &str) -> Result<String, Fail> {
+        if wanted == "-" {
+            return Ok(String::from_str(alloc, "files 0")?);
+        }
+        let lines: Vec<&str> = wanted.split("; ").collect(alloc)?;
+        let count = lines.len();
+        let mut printed = format!(in alloc; "files {count}")?;
+        for line in &lines {
+            printed.push_str("\n")?;
+            printed.push_str(line)?;
+        }
+        Ok(printed)
+    }
+
     /// Does a line that has what is wanted beside it.
     fn wanted(&mut self, alloc: Global, line: &str, wanted: &str) -> Result<(), Fail> {
         let words: Vec<&str> = line.split_whitespace().collect(alloc)?;
@@ -387,6 +402,10 @@ impl Case {
             ["shown", _] => {
                 let mut printed = format!(in alloc; "{line} ")?;
                 push_bytes(&mut printed, wanted)?;
+                self.step(line, printed.as_str())
+            }
+            ["files"] => {
+                let printed = self.files(alloc, wanted)?;
                 self.step(line, printed.as_str())
             }
             ["commit"] => {

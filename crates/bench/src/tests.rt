@@ -45,13 +45,13 @@ pub fn expect<R: Files + AllocGlobal + Abort>(
 
 /// The first run's two programs: the first creates the file `f`, writes 41 00 00 to it and `A` to its terminal, and ends;
 /// the second writes `B` to its terminal, and ends.
-const PROGRAMS: &str =
+pub const PROGRAMS: &str =
     "program 0 06600293 fe512e23 ffc10513 00100593 00200613 00400893 00000073 04100293 fe512e23 ffc10593 00300613 00200893 00000073 00100513 00100613 00000073 00000513 00100893 00000073
 program 1 04200293 fe512e23 00100513 ffc10593 00100613 00200893 00000073 00000513 00100893 00000073
 ";
 
 /// The first program up to its last write.
-const FIRST_PROGRAM: &str = "turn 1 100
+pub const FIRST_PROGRAM: &str = "turn 1 100
 enter 1
 turn 1 100
 enter 1
@@ -59,7 +59,7 @@ turn 1 100
 enter 1
 ";
 
-const FIRST_PRINTS: &str = "ran 6 call
+pub const FIRST_PRINTS: &str = "ran 6 call
 entered
 ran 5 call
 entered
@@ -210,7 +210,23 @@ fn refused_scripts(rt: HostRuntime) -> Result<(), Fail> {
         ("program 0 0000073\n", 1),
         ("program 0 0000007g\n", 1),
         ("program 0 +0000073\n", 1),
-        ("program 0 00000073\ndrain\n", 2),
+        // lines of one word with a second one, and crashes without a fill, with a faulty one, and with two
+        ("program 0 00000073\ncut 1\n", 2),
+        ("program 0 00000073\ndrain 1\n", 2),
+        ("program 0 00000073\ndrain \n", 2),
+        ("program 0 00000073\nfiles 0\n", 2),
+        ("program 0 00000073\ncrash\n", 2),
+        ("program 0 00000073\ncrash \n", 2),
+        ("program 0 00000073\ncrash 0\n", 2),
+        ("program 0 00000073\ncrash 000\n", 2),
+        ("program 0 00000073\ncrash 0g\n", 2),
+        ("program 0 00000073\ncrash 0x00\n", 2),
+        ("program 0 00000073\ncrash --\n", 2),
+        ("program 0 00000073\ncrash 00 00\n", 2),
+        ("program 0 00000073\ncrash - -\n", 2),
+        ("program 0 00000073\ncrash  00\n", 2),
+        ("crash -\nprogram 0 00000073\n", 2),
+        ("program 0 00000073\ncrash -\ntape 0 -\n", 3),
         // tapes: a tape alone, faulty numbers, faulty bytes, a second line for one tape, and one behind an event
         ("tape 0 68\n", 1),
         ("program 0 00000073\ntape\n", 2),
@@ -537,7 +553,7 @@ fn a_source_is_assembled_and_listed(rt: HostRuntime) -> Result<(), Fail> {
 }
 
 /// The first run's first program, as a source.
-const FIRST_SOURCE: &str = "_start: li t0, 0x66      # the name, f
+pub const FIRST_SOURCE: &str = "_start: li t0, 0x66      # the name, f
     sw t0, -4(sp)
     addi a0, sp, -4
     li a1, 1

@@ -4,7 +4,6 @@ ghost use Rattle.std.specs.List.{AllByRecursion};
 
 use crate::{Done, run_loan};
 use byte_list::Bytes;
-use disk_model::zeros_hold_nothing;
 use kernel::{Answer, Core, Event, Outcome, Program, Refused, SimDisk};
 use machine::Image;
 use machine_model::Stop;
@@ -91,7 +90,6 @@ fn boot_of(alloc: Global, programs: Vec<Program>, tapes: Vec<Bytes>) -> Result<C
     requires few_tapes { length tapes.items ≤ 8 }
 {
     let disk = SimDisk::zero(alloc)?;
-    zeros_hold_nothing();
     Ok(Core::boot(alloc, disk, programs, tapes)?)
 }
 
@@ -231,8 +229,9 @@ fn told(alloc: Global, core: &Core, pid: u32) -> Result<(Vec<u32>, Option<u32>),
     Ok((numbers, core.ended(pid)?))
 }
 
-/// Two cores show and hand out the same.
+/// Two cores show and hand out the same, and ran as many instructions.
 fn look_alike<R: Abort>(rt: &R, alloc: Global, core: &Core, other: &Core) -> Result<(), Fail> {
+    assert_eq!(rt; core.ran(), other.ran());
     for terminal in 0..8 {
         assert_eq!(rt; core.shown(terminal), other.shown(terminal));
     }
@@ -272,7 +271,7 @@ fn core_by_events<R: Abort>(rt: &R, alloc: Global, events: &[Event]) -> Result<C
     Ok(core)
 }
 
-/// Two cores show and hand out the same, before a commit and after it.
+/// Two cores are alike so, before a commit and after it.
 fn stay_alike<R: Abort>(
     rt: &R,
     alloc: Global,
@@ -289,6 +288,8 @@ fn stay_alike<R: Abort>(
 fn ended_well<R: Abort>(rt: &R, core: &Core) -> Result<(), Fail> {
     // nine loans, six of which came to a call, and the commit
     assert_eq!(rt; core.history().len(), 18);
+    // 15 instructions of the first program and 8 of the second, its calls aside
+    assert_eq!(rt; core.ran(), 23);
     assert_eq!(rt; core.shown(0), [0x41].as_slice());
     assert_eq!(rt; core.shown(1), [0x42].as_slice());
     assert_eq!(rt; core.ended(1)?, Some(0));

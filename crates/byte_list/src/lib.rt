@@ -1,7 +1,7 @@
 //! Bytes that contracts see as a list.
 #![tactic(auto)]
 
-ghost use Rattle.std.specs.Prelude.{◌≡◌, [], IfOk};
+ghost use Rattle.std.specs.Prelude.{◌≡◌, ◌≤◌, ◌+◌, ◌++◌, [], IfOk, OnOk, OnErr, IsOk, length, take, drop, replicate};
 
 use std::alloc::{AllocError, Global};
 use std::marker::Model;
@@ -60,10 +60,48 @@ impl Bytes {
         self.bytes
     }
 
+    /// So many zeros come behind the bytes. Where there is no memory for them nothing changes.
+    pub fn extend_zeros(&mut self, count: usize) -> Result<(), AllocError>
+        ensures ok { OnOk result (self.new ≡ self.old ++ replicate count 0) }
+        ensures err { OnErr result (self.new ≡ self.old) }
+        ensures no_growth { count ≡ 0 → IsOk result }
+    {
+        let len = self.bytes.len();
+        let grown = len.checked_add(count).ok_or(AllocError)?;
+        self.bytes.resize(grown, 0)
+    }
+
+    /// Writes these bytes over those from a place on. Takes no memory.
+    pub fn overwrite(&mut self, at: usize, bytes: &[u8])
+        requires { at + length bytes.now ≤ length self.old }
+        ensures { self.new ≡ take at self.old ++ bytes.now ++ drop (at + length bytes.now) self.old }
+    {
+        self.bytes[at..at + bytes.len()].copy_from_slice(bytes);
+    }
+
     /// A copy of these bytes.
     pub fn try_clone(&self, alloc: Global) -> Result<Bytes, AllocError>
         ensures { IfOk result (λ b. b ≡ self.now) }
     {
         Bytes::copy_of(alloc, self.as_slice())
+    }
+}
+
+#[cfg(test)]
+mod tests {
+    use super::*;
+    use std::test::Fail;
+
+    #[test]
+    fn bytes_grow_and_are_overwritten(rt: HostRuntime) -> Result<(), Fail> {
+        let mut bytes = Bytes::copy_of(rt.alloc(), b"abc")?;
+        bytes.extend_zeros(2)?;
+        assert_eq!(rt; bytes.as_slice(), b"abc\0\0".as_slice());
+        bytes.overwrite(1, b"xyz");
+        assert_eq!(rt; bytes.as_slice(), b"axyz\0".as_slice());
+        bytes.overwrite(5, b"");
+        bytes.extend_zeros(0)?;
+        assert_eq!(rt; bytes.as_slice(), b"axyz\0".as_slice());
+        Ok(())
     }
 }

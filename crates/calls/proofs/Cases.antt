@@ -16,6 +16,7 @@ use Rattle.kernel_model.specs.declared.descriptor.PipeEnd.{PipeEnd}
 use Rattle.kernel_model.specs.declared.descriptor.PipeEnd.TheVariants as pipe_end
 use Rattle.kernel_model.specs.declared.effect.PipeStep.TheVariants as pipe_step
 use Rattle.kernel_model.specs.declared.request.Verdict.TheVariants.{Waits}
+use Rattle.calls.proofs.Stepping.{length-ends_of}
 
 -- a reply of a number, which reads and writes these, and makes no edit
 abbrev pub plain : ℕ → List Carrier → List Carrier → Effect
@@ -168,10 +169,10 @@ closed fd ends = record (closing ends (number 0)) { slots = record { fd = fd; ho
 
 pub row_close-cases : (P : Effect → Type 0) (d : Option Descriptor) (fd : ℕ)
     → ((k : ℕ) (reads writes : List Carrier) → P (plain k reads writes))
-    → ((ends : List PipeEnd) → P (closed fd ends))
+    → ((ends : List PipeEnd) → length ends ≤ 1 → P (closed fd ends))
     → P (row_close d fd)
 row_close-cases P None fd none shut = none _ [] []
-row_close-cases P (Some d) fd none shut = shut (ends_of (Some d ∷ []))
+row_close-cases P (Some d) fd none shut = shut (ends_of (Some d ∷ [])) (length-ends_of (Some d ∷ []))
 
 pipe_free-cases : (P : Effect → Type 0) (count at : ℕ) (reader writer : Option ℕ)
     → ((k : ℕ) (reads writes : List Carrier) → P (plain k reads writes))

@@ -1,5 +1,6 @@
 -- What holds of a row holds of a plan that says the same.
-use Rattle.std.proofs.Common.{◌≡◌, inr, ℕ, List, Option, Some, None, Result, Ok, Err, IfOk, IfSome, sym, ap, ◌∙◌, subst}
+use Rattle.std.proofs.Common.{◌≡◌, ◌≤◌, inr, ℕ, List, length, Option, Some, None, Result, Ok, Err, IfOk, IfSome, sym, ap, ◌∙◌, subst, arith}
+use Rattle.std.proofs.lemmas.List.{length-map}
 use Rattle.std.specs.declared.alloc.AllocError.{AllocError}
 use Rattle.disk_model.specs.declared.change.Change.{Change}
 use Rattle.disk_model.specs.declared.change.NamedFile.{NamedFile}
@@ -9,6 +10,7 @@ use Rattle.kernel_model.specs.declared.descriptor.Descriptor.{Descriptor}
 use Rattle.kernel_model.specs.declared.descriptor.PipeEnd.{PipeEnd}
 use Rattle.kernel_model.specs.declared.effect.Output.{Output}
 use Rattle.kernel_model.specs.declared.effect.PipeStep.{PipeStep}
+use Rattle.kernel_model.specs.declared.effect.PipeStep.TheVariants.{Drop}
 use Rattle.kernel_model.specs.declared.effect.Slot.{Slot}
 use Rattle.kernel_model.specs.declared.effect.TapeRead.{TapeRead}
 use Rattle.kernel_model.specs.declared.request.Request.{Request}
@@ -104,3 +106,8 @@ ending-steps plan ends status is seen = subst (MayAllStep seen) (sym is.pipes) (
 
 pub ending-opens : (plan : Plan) (ends : List PipeEnd) (status : ℕ) → IsPlan plan (closing ends (Ends status)) → OpensAlone plan.pipes.items
 ending-opens plan ends status is = subst OpensAlone (sym is.pipes) (inr (drops-open-none ends))
+
+pub ending-few : (plan : Plan) (ends : List PipeEnd) (status : ℕ) → IsPlan plan (closing ends (Ends status)) → length ends ≤ 16 → length plan.pipes.items ≤ 16
+ending-few plan ends status is few =
+    let size : length plan.pipes.items ≡ length ends = ap (λ (steps : List PipeStep). length steps) is.pipes ∙ length-map ends Drop in
+    omega (arith, few, size)

@@ -20,6 +20,7 @@ use Rattle.kernel_model.specs.declared.descriptor.Descriptor.{Descriptor}
 use Rattle.kernel_model.specs.declared.descriptor.Descriptor.TheVariants as descriptor
 use Rattle.kernel_model.specs.declared.descriptor.PipeEnd.{PipeEnd}
 use Rattle.kernel_model.specs.declared.effect.Output.{Output}
+use Rattle.kernel_model.specs.declared.effect.PipeStep.TheVariants as pipe_step
 use Rattle.kernel_model.specs.declared.effect.Slot.{Slot}
 use Rattle.kernel_model.specs.declared.effect.TapeRead.{TapeRead}
 use Rattle.kernel_model.specs.declared.request.Request.{Request}
@@ -75,6 +76,7 @@ pub record IsSound (c : Kept) (r : Request) (e : Effect) : Type 0 where
   pub possible : IfSome e.change (λ x. CarriesBytes x → IsPossible c.files x)
   pub named : AllByRecursion (λ (slot : Slot). NamesFile (length (changed_by c.files e.change)) slot.holds) e.slots
   pub left : IfSome e.tape (AreLeft c.tapes)
+  pub few : length c.descriptors ≤ 16 → length e.pipes ≤ 16
   pub steps : (n : ℕ) → n + length c.descriptors < 2 ^ 64 → AllByRecursion (HasFew n) c.seen → MayAllStep c.seen e.pipes
   pub piped : AllByRecursion (λ (slot : Slot). NamesPipe (length (all_seen c.seen e.pipes)) slot.holds) e.slots
   pub child : IfSome e.child (IsNext (length c.statuses))
@@ -110,6 +112,7 @@ plain-sound c r k reads writes = record {
   possible = tt;
   named = tt;
   left = tt;
+  few = λ _. omega arith;
   steps = λ _ _ _. tt;
   piped = tt;
   child = tt;
@@ -126,6 +129,7 @@ waiting-sound c r reads writes = record {
   possible = tt;
   named = tt;
   left = tt;
+  few = λ _. omega arith;
   steps = λ _ _ _. tt;
   piped = tt;
   child = tt;
@@ -144,6 +148,7 @@ shown-sound c r t bytes = record {
   possible = tt;
   named = tt;
   left = tt;
+  few = λ _. omega arith;
   steps = λ _ _ _. tt;
   piped = tt;
   child = tt;
@@ -177,6 +182,7 @@ filed-sound c fd n file offset read bytes fine goes =
       possible = write-possible c.files (descriptor_at c.descriptors fd) n file offset read bytes fine.few names fine.whole goes;
       named = (omega (arith, changed_by-grows c.files (Some (change.Write file offset bytes))), tt);
       left = tt;
+      few = λ _. omega arith;
       steps = λ _ _ _. tt;
       piped = (tt, tt);
       child = tt;
@@ -205,6 +211,7 @@ put-sound c r k p bytes found few = record {
   possible = tt;
   named = tt;
   left = tt;
+  few = λ _. omega arith;
   steps = λ _ _ _. (put-fits c.seen k p bytes found few, tt);
   piped = tt;
   child = tt;
@@ -240,6 +247,7 @@ tape-sound c fd at n fits t tape fit found = record {
   possible = tt;
   named = tt;
   left = taken-left c.tapes t n tape found;
+  few = λ _. omega arith;
   steps = λ _ _ _. tt;
   piped = tt;
   child = tt;
@@ -261,6 +269,7 @@ file-sound c fd at n fits file offset f fine fit stands = record {
     tt,
   );
   left = tt;
+  few = λ _. omega arith;
   steps = λ _ _ _. tt;
   piped = (tt, tt);
   child = tt;
@@ -284,6 +293,7 @@ take-sound c fd at n fits k p fit found = record {
   possible = tt;
   named = tt;
   left = tt;
+  few = λ _. omega arith;
   steps = λ _ _ _. (take-fits c.seen k n p found, tt);
   piped = tt;
   child = tt;
@@ -312,6 +322,7 @@ there-sound c r fd file writes there = record {
   possible = tt;
   named = (there, tt);
   left = tt;
+  few = λ _. omega arith;
   steps = λ _ _ _. tt;
   piped = (tt, tt);
   child = tt;
@@ -328,6 +339,7 @@ emptied-sound c r fd file few there = record {
   possible = λ _. (omega arith, there);
   named = (omega (arith, changed_by-grows c.files (Some (change.Empty file))), tt);
   left = tt;
+  few = λ _. omega arith;
   steps = λ _ _ _. tt;
   piped = (tt, tt);
   child = tt;
@@ -345,6 +357,7 @@ new-sound c n mode fd read name fine made = record {
   possible = λ _. create-possible c.files n read name fine.whole made;
   named = (omega (arith, length-created c.files name, length-map c.files (λ (f : NamedFile). f.name)), tt);
   left = tt;
+  few = λ _. omega arith;
   steps = λ _ _ _. tt;
   piped = (tt, tt);
   child = tt;
@@ -354,8 +367,8 @@ new-sound c n mode fd read name fine made = record {
 
 -- ---- close, seek and exit
 
-closed-sound : (c : Kept) (r : Request) (fd : ℕ) (ends : List PipeEnd) → IsSound c r (closed fd ends)
-closed-sound c r fd ends = record {
+closed-sound : (c : Kept) (r : Request) (fd : ℕ) (ends : List PipeEnd) → length ends ≤ 1 → IsSound c r (closed fd ends)
+closed-sound c r fd ends less = record {
   one_edit = one_output None;
   one_entry = set_alone _;
   opens = inr (drops-open-none ends);
@@ -363,6 +376,7 @@ closed-sound c r fd ends = record {
   possible = tt;
   named = (tt, tt);
   left = tt;
+  few = λ _. omega (arith, less, length-map ends pipe_step.Drop);
   steps = λ _ _ _. drops-may ends c.seen;
   piped = (tt, tt);
   child = tt;
@@ -380,6 +394,7 @@ moved-sound c r fd file old offset writes names stands = record {
   possible = tt;
   named = (still-there (length c.files) (descriptor_at c.descriptors fd) file old writes (NamesFile-descriptor_at (length c.files) c.descriptors fd names) stands, tt);
   left = tt;
+  few = λ _. omega arith;
   steps = λ _ _ _. tt;
   piped = (tt, tt);
   child = tt;
@@ -396,6 +411,7 @@ end-sound c r status = record {
   possible = tt;
   named = tt;
   left = tt;
+  few = λ few. omega (arith, few, length-map (ends_of c.descriptors) pipe_step.Drop, length-ends_of c.descriptors);
   steps = λ _ _ _. drops-may (ends_of c.descriptors) c.seen;
   piped = tt;
   child = tt;
@@ -415,6 +431,7 @@ pipe-sound c at fits count reader writer is fit few = record {
   possible = tt;
   named = (tt, (tt, tt));
   left = tt;
+  few = λ _. omega arith;
   steps = λ _ _ _. (omega arith, tt);
   piped = (omega (arith, length-opened c.seen), (omega (arith, length-opened c.seen), tt));
   child = tt;
@@ -431,6 +448,7 @@ child-sound c r few = record {
   possible = tt;
   named = tt;
   left = tt;
+  few = λ few. omega (arith, few, length-map (ends_of c.descriptors) pipe_step.Add, length-ends_of c.descriptors);
   steps = λ n lt all. adds-may n (ends_of c.descriptors) c.seen (omega (arith, length-ends_of c.descriptors)) all;
   piped = tt;
   child = (refl, few);
@@ -470,6 +488,7 @@ ended-sound c at fits e fit found = record {
   possible = tt;
   named = tt;
   left = tt;
+  few = λ _. omega arith;
   steps = λ _ _ _. tt;
   piped = tt;
   child = tt;

@@ -93,6 +93,7 @@ pub fn plan_end(alloc: Global, descriptors: &Descriptors, status: u32) -> Result
     ensures row { IfOk result (λ plan. IsPlan plan (row_end descriptors.now status)) }
     ensures edits { IfOk result (λ plan. EditsAs plan.told plan) }
     ensures opens { IfOk result (λ plan. OpensAlone plan.pipes.items) }
+    ensures few { IfOk result (λ plan. length plan.pipes.items ≤ 16) }
     ensures steps { (seen : List Seen) → IfOk result (λ plan. MayAllStep seen plan.pipes.items) }
 {
     let ends = ends_of(alloc, descriptors)?;

@@ -163,6 +163,7 @@ pub fn plan_call(
     ensures one_edit { IfOk result (λ plan. AtMostOne plan.change plan.output plan.tape) }
     ensures one_entry { IfOk result (λ plan. AtMostOneEntry plan.slots.items plan.child plan.collects) }
     ensures opens { IfOk result (λ plan. OpensAlone plan.pipes.items) }
+    ensures few { IfOk result (λ plan. length plan.pipes.items ≤ 16) }
     ensures edits { IfOk result (λ plan. EditsAs plan.told plan) }
     ensures possible { IfOk result (λ plan. IfSome plan.change (IsPossible files.now)) }
     ensures named { IfOk result (λ plan. NamesFiles (length (changed_by files.now plan.change))

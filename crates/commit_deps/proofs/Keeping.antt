@@ -1,11 +1,12 @@
 -- The marks of carriers stay those of the log.
-use Rattle.std.proofs.Common.{◌≡◌, ℕ, zero, suc, ◌+◌, ◌<◌, ◌≤◌, Bool, true, false, if◌then◌else◌, List, [], ◌∷◌, ◌++◌, length, Option, Some, None, is_some, IfSome, unwrap_or, not, nat_lt, nat_le, ◌||◌, ◌&&◌, max, refl, sym, ap, subst, ◌∙◌, arith, take, get_or, set}
-use Rattle.std.specs.List.{find, list_any, position, position_or_len}
+use Rattle.std.proofs.Common.{◌≡◌, ℕ, zero, suc, ◌+◌, ◌<◌, ◌≤◌, Bool, true, false, if◌then◌else◌, List, [], ◌∷◌, ◌++◌, length, Option, Some, None, is_some, IfSome, unwrap_or, not, nat_lt, nat_le, ◌||◌, ◌&&◌, max, refl, sym, ap, subst, ◌∙◌, arith, take, drop, get_or, set}
+use Rattle.std.specs.List.{find, list_any, position, position_or_len, AllByRecursion}
 use Rattle.std.specs.Option.{option_map}
 use Rattle.std.proofs.lemmas.Bool.{false≢true, eqb-true, eq-eqb, leb-true, le-leb, ltb-true, lt-ltb, and_parts, and_from, or_parts}
 use Rattle.std.proofs.lemmas.List.{take_more}
 use Rattle.std.proofs.lemmas.List.Quantifiers.{position-Some}
 use Rattle.std.proofs.lemmas.List.Folds.{list_any-append}
+use Rattle.std.proofs.lemmas.List.Sums.{count_by-le-length, sum_by-cons, sum_by-drop_more}
 use Rattle.kernel_model.specs.declared.carrier.Carrier.{Carrier}
 use Rattle.kernel_model.specs.declared.carrier.Carrier.TheVariants.{Proc, File, Names, Pipe, Pipes, Tasks, Tape}
 use Rattle.kernel_model.specs.Entries.{Entry, is_same, is_among, meets}
@@ -14,7 +15,8 @@ use Rattle.kernel_model.proofs.Paths.{count_of}
 use Rattle.disk_model.specs.declared.change.Change.{Change}
 use Rattle.commit_deps.specs.declared.dependencies.Marked.{Marked}
 use Rattle.commit_deps.specs.Marks.{IsMarkOf, reader, change_number}
-use Rattle.commit_deps.specs.Keeps.{mark_at, mark_or_none, is_written, Keeps, mark_of_change, greatest_mark, noted, noted_all}
+use Rattle.commit_deps.specs.Kept.{Kept}
+use Rattle.commit_deps.specs.Keeps.{mark_at, mark_or_none, is_written, Keeps, mark_of_change, greatest_mark, noted, noted_all, unwritten_count}
 use Rattle.commit_deps.proofs.Answering.{and_true, and_assoc, and_swap, or_true, or_false, both_pass}
 use Rattle.commit_deps.proofs.Readers.{settled-reader, settled-union, settled-event, settled-nothing}
 
@@ -287,6 +289,98 @@ pub noted-absent : (x : Carrier) (m : ℕ) (ks : List Marked) → position (λ (
     → ks ++ record { carrier = x; mark = m } ∷ [] ≡ noted x m ks
 noted-absent x m ks h = append-absent x m ks
     (any-place (λ (j : Marked). is_same j.carrier x) ks ∙ no-place (nat_lt (position_or_len (λ (j : Marked). is_same j.carrier x) ks) (length ks)) (position_or_len (λ (j : Marked). is_same j.carrier x) ks) h)
+
+-- ---- the carriers that no event wrote
+-- a carrier has a mark where it has a place
+marked-placed : (x : Carrier) (ks : List Marked) → is_some (mark_at x ks) ≡ list_any (λ (j : Marked). is_same j.carrier x) ks
+marked-placed x [] = refl
+marked-placed x (k ∷ ks) =
+    ap (λ (o : Option ℕ). is_some o) (cons-at x k ks (is_same k.carrier x) refl)
+    ∙ elim (is_same k.carrier x) as (λ b. is_some (if b then Some k.mark else mark_at x ks) ≡ (b || list_any (λ (j : Marked). is_same j.carrier x) ks)) [
+      | true ↦ refl
+      | false ↦ marked-placed x ks
+    ]
+
+-- one, or none
+abbrev pub ones : Bool → ℕ
+ones b = if b then 1 else 0
+
+-- one that has no place is one that no event wrote
+pub absent-unwritten : (x : Carrier) (ks : List Marked) → position (λ (j : Marked). is_same j.carrier x) ks ≡ None → unwritten_count (x ∷ []) ks ≡ 1
+absent-unwritten x ks h =
+    let none : is_some (mark_at x ks) ≡ false = marked-placed x ks
+    ∙ any-place (λ (j : Marked). is_same j.carrier x) ks
+    ∙ no-place (nat_lt (position_or_len (λ (j : Marked). is_same j.carrier x) ks) (length ks)) (position_or_len (λ (j : Marked). is_same j.carrier x) ks) h in
+    let one : ones (not (is_some (mark_at x ks))) ≡ ones true = ap (λ (b : Bool). ones (not b)) none in
+    omega (arith, one)
+
+-- one carrier is at most one
+one-unwritten : (x : Carrier) (ks : List Marked) → unwritten_count (x ∷ []) ks ≤ 1
+one-unwritten x ks = count_by-le-length (λ (y : Carrier). not (is_some (mark_at y ks))) (x ∷ [])
+
+-- those from a place on are the one there and the later ones
+unwritten-more : (xs : List Carrier) (i : ℕ) (d : Carrier) (ks : List Marked) → i < length xs
+    → unwritten_count (drop i xs) ks ≡ unwritten_count (get_or xs i d ∷ []) ks + unwritten_count (drop (i + 1) xs) ks
+unwritten-more xs i d ks h =
+    let split : unwritten_count (drop i xs) ks ≡ ones (not (is_some (mark_at (get_or xs i d) ks))) + unwritten_count (drop (i + 1) xs) ks =
+    sum_by-drop_more (λ (y : Carrier). ones (not (is_some (mark_at y ks)))) xs i d h in
+    omega (arith, split)
+
+fewer : (b : Bool) (o : Option ℕ) (m : ℕ) → ones (not (is_some (joined_at b o m))) ≤ ones (not (is_some o))
+fewer true o m = omega arith
+fewer false o m = omega arith
+
+-- no event takes a mark away
+unwritten-fewer : (xs : List Carrier) (x : Carrier) (m : ℕ) (ks marks : List Marked) → marks ≡ noted_all xs m ks
+    → unwritten_count (x ∷ []) marks ≤ unwritten_count (x ∷ []) ks
+unwritten-fewer xs x m ks marks e =
+    let joined : ones (not (is_some (mark_at x marks))) ≡ ones (not (is_some (joined_at (is_among x xs) (mark_at x ks) m))) =
+    ap (λ (js : List Marked). ones (not (is_some (mark_at x js)))) e
+    ∙ ap (λ (o : Option ℕ). ones (not (is_some o))) (mark_at-noted_all xs x m ks) in
+    let less = fewer (is_among x xs) (mark_at x ks) m in
+    omega (arith, joined, less)
+
+-- where each was written there is none
+pub all-written : (xs : List Carrier) (ks : List Marked) → AllByRecursion (λ (x : Carrier). is_some (mark_at x ks) ≡ true) xs → unwritten_count xs ks ≡ 0
+all-written [] ks h = refl
+all-written (x ∷ xs) ks h =
+    let none : ones (not (is_some (mark_at x ks))) ≡ ones false = ap (λ (b : Bool). ones (not b)) h.0 in
+    let split : unwritten_count (x ∷ xs) ks ≡ ones (not (is_some (mark_at x ks))) + unwritten_count xs ks =
+    sum_by-cons (λ (y : Carrier). ones (not (is_some (mark_at y ks)))) x xs in
+    let rest = all-written xs ks h.1 in
+    omega (arith, none, split, rest)
+
+-- at most as many as there are
+pub unwritten-within : (xs : List Carrier) (ks : List Marked) → unwritten_count xs ks ≤ length xs
+unwritten-within xs ks = count_by-le-length (λ (y : Carrier). not (is_some (mark_at y ks))) xs
+
+-- the first i of these carriers are noted, and there is room for those of the others that no event wrote
+pub record Noting (writes : List Carrier) (mark : ℕ) (old : Kept) (i : ℕ) (now : Kept) : Type 0 where
+  pub noted : now.marks ≡ noted_all (take i writes) mark old.marks
+  pub room : old.room ≤ now.room + i
+  pub enough : unwritten_count (drop i writes) old.marks ≤ now.room
+
+-- there is room for the next
+pub noting-room : (writes : List Carrier) (mark : ℕ) (old : Kept) (i : ℕ) (now : Kept) (d : Carrier) → i < length writes → Noting writes mark old i now
+    → unwritten_count (get_or writes i d ∷ []) now.marks ≤ now.room
+noting-room writes mark old i now d h noting =
+    let split = unwritten-more writes i d old.marks h in
+    let less = unwritten-fewer (take i writes) (get_or writes i d) mark old.marks now.marks noting.noted in
+    omega (arith, split, less, noting.enough)
+
+-- and then the next is noted
+pub noting-next : (writes : List Carrier) (mark : ℕ) (old : Kept) (i : ℕ) (now next : Kept) (d : Carrier) → i < length writes → Noting writes mark old i now
+    → next.marks ≡ noted (get_or writes i d) mark now.marks → now.room ≤ next.room + unwritten_count (get_or writes i d ∷ []) now.marks
+    → Noting writes mark old (i + 1) next
+noting-next writes mark old i now next d h noting marks_are room_left =
+    let split = unwritten-more writes i d old.marks h in
+    let less = unwritten-fewer (take i writes) (get_or writes i d) mark old.marks now.marks noting.noted in
+    let one = one-unwritten (get_or writes i d) now.marks in
+    record {
+      noted = marks_are ∙ noted_all-more writes i d mark old.marks now.marks h noting.noted;
+      room = omega (arith, noting.room, one, room_left);
+      enough = omega (arith, split, less, noting.enough, room_left);
+    }
 
 -- ---- the mark of one carrier
 pub found-says : (log : List Entry) (marks : List Marked) (x : Carrier) → Keeps log marks → (found : Option ℕ) → found ≡ mark_at x marks

@@ -1,5 +1,5 @@
 -- The marks of carriers are those of a log.
-use Rattle.std.specs.Prelude.{◌≡◌, ℕ, ◌+◌, max, Bool, if◌then◌else◌, List, [], ◌∷◌, Option, Some, None, is_some, unwrap_or}
+use Rattle.std.specs.Prelude.{◌≡◌, ℕ, ◌+◌, max, Bool, if◌then◌else◌, List, [], ◌∷◌, Option, Some, None, is_some, is_none, unwrap_or, count_by}
 use Rattle.std.specs.List.{find, fold, list_any}
 use Rattle.std.specs.Option.{option_map}
 use Rattle.kernel_model.specs.declared.carrier.Carrier.{Carrier}
@@ -43,3 +43,7 @@ noted x mark (k ∷ ks) = if is_same k.carrier x then record { carrier = k.carri
 abbrev pub noted_all : List Carrier → ℕ → List Marked → List Marked
 noted_all [] mark marks = marks
 noted_all (x ∷ xs) mark marks = noted_all xs mark (noted x mark marks)
+
+-- how many of these carriers no event wrote; one that stands twice counts twice
+abbrev pub unwritten_count : List Carrier → List Marked → ℕ
+unwritten_count xs marks = count_by (λ (x : Carrier). is_none (mark_at x marks)) xs

@@ -1,7 +1,7 @@
 //! The marks of all carriers.
-ghost use Rattle.std.specs.Prelude.{◌≡◌, ℕ, ◌+◌, ◌<◌, ◌≤◌, ◌^◌, List, [], ◌∷◌, ◌++◌, OnOk, OnErr, IfSome, is_some, length};
+ghost use Rattle.std.specs.Prelude.{◌≡◌, ℕ, ◌+◌, ◌<◌, ◌≤◌, ◌^◌, Bool, true, false, if◌then◌else◌, List, [], ◌∷◌, ◌++◌, OnOk, OnErr, IfOk, IsOk, IfSome, is_some, length};
 ghost use Rattle.std.specs.Option.{ForSome};
-ghost use Rattle.std.specs.List.{position};
+ghost use Rattle.std.specs.List.{position, AllByRecursion};
 ghost use Rattle.commit_deps.specs.Keeps.{mark_of_change};
 ghost use Rattle.kernel_model.specs.Entries.{Entry, is_same};
 
@@ -44,7 +44,7 @@ fn own_mark(change: Option<u64>) -> Mark
 }
 
 impl Dependencies {
-    ghost use Rattle.commit_deps.specs.Keeps.{Keeps, mark_at, is_written, greatest_mark, noted};
+    ghost use Rattle.commit_deps.specs.Keeps.{Keeps, mark_at, is_written, greatest_mark, noted, unwritten_count};
     ghost use Rattle.commit_deps.specs.declared.dependencies.Marked.{Marked};
     ghost use Rattle.commit_deps.specs.Marks.{IsMarkOf, reader, change_number};
 
@@ -86,9 +86,8 @@ impl Dependencies {
         })
     }
 
-    /// The changes on which the next event rests that reads these carriers and makes this change, by its number from 0.
-    /// Takes no memory, and notes nothing.
-    pub fn mark(&self, reads: &[Carrier], change: Option<u64>) -> Mark
+    /// The changes on which the next event rests that reads these carriers and makes this change.
+    fn mark(&self, reads: &[Carrier], change: Option<u64>) -> Mark
         requires { ForSome change (λ k. k + 1 < 2 ^ 64) }
         ensures { (log : List Entry) (e : Entry) → Keeps log self.now.marks → e.reads ≡ reads.now
             → change ≡ change_number log e → IsMarkOf result log e }
@@ -102,6 +101,7 @@ impl Dependencies {
         ensures err { OnErr result (self.old.room < writes) }
         ensures marks { self.new.marks ≡ self.old.marks }
         ensures room { self.old.room ≤ self.new.room }
+        ensures same { OnErr result (self.new ≡ self.old) }
     {
         self.marks.reserve(writes)
     }
@@ -115,11 +115,21 @@ impl Dependencies {
             .position(|marked| marked.carrier == carrier)
     }
 
-    /// Notes an event of this mark that writes a carrier.
+    /// How many of these carriers no event wrote: so many marks may come in.
+    fn unwritten(&self, writes: &[Carrier]) -> usize
+        ensures { result ≡ unwritten_count writes.now self.now.marks }
+    {
+        writes
+            .iter()
+            .filter(|carrier| self.kept_mark(**carrier).is_none())
+            .count()
+    }
+
+    /// Notes an event of this mark that writes a carrier. Takes no memory: a carrier that no event wrote needs room.
     fn note_one(&mut self, carrier: Carrier, mark: Mark)
-        requires { 0 < self.old.room }
+        requires { unwritten_count (carrier ∷ []) self.old.marks ≤ self.old.room }
         ensures marks { self.new.marks ≡ noted carrier mark self.old.marks }
-        ensures room { self.old.room ≤ self.new.room + 1 }
+        ensures room { self.old.room ≤ self.new.room + unwritten_count (carrier ∷ []) self.old.marks }
     {
         match self.place(carrier) {
             Some(at) => {
@@ -130,10 +140,10 @@ impl Dependencies {
         }
     }
 
-    /// Notes an event of this mark that writes these carriers. Takes no memory: there has to be room for all of them,
-    /// whether they were written before or not.
-    pub fn note(&mut self, writes: &[Carrier], mark: Mark)
-        requires { length writes.now ≤ self.old.room }
+    /// Notes an event of this mark that writes these carriers. Takes no memory: there has to be room for those that no event
+    /// wrote.
+    fn note(&mut self, writes: &[Carrier], mark: Mark)
+        requires { unwritten_count writes.now self.old.marks ≤ self.old.room }
         ensures keeps { (log : List Entry) (e : Entry) → Keeps log self.old.marks → IsMarkOf mark log e
             → e.writes ≡ writes.now → Keeps (log ++ e ∷ []) self.new.marks }
         ensures room { self.old.room ≤ self.new.room + length writes.now }
@@ -141,6 +151,32 @@ impl Dependencies {
         for carrier in writes {
             self.note_one(*carrier, mark);
         }
+    }
+
+    /// Notes an event that reads and writes these carriers and makes this change, by its number from 0, and answers its
+    /// mark: the changes on which it rests. It takes memory only for carriers that no event wrote, and none where there is
+    /// room; where it fails nothing has changed.
+    pub fn event(
+        &mut self,
+        reads: &[Carrier],
+        writes: &[Carrier],
+        change: Option<u64>,
+    ) -> Result<Mark, AllocError>
+        requires { ForSome change (λ k. k + 1 < 2 ^ 64) }
+        ensures mark { IfOk result (λ m. (log : List Entry) (e : Entry) → Keeps log self.old.marks → e.reads ≡ reads.now
+            → change ≡ change_number log e → IsMarkOf m log e) }
+        ensures keeps { OnOk result ((log : List Entry) (e : Entry) → Keeps log self.old.marks → e.reads ≡ reads.now
+            → e.writes ≡ writes.now → change ≡ change_number log e → Keeps (log ++ e ∷ []) self.new.marks) }
+        ensures err { OnErr result (self.new ≡ self.old) }
+        ensures known { AllByRecursion (λ x. is_some (mark_at x self.old.marks) ≡ true) writes.now → IsOk result }
+        ensures room { length writes.now ≤ self.old.room → IsOk result }
+        ensures left { self.old.room ≤ self.new.room + length writes.now }
+    {
+        let mark = self.mark(reads, change);
+        let unwritten = self.unwritten(writes);
+        self.reserve(unwritten)?;
+        self.note(writes, mark);
+        Ok(mark)
     }
 }
 
@@ -153,17 +189,22 @@ mod tests {
     #[test]
     fn a_pipe_carries_a_change(rt: HostRuntime) -> Result<(), Fail> {
         let mut dependencies = Dependencies::new(rt.alloc());
-        dependencies.reserve(3)?;
-        let writer = dependencies.mark(&[Carrier::Proc(1)], Some(0));
-        dependencies.note(&[Carrier::Proc(1), Carrier::File(0)], writer);
-        let sender = dependencies.mark(&[Carrier::Proc(1)], None);
-        dependencies.note(&[Carrier::Pipe(0)], sender);
-        let reader = dependencies.mark(&[Carrier::Proc(2), Carrier::Pipe(0)], None);
-        let other = dependencies.mark(&[Carrier::Proc(3)], None);
-        assert_eq!(rt; reader, Mark::of_change(0));
+        let process = Carrier::Proc(1);
+        let pipe = Carrier::Pipe(0);
+        let change = dependencies.event(&[process], &[process, Carrier::File(0)], Some(0))?;
+        let sent = dependencies.event(&[process], &[pipe], None)?;
+        let read = dependencies.event(&[Carrier::Proc(2), pipe], &[Carrier::Proc(2), pipe], None)?;
+        let other = dependencies.event(&[Carrier::Proc(3)], &[], None)?;
+        let later = dependencies.event(&[Carrier::Proc(3)], &[Carrier::File(0)], Some(1))?;
+        assert_eq!(rt; change, Mark::of_change(0));
+        assert_eq!(rt; sent, change);
+        assert_eq!(rt; read, change);
         assert_eq!(rt; other, Mark::none());
-        assert_eq!(rt; dependencies.of(Carrier::Pipe(0)), Some(Mark::of_change(0)));
+        assert_eq!(rt; later, Mark::of_change(1));
+        assert_eq!(rt; dependencies.of(pipe), Some(change));
+        assert_eq!(rt; dependencies.of(Carrier::File(0)), Some(later));
         assert_eq!(rt; dependencies.of(Carrier::Proc(3)), None);
+        dependencies.reserve(100)?;
         Ok(())
     }
 }

@@ -6,4 +6,4 @@ mod mark;
 
 pub use dependencies::Dependencies;
 pub use kernel_model::Carrier;
-pub use mark::{Mark, front};
+pub use mark::Mark;

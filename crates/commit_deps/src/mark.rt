@@ -1,6 +1,5 @@
 //! What an event rests on.
 ghost use Rattle.std.specs.Prelude.{◌≡◌, ◌+◌, ◌^◌, ◌<◌, max, nat_le};
-ghost use Rattle.std.specs.List.{prefix_len};
 
 use std::marker::Model;
 
@@ -56,33 +55,17 @@ impl Mark {
     }
 }
 
-/// How many of these marks stand before the first that is not among the first so many changes.
-pub fn front(marks: &[Mark], committed: u64) -> usize
-    ensures { result ≡ prefix_len (λ mark. nat_le mark committed) marks.now }
-{
-    marks
-        .iter()
-        .take_while(|mark| mark.below(committed))
-        .count()
-}
-
 #[cfg(test)]
 mod tests {
     use super::*;
     use std::test::Fail;
 
     #[test]
-    fn the_front_grows_with_the_commits(rt: HostRuntime) -> Result<(), Fail> {
-        let second = Mark::of_change(1);
-        let marks = [
-            Mark::none(),
-            second,
-            Mark::of_change(0).joined(second),
-            Mark::of_change(4),
-            Mark::none(),
-        ];
-        for (committed, expected) in [(0, 1), (1, 1), (2, 3), (4, 3), (5, 5)] {
-            assert_eq!(rt; front(&marks, committed), expected, "at {committed}");
+    fn a_mark_waits_for_its_greatest_change(rt: HostRuntime) -> Result<(), Fail> {
+        let first = Mark::of_change(0);
+        let mark = Mark::none().joined(Mark::of_change(2)).joined(first);
+        for (committed, expected) in [(0, false), (2, false), (3, true), (4, true)] {
+            assert_eq!(rt; mark.below(committed), expected, "at {committed}");
         }
         Ok(())
     }

@@ -2,7 +2,10 @@
 pub mod Tidy
 pub mod Places
 pub mod Reading
+pub mod Once
 pub mod Stages
 pub mod Machine
+pub mod Between
 pub mod Rebuilding
 pub mod Whole
+pub mod Orderly

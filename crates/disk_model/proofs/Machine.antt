@@ -93,11 +93,11 @@ Goes st to old new =
     (Sound to old new × (to.committed ≡ st.committed) × (to.next_committed ≡ st.next_committed))
     ⊎ (Resting to new × (to.committed ≡ st.next_committed) × (to.next_committed ≡ st.next_committed))
 
-is_nil : {A : Type 0} (xs : List A) → is_empty xs ≡ true → xs ≡ []
+pub is_nil : {A : Type 0} (xs : List A) → is_empty xs ≡ true → xs ≡ []
 is_nil [] e = refl
 is_nil (x ∷ xs) e = absurd cc
 
-both_nil : (a b : Bool) → (a && b) ≡ true → (a ≡ true) × (b ≡ true)
+pub both_nil : (a b : Bool) → (a && b) ≡ true → (a ≡ true) × (b ≡ true)
 both_nil true true e = (refl, refl)
 both_nil true false e = absurd cc
 both_nil false b e = absurd cc

@@ -22,12 +22,15 @@ pub follow_split : (files : List NamedFile) (xs ys : List Change) → Follow fil
 follow_split files [] ys f = (tt, f)
 follow_split files (x ∷ xs) ys f = let r = follow_split (changed files x) xs ys f.2 in ((f.0, f.1, r.0), r.1)
 
-pub made_more : (files : List NamedFile) (c : Change) → IsMade files → IsFormed c → MayCome files c → IsMade (changed files c)
-made_more files c made formed possible = (
-  made.0 ++ c ∷ [],
-  follow_both [] made.0 (c ∷ []) made.1 (formed, subst (λ (fs : List NamedFile). MayCome fs c) made.2 possible, tt),
-  ap (λ (fs : List NamedFile). changed fs c) made.2 ∙ sym (files_after-append [] made.0 (c ∷ [])),
+pub made_after : (files : List NamedFile) (cs : List Change) → IsMade files → Follow files cs → IsMade (files_after files cs)
+made_after files cs made follow = (
+  made.0 ++ cs,
+  follow_both [] made.0 cs made.1 (subst (λ (fs : List NamedFile). Follow fs cs) made.2 follow),
+  ap (λ (fs : List NamedFile). files_after fs cs) made.2 ∙ sym (files_after-append [] made.0 cs),
 )
+
+pub made_more : (files : List NamedFile) (c : Change) → IsMade files → IsFormed c → MayCome files c → IsMade (changed files c)
+made_more files c made formed possible = made_after files (c ∷ []) made (formed, possible, tt)
 
 -- ---- records
 

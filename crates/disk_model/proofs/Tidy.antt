@@ -6,7 +6,7 @@ use Rattle.std.proofs.lemmas.List.{length-take, length-drop, length-set, length-
 use Rattle.disk_model.specs.declared.change.Change.{Change}
 use Rattle.disk_model.specs.declared.change.Change.TheVariants.{Create, Write, Empty}
 use Rattle.disk_model.specs.declared.change.NamedFile.{NamedFile}
-use Rattle.disk_model.specs.Files.{IsFormed, MayCome, Follow, IsNameByte, changed, files_after, with_bytes, patched}
+use Rattle.disk_model.specs.Files.{IsFormed, MayCome, Follow, IsMade, IsNameByte, FilesHoldBytes, changed, files_after, with_bytes, patched}
 
 abbrev pub IsByte : ℕ → Type 0
 IsByte b = b < 256
@@ -120,3 +120,15 @@ tidy_from fs (c ∷ cs) f t = tidy_from (changed fs c) cs f.2 (changed_tidy fs c
 
 pub tidy_after : (cs : List Change) → Follow [] cs → IsTidy (files_after [] cs)
 tidy_after cs f = tidy_from [] cs f (record { few = omega arith; each = tt; distinct = tt })
+
+-- a byte of a name is a byte
+name_bytes : (name : List ℕ) → AllByRecursion IsNameByte name → AllByRecursion IsByte name
+name_bytes [] h = tt
+name_bytes (b ∷ name) h = (let most = h.0.1 in omega arith, name_bytes name h.1)
+
+tidy_bytes : (fs : List NamedFile) → AllByRecursion IsTidyFile fs → FilesHoldBytes fs
+tidy_bytes [] h = tt
+tidy_bytes (f ∷ fs) h = ((name_bytes f.name h.0.name.2, h.0.bytes), tidy_bytes fs h.1)
+
+pub made_bytes : (fs : List NamedFile) → IsMade fs → FilesHoldBytes fs
+made_bytes fs made = subst FilesHoldBytes (sym made.2) (tidy_bytes (files_after [] made.0) (tidy_after made.0 made.1).each)

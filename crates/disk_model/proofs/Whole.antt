@@ -36,7 +36,7 @@ group_front : (cs : List Change) → take (length (group_of cs)) cs ≡ group_of
 unfolding group_of
 group_front cs = front 64 cs
 
-group_short : (cs : List Change) → length (group_of cs) ≤ length cs
+pub group_short : (cs : List Change) → length (group_of cs) ≤ length cs
 group_short cs = omega (arith, ap length (group_front cs), length-take (length (group_of cs)) cs)
 
 -- ---- what holds all along

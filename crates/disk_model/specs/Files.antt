@@ -49,3 +49,11 @@ Follow files (c ∷ cs) = IsFormed c × MayCome files c × Follow (changed files
 -- possible changes make these files from nothing
 abbrev pub IsMade : List NamedFile → Type 0
 IsMade files = (all : List Change) × Follow [] all × (files ≡ files_after [] all)
+
+-- each byte of a file's name, and each byte that it has, is below 256
+abbrev pub FileHoldsBytes : NamedFile → Type 0
+FileHoldsBytes f = AllByRecursion (λ b. b < 256) f.name × AllByRecursion (λ b. b < 256) f.bytes
+
+-- each of these files holds bytes
+abbrev pub FilesHoldBytes : List NamedFile → Type 0
+FilesHoldBytes files = AllByRecursion FileHoldsBytes files

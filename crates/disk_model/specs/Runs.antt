@@ -1,10 +1,12 @@
 -- Whole runs of a disk.
-use Rattle.std.specs.Prelude.{ℕ, List, [], ◌∷◌, ◌++◌, drop, slice_index}
+use Rattle.std.specs.Prelude.{◌≡◌, ℕ, ◌<◌, ◌≤◌, true, false, List, [], ◌∷◌, ◌++◌, length, drop, slice_index}
+use Rattle.std.specs.List.{AllByRecursion}
 use Rattle.disk_model.specs.declared.change.Change.{Change}
 use Rattle.disk_model.specs.declared.change.NamedFile.{NamedFile}
 use Rattle.disk_model.specs.Files.{files_after}
 use Rattle.disk_model.specs.Held.{selected_half}
-use Rattle.disk_model.specs.Storage.{Drive, Storage, cut, completed, failed}
+use Rattle.disk_model.specs.declared.change.Piece.{Piece}
+use Rattle.disk_model.specs.Storage.{Drive, Storage, is_empty, is_quiet, cut, completed, failed}
 
 -- A run goes on by these: a change comes; a group is cut; the write that begins there is complete, or has failed.
 pub data Move : Type 0 where
@@ -58,3 +60,13 @@ changes_of (Comes c ∷ ms) = c ∷ changes_of ms
 changes_of (Cuts ∷ ms) = changes_of ms
 changes_of (Completes at ∷ ms) = changes_of ms
 changes_of (Fails at ∷ ms) = changes_of ms
+
+-- How the disk of a run stands, whatever is on it. At most all changes are committed, and no stage is without a piece. With
+-- nothing in flight and nothing failed no stage is left to be submitted; else there is a group on its way, with which more
+-- changes are committed, at most all.
+pub record IsOrderly (r : Run) : Type 0 where
+  pub among : r.storage.committed ≤ length r.changes
+  pub pieces : AllByRecursion (λ (stage : List Piece). is_empty stage ≡ false) r.storage.stages
+  pub none : is_quiet r.storage.drive ≡ true → r.storage.stages ≡ []
+  pub more : is_quiet r.storage.drive ≡ false → r.storage.committed < r.storage.next_committed
+  pub most : is_quiet r.storage.drive ≡ false → r.storage.next_committed ≤ length r.changes

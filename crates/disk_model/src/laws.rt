@@ -1,21 +1,39 @@
 //! Laws over all runs of a disk.
-ghost use Rattle.std.specs.Prelude.{List, [], ℕ, ◌≡◌, ◌≤◌, length, take, slice_index};
+ghost use Rattle.std.specs.Prelude.{List, [], ◌++◌, ℕ, Some, ◌≡◌, ◌≤◌, ◌<◌, ◌↔◌, length, take, slice_index};
 ghost use Rattle.disk_model.specs.declared.change.Change.{Change};
 ghost use Rattle.disk_model.specs.declared.change.NamedFile.{NamedFile};
-ghost use Rattle.disk_model.specs.Files.{Follow, IsFormed, IsMade, MayCome, changed, files_after};
-ghost use Rattle.disk_model.specs.Held.{IsHeldTo, IsHeld};
+ghost use Rattle.disk_model.specs.declared.change.Piece.{Piece};
+ghost use Rattle.disk_model.specs.Files.{FilesHoldBytes, Follow, IsFormed, IsMade, MayCome, changed, files_after};
+ghost use Rattle.disk_model.specs.Held.{IsHeldTo, IsHeld, selected_half, start_of, end_of};
 ghost use Rattle.disk_model.specs.Rebuild.{CanBeRebuilt};
-ghost use Rattle.disk_model.specs.Runs.{Move, changes_of, ran, first_run};
+ghost use Rattle.disk_model.specs.Storage.{Drive, Storage, completed, piece_at, sent, with_completion};
+ghost use Rattle.disk_model.specs.Runs.{Move, IsOrderly, changes_of, ran, first_run};
 ghost use Rattle.disk_model.specs.Crash.{IsCrashOf};
 
-/// A law: any crash, at any moment of any run from a disk that holds files, leaves a disk that holds the files
-/// after a front of the changes that came, with each committed change in it.
+/// A law: any crash, at any moment of any run from a disk that holds files, with changes that are possible where they come,
+/// leaves a disk that holds the files after a front of the changes that came, with each committed change in it.
 pub fn crashes()
     ensures { (disk : List ℕ) (gate : ℕ) (files : List NamedFile) → IsHeldTo disk gate files
         → (moves : List Move) → Follow files (changes_of moves)
         → (left : List ℕ) → IsCrashOf (ran files (first_run disk gate) moves).storage.drive left
         → (k : ℕ) × ((ran files (first_run disk gate) moves).storage.committed ≤ k) × (k ≤ length (changes_of moves))
         × IsHeld left (files_after files (take k (changes_of moves))) }
+{}
+
+/// A law: each disk that a crash may leave in the middle of a move, behind its completion or while the pieces of a stage are
+/// submitted one by one, is one that a crash behind the move may leave.
+pub fn moves_leave_no_other_disks()
+    ensures completion { (st : Storage) (at : ℕ) (p : Piece) (left : List ℕ) → piece_at st.drive.in_flight at ≡ Some p
+        → IsCrashOf (with_completion st.drive at p) left → IsCrashOf (completed st at).drive left }
+    ensures submission { (v : Drive) (first others : List Piece) (left : List ℕ)
+        → IsCrashOf (sent v first) left → IsCrashOf (sent v (first ++ others)) left }
+{}
+
+/// A law: on the disk of any run, whatever is on it and whatever changes come, at most all changes are committed; and exactly
+/// while a write is in flight or has failed a group is on its way, with which more are committed, at most all.
+pub fn runs_are_orderly()
+    ensures { (disk : List ℕ) (gate : ℕ) (files : List NamedFile) (moves : List Move)
+        → IsOrderly (ran files (first_run disk gate) moves) }
 {}
 
 /// A law: a disk of zeros holds no files.
@@ -31,4 +49,36 @@ pub fn checkpoints_fit()
 /// A law: files that possible changes make are made by possible changes after one more.
 pub fn made_files_change()
     ensures { (files : List NamedFile) (change : Change) → IsMade files → IsFormed change → MayCome files change → IsMade (changed files change) }
+{}
+
+/// A law: files that possible changes make hold bytes: each byte of a name and of a file is below 256.
+pub fn made_files_hold_bytes()
+    ensures { (files : List NamedFile) → IsMade files → FilesHoldBytes files }
+{}
+
+/// A law: some changes and then others make what all of them make, and all are possible exactly where the first are, and the
+/// others behind them. So files that possible changes made are such files still after more possible changes.
+pub fn changes_come_in_turn()
+    ensures files { (files : List NamedFile) (first behind : List Change)
+        → files_after files (first ++ behind) ≡ files_after (files_after files first) behind }
+    ensures possible { (files : List NamedFile) (first behind : List Change)
+        → Follow files (first ++ behind) ↔ (Follow files first × Follow (files_after files first) behind) }
+    ensures made { (files : List NamedFile) (behind : List Change) → IsMade files → Follow files behind
+        → IsMade (files_after files behind) }
+{}
+
+/// A law: possible changes made the files that a disk holds.
+pub fn held_files_are_made()
+    ensures { (disk : List ℕ) (gate : ℕ) (files : List NamedFile) → IsHeldTo disk gate files → IsMade files }
+{}
+
+/// A law: a disk holds at most one list of files, up to one gate.
+pub fn held_once()
+    ensures { (disk : List ℕ) (gate other : ℕ) (files others : List NamedFile) → IsHeldTo disk gate files → IsHeldTo disk other others → (files ≡ others) × (gate ≡ other) }
+{}
+
+/// A law: where a disk holds files, its first gate that is not open lies in the half that its byte 0 selects.
+pub fn gates_lie_within()
+    ensures { (disk : List ℕ) (gate : ℕ) (files : List NamedFile) → IsHeldTo disk gate files
+        → (start_of (selected_half (slice_index disk 0)) ≤ gate) × (gate < end_of (selected_half (slice_index disk 0))) }
 {}

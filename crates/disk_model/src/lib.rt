@@ -5,4 +5,8 @@ mod change;
 mod laws;
 
 pub use change::{Change, NamedFile, Piece};
-pub use laws::{checkpoints_fit, crashes, made_files_change, zeros_hold_nothing};
+pub use laws::{
+    changes_come_in_turn, checkpoints_fit, crashes, gates_lie_within, held_files_are_made,
+    held_once, made_files_change, made_files_hold_bytes, moves_leave_no_other_disks,
+    runs_are_orderly, zeros_hold_nothing,
+};

@@ -1,2 +1,3 @@
 -- The lemmas.
 pub mod Finding
+pub mod Patching

@@ -1,7 +1,7 @@
 //! The table of files, which changes fold into.
 #![tactic(auto)]
 
-ghost use Rattle.std.specs.Prelude.{◌≡◌, ◌<◌, ◌+◌, ℕ, IfOk, OnOk, OnErr, length, slice_get, slice_index_or, take, drop, option_map, []};
+ghost use Rattle.std.specs.Prelude.{IfOk, ◌≡◌, ◌<◌, ◌≤◌, ◌+◌, ℕ, OnOk, OnErr, IsOk, length, slice_get, slice_index_or, take, drop, option_map, []};
 ghost use Rattle.disk_model.specs.declared.change.NamedFile.{NamedFile};
 ghost use Rattle.disk_model.specs.declared.change.Change.TheVariants.{Create, Write, Empty};
 ghost use Rattle.disk_model.specs.Files.{changed, patched};
@@ -57,19 +57,18 @@ fn find_in(files: &[NamedFile], name: &[u8]) -> Option<usize>
     None
 }
 
-/// The old bytes with these from the offset on; a gap between the old end and the offset is zeros.
-fn patched_of(alloc: Global, old: &[u8], offset: usize, bytes: &[u8]) -> Result<Vec<u8>, AllocError>
-    ensures { IfOk result (λ v. v.items ≡ patched old.now offset bytes.now) }
+/// Writes bytes from the offset on, in place; a gap between the old end and the offset becomes zeros. Memory is taken first,
+/// and only for what the file grows by: where there is none nothing changes.
+fn patch(file: &mut Bytes, offset: usize, bytes: &[u8]) -> Result<(), AllocError>
+    ensures ok { OnOk result (file.new ≡ patched file.old offset bytes.now) }
+    ensures err { OnErr result (file.new ≡ file.old) }
+    ensures inside { offset + length bytes.now ≤ length file.old → IsOk result }
 {
-    let front = offset.min(old.len());
-    let mut next = Vec::from_slice(alloc, &old[..front])?;
-    let gap = vec![in alloc; 0; offset - front]?;
-    next.extend_from_slice(&gap)?;
-    next.extend_from_slice(bytes)?;
-    let rest = &old[front..];
-    let covered = bytes.len().min(rest.len());
-    next.extend_from_slice(&rest[covered..])?;
-    Ok(next)
+    let len = file.as_slice().len();
+    let end = offset.checked_add(bytes.len()).ok_or(AllocError)?;
+    file.extend_zeros(end.saturating_sub(len))?;
+    file.overwrite(offset, bytes);
+    Ok(())
 }
 
 /// At most n of these bytes, from an offset on; none where the offset lies past their end.
@@ -155,9 +154,7 @@ impl FileTable {
         ensures ok { OnOk result (self.new ≡ changed self.old (Write place offset bytes.now)) }
         ensures err { OnErr result (self.new ≡ self.old) }
     {
-        let next = patched_of(self.alloc, self.bytes(place), offset, bytes)?;
-        self.files[place].bytes = Bytes::new(next);
-        Ok(())
+        patch(&mut self.files[place].bytes, offset, bytes)
     }
 
     /// The file at a place loses all its bytes. Takes no memory.
@@ -198,6 +195,23 @@ impl FileTable {
             }
         }
     }
+
+    /// The same files, in memory of their own.
+    pub fn try_clone(&self) -> Result<FileTable, AllocError>
+        ensures { IfOk result (λ t. t ≡ self.now) }
+    {
+        let mut files = Vec::new(self.alloc);
+        for file in &self.files {
+            files.push(NamedFile {
+                name: file.name.try_clone(self.alloc)?,
+                bytes: file.bytes.try_clone(self.alloc)?,
+            })?;
+        }
+        Ok(FileTable {
+            alloc: self.alloc,
+            files,
+        })
+    }
 }
 
 #[cfg(test)]
@@ -237,6 +251,24 @@ mod tests {
         assert_eq!(rt; files.length(1), 0);
         files.create(Bytes::empty(alloc))?;
         assert_eq!(rt; files.count(), 3);
+        Ok(())
+    }
+
+    // A write in the middle, one over the end, one behind a gap, and empty ones inside and behind the end.
+    #[test]
+    fn writes_keep_the_bytes_around_them(rt: HostRuntime) -> Result<(), Fail> {
+        let mut files = FileTable::new(rt.alloc());
+        files.create(Bytes::copy_of(rt.alloc(), b"f")?)?;
+        files.write(0, 0, b"abcdefgh")?;
+        files.write(0, 2, b"CD")?;
+        assert_eq!(rt; files.bytes(0), b"abCDefgh".as_slice());
+        files.write(0, 6, b"GHIJ")?;
+        assert_eq!(rt; files.bytes(0), b"abCDefGHIJ".as_slice());
+        files.write(0, 12, b"x")?;
+        assert_eq!(rt; files.bytes(0), b"abCDefGHIJ\0\0x".as_slice());
+        files.write(0, 3, b"")?;
+        files.write(0, 15, b"")?;
+        assert_eq!(rt; files.bytes(0), b"abCDefGHIJ\0\0x\0\0".as_slice());
         Ok(())
     }
 }

@@ -1,10 +1,10 @@
 //! The committer, which owns the disk.
-ghost use Rattle.std.specs.Prelude.{◌≡◌, is_some, ◌<◌, ◌+◌, ◌↔◌, ◌⊎◌, ◌&&◌, not, nat_lt, true, None, IfOk, IfErr, OnOk, OnErr, IsErrOf, MatchOption, MatchResult, slice_index, length, List, Ok, Err};
+ghost use Rattle.std.specs.Prelude.{◌≡◌, is_some, ◌<◌, ◌≤◌, ◌+◌, ◌↔◌, ◌⊎◌, ◌&&◌, not, nat_lt, true, None, IfOk, IfErr, OnOk, OnErr, IsErrOf, MatchOption, MatchResult, slice_index, length, List, Ok, Err};
 ghost use Rattle.std.specs.List.{AllByRecursion};
 ghost use Rattle.disk_model.specs.Files.{IsFormed, IsMade};
 ghost use Rattle.disk_model.specs.Spelling.{body_of as body, gate_behind};
 ghost use Rattle.disk_model.specs.Held.{selected_half, start_of, end_of};
-ghost use Rattle.disk_model.specs.Storage.{Storage, piece_at, completed, failed, cut, group, checkpoint, group_of, group_or_checkpoint, is_quiet, least_start};
+ghost use Rattle.disk_model.specs.Storage.{Storage, piece_at, completed, failed, cut, group, checkpoint, group_of, group_or_checkpoint, is_empty, is_quiet, least_start};
 ghost use Rattle.disk_model.specs.Runs.{begun, quiet};
 ghost use Rattle.simdisk.specs.Room.{crashed};
 ghost use Rattle.group_commit.specs.Stages.{length_all};
@@ -12,22 +12,18 @@ ghost use Rattle.group_commit.specs.Refusals.{cut_test};
 ghost use Rattle.group_commit.specs.Plans.{planned, HasRoom, Begins};
 ghost use Rattle.group_commit.specs.declared.refusal.CommitRefusal.TheVariants.{NoSuchWrite, OutOfMemory};
 
-use crate::halves::{first_gate, half_end, half_of, selector_of};
 use crate::pieces::{byte_piece, pieces_of, record_of};
 use crate::plan::Plan;
 use crate::refusal::CommitRefusal;
 use disk_model::{Change, Piece, checkpoints_fit};
 use files::FileTable;
-use journal::{body_of, rebuild};
+use journal::{body_of, first_gate, half_end, half_of, rebuild, selector_of};
 use simdisk::{DiskRefusal, SimDisk};
 use std::alloc::Global;
 use std::marker::Model;
 
 /// The most changes of a group.
 const GROUP: usize = 64;
-
-/// The first gate of a disk that holds nothing.
-const FIRST_GATE: u32 = 64;
 
 /// Commits changes to a disk. A group is written in stages: the pieces of its record go together, and once all are complete
 /// its gate, alone. Where the record would not fit into the half, a checkpoint of all files goes to the other half: a 0 to
@@ -67,19 +63,12 @@ impl Model for Committer {
 }
 
 impl Committer {
-    /// The committer of a run that begins on a disk that holds no files. Takes no memory.
-    pub fn new(alloc: Global, disk: SimDisk) -> Committer
-        requires { is_quiet disk ≡ true }
-        ensures { result ≡ begun disk.disk 64 }
-    {
-        Committer::resume(alloc, disk, FIRST_GATE)
-    }
-
     /// The committer of a run that begins on a disk that holds files, where `gate` is the place of the first gate in the
-    /// selected half that is not open. Takes no memory.
-    pub fn resume(alloc: Global, disk: SimDisk, gate: u32) -> Committer
+    /// selected half that is not open: 64 on a disk of zeros. Takes no memory.
+    pub fn new(alloc: Global, disk: SimDisk, gate: u32) -> Committer
         requires quiet { is_quiet disk ≡ true }
-        requires gate { gate < end_of (selected_half (slice_index disk.disk 0)) }
+        requires half { start_of (selected_half (slice_index disk.disk 0)) ≤ gate }
+        requires within { gate < end_of (selected_half (slice_index disk.disk 0)) }
         ensures { result ≡ begun disk.disk gate }
     {
         let half = half_of(disk.bytes()[0]);
@@ -116,11 +105,18 @@ impl Committer {
         self.drive.is_in_flight(at)
     }
 
-    /// Whether a cut is wanted, where some output is held back: no group is in flight, and no write has failed.
+    /// Whether a cut is wanted: some output is held back, as `held` tells, no group is in flight, and no write has failed.
     pub fn wants_cut(&self, held: bool) -> bool
         ensures { result ≡ (held && is_quiet self.now.drive) }
     {
         held && self.drive.quiet()
+    }
+
+    /// Whether a write has failed, so that nothing is submitted or committed any more.
+    pub fn has_failed(&self) -> bool
+        ensures { result ≡ not (is_empty self.now.drive.failed) }
+    {
+        self.drive.has_failed()
     }
 
     /// Refused where `cut` would be refused for another reason than memory. The changes are all uncommitted ones, in order.

@@ -2,7 +2,6 @@
 #![tactic(auto)]
 
 mod committer;
-mod halves;
 mod pieces;
 mod plan;
 mod refusal;

@@ -12,6 +12,9 @@ use simdisk::SimDisk;
 use std::alloc::{AllocError, Global};
 use std::test::Fail;
 
+/// The first gate of a disk of zeros.
+const FIRST_GATE: u32 = 64;
+
 /// Does a change that is formed and possible.
 fn grow(files: &mut FileTable, change: &Change) -> Result<(), AllocError>
     requires made { IsMade files.old }
@@ -66,6 +69,56 @@ fn complete_all(committer: &mut Committer) -> Result<([u32; 8], usize), CommitRe
     Ok((places, 1000))
 }
 
+/// Cuts, completes all writes, and answers what the cut answered and how many writes there were.
+fn commit_all(
+    alloc: Global,
+    committer: &mut Committer,
+    changes: &[Change],
+    files: &FileTable,
+) -> Result<((u64, u64), usize), CommitRefusal>
+    requires possible { IsMade files.now }
+    requires formed { AllByRecursion IsFormed changes.now }
+{
+    let counts = committer.cut(alloc, changes, files)?;
+    let (_places, writes) = complete_all(committer)?;
+    Ok((counts, writes))
+}
+
+/// How many groups are committed, up to fifteen, before one that has not 64 changes and 18 writes.
+fn groups_of_64(
+    alloc: Global,
+    committer: &mut Committer,
+    changes: &[Change],
+    files: &FileTable,
+) -> Result<usize, CommitRefusal>
+    requires possible { IsMade files.now }
+    requires formed { AllByRecursion IsFormed changes.now }
+{
+    for group in 0..15 {
+        if commit_all(alloc, committer, changes, files)? != ((64, 18), 18) {
+            return Ok(group);
+        }
+    }
+    Ok(15)
+}
+
+/// One file, which has these bytes.
+fn one_file(alloc: Global, bytes: &Bytes) -> Result<FileTable, AllocError>
+    requires { IsFormed (Write 0 0 bytes.now) }
+    ensures { IfOk result (λ f. IsMade f) }
+{
+    let create = Change::Create(Bytes::copy_of(alloc, b"f")?);
+    let write = Change::Write {
+        file: 0,
+        offset: 0,
+        bytes: bytes.try_clone(alloc)?,
+    };
+    let mut files = FileTable::new(alloc);
+    grow(&mut files, &create)?;
+    grow(&mut files, &write)?;
+    Ok(files)
+}
+
 #[test]
 fn a_group_is_a_record_and_then_its_gate(rt: HostRuntime) -> Result<(), Fail> {
     let alloc = rt.alloc();
@@ -80,7 +133,7 @@ fn a_group_is_a_record_and_then_its_gate(rt: HostRuntime) -> Result<(), Fail> {
     let mut files = FileTable::new(alloc);
     grow(&mut files, &changes[0])?;
     grow(&mut files, &changes[1])?;
-    let mut committer = Committer::new(alloc, SimDisk::zero(alloc)?);
+    let mut committer = Committer::new(alloc, SimDisk::zero(alloc)?, FIRST_GATE);
     assert!(rt; committer.wants_cut(true));
     assert_eq!(rt;
         committer.cut(alloc, &[], &files),
@@ -108,26 +161,11 @@ fn a_group_is_a_record_and_then_its_gate(rt: HostRuntime) -> Result<(), Fail> {
 fn a_checkpoint_comes_where_a_record_does_not_fit(rt: HostRuntime) -> Result<(), Fail> {
     let alloc = rt.alloc();
     let bytes = block(alloc, 1024)?;
-    let create = Change::Create(Bytes::copy_of(alloc, b"f")?);
-    let write = Change::Write {
-        file: 0,
-        offset: 0,
-        bytes: bytes.try_clone(alloc)?,
-    };
-    let mut files = FileTable::new(alloc);
-    grow(&mut files, &create)?;
-    grow(&mut files, &write)?;
+    let files = one_file(alloc, &bytes)?;
     let changes = writes_of(alloc, &bytes, 70)?;
-    let mut committer = Committer::new(alloc, SimDisk::zero(alloc)?);
+    let mut committer = Committer::new(alloc, SimDisk::zero(alloc)?, FIRST_GATE);
     // The record of 64 writes of 1,024 bytes has 5 + 64 * 1,033 = 66,117 bytes, so that fifteen fit into a half.
-    for group in 0..15 {
-        assert_eq!(rt;
-            committer.cut(alloc, &changes, &files)?,
-            (64, 18),
-            "group {group}"
-        );
-        assert_eq!(rt; complete_all(&mut committer)?.1, 18, "group {group}");
-    }
+    assert_eq!(rt; groups_of_64(alloc, &mut committer, &changes, &files)?, 15);
     assert_eq!(rt; committer.cut(alloc, &changes, &files)?, (70, 4));
     let (places, count) = complete_all(&mut committer)?;
     assert_eq!(rt;
@@ -138,5 +176,29 @@ fn a_checkpoint_comes_where_a_record_does_not_fit(rt: HostRuntime) -> Result<(),
     // Behind the checkpoint's body of 3 + 1,033 bytes.
     assert_eq!(rt; committer.cut(alloc, &changes, &files)?, (64, 18));
     assert_eq!(rt; committer.in_flight(), Some(1049618));
+    Ok(())
+}
+
+#[test]
+fn nothing_goes_on_behind_a_failure(rt: HostRuntime) -> Result<(), Fail> {
+    let alloc = rt.alloc();
+    let create = Change::Create(Bytes::copy_of(alloc, b"f")?);
+    let mut files = FileTable::new(alloc);
+    grow(&mut files, &create)?;
+    let changes = writes_of(alloc, &block(alloc, 1024)?, 8)?;
+    let mut committer = Committer::new(alloc, SimDisk::zero(alloc)?, FIRST_GATE);
+    // The record of eight writes of 1,024 bytes has 8,269 bytes behind its gate, which are three pieces.
+    assert_eq!(rt; committer.cut(alloc, &changes, &files)?, (8, 4));
+    committer.failed(4161)?;
+    // DiskFailed comes before GroupInFlight.
+    assert_eq!(rt; committer.in_flight(), Some(65));
+    assert_eq!(rt; committer.may_cut(&changes), Err(CommitRefusal::DiskFailed));
+    assert!(rt; !committer.wants_cut(true));
+    // What is in flight is completed still, but the gate is not submitted, and the count stays.
+    assert_eq!(rt; committer.completed(65), Ok(0));
+    assert_eq!(rt; committer.completed(8257), Ok(0));
+    assert_eq!(rt; (committer.in_flight(), committer.committed()), (None, 0));
+    assert_eq!(rt; committer.completed(64), Err(CommitRefusal::NoSuchWrite));
+    assert_eq!(rt; committer.may_cut(&changes), Err(CommitRefusal::DiskFailed));
     Ok(())
 }

@@ -1,3 +1,12 @@
 -- The lemmas.
 pub mod Bodies
 pub mod Checkpoints
+pub mod Loop
+pub mod Gates
+pub mod Again
+pub mod Whole
+pub mod Found
+pub mod FoundAll
+pub mod Faulty
+pub mod Outcomes
+pub mod Selected

@@ -39,7 +39,8 @@ fn push_change(out: &mut Vec<u8>, change: &Change) -> Result<(), AllocError>
     Ok(())
 }
 
-/// The body of a record: the bytes of these changes, one after the other.
+/// The body of a record: the bytes of these changes, one after the other. Other changes than formed ones have no spelling that
+/// is read again.
 pub fn body_of(alloc: Global, changes: &[Change]) -> Result<Vec<u8>, AllocError>
     requires { AllByRecursion IsFormed changes.now }
     ensures { IfOk result (λ v. v.items ≡ body changes.now) }

@@ -63,9 +63,10 @@ same-core b history history' tasks tasks' s d same_history same_tasks same_marks
     subst (λ (es : List Event). IsCore b es tasks' (record s { dependencies = d })) (sym same_history)
     (subst (λ (ts : List Task). IsCore b history ts (record s { dependencies = d })) (sym same_tasks)
     (record {
+      boot = h.boot;
       mirrors = record {
         each = h.mirrors.each;
-        changes = record { changes = h.mirrors.changes.changes; possible = h.mirrors.changes.possible; files = h.mirrors.changes.files; made = h.mirrors.changes.made };
+        changes = record { changes = h.mirrors.changes.changes; formed = h.mirrors.changes.formed; files = h.mirrors.changes.files; made = h.mirrors.changes.made };
         tapes = h.mirrors.tapes;
         parts = h.mirrors.parts;
         pipes = h.mirrors.pipes;
@@ -119,6 +120,7 @@ turned-core b history history' old new s d pid n a h grown t =
     let space : length history + 2 * count_out old < 2 ^ 40 = leb-false (2 ^ 40) (length history + 2 * count_out old) fine.room in
     let longer : length (history ++ Turn pid n ∷ []) ≡ length history + 1 = length-snoc history (Turn pid n) in
     subst (λ (es : List Event). IsCore b es new (record s { dependencies = d })) (sym grown) (record {
+      boot = h.boot;
       mirrors = subst (λ (v : World). Mirrors v new (record s { dependencies = d })) (sym (after-append (begun (boot_of b)) history (Turn pid n))) (record {
         each = ran-tasks w s.told old new pid n t.place t.count t.stop h.mirrors.each t.placed.number t.ran fine.running few;
         changes = changes-part w (happens w (Turn pid n)) s (record s { dependencies = d }) (own_entry pid) (own-silent pid) log files refl refl h.mirrors.changes;

@@ -4,11 +4,13 @@ use Rattle.std.specs.List.{AllByRecursion}
 use Rattle.commit_deps.specs.Keeps.{Keeps}
 use Rattle.pipes.specs.Seen.{Seen}
 use Rattle.processes.specs.Parts.{Part, part_of, boot_part}
+use Rattle.disk_model.specs.Files.{IsMade}
 use Rattle.disk_model.specs.Runs.{begun as storage_at}
+use Rattle.kernel_model.specs.Bytes.{TapesHoldBytes}
 use Rattle.kernel_model.specs.Answers.{Lending}
 use Rattle.kernel_model.specs.Entries.{Item, Got}
 use Rattle.kernel_model.specs.State.{Process}
-use Rattle.kernel_model.specs.World.{BootProgram, Boot, begun, first_process, processes_from, tapes_of, tape_count}
+use Rattle.kernel_model.specs.World.{BootProgram, Boot, HoldsItsFiles, begun, first_process, processes_from, tapes_of, tape_count}
 use Rattle.machine_model.specs.Access.{HoldsBytes}
 use Rattle.machine_model.specs.States.{State}
 use Rattle.machine.specs.First.{first_state}
@@ -27,7 +29,7 @@ use Rattle.kernel.specs.declared.screen.Screen.{Screen}
 use Rattle.kernel.specs.declared.shared.Shared.{Shared}
 use Rattle.kernel.specs.declared.task.Task.{Task}
 use Rattle.kernel.specs.declared.trace.End.{End}
-use Rattle.kernel.proofs.Lists.{count-map, count-cons}
+use Rattle.kernel.proofs.Lists.{count-cons, count-map}
 
 -- what stands in a list with one more at its end
 pub get-snoc : {A : Type 0} (xs : List A) (x : A) (i : ℕ) (y : A) → slice_get (xs ++ x ∷ []) i ≡ Some y
@@ -149,11 +151,11 @@ pub parts-first : (k : ℕ) (programs : List Program) → parts_from k programs 
 parts-first k [] = refl
 parts-first k (p ∷ ps) = ap (λ (xs : List Part). boot_part k p.terminal ∷ xs) (parts-first (k + 1) ps)
 
-parts-fine : (k : ℕ) (programs : List Program) → AllByRecursion (IsPart 0) (parts_from k programs)
-parts-fine k [] = tt
-parts-fine k (p ∷ ps) = (
-  record { count = refl; named = (tt, (tt, (tt, (tt, (tt, (tt, (tt, (tt, (tt, (tt, (tt, (tt, (tt, (tt, (tt, (tt, tt)))))))))))))))) },
-  parts-fine (k + 1) ps,
+parts-fine : (files k : ℕ) (programs : List Program) → AllByRecursion (IsPart files) (parts_from k programs)
+parts-fine files k [] = tt
+parts-fine files k (p ∷ ps) = (
+  record { named = (tt, (tt, (tt, (tt, (tt, (tt, (tt, (tt, (tt, (tt, (tt, (tt, (tt, (tt, (tt, (tt, tt)))))))))))))))) },
+  parts-fine files (k + 1) ps,
 )
 
 -- one program more
@@ -192,11 +194,13 @@ first-screens screens h = record {
 }
 
 -- ---- all parts
-pub first-core : (b : Booted) (tasks : List Task) (s : Shared) → AreFirst b.programs.items tasks → AreEmpty 8 s.screens.items
-    → Keeps [] s.dependencies.marks → s.changes.items ≡ [] → s.files ≡ [] → s.tapes ≡ tapes_of tape_count b.tapes.value.items
-    → s.processes.parts ≡ parts_from 0 b.programs.items → s.pipes ≡ [] → s.told ≡ 0 → s.disk ≡ storage_at b.disk 64
+pub first-core : (b : Booted) (tasks : List Task) (s : Shared) → HoldsItsFiles (boot_of b) → IsMade b.files → TapesHoldBytes (boot_of b)
+    → AreFirst b.programs.items tasks → AreEmpty 8 s.screens.items
+    → Keeps [] s.dependencies.marks → s.changes.items ≡ [] → s.files ≡ b.files → s.tapes ≡ tapes_of tape_count b.tapes.value.items
+    → s.processes.parts ≡ parts_from 0 b.programs.items → s.pipes ≡ [] → s.told ≡ 0 → s.disk ≡ storage_at b.disk b.gate
     → IsCore b [] tasks s
-first-core b tasks s first empty keeps changes files tapes parts pipes told disk = record {
+first-core b tasks s held made bytes first empty keeps changes files tapes parts pipes told disk = record {
+  boot = record { held = held; programs = programs-hold b.programs.items tasks first; tapes = bytes };
   mirrors = record {
     each = record {
       processes = first-processes 0 b.programs.items tasks first.count (λ i t there.
@@ -205,11 +209,11 @@ first-core b tasks s first empty keeps changes files tapes parts pipes told disk
           (one.0, one.1, first-process i one.0 t one.2 ∙ ap (λ j. bare (first_process j (program_of one.0))) (sym place)));
       each = λ i t there. let one = first.each i t there in first-task (boot_of b) s.told i one.0 t one.2;
     };
-    changes = record { changes = changes; possible = tt; files = files; made = refl };
+    changes = record { changes = changes; formed = tt; files = files; made = made };
     tapes = tapes;
     parts = record {
       same = parts ∙ parts-first 0 b.programs.items;
-      each = subst (λ (xs : List Part). AllByRecursion (IsPart 0) xs) (sym parts) (parts-fine 0 b.programs.items);
+      each = subst (λ (xs : List Part). AllByRecursion (IsPart (length b.files)) xs) (sym parts) (parts-fine (length b.files) 0 b.programs.items);
     };
     pipes = subst (λ (x : List Seen). ArePipes (begun (boot_of b)) x) (sym pipes) (record { shown = record { shown = refl; within = tt }; few = tt });
     counted = omega (arith, told);

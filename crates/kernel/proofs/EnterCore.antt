@@ -1,7 +1,6 @@
 -- From an Enter of the parts to the core.
-use Rattle.std.proofs.Common.{◌≡◌, ℕ, ◌+◌, ◌*◌, ◌^◌, ◌<◌, ◌≤◌, Bool, if◌then◌else◌, List, [], ◌∷◌, ◌++◌, length, map, Option, Some, None, is_some, nat_le, count_by, Result, Ok, Err, refl, sym, ap, subst, ◌∙◌, arith}
+use Rattle.std.proofs.Common.{◌≡◌, ℕ, ◌+◌, ◌*◌, ◌^◌, ◌<◌, ◌≤◌, if◌then◌else◌, List, [], ◌∷◌, ◌++◌, length, map, Option, Some, None, is_some, nat_le, count_by, Result, Ok, Err, refl, sym, ap, subst, ◌∙◌, arith}
 use Rattle.std.proofs.lemmas.Bool.{leb-false}
-use Rattle.std.proofs.lemmas.List.Sums.{sum_by-cons}
 use Rattle.std.specs.Prelude.{IfOk, IfErr, OnOk, OnErr}
 use Rattle.kernel_model.specs.Answers.{Refuses, Applies, refusal, enter_refusal, limit, outcome_of, entered, Lending, never_lent, with_child}
 use Rattle.kernel_model.specs.State.{Process, process_at}
@@ -21,21 +20,15 @@ use Rattle.kernel.specs.declared.shared.Shared.{Shared}
 use Rattle.kernel.specs.declared.task.Task.{Task}
 use Rattle.kernel.proofs.EnterFine.{fine-full}
 use Rattle.kernel.proofs.FewLoans.{few-same, few-longer, few-child}
+use Rattle.kernel.proofs.Lists.{count-cons, length-snoc}
 use Rattle.kernel.proofs.Turning.{enter-bare}
-
-count-by : {A : Type 0} (p : A → Bool) (x : A) (xs : List A) → count_by p (x ∷ xs) ≡ (if p x then 1 else 0) + count_by p xs
-count-by p x xs = sum_by-cons (λ y. if p y then 1 else 0) x xs
 
 count-out : (tasks : List Task) → count_by (λ (l : Lending). is_some l.out) (map lending_of tasks) ≡ count_out tasks
 count-out [] = refl
 count-out (t ∷ ts) =
-    count-by (λ (l : Lending). is_some l.out) (lending_of t) (map lending_of ts)
+    count-cons (λ (l : Lending). is_some l.out) (lending_of t) (map lending_of ts)
     ∙ ap (λ n. (if is_some (out_of t) then 1 else 0) + n) (count-out ts)
-    ∙ sym (count-by (λ (u : Task). is_some (out_of u)) t ts)
-
-length-more : {A : Type 0} (xs : List A) (x : A) → length (xs ++ x ∷ []) ≡ length xs + 1
-length-more [] x = omega arith
-length-more (y ∷ ys) x = let rest : length (ys ++ x ∷ []) ≡ length ys + 1 = length-more ys x in omega arith
+    ∙ sym (count-cons (λ (u : Task). is_some (out_of u)) t ts)
 
 -- the tasks are lent as before
 pub same-out : (old new : List Task) → map lending_of new ≡ map lending_of old → count_out new ≡ count_out old
@@ -48,9 +41,9 @@ same-out old new same =
 count-snoc : (ls : List Lending) → count_by (λ (l : Lending). is_some l.out) (ls ++ never_lent ∷ []) ≡ count_by (λ (l : Lending). is_some l.out) ls
 count-snoc [] = refl
 count-snoc (l ∷ ls) =
-    count-by (λ (x : Lending). is_some x.out) l (ls ++ never_lent ∷ [])
+    count-cons (λ (x : Lending). is_some x.out) l (ls ++ never_lent ∷ [])
     ∙ ap (λ n. (if is_some l.out then 1 else 0) + n) (count-snoc ls)
-    ∙ sym (count-by (λ (x : Lending). is_some x.out) l ls)
+    ∙ sym (count-cons (λ (x : Lending). is_some x.out) l ls)
 
 count-child : (ls : List Lending) (o : Option ℕ) → count_by (λ (l : Lending). is_some l.out) (with_child ls o) ≡ count_by (λ (l : Lending). is_some l.out) ls
 count-child ls None = refl
@@ -68,7 +61,7 @@ log-more : (w : World) (es : List Event) → length (after w es).log ≡ length 
 log-more w [] = omega arith
 log-more w (e ∷ es) =
     let rest : length (after (happens w e) es).log ≡ length (happens w e).log + length es = log-more (happens w e) es in
-    let one : length (happens w e).log ≡ length w.log + 1 = length-more w.log (step w.sync e).entry in
+    let one : length (happens w e).log ≡ length w.log + 1 = length-snoc w.log (step w.sync e).entry in
     omega (arith, rest, one)
 
 pub log-length : (b : Booted) (history : List Event) → length (run_of b history).log ≡ length history
@@ -113,10 +106,11 @@ enter-core b history history' old new s s' pid (Ok a) h fine mirrors grown grows
     let space : length history + 2 * count_out old < 2 ^ 40 =
     leb-false (2 ^ 40) (length history + 2 * count_out old)
     (fine-full (process_at (map process_of old) pid) (lent_of old pid) (full_of (length history) old) fine) in
-    let longer : length (history ++ Enter pid ∷ []) ≡ length history + 1 = length-more history (Enter pid) in
+    let longer : length (history ++ Enter pid ∷ []) ≡ length history + 1 = length-snoc history (Enter pid) in
     let lendings = grows (run_of b history) h.mirrors in
     let out : count_out new ≡ count_out old = child-out old new (step (run_of b history).sync (Enter pid)).entry.child lendings in
     subst (λ (es : List Event). IsCore b es new s') (sym grown) (record {
+      boot = h.boot;
       mirrors =
           subst (λ (v : World). Mirrors v new s') (sym (after-append (begun (boot_of b)) history (Enter pid)))
           (mirrors (run_of b history) h.mirrors);
@@ -130,6 +124,7 @@ enter-core b history history' old new s s' pid (Err why) h fine mirrors grown gr
     let out : count_out new ≡ count_out old = same-out old new lent in
     let was : length history + 2 * count_out old ≤ 2 ^ 40 = h.room in
     subst (λ (es : List Event). IsCore b es new s') (sym stays) (record {
+      boot = h.boot;
       mirrors = same (run_of b history) h.mirrors;
       room = omega (arith, out, was);
       loans = few-same (length history) (length history) old new (omega arith) lent h.loans;

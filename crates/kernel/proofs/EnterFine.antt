@@ -10,7 +10,7 @@ use Rattle.kernel.specs.Tasks.{machine_of, out_of, process_of, lending_of, statu
 use Rattle.kernel.specs.Tests.{lent_of, enter_refusal_of}
 use Rattle.kernel.specs.declared.task.Task.{Task}
 use Rattle.kernel.specs.declared.trace.End.{End}
-use Rattle.kernel.proofs.EnterLists.{get-map}
+use Rattle.kernel.proofs.Lists.{get-map}
 
 -- no test of five holds where there is no refusal
 none-of-five : (a b c d e : Bool) (r s t u v : Refused) → first_of ((a ⇒ r) ∷ (b ⇒ s) ∷ (c ⇒ t) ∷ (d ⇒ u) ∷ (e ⇒ v) ∷ []) ≡ None

@@ -1,5 +1,5 @@
 -- The table of processes and the pipes after one more event.
-use Rattle.std.proofs.Common.{◌≡◌, ℕ, zero, suc, ◌+◌, ◌*◌, ◌≤◌, List, [], ◌∷◌, ◌++◌, length, map, slice_get, slice_set, Option, Some, None, refl, sym, ap, subst, ◌∙◌, arith}
+use Rattle.std.proofs.Common.{◌≡◌, ℕ, zero, suc, ◌+◌, ◌*◌, ◌≤◌, List, [], ◌∷◌, ◌++◌, length, map, slice_set, Option, Some, None, refl, sym, ap, subst, ◌∙◌, arith}
 use Rattle.std.specs.List.{AllByRecursion}
 use Rattle.calls.specs.Plans.{NamesFiles, MayAllStep, all_seen}
 use Rattle.calls.specs.declared.plan.Plan.{Plan}
@@ -9,38 +9,16 @@ use Rattle.pipes.proofs.Showing.{shows-next, grow-by-one}
 use Rattle.processes.specs.Parts.{Part, part_of, part_at, with_part}
 use Rattle.kernel_model.specs.Entries.{Entry}
 use Rattle.kernel_model.specs.State.{Process, PipeState, process_at, put_process, changed_by, stepped, all_stepped}
-use Rattle.kernel_model.specs.Steps.{Transition, forked, set_slots}
+use Rattle.kernel_model.specs.Steps.{Transition, forked}
 use Rattle.kernel_model.specs.World.{World}
-use Rattle.kernel_model.specs.declared.descriptor.Descriptor.{Descriptor}
 use Rattle.kernel_model.specs.declared.effect.PipeStep.{PipeStep}
-use Rattle.kernel_model.specs.declared.effect.Slot.{Slot}
-use Rattle.kernel_model.specs.declared.request.Verdict.{Verdict}
-use Rattle.kernel_model.specs.declared.request.Verdict.TheVariants.{Waits, Replies, Ends}
 use Rattle.kernel.specs.Entering.{descriptors_after, part_after, process_after, born, parts_after, planned}
 use Rattle.kernel.specs.Mirrors.{IsPart, AreParts, ArePipes}
-use Rattle.kernel.proofs.EnterLists.{map-set, length-set-at}
 use Rattle.kernel.proofs.EnterPlans.{part-seen}
-use Rattle.kernel.proofs.EnterTasks.{world_after, files-grow, names-more, map-append, length-map, length-snoc}
+use Rattle.kernel.proofs.EnterTasks.{world_after, files-grow, names-more}
+use Rattle.kernel.proofs.Lists.{map-set, length-snoc, map-append, all-at, all-set, all-both, all-others}
 
 -- ---- lists
-pub all-at : {A : Type 0} (P : A → Type 0) (xs : List A) (i : ℕ) (x : A) → AllByRecursion P xs → slice_get xs i ≡ Some x → P x
-all-at P [] i x h e = cc
-all-at P (y ∷ ys) zero x h e = let same : y ≡ x = cc in subst P same h.0
-all-at P (y ∷ ys) (suc i) x h e = all-at P ys i x h.1 e
-
-all-set : {A : Type 0} (P : A → Type 0) (xs : List A) (i : ℕ) (x : A) → AllByRecursion P xs → P x → AllByRecursion P (slice_set xs i x)
-all-set P [] i x h one = tt
-all-set P (y ∷ ys) zero x h one = (one, h.1)
-all-set P (y ∷ ys) (suc i) x h one = (h.0, all-set P ys i x h.1 one)
-
-all-both : {A : Type 0} (P : A → Type 0) (xs ys : List A) → AllByRecursion P xs → AllByRecursion P ys → AllByRecursion P (xs ++ ys)
-all-both P [] ys h g = g
-all-both P (x ∷ xs) ys h g = (h.0, all-both P xs ys h.1 g)
-
-all-others : {A : Type 0} (P Q : A → Type 0) → ((x : A) → P x → Q x) → (xs : List A) → AllByRecursion P xs → AllByRecursion Q xs
-all-others P Q f [] h = tt
-all-others P Q f (x ∷ xs) h = (f x h.0, all-others P Q f xs h.1)
-
 -- ---- the parts
 born-forked : (p : Process) (o : Option ℕ) → born (Some (part_of p)) o ≡ map part_of (forked p o)
 born-forked p None = refl
@@ -55,21 +33,12 @@ parts-same ps (suc k) p plan e =
     ∙ ap (λ (xs : List Part). map part_of (slice_set ps k (process_after p plan)) ++ xs) (born-forked p plan.child)
     ∙ sym (map-append part_of (slice_set ps k (process_after p plan)) (forked p plan.child))
 
-slots-length : (ds : List (Option Descriptor)) (slots : List Slot) → length (set_slots ds slots) ≡ length ds
-slots-length ds [] = refl
-slots-length ds (slot ∷ slots) = slots-length (slice_set ds slot.fd slot.holds) slots ∙ length-set-at ds slot.fd slot.holds
-
-length-after : (ds : List (Option Descriptor)) (v : Verdict) (slots : List Slot) → length (descriptors_after ds v slots) ≡ length ds
-length-after ds Waits slots = refl
-length-after ds (Replies r) slots = slots-length ds slots
-length-after ds (Ends status) slots = length-map (λ (d : Option Descriptor). None) ds
-
 part-more : (n m : ℕ) (part : Part) → n ≤ m → IsPart n part → IsPart m part
-part-more n m part more h = record { count = h.count; named = names-more n m part.descriptors more h.named }
+part-more n m part more h = record { named = names-more n m part.descriptors more h.named }
 
 born-parts : (n m : ℕ) (part : Part) (o : Option ℕ) → n ≤ m → IsPart n part → AllByRecursion (IsPart m) (born (Some part) o)
 born-parts n m part None more h = tt
-born-parts n m part (Some child) more h = (record { count = h.count; named = names-more n m part.descriptors more h.named }, tt)
+born-parts n m part (Some child) more h = (record { named = names-more n m part.descriptors more h.named }, tt)
 
 after-parts : (parts : List Part) (pid n m : ℕ) (part : Part) (plan : Plan) → part_at parts pid ≡ Some part → n ≤ m
     → NamesFiles m (descriptors_after part.descriptors plan.told plan.slots.items)
@@ -80,7 +49,7 @@ after-parts parts (suc k) n m part plan e more named h =
     subst (λ (o : Option Part). AllByRecursion (IsPart m) (with_part parts (suc k) o (λ x. part_after x plan) ++ born o plan.child)) (sym e)
     (all-both (IsPart m) (slice_set parts k (part_after part plan)) (born (Some part) plan.child)
     (all-set (IsPart m) parts k (part_after part plan) (all-others (IsPart n) (IsPart m) (λ x g. part-more n m x more g) parts h)
-    (record { count = length-after part.descriptors plan.told plan.slots.items ∙ one.count; named = named }))
+    (record { named = named }))
     (born-parts n m part plan.child more one))
 
 pub parts-planned : (w : World) (parts parts' : List Part) (pid : ℕ) (p : Process) (plan : Plan) → AreParts w parts → process_at w.sync.processes pid ≡ Some p

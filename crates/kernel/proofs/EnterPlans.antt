@@ -1,177 +1,34 @@
 -- What a plan says comes of an Enter.
-use Rattle.std.proofs.Common.{◌≡◌, ℕ, zero, suc, ◌+◌, ◌^◌, ◌<◌, ◌≤◌, ◌==◌, ◌||◌, inl, not, nat_lt, nat_le, Bool, true, false, if◌then◌else◌, List, [], ◌∷◌, ◌++◌, length, map, filter, slice_get, slice_set, Option, Some, None, is_some, option_to_list, IfSome, IfOk, Result, Ok, Err, refl, sym, ap, subst, ◌∙◌, arith}
-use Rattle.std.specs.List.{list_all, AllByRecursion}
+use Rattle.std.proofs.Common.{◌≡◌, ℕ, zero, suc, ◌+◌, ◌^◌, ◌<◌, ◌≤◌, inl, not, if◌then◌else◌, List, [], ◌∷◌, ◌++◌, length, map, filter, slice_get, slice_set, Option, Some, None, is_some, option_to_list, IfSome, IfOk, Result, Ok, Err, refl, sym, ap, subst, ◌∙◌}
+use Rattle.std.specs.List.{AllByRecursion}
 use Rattle.disk_model.specs.declared.change.Change.{Change}
-use Rattle.disk_model.specs.declared.change.NamedFile.{NamedFile}
 use Rattle.machine_model.specs.States.{State, stands_at, next, by_step, Stepped, Goes, Halts, replied}
 use Rattle.machine_model.specs.declared.stop.Stop.{Stop}
 use Rattle.machine_model.specs.declared.stop.Stop.TheVariants.{Limit, Call, Trap}
 use Rattle.machine_model.specs.declared.stop.Cause.{Cause}
 use Rattle.machine.proofs.Keeping.{next-not_limit}
-use Rattle.calls.specs.Plans.{IsPlan, IsPossible, NamesFiles, AreLeft, AtMostOne, AtMostOneEntry, OpensAlone, MayBePlaced, EditsAs, EditsPipesAlone, IsNext, MayAllStep}
+use Rattle.calls.specs.Plans.{IsPlan, IsPossible, NamesFiles, AreLeft, AtMostOneEntry, OpensAlone, MayBePlaced, EditsAs, EditsPipesAlone, IsNext, MayAllStep}
 use Rattle.calls.specs.Shares.{IsKept}
 use Rattle.calls.specs.declared.plan.Plan.{Plan}
 use Rattle.pipes.specs.Stepping.{HasAtMost}
 use Rattle.processes.specs.Parts.{Part, part_of, part_at, descriptors_in, children_in, statuses_of}
-use Rattle.kernel_model.specs.State.{SyncState, Shared as Seen, PipeState, TapeState, Process, shared, process_at, put_process, changed_by, read_by, all_stepped, unread}
-use Rattle.kernel_model.specs.Requests.{request_of, longest_name, most_bytes}
-use Rattle.kernel_model.specs.Rows.{Effect, row, row_end, row_write, row_read, row_open, row_close, row_seek, row_pipe, row_fork, row_wait, write_to, write_read, write_pipe, read_tape, read_file, read_pipe, read_from, open_named, open_free, open_file, pipe_free, wait_ended, EndedChild, first_ended, cause_number, may_write, may_read, names_of, descriptor_at, ends_of, number, pipe_size, most_pipes, most_processes, longest_file, most_files, is_name_byte, free_descriptor, free_behind, file_named}
+use Rattle.kernel_model.specs.State.{SyncState, Shared as Seen, PipeState, Process, shared, process_at, put_process, changed_by, read_by, all_stepped}
+use Rattle.kernel_model.specs.Requests.{request_of}
+use Rattle.kernel_model.specs.Rows.{Effect, row, row_end, cause_number, number}
 use Rattle.kernel_model.specs.Steps.{Transition, step, after_enter, impossible, effect_at, set_slots, children_after, is_collected, forked, after_effect, after_effect_if}
 use Rattle.kernel_model.specs.declared.carrier.Carrier.{Carrier}
 use Rattle.kernel_model.specs.declared.carrier.Carrier.TheVariants.{Proc}
 use Rattle.kernel_model.specs.declared.descriptor.Descriptor.{Descriptor}
-use Rattle.kernel_model.specs.declared.descriptor.Descriptor.TheVariants as descriptor
-use Rattle.kernel_model.specs.declared.descriptor.PipeEnd.{PipeEnd}
-use Rattle.kernel_model.specs.declared.descriptor.PipeEnd.TheVariants as pipe_end
 use Rattle.kernel_model.specs.declared.effect.Output.{Output}
 use Rattle.kernel_model.specs.declared.effect.PipeStep.{PipeStep}
-use Rattle.kernel_model.specs.declared.effect.PipeStep.TheVariants as pipe_step
 use Rattle.kernel_model.specs.declared.effect.Slot.{Slot}
 use Rattle.kernel_model.specs.declared.effect.TapeRead.{TapeRead}
 use Rattle.kernel_model.specs.declared.event.Event.TheVariants.{Enter}
 use Rattle.kernel_model.specs.declared.request.Request.{Request}
-use Rattle.kernel_model.specs.declared.request.Request.TheVariants.{Exit, Write, Read, Open, Close, Pipe, Fork, Wait, GetPid, Seek, Sync, Unknown}
 use Rattle.kernel_model.specs.declared.request.Verdict.{Verdict}
 use Rattle.kernel_model.specs.declared.request.Verdict.TheVariants.{Waits, Replies, Ends}
-use Rattle.kernel.specs.Entering.{Sight, IsSightOf, HaveRoom, item_of, machine_after, descriptors_after, status_after, writes_of, MayBeTold, effect_of, planned, AreSteps, PlansEnter}
-
--- ---- a row has few steps of pipes
-record IsRow (e : Effect) : Type 0 where
-  few : length e.pipes ≤ 16
-
-quiet : (e : Effect) → e.pipes ≡ [] → IsRow e
-quiet e none = let size : length e.pipes ≡ 0 = ap (λ (steps : List PipeStep). length steps) none in record { few = omega (arith, size) }
-
-if-row : (b : Bool) (x y : Effect) → IsRow x → IsRow y → IsRow (if b then x else y)
-if-row true x y h g = h
-if-row false x y h g = g
-
-ends-few : (ds : List (Option Descriptor)) → length (ends_of ds) ≤ length ds
-ends-few [] = omega arith
-ends-few (Some (descriptor.Pipe end) ∷ ds) = let rest = ends-few ds in omega (arith, rest)
-ends-few (Some (descriptor.Tape t) ∷ ds) = let rest = ends-few ds in omega (arith, rest)
-ends-few (Some (descriptor.Terminal t) ∷ ds) = let rest = ends-few ds in omega (arith, rest)
-ends-few (Some (descriptor.File file offset writes) ∷ ds) = let rest = ends-few ds in omega (arith, rest)
-ends-few (None ∷ ds) = let rest = ends-few ds in omega (arith, rest)
-
-length-map : {A B : Type 0} (f : A → B) (xs : List A) → length (map f xs) ≡ length xs
-length-map f [] = refl
-length-map f (x ∷ xs) = ap (λ n. suc n) (length-map f xs)
-
-each-few : (f : PipeEnd → PipeStep) (ds : List (Option Descriptor)) → length ds ≤ 16 → length (map f (ends_of ds)) ≤ 16
-each-few f ds few = let size = length-map f (ends_of ds) in let less = ends-few ds in omega (arith, size, less, few)
-
-write_pipe-row : (k : ℕ) (bytes : List ℕ) (o : Option PipeState) → IsRow (write_pipe k bytes o)
-write_pipe-row k bytes None = quiet _ refl
-write_pipe-row k bytes (Some p) =
-    if-row (p.readers == 0) _ _ (quiet _ refl) (if-row (nat_le pipe_size (length (unread p))) _ _ (quiet _ refl)
-    (record { few = omega arith }))
-
-write_to-row : (s : Seen) (d : Option Descriptor) (fd : ℕ) (bytes : List ℕ) → IsRow (write_to s d fd bytes)
-write_to-row s (Some (descriptor.Terminal t)) fd bytes = quiet _ refl
-write_to-row s (Some (descriptor.File file offset true)) fd bytes = if-row (nat_lt longest_file (offset + length bytes)) _ _ (quiet _ refl) (quiet _ refl)
-write_to-row s (Some (descriptor.File file offset false)) fd bytes = quiet _ refl
-write_to-row s (Some (descriptor.Pipe (pipe_end.Write k))) fd bytes = write_pipe-row k bytes (slice_get s.pipes k)
-write_to-row s (Some (descriptor.Pipe (pipe_end.Read k))) fd bytes = quiet _ refl
-write_to-row s (Some (descriptor.Tape t)) fd bytes = quiet _ refl
-write_to-row s None fd bytes = quiet _ refl
-
-write_read-row : (s : Seen) (d : Option Descriptor) (fd : ℕ) (bytes : Option (List ℕ)) → IsRow (write_read s d fd bytes)
-write_read-row s d fd None = quiet _ refl
-write_read-row s d fd (Some bytes) = write_to-row s d fd bytes
-
-write-row : (s : Seen) (d : Option Descriptor) (fd n : ℕ) (bytes : Option (List ℕ)) → IsRow (row_write s d fd n bytes)
-write-row s d fd n bytes =
-    if-row (not (may_write d)) _ _ (quiet _ refl) (if-row (nat_lt most_bytes n) _ _ (quiet _ refl) (if-row (n == 0) _ _ (quiet _ refl) (write_read-row s d fd bytes)))
-
-read_tape-row : (t at n : ℕ) (o : Option TapeState) → IsRow (read_tape t at n o)
-read_tape-row t at n None = quiet _ refl
-read_tape-row t at n (Some tape) = quiet _ refl
-
-read_file-row : (fd file offset at n : ℕ) (o : Option NamedFile) → IsRow (read_file fd file offset at n o)
-read_file-row fd file offset at n None = quiet _ refl
-read_file-row fd file offset at n (Some f) = quiet _ refl
-
-read_pipe-row : (k at n : ℕ) (o : Option PipeState) → IsRow (read_pipe k at n o)
-read_pipe-row k at n None = quiet _ refl
-read_pipe-row k at n (Some p) =
-    if-row (nat_lt 0 (length (unread p))) _ _ (record { few = omega arith })
-    (if-row (p.writers == 0) _ _ (quiet _ refl) (quiet _ refl))
-
-read_from-row : (s : Seen) (d : Option Descriptor) (fd at n : ℕ) → IsRow (read_from s d fd at n)
-read_from-row s (Some (descriptor.Tape t)) fd at n = read_tape-row t at n (slice_get s.tapes t)
-read_from-row s (Some (descriptor.File file offset false)) fd at n = read_file-row fd file offset at n (slice_get s.files file)
-read_from-row s (Some (descriptor.File file offset true)) fd at n = quiet _ refl
-read_from-row s (Some (descriptor.Pipe (pipe_end.Read k))) fd at n = read_pipe-row k at n (slice_get s.pipes k)
-read_from-row s (Some (descriptor.Pipe (pipe_end.Write k))) fd at n = quiet _ refl
-read_from-row s (Some (descriptor.Terminal t)) fd at n = quiet _ refl
-read_from-row s None fd at n = quiet _ refl
-
-read-row : (s : Seen) (d : Option Descriptor) (fd at n : ℕ) (fits : Bool) → IsRow (row_read s d fd at n fits)
-read-row s d fd at n fits =
-    if-row (not (may_read d)) _ _ (quiet _ refl) (if-row (nat_lt most_bytes n) _ _ (quiet _ refl) (if-row (n == 0) _ _ (quiet _ refl)
-    (if-row (not fits) _ _ (quiet _ refl) (read_from-row s d fd at n))))
-
-open_file-row : (count fd mode : ℕ) (name : List ℕ) (o : Option ℕ) → IsRow (open_file count fd mode name o)
-open_file-row count fd mode name (Some file) = if-row (mode == 2) _ _ (quiet _ refl) (quiet _ refl)
-open_file-row count fd mode name None = if-row (mode == 2) _ _ (if-row (nat_le most_files count) _ _ (quiet _ refl) (quiet _ refl)) (quiet _ refl)
-
-open_free-row : (names : List (List ℕ)) (o : Option ℕ) (mode : ℕ) (name : List ℕ) → IsRow (open_free names o mode name)
-open_free-row names None mode name = quiet _ refl
-open_free-row names (Some fd) mode name = open_file-row (length names) fd mode name (file_named names name)
-
-open_named-row : (names : List (List ℕ)) (ds : List (Option Descriptor)) (mode : ℕ) (name : Option (List ℕ)) → IsRow (open_named names ds mode name)
-open_named-row names ds mode None = quiet _ refl
-open_named-row names ds mode (Some name) = if-row (not (list_all is_name_byte name)) _ _ (quiet _ refl) (open_free-row names (free_descriptor ds) mode name)
-
-open-row : (names : List (List ℕ)) (ds : List (Option Descriptor)) (n mode : ℕ) (name : Option (List ℕ)) → IsRow (row_open names ds n mode name)
-open-row names ds n mode name =
-    if-row (nat_lt 2 mode) _ _ (quiet _ refl) (if-row ((n == 0) || nat_lt longest_name n) _ _ (quiet _ refl) (open_named-row names ds mode name))
-
-close-row : (d : Option Descriptor) (fd : ℕ) → IsRow (row_close d fd)
-close-row None fd = quiet _ refl
-close-row (Some d) fd = record { few = each-few pipe_step.Drop (Some d ∷ []) (omega arith) }
-
-seek-row : (d : Option Descriptor) (fd offset : ℕ) → IsRow (row_seek d fd offset)
-seek-row (Some (descriptor.File file old writes)) fd offset = if-row (nat_lt longest_file offset) _ _ (quiet _ refl) (quiet _ refl)
-seek-row (Some (descriptor.Tape t)) fd offset = quiet _ refl
-seek-row (Some (descriptor.Terminal t)) fd offset = quiet _ refl
-seek-row (Some (descriptor.Pipe end)) fd offset = quiet _ refl
-seek-row None fd offset = quiet _ refl
-
-pipe_free-row : (count at : ℕ) (reader writer : Option ℕ) → IsRow (pipe_free count at reader writer)
-pipe_free-row count at (Some reader) (Some writer) =
-    if-row (nat_le most_pipes count) _ _ (quiet _ refl) (record { few = omega arith })
-pipe_free-row count at (Some reader) None = quiet _ refl
-pipe_free-row count at None writer = quiet _ refl
-
-pipe-row : (count : ℕ) (ds : List (Option Descriptor)) (at : ℕ) (fits : Bool) → IsRow (row_pipe count ds at fits)
-pipe-row count ds at fits = if-row (not fits) _ _ (quiet _ refl) (pipe_free-row count at (free_descriptor ds) (free_behind ds (free_descriptor ds)))
-
-fork-row : (count : ℕ) (ds : List (Option Descriptor)) → length ds ≤ 16 → IsRow (row_fork count ds)
-fork-row count ds few = if-row (nat_le most_processes count) _ _ (quiet _ refl) (record { few = each-few pipe_step.Add ds few })
-
-wait_ended-row : (at : ℕ) (children : List ℕ) (o : Option EndedChild) → IsRow (wait_ended at children o)
-wait_ended-row at children None = quiet _ refl
-wait_ended-row at children (Some e) = quiet _ refl
-
-wait-row : (statuses : List (Option ℕ)) (children : List ℕ) (at : ℕ) (fits : Bool) → IsRow (row_wait statuses children at fits)
-wait-row statuses children at fits =
-    if-row (not fits) _ _ (quiet _ refl) (if-row (length children == 0) _ _ (quiet _ refl) (wait_ended-row at children (first_ended statuses children)))
-
-row-row : (s : Seen) (pid : ℕ) (ds : List (Option Descriptor)) (children : List ℕ) (r : Request) → length ds ≤ 16 → IsRow (row s pid ds children r)
-row-row s pid ds children (Exit status) few = record { few = each-few pipe_step.Drop ds few }
-row-row s pid ds children (Write fd n bytes) few = write-row s (descriptor_at ds fd) fd n bytes
-row-row s pid ds children (Read fd at n fits) few = read-row s (descriptor_at ds fd) fd at n fits
-row-row s pid ds children (Open n mode name) few = open-row (names_of s.files) ds n mode name
-row-row s pid ds children (Close fd) few = close-row (descriptor_at ds fd) fd
-row-row s pid ds children (Pipe at fits) few = pipe-row (length s.pipes) ds at fits
-row-row s pid ds children Fork few = fork-row (length s.statuses) ds few
-row-row s pid ds children (Wait at fits) few = wait-row s.statuses children at fits
-row-row s pid ds children GetPid few = quiet _ refl
-row-row s pid ds children (Seek fd offset) few = seek-row (descriptor_at ds fd) fd offset
-row-row s pid ds children Sync few = quiet _ refl
-row-row s pid ds children Unknown few = quiet _ refl
+use Rattle.kernel.specs.Entering.{Sight, IsSightOf, HaveRoom, item_of, machine_after, descriptors_after, status_after, writes_of, MayBeTold, effect_of, planned, PlansEnter}
+use Rattle.kernel.proofs.Lists.{append-none}
 
 -- ---- what comes of an effect is what the plan says
 abbrev planned_told : SyncState → ℕ → Process → Plan → Verdict → Transition
@@ -206,10 +63,6 @@ put-same ps (suc k) p e = by ps k e
     by [] i e = refl
     by (x ∷ xs) zero e = let same : p ≡ x = cc in ap (λ (y : Process). y ∷ xs) same
     by (x ∷ xs) (suc i) e = ap (λ (ys : List Process). x ∷ ys) (by xs i e)
-
-pub append-none : {A : Type 0} (xs : List A) → xs ++ [] ≡ xs
-append-none [] = refl
-append-none (x ∷ xs) = ap (λ ys. x ∷ ys) (append-none xs)
 
 pub all-kept : (cs : List ℕ) → filter (λ child. not (is_collected None child)) cs ≡ cs
 all-kept [] = refl
@@ -377,20 +230,17 @@ waits-nothing plan Waits edits e = edits.0.slots
 waits-nothing plan (Replies r) edits e = cc
 waits-nothing plan (Ends status) edits e = cc
 
-steps-of : (plan : Plan) (e : Effect) → IsPlan plan e → IsRow e → OpensAlone plan.pipes.items → AreSteps plan.pipes.items
-steps-of plan e is few kind = record { kind = kind; few = subst (λ (steps : List PipeStep). length steps ≤ 16) (sym is.pipes) few.few }
-
 -- what is seen, as a state that may be looked at
 abbrev sight_shared : Sight → List PipeState → Seen
 sight_shared seen pipes = record { statuses = statuses_of seen.parts; files = seen.files; pipes = pipes; tapes = seen.tapes }
 
 pub call-plans : (seen : Sight) (pid : ℕ) (s : State) (plan : Plan) → stands_at s ≡ Some Call
-    → length (descriptors_in (part_at seen.parts pid)) ≤ 16 → HaveRoom seen.pipes
+    → HaveRoom seen.pipes
     → ((x : Seen) → IsKept x (statuses_of seen.parts) seen.files seen.pipes seen.tapes
     → IsPlan plan (row x pid (descriptors_in (part_at seen.parts pid)) (children_in (part_at seen.parts pid)) (request_of s)))
-    → AtMostOne plan.change plan.output plan.tape
     → AtMostOneEntry plan.slots.items plan.child plan.collects
     → OpensAlone plan.pipes.items
+    → length plan.pipes.items ≤ 16
     → EditsAs plan.told plan
     → IfSome plan.change (IsPossible seen.files)
     → NamesFiles (length (changed_by seen.files plan.change)) (set_slots (descriptors_in (part_at seen.parts pid)) plan.slots.items)
@@ -400,12 +250,10 @@ pub call-plans : (seen : Sight) (pid : ℕ) (s : State) (plan : Plan) → stands
     → IfSome plan.child (IsNext (length seen.parts))
     → MayBePlaced s.hart.memory plan.told
     → PlansEnter seen pid s plan
-call-plans seen pid s plan stands count ends is edit entry opens edits possible named left may child place =
+call-plans seen pid s plan stands ends is entry opens few edits possible named left may child place =
     let ds : List (Option Descriptor) = descriptors_in (part_at seen.parts pid) in
     let x : Seen = sight_shared seen ends.pipes in
     let look : IsKept x (statuses_of seen.parts) seen.files seen.pipes seen.tapes = record { statuses = refl; files = refl; pipes = ends.shown; tapes = refl } in
-    let e : Effect = row x pid ds (children_in (part_at seen.parts pid)) (request_of s) in
-    let fine : IsRow e = row-row x pid ds (children_in (part_at seen.parts pid)) (request_of s) count in
     record {
       goes = λ state p sight there state_is running.
           let part : part_at seen.parts pid ≡ Some (part_of p) = part-at state seen pid p sight there in
@@ -415,12 +263,11 @@ call-plans seen pid s plan stands count ends is edit entry opens edits possible 
           ∙ ap (λ (t : State). Some (row (shared state) pid ds (children_in (part_at seen.parts pid)) (request_of t))) state_is);
       told = told-row s plan.told stands place;
       edits = edits;
-      one_edit = edit.change_or_output;
       one_child = entry.child_or_collects;
       possible = possible;
       left = left;
       named = names-after (length (changed_by seen.files plan.change)) 0 ds plan.told plan.slots.items named (λ r waits. waits-nothing plan plan.told edits waits);
-      steps = steps-of plan e (is x look) fine opens;
+      steps = record { kind = opens; few = few };
       may = may x ends.most look ends.few ends.room;
       child = child;
     }
@@ -428,11 +275,10 @@ call-plans seen pid s plan stands count ends is edit entry opens edits possible 
 -- ---- at a trap
 pub trap-plans : (seen : Sight) (pid : ℕ) (s : State) (plan : Plan) (cause : Cause) (status : ℕ)
     → stands_at s ≡ Some (Trap cause) → status ≡ 256 + cause_number cause
-    → length (descriptors_in (part_at seen.parts pid)) ≤ 16
     → IsPlan plan (row_end (descriptors_in (part_at seen.parts pid)) status)
-    → EditsAs plan.told plan → OpensAlone plan.pipes.items → MayAllStep seen.pipes plan.pipes.items
+    → EditsAs plan.told plan → OpensAlone plan.pipes.items → length plan.pipes.items ≤ 16 → MayAllStep seen.pipes plan.pipes.items
     → PlansEnter seen pid s plan
-trap-plans seen pid s plan cause status stands number count is edits opens may =
+trap-plans seen pid s plan cause status stands number is edits opens few may =
     let ds : List (Option Descriptor) = descriptors_in (part_at seen.parts pid) in
     record {
       goes = λ state p sight there state_is running.
@@ -443,28 +289,27 @@ trap-plans seen pid s plan cause status stands number count is edits opens may =
           ∙ ap (λ n. Some (row_end ds n)) (sym number));
       told = subst (λ (v : Verdict). MayBeTold s v) (sym is.told) tt;
       edits = edits;
-      one_edit = inl is.change;
       one_child = inl is.child;
       possible = subst (λ (o : Option Change). IfSome o (IsPossible seen.files)) (sym is.change) tt;
       left = subst (λ (o : Option TapeRead). IfSome o (AreLeft seen.tapes)) (sym is.tape) tt;
       named =
           subst (λ (v : Verdict). NamesFiles (length (changed_by seen.files plan.change)) (descriptors_after ds v plan.slots.items)) (sym is.told)
           (closed-names (length (changed_by seen.files plan.change)) ds);
-      steps = steps-of plan (row_end ds status) is (record { few = each-few pipe_step.Drop ds count }) opens;
+      steps = record { kind = opens; few = few };
       may = may;
       child = subst (λ (o : Option ℕ). IfSome o (IsNext (length seen.parts))) (sym is.child) tt;
     }
 
 pub trap-result : {E : Type 0} (seen : Sight) (pid : ℕ) (s : State) (r : Result Plan E) (cause : Cause) (status : ℕ)
     → stands_at s ≡ Some (Trap cause) → status ≡ 256 + cause_number cause
-    → length (descriptors_in (part_at seen.parts pid)) ≤ 16
     → IfOk r (λ plan. IsPlan plan (row_end (descriptors_in (part_at seen.parts pid)) status))
     → IfOk r (λ plan. EditsAs plan.told plan)
     → IfOk r (λ plan. OpensAlone plan.pipes.items)
+    → IfOk r (λ plan. length plan.pipes.items ≤ 16)
     → IfOk r (λ plan. MayAllStep seen.pipes plan.pipes.items)
     → IfOk r (λ plan. PlansEnter seen pid s plan)
-trap-result seen pid s (Ok plan) cause status stands number count is edits opens may = trap-plans seen pid s plan cause status stands number count is edits opens may
-trap-result seen pid s (Err e) cause status stands number count is edits opens may = tt
+trap-result seen pid s (Ok plan) cause status stands number is edits opens few may = trap-plans seen pid s plan cause status stands number is edits opens few may
+trap-result seen pid s (Err e) cause status stands number is edits opens few may = tt
 
 -- a state that stands somewhere, and at no trap, stands at a call
 pub stands-call : (s : State) (stop : Stop) → stands_at s ≡ Some stop → ((c : Cause) → stop ≡ Trap c → ⊥) → stop ≡ Call
@@ -479,12 +324,12 @@ stands-call s Limit h none = by (next s) refl h
 -- the same of a result
 pub result-plans : {E : Type 0} (seen : Sight) (pid : ℕ) (s : State) (r : Result Plan E) (request : Request)
     → stands_at s ≡ Some Call → request ≡ request_of s
-    → length (descriptors_in (part_at seen.parts pid)) ≤ 16 → HaveRoom seen.pipes
+    → HaveRoom seen.pipes
     → ((x : Seen) → IsKept x (statuses_of seen.parts) seen.files seen.pipes seen.tapes
     → IfOk r (λ plan. IsPlan plan (row x pid (descriptors_in (part_at seen.parts pid)) (children_in (part_at seen.parts pid)) request)))
-    → IfOk r (λ plan. AtMostOne plan.change plan.output plan.tape)
     → IfOk r (λ plan. AtMostOneEntry plan.slots.items plan.child plan.collects)
     → IfOk r (λ plan. OpensAlone plan.pipes.items)
+    → IfOk r (λ plan. length plan.pipes.items ≤ 16)
     → IfOk r (λ plan. EditsAs plan.told plan)
     → IfOk r (λ plan. IfSome plan.change (IsPossible seen.files))
     → IfOk r (λ plan. NamesFiles (length (changed_by seen.files plan.change)) (set_slots (descriptors_in (part_at seen.parts pid)) plan.slots.items))
@@ -494,8 +339,8 @@ pub result-plans : {E : Type 0} (seen : Sight) (pid : ℕ) (s : State) (r : Resu
     → IfOk r (λ plan. IfSome plan.child (IsNext (length seen.parts)))
     → IfOk r (λ plan. (t : State) → request ≡ request_of t → MayBePlaced t.hart.memory plan.told)
     → IfOk r (λ plan. PlansEnter seen pid s plan)
-result-plans seen pid s (Ok plan) request stands asks count ends is edit entry opens edits possible named left may child place =
-    call-plans seen pid s plan stands count ends
+result-plans seen pid s (Ok plan) request stands asks ends is entry opens few edits possible named left may child place =
+    call-plans seen pid s plan stands ends
     (λ x look. subst (λ (q : Request). IsPlan plan (row x pid (descriptors_in (part_at seen.parts pid)) (children_in (part_at seen.parts pid)) q)) asks (is x look))
-    edit entry opens edits possible named left may child (place s asks)
-result-plans seen pid s (Err e) request stands asks count ends is edit entry opens edits possible named left may child place = tt
+    entry opens few edits possible named left may child (place s asks)
+result-plans seen pid s (Err e) request stands asks ends is entry opens few edits possible named left may child place = tt

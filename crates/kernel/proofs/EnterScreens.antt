@@ -5,10 +5,12 @@ use Rattle.kernel_model.specs.Entries.{Entry}
 use Rattle.kernel_model.specs.Shown.{Given, given_by, printed, bytes_for}
 use Rattle.kernel_model.specs.declared.effect.Output.{Output}
 use Rattle.kernel_model.proofs.Runs.{printed-entry}
+use Rattle.kernel.specs.Entering.{IsPrinted}
 use Rattle.kernel.specs.Marked.{AreMarked, whats, front_of}
 use Rattle.kernel.specs.Seen.{IsScreen, AreScreens}
 use Rattle.kernel.specs.declared.screen.Screen.{Screen}
-use Rattle.kernel.proofs.EnterLists.{get-set, get-within, length-set-at, are-marked-more, whats-more, append-none, bytes-here, bytes-elsewhere}
+use Rattle.kernel.proofs.EnterLists.{are-marked-more, whats-more, bytes-here, bytes-elsewhere}
+use Rattle.kernel.proofs.Lists.{get-within, get-set, length-set-at, append-none}
 
 -- a screen to which the event writes nothing stays
 pub screen-stays : (c : ℕ) (log : List Entry) (e : Entry) (t : ℕ) (s : Screen) → bytes_for t e.output ≡ [] → IsScreen c log t s → IsScreen c (log ++ e ∷ []) t s
@@ -20,12 +22,6 @@ screen-stays c log e t s none h =
       marks = subst (λ (gs : List (Given ℕ)). AreMarked gs s.marks.items) (sym same) h.marks;
       shown = h.shown;
     }
-
--- the screen after bytes of one more event
-pub record IsPrinted (c : ℕ) (bytes : List ℕ) (mark : ℕ) (old new : Screen) : Type 0 where
-  pub bytes_more : new.bytes.items ≡ old.bytes.items ++ bytes
-  pub marks_more : new.marks.items ≡ old.marks.items ++ replicate (length bytes) mark
-  pub shown : new.shown ≡ front_of c new.marks.items
 
 pub screen-printed : (c : ℕ) (log : List Entry) (e : Entry) (t : ℕ) (bytes : List ℕ) (mark : ℕ) (s s' : Screen)
     → bytes_for t e.output ≡ bytes → IsMarkOf mark log e → IsPrinted c bytes mark s s' → IsScreen c log t s → IsScreen c (log ++ e ∷ []) t s'

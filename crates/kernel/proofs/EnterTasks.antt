@@ -1,5 +1,5 @@
 -- Tasks after an Enter.
-use Rattle.std.proofs.Common.{◌≡◌, ℕ, zero, suc, ◌+◌, ◌^◌, ◌<◌, ◌≤◌, ◌⊎◌, ◌==◌, ◌&&◌, inl, inr, Bool, true, false, List, [], ◌∷◌, ◌++◌, length, map, replicate, slice_get, slice_set, Option, Some, None, is_some, IfSome, if◌then◌else◌, option_to_list, refl, sym, ap, subst, ◌∙◌, arith}
+use Rattle.std.proofs.Common.{◌≡◌, ℕ, suc, ◌+◌, ◌^◌, ◌<◌, ◌≤◌, ◌==◌, ◌&&◌, inl, inr, Bool, true, false, List, [], ◌∷◌, ◌++◌, length, map, replicate, slice_get, slice_set, Option, Some, None, is_some, IfSome, if◌then◌else◌, option_to_list, refl, sym, ap, subst, ◌∙◌, arith}
 use Rattle.std.proofs.lemmas.Bool.{eq-eqb, ne_eqb}
 use Rattle.disk_model.specs.declared.change.Change.{Change}
 use Rattle.disk_model.specs.declared.change.Change.TheVariants.{Create, Write, Empty}
@@ -22,18 +22,18 @@ use Rattle.kernel_model.specs.declared.descriptor.Descriptor.{Descriptor}
 use Rattle.kernel_model.specs.declared.descriptor.Descriptor.TheVariants as descriptor
 use Rattle.kernel_model.specs.declared.request.Verdict.{Verdict}
 use Rattle.kernel_model.specs.declared.request.Verdict.TheVariants.{Waits, Replies, Ends}
-use Rattle.kernel.specs.Entering.{item_of, machine_after, status_after, writes_of, replies_of, reply_marks, end_after, entry_of, process_after, planned, IsTold, IsForked, IsChild}
+use Rattle.kernel.specs.Entering.{item_of, machine_after, status_after, writes_of, replies_of, reply_marks, end_after, entry_of, process_after, planned, IsTold, IsForked, MakesTask}
 use Rattle.kernel.specs.Marked.{AreMarked, whats}
 use Rattle.kernel.specs.Mirrors.{IsTask, AreTasks}
 use Rattle.kernel.specs.Seen.{IsTrace, end_items, end_marks}
 use Rattle.kernel.specs.Tasks.{machine_of, out_of, process_of, bare, needed, status_of}
 use Rattle.kernel.specs.Waiting.{is_asleep, told_after, waited_after}
-use Rattle.kernel.specs.declared.plan.Entering.{Entering}
 use Rattle.kernel.specs.declared.task.Task.{Task}
 use Rattle.kernel.specs.declared.trace.End.{End}
 use Rattle.kernel.specs.declared.trace.Trace.{Trace}
 use Rattle.kernel.proofs.EnterFine.{IsFineTask}
-use Rattle.kernel.proofs.EnterLists.{map-set, get-set, length-set-at, are-marked-more, whats-more, append-none, items-here, items-elsewhere}
+use Rattle.kernel.proofs.EnterLists.{are-marked-more, whats-more, items-here, items-elsewhere}
+use Rattle.kernel.proofs.Lists.{map-set, get-within, get-set, length-snoc, length-set-at, map-append, append-none, get-joined}
 use Rattle.kernel.proofs.Quiet.{told-own, told-made, waiting-more}
 use Rattle.kernel.proofs.Turning.{IsProcessOf}
 
@@ -88,10 +88,6 @@ since-told (Ends status) told waited h = since-more told (told + 1) waited (omeg
 with_bytes-length : (files : List NamedFile) (place : ℕ) (o : Option NamedFile) (f : List ℕ → List ℕ) → length (with_bytes files place o f) ≡ length files
 with_bytes-length files place None f = refl
 with_bytes-length files place (Some file) f = length-set-at files place (record { name = file.name; bytes = f file.bytes })
-
-pub length-snoc : {A : Type 0} (xs : List A) (x : A) → length (xs ++ x ∷ []) ≡ length xs + 1
-length-snoc [] x = omega arith
-length-snoc (y ∷ ys) x = let rest : length (ys ++ x ∷ []) ≡ length ys + 1 = length-snoc ys x in omega arith
 
 changed-grows : (files : List NamedFile) (c : Change) → length files ≤ length (changed files c)
 changed-grows files (Create name) = let more = length-snoc files (record { name = name; bytes = [] }) in omega arith
@@ -297,30 +293,6 @@ child-task w before pid place n full q t u plan mark number fine child is tells 
     }
 
 -- ---- the list of them
-pub map-append : {A B : Type 0} (f : A → B) (xs ys : List A) → map f (xs ++ ys) ≡ map f xs ++ map f ys
-map-append f [] ys = refl
-map-append f (x ∷ xs) ys = ap (λ zs. f x ∷ zs) (map-append f xs ys)
-
-pub get-joined : {A : Type 0} (xs : List A) (o : Option A) (i : ℕ) (y : A) → slice_get (xs ++ option_to_list o) i ≡ Some y
-    → (slice_get xs i ≡ Some y) ⊎ ((i ≡ length xs) × (o ≡ Some y))
-get-joined [] None i y e = cc
-get-joined [] (Some x) zero y e = inr (refl, e)
-get-joined [] (Some x) (suc i) y e = cc
-get-joined (z ∷ zs) o zero y e = inl e
-get-joined (z ∷ zs) o (suc i) y e = elim (get-joined zs o i y e) [
-  | inl h ↦ inl h
-  | inr h ↦ inr (ap (λ n. suc n) h.0, h.1)
-]
-
-pub get-within : {A : Type 0} (xs : List A) (i : ℕ) (x : A) → slice_get xs i ≡ Some x → i < length xs
-get-within [] i x e = cc
-get-within (y ∷ ys) zero x e = omega arith
-get-within (y ∷ ys) (suc i) x e = let rest : i < length ys = get-within ys i x e in omega arith
-
-pub length-map : {A B : Type 0} (f : A → B) (xs : List A) → length (map f xs) ≡ length xs
-length-map f [] = refl
-length-map f (x ∷ xs) = ap (λ n. suc n) (length-map f xs)
-
 status-by : (v : Verdict) (mark : ℕ) → status_of (end_after v mark None) ≡ status_after v None
 status-by Waits mark = refl
 status-by (Replies r) mark = refl
@@ -336,31 +308,30 @@ process-told q t t' full plan mark c before fine state running new =
     (new.machine ∙ ap (λ (s : State). machine_after s plan.told) (sym state))
     ∙ ap (λ (o : Option ℕ). record { state = machine_after q.state plan.told; descriptors = []; children = []; status = o }) status
 
-process-made : (e : Entering) (c : ℕ) (q : Process) (t : Task) (o : Option Task) → q.state ≡ machine_of t → IsChild e c (machine_of t) t.trace o
-    → map process_of (option_to_list o) ≡ map bare (forked q e.plan.child)
-process-made e c q t None state made = ap (λ (x : Option ℕ). map bare (forked q x)) (sym made)
-process-made e c q t (Some u) state made =
+process-made : (number : Option ℕ) (mark c : ℕ) (q : Process) (t : Task) (o : Option Task) → q.state ≡ machine_of t → MakesTask number mark c (machine_of t) t.trace o
+    → map process_of (option_to_list o) ≡ map bare (forked q number)
+process-made number mark c q t None state made = ap (λ (x : Option ℕ). map bare (forked q x)) (sym made)
+process-made number mark c q t (Some u) state made =
     ap (λ (s : State). record { state = s; descriptors = []; children = []; status = status_of u.trace.end } ∷ [])
     (made.1.machine ∙ ap (λ (s : State). replied s zero_reply) (sym state))
     ∙ ap (λ (x : Option End). record { state = replied q.state zero_reply; descriptors = []; children = []; status = status_of x } ∷ []) made.1.end
     ∙ ap (λ (x : Option ℕ). map bare (forked q x)) (sym made.0)
 
 -- the made process is that which its plan names
-child-is : (e : Entering) (c : ℕ) (s : State) (r : Trace) (o : Option Task) (u : Task) → o ≡ Some u → IsChild e c s r o
-    → (e.plan.child ≡ Some u.pid) × IsForked e.mark c s r u
-child-is e c s r o u is made = let P : Option Task → Type 0 = λ x. IsChild e c s r x in subst P is made
+child-is : (number : Option ℕ) (mark c : ℕ) (s : State) (r : Trace) (o : Option Task) (u : Task) → o ≡ Some u → MakesTask number mark c s r o
+    → (number ≡ Some u.pid) × IsForked mark c s r u
+child-is number mark c s r o u is made = let P : Option Task → Type 0 = λ x. MakesTask number mark c s r x in subst P is made
 
-pub told-tasks : (w : World) (before : ℕ) (tasks : List Task) (pid place : ℕ) (full : Bool) (t t' : Task) (e : Entering) (child : Option Task)
+pub told-tasks : (w : World) (before : ℕ) (tasks : List Task) (pid place : ℕ) (full : Bool) (t t' : Task) (plan : Plan) (mark : ℕ) (child : Option Task)
     → pid ≡ place + 1 → slice_get tasks place ≡ Some t → IsFineTask t full → (of : IsProcessOf w.sync.processes pid t)
-    → IfSome e.plan.child (IsNext (length tasks))
-    → (is_some e.plan.child ≡ true → is_some (item_of e.plan.told) ≡ true)
-    → IsMarkOf e.mark w.log (entry_of pid e.plan)
-    → IsTold e.plan.told e.mark w.storage.committed before t t'
-    → IsChild e w.storage.committed (machine_of t) t.trace child
+    → IfSome plan.child (IsNext (length tasks))
+    → (is_some plan.child ≡ true → is_some (item_of plan.told) ≡ true)
+    → IsMarkOf mark w.log (entry_of pid plan)
+    → IsTold plan.told mark w.storage.committed before t t'
+    → MakesTask plan.child mark w.storage.committed (machine_of t) t.trace child
     → AreTasks w before tasks
-    → AreTasks (world_after w (planned w.sync pid of.process e.plan)) (told_after e.plan.told before) (slice_set tasks place t' ++ option_to_list child)
-told-tasks w before tasks pid place full t t' e child number there fine of next tells is_mark new made h =
-    let plan : Plan = e.plan in
+    → AreTasks (world_after w (planned w.sync pid of.process plan)) (told_after plan.told before) (slice_set tasks place t' ++ option_to_list child)
+told-tasks w before tasks pid place full t t' plan mark child number there fine of next tells is_mark new made h =
     let q : Process = of.process in
     let v : World = world_after w (planned w.sync pid q plan) in
     let after : ℕ = told_after plan.told before in
@@ -373,24 +344,24 @@ told-tasks w before tasks pid place full t t' e child number there fine of next 
           ∙ ap (λ (ps : List Process). ps ++ map process_of (option_to_list child))
           (map-set process_of tasks place t'
           ∙ ap (λ (ps : List Process). slice_set ps place (process_of t')) h.processes
-          ∙ ap (λ (p : Process). slice_set (map bare w.sync.processes) place p) (process-told q t t' full plan e.mark w.storage.committed before fine of.state running new)
+          ∙ ap (λ (p : Process). slice_set (map bare w.sync.processes) place p) (process-told q t t' full plan mark w.storage.committed before fine of.state running new)
           ∙ sym (map-set bare w.sync.processes place (process_after q plan))
           ∙ ap (λ n. map bare (put_process w.sync.processes n (process_after q plan))) (sym behind))
           ∙ ap (λ (ps : List Process). map bare (put_process w.sync.processes pid (process_after q plan)) ++ ps)
-          (process-made e w.storage.committed q t child of.state made)
+          (process-made plan.child mark w.storage.committed q t child of.state made)
           ∙ sym (map-append bare (put_process w.sync.processes pid (process_after q plan)) (forked q plan.child));
       each = λ k u at. elim (get-joined (slice_set tasks place t') child k u at) as (λ _. IsTask v after k u) [
         | inl g ↦ elim (get-set tasks place k t' u g) as (λ _. IsTask v after k u) [
           | inl s ↦
               subst (λ (x : Task). IsTask v after k x) (sym s.1)
               (subst (λ (j : ℕ). IsTask v after j t') (sym s.0)
-              (told-task w before pid place (length tasks) full q t t' plan e.mark number (get-within tasks place t there) fine next is_mark new (h.each place t there)))
+              (told-task w before pid place (length tasks) full q t t' plan mark number (get-within tasks place t there) fine next is_mark new (h.each place t there)))
           | inr s ↦ other-task w before pid place k (length tasks) q u plan number s.0 (get-within tasks k u s.1) next (h.each k u s.1)
         ]
         | inr g ↦
-            (let one = child-is e w.storage.committed (machine_of t) t.trace child u g.1 made in
+            (let one = child-is plan.child mark w.storage.committed (machine_of t) t.trace child u g.1 made in
             subst (λ (j : ℕ). IsTask v after j u) (sym (g.0 ∙ size))
-            (child-task w before pid place (length tasks) full q t u plan e.mark number fine next one.0
+            (child-task w before pid place (length tasks) full q t u plan mark number fine next one.0
             (tells (ap (λ (o : Option ℕ). is_some o) one.0)) is_mark one.1 (h.each place t there)))
       ];
     }

@@ -3,20 +3,20 @@ use Rattle.std.proofs.Common.{◌≡◌, ℕ, suc, ◌+◌, ◌*◌, ◌^◌, �
 use Rattle.std.specs.List.{AllByRecursion}
 use Rattle.disk_model.specs.declared.change.Change.{Change}
 use Rattle.disk_model.specs.declared.change.NamedFile.{NamedFile}
-use Rattle.disk_model.specs.Files.{Follow, files_after}
+use Rattle.disk_model.specs.Files.{IsFormed, IsMade, MayCome, changed}
+use Rattle.disk_model.specs.Rebuild.{CanBeRebuilt}
 use Rattle.disk_model.specs.Storage.{Storage}
-use Rattle.disk_model.proofs.Reading.{files_after-append, follow_both}
-use Rattle.disk_model.proofs.Tidy.{IsTidyFile, IsTidy, tidy_after}
 use Rattle.machine_model.specs.States.{State}
 use Rattle.machine_model.specs.declared.reply.Reply.{Reply}
 use Rattle.calls.specs.Plans.{IsPossible, NamesFiles, EditsAs, IsNext, all_seen}
 use Rattle.calls.specs.declared.plan.Plan.{Plan}
 use Rattle.commit_deps.specs.Keeps.{Keeps}
+use Rattle.commit_deps.specs.Kept.{Kept}
 use Rattle.commit_deps.specs.Marks.{IsMarkOf}
 use Rattle.commit_deps.specs.declared.dependencies.Marked.{Marked}
 use Rattle.pipes.specs.Seen.{Seen}
 use Rattle.processes.specs.Parts.{Part, part_of, part_at, descriptors_in}
-use Rattle.kernel_model.specs.Answers.{Lending, with_child}
+use Rattle.kernel_model.specs.Answers.{Lending, outcome_of, with_child}
 use Rattle.kernel_model.specs.Entries.{Entry, Got}
 use Rattle.kernel_model.specs.Shown.{told as told-of}
 use Rattle.kernel.specs.declared.trace.End.{End}
@@ -25,25 +25,36 @@ use Rattle.kernel_model.specs.State.{Process, TapeState, changed_by, read_by}
 use Rattle.kernel_model.specs.Steps.{Transition, step}
 use Rattle.kernel_model.specs.World.{World, happens}
 use Rattle.kernel_model.proofs.Runs.{changes_of-entry, append-nil}
+use Rattle.kernel_model.specs.declared.answer.Outcome.{Outcome}
 use Rattle.kernel_model.specs.declared.event.Event.TheVariants.{Enter}
 use Rattle.kernel_model.specs.declared.request.Verdict.{Verdict}
 use Rattle.kernel_model.specs.declared.request.Verdict.TheVariants.{Waits, Replies, Ends}
-use Rattle.kernel.specs.Entering.{Sight, IsSightOf, item_of, descriptors_after, seen_of, MayPlan, entry_of, parts_after, planned, PlansEnter, IsEntering, IsTold, IsChild, IsReadied, IsNoted, IsEntered, IsSameTask, IsSameShared}
+use Rattle.kernel.specs.Entering.{Sight, IsSightOf, item_of, descriptors_after, seen_of, MayPlan, entry_of, parts_after, planned, PlansEnter, IsToldTrace, MakesTask, IsNoted, IsFinished, IsEntered, IsDone, IsTold, IsSameTrace, IsSameTask, IsSharedWith, IsSameShared}
 use Rattle.kernel.specs.Marked.{AreMarked, front_of}
 use Rattle.kernel.specs.Mirrors.{IsTask, AreTasks, IsPart, AreChanges, AreParts, ArePipes, Mirrors}
 use Rattle.kernel.specs.Seen.{AreScreens, end_items, end_marks}
+use Rattle.kernel.specs.Settling.{marked_with}
 use Rattle.kernel.specs.Tasks.{machine_of, out_of, process_of, bare, lending_of, status_of, needed}
 use Rattle.kernel.specs.Waiting.{is_asleep, told_after}
-use Rattle.kernel.specs.declared.plan.Entering.{Entering}
-use Rattle.kernel.specs.declared.screen.Screen.{Screen}
 use Rattle.kernel.specs.declared.shared.Shared.{Shared}
 use Rattle.kernel.specs.declared.task.Task.{Task}
+use Rattle.kernel.specs.declared.trace.Trace.{Trace}
 use Rattle.kernel.proofs.EnterFine.{IsFineTask}
-use Rattle.kernel.proofs.EnterLists.{map-set-same, get-set}
-use Rattle.kernel.proofs.EnterParts.{all-at, parts-planned, pipes-planned, counted-quiet}
+use Rattle.kernel.proofs.EnterParts.{parts-planned, pipes-planned, counted-quiet}
 use Rattle.kernel.proofs.EnterPlans.{part-seen}
-use Rattle.kernel.proofs.EnterTasks.{world_after, told-tasks, told-by-one, length-map, map-append, get-within}
+use Rattle.kernel.proofs.EnterTasks.{world_after, told-tasks, told-by-one}
+use Rattle.kernel.proofs.Lists.{get-within, get-set, map-set-same, length-map, map-append, all-at, all-both}
+use Rattle.kernel.proofs.Telling.{trace-then}
 use Rattle.kernel.proofs.Turning.{IsProcessOf, process-there}
+
+-- ---- the laws of the disk
+-- a checkpoint of files that possible changes made is possible
+abbrev pub RebuiltLaw : Type 0
+RebuiltLaw = (files : List NamedFile) → IsMade files → CanBeRebuilt files
+
+-- files that possible changes made are such files still after one more
+abbrev pub ChangeLaw : Type 0
+ChangeLaw = (files : List NamedFile) (change : Change) → IsMade files → IsFormed change → MayCome files change → IsMade (changed files change)
 
 -- ---- what the plan rests on
 pub sight-is : (w : World) (tasks : List Task) (s : Shared) → Mirrors w tasks s → IsSightOf w.sync (seen_of s)
@@ -58,20 +69,16 @@ as-many w tasks s h =
     ∙ sym (length-map part_of w.sync.processes)
     ∙ ap (λ (xs : List Part). length xs) (sym h.parts.same)
 
-each-short : (files : List NamedFile) → AllByRecursion IsTidyFile files → AllByRecursion (λ (f : NamedFile). length f.bytes ≤ 16384) files
-each-short [] h = tt
-each-short (f ∷ fs) h = (h.0.short, each-short fs h.1)
-
 -- what the table has of a process
 pub part-there : (w : World) (tasks : List Task) (s : Shared) (pid : ℕ) (t : Task) → Mirrors w tasks s → (of : IsProcessOf w.sync.processes pid t)
     → part_at s.processes.parts pid ≡ Some (part_of of.process)
 part-there w tasks s pid t h of = ap (λ (xs : List Part). part_at xs pid) h.parts.same ∙ part-seen w.sync.processes pid of.process of.there
 
-pub may-plan : (w : World) (tasks : List Task) (s : Shared) (pid place : ℕ) (t : Task) → Mirrors w tasks s → length w.log ≤ 2 ^ 40
+pub may-plan : RebuiltLaw → (w : World) (tasks : List Task) (s : Shared) (pid place : ℕ) (t : Task) → Mirrors w tasks s → length w.log ≤ 2 ^ 40
     → pid ≡ place + 1 → slice_get tasks place ≡ Some t → MayPlan (seen_of s) pid
-may-plan w tasks s pid place t h short number there =
-    let tidy : IsTidy s.files =
-    subst (λ (fs : List NamedFile). IsTidy fs) (sym (h.changes.files ∙ h.changes.made)) (tidy_after (changes_of w.log) h.changes.possible) in
+may-plan law w tasks s pid place t h short number there =
+    let made : IsMade s.files = subst (λ (fs : List NamedFile). IsMade fs) (sym h.changes.files) h.changes.made in
+    let rebuilt : CanBeRebuilt s.files = law s.files made in
     let of : IsProcessOf w.sync.processes pid t = process-there w s.told tasks pid place t h.each number there in
     let at : part_at s.processes.parts pid ≡ Some (part_of of.process) = part-there w tasks s pid t h of in
     let next : pid ≡ suc place = omega arith in
@@ -82,14 +89,11 @@ may-plan w tasks s pid place t h short number there =
     record {
       from_1 = omega (arith, number);
       there = omega (arith, number, within, size);
-      few = tidy.few;
-      short = each-short s.files tidy.each;
+      few = rebuilt.few;
+      short = rebuilt.short;
       named =
           subst (λ (o : Option Part). NamesFiles (length s.files) (descriptors_in o)) (sym at)
           (subst (λ (fs : List NamedFile). NamesFiles (length fs) of.process.descriptors) (sym h.changes.files) part.named);
-      count =
-          subst (λ (o : Option Part). length (descriptors_in o) ≤ 16) (sym at)
-          (let size : length of.process.descriptors ≡ 16 = part.count in omega (arith, size));
       ends = record { pipes = w.sync.pipes; most = 16 * length w.log; shown = h.pipes.shown; few = h.pipes.few; room = omega (arith, short) };
     }
 
@@ -104,37 +108,32 @@ pub enter-happens : (w : World) (pid : ℕ) (t : Transition) → step w.sync (En
 enter-happens w pid t goes = ap (λ (x : Transition). world_after w x) goes
 
 -- ---- the changes
-follow-one : (files : List NamedFile) (o : Option Change) → IfSome o (IsPossible files) → Follow files (option_to_list o)
-follow-one files None h = tt
-follow-one files (Some c) h = (h.0, h.1, tt)
+made-one : ChangeLaw → (files : List NamedFile) (o : Option Change) → IfSome o (IsPossible files) → IsMade files → IsMade (changed_by files o)
+made-one law files None h made = made
+made-one law files (Some c) h made = law files c made h.0 h.1
 
-made-one : (files : List NamedFile) (o : Option Change) → changed_by files o ≡ files_after files (option_to_list o)
-made-one files None = refl
-made-one files (Some c) = refl
+formed-one : (files : List NamedFile) (o : Option Change) → IfSome o (IsPossible files) → AllByRecursion IsFormed (option_to_list o)
+formed-one files None h = tt
+formed-one files (Some c) h = (h.0, tt)
 
-changes-more : (w : World) (t : Transition) (s s' : Shared) (change : Option Change)
+changes-more : ChangeLaw → (w : World) (t : Transition) (s s' : Shared) (change : Option Change)
     → t.entry.change ≡ change → t.state.files ≡ changed_by w.sync.files change
     → IfSome change (IsPossible s.files)
     → s'.changes.items ≡ s.changes.items ++ option_to_list change → s'.files ≡ changed_by s.files change
     → AreChanges w s → AreChanges (world_after w t) s'
-changes-more w t s s' change makes files possible more new h =
+changes-more law w t s s' change makes files possible more new h =
     let one : List Change = option_to_list change in
     let all : changes_of (w.log ++ t.entry ∷ []) ≡ changes_of w.log ++ one =
     changes_of-entry w.log t.entry ∙ ap (λ (o : Option Change). changes_of w.log ++ option_to_list o) makes in
-    let made : s.files ≡ files_after [] (changes_of w.log) = h.files ∙ h.made in
+    let same : s'.files ≡ t.state.files = new ∙ ap (λ (fs : List NamedFile). changed_by fs change) h.files ∙ sym files in
+    let made : IsMade s.files = subst (λ (fs : List NamedFile). IsMade fs) (sym h.files) h.made in
     record {
       changes = more ∙ ap (λ (cs : List Change). cs ++ one) h.changes ∙ sym all;
-      possible =
-          subst (λ (cs : List Change). Follow [] cs) (sym all)
-          (follow_both [] (changes_of w.log) one h.possible
-          (subst (λ (fs : List NamedFile). Follow fs one) made (follow-one s.files change possible)));
-      files = new ∙ ap (λ (fs : List NamedFile). changed_by fs change) h.files ∙ sym files;
-      made =
-          files
-          ∙ ap (λ (fs : List NamedFile). changed_by fs change) h.made
-          ∙ made-one (files_after [] (changes_of w.log)) change
-          ∙ sym (files_after-append [] (changes_of w.log) one)
-          ∙ ap (λ (cs : List Change). files_after [] cs) (sym all);
+      formed =
+          subst (λ (cs : List Change). AllByRecursion IsFormed cs) (sym all)
+          (all-both IsFormed (changes_of w.log) one h.formed (formed-one s.files change possible));
+      files = same;
+      made = subst (λ (fs : List NamedFile). IsMade fs) (sym new ∙ same) (made-one law s.files change possible made);
     }
 
 -- the lendings stay
@@ -151,110 +150,136 @@ makes-told plan Waits edits makes = let none : is_some plan.child ≡ false = ap
 makes-told plan (Replies r) edits makes = refl
 makes-told plan (Ends status) edits makes = refl
 
-pub entered-at : (w : World) (tasks : List Task) (s s' : Shared) (pid place : ℕ) (full : Bool) (t t' : Task) (e : Entering) (child : Option Task)
-    → Mirrors w tasks s → pid ≡ place + 1 → slice_get tasks place ≡ Some t → IsFineTask t full
-    → e.pid ≡ pid
-    → PlansEnter (seen_of s) pid (machine_of t) e.plan
-    → e.writes.items ≡ (entry_of pid e.plan).writes
-    → IsMarkOf e.mark w.log (entry_of pid e.plan)
-    → IsTold e.plan.told e.mark s.disk.committed s.told t t'
-    → IsChild e s.disk.committed (machine_of t) t.trace child
-    → IsEntered e s s'
-    → Mirrors (happens w (Enter pid)) (slice_set tasks place t' ++ option_to_list child) s'
-entered-at w tasks s s' pid place full t t' e child h number there fine named plans writes is_mark told made done =
-    let x : Entry = entry_of pid e.plan in
-    let of : IsProcessOf w.sync.processes pid t = process-there w s.told tasks pid place t h.each number there in
-    let committed : s.disk.committed ≡ w.storage.committed = ap (λ (st : Storage). st.committed) h.disk in
-    let goes : step w.sync (Enter pid) ≡ planned w.sync pid of.process e.plan =
-    enter-steps w (seen_of s) pid full t e.plan of (sight-is w tasks s h) fine plans in
-    let v : World = world_after w (planned w.sync pid of.process e.plan) in
-    let size : length s.processes.parts ≡ length tasks = sym (as-many w tasks s h) in
-    let at : part_at s.processes.parts pid ≡ Some (part_of of.process) = part-there w tasks s pid t h of in
-    subst (λ (y : World). Mirrors y (slice_set tasks place t' ++ option_to_list child) s') (sym (enter-happens w pid (planned w.sync pid of.process e.plan) goes)) (record {
-      each =
-          subst (λ (n : ℕ). AreTasks v n (slice_set tasks place t' ++ option_to_list child)) (sym done.told)
-          (told-tasks w s.told tasks pid place full t t' e child number there fine of
-          (subst (λ (n : ℕ). IfSome e.plan.child (IsNext n)) size plans.child)
-          (makes-told e.plan e.plan.told plans.edits) is_mark
-          (subst (λ (c : ℕ). IsTold e.plan.told e.mark c s.told t t') committed told)
-          (subst (λ (c : ℕ). IsChild e c (machine_of t) t.trace child) committed made) h.each);
-      changes = changes-more w (planned w.sync pid of.process e.plan) s s' e.plan.change refl refl plans.possible done.changes done.files h.changes;
-      tapes = done.tapes ∙ ap (λ (ts : List TapeState). read_by ts e.plan.tape) h.tapes;
-      parts =
-          parts-planned w s.processes.parts s'.processes.parts pid of.process e.plan h.parts of.there
-          (subst (λ (fs : List NamedFile). NamesFiles (length (changed_by fs e.plan.change)) (descriptors_after of.process.descriptors e.plan.told e.plan.slots.items)) h.changes.files
-          (subst (λ (o : Option Part). NamesFiles (length (changed_by s.files e.plan.change)) (descriptors_after (descriptors_in o) e.plan.told e.plan.slots.items)) at plans.named))
-          (subst (λ (k : ℕ). s'.processes.parts ≡ parts_after s.processes.parts k e.plan) named done.parts);
-      pipes =
-          subst (λ (y : List Seen). ArePipes v y) (sym done.pipes)
-          (pipes-planned w s.pipes e.plan.pipes.items (planned w.sync pid of.process e.plan) refl plans.steps.few plans.may h.pipes);
-      counted =
-          counted-quiet w v s.told s'.told x refl
-          (let one : told_after e.plan.told s.told ≤ s.told + 1 = told-by-one e.plan.told s.told in
-          let is : s'.told ≡ told_after e.plan.told s.told = done.told in omega (arith, one, is)) h.counted;
-      kept = done.kept w.log x h.kept is_mark (sym writes);
-      screens =
-          subst (λ (c : ℕ). AreScreens c (w.log ++ x ∷ []) s'.screens.items) committed
-          (done.screens w.log x (subst (λ (c : ℕ). AreScreens c w.log s.screens.items) (sym committed) h.screens) is_mark refl);
-      disk = done.disk ∙ h.disk;
-    })
+-- the marks and the event's own mark
+pub noted-mark : (w : World) (s : Shared) (x : Entry) (marks : List Marked) (mark : ℕ) → IsNoted x (length s.changes.items) s.dependencies.marks marks mark
+    → AreChanges w s → Keeps w.log s.dependencies.marks → IsMarkOf mark w.log x × Keeps (w.log ++ x ∷ []) marks
+noted-mark w s x marks mark noted changes kept =
+    let count : length (changes_of w.log) ≡ length s.changes.items = ap (λ (cs : List Change). length cs) (sym changes.changes) in
+    (noted.says w.log kept count, noted.kept w.log kept count)
 
-pub entering-mark : (w : World) (tasks : List Task) (s : Shared) (pid : ℕ) (m : State) (e : Entering) → Mirrors w tasks s
-    → IsEntering s.dependencies.marks (length s.changes.items) (seen_of s) pid m e
-    → IsMarkOf e.mark w.log (entry_of pid e.plan)
-entering-mark w tasks s pid m e h ready = ready.mark w.log h.kept (ap (λ (cs : List Change). length cs) (sym h.changes.changes))
+-- the run after an Enter that is done, what it came to, and how the processes stand with their loans then
+pub record IsRun (w : World) (pid : ℕ) (tasks new : List Task) (s' : Shared) (outcome : Outcome) : Type 0 where
+  pub mirrors : Mirrors (happens w (Enter pid)) new s'
+  pub outcome_is : outcome ≡ outcome_of (step w.sync (Enter pid)).entry.item
+  pub child : Option ℕ
+  pub child_is : child ≡ (step w.sync (Enter pid)).entry.child
+  pub lendings : map lending_of new ≡ with_child (map lending_of tasks) child
 
-pub entered-mirrors : (w : World) (tasks : List Task) (s s' : Shared) (pid place : ℕ) (full : Bool) (t t' : Task) (e : Entering) (child : Option Task)
-    → Mirrors w tasks s → pid ≡ place + 1 → slice_get tasks place ≡ Some t → IsFineTask t full
-    → IsEntering s.dependencies.marks (length s.changes.items) (seen_of s) pid (machine_of t) e
-    → IsTold e.plan.told e.mark s.disk.committed s.told t t'
-    → IsChild e s.disk.committed (machine_of t) t.trace child
-    → IsEntered e s s'
-    → Mirrors (happens w (Enter pid)) (slice_set tasks place t' ++ option_to_list child) s'
-entered-mirrors w tasks s s' pid place full t t' e child h number there fine ready told made done =
-    entered-at w tasks s s' pid place full t t' e child h number there fine ready.process ready.plan ready.writes
-    (entering-mark w tasks s pid (machine_of t) e h ready) told made done
-
--- an Enter that is ready, and then noted, is done
-pub readied-entered : (e : Entering) (s s1 s2 : Shared) → IsReadied e s s1 → IsNoted e s1 s2 → IsEntered e s s2
-readied-entered e s s1 s2 ready noted = record {
-  kept = λ log x keeps is_mark writes. noted.kept log x (subst (λ (ms : List Marked). Keeps log ms) (sym ready.marks) keeps) is_mark writes;
-  changes = noted.changes ∙ ap (λ (cs : List Change). cs ++ option_to_list e.plan.change) ready.changes;
-  files = noted.files ∙ ready.files;
-  tapes = noted.tapes ∙ ap (λ (ts : List TapeState). read_by ts e.plan.tape) ready.tapes;
-  pipes = noted.pipes ∙ ap (λ (ps : List Seen). all_seen ps e.plan.pipes.items) ready.pipes;
-  parts = noted.parts ∙ ap (λ (xs : List Part). parts_after xs e.pid e.plan) ready.parts;
-  told = noted.told ∙ ap (λ (n : ℕ). told_after e.plan.told n) ready.told;
-  disk = noted.disk ∙ ready.disk;
-  screens = λ log x h is_mark writes.
-      subst (λ (ss : List Screen). AreScreens s.disk.committed (log ++ x ∷ []) ss) (sym noted.screens) (ready.screens log x h is_mark writes);
-}
-
--- what the Enter came to, and the process that it made
-pub entered-entry : (w : World) (tasks : List Task) (s : Shared) (pid place : ℕ) (full : Bool) (t : Task) (plan : Plan)
-    → Mirrors w tasks s → pid ≡ place + 1 → slice_get tasks place ≡ Some t → IsFineTask t full
-    → PlansEnter (seen_of s) pid (machine_of t) plan
-    → (step w.sync (Enter pid)).entry ≡ entry_of pid plan
-entered-entry w tasks s pid place full t plan h number there fine plans =
-    ap (λ (x : Transition). x.entry)
-    (enter-steps w (seen_of s) pid full t plan (process-there w s.told tasks pid place t h.each number there) (sight-is w tasks s h) fine plans)
-
--- how the processes stand with their loans then
-pub made-lending : (e : Entering) (c : ℕ) (s : State) (t : Task) (o : Option Task) (ls : List Lending) → IsChild e c s t.trace o
-    → ls ++ map lending_of (option_to_list o) ≡ with_child ls e.plan.child
-made-lending e c s t None ls made = append-nil ls ∙ ap (λ (x : Option ℕ). with_child ls x) (sym made)
-made-lending e c s t (Some u) ls made =
+made-lending : (number : Option ℕ) (mark c : ℕ) (s : State) (t : Trace) (o : Option Task) (ls : List Lending) → MakesTask number mark c s t o
+    → ls ++ map lending_of (option_to_list o) ≡ with_child ls number
+made-lending number mark c s t None ls made = append-nil ls ∙ ap (λ (x : Option ℕ). with_child ls x) (sym made)
+made-lending number mark c s t (Some u) ls made =
     ap (λ (n : ℕ). ls ++ record { loans = n; out = out_of u } ∷ []) made.1.loans
     ∙ ap (λ (o : Option ℕ). ls ++ record { loans = 0; out = o } ∷ []) made.1.out
     ∙ ap (λ (x : Option ℕ). with_child ls x) (sym made.0)
 
-pub child-lendings : (e : Entering) (c : ℕ) (s : State) (tasks : List Task) (place : ℕ) (t t' : Task) (child : Option Task) → slice_get tasks place ≡ Some t
-    → t'.loans ≡ t.loans → out_of t' ≡ out_of t → IsChild e c s t.trace child
-    → map lending_of (slice_set tasks place t' ++ option_to_list child) ≡ with_child (map lending_of tasks) e.plan.child
-child-lendings e c s tasks place t t' child there loans out made =
-    map-append lending_of (slice_set tasks place t') (option_to_list child)
-    ∙ ap (λ (ls : List Lending). ls ++ map lending_of (option_to_list child)) (same-lendings tasks place t t' there loans out)
-    ∙ made-lending e c s t child (map lending_of tasks) made
+pub done-runs : ChangeLaw → (w : World) (tasks : List Task) (s s' : Shared) (pid place : ℕ) (full : Bool) (t t' : Task) (outcome : Outcome) (child : Option Task)
+    → Mirrors w tasks s → pid ≡ place + 1 → slice_get tasks place ≡ Some t → IsFineTask t full
+    → IsDone pid t t' s s' outcome child
+    → IsRun w pid tasks (slice_set tasks place t' ++ option_to_list child) s' outcome
+done-runs law w tasks s s' pid place full t t' outcome child h number there fine done =
+    let plan : Plan = done.plan in
+    let x : Entry = entry_of pid plan in
+    let of : IsProcessOf w.sync.processes pid t = process-there w s.told tasks pid place t h.each number there in
+    let committed : s.disk.committed ≡ w.storage.committed = ap (λ (st : Storage). st.committed) h.disk in
+    let goes : step w.sync (Enter pid) ≡ planned w.sync pid of.process plan =
+    enter-steps w (seen_of s) pid full t plan of (sight-is w tasks s h) fine done.plans in
+    let entry : (step w.sync (Enter pid)).entry ≡ x = ap (λ (y : Transition). y.entry) goes in
+    let v : World = world_after w (planned w.sync pid of.process plan) in
+    let size : length s.processes.parts ≡ length tasks = sym (as-many w tasks s h) in
+    let at : part_at s.processes.parts pid ≡ Some (part_of of.process) = part-there w tasks s pid t h of in
+    let marked = noted-mark w s x s'.dependencies.marks done.mark done.shared.noted h.changes h.kept in
+    record {
+      mirrors = subst (λ (y : World). Mirrors y (slice_set tasks place t' ++ option_to_list child) s') (sym (enter-happens w pid (planned w.sync pid of.process plan) goes)) (record {
+        each =
+            subst (λ (n : ℕ). AreTasks v n (slice_set tasks place t' ++ option_to_list child)) (sym done.shared.told)
+            (told-tasks w s.told tasks pid place full t t' plan done.mark child number there fine of
+            (subst (λ (n : ℕ). IfSome plan.child (IsNext n)) size done.plans.child)
+            (makes-told plan plan.told done.plans.edits) marked.0
+            (subst (λ (c : ℕ). IsTold plan.told done.mark c s.told t t') committed done.told)
+            (subst (λ (c : ℕ). MakesTask plan.child done.mark c (machine_of t) t.trace child) committed done.made) h.each);
+        changes = changes-more law w (planned w.sync pid of.process plan) s s' plan.change refl refl done.plans.possible done.shared.changes done.shared.files h.changes;
+        tapes = done.shared.tapes ∙ ap (λ (ts : List TapeState). read_by ts plan.tape) h.tapes;
+        parts =
+            parts-planned w s.processes.parts s'.processes.parts pid of.process plan h.parts of.there
+            (subst (λ (fs : List NamedFile). NamesFiles (length (changed_by fs plan.change)) (descriptors_after of.process.descriptors plan.told plan.slots.items)) h.changes.files
+            (subst (λ (o : Option Part). NamesFiles (length (changed_by s.files plan.change)) (descriptors_after (descriptors_in o) plan.told plan.slots.items)) at done.plans.named))
+            done.shared.parts;
+        pipes =
+            subst (λ (y : List Seen). ArePipes v y) (sym done.shared.pipes)
+            (pipes-planned w s.pipes plan.pipes.items (planned w.sync pid of.process plan) refl done.plans.steps.few done.plans.may h.pipes);
+        counted =
+            counted-quiet w v s.told s'.told x refl
+            (let one : told_after plan.told s.told ≤ s.told + 1 = told-by-one plan.told s.told in
+            let is : s'.told ≡ told_after plan.told s.told = done.shared.told in omega (arith, one, is)) h.counted;
+        kept = marked.1;
+        screens =
+            subst (λ (c : ℕ). AreScreens c (w.log ++ x ∷ []) s'.screens.items) committed
+            (done.shared.screens w.log x (subst (λ (c : ℕ). AreScreens c w.log s.screens.items) (sym committed) h.screens) marked.0 refl);
+        disk = done.shared.disk ∙ h.disk;
+      });
+      outcome_is = done.outcome_is ∙ sym (ap (λ (y : Entry). outcome_of y.item) entry);
+      child = plan.child;
+      child_is = sym (ap (λ (y : Entry). y.child) entry);
+      lendings =
+          map-append lending_of (slice_set tasks place t') (option_to_list child)
+          ∙ ap (λ (ls : List Lending). ls ++ map lending_of (option_to_list child)) (same-lendings tasks place t t' there done.told.loans done.told.out)
+          ∙ made-lending plan.child done.mark s.disk.committed (machine_of t) t.trace child (map lending_of tasks) done.made;
+    }
+
+-- an Enter whose change of the files is done, whose event is noted, and of which then the rest is done
+pub finished-entered : (pid : ℕ) (plan : Plan) (mark : ℕ) (s s1 s3 : Shared) (d : Kept)
+    → IsSharedWith (changed_by s.files plan.change) s s1
+    → IsNoted (entry_of pid plan) (length s1.changes.items) s1.dependencies.marks d.marks mark
+    → IsFinished pid plan mark (record s1 { dependencies = d }) s3
+    → IsEntered pid plan mark s s3
+finished-entered pid plan mark s s1 s3 d ready noted done =
+    let committed : s1.disk.committed ≡ s.disk.committed = ap (λ (st : Storage). st.committed) ready.disk in
+    record {
+      noted =
+          subst (λ (ms : List Marked). IsNoted (entry_of pid plan) (length s.changes.items) s.dependencies.marks ms mark) (sym (ap (λ (k : Kept). k.marks) done.marks))
+          (subst (λ (ms : List Marked). IsNoted (entry_of pid plan) (length s.changes.items) ms d.marks mark) ready.marks
+          (subst (λ (cs : List Change). IsNoted (entry_of pid plan) (length cs) s1.dependencies.marks d.marks mark) ready.changes noted));
+      changes = done.changes ∙ ap (λ (cs : List Change). cs ++ option_to_list plan.change) ready.changes;
+      files = done.files ∙ ready.files;
+      tapes = done.tapes ∙ ap (λ (ts : List TapeState). read_by ts plan.tape) ready.tapes;
+      pipes = done.pipes ∙ ap (λ (ps : List Seen). all_seen ps plan.pipes.items) ready.pipes;
+      parts = done.parts ∙ ap (λ (xs : List Part). parts_after xs pid plan) ready.parts;
+      told = done.told ∙ ap (λ (n : ℕ). told_after plan.told n) ready.told;
+      disk = done.disk ∙ ready.disk;
+      screens = λ log x h is_mark writes.
+          subst (λ (c : ℕ). AreScreens c (log ++ x ∷ []) s3.screens.items) committed
+          (done.screens log x
+          (subst (λ (c : ℕ). AreScreens c log s1.screens.items) (sym committed) (ready.screens s.disk.committed log h)) is_mark writes);
+    }
+
+-- the trace, and the process that was made
+pub finished-told : (told : Verdict) (mark : ℕ) (files : List NamedFile) (s s1 : Shared) (t t1 t2 : Trace) → IsSharedWith files s s1 → IsSameTrace t t1
+    → IsToldTrace told mark s1.disk.committed s1.told t1 t2 → IsToldTrace told mark s.disk.committed s.told t t2
+finished-told told mark files s s1 t t1 t2 ready same done =
+    subst (λ (n : ℕ). IsToldTrace told mark s.disk.committed n t t2) ready.told
+    (subst (λ (c : ℕ). IsToldTrace told mark c s1.told t t2) (ap (λ (st : Storage). st.committed) ready.disk)
+    (trace-then told mark s1.disk.committed s1.told t t1 t2 same done))
+
+pub finished-made : (number : Option ℕ) (mark : ℕ) (files : List NamedFile) (s s1 : Shared) (m : State) (t : Trace) (o : Option Task) → IsSharedWith files s s1
+    → MakesTask number mark s1.disk.committed m t o → MakesTask number mark s.disk.committed m t o
+finished-made number mark files s s1 m t o ready made =
+    subst (λ (c : ℕ). MakesTask number mark c m t o) (ap (λ (st : Storage). st.committed) ready.disk) made
+
+-- the marks alone were changed since
+pub shared-turned : (files : List NamedFile) (s s1 : Shared) (d : Kept) → IsSharedWith files s s1
+    → IsSharedWith files (marked_with s d.marks) (record s1 { dependencies = d })
+shared-turned files s s1 d ready = record {
+  marks = refl;
+  changes = ready.changes;
+  files = ready.files;
+  tapes = ready.tapes;
+  pipes = ready.pipes;
+  parts = ready.parts;
+  told = ready.told;
+  disk = ready.disk;
+  screens = ready.screens;
+}
 
 -- ---- only room was taken
 pub same-task : (w : World) (told place : ℕ) (t t' : Task) → IsSameTask t t' → IsTask w told place t → IsTask w told place t'
@@ -299,7 +324,7 @@ same-mirrors w tasks s s' place t t' there same rest h =
       });
       changes = record {
         changes = rest.changes ∙ h.changes.changes;
-        possible = h.changes.possible;
+        formed = h.changes.formed;
         files = rest.files ∙ h.changes.files;
         made = h.changes.made;
       };
@@ -310,6 +335,6 @@ same-mirrors w tasks s s' place t t' there same rest h =
       kept = subst (λ (ms : List Marked). Keeps w.log ms) (sym rest.marks) h.kept;
       screens =
           subst (λ (c : ℕ). AreScreens c w.log s'.screens.items) committed
-          (rest.screens w.log (subst (λ (c : ℕ). AreScreens c w.log s.screens.items) (sym committed) h.screens));
+          (rest.screens s.disk.committed w.log (subst (λ (c : ℕ). AreScreens c w.log s.screens.items) (sym committed) h.screens));
       disk = rest.disk ∙ h.disk;
     }

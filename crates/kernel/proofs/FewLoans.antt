@@ -3,7 +3,7 @@ use Rattle.std.proofs.Common.{◌≡◌, ℕ, zero, suc, ◌+◌, ◌≤◌, ◌
 use Rattle.kernel_model.specs.Answers.{Lending, never_lent, with_child}
 use Rattle.kernel.specs.Tasks.{out_of, lending_of, unsettled, AreFewLoans}
 use Rattle.kernel.specs.declared.task.Task.{Task}
-use Rattle.kernel.proofs.EnterLists.{map-set, get-map, get-set}
+use Rattle.kernel.proofs.Lists.{map-set, get-map, get-set}
 
 -- there may be more events
 pub few-longer : (n m : ℕ) (ls : List Lending) → n ≤ m → AreFewLoans n ls → AreFewLoans m ls

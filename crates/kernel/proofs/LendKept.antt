@@ -28,11 +28,8 @@ use Rattle.kernel.specs.declared.trace.Trace.{Trace}
 use Rattle.kernel.specs.declared.task.Task.{Task}
 use Rattle.kernel.proofs.FewLoans.{few-put, few-here}
 use Rattle.kernel.proofs.LendPick.{find-round}
+use Rattle.kernel.proofs.Lists.{length-map}
 use Rattle.kernel.proofs.Turning.{IsProcessOf, process-there}
-
-length-map : {A B : Type 0} (f : A → B) (xs : List A) → length (map f xs) ≡ length xs
-length-map f [] = refl
-length-map f (x ∷ xs) = ap (λ n. suc n) (length-map f xs)
 
 -- what stands in a list where x was set
 get-set : {A : Type 0} (xs : List A) (i j : ℕ) (x y : A) → slice_get (slice_set xs i x) j ≡ Some y
@@ -148,6 +145,7 @@ lent-core b history old new shared quantum behind loan h room lent =
     let loans : u.loans ≡ t.loans + 1 = lent.lent.loans in
     let one : unsettled (out_of u) ≡ 1 = ap unsettled lent.lent.out in
     subst (λ (ts : List Task). IsCore b history ts shared) (sym lent.after) (record {
+      boot = h.boot;
       mirrors = record {
         each = lent-tasks (run_of b history) shared.told old lent.place quantum t u h.mirrors.each lent.there lent.fit lent.lent;
         changes = h.mirrors.changes;

@@ -1,6 +1,8 @@
 -- Lemmas.
 pub mod Applying
 pub mod Beginning
+pub mod Counting
+pub mod Draining
 pub mod EnterCore
 pub mod EnterFine
 pub mod EnterLists
@@ -15,6 +17,7 @@ pub mod Fronts
 pub mod LendKept
 pub mod LendNext
 pub mod LendPick
+pub mod Holding
 pub mod Lists
 pub mod Moving
 pub mod Performing

@@ -1,5 +1,5 @@
 -- Lists by their places.
-use Rattle.std.proofs.Common.{◌≡◌, ℕ, zero, suc, ◌+◌, ◌<◌, ◌≤◌, ◌⊎◌, inl, inr, Bool, List, [], ◌∷◌, ◌++◌, length, map, take, get_or, slice_get, slice_set, slice_index_or, Some, count_by, refl, sym, ap, subst, ◌∙◌, arith, if◌then◌else◌}
+use Rattle.std.proofs.Common.{◌≡◌, ℕ, zero, suc, ◌+◌, ◌<◌, ◌≤◌, ◌⊎◌, inl, inr, Bool, List, [], ◌∷◌, ◌++◌, length, map, take, get_or, slice_get, slice_set, slice_index_or, Option, Some, None, option_to_list, count_by, refl, sym, ap, subst, ◌∙◌, arith, if◌then◌else◌}
 use Rattle.std.specs.List.{AllByRecursion}
 use Rattle.std.proofs.lemmas.List.Sums.{sum_by-cons}
 
@@ -82,3 +82,63 @@ pub all-taken : {A : Type 0} (P : A → Type 0) (xs : List A) (i : ℕ) → leng
 all-taken P [] i all h = tt
 all-taken P (y ∷ ys) zero all h = absurd (omega arith)
 all-taken P (y ∷ ys) (suc i) all h = (h.0, all-taken P ys i (omega arith) h.1)
+
+-- the same of a list for which room was taken
+pub get-reserved : {A : Type 0} (xs ys : List A) (i : ℕ) (x : A) → ys ≡ xs → i < length xs → x ≡ slice_index_or ys i x → slice_get xs i ≡ Some x
+get-reserved xs ys i x same h e = get-there xs i x h (e ∙ ap (λ zs. slice_index_or zs i x) same)
+
+pub get-set-here : {A : Type 0} (xs : List A) (i : ℕ) (x : A) → i < length xs → slice_get (slice_set xs i x) i ≡ Some x
+get-set-here [] i x h = absurd (omega arith)
+get-set-here (y ∷ ys) zero x h = refl
+get-set-here (y ∷ ys) (suc i) x h = get-set-here ys i x (omega arith)
+
+pub set-again : {A : Type 0} (xs : List A) (i : ℕ) (x y : A) → slice_set (slice_set xs i x) i y ≡ slice_set xs i y
+set-again [] i x y = refl
+set-again (z ∷ zs) zero x y = refl
+set-again (z ∷ zs) (suc i) x y = ap (λ vs. z ∷ vs) (set-again zs i x y)
+
+pub length-set-at : {A : Type 0} (xs : List A) (i : ℕ) (x : A) → length (slice_set xs i x) ≡ length xs
+length-set-at [] i x = refl
+length-set-at (y ∷ ys) zero x = refl
+length-set-at (y ∷ ys) (suc i) x = ap (λ n. suc n) (length-set-at ys i x)
+
+pub length-map : {A B : Type 0} (f : A → B) (xs : List A) → length (map f xs) ≡ length xs
+length-map f [] = refl
+length-map f (x ∷ xs) = ap (λ n. suc n) (length-map f xs)
+
+pub map-append : {A B : Type 0} (f : A → B) (xs ys : List A) → map f (xs ++ ys) ≡ map f xs ++ map f ys
+map-append f [] ys = refl
+map-append f (x ∷ xs) ys = ap (λ zs. f x ∷ zs) (map-append f xs ys)
+
+pub append-none : {A : Type 0} (xs : List A) → xs ++ [] ≡ xs
+append-none [] = refl
+append-none (x ∷ xs) = ap (λ ys. x ∷ ys) (append-none xs)
+
+pub get-joined : {A : Type 0} (xs : List A) (o : Option A) (i : ℕ) (y : A) → slice_get (xs ++ option_to_list o) i ≡ Some y
+    → (slice_get xs i ≡ Some y) ⊎ ((i ≡ length xs) × (o ≡ Some y))
+get-joined [] None i y e = cc
+get-joined [] (Some x) zero y e = inr (refl, e)
+get-joined [] (Some x) (suc i) y e = cc
+get-joined (z ∷ zs) o zero y e = inl e
+get-joined (z ∷ zs) o (suc i) y e = elim (get-joined zs o i y e) [
+  | inl h ↦ inl h
+  | inr h ↦ inr (ap (λ n. suc n) h.0, h.1)
+]
+
+pub all-at : {A : Type 0} (P : A → Type 0) (xs : List A) (i : ℕ) (x : A) → AllByRecursion P xs → slice_get xs i ≡ Some x → P x
+all-at P [] i x h e = cc
+all-at P (y ∷ ys) zero x h e = let same : y ≡ x = cc in subst P same h.0
+all-at P (y ∷ ys) (suc i) x h e = all-at P ys i x h.1 e
+
+pub all-set : {A : Type 0} (P : A → Type 0) (xs : List A) (i : ℕ) (x : A) → AllByRecursion P xs → P x → AllByRecursion P (slice_set xs i x)
+all-set P [] i x h one = tt
+all-set P (y ∷ ys) zero x h one = (one, h.1)
+all-set P (y ∷ ys) (suc i) x h one = (h.0, all-set P ys i x h.1 one)
+
+pub all-both : {A : Type 0} (P : A → Type 0) (xs ys : List A) → AllByRecursion P xs → AllByRecursion P ys → AllByRecursion P (xs ++ ys)
+all-both P [] ys h g = g
+all-both P (x ∷ xs) ys h g = (h.0, all-both P xs ys h.1 g)
+
+pub all-others : {A : Type 0} (P Q : A → Type 0) → ((x : A) → P x → Q x) → (xs : List A) → AllByRecursion P xs → AllByRecursion Q xs
+all-others P Q f [] h = tt
+all-others P Q f (x ∷ xs) h = (f x h.0, all-others P Q f xs h.1)

@@ -1,7 +1,7 @@
 -- A loop that changes each element of a list.
 use Rattle.std.proofs.Common.{◌≡◌, ℕ, suc, ◌+◌, ◌<◌, ◌≤◌, inl, inr, List, [], ◌∷◌, length, slice_get, slice_set, Some, nat_le, sym, subst, arith, if◌then◌else◌, true, false}
 use Rattle.kernel.specs.Marked.{front_of}
-use Rattle.kernel.proofs.Lists.{get-set, get-within}
+use Rattle.kernel.proofs.Lists.{get-within, get-set}
 
 -- the elements before i are changed so, and the others stand as they were
 pub record Moved {A : Type 0} (R : A → A → Type 0) (old now : List A) (i : ℕ) : Type 0 where

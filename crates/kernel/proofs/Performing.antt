@@ -12,8 +12,8 @@ use Rattle.kernel_model.specs.declared.effect.Slot.{Slot}
 use Rattle.kernel_model.specs.declared.request.Verdict.{Verdict}
 use Rattle.kernel_model.specs.declared.request.Verdict.TheVariants.{Waits, Replies, Ends}
 use Rattle.kernel.specs.Entering.{descriptors_after, status_after, family_of, born, with_children, parts_after}
-use Rattle.kernel.proofs.EnterLists.{length-set-at}
-use Rattle.kernel.proofs.EnterPlans.{all-kept, append-none}
+use Rattle.kernel.proofs.EnterPlans.{all-kept}
+use Rattle.kernel.proofs.Lists.{length-set-at, append-none}
 
 -- ---- what is left of a list
 pub drop-there : {A : Type 0} (xs : List A) (i : ℕ) (x : A) → i < length xs → x ≡ get_or xs i x → drop i xs ≡ x ∷ drop (i + 1) xs

@@ -1,9 +1,10 @@
 -- Events that change no file, print nothing and tell nothing.
 use Rattle.std.proofs.Common.{◌≡◌, ℕ, ◌+◌, ◌==◌, ◌&&◌, Bool, true, false, if◌then◌else◌, List, [], ◌∷◌, ◌++◌, Option, None, option_to_list, refl, sym, ap, subst, ◌∙◌, arith}
-use Rattle.std.specs.List.{fold}
+use Rattle.std.specs.List.{AllByRecursion, fold}
 use Rattle.std.proofs.lemmas.Bool.{ne_eqb}
-use Rattle.disk_model.specs.Files.{Follow, files_after}
+use Rattle.disk_model.specs.Files.{IsFormed, IsMade}
 use Rattle.disk_model.specs.declared.change.Change.{Change}
+use Rattle.disk_model.specs.declared.change.NamedFile.{NamedFile}
 use Rattle.kernel_model.specs.Entries.{Entry, Item, Got}
 use Rattle.kernel_model.specs.Loans.{waits_after, is_waiting}
 use Rattle.kernel_model.specs.Paths.{changes_of, with_change}
@@ -101,9 +102,9 @@ changes-part w v s s' e silent log files same_changes same_files h =
     let same : changes_of v.log ≡ changes_of w.log = ap (λ (l : List Entry). changes_of l) log ∙ changes-quiet w.log e silent.change in
     record {
       changes = same_changes ∙ h.changes ∙ sym same;
-      possible = subst (λ (cs : List Change). Follow [] cs) (sym same) h.possible;
+      formed = subst (λ (cs : List Change). AllByRecursion IsFormed cs) (sym same) h.formed;
       files = same_files ∙ h.files ∙ sym files;
-      made = files ∙ h.made ∙ ap (λ (cs : List Change). files_after [] cs) (sym same);
+      made = subst (λ (fs : List NamedFile). IsMade fs) (sym files) h.made;
     }
 
 -- nobody begins to wait

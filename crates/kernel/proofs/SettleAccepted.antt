@@ -25,10 +25,9 @@ use Rattle.kernel.specs.declared.task.Task.{Task}
 use Rattle.kernel.specs.declared.trace.End.{End}
 use Rattle.kernel.specs.declared.whereabouts.Whereabouts.TheVariants.{Here}
 use Rattle.kernel.proofs.Applying.{full-is}
-use Rattle.kernel.proofs.EnterLists.{map-set, get-within}
-use Rattle.kernel.proofs.Lists.{length-snoc}
+use Rattle.kernel.proofs.Lists.{map-set, get-within, length-snoc, get-set-here}
 use Rattle.kernel.proofs.SettleCore.{process-in, lending-of, count-back, reached}
-use Rattle.kernel.proofs.SettleWorld.{get-set-here, out-running, back-happens}
+use Rattle.kernel.proofs.SettleWorld.{out-running, back-happens}
 use Rattle.kernel.proofs.Turning.{IsProcessOf, lending-place, turn-child}
 
 -- ---- a run does no more than it was asked for

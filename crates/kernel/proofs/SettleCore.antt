@@ -1,6 +1,5 @@
 -- From a loan's result in the parts to the core.
-use Rattle.std.proofs.Common.{◌≡◌, ℕ, zero, suc, ◌+◌, ◌*◌, ◌^◌, ◌<◌, ◌≤◌, Bool, true, false, if◌then◌else◌, List, [], ◌∷◌, ◌++◌, length, map, slice_get, slice_set, Option, Some, None, is_some, option_map, option_to_list, count_by, Result, Ok, Err, refl, sym, ap, subst, ◌∙◌, arith, length-append, append_assoc}
-use Rattle.std.proofs.lemmas.List.Sums.{sum_by-cons}
+use Rattle.std.proofs.Common.{◌≡◌, ℕ, zero, suc, ◌+◌, ◌*◌, ◌^◌, ◌<◌, ◌≤◌, Bool, true, false, if◌then◌else◌, List, [], ◌∷◌, ◌++◌, length, map, slice_get, slice_set, Option, Some, None, is_some, option_map, option_to_list, Result, Ok, Err, refl, sym, ap, subst, ◌∙◌, arith, length-append, append_assoc}
 use Rattle.std.specs.Prelude.{◌≢◌, IfOk, IfErr, OnOk, OnErr}
 use Rattle.machine_model.specs.States.{State, ran, run, stands_at}
 use Rattle.machine_model.specs.declared.stop.Stop.{Stop}
@@ -28,11 +27,10 @@ use Rattle.kernel.specs.declared.loan.Rejected.{Rejected}
 use Rattle.kernel.specs.declared.shared.Shared.{Shared}
 use Rattle.kernel.specs.declared.task.Task.{Task}
 use Rattle.kernel.proofs.EnterCore.{same-out, child-out}
-use Rattle.kernel.proofs.EnterLists.{map-set, get-map}
-use Rattle.kernel.proofs.EnterTasks.{map-append}
-use Rattle.kernel.proofs.EnterWorld.{same-mirrors, same-lendings, made-lending}
+use Rattle.kernel.proofs.EnterWorld.{ChangeLaw, same-mirrors, same-lendings}
 use Rattle.kernel.proofs.FewLoans.{few-longer, few-same, few-put, few-at, few-child}
-use Rattle.kernel.proofs.SettleWorld.{run-reaches, back-mirrors, both-mirrors}
+use Rattle.kernel.proofs.Lists.{map-set, get-map, count-cons}
+use Rattle.kernel.proofs.SettleWorld.{run-reaches, back-mirrors, both-run}
 use Rattle.kernel.proofs.Turning.{IsProcessOf, process-there, turn-child}
 
 -- ---- whose loan a result is of
@@ -145,35 +143,39 @@ turn-taken b history history' tasks s s' last place t u d a h number there of st
           (if is_some o then Some (outcome_after (kernel_of b history tasks last) d.pid d.count) else None)) stands);
     }
 
-pub enter-taken : (b : Booted) (history history' : List Event) (tasks new : List Task) (s s' : Shared) (last place : ℕ) (d : Done) (at : Stop) (a : Answer)
+pub enter-taken : ChangeLaw → (b : Booted) (history history' : List Event) (tasks new : List Task) (s s' : Shared) (last place : ℕ) (d : Done) (at : Stop) (a : Answer)
     → IsCore b history tasks s → d.pid ≡ place + 1 → stands_at d.machine ≡ Some at
     → (e : IsCallSettled d place tasks new s s' a) → IsLoanOf e.task d → history' ≡ history ++ Turn d.pid d.count ∷ Enter d.pid ∷ []
     → IsTaken b history history' tasks new last place e.task e.after s' d a
-enter-taken b history history' tasks new s s' last place d at a h number stands e of grown =
+enter-taken law b history history' tasks new s s' last place d at a h number stands e of grown =
     let es = events-some d at stands in
     let w : World = run_of b history in
     let k : Kernel = kernel_of b history tasks last in
     let t : Task = e.task in
     let u : Task = e.after in
-    let made : Option ℕ = e.entered.entering.plan.child in
-    let both = both-mirrors w tasks s s' d.pid place d.count d.quantum d.machine t u e.outcome e.child h.mirrors number e.there of.out (reached t d of) d.room
+    let both = both-run law w tasks s s' d.pid place d.count d.quantum d.machine t u e.outcome e.child h.mirrors number e.there of.out (reached t d of) d.room
     (ap (λ (x : Option Stop). is_some x) stands) e.entered in
+    let done = e.entered.entered in
     let outcome : e.outcome ≡ outcome_after k d.pid d.count =
     both.outcome_is ∙ sym (ap (λ (x : World). outcome_of (step x.sync (Enter d.pid)).entry.item) (now-with_event k (Turn d.pid d.count))) in
-    let out : out_of u ≡ None = e.entered.told.out ∙ e.entered.back.out in
+    let same : map lending_of (slice_set tasks place e.entered.middle) ≡ map lending_of (slice_set tasks place u) =
+    map-set lending_of tasks place e.entered.middle
+    ∙ ap (λ (n : ℕ). slice_set (map lending_of tasks) place (record { loans = n; out = out_of e.entered.middle })) (sym done.told.loans)
+    ∙ ap (λ (o : Option ℕ). slice_set (map lending_of tasks) place (record { loans = u.loans; out = o })) (sym done.told.out)
+    ∙ sym (map-set lending_of tasks place u) in
     record {
       grown = grown ∙ ap (λ (xs : List Event). history ++ xs) (sym es);
       mirrors =
           subst (λ (ts : List Task). Mirrors (after w (events_of (loan_result d))) ts s') (sym e.tasks)
           (subst (λ (xs : List Event). Mirrors (after w xs) (slice_set tasks place u ++ option_to_list e.child) s') (sym es) both.mirrors);
-      child = made;
+      child = both.child;
       lendings =
           ap (λ (ts : List Task). map lending_of ts) e.tasks
-          ∙ map-append lending_of (slice_set tasks place u) (option_to_list e.child)
-          ∙ made-lending e.entered.entering s.disk.committed d.machine e.entered.middle e.child (map lending_of (slice_set tasks place u)) e.entered.made;
-      settled_is = settled-enter k d at made stands both.child_is;
-      loans = e.entered.told.loans ∙ e.entered.back.loans;
-      out = out;
+          ∙ both.lendings
+          ∙ ap (λ (ls : List Lending). with_child ls both.child) same;
+      settled_is = settled-enter k d at both.child stands both.child_is;
+      loans = done.told.loans ∙ e.entered.back.loans;
+      out = done.told.out ∙ e.entered.back.out;
       answer =
           e.answer
           ∙ ap (λ (x : Outcome). answer_of.Settled d.count d.stop (Some x)) outcome
@@ -181,9 +183,6 @@ enter-taken b history history' tasks new s s' last place d at a h number stands 
     }
 
 -- ---- the core
-count-cons : {A : Type 0} (p : A → Bool) (x : A) (xs : List A) → count_by p (x ∷ xs) ≡ (if p x then 1 else 0) + count_by p xs
-count-cons p x xs = sum_by-cons (λ y. if p y then 1 else 0) x xs
-
 pub count-back : (tasks : List Task) (place q : ℕ) (t u : Task) → slice_get tasks place ≡ Some t → out_of t ≡ Some q → out_of u ≡ None
     → count_out (slice_set tasks place u) + 1 ≡ count_out tasks
 count-back [] place q t u there out none = cc
@@ -234,6 +233,7 @@ taken-core b history history' tasks new s s' last place t u d a h there of taken
     let few : length es ≤ 2 = few-events (loan_result d) in
     let longer : length (history ++ es) ≡ length history + length es = length-append history es in
     subst (λ (xs : List Event). IsCore b xs new s') (sym taken.grown) (record {
+      boot = h.boot;
       mirrors =
           subst (λ (v : World). Mirrors v new s') (sym (after-after (begun (boot_of b)) history es)) taken.mirrors;
       room = omega (arith, was, less, same, few, longer);
@@ -277,6 +277,7 @@ kept-core b history history' tasks s s' place t u h there same_history same rest
     let out : count_out (slice_set tasks place u) ≡ count_out tasks = same-out tasks (slice_set tasks place u) lendings in
     let was : length history + 2 * count_out tasks ≤ 2 ^ 40 = h.room in
     subst (λ (xs : List Event). IsCore b xs (slice_set tasks place u) s') (sym same_history) (record {
+      boot = h.boot;
       mirrors = same-mirrors (run_of b history) tasks s s' place t u there same rest h.mirrors;
       room = omega (arith, out, was);
       loans = few-same (length history) (length history) tasks (slice_set tasks place u) (omega arith) lendings h.loans;
@@ -315,12 +316,12 @@ turn-result b history history' tasks s s' last place t u d (Ok a) h number there
 }
 turn-result b history history' tasks s s' last place t u d (Err e) h number there of stands back noted grown answer = tt
 
-pub enter-result : (b : Booted) (history history' : List Event) (tasks new : List Task) (s s' : Shared) (last place : ℕ) (t : Task) (d : Done) (at : Stop) (r : Result Answer Rejected)
+pub enter-result : ChangeLaw → (b : Booted) (history history' : List Event) (tasks new : List Task) (s s' : Shared) (last place : ℕ) (t : Task) (d : Done) (at : Stop) (r : Result Answer Rejected)
     → IsCore b history tasks s → d.pid ≡ place + 1 → slice_get tasks place ≡ Some t → IsLoanOf t d → stands_at d.machine ≡ Some at
     → IfOk r (λ a. IsCallSettled d place tasks new s s' a)
     → OnOk r (history' ≡ history ++ Turn d.pid d.count ∷ Enter d.pid ∷ [])
     → IfOk r (λ a. IsTakenOf b history history' tasks new last place s' d a)
-enter-result b history history' tasks new s s' last place t d at (Ok a) h number there of stands done grown =
+enter-result law b history history' tasks new s s' last place t d at (Ok a) h number there of stands done grown =
     let twice : Some t ≡ Some done.task = sym there ∙ done.there in
     let same : t ≡ done.task = cc in
     let own : IsLoanOf done.task d = subst (λ (x : Task). IsLoanOf x d) same of in
@@ -329,9 +330,9 @@ enter-result b history history' tasks new s s' last place t d at (Ok a) h number
       after = done.after;
       there = done.there;
       of = own;
-      taken = enter-taken b history history' tasks new s s' last place d at a h number stands done own grown;
+      taken = enter-taken law b history history' tasks new s s' last place d at a h number stands done own grown;
     }
-enter-result b history history' tasks new s s' last place t d at (Err e) h number there of stands done grown = tt
+enter-result law b history history' tasks new s s' last place t d at (Err e) h number there of stands done grown = tt
 
 pub settle-events : (b : Booted) (history history' : List Event) (tasks new : List Task) (s' : Shared) (last place : ℕ) (d : Done) (r : Result Answer Rejected)
     → d.pid ≡ place + 1

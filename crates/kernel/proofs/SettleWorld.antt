@@ -1,25 +1,15 @@
 -- A loan's result in the parts is a Turn, and an Enter, of the run.
-use Rattle.std.proofs.Common.{◌≡◌, ℕ, zero, suc, ◌+◌, ◌^◌, ◌<◌, inl, inr, Bool, true, false, ◌&&◌, ◌||◌, not, nat_lt, List, [], ◌∷◌, ◌++◌, length, map, option_to_list, slice_get, slice_set, Option, Some, None, is_some, refl, sym, ap, subst, ◌∙◌, arith}
+use Rattle.std.proofs.Common.{◌≡◌, ℕ, zero, suc, ◌+◌, ◌^◌, ◌<◌, inl, inr, true, false, List, [], ◌∷◌, ◌++◌, map, option_to_list, slice_get, slice_set, Option, Some, None, is_some, refl, sym, ap, subst, ◌∙◌, arith}
 use Rattle.machine_model.specs.States.{State, Stepped, Goes, Halts, Ran, ran, next, run, after, stands_at}
 use Rattle.machine.proofs.Running.{run-zero, run-goes, run-halts}
-use Rattle.calls.specs.declared.plan.Plan.{Plan}
-use Rattle.commit_deps.specs.Marks.{IsMarkOf, reader}
-use Rattle.commit_deps.proofs.Readers.{settled-reader, settled-union, settled-event}
-use Rattle.kernel_model.specs.Answers.{outcome_of}
-use Rattle.kernel_model.specs.Entries.{Entry, meets}
-use Rattle.kernel_model.specs.Paths.{is_settled, change_count}
-use Rattle.kernel_model.proofs.Paths.{count_of}
 use Rattle.kernel_model.specs.State.{Process, put_process}
-use Rattle.kernel_model.specs.Steps.{step, own_entry, after_run}
+use Rattle.kernel_model.specs.Steps.{own_entry, after_run}
 use Rattle.kernel_model.specs.World.{World, happens}
-use Rattle.kernel_model.specs.declared.carrier.Carrier.{Carrier}
-use Rattle.kernel_model.specs.declared.carrier.Carrier.TheVariants.{Proc}
 use Rattle.kernel_model.specs.declared.answer.Outcome.{Outcome}
-use Rattle.kernel_model.specs.declared.event.Event.TheVariants.{Turn, Enter}
-use Rattle.kernel.specs.Entering.{seen_of, entry_of, PlansEnter, IsEntered, IsChild, IsSameTask}
+use Rattle.kernel_model.specs.declared.event.Event.TheVariants.{Turn}
 use Rattle.kernel.specs.Mirrors.{IsTask, AreTasks, Mirrors}
 use Rattle.kernel.specs.Seen.{AreScreens}
-use Rattle.kernel.specs.Settling.{IsBack, IsTurnNoted, IsTurnEntered}
+use Rattle.kernel.specs.Settling.{IsBack, IsTurnNoted, IsTurnEntered, marked_with}
 use Rattle.kernel.specs.Tasks.{machine_of, out_of, process_of, bare, status_of}
 use Rattle.kernel.specs.declared.screen.Screen.{Screen}
 use Rattle.kernel.specs.declared.shared.Shared.{Shared}
@@ -27,26 +17,11 @@ use Rattle.kernel.specs.declared.task.Task.{Task}
 use Rattle.kernel.specs.declared.trace.End.{End}
 use Rattle.kernel.specs.declared.whereabouts.Whereabouts.TheVariants.{Here}
 use Rattle.kernel.proofs.EnterFine.{IsFineTask}
-use Rattle.kernel.proofs.EnterLists.{map-set, get-set, get-within}
 use Rattle.kernel.proofs.EnterParts.{parts-quiet, pipes-quiet, counted-quiet}
-use Rattle.kernel.proofs.EnterWorld.{entered-at, entered-entry, entering-mark, same-task}
+use Rattle.kernel.proofs.EnterWorld.{ChangeLaw, IsRun, done-runs, same-task}
+use Rattle.kernel.proofs.Lists.{map-set, get-within, get-set, get-set-here, set-again}
 use Rattle.kernel.proofs.Quiet.{own-silent, screens-quiet, trace-quiet, changes-part, waits-own}
 use Rattle.kernel.proofs.Turning.{IsProcessOf, bare-of, process-there, world_with, turn_of, turn-happens, turn-parts}
-
-pub back-same : (m : State) (t t' u : Task) → IsSameTask t t' → IsBack m t' u → IsBack m t u
-back-same m t t' u same back = record {
-  pid = back.pid ∙ same.pid;
-  machine = back.machine;
-  trace = record {
-    replies = back.trace.replies ∙ same.trace.replies;
-    marks = back.trace.marks ∙ same.trace.marks;
-    end = back.trace.end ∙ same.trace.end;
-    handed = back.trace.handed ∙ same.trace.handed;
-    waited = back.trace.waited ∙ same.trace.waited;
-  };
-  loans = back.loans ∙ same.loans;
-  out = back.out;
-}
 
 -- ---- a run is that of as many instructions as it did
 run-front : (n : ℕ) (s : State) → (run (run n s).count s).state ≡ (run n s).state
@@ -76,50 +51,6 @@ run-reaches n s m count r is count_is state_is =
     ∙ run-front n s
     ∙ ap (λ (x : Ran). x.state) is
     ∙ state_is
-
--- ---- an event's mark stays behind an event that touches nothing but its process
-absorbed : (p r b : Bool) → ((p && r) && (b || p)) ≡ (p && r)
-absorbed true true true = refl
-absorbed true true false = refl
-absorbed true false b = refl
-absorbed false r b = refl
-
-and-true : (b : Bool) → (b && true) ≡ b
-and-true true = refl
-and-true false = refl
-
-own-settled : (c : ℕ) (log : List Entry) (pid : ℕ) → is_settled c log (own_entry pid) ≡ is_settled c log (reader (Proc pid ∷ []))
-own-settled c log pid = settled-event c 0 log (own_entry pid) ∙ and-true (is_settled c log (reader (Proc pid ∷ [])))
-
-reader-later : (c : ℕ) (log : List Entry) (pid : ℕ) (rs : List Carrier)
-    → is_settled c (log ++ own_entry pid ∷ []) (reader (Proc pid ∷ rs)) ≡ is_settled c log (reader (Proc pid ∷ rs))
-reader-later c log pid rs =
-    let P : Bool = is_settled c log (reader (Proc pid ∷ [])) in
-    let R : Bool = is_settled c log (reader rs) in
-    let B : Bool = not (meets (own_entry pid).writes (Proc pid ∷ rs)) in
-    let union : is_settled c log (reader (Proc pid ∷ rs)) ≡ (P && R) = settled-union c 0 log (Proc pid ∷ []) rs in
-    settled-reader c log (own_entry pid) (Proc pid ∷ rs)
-    ∙ ap (λ (x : Bool). is_settled c log (reader (Proc pid ∷ rs)) && (B || x)) (own-settled c log pid)
-    ∙ ap (λ (x : Bool). x && (B || P)) union
-    ∙ absorbed P R B
-    ∙ sym union
-
-count-later : (log : List Entry) (pid : ℕ) → count_of (log ++ own_entry pid ∷ []) ≡ count_of log
-count-later [] pid = refl
-count-later (x ∷ xs) pid = ap (λ n. change_count x + n) (count-later xs pid)
-
-pub mark-later : (m : ℕ) (log : List Entry) (pid : ℕ) (plan : Plan) → IsMarkOf m log (entry_of pid plan) → IsMarkOf m (log ++ own_entry pid ∷ []) (entry_of pid plan)
-mark-later m log pid plan h =
-    let x : Entry = entry_of pid plan in
-    let later : List Entry = log ++ own_entry pid ∷ [] in
-    record {
-      says = λ c.
-          h.says c
-          ∙ settled-event c 0 log x
-          ∙ ap (λ (b : Bool). b && (not (is_some plan.change) || nat_lt (0 + count_of log) c)) (sym (reader-later c log pid plan.reads.items))
-          ∙ ap (λ (n : ℕ). is_settled c later (reader x.reads) && (not (is_some plan.change) || nat_lt (0 + n) c)) (sym (count-later log pid))
-          ∙ sym (settled-event c 0 later x);
-    }
 
 -- ---- the Turn
 back-task : (w : World) (told pid place : ℕ) (q : Process) (m : State) (t u : Task) → m.count < 2 ^ 40 → IsBack m t u → IsTask w told place t
@@ -203,32 +134,15 @@ back-mirrors w tasks s s' pid place n q m t u h number there out reached few bac
     })
 
 -- ---- the Turn and its Enter
-pub get-set-here : {A : Type 0} (xs : List A) (i : ℕ) (x : A) → i < length xs → slice_get (slice_set xs i x) i ≡ Some x
-get-set-here [] i x h = absurd (omega arith)
-get-set-here (y ∷ ys) zero x h = refl
-get-set-here (y ∷ ys) (suc i) x h = get-set-here ys i x (omega arith)
-
-set-again : {A : Type 0} (xs : List A) (i : ℕ) (x y : A) → slice_set (slice_set xs i x) i y ≡ slice_set xs i y
-set-again [] i x y = refl
-set-again (z ∷ zs) zero x y = refl
-set-again (z ∷ zs) (suc i) x y = ap (λ vs. z ∷ vs) (set-again zs i x y)
-
--- the run after a Turn and an Enter, what the Enter came to, and the process that it made
-pub record IsSettledBoth (w : World) (tasks : List Task) (s' : Shared) (pid n : ℕ) (outcome : Outcome) (child : Option ℕ) : Type 0 where
-  pub mirrors : Mirrors (happens (happens w (Turn pid n)) (Enter pid)) tasks s'
-  pub outcome_is : outcome ≡ outcome_of (step (happens w (Turn pid n)).sync (Enter pid)).entry.item
-  pub child_is : child ≡ (step (happens w (Turn pid n)).sync (Enter pid)).entry.child
-
-pub both-mirrors : (w : World) (tasks : List Task) (s s' : Shared) (pid place n q : ℕ) (m : State) (t u : Task) (outcome : Outcome) (child : Option Task)
+pub both-run : ChangeLaw → (w : World) (tasks : List Task) (s s' : Shared) (pid place n q : ℕ) (m : State) (t u : Task) (outcome : Outcome) (child : Option Task)
     → Mirrors w tasks s → pid ≡ place + 1 → slice_get tasks place ≡ Some t → out_of t ≡ Some q → m ≡ (run n (machine_of t)).state → m.count < 2 ^ 40
     → is_some (stands_at m) ≡ true
     → (e : IsTurnEntered pid m t u s s' outcome child)
-    → IsSettledBoth w (slice_set tasks place u ++ option_to_list child) s' pid n outcome e.entering.plan.child
-both-mirrors w tasks s s' pid place n q m t u outcome child h number there out reached few stands e =
-    let s1 : Shared = record s { dependencies = record { marks = e.marks; room = 0 } } in
+    → IsRun (happens w (Turn pid n)) pid (slice_set tasks place e.middle) (slice_set tasks place u ++ option_to_list child) s' outcome
+both-run law w tasks s s' pid place n q m t u outcome child h number there out reached few stands e =
+    let s1 : Shared = marked_with s e.marks in
     let w1 : World = happens w (Turn pid n) in
     let tasks1 : List Task = slice_set tasks place e.middle in
-    let of : IsProcessOf w.sync.processes pid t = process-there w s.told tasks pid place t h.each number there in
     let h1 : Mirrors w1 tasks1 s1 =
     back-mirrors w tasks s s1 pid place n q m t e.middle h number there out reached few e.back
     (record { noted = e.turn; changes = refl; files = refl; tapes = refl; pipes = refl; parts = refl; told = refl; screens = refl; disk = refl }) in
@@ -240,31 +154,5 @@ both-mirrors w tasks s s' pid place n q m t u outcome child h number there out r
       few = subst (λ (x : State). x.count < 2 ^ 40) (sym e.back.machine) few;
       room = refl;
     } in
-    let plans : PlansEnter (seen_of s) pid (machine_of e.middle) e.entering.plan =
-    subst (λ (x : State). PlansEnter (seen_of s) pid x e.entering.plan) (sym e.back.machine) e.plans.plan in
-    let made : IsChild e.entering s.disk.committed (machine_of e.middle) e.middle.trace child =
-    subst (λ (x : State). IsChild e.entering s.disk.committed x e.middle.trace child) (sym e.back.machine) e.made in
-    let log : w1.log ≡ w.log ++ own_entry pid ∷ [] = ap (λ (x : World). x.log) (back-happens w tasks s pid place n q t h of there out) in
-    let mark : IsMarkOf e.entering.mark w1.log (entry_of pid e.entering.plan) =
-    subst (λ (l : List Entry). IsMarkOf e.entering.mark l (entry_of pid e.entering.plan)) (sym log)
-    (mark-later e.entering.mark w.log pid e.entering.plan (entering-mark w tasks s pid m e.entering h e.plans)) in
-    let done : IsEntered e.entering s1 s' = record {
-      kept = e.kept;
-      changes = e.changes;
-      files = e.files;
-      tapes = e.tapes;
-      pipes = e.pipes;
-      parts = e.parts;
-      told = e.count;
-      disk = e.disk;
-      screens = e.screens;
-    } in
-    let entry : (step w1.sync (Enter pid)).entry ≡ entry_of pid e.entering.plan =
-    entered-entry w1 tasks1 s1 pid place false e.middle e.entering.plan h1 number there1 fine plans in
-    record {
-      mirrors =
-          subst (λ (ts : List Task). Mirrors (happens w1 (Enter pid)) (ts ++ option_to_list child) s') (set-again tasks place e.middle u)
-          (entered-at w1 tasks1 s1 s' pid place false e.middle u e.entering child h1 number there1 fine e.plans.process plans e.plans.writes mark e.told made done);
-      outcome_is = e.outcome_is ∙ sym (ap (λ (x : Entry). outcome_of x.item) entry);
-      child_is = sym (ap (λ (x : Entry). x.child) entry);
-    }
+    subst (λ (ts : List Task). IsRun w1 pid tasks1 (ts ++ option_to_list child) s' outcome) (set-again tasks place e.middle u)
+    (done-runs law w1 tasks1 s1 s' pid place false e.middle u outcome child h1 number there1 fine e.entered)

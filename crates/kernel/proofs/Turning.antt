@@ -16,7 +16,7 @@ use Rattle.kernel.specs.Whereabouts.{state_in, quantum_in}
 use Rattle.kernel.specs.declared.task.Task.{Task}
 use Rattle.kernel.specs.declared.whereabouts.Whereabouts.{Whereabouts}
 use Rattle.kernel.specs.declared.whereabouts.Whereabouts.TheVariants.{Here}
-use Rattle.kernel.proofs.Lists.{map-set, map-set-same, get-map, get-index, get-set}
+use Rattle.kernel.proofs.Lists.{map-set, get-map, get-index, get-set, map-set-same}
 use Rattle.kernel.proofs.Quiet.{own-silent, trace-quiet, waits-own}
 
 -- ---- the process of a number

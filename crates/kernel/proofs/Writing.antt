@@ -6,7 +6,7 @@ use Rattle.std.proofs.lemmas.Bool.{leb-false}
 use Rattle.commit_deps.specs.Keeps.{Keeps}
 use Rattle.commit_deps.specs.declared.dependencies.Marked.{Marked}
 use Rattle.commit_deps.proofs.Keeping.{keeps-more, mark-says}
-use Rattle.disk_model.specs.Files.{Follow, IsFormed, IsMade, changed}
+use Rattle.disk_model.specs.Files.{IsFormed, IsMade}
 use Rattle.disk_model.specs.Storage.{Storage, cut, group, checkpoint, group_of, group_or_checkpoint, fits, completed, failed, failed_by, is_empty, is_quiet, piece_at}
 use Rattle.disk_model.specs.Rebuild.{rebuild}
 use Rattle.disk_model.specs.declared.change.Change.{Change}
@@ -43,8 +43,8 @@ use Rattle.kernel.specs.declared.trace.End.{End}
 use Rattle.kernel.specs.declared.trace.Trace.{Trace}
 use Rattle.kernel.proofs.FewLoans.{few-same}
 use Rattle.kernel.proofs.Applying.{full-is, refused-applies}
+use Rattle.kernel.proofs.Lists.{count-map, length-snoc}
 use Rattle.kernel.proofs.Refusing.{none-of-two, none-of-four}
-use Rattle.kernel.proofs.Lists.{length-snoc, count-map}
 use Rattle.kernel.proofs.EnterParts.{parts-quiet, pipes-quiet, counted-quiet}
 use Rattle.kernel.proofs.Quiet.{disk-silent, screens-quiet, trace-quiet, changes-part, waits-disk}
 
@@ -200,6 +200,7 @@ stored-core b history history' old new s s' e st full h is fine grown happen mov
     let space : length history + 2 * count_out old < 2 ^ 40 = leb-false (2 ^ 40) (length history + 2 * count_out old) (sym is ∙ fine) in
     let longer : length (history ++ e ∷ []) ≡ length history + 1 = length-snoc history e in
     subst (λ (es : List Event). IsCore b es new s') (sym grown) (record {
+      boot = h.boot;
       mirrors = subst (λ (v : World). Mirrors v new s') (sym (after-append (begun (boot_of b)) history e ∙ happen)) mirrors;
       room = omega (arith, longer, out, space);
       loans = few-same (length history) (length (history ++ e ∷ [])) old new (omega (arith, longer)) (tasks-lendings st.committed old new moved) h.loans;
@@ -309,10 +310,6 @@ cut-committed st (c ∷ cs) files = elim (is_quiet st.drive) as (λ q. (if q the
       ]
 ]
 
-formed-all : (files : List NamedFile) (cs : List Change) → Follow files cs → AllByRecursion IsFormed cs
-formed-all files [] h = tt
-formed-all files (c ∷ cs) h = (h.0, formed-all (changed files c) cs h.2)
-
 all-drop : {A : Type 0} (P : A → Type 0) (n : ℕ) (xs : List A) → AllByRecursion P xs → AllByRecursion P (drop n xs)
 all-drop P zero xs h = h
 all-drop P (suc n) [] h = h
@@ -320,10 +317,10 @@ all-drop P (suc n) (x ∷ xs) h = all-drop P n xs h.1
 
 pub changes-formed : (w : World) (s : Shared) (n : ℕ) → AreChanges w s → AllByRecursion IsFormed (drop n s.changes.items)
 changes-formed w s n h = subst (λ (cs : List Change). AllByRecursion IsFormed (drop n cs)) (sym h.changes)
-    (all-drop IsFormed n (changes_of w.log) (formed-all [] (changes_of w.log) h.possible))
+    (all-drop IsFormed n (changes_of w.log) h.formed)
 
 pub files-made : (w : World) (s : Shared) → AreChanges w s → IsMade s.files
-files-made w s h = (changes_of w.log, h.possible, h.files ∙ h.made)
+files-made w s h = subst (λ (fs : List NamedFile). IsMade fs) (sym h.files) h.made
 
 pub cut-refusal-is : (b : Booted) (history : List Event) (tasks : List Task) (s : Shared) (last : ℕ) (full : Bool) → IsCore b history tasks s
     → full ≡ full_of (length history) tasks

@@ -1,6 +1,7 @@
 -- What an Enter does to the parts of a core.
-use Rattle.std.specs.Prelude.{◌≡◌, ℕ, ◌+◌, ◌^◌, ◌<◌, ◌≤◌, ◌⊎◌, true, List, [], ◌∷◌, ◌++◌, length, map, Option, Some, None, IfSome, option_to_list, vec_len, vec_capacity}
+use Rattle.std.specs.Prelude.{◌≡◌, ℕ, ◌+◌, ◌^◌, ◌<◌, ◌≤◌, ◌⊎◌, true, List, [], ◌∷◌, ◌++◌, length, map, Option, Some, None, IfSome, option_to_list, replicate, slice_get, vec_len, vec_capacity}
 use Rattle.std.specs.List.{AllByRecursion}
+use Rattle.std.specs.Option.{ForSome}
 use Rattle.disk_model.specs.declared.change.NamedFile.{NamedFile}
 use Rattle.machine_model.specs.Access.{is_writable}
 use Rattle.machine_model.specs.States.{State, stands_at, replied}
@@ -11,14 +12,17 @@ use Rattle.calls.specs.declared.plan.Plan.{Plan}
 use Rattle.commit_deps.specs.Keeps.{Keeps}
 use Rattle.commit_deps.specs.Marks.{IsMarkOf}
 use Rattle.commit_deps.specs.declared.dependencies.Marked.{Marked}
+use Rattle.kernel_model.specs.Answers.{outcome_of}
 use Rattle.kernel_model.specs.Entries.{Entry, Item, Got, End as Ended}
 use Rattle.kernel_model.specs.Paths.{changes_of}
 use Rattle.kernel_model.specs.Rows.{Effect}
 use Rattle.kernel_model.specs.State.{SyncState, Process, PipeState, TapeState, new_pipe, process_at, put_process, changed_by, read_by, all_stepped}
 use Rattle.kernel_model.specs.Steps.{Transition, step, set_slots, children_after, forked, zero_reply}
+use Rattle.kernel_model.specs.declared.answer.Outcome.{Outcome}
 use Rattle.kernel_model.specs.declared.carrier.Carrier.{Carrier}
 use Rattle.kernel_model.specs.declared.carrier.Carrier.TheVariants.{Proc}
 use Rattle.kernel_model.specs.declared.descriptor.Descriptor.{Descriptor}
+use Rattle.kernel_model.specs.declared.effect.Output.{Output}
 use Rattle.kernel_model.specs.declared.effect.PipeStep.{PipeStep}
 use Rattle.kernel_model.specs.declared.effect.PipeStep.TheVariants.{Open}
 use Rattle.kernel_model.specs.declared.effect.Slot.{Slot}
@@ -122,15 +126,14 @@ pub record HaveRoom (seen : List Seen) : Type 0 where
   pub few : AllByRecursion (HasAtMost most) pipes
   pub room : most + 16 < 2 ^ 64
 
--- A plan may be made for process pid: it is there and has no more than 16 descriptors, which name files that are there; the
--- files are few and short, and there is room for its descriptors once more.
+-- A plan may be made for process pid: it is there, and its descriptors name files that are there; the files are few and short,
+-- and there is room for its descriptors once more.
 pub record MayPlan (seen : Sight) (pid : ℕ) : Type 0 where
   pub from_1 : 0 < pid
   pub there : pid ≤ length seen.parts
   pub few : length seen.files ≤ 32
   pub short : AllByRecursion (λ (f : NamedFile). length f.bytes ≤ 16384) seen.files
   pub named : NamesFiles (length seen.files) (descriptors_in (part_at seen.parts pid))
-  pub count : length (descriptors_in (part_at seen.parts pid)) ≤ 16
   pub ends : HaveRoom seen.pipes
 
 -- what the plan says
@@ -212,14 +215,13 @@ pub record AreSteps (steps : List PipeStep) : Type 0 where
   pub kind : OpensAlone steps
   pub few : length steps ≤ 16
 
--- The plan says what comes of the call or the trap at which process pid stands, which sees this. It changes a file or writes
--- to a terminal, and not both; it makes a child or collects one, and not both; and it reads no more of a tape than is left.
+-- The plan says what comes of the call or the trap at which process pid stands, which sees this. It makes a child or collects
+-- one, and not both; and it reads no more of a tape than is left.
 pub record PlansEnter (seen : Sight) (pid : ℕ) (s : State) (plan : Plan) : Type 0 where
   pub goes : (state : SyncState) (p : Process) → IsSightOf state seen → process_at state.processes pid ≡ Some p → p.state ≡ s → p.status ≡ None
       → step state (Enter pid) ≡ planned state pid p plan
   pub told : MayBeTold s plan.told
   pub edits : EditsAs plan.told plan
-  pub one_edit : (plan.change ≡ None) ⊎ (plan.output ≡ None)
   pub one_child : (plan.child ≡ None) ⊎ (plan.collects ≡ None)
   pub possible : IfSome plan.change (IsPossible seen.files)
   pub left : IfSome plan.tape (AreLeft seen.tapes)
@@ -233,17 +235,30 @@ abbrev pub IsSpare : List PipeStep → Option Seen → Type 0
 IsSpare steps None = AllByRecursion OpensNone steps
 IsSpare steps (Some pipe) = (steps ≡ Open ∷ []) × (pipe ≡ seen_pipe new_pipe)
 
--- The plan, all carriers that it writes, and its mark, where these marks are kept and there are so many changes.
-pub record IsEntering (marks : List Marked) (count : ℕ) (seen : Sight) (pid : ℕ) (s : State) (e : Entering) : Type 0 where
-  pub process : e.pid ≡ pid
-  pub plan : PlansEnter seen pid s e.plan
-  pub writes : e.writes.items ≡ (entry_of pid e.plan).writes
-  pub mark : (log : List Entry) → Keeps log marks → length (changes_of log) ≡ count → IsMarkOf e.mark log (entry_of pid e.plan)
-  pub spare : IsSpare e.plan.pipes.items e.spare
-
 -- ---- the process that is made
 
--- the task of a process that is made by an event of this mark, where its parent's machine and trace are these
+-- there is room for one more reply
+pub record HasRoom (t : Trace) : Type 0 where
+  pub replies : vec_len t.replies < vec_capacity t.replies
+  pub marks : vec_len t.marks < vec_capacity t.marks
+
+-- the task of a process that is made, before it is told anything, where its parent's machine and trace are these
+pub record IsBegun (s : State) (parent : Trace) (u : Task) : Type 0 where
+  pub machine : machine_of u ≡ replied s zero_reply
+  pub replies : u.trace.replies.items ≡ parent.replies.items
+  pub marks : u.trace.marks.items ≡ parent.marks.items
+  pub end : u.trace.end ≡ None
+  pub waited : u.trace.waited ≡ None
+  pub loans : u.loans ≡ 0
+  pub out : out_of u ≡ None
+  pub room : HasRoom u.trace
+
+-- the same, if one of this number is made
+abbrev pub IsChild : Option ℕ → State → Trace → Option Task → Type 0
+IsChild number s parent None = number ≡ None
+IsChild number s parent (Some u) = (number ≡ Some u.pid) × IsBegun s parent u
+
+-- the task once it is told 0, by an event of this mark, where c changes are committed
 pub record IsForked (mark c : ℕ) (s : State) (parent : Trace) (u : Task) : Type 0 where
   pub machine : machine_of u ≡ replied s zero_reply
   pub replies : u.trace.replies.items ≡ parent.replies.items ++ zero_reply ∷ []
@@ -254,10 +269,22 @@ pub record IsForked (mark c : ℕ) (s : State) (parent : Trace) (u : Task) : Typ
   pub loans : u.loans ≡ 0
   pub out : out_of u ≡ None
 
--- the same, if the plan makes a process
-abbrev pub IsChild : Entering → ℕ → State → Trace → Option Task → Type 0
-IsChild e c s parent None = e.plan.child ≡ None
-IsChild e c s parent (Some u) = (e.plan.child ≡ Some u.pid) × IsForked e.mark c s parent u
+-- the same, if one of this number is made
+abbrev pub MakesTask : Option ℕ → ℕ → ℕ → State → Trace → Option Task → Type 0
+MakesTask number mark c s parent None = number ≡ None
+MakesTask number mark c s parent (Some u) = (number ≡ Some u.pid) × IsForked mark c s parent u
+
+-- ---- what is prepared
+
+-- the plan of an Enter of process pid, where its machine and trace are these, all carriers that its event reads and writes, the
+-- pipe and the process that it makes
+pub record IsEntering (seen : Sight) (pid : ℕ) (s : State) (t : Trace) (e : Entering) : Type 0 where
+  pub process : e.pid ≡ pid
+  pub plan : PlansEnter seen pid s e.plan
+  pub reads : e.reads.items ≡ (entry_of pid e.plan).reads
+  pub writes : e.writes.items ≡ (entry_of pid e.plan).writes
+  pub spare : IsSpare e.plan.pipes.items e.spare
+  pub child : IsChild e.plan.child s t e.child
 
 -- ---- what is done
 
@@ -294,78 +321,84 @@ pub record IsSameTask (old new : Task) : Type 0 where
   pub loans : new.loans ≡ old.loans
   pub out : out_of new ≡ out_of old
 
--- there is room for one more reply
-pub record HasRoom (t : Trace) : Type 0 where
-  pub replies : vec_len t.replies < vec_capacity t.replies
-  pub marks : vec_len t.marks < vec_capacity t.marks
+-- there is room for so many bytes more
+pub record HasSpace (count : ℕ) (s : Screen) : Type 0 where
+  pub bytes : vec_len s.bytes + count ≤ vec_capacity s.bytes
+  pub marks : vec_len s.marks + count ≤ vec_capacity s.marks
+
+-- the terminal of an output has room for its bytes
+abbrev pub HasSpaceFor : Option Output → List Screen → Type 0
+HasSpaceFor None screens = Unit {0}
+HasSpaceFor (Some out) screens = ForSome (slice_get screens out.terminal) (HasSpace (length out.bytes))
+
+-- the screen after bytes of one more event of this mark
+pub record IsPrinted (c : ℕ) (bytes : List ℕ) (mark : ℕ) (old new : Screen) : Type 0 where
+  pub bytes_more : new.bytes.items ≡ old.bytes.items ++ bytes
+  pub marks_more : new.marks.items ≡ old.marks.items ++ replicate (length bytes) mark
+  pub shown : new.shown ≡ front_of c new.marks.items
 
 -- these screens are still those of any log of which they were
-abbrev pub StayScreens : ℕ → List Screen → List Screen → Type 0
-StayScreens c old new = (log : List Entry) → AreScreens c log old → AreScreens c log new
+abbrev pub StayScreens : List Screen → List Screen → Type 0
+StayScreens old new = (c : ℕ) (log : List Entry) → AreScreens c log old → AreScreens c log new
 
--- the screens after one more event of this mark, which writes so
-abbrev pub ArePrinted : ℕ → Plan → ℕ → List Screen → List Screen → Type 0
-ArePrinted c plan mark old new =
-    (log : List Entry) (e : Entry) → AreScreens c log old → IsMarkOf mark log e → e.output ≡ plan.output → AreScreens c (log ++ e ∷ []) new
+-- the screens after one more event of this mark, which writes this
+abbrev pub ArePrinted : ℕ → Option Output → ℕ → List Screen → List Screen → Type 0
+ArePrinted c output mark old new =
+    (log : List Entry) (e : Entry) → AreScreens c log old → IsMarkOf mark log e → e.output ≡ output → AreScreens c (log ++ e ∷ []) new
 
--- what is shared, but for screens, is the same, though there may be room for more
-pub record IsSameShared (old new : Shared) : Type 0 where
+-- the files are these, and all else that is shared is the same, though there may be room for more
+pub record IsSharedWith (held : List NamedFile) (old new : Shared) : Type 0 where
   pub marks : new.dependencies.marks ≡ old.dependencies.marks
   pub changes : new.changes.items ≡ old.changes.items
-  pub files : new.files ≡ old.files
+  pub files : new.files ≡ held
   pub tapes : new.tapes ≡ old.tapes
   pub pipes : new.pipes ≡ old.pipes
   pub parts : new.processes.parts ≡ old.processes.parts
   pub told : new.told ≡ old.told
   pub disk : new.disk ≡ old.disk
-  pub screens : StayScreens old.disk.committed old.screens.items new.screens.items
+  pub screens : StayScreens old.screens.items new.screens.items
 
--- a plan's change of the files, or its output, is done; the rest takes no memory, and is still to be done
-pub record IsPerformed (plan : Plan) (mark : ℕ) (old new : Shared) : Type 0 where
-  pub dependencies : new.dependencies ≡ old.dependencies
-  pub changes : new.changes.items ≡ old.changes.items
+-- all that is shared is the same, though there may be room for more
+abbrev pub IsSameShared : Shared → Shared → Type 0
+IsSameShared old new = IsSharedWith old.files old new
+
+-- The event of this entry is noted, and this is its mark: where the marks were those of a log of so many changes, they are those
+-- of the log with the event.
+pub record IsNoted (x : Entry) (count : ℕ) (old new : List Marked) (mark : ℕ) : Type 0 where
+  pub says : (log : List Entry) → Keeps log old → length (changes_of log) ≡ count → IsMarkOf mark log x
+  pub kept : (log : List Entry) → Keeps log old → length (changes_of log) ≡ count → Keeps (log ++ x ∷ []) new
+
+-- The rest of an Enter whose change of the files is done, and whose event of this mark is noted: its output is written, its change
+-- is kept, the tape that it reads is past what was read, the steps of its pipes are done, and so is what becomes of the processes.
+pub record IsFinished (pid : ℕ) (plan : Plan) (mark : ℕ) (old new : Shared) : Type 0 where
+  pub marks : new.dependencies ≡ old.dependencies
+  pub changes : new.changes.items ≡ old.changes.items ++ option_to_list plan.change
+  pub files : new.files ≡ old.files
+  pub tapes : new.tapes ≡ read_by old.tapes plan.tape
+  pub pipes : new.pipes ≡ all_seen old.pipes plan.pipes.items
+  pub parts : new.processes.parts ≡ parts_after old.processes.parts pid plan
+  pub told : new.told ≡ told_after plan.told old.told
+  pub disk : new.disk ≡ old.disk
+  pub screens : ArePrinted old.disk.committed plan.output mark old.screens.items new.screens.items
+
+-- what is shared after an Enter, whose event has this mark
+pub record IsEntered (pid : ℕ) (plan : Plan) (mark : ℕ) (old new : Shared) : Type 0 where
+  pub noted : IsNoted (entry_of pid plan) (length old.changes.items) old.dependencies.marks new.dependencies.marks mark
+  pub changes : new.changes.items ≡ old.changes.items ++ option_to_list plan.change
   pub files : new.files ≡ changed_by old.files plan.change
-  pub tapes : new.tapes ≡ old.tapes
-  pub pipes : new.pipes ≡ old.pipes
-  pub processes : new.processes ≡ old.processes
-  pub told : new.told ≡ old.told
+  pub tapes : new.tapes ≡ read_by old.tapes plan.tape
+  pub pipes : new.pipes ≡ all_seen old.pipes plan.pipes.items
+  pub parts : new.processes.parts ≡ parts_after old.processes.parts pid plan
+  pub told : new.told ≡ told_after plan.told old.told
   pub disk : new.disk ≡ old.disk
-  pub screens : ArePrinted old.disk.committed plan mark old.screens.items new.screens.items
-  pub room : vec_len new.changes < vec_capacity new.changes
+  pub screens : ArePrinted old.disk.committed plan.output mark old.screens.items new.screens.items
 
--- an event of this mark is noted, with its change; the tape that it reads is past what was read, the steps of its pipes are done,
--- and so is what becomes of its process's part
-pub record IsNoted (e : Entering) (old new : Shared) : Type 0 where
-  pub kept : (log : List Entry) (x : Entry) → Keeps log old.dependencies.marks → IsMarkOf e.mark log x → x.writes ≡ e.writes.items → Keeps (log ++ x ∷ []) new.dependencies.marks
-  pub changes : new.changes.items ≡ old.changes.items ++ option_to_list e.plan.change
-  pub files : new.files ≡ old.files
-  pub tapes : new.tapes ≡ read_by old.tapes e.plan.tape
-  pub pipes : new.pipes ≡ all_seen old.pipes e.plan.pipes.items
-  pub parts : new.processes.parts ≡ parts_after old.processes.parts e.pid e.plan
-  pub told : new.told ≡ told_after e.plan.told old.told
-  pub disk : new.disk ≡ old.disk
-  pub screens : new.screens.items ≡ old.screens.items
-
--- an Enter is done
-pub record IsEntered (e : Entering) (old new : Shared) : Type 0 where
-  pub kept : (log : List Entry) (x : Entry) → Keeps log old.dependencies.marks → IsMarkOf e.mark log x → x.writes ≡ e.writes.items → Keeps (log ++ x ∷ []) new.dependencies.marks
-  pub changes : new.changes.items ≡ old.changes.items ++ option_to_list e.plan.change
-  pub files : new.files ≡ changed_by old.files e.plan.change
-  pub tapes : new.tapes ≡ read_by old.tapes e.plan.tape
-  pub pipes : new.pipes ≡ all_seen old.pipes e.plan.pipes.items
-  pub parts : new.processes.parts ≡ parts_after old.processes.parts e.pid e.plan
-  pub told : new.told ≡ told_after e.plan.told old.told
-  pub disk : new.disk ≡ old.disk
-  pub screens : ArePrinted old.disk.committed e.plan e.mark old.screens.items new.screens.items
-
--- an Enter is ready: its change or its output is done, and the rest is as before
-pub record IsReadied (e : Entering) (old new : Shared) : Type 0 where
-  pub marks : new.dependencies.marks ≡ old.dependencies.marks
-  pub changes : new.changes.items ≡ old.changes.items
-  pub files : new.files ≡ changed_by old.files e.plan.change
-  pub tapes : new.tapes ≡ old.tapes
-  pub pipes : new.pipes ≡ old.pipes
-  pub parts : new.processes.parts ≡ old.processes.parts
-  pub told : new.told ≡ old.told
-  pub disk : new.disk ≡ old.disk
-  pub screens : ArePrinted old.disk.committed e.plan e.mark old.screens.items new.screens.items
+-- an Enter of process pid is done: its task and what is shared are these, it came to this, and it made this process, if it made one
+pub record IsDone (pid : ℕ) (old new : Task) (before later : Shared) (outcome : Outcome) (child : Option Task) : Type 0 where
+  pub plan : Plan
+  pub mark : ℕ
+  pub plans : PlansEnter (seen_of before) pid (machine_of old) plan
+  pub told : IsTold plan.told mark before.disk.committed before.told old new
+  pub made : MakesTask plan.child mark before.disk.committed (machine_of old) old.trace child
+  pub shared : IsEntered pid plan mark before later
+  pub outcome_is : outcome ≡ outcome_of (item_of plan.told)

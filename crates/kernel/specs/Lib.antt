@@ -2,6 +2,7 @@
 pub mod Advanced
 pub mod Booting
 pub mod Cores
+pub mod Counted
 pub mod Entering
 pub mod First
 pub mod Handing

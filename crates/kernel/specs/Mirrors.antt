@@ -1,7 +1,7 @@
 -- What a core's parts keep of the run.
-use Rattle.std.specs.Prelude.{◌≡◌, ℕ, ◌+◌, ◌*◌, ◌^◌, ◌≤◌, true, List, [], length, map, slice_get, Some, None, is_some, IfSome}
+use Rattle.std.specs.Prelude.{◌≡◌, ℕ, ◌+◌, ◌*◌, ◌^◌, ◌≤◌, true, List, length, map, slice_get, Some, None, is_some, IfSome}
 use Rattle.std.specs.List.{AllByRecursion}
-use Rattle.disk_model.specs.Files.{Follow, files_after}
+use Rattle.disk_model.specs.Files.{IsFormed, IsMade}
 use Rattle.commit_deps.specs.Keeps.{Keeps}
 use Rattle.calls.specs.Plans.{NamesFiles}
 use Rattle.pipes.specs.Seen.{Seen, Shows}
@@ -30,16 +30,15 @@ pub record AreTasks (w : World) (told : ℕ) (tasks : List Task) : Type 0 where
   pub processes : map process_of tasks ≡ map bare w.sync.processes
   pub each : (place : ℕ) (t : Task) → slice_get tasks place ≡ Some t → IsTask w told place t
 
--- the changes are those of the log, possible from no files on, and the files are what they make
+-- the changes are those of the log, and each can be spelled; the files are those of the run, and possible changes make them
 pub record AreChanges (w : World) (shared : Shared) : Type 0 where
   pub changes : shared.changes.items ≡ changes_of w.log
-  pub possible : Follow [] (changes_of w.log)
+  pub formed : AllByRecursion IsFormed (changes_of w.log)
   pub files : shared.files ≡ w.sync.files
-  pub made : w.sync.files ≡ files_after [] (changes_of w.log)
+  pub made : IsMade w.sync.files
 
--- a process has 16 descriptors, which name files that are there
+-- a process's descriptors name files that are there
 pub record IsPart (files : ℕ) (part : Part) : Type 0 where
-  pub count : length part.descriptors ≡ 16
   pub named : NamesFiles files part.descriptors
 
 -- the table of processes has the parts of the run's processes

@@ -11,6 +11,10 @@ use Rattle.kernel.specs.Tasks.{RanAt}
 use Rattle.kernel.specs.Tests.{turn_refusal_of, full_of, IsPlaceOf}
 use Rattle.kernel.specs.declared.task.Task.{Task}
 
+-- an event of process pid that touches nothing but the process is noted
+abbrev pub IsOwnNoted : ℕ → List Marked → List Marked → Type 0
+IsOwnNoted pid old new = (log : List Entry) → Keeps log old → Keeps (log ++ own_entry pid ∷ []) new
+
 -- a Turn of at most n instructions was accepted, and did this
 pub record Turned (events pid n : ℕ) (old new : List Task) (before later : List Marked) (a : Answer) : Type 0 where
   pub fine : turn_refusal_of old (full_of events old) pid n ≡ None
@@ -19,5 +23,5 @@ pub record Turned (events pid n : ℕ) (old new : List Task) (before later : Lis
   pub count : ℕ
   pub stop : Stop
   pub ran : RanAt old new place n count stop
-  pub noted : (log : List Entry) → Keeps log before → Keeps (log ++ own_entry pid ∷ []) later
+  pub noted : IsOwnNoted pid before later
   pub answer : a ≡ answer_of.Ran count stop

@@ -1,5 +1,5 @@
 -- What a core keeps of what may be seen.
-use Rattle.std.specs.Prelude.{◌≡◌, ℕ, List, [], ◌∷◌, ◌++◌, length, map, slice_get, Option, Some, None}
+use Rattle.std.specs.Prelude.{◌≡◌, ℕ, nat_lt, Bool, List, [], ◌∷◌, ◌++◌, length, map, slice_get, Option, Some, None}
 use Rattle.kernel_model.specs.Entries.{Entry, Item, Got, End as Ended}
 use Rattle.kernel_model.specs.Shown.{printed, told}
 use Rattle.kernel.specs.Marked.{AreMarked, front_of, whats}
@@ -17,6 +17,10 @@ pub record IsScreen (c : ℕ) (log : List Entry) (t : ℕ) (s : Screen) : Type 0
 pub record AreScreens (c : ℕ) (log : List Entry) (screens : List Screen) : Type 0 where
   pub count : length screens ≡ 8
   pub each : (t : ℕ) (s : Screen) → slice_get screens t ≡ Some s → IsScreen c log t s
+
+-- the screen has a byte that may not be shown
+abbrev pub holds_back : Screen → Bool
+holds_back s = nat_lt s.shown (length s.bytes.items)
 
 -- the last item of a process that has ended so
 abbrev pub end_items : Option End → List Item

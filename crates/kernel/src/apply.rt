@@ -44,6 +44,7 @@ impl Core {
     {
         turn(
             &mut self.history,
+            &mut self.ran,
             &mut self.tasks,
             &mut self.shared.dependencies,
             pid,

@@ -1,12 +1,14 @@
 //! The core, and how it is booted.
-ghost use Rattle.std.specs.Prelude.{ℕ, List, ◌≡◌, ◌≤◌, ◌<◌, [], length, map, IfOk, true};
+ghost use Rattle.std.specs.Prelude.{ℕ, List, ◌≡◌, ◌≤◌, ◌<◌, [], length, map, IfOk, IfErr};
 ghost use Rattle.std.specs.List.{AllByRecursion};
-ghost use Rattle.disk_model.specs.Held.{IsHeldTo};
+ghost use Rattle.disk_model.specs.declared.change.NamedFile.{NamedFile};
+ghost use Rattle.disk_model.specs.Held.{IsHeld};
 ghost use Rattle.disk_model.specs.Runs.{quiet};
 ghost use Rattle.kernel_model.specs.World.{HoldsItsFiles};
 ghost use Rattle.kernel_model.specs.Bytes.{ProgramsHoldBytes, TapesHoldBytes};
-ghost use Rattle.kernel.specs.Booting.{boot_with, nothing_lent};
+ghost use Rattle.kernel.specs.Booting.{TellsBootFault, boot_fault, program_of, nothing_lent};
 ghost use Rattle.kernel.specs.First.{AreFirst, AreEmpty, parts_from};
+ghost use Rattle.kernel.specs.declared.boot.BootFault.TheVariants.{OutOfMemory};
 
 use crate::screen::Screen;
 use crate::shared::Shared;
@@ -14,8 +16,10 @@ use crate::task::Task;
 use byte_list::Bytes;
 use calls::TapeTable;
 use commit_deps::Dependencies;
+use disk_model::held_files_are_made;
 use files::FileTable;
 use group_commit::Committer;
+use journal::DiskFault;
 use kernel_model::Event;
 use machine::{Image, Machine};
 use pipes::PipeTable;
@@ -39,13 +43,29 @@ pub struct Program {
 /// Why a boot is refused.
 #[derive(Clone, Copy, Debug, PartialEq, Eq, Error)]
 pub enum BootFault {
+    /// The disk cannot be read: its first fault, which is not want of memory.
+    #[error("the disk cannot be read: {0}")]
+    Disk(DiskFault),
     #[error("out of memory")]
     OutOfMemory,
 }
 
 impl From<AllocError> for BootFault {
+    ghost from_gives = { λ _ e. e ≡ OutOfMemory };
+
     fn from(_error: AllocError) -> BootFault {
         BootFault::OutOfMemory
+    }
+}
+
+impl From<DiskFault> for BootFault {
+    ghost from_gives = { λ fault e. e ≡ boot_fault fault };
+
+    fn from(fault: DiskFault) -> BootFault {
+        match fault {
+            DiskFault::OutOfMemory => BootFault::OutOfMemory,
+            fault => BootFault::Disk(fault),
+        }
     }
 }
 
@@ -55,11 +75,15 @@ pub struct Booted {
     pub programs: Vec<Program>,
     /// Shared with the table of what is read of them.
     pub tapes: Arc<Vec<Bytes>>,
+    /// The files that the disk held.
+    pub files: FileTable,
     pub disk: Bytes,
+    /// The place on the disk of the first gate that was not open.
+    pub gate: u32,
 }
 
-/// The core: a kernel that commits inside each call, the history of the events that it accepted, and the disk to which
-/// the changes of files are on their way.
+/// The core: processes, which run on as on a kernel that commits inside each call, the history of the events that it accepted,
+/// and the disk to which the changes of files are still on their way.
 #[derive(Drop)]
 pub struct Core {
     pub(crate) alloc: Global,
@@ -69,6 +93,8 @@ pub struct Core {
     pub(crate) shared: Shared,
     /// The number of the process that was lent last, 0 before any.
     pub(crate) last_lent: u32,
+    /// How many instructions the history's Turns ran, those of loans' results among them.
+    pub(crate) ran: u64,
 }
 
 impl Model for Core {
@@ -79,16 +105,18 @@ impl Model for Core {
 
     ghost coded = { kernel_code };
 
-    ghost use Rattle.kernel.specs.Cores.{kernel_of, IsCore};
+    ghost use Rattle.kernel.specs.Cores.{boot_of, kernel_of, IsCore};
+    ghost use Rattle.kernel.specs.Counted.{IsCounted};
 
     ghost view = { λ c. kernel_of c.booted c.history.items c.tasks.items c.last_lent };
 
-    ghost invariant = { λ c. IsCore c.booted c.history.items c.tasks.items c.shared };
+    ghost invariant = { λ c. IsCore c.booted c.history.items c.tasks.items c.shared × IsCounted (boot_of c.booted) c.history.items c.ran };
 }
 
 impl Core {
-    /// The core of 1 to 8 programs, which are processes 1 and up, and of the tapes that they read: program i has tape i.
-    /// The disk holds no files. Refused for want of memory alone.
+    /// The core of 1 to 8 programs, which are processes 1 and up, of the tapes that they read (the first has tape 0), and of
+    /// the files that the disk holds. Refused where the disk cannot be read, by its first fault, and for want of memory; a
+    /// disk that holds files, as the crash or the end of a run leaves it, is refused for want of memory alone.
     ///
     /// Its boot meets all three premises under which `kernel_laws::headline` speaks of crashes: the disk holds its files,
     /// and the memory of each program and each tape hold bytes.
@@ -103,15 +131,21 @@ impl Core {
         requires terminals { AllByRecursion (λ p. p.terminal < 8) programs.items }
         requires few_tapes { length tapes.items ≤ 8 }
         requires quiet { disk ≡ quiet disk.disk }
-        requires held { IsHeldTo disk.disk 64 [] }
-        ensures boot { IfOk result (λ core. core.boot ≡ boot_with programs.items tapes.items disk.disk) }
+        ensures programs { IfOk result (λ core. core.boot.programs ≡ map program_of programs.items) }
+        ensures given_tapes { IfOk result (λ core. core.boot.tapes ≡ tapes.items) }
+        ensures disk { IfOk result (λ core. core.boot.disk ≡ disk.disk) }
         ensures history { IfOk result (λ core. core.history ≡ []) }
         ensures lendings { IfOk result (λ core. core.lendings ≡ map nothing_lent programs.items) }
         ensures last_lent { IfOk result (λ core. core.last_lent ≡ 0) }
         ensures held { IfOk result (λ core. HoldsItsFiles core.boot) }
         ensures bytes { IfOk result (λ core. ProgramsHoldBytes core.boot) }
         ensures tapes { IfOk result (λ core. TapesHoldBytes core.boot) }
+        ensures fault { IfErr result (TellsBootFault disk.disk) }
+        ensures only { (files : List NamedFile) → IsHeld disk.disk files → IfErr result (λ why. why ≡ OutOfMemory) }
     {
+        held_files_are_made();
+        let (files, gate) = journal::open(alloc, &disk)?;
+        let held = files.try_clone()?;
         let bytes = Bytes::copy_of(alloc, disk.bytes())?;
         let tasks = first_tasks(alloc, &programs)?;
         let processes = first_processes(alloc, &programs)?;
@@ -121,18 +155,20 @@ impl Core {
         let booted = Booted {
             programs,
             tapes,
+            files: held,
             disk: bytes,
+            gate,
         };
         let shared = Shared {
             dependencies: Dependencies::new(alloc),
             changes: Vec::new(alloc),
-            files: FileTable::new(alloc),
+            files,
             tapes: table,
             pipes: PipeTable::new(alloc)?,
             processes,
             told: 0,
             screens,
-            disk: Committer::new(alloc, disk),
+            disk: Committer::new(alloc, disk, gate),
         };
         Ok(Core {
             alloc,
@@ -141,6 +177,7 @@ impl Core {
             tasks,
             shared,
             last_lent: 0,
+            ran: 0,
         })
     }
 }

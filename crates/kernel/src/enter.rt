@@ -1,39 +1,35 @@
 //! An Enter: a process is told what its call, or its trap, comes to.
-ghost use Rattle.std.specs.Prelude.{ℕ, ◌≡◌, ◌+◌, ◌*◌, ◌<◌, ◌≤◌, ◌^◌, ◌⊎◌, ◌++◌, ◌∷◌, [], List, length, map, Some, None, is_some, replicate, vec_len, vec_capacity, option_to_list, IfOk, IfErr, IfSome, OnOk, OnErr};
+ghost use Rattle.std.specs.Prelude.{ℕ, ◌≡◌, ◌+◌, ◌*◌, ◌<◌, ◌≤◌, ◌^◌, ◌⊎◌, ◌++◌, ◌∷◌, [], Option, length, map, Some, None, true, is_some, if◌then◌else◌, vec_len, vec_capacity, option_to_list, IfOk, IfErr, IfSome, OnOk, OnErr};
 ghost use Rattle.std.specs.List.{AllByRecursion};
-ghost use Rattle.machine_model.specs.States.{stands_at};
+ghost use Rattle.machine_model.specs.States.{State, stands_at};
 ghost use Rattle.calls.specs.Plans.{AreLeft, IsNext, MayAllStep, OpensNone, all_seen};
 ghost use Rattle.pipes.specs.Stepping.{seen_after, MayStep};
 ghost use Rattle.processes.specs.Parts.{part_at, with_part, with_slots};
 ghost use Rattle.processes.specs.Table.{HasRoom as HasChildRoom};
-ghost use Rattle.kernel_model.specs.Answers.{Applies, Refuses, outcome_of, with_child, entered as answer_to};
-ghost use Rattle.kernel_model.specs.Entries.{Entry};
+ghost use Rattle.kernel_model.specs.Answers.{Refuses, outcome_of, with_child, entered as answer_to, Applies};
 ghost use Rattle.kernel_model.specs.State.{changed_by, read_by};
 ghost use Rattle.kernel_model.specs.Steps.{step};
 ghost use Rattle.kernel_model.specs.World.{World, happens};
 ghost use Rattle.kernel_model.specs.declared.answer.Refused.TheVariants.{OutOfMemory};
-ghost use Rattle.kernel_model.specs.declared.request.Verdict.TheVariants.{Replies as Told, Ends as Over};
-ghost use Rattle.commit_deps.specs.Marks.{IsMarkOf};
-ghost use Rattle.kernel.specs.Entering.{seen_of, item_of, machine_after, parts_after, with_children, MayBeTold, MayPlan, IsSpare, IsToldTrace, HasRoom, StayScreens, ArePrinted, IsSameTrace, IsSameShared, IsEntering, IsChild, IsPerformed, IsReadied, IsNoted};
-ghost use Rattle.kernel.specs.Marked.{front_of};
+ghost use Rattle.kernel_model.specs.declared.request.Verdict.TheVariants.{Replies as Told};
+ghost use Rattle.kernel.specs.Entering.{seen_of, entry_of, item_of, machine_after, parts_after, with_children, MayBeTold, MayPlan, IsSpare, IsToldTrace, HasRoom, HasSpace, HasSpaceFor, IsPrinted, StayScreens, ArePrinted, IsSameTrace, IsSameTask, IsSameShared, IsSharedWith, IsEntering, IsChild, MakesTask, IsNoted, IsFinished, IsDone};
 ghost use Rattle.kernel.specs.Mirrors.{Mirrors};
-ghost use Rattle.kernel.specs.Seen.{AreScreens};
-ghost use Rattle.kernel.specs.Tasks.{count_out, lending_of};
+ghost use Rattle.kernel.specs.Tasks.{machine_of, out_of, count_out, lending_of};
 ghost use Rattle.kernel.specs.Tests.{full_of, enter_refusal_of};
 ghost use Rattle.kernel.specs.Waiting.{told_after};
 
 use crate::boot::Core;
-use crate::plan::{Entering, prepare, prepare_child};
+use crate::plan::{Entering, prepare};
 use crate::screen::Screen;
 use crate::shared::Shared;
 use crate::task::Task;
 use crate::tasks::{enter_place, is_full};
-use crate::trace::{End, Trace};
+use crate::trace::{End, Trace, zero_reply};
 use crate::turn::reserve;
 use crate::whereabouts::Whereabouts;
 use calls::{PipeStep, Plan, Slot, Verdict};
-use commit_deps::Mark;
-use disk_model::Change;
+use commit_deps::{Dependencies, Mark};
+use disk_model::{Change, checkpoints_fit, made_files_change};
 use files::FileTable;
 use kernel_model::{Answer, Event, Outcome, Output, Refused};
 use machine::Machine;
@@ -53,38 +49,20 @@ fn entered(outcome: Outcome) -> Answer
     }
 }
 
-/// Appends the bytes of an event of this mark to a terminal, and shows what may be shown where so many changes are
-/// committed. Where memory runs out nothing has changed.
-fn print_on(screen: &mut Screen, bytes: &[u8], mark: Mark, committed: u64) -> Result<(), AllocError>
-    ensures bytes { OnOk result (screen.new.bytes.items ≡ screen.old.bytes.items ++ bytes.now) }
-    ensures marks { OnOk result (screen.new.marks.items ≡ screen.old.marks.items ++ replicate (length bytes.now) mark) }
-    ensures shown { OnOk result (screen.new.shown ≡ front_of committed screen.new.marks.items) }
-    ensures err_bytes { OnErr result (screen.new.bytes.items ≡ screen.old.bytes.items) }
-    ensures err_marks { OnErr result (screen.new.marks.items ≡ screen.old.marks.items) }
-    ensures err_shown { OnErr result (screen.new.shown ≡ screen.old.shown) }
+/// Makes room for an event's output on its terminal, if there is one of its number.
+fn reserve_output(screens: &mut Vec<Screen>, output: &Option<Output>) -> Result<(), AllocError>
+    ensures room { OnOk result (HasSpaceFor output.now screens.new.items) }
+    ensures same { StayScreens screens.old.items screens.new.items }
 {
-    screen.append(bytes, mark)?;
-    screen.advance(committed);
-    Ok(())
-}
-
-/// Appends an event's output to its terminal, if there is one of its number. Where memory runs out nothing has changed.
-fn print(
-    screens: &mut Vec<Screen>,
-    output: &Output,
-    mark: Mark,
-    committed: u64,
-) -> Result<(), AllocError>
-    ensures ok { OnOk result ((log : List Entry) (e : Entry) → AreScreens committed log screens.old.items
-        → IsMarkOf mark log e → e.output ≡ Some output.now → AreScreens committed (log ++ e ∷ []) screens.new.items) }
-    ensures err { OnErr result (StayScreens committed screens.old.items screens.new.items) }
-{
+    let Some(output) = output else {
+        return Ok(());
+    };
     let place = output.terminal as usize;
     if place >= screens.len() {
         return Ok(());
     }
     let screen = &mut screens[place];
-    print_on(screen, output.bytes.as_slice(), mark, committed)
+    screen.reserve(output.bytes.as_slice().len())
 }
 
 /// Does a change of the files, if there is one. Where memory runs out nothing has changed.
@@ -98,50 +76,27 @@ fn change_files(files: &mut FileTable, change: &Option<Change>) -> Result<(), Al
     }
 }
 
-/// Does what a plan changes that may still fail: the files, or a terminal. Where memory runs out nothing has changed.
-fn perform(
-    files: &mut FileTable,
-    screens: &mut Vec<Screen>,
-    plan: &Plan,
-    mark: Mark,
-    committed: u64,
-) -> Result<(), AllocError>
-    requires { (plan.now.change ≡ None) ⊎ (plan.now.output ≡ None) }
-    ensures files { OnOk result (files.new ≡ changed_by files.old plan.now.change) }
-    ensures screens { OnOk result (ArePrinted committed plan.now mark screens.old.items screens.new.items) }
-    ensures err_files { OnErr result (files.new ≡ files.old) }
-    ensures err_screens { OnErr result (StayScreens committed screens.old.items screens.new.items) }
-{
-    match &plan.output {
-        Some(output) => print(screens, output, mark, committed),
-        None => change_files(files, &plan.change),
-    }
-}
-
-/// Takes the memory that is left to be taken for an Enter, and does what it changes outside its process that may still fail.
-/// Where memory runs out nothing has changed.
-fn ready(trace: &mut Trace, shared: &mut Shared, entering: &Entering) -> Result<(), AllocError>
-    requires { (entering.now.plan.change ≡ None) ⊎ (entering.now.plan.output ≡ None) }
-    ensures trace { IsSameTrace trace.old trace.new }
-    ensures room { OnOk result (HasRoom trace.new) }
-    ensures done { OnOk result (IsPerformed entering.now.plan entering.now.mark shared.old shared.new) }
+/// Takes the memory that an Enter of this plan takes of what is shared, and does its change of the files, which is the last step
+/// that may fail. Where memory runs out nothing has changed.
+fn ready(shared: &mut Shared, pid: u32, plan: &Plan) -> Result<(), AllocError>
+    requires from_1 { 0 < pid }
+    requires there { pid ≤ length shared.old.processes.parts }
+    ensures children { OnOk result (HasChildRoom shared.new.processes pid) }
+    ensures changes { OnOk result (vec_len shared.new.changes < vec_capacity shared.new.changes) }
+    ensures screens { OnOk result (HasSpaceFor plan.now.output shared.new.screens.items) }
+    ensures room { shared.old.dependencies.room ≤ shared.new.dependencies.room }
+    ensures done { OnOk result (IsSharedWith (changed_by shared.old.files plan.now.change) shared.old shared.new) }
     ensures err { OnErr result (IsSameShared shared.old shared.new) }
 {
+    shared.processes.reserve(pid)?;
     shared.changes.reserve(1)?;
-    trace.reserve()?;
-    let committed = shared.disk.committed();
-    perform(
-        &mut shared.files,
-        &mut shared.screens,
-        &entering.plan,
-        entering.mark,
-        committed,
-    )
+    reserve_output(&mut shared.screens, &plan.output)?;
+    change_files(&mut shared.files, &plan.change)
 }
 
 /// Takes all memory for an Enter of a process whose machine is this one, and stands here, for so many events and carriers more,
-/// and does what it changes outside its process that may still fail. Answers what the Enter comes to, and the process that it
-/// makes. Where memory runs out nothing has changed.
+/// and does its change of the files, which is the last step that may fail. Answers what the Enter comes to. Where memory runs out
+/// nothing has changed.
 pub fn prepare_enter(
     alloc: Global,
     history: &mut Vec<Event>,
@@ -151,36 +106,84 @@ pub fn prepare_enter(
     trace: &mut Trace,
     shared: &mut Shared,
     more: usize,
-) -> Result<(Entering, Option<Task>), Refused>
+) -> Result<Entering, Refused>
     requires stands { stands_at machine.now ≡ Some stop }
     requires budget { machine.now.count < 2 ^ 40 }
     requires fine { MayPlan (seen_of shared.old) pid }
     requires few { more ≤ 1 }
     ensures history { history.new.items ≡ history.old.items }
     ensures events { OnOk result (vec_len history.new + 1 + more ≤ vec_capacity history.new) }
-    ensures replies { OnOk result (HasRoom trace.new) }
     ensures trace { IsSameTrace trace.old trace.new }
-    ensures writes { IfOk result (λ r. length r.0.writes.items + more ≤ shared.new.dependencies.room) }
+    ensures replies { OnOk result (HasRoom trace.new) }
+    ensures writes { IfOk result (λ e. length e.writes.items + more ≤ shared.new.dependencies.room) }
     ensures changes { OnOk result (vec_len shared.new.changes < vec_capacity shared.new.changes) }
     ensures children { OnOk result (HasChildRoom shared.new.processes pid) }
-    ensures entering { IfOk result (λ r. IsEntering shared.old.dependencies.marks (length shared.old.changes.items) (seen_of shared.old) pid machine.now r.0) }
-    ensures child { IfOk result (λ r. IsChild r.0 shared.old.disk.committed machine.now trace.old r.1) }
-    ensures done { IfOk result (λ r. IsReadied r.0 shared.old shared.new) }
+    ensures screens { IfOk result (λ e. HasSpaceFor e.plan.output shared.new.screens.items) }
+    ensures entering { IfOk result (λ e. IsEntering (seen_of shared.old) pid machine.now trace.old e) }
+    ensures done { IfOk result (λ e. IsSharedWith (changed_by shared.old.files e.plan.change) shared.old shared.new) }
     ensures err { OnErr result (IsSameShared shared.old shared.new) }
     ensures cause { IfErr result (λ why. why ≡ OutOfMemory) }
 {
-    let entering = prepare(alloc, pid, stop, machine, shared)?;
-    let committed = shared.disk.committed();
-    let child = prepare_child(alloc, machine, trace, &entering, committed)?;
+    let entering = prepare(alloc, pid, stop, machine, trace, shared)?;
     reserve(
         history,
         &mut shared.dependencies,
         1 + more,
         entering.writes.len() + more,
     )?;
-    shared.processes.reserve(pid)?;
-    ready(trace, shared, &entering)?;
-    Ok((entering, child))
+    trace.reserve()?;
+    ready(shared, pid, &entering.plan)?;
+    Ok(entering)
+}
+
+/// The number of a plan's change, if it makes one, where there are so many.
+fn change_number(change: &Option<Change>, changes: usize) -> Option<u64>
+    ensures { result ≡ (if is_some change.now then Some changes else None) }
+{
+    match change {
+        Some(_) => Some(changes as u64),
+        None => None,
+    }
+}
+
+/// Notes the event of an Enter that is prepared, where there are so many changes, and answers its mark. Takes no memory.
+pub fn note_enter(dependencies: &mut Dependencies, entering: &Entering, changes: usize) -> Mark
+    requires room { length entering.now.writes.items ≤ dependencies.old.room }
+    requires few { changes < 2 ^ 63 }
+    requires reads { entering.now.reads.items ≡ (entry_of entering.now.pid entering.now.plan).reads }
+    requires writes { entering.now.writes.items ≡ (entry_of entering.now.pid entering.now.plan).writes }
+    ensures { IsNoted (entry_of entering.now.pid entering.now.plan) changes dependencies.old.marks dependencies.new.marks result }
+{
+    let change = change_number(&entering.plan.change, changes);
+    dependencies
+        .event(&entering.reads, &entering.writes, change)
+        .unwrap()
+}
+
+/// Appends the bytes of an event of this mark to a terminal, and shows what may be shown where so many changes are
+/// committed. Takes no memory.
+fn print_on(screen: &mut Screen, bytes: &[u8], mark: Mark, committed: u64)
+    requires { HasSpace (length bytes.now) screen.old }
+    ensures { IsPrinted committed bytes.now mark screen.old screen.new }
+{
+    screen.append(bytes, mark);
+    screen.advance(committed);
+}
+
+/// Appends an event's output to its terminal, if there is one of its number. Takes no memory.
+fn print(screens: &mut Vec<Screen>, output: &Option<Output>, mark: Mark, committed: u64)
+    requires { HasSpaceFor output.now screens.old.items }
+    ensures { ArePrinted committed output.now mark screens.old.items screens.new.items }
+{
+    let Some(output) = output else {
+        return;
+    };
+    let place = output.terminal as usize;
+    if place >= screens.len() {
+        return;
+    }
+    let screen = &mut screens[place];
+    print_on(screen, output.bytes.as_slice(), mark, committed);
 }
 
 /// One step of a pipe that was made before. Takes no memory.
@@ -325,8 +328,8 @@ fn count_told(told: &Verdict, before: u64) -> u64
     }
 }
 
-/// Notes what an Enter changes that is shared. Takes no memory.
-fn note_enter(shared: &mut Shared, pid: u32, plan: &Plan, spare: Option<Pipe>)
+/// Does what an Enter changes that is shared, beside its output and its change of the files. Takes no memory.
+fn change_shared(shared: &mut Shared, pid: u32, plan: &Plan, spare: Option<Pipe>)
     requires from_1 { 0 < pid }
     requires there { pid ≤ length shared.old.processes.parts }
     requires child { IfSome plan.now.child (IsNext (length shared.old.processes.parts)) }
@@ -352,48 +355,66 @@ fn note_enter(shared: &mut Shared, pid: u32, plan: &Plan, spare: Option<Pipe>)
     shared.told = count_told(&plan.told, shared.told);
 }
 
-/// Does the rest of an Enter that is prepared. Takes no memory.
+/// A process that was made, if one was, is told 0 by an event of this mark, where so many changes are committed. Takes no memory.
+fn tell_child(alloc: Global, child: Option<Task>, mark: Mark, committed: u64) -> Option<Task>
+    requires { IfSome child (λ u. HasRoom u.trace) }
+    ensures { (number : Option ℕ) (s : State) (parent : Trace) → IsChild number s parent child → MakesTask number mark committed s parent result }
+{
+    let mut child = child?;
+    child.trace.append(zero_reply(alloc), mark);
+    child.trace.advance(committed);
+    Some(child)
+}
+
+/// Does the rest of an Enter that is prepared, and whose event is noted with this mark. Answers what it came to, and the process
+/// that it made, if it made one. Takes no memory.
 pub fn finish(
+    alloc: Global,
     machine: &mut Machine,
     trace: &mut Trace,
     shared: &mut Shared,
     entering: Entering,
-) -> Outcome
+    mark: Mark,
+) -> (Outcome, Option<Task>)
     requires fine { MayBeTold machine.old entering.plan.told }
     requires budget { machine.old.count < 2 ^ 40 }
     requires room { HasRoom trace.old }
-    requires writes { length entering.writes.items ≤ shared.old.dependencies.room }
+    requires screens { HasSpaceFor entering.plan.output shared.old.screens.items }
     requires changes { vec_len shared.old.changes < vec_capacity shared.old.changes }
     requires from_1 { 0 < entering.pid }
     requires there { entering.pid ≤ length shared.old.processes.parts }
-    requires child { IfSome entering.plan.child (IsNext (length shared.old.processes.parts)) }
+    requires next { IfSome entering.plan.child (IsNext (length shared.old.processes.parts)) }
     requires one { (entering.plan.child ≡ None) ⊎ (entering.plan.collects ≡ None) }
     requires children { HasChildRoom shared.old.processes entering.pid }
+    requires child { IfSome entering.child (λ u. HasRoom u.trace) }
     requires left { IfSome entering.plan.tape (AreLeft shared.old.tapes) }
     requires spare { IsSpare entering.plan.pipes.items entering.spare }
     requires may { MayAllStep shared.old.pipes entering.plan.pipes.items }
     requires few { shared.old.told < 2 ^ 63 }
-    ensures outcome { result ≡ outcome_of (item_of entering.plan.told) }
+    ensures outcome { result.0 ≡ outcome_of (item_of entering.plan.told) }
     ensures machine { machine.new ≡ machine_after machine.old entering.plan.told }
-    ensures trace { IsToldTrace entering.plan.told entering.mark shared.old.disk.committed shared.old.told trace.old trace.new }
-    ensures noted { IsNoted entering shared.old shared.new }
+    ensures trace { IsToldTrace entering.plan.told mark shared.old.disk.committed shared.old.told trace.old trace.new }
+    ensures shared { IsFinished entering.pid entering.plan mark shared.old shared.new }
+    ensures child { (number : Option ℕ) (s : State) (parent : Trace) → IsChild number s parent entering.child
+        → MakesTask number mark shared.old.disk.committed s parent result.1 }
 {
     let before = shared.told;
     let committed = shared.disk.committed();
     let Entering {
         pid,
         plan,
-        writes,
-        mark,
         spare,
+        child,
+        ..
     } = entering;
-    shared.dependencies.note(&writes, mark);
-    note_enter(shared, pid, &plan, spare);
+    print(&mut shared.screens, &plan.output, mark, committed);
+    change_shared(shared, pid, &plan, spare);
     let Plan { told, change, .. } = plan;
     if let Some(change) = change {
         shared.changes.push(change).unwrap();
     }
-    tell(machine, trace, told, before, mark, committed)
+    let outcome = tell(machine, trace, told, before, mark, committed);
+    (outcome, tell_child(alloc, child, mark, committed))
 }
 
 /// A process that was made comes behind the others. Takes no memory.
@@ -404,6 +425,39 @@ pub fn join(tasks: &mut Vec<Task>, child: Option<Task>)
     if let Some(child) = child {
         tasks.push(child).unwrap();
     }
+}
+
+/// A process enters the kernel whose machine is here and stands at a call or a trap. Answers what the Enter came to, and the
+/// process that it made, if it made one. Where memory runs out nothing has changed.
+fn enter_task(
+    alloc: Global,
+    history: &mut Vec<Event>,
+    task: &mut Task,
+    shared: &mut Shared,
+    pid: u32,
+) -> Result<(Outcome, Option<Task>), Refused>
+    requires here { out_of task.old ≡ None }
+    requires stands { is_some (stands_at (machine_of task.old)) ≡ true }
+    requires budget { (machine_of task.old).count < 2 ^ 40 }
+    requires fine { MayPlan (seen_of shared.old) pid }
+    requires few { shared.old.told < 2 ^ 63 }
+    ensures done { IfOk result (λ r. IsDone pid task.old task.new shared.old shared.new r.0 r.1) }
+    ensures history { OnOk result (history.new.items ≡ history.old.items ++ Event.Enter pid ∷ []) }
+    ensures same_task { OnErr result (IsSameTask task.old task.new) }
+    ensures same_shared { OnErr result (IsSameShared shared.old shared.new) }
+    ensures same_history { OnErr result (history.new.items ≡ history.old.items) }
+    ensures cause { IfErr result (λ why. why ≡ OutOfMemory) }
+{
+    let Whereabouts::Here(machine) = &mut task.whereabouts else {
+        unreachable!()
+    };
+    let stop = machine.stopped().unwrap();
+    let trace = &mut task.trace;
+    let entering = prepare_enter(alloc, history, pid, stop, machine, trace, shared, 0)?;
+    let mark = note_enter(&mut shared.dependencies, &entering, shared.changes.len());
+    let (outcome, child) = finish(alloc, machine, trace, shared, entering, mark);
+    history.push(Event::Enter { pid }).unwrap();
+    Ok((outcome, child))
 }
 
 /// The process enters the kernel. Refused, with nothing changed: NoProcess, Ended, Lent, NotStopped, Budget, OutOfMemory.
@@ -429,21 +483,14 @@ pub fn enter(
     ensures same_history { OnErr result (history.new.items ≡ history.old.items) }
     ensures same_lendings { OnErr result (map lending_of tasks.new.items ≡ map lending_of tasks.old.items) }
 {
+    checkpoints_fit();
+    made_files_change();
     let full = is_full(history.len(), tasks);
     let place = enter_place(tasks, full, pid)?;
     tasks.reserve(1)?;
     let task = &mut tasks[place];
-    let Whereabouts::Here(machine) = &mut task.whereabouts else {
-        return Err(Refused::Lent);
-    };
-    let Some(stop) = machine.stopped() else {
-        return Err(Refused::NotStopped);
-    };
-    let trace = &mut task.trace;
-    let (entering, child) = prepare_enter(alloc, history, pid, stop, machine, trace, shared, 0)?;
-    let outcome = finish(machine, trace, shared, entering);
+    let (outcome, child) = enter_task(alloc, history, task, shared, pid)?;
     join(tasks, child);
-    history.push(Event::Enter { pid }).unwrap();
     Ok(entered(outcome))
 }
 

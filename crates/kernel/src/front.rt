@@ -2,7 +2,7 @@
 ghost use Rattle.std.specs.Prelude.{◌≡◌, ◌≤◌, length, drop, nat_le, if◌then◌else◌};
 ghost use Rattle.kernel.specs.Marked.{front_of};
 
-use commit_deps::{Mark, front};
+use commit_deps::Mark;
 
 /// How many of the first marks are known to pass: those that did before, unless fewer changes are committed now.
 fn known(counted: usize, before: u64, committed: u64) -> usize
@@ -17,6 +17,16 @@ fn behind(marks: &[Mark], count: usize) -> &[Mark]
     ensures { result.now ≡ drop count marks.now }
 {
     &marks[count..]
+}
+
+/// How many marks stand before the first that is not among the first `committed` changes.
+fn front(marks: &[Mark], committed: u64) -> usize
+    ensures { result ≡ front_of committed marks.now }
+{
+    marks
+        .iter()
+        .take_while(|mark| mark.below(committed))
+        .count()
 }
 
 /// How many marks stand before the first that is not among the first `committed` changes, where the first `counted` are

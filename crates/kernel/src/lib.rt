@@ -3,8 +3,10 @@
 
 mod apply;
 mod boot;
+mod drain;
 mod enter;
 mod front;
+mod halt;
 mod lend;
 mod loan;
 mod plan;
@@ -20,7 +22,8 @@ mod views;
 mod whereabouts;
 
 pub use boot::{BootFault, Core, Program};
-pub use kernel_laws::interleavings;
+pub use journal::DiskFault;
+pub use kernel_laws::{interleavings, runs_go_on};
 pub use kernel_model::{Answer, Event, Outcome, Refused};
 pub use loan::{Done, Loan, Rejected};
 pub use simdisk::SimDisk;

@@ -1,5 +1,5 @@
 //! What an Enter comes to, found with all its memory before anything changes.
-ghost use Rattle.std.specs.Prelude.{◌≡◌, ◌+◌, ◌<◌, ◌≤◌, ◌^◌, ◌∷◌, length, vec_len, IfOk, Some, None, true, is_some, if◌then◌else◌};
+ghost use Rattle.std.specs.Prelude.{◌≡◌, ◌+◌, ◌<◌, ◌≤◌, ◌^◌, ◌∷◌, length, IfOk, Some, true, is_some};
 ghost use Rattle.machine_model.specs.States.{stands_at, replied};
 ghost use Rattle.processes.specs.Parts.{descriptors_in, part_at};
 ghost use Rattle.kernel_model.specs.Rows.{cause_number};
@@ -11,23 +11,23 @@ use crate::shared::Shared;
 use crate::task::Task;
 use crate::trace::{Trace, zero_reply};
 use calls::{PipeStep, Plan, Verdict, plan_call, plan_end, request_of};
-use commit_deps::{Carrier, Mark};
-use disk_model::Change;
+use commit_deps::Carrier;
 use machine::Machine;
 use machine_model::{Cause, Stop};
 use pipes::Pipe;
 use processes::{Descriptors, ProcTable};
 use std::alloc::{AllocError, Global};
 
-/// What an Enter of a process comes to: its plan, all carriers that its event writes, the event's mark, and the pipe that it
-/// makes, if it makes one.
+/// What an Enter of a process comes to: its plan, all carriers that its event reads and writes, and the pipe and the process
+/// that it makes, if it makes one. The process is not told anything yet.
 #[derive(Drop)]
 pub struct Entering {
     pub pid: u32,
     pub plan: Plan,
+    pub reads: Vec<Carrier>,
     pub writes: Vec<Carrier>,
-    pub mark: Mark,
     pub spare: Option<Pipe>,
+    pub child: Option<Task>,
 }
 
 /// The number that a trap of this cause tells.
@@ -47,7 +47,7 @@ fn descriptors_of(processes: &ProcTable, pid: u32) -> &Descriptors
 }
 
 /// The plan of the Enter of a process whose machine stands here, at a call or at a trap.
-pub fn plan_enter(
+fn plan_enter(
     alloc: Global,
     pid: u32,
     stop: Stop,
@@ -79,7 +79,7 @@ pub fn plan_enter(
 }
 
 /// The carriers of an event of a process: its own, and these.
-pub fn with_own(alloc: Global, pid: u32, carriers: &[Carrier]) -> Result<Vec<Carrier>, AllocError>
+fn with_own(alloc: Global, pid: u32, carriers: &[Carrier]) -> Result<Vec<Carrier>, AllocError>
     ensures { IfOk result (λ all. all.items ≡ Proc pid ∷ carriers.now) }
 {
     let mut all = Vec::new(alloc);
@@ -99,16 +99,6 @@ fn all_writes(alloc: Global, pid: u32, plan: &Plan) -> Result<Vec<Carrier>, Allo
     }
 }
 
-/// The number of a plan's change, if it makes one, where there are so many.
-fn change_number(change: &Option<Change>, changes: usize) -> Option<u64>
-    ensures { result ≡ (if is_some change.now then Some changes else None) }
-{
-    match change {
-        Some(_) => Some(changes as u64),
-        None => None,
-    }
-}
-
 /// The pipe that these steps make, if they make one.
 fn spare_pipe(alloc: Global, steps: &[PipeStep]) -> Result<Option<Pipe>, AllocError>
     requires { AreSteps steps.now }
@@ -123,35 +113,6 @@ fn spare_pipe(alloc: Global, steps: &[PipeStep]) -> Result<Option<Pipe>, AllocEr
     }
 }
 
-/// What an Enter of a process comes to whose machine is this one, and stands here. Its change, if it makes one, gets the next
-/// number.
-pub fn prepare(
-    alloc: Global,
-    pid: u32,
-    stop: Stop,
-    machine: &Machine,
-    shared: &Shared,
-) -> Result<Entering, AllocError>
-    requires stands { stands_at machine.now ≡ Some stop }
-    requires fine { MayPlan (seen_of shared.now) pid }
-    requires count { vec_len shared.now.changes < 2 ^ 63 }
-    ensures { IfOk result (λ e. IsEntering shared.now.dependencies.marks (length shared.now.changes.items) (seen_of shared.now) pid machine.now e) }
-{
-    let plan = plan_enter(alloc, pid, stop, machine, shared)?;
-    let reads = with_own(alloc, pid, &plan.reads)?;
-    let writes = all_writes(alloc, pid, &plan)?;
-    let spare = spare_pipe(alloc, &plan.pipes)?;
-    let change = change_number(&plan.change, shared.changes.len());
-    let mark = shared.dependencies.mark(&reads, change);
-    Ok(Entering {
-        pid,
-        plan,
-        writes,
-        mark,
-        spare,
-    })
-}
-
 /// The machine of a process that a fork makes: its parent's, told 0.
 fn forked_machine(alloc: Global, machine: &Machine) -> Result<Machine, AllocError>
     requires stands { stands_at machine.now ≡ Some Stop.Call }
@@ -163,23 +124,50 @@ fn forked_machine(alloc: Global, machine: &Machine) -> Result<Machine, AllocErro
     Ok(child)
 }
 
-/// The process that an Enter makes, if it makes one, where its parent's machine and trace are these, and so many changes are
-/// committed.
-pub fn prepare_child(
+/// The process of this number, if an Enter makes one, where its parent's machine and trace are these.
+fn prepare_child(
     alloc: Global,
+    number: Option<u32>,
     machine: &Machine,
     trace: &Trace,
-    entering: &Entering,
-    committed: u64,
 ) -> Result<Option<Task>, AllocError>
-    requires stands { is_some entering.now.plan.child ≡ true → stands_at machine.now ≡ Some Stop.Call }
+    requires stands { is_some number ≡ true → stands_at machine.now ≡ Some Stop.Call }
     requires budget { machine.now.count < 2 ^ 40 }
-    ensures { IfOk result (λ child. IsChild entering.now committed machine.now trace.now child) }
+    ensures { IfOk result (λ child. IsChild number machine.now trace.now child) }
 {
-    let Some(pid) = entering.plan.child else {
+    let Some(pid) = number else {
         return Ok(None);
     };
     let machine = forked_machine(alloc, machine)?;
-    let trace = trace.forked(alloc, entering.mark, committed)?;
+    let trace = trace.forked(alloc)?;
     Ok(Some(Task::made(pid, machine, trace)))
+}
+
+/// What an Enter of a process comes to whose machine and trace are these, and stands here.
+pub fn prepare(
+    alloc: Global,
+    pid: u32,
+    stop: Stop,
+    machine: &Machine,
+    trace: &Trace,
+    shared: &Shared,
+) -> Result<Entering, AllocError>
+    requires stands { stands_at machine.now ≡ Some stop }
+    requires budget { machine.now.count < 2 ^ 40 }
+    requires fine { MayPlan (seen_of shared.now) pid }
+    ensures { IfOk result (λ e. IsEntering (seen_of shared.now) pid machine.now trace.now e) }
+{
+    let plan = plan_enter(alloc, pid, stop, machine, shared)?;
+    let reads = with_own(alloc, pid, &plan.reads)?;
+    let writes = all_writes(alloc, pid, &plan)?;
+    let spare = spare_pipe(alloc, &plan.pipes)?;
+    let child = prepare_child(alloc, plan.child, machine, trace)?;
+    Ok(Entering {
+        pid,
+        plan,
+        reads,
+        writes,
+        spare,
+        child,
+    })
 }

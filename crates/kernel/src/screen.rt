@@ -1,5 +1,5 @@
 //! A terminal's bytes, and how many of them may be shown.
-ghost use Rattle.std.specs.Prelude.{◌≡◌, ◌+◌, ◌≤◌, ◌++◌, [], OnOk, OnErr, vec_len, vec_capacity, length, take, replicate};
+ghost use Rattle.std.specs.Prelude.{◌≡◌, ◌+◌, ◌≤◌, ◌++◌, [], OnOk, vec_len, vec_capacity, length, take, replicate, nat_lt};
 ghost use Rattle.kernel.specs.Marked.{front_of};
 
 use crate::front::front_from;
@@ -51,18 +51,35 @@ impl Screen {
         &self.bytes[..self.shown]
     }
 
-    /// Appends the bytes of an event of this mark. Where memory runs out nothing has changed.
-    pub fn append(&mut self, bytes: &[u8], mark: Mark) -> Result<(), AllocError>
-        ensures bytes { OnOk result (self.new.bytes.items ≡ self.old.bytes.items ++ bytes.now) }
-        ensures marks { OnOk result (self.new.marks.items ≡ self.old.marks.items ++ replicate (length bytes.now) mark) }
-        ensures shown { self.new.shown ≡ self.old.shown }
-        ensures err_bytes { OnErr result (self.new.bytes.items ≡ self.old.bytes.items) }
-        ensures err_marks { OnErr result (self.new.marks.items ≡ self.old.marks.items) }
+    /// Whether some byte may not be shown.
+    pub fn holds_back(&self) -> bool
+        ensures { result ≡ nat_lt self.now.shown (length self.now.bytes.items) }
     {
-        self.marks.reserve(bytes.len())?;
-        self.bytes.extend_from_slice(bytes)?;
+        self.shown < self.bytes.len()
+    }
+
+    /// Makes room for so many bytes more.
+    pub fn reserve(&mut self, count: usize) -> Result<(), AllocError>
+        ensures bytes_room { OnOk result (vec_len self.new.bytes + count ≤ vec_capacity self.new.bytes) }
+        ensures marks_room { OnOk result (vec_len self.new.marks + count ≤ vec_capacity self.new.marks) }
+        ensures bytes { self.new.bytes.items ≡ self.old.bytes.items }
+        ensures marks { self.new.marks.items ≡ self.old.marks.items }
+        ensures shown { self.new.shown ≡ self.old.shown }
+    {
+        self.bytes.reserve(count)?;
+        self.marks.reserve(count)
+    }
+
+    /// Appends the bytes of an event of this mark. Takes no memory.
+    pub fn append(&mut self, bytes: &[u8], mark: Mark)
+        requires bytes { vec_len self.old.bytes + length bytes.now ≤ vec_capacity self.old.bytes }
+        requires marks { vec_len self.old.marks + length bytes.now ≤ vec_capacity self.old.marks }
+        ensures bytes { self.new.bytes.items ≡ self.old.bytes.items ++ bytes.now }
+        ensures marks { self.new.marks.items ≡ self.old.marks.items ++ replicate (length bytes.now) mark }
+        ensures shown { self.new.shown ≡ self.old.shown }
+    {
+        self.bytes.extend_from_slice(bytes).unwrap();
         push_times(&mut self.marks, mark, bytes.len());
-        Ok(())
     }
 
     /// Moves the count of what may be shown on, over bytes that rest on the first so many changes alone.

@@ -1,26 +1,23 @@
 //! Loans' results taken back.
 ghost use Rattle.std.specs.Prelude.{ℕ, ◌≡◌, ◌≢◌, ◌+◌, ◌<◌, ◌≤◌, ◌^◌, ◌++◌, ◌∷◌, [], ◌↔◌, IsTrue, List, length, vec_len, vec_capacity, Some, None, IfOk, IfErr, OnOk, OnErr};
 ghost use Rattle.machine_model.specs.States.{stands_at};
-ghost use Rattle.commit_deps.specs.Keeps.{Keeps};
 ghost use Rattle.kernel_model.specs.Answers.{AllAccepted};
-ghost use Rattle.kernel_model.specs.Entries.{Entry};
 ghost use Rattle.kernel_model.specs.Loans.{IsOfLoan, returned, events_of, settled, settled_answer};
-ghost use Rattle.kernel_model.specs.Steps.{own_entry};
 ghost use Rattle.kernel_model.specs.declared.answer.Refused.TheVariants.{Stranger, OutOfMemory};
 ghost use Rattle.kernel_model.specs.declared.answer.Outcome.{Outcome};
 ghost use Rattle.kernel.specs.Entering.{seen_of, MayPlan, IsSameTask, IsSameShared};
 ghost use Rattle.kernel.specs.Loaned.{loan_result};
-ghost use Rattle.kernel.specs.Settling.{IsLoanOf, IsBack, IsOwnNoted, IsTurnNoted, IsTurnEntered, IsCallSettled, IsUnsettled};
+ghost use Rattle.kernel.specs.Settling.{IsLoanOf, IsBack, IsTurnNoted, IsTurnEntered, IsCallSettled, IsUnsettled};
 
 use crate::boot::Core;
-use crate::enter::{finish, join, prepare_enter};
+use crate::enter::{finish, join, note_enter, prepare_enter};
 use crate::loan::{Done, Rejected};
 use crate::shared::Shared;
 use crate::task::Task;
 use crate::tasks::place_of;
-use crate::turn::reserve;
+use crate::turn::{note_own, reserve};
 use crate::whereabouts::Whereabouts;
-use commit_deps::{Carrier, Dependencies};
+use disk_model::{checkpoints_fit, made_files_change};
 use kernel_model::{Answer, Event, Refused};
 use machine::Machine;
 use machine_model::Stop;
@@ -45,31 +42,25 @@ fn come_back(task: &mut Task, machine: Machine)
     task.whereabouts = Whereabouts::Here(machine);
 }
 
-/// Notes the Turn of a process. Takes no memory.
-fn note_turn(dependencies: &mut Dependencies, pid: u32)
-    requires { 1 ≤ dependencies.old.room }
-    ensures noted { IsOwnNoted pid dependencies.old.marks dependencies.new.marks }
-    ensures room { dependencies.old.room ≤ dependencies.new.room + 1 }
-{
-    let own = [Carrier::Proc(pid)];
-    let mark = dependencies.mark(&own, None);
-    dependencies.note(&own, mark);
-}
-
-/// Takes a result back whose machine stands nowhere: it becomes a Turn.
+/// Takes a result back whose machine stands nowhere: it becomes a Turn, whose instructions are counted with those that ran
+/// before.
 fn settle_turn(
     history: &mut Vec<Event>,
+    ran: &mut u64,
     task: &mut Task,
     shared: &mut Shared,
     done: Done,
 ) -> Result<Answer, Rejected>
+    requires { ran.old < 2 ^ 63 }
     ensures task { OnOk result (IsBack done.machine task.old task.new) }
     ensures shared { OnOk result (IsTurnNoted done.pid shared.old shared.new) }
     ensures history { OnOk result (history.new.items ≡ history.old.items ++ Event.Turn done.pid done.count ∷ []) }
+    ensures ran { OnOk result (ran.new ≡ ran.old + done.count) }
     ensures answer { IfOk result (λ a. a ≡ Answer.Settled done.count done.stop None) }
     ensures same_task { OnErr result (task.new ≡ task.old) }
     ensures same_shared { OnErr result (IsSameShared shared.old shared.new) }
     ensures same_history { OnErr result (history.new.items ≡ history.old.items) }
+    ensures same_ran { OnErr result (ran.new ≡ ran.old) }
     ensures cause { IfErr result (λ r. r.why ≡ OutOfMemory) }
     ensures back { IfErr result (λ r. r.done ≡ done) }
 {
@@ -86,9 +77,10 @@ fn settle_turn(
         stop,
         ..
     } = done;
-    note_turn(&mut shared.dependencies, pid);
+    note_own(&mut shared.dependencies, pid);
     come_back(task, machine);
     history.push(Event::Turn { pid, n: count }).unwrap();
+    *ran += u64::from(count);
     Ok(Answer::Settled {
         count,
         stop,
@@ -120,16 +112,8 @@ fn settle_enter(
 {
     let pid = done.pid;
     let trace = &mut task.trace;
-    let Ok((entering, child)) = prepare_enter(
-        alloc,
-        history,
-        pid,
-        at,
-        &done.machine,
-        trace,
-        shared,
-        1,
-    ) else {
+    let Ok(entering) = prepare_enter(alloc, history, pid, at, &done.machine, trace, shared, 1)
+    else {
         return Err(Rejected {
             why: Refused::OutOfMemory,
             done,
@@ -141,8 +125,9 @@ fn settle_enter(
         stop,
         ..
     } = done;
-    note_turn(&mut shared.dependencies, pid);
-    let outcome = finish(&mut machine, &mut task.trace, shared, entering);
+    note_own(&mut shared.dependencies, pid);
+    let mark = note_enter(&mut shared.dependencies, &entering, shared.changes.len());
+    let (outcome, child) = finish(alloc, &mut machine, &mut task.trace, shared, entering, mark);
     come_back(task, machine);
     history.push(Event::Turn { pid, n: count }).unwrap();
     history.push(Event::Enter { pid }).unwrap();
@@ -154,10 +139,12 @@ fn settle_enter(
     Ok((answer, child))
 }
 
-/// Takes a result back of the process at this place, whose machine stands here: it becomes a Turn and an Enter.
+/// Takes a result back of the process at this place, whose machine stands here: it becomes a Turn, whose instructions are
+/// counted with those that ran before, and an Enter.
 fn settle_call(
     alloc: Global,
     history: &mut Vec<Event>,
+    ran: &mut u64,
     tasks: &mut Vec<Task>,
     shared: &mut Shared,
     done: Done,
@@ -168,11 +155,14 @@ fn settle_call(
     requires stands { stands_at done.machine ≡ Some at }
     requires fine { MayPlan (seen_of shared.old) done.pid }
     requires few { shared.old.told < 2 ^ 63 }
+    requires few_ran { ran.old < 2 ^ 63 }
     ensures done { IfOk result (λ a. IsCallSettled done place tasks.old.items tasks.new.items shared.old shared.new a) }
     ensures history { OnOk result (history.new.items ≡ history.old.items ++ Event.Turn done.pid done.count ∷ Event.Enter done.pid ∷ []) }
+    ensures ran { OnOk result (ran.new ≡ ran.old + done.count) }
     ensures same { OnErr result (IsUnsettled place tasks.old.items tasks.new.items) }
     ensures same_shared { OnErr result (IsSameShared shared.old shared.new) }
     ensures same_history { OnErr result (history.new.items ≡ history.old.items) }
+    ensures same_ran { OnErr result (ran.new ≡ ran.old) }
     ensures cause { IfErr result (λ r. r.why ≡ OutOfMemory) }
     ensures back { IfErr result (λ r. r.done ≡ done) }
 {
@@ -183,8 +173,10 @@ fn settle_call(
         });
     }
     let task = &mut tasks[place];
+    let count = u64::from(done.count);
     let (answer, child) = settle_enter(alloc, history, task, shared, done, at)?;
     join(tasks, child);
+    *ran += count;
     Ok(answer)
 }
 
@@ -202,6 +194,8 @@ impl Core {
         ensures back { IfErr result (λ r. r.done ≡ done) }
         ensures err { OnErr result (self.new ≡ self.old) }
     {
+        checkpoints_fit();
+        made_files_change();
         let Some(place) = place_of(&self.tasks, done.pid) else {
             return Err(Rejected {
                 why: Refused::Stranger,
@@ -216,10 +210,17 @@ impl Core {
             });
         }
         match done.machine.stopped() {
-            None => settle_turn(&mut self.history, task, &mut self.shared, done),
+            None => settle_turn(
+                &mut self.history,
+                &mut self.ran,
+                task,
+                &mut self.shared,
+                done,
+            ),
             Some(at) => settle_call(
                 self.alloc,
                 &mut self.history,
+                &mut self.ran,
                 &mut self.tasks,
                 &mut self.shared,
                 done,

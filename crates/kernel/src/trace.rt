@@ -124,29 +124,26 @@ impl Trace {
         self.committed = committed;
     }
 
-    /// The trace of a process that a fork of this one makes by an event of this mark, where so many changes are committed:
-    /// the same replies, and then one of 0.
-    pub fn forked(&self, alloc: Global, mark: Mark, committed: u64) -> Result<Trace, AllocError>
-        ensures replies { IfOk result (λ trace. trace.replies.items ≡ self.now.replies.items ++ zero_reply ∷ []) }
-        ensures marks { IfOk result (λ trace. trace.marks.items ≡ self.now.marks.items ++ mark ∷ []) }
-        ensures handed { IfOk result (λ trace. trace.handed ≡ front_of committed trace.marks.items) }
+    /// The trace of a process that a fork of this one makes, before it is told anything: the same replies, and room for one
+    /// more.
+    pub fn forked(&self, alloc: Global) -> Result<Trace, AllocError>
+        ensures replies { IfOk result (λ trace. trace.replies.items ≡ self.now.replies.items) }
+        ensures marks { IfOk result (λ trace. trace.marks.items ≡ self.now.marks.items) }
         ensures end { IfOk result (λ trace. trace.end ≡ None) }
         ensures waited { IfOk result (λ trace. trace.waited ≡ None) }
+        ensures replies_room { IfOk result (λ trace. vec_len trace.replies < vec_capacity trace.replies) }
+        ensures marks_room { IfOk result (λ trace. vec_len trace.marks < vec_capacity trace.marks) }
     {
-        let mut replies = copies_of(alloc, &self.replies)?;
-        replies.push(zero_reply(alloc))?;
-        let mut marks = Vec::new(alloc);
-        marks.extend_from_slice(&self.marks)?;
-        marks.push(mark)?;
-        let handed = front_from(&marks, 0, 0, committed);
-        Ok(Trace {
-            replies,
-            marks,
-            handed,
-            committed,
+        let mut trace = Trace {
+            replies: copies_of(alloc, &self.replies)?,
+            marks: self.marks.to_vec(alloc)?,
+            handed: self.handed,
+            committed: self.committed,
             end: None,
             waited: None,
-        })
+        };
+        trace.reserve()?;
+        Ok(trace)
     }
 }
 

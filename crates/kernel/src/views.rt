@@ -1,13 +1,25 @@
 //! What may be seen of a run.
 ghost use Rattle.std.specs.Prelude.{◌≡◌, ◌<◌, None, true, is_some, IfOk, OnOk, IfErr};
-ghost use Rattle.kernel_model.specs.Answers.{now, process_of, committed as committed_in, in_flight as least_in_flight};
+ghost use Rattle.std.specs.List.{list_any};
+ghost use Rattle.kernel_model.specs.Answers.{now, process_of, committed as committed_in, changes as changes_in, in_flight as least_in_flight, wants_cut as is_cut_wanted};
+ghost use Rattle.kernel_model.specs.Ran.{ran_by_turns};
 ghost use Rattle.kernel_model.specs.Shown.{shown as shown_of, handed, replies_in, end_in};
 ghost use Rattle.kernel_model.specs.declared.answer.Refused.TheVariants.{NoProcess};
+ghost use Rattle.kernel.specs.Seen.{holds_back};
 
 use crate::boot::Core;
+use crate::screen::Screen;
 use crate::tasks::place_of;
+use files::FileTable;
 use kernel_model::{Event, Refused};
 use machine_model::Reply;
+
+/// Whether some screen holds a byte back.
+fn is_any_held_back(screens: &[Screen]) -> bool
+    ensures { result ≡ list_any holds_back screens.now }
+{
+    screens.iter().any(|screen| screen.holds_back())
+}
 
 impl Core {
     /// The bytes that a terminal, 0 to 7, shows: the longest front of those written to it that rests on committed changes
@@ -64,6 +76,35 @@ impl Core {
         ensures { result ≡ committed_in (now self.now) }
     {
         self.shared.disk.committed()
+    }
+
+    /// How many changes of files there are, committed or not.
+    pub fn changes(&self) -> u64
+        ensures { result ≡ changes_in (now self.now) }
+    {
+        self.shared.changes.len() as u64
+    }
+
+    /// How many instructions the history's Turns ran, those of loans' results among them.
+    pub fn ran(&self) -> u64
+        ensures { result ≡ ran_by_turns self.now }
+    {
+        self.ran
+    }
+
+    /// Whether a Cut is wanted: a byte of some terminal is held back, no group is in flight, and no write has failed.
+    pub fn wants_cut(&self) -> bool
+        ensures { result ≡ is_cut_wanted (now self.now) }
+    {
+        let held = is_any_held_back(&self.shared.screens);
+        self.shared.disk.wants_cut(held)
+    }
+
+    /// The files that the disk held at boot.
+    pub fn boot_files(&self) -> &FileTable
+        ensures { result.now ≡ self.now.boot.files }
+    {
+        &self.booted.files
     }
 
     /// The least offset on the disk at which a write in flight begins.

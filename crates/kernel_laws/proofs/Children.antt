@@ -1,8 +1,8 @@
 -- Of all events a fork alone makes a process, which is the next by number.
-use Rattle.std.proofs.Common.{◌≡◌, ℕ, ◌+◌, ◌≤◌, ◌==◌, ◌||◌, nat_lt, nat_le, Bool, true, false, not, List, length, Option, Some, None, is_some, IfSome, slice_get, refl, sym, subst, arith}
+use Rattle.std.proofs.Common.{◌≡◌, ℕ, ◌+◌, ◌<◌, ◌≤◌, ◌==◌, ◌||◌, nat_lt, nat_le, Bool, true, false, not, List, length, Option, Some, None, is_some, IfSome, slice_get, refl, sym, subst, arith}
 use Rattle.std.specs.Prelude.{if◌then◌else◌}
 use Rattle.std.specs.List.{list_all}
-use Rattle.std.proofs.lemmas.Bool.{ne_eqb}
+use Rattle.std.proofs.lemmas.Bool.{ne_eqb, leb-false}
 use Rattle.std.proofs.lemmas.List.{length-map}
 use Rattle.disk_model.specs.declared.change.NamedFile.{NamedFile}
 use Rattle.machine_model.specs.States.{stands_at}
@@ -124,19 +124,20 @@ row_wait_none : (statuses : List (Option ℕ)) (children : List ℕ) (at : ℕ) 
 row_wait_none statuses children at fits =
     if_none (not fits) _ _ refl (if_none (length children == 0) _ _ refl (wait_ended_none at children (first_ended statuses children)))
 
--- the process that is made, if one is, is the next one after so many
+-- the process that is made, if one is, is the next one after so many, and there are not too many
 abbrev pub IsNext : ℕ → Option ℕ → Type 0
-IsNext count o = IfSome o (λ child. child ≡ count + 1)
+IsNext count o = IfSome o (λ child. (child ≡ count + 1) × (count < most_processes))
 
 none_next : (count : ℕ) (o : Option ℕ) → o ≡ None → IsNext count o
 none_next count o none = subst (IsNext count) (sym none) tt
 
 row_fork_next : (count : ℕ) (ds : List (Option Descriptor)) → IsNext count (row_fork count ds).child
-row_fork_next count ds = by (nat_le most_processes count) _ _ tt refl
+row_fork_next count ds = by (nat_le most_processes count) _ _ refl tt (λ few. (refl, few))
   where
-    by : (b : Bool) (x y : Effect) → IsNext count x.child → IsNext count y.child → IsNext count (if b then x else y).child
-    by true x y f g = f
-    by false x y f g = g
+    by : (b : Bool) (x y : Effect) → nat_le most_processes count ≡ b → IsNext count x.child → (count < most_processes → IsNext count y.child)
+        → IsNext count (if b then x else y).child
+    by true x y e f g = f
+    by false x y e f g = g (leb-false most_processes count e)
 
 row_next : (s : Shared) (p : ℕ) (ds : List (Option Descriptor)) (children : List ℕ) (r : Request) → IsNext (length s.statuses) (row s p ds children r).child
 row_next s p ds children (request.Exit status) = tt

@@ -1,160 +1,59 @@
--- The disk of a run is that of a run of the disk, so that what a crash of the one leaves, a crash of the other leaves.
-use Rattle.std.proofs.Common.{◌≡◌, ℕ, ◌≤◌, List, [], ◌∷◌, ◌++◌, length, take, drop, Option, Some, None, option_to_list, IfSome, refl, sym, ap, subst, ◌∙◌}
+-- Each change of a run is possible where it comes, so that what a crash of the disk's run leaves holds a front of the changes.
+use Rattle.std.proofs.Common.{◌≤◌, List, [], ◌∷◌, length, take, Option, Some, None, option_to_list, IfSome, refl, sym, subst}
 use Rattle.disk_model.specs.declared.change.Change.{Change}
 use Rattle.disk_model.specs.declared.change.NamedFile.{NamedFile}
 use Rattle.disk_model.specs.Files.{Follow, IsMade, files_after}
-use Rattle.disk_model.specs.Held.{IsHeldTo, IsHeld, joined}
-use Rattle.disk_model.specs.Storage.{Storage, cut, completed, failed}
-use Rattle.disk_model.specs.Runs.{Move, Comes, Cuts, Completes, Fails, Run, first_run, moved, ran, changes_of as changes_in}
+use Rattle.disk_model.specs.Held.{IsHeld}
+use Rattle.disk_model.specs.Runs.{Run, changes_of as changes_in}
 use Rattle.disk_model.specs.Crash.{IsCrashOf}
-use Rattle.disk_model.proofs.Reading.{follow_both}
 use Rattle.kernel_model.specs.Bytes.{ProgramsHoldBytes, TapesHoldBytes}
-use Rattle.kernel_model.specs.Entries.{Entry}
 use Rattle.kernel_model.specs.Paths.{changes_of}
-use Rattle.kernel_model.specs.Steps.{disk_entry, step}
+use Rattle.kernel_model.specs.Steps.{step}
 use Rattle.kernel_model.specs.World.{World, Boot, HoldsItsFiles, begun, happens, after}
 use Rattle.kernel_model.specs.declared.event.Event.{Event}
-use Rattle.kernel_model.specs.declared.event.Event.TheVariants.{Turn, Enter, Cut, Complete, Fail}
 use Rattle.kernel_model.proofs.Folding.{IsFoldOf, happens_folded}
-use Rattle.kernel_model.proofs.Runs.{append-nil, changes_of-entry}
+use Rattle.kernel_model.proofs.Runs.{changes_of-entry}
 use Rattle.kernel_laws.specs.Crashes.{SurvivesCrash}
+use Rattle.kernel_laws.proofs.DiskLaws.{DiskLaws}
+use Rattle.kernel_laws.proofs.DiskRuns.{IsDiskRun, disk_run}
 use Rattle.kernel_laws.proofs.Possible.{IsPossible}
 use Rattle.kernel_laws.proofs.Sound.{AreFit, step_fit, begun_fit}
 
--- ---- the disk's law
-
--- what a crash of a disk's run leaves
-abbrev pub CrashLaw : Type 0
-CrashLaw = (disk : List ℕ) (gate : ℕ) (files : List NamedFile) → IsHeldTo disk gate files
-    → (moves : List Move) → Follow files (changes_in moves)
-    → (left : List ℕ) → IsCrashOf (ran files (first_run disk gate) moves).storage.drive left
-    → (k : ℕ) × ((ran files (first_run disk gate) moves).storage.committed ≤ k) × (k ≤ length (changes_in moves))
-    × IsHeld left (files_after files (take k (changes_in moves)))
-
--- ---- an event as moves of the disk
-
-come : Option Change → List Move
-come None = []
-come (Some c) = Comes c ∷ []
-
-moves_of : Event → Option Change → List Move
-moves_of (Turn pid n) o = come o
-moves_of (Enter pid) o = come o
-moves_of Cut o = Cuts ∷ []
-moves_of (Complete at) o = Completes at ∷ []
-moves_of (Fail at) o = Fails at ∷ []
-
-come_changes : (o : Option Change) → changes_in (come o) ≡ option_to_list o
-unfolding come
-come_changes None = refl
-come_changes (Some c) = refl
-
-changes_in-append : (ms ns : List Move) → changes_in (ms ++ ns) ≡ changes_in ms ++ changes_in ns
-changes_in-append [] ns = refl
-changes_in-append (Comes c ∷ ms) ns = ap (λ cs. c ∷ cs) (changes_in-append ms ns)
-changes_in-append (Cuts ∷ ms) ns = changes_in-append ms ns
-changes_in-append (Completes at ∷ ms) ns = changes_in-append ms ns
-changes_in-append (Fails at ∷ ms) ns = changes_in-append ms ns
-
-ran-append : (files : List NamedFile) (r : Run) (ms ns : List Move) → ran files r (ms ++ ns) ≡ ran files (ran files r ms) ns
-ran-append files r [] ns = refl
-ran-append files r (m ∷ ms) ns = ran-append files (moved files r m) ms ns
-
--- the changes of an event are those of its moves
-event_changes : (w : World) (e : Event) → changes_in (moves_of e (step w.sync e).entry.change) ≡ option_to_list (step w.sync e).entry.change
-unfolding moves_of
-event_changes w (Turn pid n) = come_changes (step w.sync (Turn pid n)).entry.change
-event_changes w (Enter pid) = come_changes (step w.sync (Enter pid)).entry.change
-event_changes w Cut = refl
-event_changes w (Complete at) = refl
-event_changes w (Fail at) = refl
-
--- the changes so far, and the disk
-abbrev run_of : World → Run
-run_of w = record { changes = changes_of w.log; storage = w.storage }
-
-come_runs : (files : List NamedFile) (cs : List Change) (st : Storage) (o : Option Change)
-    → ran files (record { changes = cs; storage = st }) (come o) ≡ record { changes = cs ++ option_to_list o; storage = st }
-unfolding come
-come_runs files cs st None = ap (λ (ds : List Change). record { changes = ds; storage = st }) (sym (append-nil cs))
-come_runs files cs st (Some c) = refl
-
--- the entry of an event of the disk adds no change
-same_changes : (log : List Entry) → changes_of (log ++ disk_entry ∷ []) ≡ changes_of log
-same_changes log = changes_of-entry log disk_entry ∙ append-nil (changes_of log)
-
--- an event does to the disk what its moves do
-event_runs : (files : List NamedFile) (w : World) (e : Event) → IsFoldOf files w
-    → ran files (run_of w) (moves_of e (step w.sync e).entry.change) ≡ run_of (happens w e)
-unfolding moves_of
-event_runs files w (Turn pid n) folded =
-    come_runs files (changes_of w.log) w.storage (step w.sync (Turn pid n)).entry.change
-    ∙ ap (λ (cs : List Change). record { changes = cs; storage = w.storage }) (sym (changes_of-entry w.log (step w.sync (Turn pid n)).entry))
-event_runs files w (Enter pid) folded =
-    come_runs files (changes_of w.log) w.storage (step w.sync (Enter pid)).entry.change
-    ∙ ap (λ (cs : List Change). record { changes = cs; storage = w.storage }) (sym (changes_of-entry w.log (step w.sync (Enter pid)).entry))
-event_runs files w Cut folded =
-    ap (λ (fs : List NamedFile). record { changes = changes_of w.log; storage = cut w.storage (drop w.storage.committed (changes_of w.log)) fs }) (sym folded)
-    ∙ ap (λ (cs : List Change). record { changes = cs; storage = cut w.storage (drop w.storage.committed (changes_of w.log)) w.sync.files }) (sym (same_changes w.log))
-event_runs files w (Complete at) folded =
-    ap (λ (cs : List Change). record { changes = cs; storage = completed w.storage at }) (sym (same_changes w.log))
-event_runs files w (Fail at) folded =
-    ap (λ (cs : List Change). record { changes = cs; storage = failed w.storage at }) (sym (same_changes w.log))
-
--- ---- what holds all along
-pub record IsDiskRun (b : Boot) (w : World) : Type 0 where
+-- what holds all along
+record IsPossibleRun (b : Boot) (w : World) : Type 0 where
   pub fit : AreFit w.sync
   pub folded : IsFoldOf b.files w
   pub possible : Follow b.files (changes_of w.log)
-  pub moves : List Move
-  pub changes : changes_in moves ≡ changes_of w.log
-  pub runs : ran b.files (first_run b.disk b.gate) moves ≡ run_of w
 
 one_follows : (files : List NamedFile) (o : Option Change) → IfSome o (IsPossible files) → Follow files (option_to_list o)
 one_follows files None h = tt
 one_follows files (Some c) h = (h.0, h.1, tt)
 
-happens_runs : (b : Boot) (w : World) (e : Event) → IsDiskRun b w → IsDiskRun b (happens w e)
-happens_runs b w e h =
+happens_possible : DiskLaws → (b : Boot) (w : World) (e : Event) → IsPossibleRun b w → IsPossibleRun b (happens w e)
+happens_possible laws b w e h =
     let entry = (step w.sync e).entry in
-    let more = moves_of e entry.change in
-    let goes = step_fit w.sync e h.fit in
+    let goes = step_fit laws w.sync e h.fit in
     let follows : Follow (files_after b.files (changes_of w.log)) (option_to_list entry.change) =
     subst (λ (fs : List NamedFile). Follow fs (option_to_list entry.change)) h.folded (one_follows w.sync.files entry.change goes.possible) in
     record {
       fit = goes.fit;
       folded = happens_folded b.files w e h.folded;
       possible = subst (λ (cs : List Change). Follow b.files cs) (sym (changes_of-entry w.log entry))
-          (follow_both b.files (changes_of w.log) (option_to_list entry.change) h.possible follows);
-      moves = h.moves ++ more;
-      changes = changes_in-append h.moves more
-          ∙ ap (λ (cs : List Change). cs ++ changes_in more) h.changes
-          ∙ ap (λ (cs : List Change). changes_of w.log ++ cs) (event_changes w e)
-          ∙ sym (changes_of-entry w.log entry);
-      runs = ran-append b.files (first_run b.disk b.gate) h.moves more
-          ∙ ap (λ (r : Run). ran b.files r more) h.runs
-          ∙ event_runs b.files w e h.folded;
+          (laws.possible b.files (changes_of w.log) (option_to_list entry.change) h.possible follows);
     }
 
-after_runs : (b : Boot) (es : List Event) (w : World) → IsDiskRun b w → IsDiskRun b (after w es)
-after_runs b [] w h = h
-after_runs b (e ∷ es) w h = after_runs b es (happens w e) (happens_runs b w e h)
+after_possible : DiskLaws → (b : Boot) (es : List Event) (w : World) → IsPossibleRun b w → IsPossibleRun b (after w es)
+after_possible laws b [] w h = h
+after_possible laws b (e ∷ es) w h = after_possible laws b es (happens w e) (happens_possible laws b w e h)
 
-begun_runs : (b : Boot) → IsMade b.files → ProgramsHoldBytes b → TapesHoldBytes b → IsDiskRun b (begun b)
-begun_runs b made programs tapes = record {
-  fit = begun_fit b made programs tapes;
-  folded = refl;
-  possible = tt;
-  moves = [];
-  changes = refl;
-  runs = refl;
-}
+begun_possible : (b : Boot) → IsMade b.files → ProgramsHoldBytes b → TapesHoldBytes b → IsPossibleRun b (begun b)
+begun_possible b made programs tapes = record { fit = begun_fit b made programs tapes; folded = refl; possible = tt }
 
 -- ---- the law
-run_survives : CrashLaw → (b : Boot) (w : World) → HoldsItsFiles b → IsDiskRun b w → SurvivesCrash b w
-run_survives law b w held h left crash =
-    let follow : Follow b.files (changes_in h.moves) = subst (λ (cs : List Change). Follow b.files cs) (sym h.changes) h.possible in
-    let k = law b.disk b.gate b.files held h.moves follow left (subst (λ (r : Run). IsCrashOf r.storage.drive left) (sym h.runs) crash) in
+run_survives : DiskLaws → (b : Boot) (w : World) → HoldsItsFiles b → IsDiskRun b w → Follow b.files (changes_of w.log) → SurvivesCrash b w
+run_survives laws b w held h possible left crash =
+    let follow : Follow b.files (changes_in h.moves) = subst (λ (cs : List Change). Follow b.files cs) (sym h.changes) possible in
+    let k = laws.crashes b.disk b.gate b.files held h.moves follow left (subst (λ (r : Run). IsCrashOf r.storage.drive left) (sym h.runs) crash) in
     record {
       count = k.0;
       every_committed = subst (λ (r : Run). r.storage.committed ≤ k.0) h.runs k.1;
@@ -162,8 +61,9 @@ run_survives law b w held h left crash =
       held = subst (λ (cs : List Change). IsHeld left (files_after b.files (take k.0 cs))) h.changes k.3;
     }
 
-pub crash_keeps : CrashLaw → (b : Boot) (es : List Event) → HoldsItsFiles b → ProgramsHoldBytes b → TapesHoldBytes b
+pub crash_keeps : DiskLaws → (b : Boot) (es : List Event) → HoldsItsFiles b → ProgramsHoldBytes b → TapesHoldBytes b
     → SurvivesCrash b (after (begun b) es)
-crash_keeps law b es held programs tapes =
-    let made : IsMade b.files = (joined held.reads.groups, held.reads.possible, held.reads.makes) in
-    run_survives law b (after (begun b) es) held (after_runs b es (begun b) (begun_runs b made programs tapes))
+crash_keeps laws b es held programs tapes =
+    let made : IsMade b.files = laws.made b.disk b.gate b.files held in
+    let possible = after_possible laws b es (begun b) (begun_possible b made programs tapes) in
+    run_survives laws b (after (begun b) es) held (disk_run b es) possible.possible

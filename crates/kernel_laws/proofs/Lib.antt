@@ -1,3 +1,4 @@
+pub mod DiskLaws
 pub mod Machines
 pub mod Fronts
 pub mod Processes
@@ -14,5 +15,10 @@ pub mod Bytes
 pub mod Each
 pub mod Possible
 pub mod Sound
+pub mod DiskRuns
 pub mod Crashing
+pub mod Groups
+pub mod AllShown
 pub mod Gathering
+pub mod Keeping
+pub mod Resuming

@@ -10,11 +10,10 @@ use Rattle.std.proofs.lemmas.List.{length-map}
 use Rattle.std.proofs.lemmas.List.Quantifiers.{position-Some}
 use Rattle.std.proofs.lemmas.Slice.Eq.{bytes_eq-Decides}
 use Rattle.std.proofs.Math.ListN.{length-set}
-use Rattle.disk_model.specs.Files.{IsNameByte, IsFormed, MayCome, changed, patched, with_bytes}
+use Rattle.disk_model.specs.Files.{IsNameByte, IsFormed, MayCome, FileHoldsBytes, FilesHoldBytes, changed, patched, with_bytes}
 use Rattle.disk_model.specs.declared.change.Change.{Change}
 use Rattle.disk_model.specs.declared.change.Change.TheVariants as change
 use Rattle.disk_model.specs.declared.change.NamedFile.{NamedFile}
-use Rattle.disk_model.proofs.Tidy.{IsTidy, IsTidyFile, all_append, all_take, all_drop}
 use Rattle.machine_model.specs.Access.{HoldsBytes, bytes_at, range_fault, to_read}
 use Rattle.machine_model.specs.Memory.{Memory}
 use Rattle.machine_model.specs.States.{State}
@@ -36,7 +35,7 @@ use Rattle.kernel_model.specs.declared.request.Request.TheVariants as request
 use Rattle.kernel_model.specs.declared.request.Verdict.{Verdict}
 use Rattle.kernel_model.specs.declared.request.Verdict.TheVariants.{Waits, Replies, Ends}
 use Rattle.kernel_laws.proofs.Bytes.{AreBytes, bytes_at-small}
-use Rattle.kernel_laws.proofs.Each.{each_at, each_set, each_more}
+use Rattle.kernel_laws.proofs.Each.{each_at, each_set, each_more, each_append, each_take, each_drop}
 
 -- ---- descriptors
 
@@ -138,7 +137,8 @@ PipeHoldsBytes p = AreBytes p.written
 
 -- there are few files, and files, pipes and tapes hold bytes
 pub record IsReadable (s : Shared) : Type 0 where
-  pub files : IsTidy s.files
+  pub few : length s.files ≤ 32
+  pub files : FilesHoldBytes s.files
   pub pipes : AllByRecursion PipeHoldsBytes s.pipes
   pub tapes : AllByRecursion TapeHoldsBytes s.tapes
 
@@ -234,7 +234,7 @@ write_pipe_sound files k bytes (Some p) are =
     if_sound files (nat_le pipe_size (length (unread p))) _ _ (λ _. pipe_sound files k Waits [] tt tt) (λ _.
     let taken = take (pipe_size - length (unread p)) bytes in
     pipe_sound files k (number (length taken)) (pipe_step.Put k taken ∷ []) tt
-    (all_take (λ (b : ℕ). b < 256) (pipe_size - length (unread p)) bytes are, tt)))
+    (each_take (λ (b : ℕ). b < 256) (pipe_size - length (unread p)) bytes are, tt)))
 
 write_to_sound : (s : Shared) (d : Option Descriptor) (fd : ℕ) (bytes : List ℕ) → length s.files ≤ 32 → NamesFile (length s.files) d
     → 1 ≤ length bytes → length bytes ≤ 1024 → AreBytes bytes → IsSound s.files (write_to s d fd bytes)
@@ -265,7 +265,7 @@ row_write_sound s d fd n o few names are =
 
 -- at most n of these bytes, from a place on
 some_bytes : (n place : ℕ) (bytes : List ℕ) → AreBytes bytes → AreBytes (take n (drop place bytes))
-some_bytes n place bytes are = all_take (λ (b : ℕ). b < 256) n (drop place bytes) (all_drop (λ (b : ℕ). b < 256) place bytes are)
+some_bytes n place bytes are = each_take (λ (b : ℕ). b < 256) n (drop place bytes) (each_drop (λ (b : ℕ). b < 256) place bytes are)
 
 read_tape_sound : (files : List NamedFile) (t at n : ℕ) (o : Option TapeState) → IfSome o TapeHoldsBytes → IsSound files (read_tape t at n o)
 read_tape_sound files t at n None holds = still files _ refl tt
@@ -273,12 +273,12 @@ read_tape_sound files t at n (Some tape) holds =
     let bytes = take n (drop tape.place tape.bytes) in
     still files _ refl (placed_told (length bytes) at bytes (some_bytes n tape.place tape.bytes holds))
 
-read_file_sound : (files : List NamedFile) (fd file offset at n : ℕ) (o : Option NamedFile) → file < length files → IfSome o IsTidyFile
+read_file_sound : (files : List NamedFile) (fd file offset at n : ℕ) (o : Option NamedFile) → file < length files → IfSome o FileHoldsBytes
     → IsSound files (read_file fd file offset at n o)
-read_file_sound files fd file offset at n None there tidy = still files _ refl tt
-read_file_sound files fd file offset at n (Some f) there tidy =
+read_file_sound files fd file offset at n None there holds = still files _ refl tt
+read_file_sound files fd file offset at n (Some f) there holds =
     let bytes = take n (drop offset f.bytes) in
-    record { change = tt; slots = (there, tt); told = placed_told (length bytes) at bytes (some_bytes n offset f.bytes tidy.bytes); pipes = tt }
+    record { change = tt; slots = (there, tt); told = placed_told (length bytes) at bytes (some_bytes n offset f.bytes holds.1); pipes = tt }
 
 read_pipe_sound : (files : List NamedFile) (k at n : ℕ) (o : Option PipeState) → IfSome o PipeHoldsBytes → IsSound files (read_pipe k at n o)
 read_pipe_sound files k at n None holds = still files _ refl tt
@@ -292,7 +292,7 @@ read_pipe_sound files k at n (Some p) holds =
 read_from_sound : (s : Shared) (d : Option Descriptor) (fd at n : ℕ) → IsReadable s → NamesFile (length s.files) d → IsSound s.files (read_from s d fd at n)
 read_from_sound s (Some (descriptor.Tape t)) fd at n ready names = read_tape_sound s.files t at n (slice_get s.tapes t) (each_at TapeHoldsBytes s.tapes t ready.tapes)
 read_from_sound s (Some (descriptor.File file offset false)) fd at n ready names =
-    read_file_sound s.files fd file offset at n (slice_get s.files file) names (each_at IsTidyFile s.files file ready.files.each)
+    read_file_sound s.files fd file offset at n (slice_get s.files file) names (each_at FileHoldsBytes s.files file ready.files)
 read_from_sound s (Some (descriptor.File file offset true)) fd at n ready names = still s.files _ refl tt
 read_from_sound s (Some (descriptor.Pipe (pipe_end.Read k))) fd at n ready names =
     read_pipe_sound s.files k at n (slice_get s.pipes k) (each_at PipeHoldsBytes s.pipes k ready.pipes)
@@ -372,7 +372,7 @@ pipe_made_sound : (files : List NamedFile) (k at reader writer : ℕ) → IsSoun
 pipe_made_sound files k at reader writer = record {
   change = tt;
   slots = (tt, (tt, tt));
-  told = all_append (λ (b : ℕ). b < 256) (to_le_bytes w32 reader) (to_le_bytes w32 writer) (word_bytes reader) (word_bytes writer);
+  told = each_append (λ (b : ℕ). b < 256) (to_le_bytes w32 reader) (to_le_bytes w32 writer) (word_bytes reader) (word_bytes writer);
   pipes = (tt, tt);
 }
 
@@ -457,10 +457,10 @@ row_sound : (s : Shared) (pid : ℕ) (ds : List (Option Descriptor)) (children :
     → IsRead r → IsSound s.files (row s pid ds children r)
 row_sound s pid ds children (request.Exit status) ready names read = row_end_sound s.files ds (status % 256)
 row_sound s pid ds children (request.Write fd n bytes) ready names read =
-    row_write_sound s (descriptor_at ds fd) fd n bytes ready.files.few (name_at (length s.files) ds fd names) read
+    row_write_sound s (descriptor_at ds fd) fd n bytes ready.few (name_at (length s.files) ds fd names) read
 row_sound s pid ds children (request.Read fd at n fits) ready names read =
     row_read_sound s (descriptor_at ds fd) fd at n fits ready (name_at (length s.files) ds fd names)
-row_sound s pid ds children (request.Open n mode name) ready names read = row_open_sound s.files ds n mode name ready.files.few read
+row_sound s pid ds children (request.Open n mode name) ready names read = row_open_sound s.files ds n mode name ready.few read
 row_sound s pid ds children (request.Close fd) ready names read = row_close_sound s.files (descriptor_at ds fd) fd
 row_sound s pid ds children (request.Pipe at fits) ready names read = row_pipe_sound s.files (length s.pipes) ds at fits
 row_sound s pid ds children request.Fork ready names read = row_fork_sound s.files (length s.statuses) ds

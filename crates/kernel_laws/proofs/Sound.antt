@@ -1,12 +1,10 @@
 -- All along a run descriptors stand for files that are there, memories, tapes, pipes and files hold bytes, and each change is
 -- possible where it comes.
-use Rattle.std.proofs.Common.{ℕ, zero, suc, ◌+◌, ◌<◌, ◌≤◌, Bool, true, false, if◌then◌else◌, List, [], ◌∷◌, length, slice_get, Option, Some, None, is_some, IfSome, sym, subst, arith}
+use Rattle.std.proofs.Common.{ℕ, zero, suc, ◌+◌, ◌<◌, ◌≤◌, Bool, true, false, if◌then◌else◌, List, [], ◌∷◌, length, slice_get, Option, Some, None, is_some, IfSome, arith}
 use Rattle.std.specs.List.{AllByRecursion}
 use Rattle.disk_model.specs.declared.change.Change.{Change}
 use Rattle.disk_model.specs.declared.change.NamedFile.{NamedFile}
 use Rattle.disk_model.specs.Files.{IsMade}
-use Rattle.disk_model.proofs.Reading.{made_more}
-use Rattle.disk_model.proofs.Tidy.{IsTidy, tidy_after, all_append}
 use Rattle.machine_model.specs.Access.{HoldsBytes}
 use Rattle.machine_model.specs.States.{stands_at}
 use Rattle.machine_model.specs.declared.reply.Reply.{Reply}
@@ -24,7 +22,8 @@ use Rattle.kernel_model.specs.declared.event.Event.TheVariants.{Turn, Enter, Cut
 use Rattle.kernel_model.specs.declared.request.Verdict.{Verdict}
 use Rattle.kernel_model.specs.declared.request.Verdict.TheVariants.{Waits, Replies, Ends}
 use Rattle.kernel_laws.proofs.Bytes.{AreBytes, run_holds, replied_holds}
-use Rattle.kernel_laws.proofs.Each.{each_at, each_set, each_more}
+use Rattle.kernel_laws.proofs.Each.{each_at, each_set, each_more, each_append}
+use Rattle.kernel_laws.proofs.DiskLaws.{DiskLaws}
 use Rattle.kernel_laws.proofs.Possible.{NameFiles, name_more, name_free, name_closed, name_set, changed-grows, IsPossible, TellsBytes, PutsBytes, PutBytes, PipeHoldsBytes, TapeHoldsBytes, IsReadable, IsSound, effect_sound}
 
 -- a process whose descriptors stand for some of so many files, and whose memory holds bytes
@@ -39,13 +38,9 @@ pub record AreFit (s : SyncState) : Type 0 where
   pub tapes : AllByRecursion TapeHoldsBytes s.tapes
   pub each : AllByRecursion (IsFit (length s.files)) s.processes
 
--- files that possible changes made are few, and hold bytes
-made_tidy : (files : List NamedFile) → IsMade files → IsTidy files
-made_tidy files made = subst IsTidy (sym made.2) (tidy_after made.0 made.1)
-
--- so are those of a state that is fit
-readable : (s : SyncState) → AreFit s → IsReadable (shared s)
-readable s h = record { files = made_tidy s.files h.made; pipes = h.pipes; tapes = h.tapes }
+-- the files of a state that is fit are few, and hold bytes
+readable : DiskLaws → (s : SyncState) → AreFit s → IsReadable (shared s)
+readable laws s h = record { few = (laws.rebuilt s.files h.made).few; files = laws.bytes s.files h.made; pipes = h.pipes; tapes = h.tapes }
 
 process_fit : (count : ℕ) (ps : List Process) (pid : ℕ) → AllByRecursion (IsFit count) ps → IfSome (process_at ps pid) (IsFit count)
 process_fit count ps zero h = tt
@@ -56,9 +51,9 @@ put_fit count ps zero p f h = h
 put_fit count ps (suc k) p f h = each_set (IsFit count) ps k p f h
 
 -- ---- the files after a change that is possible
-made_changed : (files : List NamedFile) (o : Option Change) → IsMade files → IfSome o (IsPossible files) → IsMade (changed_by files o)
-made_changed files None made possible = made
-made_changed files (Some c) made possible = made_more files c made possible.0 possible.1
+made_changed : DiskLaws → (files : List NamedFile) (o : Option Change) → IsMade files → IfSome o (IsPossible files) → IsMade (changed_by files o)
+made_changed laws files None made possible = made
+made_changed laws files (Some c) made possible = laws.change files c made possible.0 possible.1
 
 grows : (files : List NamedFile) (o : Option Change) → length files ≤ length (changed_by files o)
 grows files None = omega arith
@@ -95,8 +90,8 @@ pipe_holds : (pipes : List PipeState) (k : ℕ) (f : PipeState → PipeState) �
 pipe_holds pipes k f still h = one_holds pipes k (slice_get pipes k) f still h (each_at PipeHoldsBytes pipes k h)
 
 step_holds : (pipes : List PipeState) (step : PipeStep) → PutsBytes step → AllByRecursion PipeHoldsBytes pipes → AllByRecursion PipeHoldsBytes (stepped pipes step)
-step_holds pipes Open puts h = all_append PipeHoldsBytes pipes (new_pipe ∷ []) h (tt, tt)
-step_holds pipes (Put k bytes) puts h = pipe_holds pipes k _ (λ p holds. all_append (λ (b : ℕ). b < 256) p.written bytes holds puts) h
+step_holds pipes Open puts h = each_append PipeHoldsBytes pipes (new_pipe ∷ []) h (tt, tt)
+step_holds pipes (Put k bytes) puts h = pipe_holds pipes k _ (λ p holds. each_append (λ (b : ℕ). b < 256) p.written bytes holds puts) h
 step_holds pipes (Take k count) puts h = pipe_holds pipes k _ (λ p holds. holds) h
 step_holds pipes (Add (Read k)) puts h = pipe_holds pipes k _ (λ p holds. holds) h
 step_holds pipes (Add (Write k)) puts h = pipe_holds pipes k _ (λ p holds. holds) h
@@ -145,23 +140,23 @@ replied_fit s p e r f sound tells = record {
   holds = replied_holds p.state r tells f.holds;
 }
 
-effect_fit : (s : SyncState) (pid : ℕ) (p : Process) (e : Effect) (v : Verdict) → AreFit s → IsFit (length s.files) p → IsSound s.files e → TellsBytes v
+effect_fit : DiskLaws → (s : SyncState) (pid : ℕ) (p : Process) (e : Effect) (v : Verdict) → AreFit s → IsFit (length s.files) p → IsSound s.files e → TellsBytes v
     → GoesFit s (after_effect s pid p e v)
-effect_fit s pid p e Waits h f sound tells = record { fit = h; possible = tt }
-effect_fit s pid p e (Replies r) h f sound tells = record {
+effect_fit laws s pid p e Waits h f sound tells = record { fit = h; possible = tt }
+effect_fit laws s pid p e (Replies r) h f sound tells = record {
   fit = record {
-    made = made_changed s.files e.change h.made sound.change;
+    made = made_changed laws s.files e.change h.made sound.change;
     pipes = steps_hold e.pipes s.pipes sound.pipes h.pipes;
     tapes = read_holds s.tapes e.tape h.tapes;
     each =
         let count = length (changed_by s.files e.change) in
-        all_append (IsFit count) (put_process s.processes pid (after_reply p e r)) (forked p e.child)
+        each_append (IsFit count) (put_process s.processes pid (after_reply p e r)) (forked p e.child)
         (put_fit count s.processes pid (after_reply p e r) (replied_fit s p e r f sound tells) (still_fit s.files e.change s.processes h.each))
         (forked_fit count p e.child (one_still s.files e.change p f));
   };
   possible = sound.change;
 }
-effect_fit s pid p e (Ends status) h f sound tells = record {
+effect_fit laws s pid p e (Ends status) h f sound tells = record {
   fit = record {
     made = h.made;
     pipes = steps_hold e.pipes s.pipes sound.pipes h.pipes;
@@ -172,25 +167,25 @@ effect_fit s pid p e (Ends status) h f sound tells = record {
   possible = tt;
 }
 
-effect_if_fit : (s : SyncState) (pid : ℕ) (p : Process) (o : Option Effect) → AreFit s → IsFit (length s.files) p → IfSome o (IsSound s.files)
+effect_if_fit : DiskLaws → (s : SyncState) (pid : ℕ) (p : Process) (o : Option Effect) → AreFit s → IsFit (length s.files) p → IfSome o (IsSound s.files)
     → GoesFit s (after_effect_if s pid p o)
-effect_if_fit s pid p None h f sound = impossible_fit pid s h
-effect_if_fit s pid p (Some e) h f sound = effect_fit s pid p e e.told h f sound sound.told
+effect_if_fit laws s pid p None h f sound = impossible_fit pid s h
+effect_if_fit laws s pid p (Some e) h f sound = effect_fit laws s pid p e e.told h f sound sound.told
 
-enter_fit : (s : SyncState) (pid : ℕ) (o : Option Process) → AreFit s → IfSome o (IsFit (length s.files)) → GoesFit s (after_enter s pid o)
-enter_fit s pid None h f = impossible_fit pid s h
-enter_fit s pid (Some p) h f = by (is_some p.status)
+enter_fit : DiskLaws → (s : SyncState) (pid : ℕ) (o : Option Process) → AreFit s → IfSome o (IsFit (length s.files)) → GoesFit s (after_enter s pid o)
+enter_fit laws s pid None h f = impossible_fit pid s h
+enter_fit laws s pid (Some p) h f = by (is_some p.status)
   where
     by : (b : Bool) → GoesFit s (if b then impossible pid s else after_effect_if s pid p (effect_at (shared s) pid p (stands_at p.state)))
     by true = impossible_fit pid s h
-    by false = effect_if_fit s pid p (effect_at (shared s) pid p (stands_at p.state)) h f (effect_sound (shared s) pid p (stands_at p.state) (readable s h) f.names f.holds)
+    by false = effect_if_fit laws s pid p (effect_at (shared s) pid p (stands_at p.state)) h f (effect_sound (shared s) pid p (stands_at p.state) (readable laws s h) f.names f.holds)
 
-pub step_fit : (s : SyncState) (e : Event) → AreFit s → GoesFit s (step s e)
-step_fit s (Turn pid n) h = turn_fit s pid n (process_at s.processes pid) h (process_fit (length s.files) s.processes pid h.each)
-step_fit s (Enter pid) h = enter_fit s pid (process_at s.processes pid) h (process_fit (length s.files) s.processes pid h.each)
-step_fit s Cut h = record { fit = h; possible = tt }
-step_fit s (Complete at) h = record { fit = h; possible = tt }
-step_fit s (Fail at) h = record { fit = h; possible = tt }
+pub step_fit : DiskLaws → (s : SyncState) (e : Event) → AreFit s → GoesFit s (step s e)
+step_fit laws s (Turn pid n) h = turn_fit s pid n (process_at s.processes pid) h (process_fit (length s.files) s.processes pid h.each)
+step_fit laws s (Enter pid) h = enter_fit laws s pid (process_at s.processes pid) h (process_fit (length s.files) s.processes pid h.each)
+step_fit laws s Cut h = record { fit = h; possible = tt }
+step_fit laws s (Complete at) h = record { fit = h; possible = tt }
+step_fit laws s (Fail at) h = record { fit = h; possible = tt }
 
 -- ---- before any event
 processes_fit : (count i : ℕ) (programs : List BootProgram) → AllByRecursion (λ (p : BootProgram). HoldsBytes p.state.hart.memory) programs

@@ -1,6 +1,4 @@
--- What a whole run promises of its files if it ends in a crash. It assumes that the boot's disk holds the boot's files, and that
--- the programs' memories and the tapes hold bytes: then files, pipes and memories hold bytes all along, so that what is written
--- is what a disk can hold.
+-- What a whole run promises of its files if it ends in a crash.
 use Rattle.std.specs.Prelude.{ℕ, ◌≤◌, List, length, take}
 use Rattle.disk_model.specs.Files.{files_after}
 use Rattle.disk_model.specs.Held.{IsHeld}
@@ -18,6 +16,6 @@ pub record HoldsFront (b : Boot) (w : World) (disk : List ℕ) : Type 0 where
 
 -- If the run ends here in a crash, then whatever disk the crash leaves holds the files after such a front. A moment is between
 -- events: within an event at most one completion comes first, and then submissions follow, so that each disk in between is one
--- that a crash before or after the event may leave.
+-- that a crash behind the event may leave, by the law `disk_model::moves_leave_no_other_disks`.
 abbrev pub SurvivesCrash : Boot → World → Type 0
 SurvivesCrash b w = (left : List ℕ) → IsCrashOf w.storage.drive left → HoldsFront b w left

@@ -1,3 +1,5 @@
 pub mod Promises
 pub mod Crashes
 pub mod Gathering
+pub mod Kept
+pub mod Resuming

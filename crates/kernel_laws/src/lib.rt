@@ -1,17 +1,30 @@
 //! Laws over whole runs of the kernel's definitions: what these come to, whatever the code.
 #![tactic(auto)]
 
-ghost use Rattle.std.specs.Prelude.{List};
+ghost use Rattle.std.specs.Prelude.{List, [], ℕ, ◌≡◌, ◌≤◌, ◌<◌, ◌+◌, ◌==◌, ◌&&◌, if◌then◌else◌, true, false, is_some};
+ghost use Rattle.disk_model.specs.declared.change.Change.{Change};
+ghost use Rattle.disk_model.specs.declared.change.NamedFile.{NamedFile};
+ghost use Rattle.disk_model.specs.Files.{files_after};
+ghost use Rattle.disk_model.specs.Held.{IsHeld, joined};
+ghost use Rattle.disk_model.specs.Storage.{Storage, completed, is_empty, is_quiet, piece_at};
+ghost use Rattle.kernel_model.specs.Answers.{changes, committed, writes_to_come};
+ghost use Rattle.kernel_model.specs.Shown.{handed, printed, shown, told};
 ghost use Rattle.kernel_model.specs.declared.event.Event.{Event};
-ghost use Rattle.kernel_model.specs.World.{World, Boot, HoldsItsFiles, begun, after};
+ghost use Rattle.kernel_model.specs.declared.event.Event.TheVariants.{Complete};
+ghost use Rattle.kernel_model.specs.World.{World, Boot, HoldsItsFiles, begun, happens, after};
 ghost use Rattle.kernel_model.specs.Bytes.{ProgramsHoldBytes, TapesHoldBytes};
 ghost use Rattle.kernel_model.specs.Fine.{Fine, IsFine, after_fine, gathered, unfolded};
-ghost use Rattle.kernel_model.specs.Views.{SameView};
+ghost use Rattle.kernel_model.specs.Views.{SameView, contents};
 ghost use Rattle.kernel_laws.specs.Promises.{IsSynchronous};
 ghost use Rattle.kernel_laws.specs.Crashes.{SurvivesCrash};
+ghost use Rattle.kernel_laws.specs.Kept.{KeepsWhatWasSeen};
+ghost use Rattle.kernel_laws.specs.Resuming.{IsSound, MayLeave, GoesOn, Crashed, AreRuns, AreFronts, end_of, last_boot};
 ghost use Rattle.kernel_laws.specs.Gathering.{HasNoTurn, IsGathered};
 
-use disk_model::crashes;
+use disk_model::{
+    changes_come_in_turn, checkpoints_fit, crashes, held_files_are_made, held_once,
+    made_files_change, made_files_hold_bytes, runs_are_orderly,
+};
 
 /// A law, the whole of what the kernel promises. Whatever events come in whatever order, each process, also one that a fork
 /// made, runs as on a kernel that stores each change within its call; what is shown and handed out is the longest front that
@@ -31,13 +44,46 @@ pub fn headline()
 }
 
 /// A law: a crash at any moment of any run leaves a disk that holds the files after a front of the run's changes, with
-/// every committed one in it. So a run can go on from that disk, and end in a crash again. Memories and tapes must hold bytes at
-/// the start, as the files on a disk do.
+/// every committed one in it. So a run can go on from that disk, and end in a crash again. The boot's disk must hold the boot's
+/// files, and memories and tapes must hold bytes at the start: then files, pipes and memories hold bytes all along, so that what
+/// is written is what a disk can hold.
 pub fn crashes_keep_the_committed()
     ensures { (b : Boot) (es : List Event) → HoldsItsFiles b → ProgramsHoldBytes b → TapesHoldBytes b
         → SurvivesCrash b (after (begun b) es) }
 {
+    held_files_are_made();
+    checkpoints_fit();
+    made_files_hold_bytes();
+    made_files_change();
+    changes_come_in_turn();
     crashes();
+}
+
+/// A law: nothing that was shown is ever lost. Whatever disk a crash leaves holds the files after a front of the run's changes in
+/// which every change stands on which a byte rests that some terminal showed, or an item that some process was handed.
+pub fn shown_is_kept()
+    ensures { (b : Boot) (es : List Event) → HoldsItsFiles b → ProgramsHoldBytes b → TapesHoldBytes b
+        → KeepsWhatWasSeen b (after (begun b) es) }
+{
+    crashes_keep_the_committed();
+    headline();
+}
+
+/// A law: a run that ends in a crash can go on. Every disk that the crash may leave holds files, so that
+/// `kernel::Core::boot` refuses it for want of memory alone. A core that is booted on it begins with the files after a front of the
+/// run's changes, with each committed change in it. And so it goes on through any number of runs and crashes: the last one's
+/// files are those of the first boot after such a front of each run's changes, one after the other.
+pub fn runs_go_on()
+    ensures held { (b : Boot) (es : List Event) (left : List ℕ) → IsSound b → MayLeave (end_of b es) left
+        → (files : List NamedFile) × IsHeld left files }
+    ensures next { (b : Boot) (es : List Event) (next : Boot) → IsSound b → HoldsItsFiles next → MayLeave (end_of b es) next.disk
+        → GoesOn b (end_of b es) next }
+    ensures chain { (runs : List Crashed) (b : Boot) → AreRuns b runs
+        → (fronts : List (List Change)) × AreFronts b runs fronts × ((last_boot b runs).files ≡ files_after b.files (joined fronts)) }
+{
+    crashes_keep_the_committed();
+    held_once();
+    changes_come_in_turn();
 }
 
 /// A law: whatever the interleaving of single instructions, what comes of it is what whole Turns give. Each instruction must
@@ -63,3 +109,42 @@ pub fn turns_are_instructions()
     ensures same { (b : Boot) (es : List Event)
         → SameView (after_fine (begun b) (unfolded (begun b) es)) (after (begun b) es) }
 {}
+
+/// A law: where all changes are committed, all that was written to terminals is shown, and all that processes were told is
+/// handed out.
+pub fn all_is_shown()
+    ensures terminals { (b : Boot) (es : List Event) → committed (after (begun b) es) ≡ changes (after (begun b) es)
+        → (t : ℕ) → shown (after (begun b) es) t ≡ contents (printed t (after (begun b) es).log) }
+    ensures traces { (b : Boot) (es : List Event) → committed (after (begun b) es) ≡ changes (after (begun b) es)
+        → (p : ℕ) → handed (after (begun b) es) p ≡ contents (told p (after (begun b) es).log) }
+{}
+
+/// A law: how the disk of any run stands, whatever is on it. At most all changes are committed. With nothing in flight and
+/// nothing failed no stage is left to be submitted; else a group is on its way, with which more changes are committed, at most
+/// all. So where a write has failed, some change is not committed.
+pub fn groups_in_flight()
+    ensures among { (b : Boot) (es : List Event) → committed (after (begun b) es) ≤ changes (after (begun b) es) }
+    ensures none { (b : Boot) (es : List Event) → is_quiet (after (begun b) es).storage.drive ≡ true
+        → (after (begun b) es).storage.stages ≡ [] }
+    ensures more { (b : Boot) (es : List Event) → is_quiet (after (begun b) es).storage.drive ≡ false
+        → committed (after (begun b) es) < (after (begun b) es).storage.next_committed }
+    ensures most { (b : Boot) (es : List Event) → is_quiet (after (begun b) es).storage.drive ≡ false
+        → (after (begun b) es).storage.next_committed ≤ changes (after (begun b) es) }
+    ensures failed { (b : Boot) (es : List Event) → is_empty (after (begun b) es).storage.drive.failed ≡ false
+        → committed (after (begun b) es) < changes (after (begun b) es) }
+{
+    runs_are_orderly();
+}
+
+/// A law: with each completion one write less is to come, and the last one of a group commits it, if none has failed.
+pub fn completions_count_down()
+    ensures one_less { (st : Storage) (at : ℕ) → is_some (piece_at st.drive.in_flight at) ≡ true
+        → writes_to_come st ≡ writes_to_come (completed st at) + 1 }
+    ensures commits { (b : Boot) (es : List Event) (at : ℕ)
+        → is_some (piece_at (after (begun b) es).storage.drive.in_flight at) ≡ true
+        → committed (happens (after (begun b) es) (Complete at))
+        ≡ (if is_empty (after (begun b) es).storage.drive.failed && writes_to_come (after (begun b) es).storage == 1
+        then (after (begun b) es).storage.next_committed else committed (after (begun b) es)) }
+{
+    runs_are_orderly();
+}

@@ -5,10 +5,13 @@ pub mod Rows
 pub mod Steps
 pub mod Paths
 pub mod World
+pub mod Ends
 pub mod Bytes
 pub mod Shown
 pub mod Answers
 pub mod Loans
+pub mod Ran
+pub mod Drains
 pub mod Fine
 pub mod Views
 pub mod Codes

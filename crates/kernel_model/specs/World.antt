@@ -47,7 +47,7 @@ pub record BootProgram : Type 0 where
   pub state : State
   pub terminal : ℕ
 
--- what a core is booted from; the disk holds the files, and `gate` is the place of the first gate there that is not open
+-- what a core is booted from: `HoldsItsFiles` says that the disk holds these files, with its first gate that is not open at `gate`
 pub record Boot : Type 0 where
   pub programs : List BootProgram
   pub tapes : List (List ℕ)

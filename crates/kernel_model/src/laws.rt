@@ -1,10 +1,14 @@
 //! Laws over all runs.
-ghost use Rattle.std.specs.Prelude.{List, ◌≡◌, ◌↔◌, ℕ, IsTrue};
+ghost use Rattle.std.specs.Prelude.{List, ◌++◌, ◌≡◌, ◌↔◌, ℕ, IsTrue, is_none, is_some, slice_get};
+ghost use Rattle.std.specs.List.{list_all};
 ghost use Rattle.disk_model.specs.Files.{files_after};
 ghost use Rattle.kernel_model.specs.declared.event.Event.{Event};
 ghost use Rattle.kernel_model.specs.Entries.{Entry};
 ghost use Rattle.kernel_model.specs.Paths.{IsSettled, is_settled, changes_of};
+ghost use Rattle.kernel_model.specs.State.{Process, PipeState, process_at};
+ghost use Rattle.kernel_model.specs.Ends.{count_held};
 ghost use Rattle.kernel_model.specs.World.{Boot, begun, after};
+ghost use Rattle.kernel_model.specs.declared.descriptor.PipeEnd.TheVariants.{Read, Write};
 
 /// A law: the test says exactly whether all changes on which an event rests are among the first c.
 pub fn settled_is()
@@ -15,4 +19,38 @@ pub fn settled_is()
 pub fn files_are_folded()
     ensures { (b : Boot) (es : List Event)
         → (after (begun b) es).sync.files ≡ files_after b.files (changes_of (after (begun b) es).log) }
+{}
+
+/// A law: what the numbers of a pipe's ends are. Whatever events come, the number of ends to read that a pipe has is exactly
+/// the number of descriptors, over all processes that have not ended, that stand for its end to read; and so it is for writing.
+/// No descriptor stands for an end of a pipe that is not there.
+pub fn ends_are_counted()
+    ensures readers { (b : Boot) (es : List Event) (k : ℕ) (p : PipeState)
+        → slice_get (after (begun b) es).sync.pipes k ≡ Some p
+        → p.readers ≡ count_held (Read k) (after (begun b) es).sync.processes }
+    ensures writers { (b : Boot) (es : List Event) (k : ℕ) (p : PipeState)
+        → slice_get (after (begun b) es).sync.pipes k ≡ Some p
+        → p.writers ≡ count_held (Write k) (after (begun b) es).sync.processes }
+    ensures others { (b : Boot) (es : List Event) (k : ℕ)
+        → slice_get (after (begun b) es).sync.pipes k ≡ None
+        → (count_held (Read k) (after (begun b) es).sync.processes ≡ 0)
+        × (count_held (Write k) (after (begun b) es).sync.processes ≡ 0) }
+{}
+
+/// A law: an end of a pipe that is closed stays so. Once a pipe has no ends to read, no descriptor stands for its end to read,
+/// whatever events come after; and so it is for writing. So a pipe without ends is never named again.
+pub fn ends_stay_closed()
+    ensures readers { (b : Boot) (es more : List Event) (k : ℕ) (p : PipeState)
+        → slice_get (after (begun b) es).sync.pipes k ≡ Some p → p.readers ≡ 0
+        → count_held (Read k) (after (begun b) (es ++ more)).sync.processes ≡ 0 }
+    ensures writers { (b : Boot) (es more : List Event) (k : ℕ) (p : PipeState)
+        → slice_get (after (begun b) es).sync.pipes k ≡ Some p → p.writers ≡ 0
+        → count_held (Write k) (after (begun b) (es ++ more)).sync.processes ≡ 0 }
+{}
+
+/// A law: each descriptor of a process that has ended is free.
+pub fn ended_hold_nothing()
+    ensures { (b : Boot) (es : List Event) (pid : ℕ) (p : Process)
+        → process_at (after (begun b) es).sync.processes pid ≡ Some p → IsTrue (is_some p.status)
+        → IsTrue (list_all is_none p.descriptors) }
 {}

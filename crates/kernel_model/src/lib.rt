@@ -14,5 +14,7 @@ pub use carrier::Carrier;
 pub use descriptor::{Descriptor, PipeEnd};
 pub use effect::{Output, PipeStep, Slot, TapeRead};
 pub use event::Event;
-pub use laws::{files_are_folded, settled_is};
+pub use laws::{
+    ended_hold_nothing, ends_are_counted, ends_stay_closed, files_are_folded, settled_is,
+};
 pub use request::{Request, Verdict};

@@ -5,7 +5,6 @@ ghost use Rattle.std.specs.Prelude.{◌≤◌};
 
 use anyhow::Error;
 use bursts::run_loan;
-use disk_model::zeros_hold_nothing;
 use kernel::{Core, Program, SimDisk};
 use std::alloc::{AllocError, Global};
 use std::env;
@@ -79,7 +78,6 @@ fn boot(alloc: Global, pages: u32) -> Result<Core, Error>
         terminal: 0,
     };
     let disk = SimDisk::zero(alloc)?;
-    zeros_hold_nothing();
     Ok(Core::boot(alloc, disk, vec![in alloc; program]?, Vec::new(alloc))?)
 }
 

@@ -1,7 +1,7 @@
 //! Why the program ends early.
 use assembler::{AsmFault, Cause};
 use elf32::ElfFault;
-use kernel::BootFault;
+use kernel::{BootFault, DiskFault};
 use simdisk::DiskRefusal;
 use std::alloc::{AllocError, AllocFailed};
 use std::io;
@@ -19,6 +19,9 @@ pub enum Fault {
     /// A file that holds no image, and the first check that it fails.
     #[error("bench: image refused: {number} {fault}")]
     Image { number: u8, fault: ElfFault },
+    /// A disk that cannot be read, and its first fault.
+    #[error("bench: disk refused: {number} {fault:?}")]
+    Disk { number: u8, fault: DiskFault },
     #[error("bench: out of memory")]
     OutOfMemory,
     /// A file that cannot be read or is no text, or a stream that cannot be written.
@@ -31,6 +34,7 @@ impl Fault {
     pub fn status(&self) -> u8 {
         match self {
             Fault::Script { .. } | Fault::Source { .. } | Fault::Image { .. } => 2,
+            Fault::Disk { .. } => 3,
             Fault::OutOfMemory => 5,
             Fault::InputOutput => 6,
         }
@@ -49,9 +53,22 @@ impl<T: Drop> From<AllocFailed<T>> for Fault {
     }
 }
 
+impl From<DiskFault> for Fault {
+    fn from(fault: DiskFault) -> Fault {
+        match fault {
+            DiskFault::OutOfMemory => Fault::OutOfMemory,
+            fault => Fault::Disk {
+                number: fault as u8,
+                fault,
+            },
+        }
+    }
+}
+
 impl From<BootFault> for Fault {
     fn from(fault: BootFault) -> Fault {
         match fault {
+            BootFault::Disk(fault) => Fault::from(fault),
             BootFault::OutOfMemory => Fault::OutOfMemory,
         }
     }
@@ -94,5 +111,23 @@ impl From<io::Error> for Fault {
             io::ErrorKind::OutOfMemory => Fault::OutOfMemory,
             _ => Fault::InputOutput,
         }
+    }
+}
+
+#[cfg(test)]
+mod tests {
+    use crate::fault::Fault;
+    use kernel::{BootFault, DiskFault};
+    use std::test::Fail;
+
+    #[test]
+    fn a_damaged_disk_has_its_line(rt: HostRuntime) -> Result<(), Fail> {
+        let fault = Fault::from(BootFault::Disk(DiskFault::PastHalf));
+        assert_eq!(rt; fault.status(), 3);
+        assert_eq!(rt;
+            format!(in rt.alloc(); "{fault}")?.as_str(),
+            "bench: disk refused: 3 PastHalf"
+        );
+        Ok(())
     }
 }

@@ -8,6 +8,7 @@ mod print;
 mod program;
 mod replay;
 mod script;
+mod setup;
 mod source;
 
 pub use program::bench;

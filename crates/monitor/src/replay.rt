@@ -1,14 +1,11 @@
 //! The run of a script.
-ghost use Rattle.std.specs.Prelude.{◌≡◌, ◌≤◌, ◌<◌, length, vec_len, IfOk};
-ghost use Rattle.std.specs.List.{AllByRecursion};
-
 use crate::fault::Fault;
 use crate::print::print;
-use crate::script::{Script, ScriptProgram, ScriptTape, Source, Step, TAPES, Terminal};
-use byte_list::Bytes;
-use disk_model::zeros_hold_nothing;
+use crate::script::{Script, Step, Terminal};
+use crate::setup::Setup;
 use elf32::Image;
-use kernel::{Answer, Core, Program, Refused, SimDisk};
+use files::FileTable;
+use kernel::{Answer, Core, Event, Refused};
 use machine_model::{Reply, Stop};
 use std::alloc::Global;
 use std::fs;
@@ -19,60 +16,6 @@ use std::rt::Files;
 pub fn image_in<R: Files + AllocGlobal>(rt: &R, path: &str) -> Result<Image, Fault> {
     let file = fs::read(rt, path)?;
     Ok(elf32::parse(rt.alloc(), &file)?)
-}
-
-/// The image of a script's program.
-fn image_of<R: Files + AllocGlobal>(rt: &R, source: &Source) -> Result<Image, Fault> {
-    match source {
-        Source::Words(words) => Ok(Image::from_text(rt.alloc(), words.as_slice())?),
-        Source::Image(path) => image_in(rt, path.as_str()),
-    }
-}
-
-/// The programs of a script, to be booted.
-fn programs_of<R: Files + AllocGlobal>(
-    rt: &R,
-    programs: &[ScriptProgram],
-) -> Result<Vec<Program>, Fault>
-    ensures len { IfOk result (λ booted. length booted.items ≡ length programs.now) }
-    ensures terminals { IfOk result (λ booted. AllByRecursion (λ p. p.terminal < 8) booted.items) }
-{
-    let mut booted = Vec::new(rt.alloc());
-    for program in programs {
-        booted.push(Program {
-            image: image_of(rt, &program.source)?,
-            terminal: program.terminal.number,
-        })?;
-    }
-    Ok(booted)
-}
-
-/// The eight tapes of a boot, by their numbers: those that a script gives, the others empty.
-fn tapes_of(alloc: Global, tapes: &[ScriptTape]) -> Result<Vec<Bytes>, Fault>
-    ensures { IfOk result (λ booted. length booted.items ≡ 8) }
-{
-    let mut booted = Vec::new(alloc);
-    for number in 0..TAPES {
-        let given = tapes.iter().find(|tape| tape.number == number);
-        booted.push(match given {
-            Some(tape) => tape.bytes.try_clone(alloc)?,
-            None => Bytes::empty(alloc),
-        })?;
-    }
-    Ok(booted)
-}
-
-/// Boots the programs of a script on a disk of zeros.
-fn boot<R: Files + AllocGlobal>(rt: &R, script: &Script) -> Result<Core, Fault>
-    requires some { 1 ≤ vec_len script.now.programs }
-    requires few { vec_len script.now.programs ≤ 8 }
-{
-    let alloc = rt.alloc();
-    let programs = programs_of(rt, script.programs.as_slice())?;
-    let tapes = tapes_of(alloc, script.tapes.as_slice())?;
-    let disk = SimDisk::zero(alloc)?;
-    zeros_hold_nothing();
-    Ok(Core::boot(alloc, disk, programs, tapes)?)
 }
 
 /// Where a Turn stopped.
@@ -162,19 +105,86 @@ fn print_trace<O: Write>(alloc: Global, core: &Core, pid: u32, out: &mut O) -> R
     }
 }
 
-/// Does a step, and prints what it gives.
-fn play<O: Write>(alloc: Global, core: &mut Core, step: Step, out: &mut O) -> Result<(), Fault> {
-    match step {
-        Step::Apply(event) => {
-            let line = match core.apply(event) {
-                Ok(answer) => answer_text(alloc, answer)?,
-                Err(why) => refusal_text(alloc, why)?,
-            };
-            print(out, &line)
-        }
-        Step::Shown(terminal) => print_shown(alloc, core, terminal, out),
-        Step::Trace(pid) => print_trace(alloc, core, pid, out),
+/// The files that the disk held at boot, a line each, in order of creation.
+fn print_files<O: Write>(alloc: Global, files: &FileTable, out: &mut O) -> Result<(), Fault> {
+    let count = files.count();
+    print(out, &format!(in alloc; "files {count}")?)?;
+    for place in 0..count {
+        let length = files.length(place);
+        out.write_all(files.name(place))?;
+        print(out, &format!(in alloc; " {length}")?)?;
     }
+    Ok(())
+}
+
+/// The line of an event's answer, or of its refusal.
+fn event_text(alloc: Global, answered: Result<Answer, Refused>) -> Result<String, Fault> {
+    match answered {
+        Ok(answer) => answer_text(alloc, answer),
+        Err(why) => refusal_text(alloc, why),
+    }
+}
+
+/// Applies an event, and prints its answer or its refusal.
+fn print_event<O: Write>(
+    alloc: Global,
+    core: &mut Core,
+    event: Event,
+    out: &mut O,
+) -> Result<(), Fault> {
+    let answered = core.apply(event);
+    print(out, &event_text(alloc, answered)?)
+}
+
+/// The line of a drain behind which so many changes are committed, or of its refusal.
+fn drain_text(
+    alloc: Global,
+    drained: Result<(), Refused>,
+    committed: u64,
+) -> Result<String, Fault> {
+    match drained {
+        Ok(()) => Ok(format!(in alloc; "drained, {committed} committed")?),
+        Err(why) => refusal_text(alloc, why),
+    }
+}
+
+/// Drains the core, and prints what is committed then, or the refusal.
+fn print_drain<O: Write>(alloc: Global, core: &mut Core, out: &mut O) -> Result<(), Fault> {
+    let drained = core.drain();
+    let committed = core.committed();
+    print(out, &drain_text(alloc, drained, committed)?)
+}
+
+/// The core of a further boot, on the disk that a crash with this fill leaves.
+fn crash<O: Write>(
+    alloc: Global,
+    setup: &Setup,
+    core: Core,
+    fill: &[u8],
+    out: &mut O,
+) -> Result<Core, Fault> {
+    let next = setup.boot_again(alloc, core.halt(fill))?;
+    print(out, &String::from_str(alloc, "crashed")?)?;
+    Ok(next)
+}
+
+/// Does a step, and prints what it gives. The core that comes back is another one behind a crash.
+fn play<O: Write>(
+    alloc: Global,
+    setup: &Setup,
+    mut core: Core,
+    step: &Step,
+    out: &mut O,
+) -> Result<Core, Fault> {
+    match step {
+        Step::Apply(event) => print_event(alloc, &mut core, *event, out)?,
+        Step::Drain => print_drain(alloc, &mut core, out)?,
+        Step::Shown(terminal) => print_shown(alloc, &core, *terminal, out)?,
+        Step::Trace(pid) => print_trace(alloc, &core, *pid, out)?,
+        Step::Files => print_files(alloc, core.boot_files(), out)?,
+        Step::Crash(fill) => return crash(alloc, setup, core, fill.as_slice(), out),
+    }
+    Ok(core)
 }
 
 /// Runs a script, and prints what each of its lines gives. The script is read whole before any image that it names.
@@ -184,30 +194,14 @@ pub fn replay<R: Files + AllocGlobal, O: Write>(
     out: &mut O,
 ) -> Result<(), Fault> {
     let alloc = rt.alloc();
-    let script = Script::parse(alloc, text)?;
-    let mut core = boot(rt, &script)?;
-    for step in &script.steps {
-        play(alloc, &mut core, *step, out)?;
+    let Script {
+        programs,
+        tapes,
+        steps,
+    } = Script::parse(alloc, text)?;
+    let (setup, mut core) = Setup::boot(rt, programs, tapes)?;
+    for step in &steps {
+        core = play(alloc, &setup, core, step, out)?;
     }
     Ok(())
-}
-
-#[cfg(test)]
-mod tests {
-    use super::*;
-    use kernel::Event;
-    use std::test::Fail;
-
-    #[test]
-    fn a_trap_ends_its_process(rt: HostRuntime) -> Result<(), Fail> {
-        let alloc = rt.alloc();
-        let script = Script::parse(alloc, "program 0 00100073\nturn 1 5\nenter 1\n")?;
-        let mut core = boot(&rt, &script)?;
-        assert_eq!(rt; core.ended(1)?, None);
-        core.apply(Event::Turn { pid: 1, n: 5 })?;
-        core.apply(Event::Enter { pid: 1 })?;
-        // 256 and 6, the cause
-        assert_eq!(rt; core.ended(1)?, Some(262));
-        Ok(())
-    }
 }

@@ -68,14 +68,21 @@ pub struct ScriptTape {
 }
 
 /// A line of a script that is no set-up line.
-#[derive(Clone, Copy, Debug, PartialEq, Eq)]
+#[derive(Drop)]
 pub enum Step {
     /// An event is applied, and its answer printed.
     Apply(Event),
+    /// All changes are committed.
+    Drain,
     /// What a terminal, 0 to 7, shows is printed.
     Shown(Terminal),
     /// The replies to a process's calls that are handed out are printed.
     Trace(u32),
+    /// The files that the disk held at this boot are printed.
+    Files,
+    /// The run is cut short, and all programs are booted again on the disk that is left, where the ranges of writes in
+    /// flight or failed take these bytes.
+    Crash(Bytes),
 }
 
 /// A terminal's number, 0 to 7.
@@ -216,7 +223,7 @@ fn tape_of(alloc: Global, words: &[&str]) -> Result<Option<ScriptTape>, AllocErr
     }
 }
 
-/// The step of a line, if it has the form of one.
+/// The step of a line, if it has the form of one, but for `crash`, which takes memory.
 fn step_of(words: &[&str]) -> Option<Step> {
     let step = match words {
         ["turn", pid, n] => Step::Apply(Event::Turn {
@@ -227,8 +234,10 @@ fn step_of(words: &[&str]) -> Option<Step> {
         ["cut"] => Step::Apply(Event::Cut),
         ["complete", at] => Step::Apply(Event::Complete { at: decimal(at)? }),
         ["fail", at] => Step::Apply(Event::Fail { at: decimal(at)? }),
+        ["drain"] => Step::Drain,
         ["shown", number] => Step::Shown(terminal_of(number)?),
         ["trace", pid] => Step::Trace(decimal(pid)?),
+        ["files"] => Step::Files,
         _ => return None,
     };
     Some(step)
@@ -243,6 +252,7 @@ fn line_of(alloc: Global, text: &str) -> Result<Option<Line>, AllocError> {
         ))),
         ["image", rest @ ..] => Ok(image_of(alloc, rest)?.map(|program| Line::Program(program))),
         ["tape", rest @ ..] => Ok(tape_of(alloc, rest)?.map(|tape| Line::Tape(tape))),
+        ["crash", fill] => Ok(bytes_of(alloc, fill)?.map(|fill| Line::Step(Step::Crash(fill)))),
         others => Ok(step_of(others).map(|step| Line::Step(step))),
     }
 }

@@ -19,7 +19,8 @@ pub const SIZE: usize = 2097152;
 const LONGEST_WRITE: usize = 4096;
 
 /// A simulated disk. From its submission to its completion a write's range may hold any bytes after a crash; a write that
-/// has failed leaves any bytes in its range for good. Completions come in any order, by the place at which the write begins.
+/// has failed leaves any bytes in its range, and no write of this run may meet that range again. Completions come in any order,
+/// by the place at which the write begins.
 #[derive(Drop)]
 pub struct SimDisk {
     alloc: Global,
@@ -224,11 +225,11 @@ mod tests {
         assert_eq!(rt; disk.fail(70), Err(DiskRefusal::NoSuchWrite));
         assert!(rt; disk.has_failed());
         disk.submit(60, b"fg")?;
-        let crashed = disk.crash(b"12");
+        let crashed = disk.crash(b"123");
         assert!(rt; crashed.quiet());
         assert_eq!(rt;
             &crashed.bytes()[59..74],
-            b"\x0012\0\0de\0\0\0\0121\0".as_slice()
+            b"\x0012\0\0de\0\0\0\0312\0".as_slice()
         );
         let mut opened = SimDisk::open(alloc, crashed.bytes())?;
         opened.submit(2093056, &opened_bytes(alloc)?)?;

@@ -53,6 +53,13 @@ returns-clause-one_entry c = if_planned c.plan_row.result _ _ (λ (plan : Plan) 
 pub returns-clause-opens : goal.returns-clause-opens
 returns-clause-opens c = if_planned c.plan_row.result _ _ (λ (plan : Plan) sound. sound.opens) (sound-of c)
 
+pub returns-clause-few : goal.returns-clause-few
+unfolding kept-of
+returns-clause-few c =
+    let size : length (descriptors_in (part_at c.args.processes.now.parts c.args.pid)) ≡ length c.descriptors_of-descriptors.result.now =
+    ap length (sym c.descriptors_of-descriptors.ensures.value) in
+    if_planned c.plan_row.result _ _ (λ (plan : Plan) sound. sound.few (omega (arith, size, c.descriptors_of-descriptors.ensures.few))) (sound-of c)
+
 pub returns-clause-edits : goal.returns-clause-edits
 returns-clause-edits c = if_planned c.plan_row.result _ _ (λ (plan : Plan) sound. edits-as plan plan.told sound.edits) (sound-of c)
 

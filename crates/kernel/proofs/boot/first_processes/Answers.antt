@@ -4,8 +4,8 @@ use Rattle.std.proofs.lemmas.List.{take_all}
 use Rattle.processes.specs.Parts.{Part, boot_part}
 use Rattle.kernel.specs.First.{parts_from}
 use Rattle.kernel.specs.declared.boot.Program.{Program}
-use Rattle.kernel.proofs.Lists.{get-there}
 use Rattle.kernel.proofs.Beginning.{parts-more, parts-length, take-short}
+use Rattle.kernel.proofs.Lists.{get-there}
 use Rattle.kernel.proofs.boot.first_processes.Goals as goal
 
 pub boot-requires : goal.boot-requires

@@ -4,8 +4,8 @@ use Rattle.machine_model.specs.Access.{HoldsBytes}
 use Rattle.machine_model.specs.States.{State}
 use Rattle.kernel.specs.declared.boot.Program.{Program}
 use Rattle.kernel.specs.declared.task.Task.{Task}
-use Rattle.kernel.proofs.Lists.{get-there}
 use Rattle.kernel.proofs.Beginning.{FirstSo, first-none, first-more}
+use Rattle.kernel.proofs.Lists.{get-there}
 use Rattle.kernel.proofs.boot.first_tasks.Goals as goal
 
 pub loop-place-init : goal.loop-place-init

@@ -14,10 +14,10 @@ returns-in-Trap c =
     trap-result (seen_of c.args.shared.now) c.args.pid c.args.machine.now c.plan_end.result c.in-Trap.cause (256 + c.number_of.result)
     (c.requires.stands ∙ ap (λ (s : Stop). Some s) c.in-Trap.is)
     (ap (λ n. 256 + n) c.number_of.ensures)
-    c.requires.fine.count
     (subst (λ (ds : List (Option Descriptor)). IfOk c.plan_end.result (λ plan. IsPlan plan (row_end ds (256 + c.number_of.result)))) c.descriptors_of-descriptors.ensures c.plan_end.ensures.row)
     c.plan_end.ensures.edits
     c.plan_end.ensures.opens
+    c.plan_end.ensures.few
     (c.plan_end.ensures.steps c.args.shared.now.pipes)
 
 pub returns-in_ok-request-in_default : goal.returns-in_ok-request-in_default
@@ -26,12 +26,11 @@ returns-in_ok-request-in_default c =
     result-plans (seen_of c.args.shared.now) c.args.pid c.args.machine.now c.plan_call.result c.in_ok-request-in_default.request
     (c.requires.stands ∙ ap (λ (s : Stop). Some s) call)
     (c.in_ok-request-in_default.ensures.request)
-    c.requires.fine.count
     c.requires.fine.ends
     c.plan_call.ensures.row
-    c.plan_call.ensures.one_edit
     c.plan_call.ensures.one_entry
     c.plan_call.ensures.opens
+    c.plan_call.ensures.few
     c.plan_call.ensures.edits
     c.plan_call.ensures.possible
     c.plan_call.ensures.named

@@ -1,8 +1,8 @@
 -- The child comes behind the others.
 use Rattle.std.proofs.Common.{◌≡◌, ◌<◌, ◌++◌, ◌∙◌, List, length, slice_get, slice_set, option_to_list, ap, sym, subst}
 use Rattle.kernel.specs.declared.task.Task.{Task}
-use Rattle.kernel.proofs.EnterLists.{get-there}
 use Rattle.kernel.proofs.EnterResults.{on-err-any}
+use Rattle.kernel.proofs.Lists.{get-there}
 use Rattle.kernel.proofs.SettleCore.{unsettled-same}
 use Rattle.kernel.proofs.settle.settle_call.Goals as goal
 

@@ -1,11 +1,11 @@
 -- The mark is joined at the carrier's place, or comes last.
-use Rattle.std.proofs.Common.{rules, ◌≡◌, ◌++◌, ◌∷◌, [], List, Some, sym, ap, ◌∙◌}
+use Rattle.std.proofs.Common.{rules, arith, ◌≡◌, ◌-◌, vec_capacity, vec_len, ◌++◌, ◌∷◌, [], List, Some, sym, ap, ◌∙◌}
 use Rattle.std.specs.List.{position}
 use Rattle.kernel_model.specs.Entries.{is_same}
 use Rattle.commit_deps.specs.declared.dependencies.Marked.{Marked}
 use Rattle.commit_deps.specs.Kept.{Kept}
 use Rattle.commit_deps.specs.Keeps.{noted}
-use Rattle.commit_deps.proofs.Keeping.{noted-found, noted-absent}
+use Rattle.commit_deps.proofs.Keeping.{noted-found, noted-absent, absent-unwritten}
 use Rattle.commit_deps.proofs.dependencies.Dependencies.note_one.Goals as goal
 
 pub returns-in-Some-clause-marks : goal.returns-in-Some-clause-marks
@@ -22,3 +22,15 @@ returns-in-None-clause-marks c =
     let pushed : c.push.new.self.items ≡ c.self.inside.marks.items ++ record { carrier = c.args.carrier; mark = c.args.mark } ∷ [] = search rules in
     pushed ∙ ap (λ (ks : List Marked). ks ++ record { carrier = c.args.carrier; mark = c.args.mark } ∷ []) kept
     ∙ noted-absent c.args.carrier c.args.mark c.args.self.now.marks (sym c.place.ensures ∙ c.in-None.is)
+
+pub unwrap-requires : goal.unwrap-requires
+unwrap-requires c =
+    let one = absent-unwritten c.args.carrier c.args.self.now.marks (sym c.place.ensures ∙ c.in-None.is) in
+    let room : vec_capacity c.self.inside.marks - vec_len c.self.inside.marks ≡ c.args.self.now.room = ap (λ (k : Kept). k.room) c.self.view_is in
+    c.push.ensures.succeeds (omega (arith, one, c.requires, room))
+
+pub returns-in-None-clause-room : goal.returns-in-None-clause-room
+returns-in-None-clause-room c =
+    let one = absent-unwritten c.args.carrier c.args.self.now.marks (sym c.place.ensures ∙ c.in-None.is) in
+    let room : vec_capacity c.self.inside.marks - vec_len c.self.inside.marks ≡ c.args.self.now.room = ap (λ (k : Kept). k.room) c.self.view_is in
+    omega (arith, one, room, c.push.ensures.capacity, c.push.ensures.upper_bound)

@@ -18,11 +18,11 @@ returns-in-Some-clause-status c =
     subst (λ (ts : List Task). IsPlaceOf ts c.args.pid c.in-Some.place) c.deref.ensures.value c.in-Some.ensures in
     let there : slice_get c.self.inside.tasks.items c.in-Some.place ≡ Some t =
     get-there c.self.inside.tasks.items c.in-Some.place t placed.there c.index-task.ensures in
-    let kept = c.self.invariant.mirrors.each.each c.in-Some.place t there in
+    let kept = c.self.invariant.0.mirrors.each.each c.in-Some.place t there in
     let marks : t.trace.marks.len ≡ length t.trace.marks.items = search rules in
     let replies : t.trace.replies.len ≡ length t.trace.replies.items = search rules in
     let size : length t.trace.marks.items ≡ length t.trace.replies.items = sym marks ∙ t.trace.aligned ∙ replies in
-    let committed = c.committed.ensures ∙ ap (λ (st : Storage). st.committed) c.self.invariant.mirrors.disk in
+    let committed = c.committed.ensures ∙ ap (λ (st : Storage). st.committed) c.self.invariant.0.mirrors.disk in
     c.handed_end.ensures
     ∙ ap (λ n. handed_end_of n t.trace.handed (length t.trace.replies.items) t.trace.end) committed
     ∙ end-is (run_of c.self.inside.booted c.self.inside.history.items) (c.in-Some.place + 1) t.trace size kept.trace
@@ -37,4 +37,4 @@ returns-in-Some-clause-there c =
     let there : slice_get c.self.inside.tasks.items c.in-Some.place ≡ Some t =
     get-there c.self.inside.tasks.items c.in-Some.place t placed.there c.index-task.ensures in
     subst (λ (k : Kernel). is_some (process_of k c.args.pid) ≡ true) c.self.view_is
-    (there-is c.self.inside.booted c.self.inside.history.items c.self.inside.tasks.items c.self.inside.shared c.args.pid c.in-Some.place t c.self.invariant placed there)
+    (there-is c.self.inside.booted c.self.inside.history.items c.self.inside.tasks.items c.self.inside.shared c.args.pid c.in-Some.place t c.self.invariant.0 placed there)

@@ -21,9 +21,9 @@ given-of quantum told behind slice old new kept given was same h =
 pub lend_next-requires : goal.lend_next-requires
 lend_next-requires c =
     let history : List Event = c.self.inside.history.items in
-    let room : length history + 2 * count_out c.self.inside.tasks.items ≤ 2 ^ 40 = c.self.invariant.room in
+    let room : length history + 2 * count_out c.self.inside.tasks.items ≤ 2 ^ 40 = c.self.invariant.0.room in
     subst (λ (ts : List Task). AreFewLoans (2 ^ 40) (map lending_of ts)) (sym c.deref_mut.ensures.value)
-    (few-longer (length history) (2 ^ 40) (map lending_of c.self.inside.tasks.items) (omega (arith, room)) c.self.invariant.loans)
+    (few-longer (length history) (2 ^ 40) (map lending_of c.self.inside.tasks.items) (omega (arith, room)) c.self.invariant.0.loans)
 
 pub returns-in_default : goal.returns-in_default
 returns-in_default c =
@@ -35,7 +35,7 @@ returns-in_default c =
     subst (λ (o : Option Loan). LendsNext c.args.quantum c.self.inside.shared.told c.self.inside.last_lent c.deref_mut.result.now c.lend_next.new.tasks o) none c.in_ok-loan.ensures.done in
     let was : c.deref_mut.result.now ≡ c.self.inside.tasks.items = c.deref_mut.ensures.value in
     lends-none c.self.inside.booted c.self.inside.history.items c.self.inside.tasks.items (with_items c.self.inside.tasks c.lend_next.new.tasks).items
-    c.self.inside.shared c.self.inside.last_lent c.args.quantum c.args.self.now c.self.view_is c.self.invariant room
+    c.self.inside.shared c.self.inside.last_lent c.args.quantum c.args.self.now c.self.view_is c.self.invariant.0 room
     (ap (λ ts. next_fit c.args.quantum c.self.inside.shared.told c.self.inside.last_lent ts) (sym was) ∙ done.0) (same ∙ done.1 ∙ was)
 
 pub invariant_of-self-2 : goal.invariant_of-self-2
@@ -47,9 +47,11 @@ invariant_of-self-2 c =
     subst (λ (o : Option Loan). LendsNext c.args.quantum c.self.inside.shared.told c.self.inside.last_lent c.deref_mut.result.now c.lend_next.new.tasks o) c.in-Some.is c.in_ok-loan.ensures.done in
     let lent : Lent c.args.quantum c.self.inside.shared.told c.self.inside.last_lent c.self.inside.tasks.items (with_items c.self.inside.tasks c.lend_next.new.tasks).items c.in-Some.loan =
     given-of c.args.quantum c.self.inside.shared.told c.self.inside.last_lent c.deref_mut.result.now c.self.inside.tasks.items c.lend_next.new.tasks
-    (with_items c.self.inside.tasks c.lend_next.new.tasks).items (Some c.in-Some.loan) c.deref_mut.ensures.value same done in
-    lent-core c.self.inside.booted c.self.inside.history.items c.self.inside.tasks.items (with_items c.self.inside.tasks c.lend_next.new.tasks).items
-    c.self.inside.shared c.args.quantum c.self.inside.last_lent c.in-Some.loan c.self.invariant room lent
+    (with_items c.self.inside.tasks c.lend_next.new.tasks).items (Some c.in-Some.loan) c.deref_mut.ensures.value same done in (
+      lent-core c.self.inside.booted c.self.inside.history.items c.self.inside.tasks.items (with_items c.self.inside.tasks c.lend_next.new.tasks).items
+          c.self.inside.shared c.args.quantum c.self.inside.last_lent c.in-Some.loan c.self.invariant.0 room lent,
+      c.self.invariant.1,
+    )
 
 pub returns : goal.returns
 returns c =
@@ -62,4 +64,4 @@ returns c =
     given-of c.args.quantum c.self.inside.shared.told c.self.inside.last_lent c.deref_mut.result.now c.self.inside.tasks.items c.lend_next.new.tasks
     (with_items c.self.inside.tasks c.lend_next.new.tasks).items (Some c.in-Some.loan) c.deref_mut.ensures.value same done in
     lends-one c.self.inside.booted c.self.inside.history.items c.self.inside.tasks.items (with_items c.self.inside.tasks c.lend_next.new.tasks).items
-    c.self.inside.shared c.self.inside.last_lent c.args.quantum c.in-Some.loan c.args.self.now c.self.view_is c.self.invariant room lent
+    c.self.inside.shared c.self.inside.last_lent c.args.quantum c.in-Some.loan c.args.self.now c.self.view_is c.self.invariant.0 room lent

@@ -11,7 +11,7 @@ use Rattle.kernel.proofs.boot.Core.shown.Goals as goal
 pub returns : goal.returns
 returns c =
     let s : Screen = c.index-screen.result.now in
-    let screens = c.self.invariant.mirrors.screens in
+    let screens = c.self.invariant.0.mirrors.screens in
     let within : c.args.terminal < length c.self.inside.shared.screens.items = omega (arith, screens.count, c.requires) in
     let there : slice_get c.self.inside.shared.screens.items c.args.terminal ≡ Some s =
     get-there c.self.inside.shared.screens.items c.args.terminal s within c.index-screen.ensures in

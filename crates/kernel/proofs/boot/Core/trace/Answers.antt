@@ -16,7 +16,7 @@ returns-in-Some-clause-replies c =
     subst (λ (ts : List Task). IsPlaceOf ts c.args.pid c.in-Some.place) c.deref.ensures.value c.in-Some.ensures in
     let there : slice_get c.self.inside.tasks.items c.in-Some.place ≡ Some t =
     get-there c.self.inside.tasks.items c.in-Some.place t placed.there c.index-task.ensures in
-    let kept = c.self.invariant.mirrors.each.each c.in-Some.place t there in
+    let kept = c.self.invariant.0.mirrors.each.each c.in-Some.place t there in
     let marks : t.trace.marks.len ≡ length t.trace.marks.items = search rules in
     let replies : t.trace.replies.len ≡ length t.trace.replies.items = search rules in
     let size : length t.trace.marks.items ≡ length t.trace.replies.items = sym marks ∙ t.trace.aligned ∙ replies in
@@ -33,4 +33,4 @@ returns-in-Some-clause-there c =
     let there : slice_get c.self.inside.tasks.items c.in-Some.place ≡ Some t =
     get-there c.self.inside.tasks.items c.in-Some.place t placed.there c.index-task.ensures in
     subst (λ (k : Kernel). is_some (process_of k c.args.pid) ≡ true) c.self.view_is
-    (there-is c.self.inside.booted c.self.inside.history.items c.self.inside.tasks.items c.self.inside.shared c.args.pid c.in-Some.place t c.self.invariant placed there)
+    (there-is c.self.inside.booted c.self.inside.history.items c.self.inside.tasks.items c.self.inside.shared c.args.pid c.in-Some.place t c.self.invariant.0 placed there)

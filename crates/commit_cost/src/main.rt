@@ -1,0 +1,264 @@
+//! What commits cost: cuts and their completions beside the same in plain code, and the recovery of a half that is full
+//! beside one reading of its bytes.
+#![tactic(auto)]
+
+ghost use Rattle.std.specs.Prelude.{[], ◌<◌, List, IfOk, OnOk, length};
+ghost use Rattle.std.specs.List.{AllByRecursion};
+ghost use Rattle.disk_model.specs.declared.change.NamedFile.{NamedFile};
+ghost use Rattle.disk_model.specs.Files.{IsFormed, IsMade, MayCome};
+
+mod plain;
+
+use crate::plain::PlainDisk;
+use anyhow::{Error, ensure};
+use byte_list::Bytes;
+use disk_model::{Change, made_files_change};
+use files::FileTable;
+use group_commit::{CommitRefusal, Committer};
+use simdisk::SimDisk;
+use std::alloc::{AllocError, Global};
+use std::env;
+use std::time::{Clock, Duration, Instant};
+
+/// How many groups are timed.
+const GROUPS: u32 = 300;
+
+/// How many groups a half has room for.
+const GROUPS_OF_HALF: u32 = 15;
+
+/// How often each time is measured; the least one counts.
+const ROUNDS: u32 = 10;
+
+/// How many blocks the file has that is written to, and how many writes a group.
+const BLOCKS: u8 = 16;
+
+const WRITES: u8 = 64;
+
+/// How many bytes each block has.
+const BLOCK: usize = 1024;
+
+/// The creation of the file that is written to.
+fn creation(alloc: Global) -> Result<Change, AllocError>
+    ensures formed { IfOk result IsFormed }
+    ensures possible { IfOk result (MayCome []) }
+{
+    Ok(Change::Create(Bytes::copy_of(alloc, b"f")?))
+}
+
+/// A write of a block.
+fn write_of(alloc: Global, block: u8) -> Result<Change, AllocError>
+    requires { block < 16 }
+    ensures formed { IfOk result IsFormed }
+    ensures possible { (files : List NamedFile) → 0 < length files → IfOk result (MayCome files) }
+{
+    Ok(Change::Write {
+        file: 0,
+        offset: u32::from(block) * 1024,
+        bytes: Bytes::new(vec![in alloc; block; BLOCK]?),
+    })
+}
+
+/// The changes of a group: writes to the blocks of the file, one after the other and round again.
+fn group_of(alloc: Global) -> Result<Vec<Change>, AllocError>
+    ensures { IfOk result (λ changes. AllByRecursion IsFormed changes.items) }
+{
+    let mut changes = Vec::new(alloc);
+    for number in 0..WRITES {
+        changes.push(write_of(alloc, number % BLOCKS)?)?;
+    }
+    Ok(changes)
+}
+
+/// Does a change that is formed and possible.
+fn grow(files: &mut FileTable, change: &Change) -> Result<(), AllocError>
+    requires made { IsMade files.old }
+    requires formed { IsFormed change.now }
+    requires possible { MayCome files.old change.now }
+    ensures made { OnOk result (IsMade files.new) }
+    ensures some { OnOk result (0 < length files.new) }
+{
+    made_files_change();
+    files.change(change)
+}
+
+/// The file that is written to, with all its blocks.
+fn files_of(alloc: Global) -> Result<FileTable, AllocError>
+    ensures { IfOk result IsMade }
+{
+    let mut files = FileTable::new(alloc);
+    grow(&mut files, &creation(alloc)?)?;
+    for block in 0..BLOCKS {
+        grow(&mut files, &write_of(alloc, block)?)?;
+    }
+    Ok(files)
+}
+
+/// Commits a group: its cut, and all completions.
+fn commit(
+    alloc: Global,
+    committer: &mut Committer,
+    changes: &[Change],
+    files: &FileTable,
+) -> Result<(), CommitRefusal>
+    requires possible { IsMade files.now }
+    requires formed { AllByRecursion IsFormed changes.now }
+{
+    let (_changes, writes) = committer.cut(alloc, changes, files)?;
+    for _ in 0..writes {
+        if let Some(at) = committer.in_flight() {
+            committer.completed(at)?;
+        }
+    }
+    Ok(())
+}
+
+/// Commits the same changes again and again.
+fn commit_times(
+    alloc: Global,
+    committer: &mut Committer,
+    changes: &[Change],
+    files: &FileTable,
+    times: u32,
+) -> Result<(), CommitRefusal>
+    requires possible { IsMade files.now }
+    requires formed { AllByRecursion IsFormed changes.now }
+{
+    for _ in 0..times {
+        commit(alloc, committer, changes, files)?;
+    }
+    Ok(())
+}
+
+/// A committer that has committed the file's creation on a disk of zeros.
+fn committer(alloc: Global, files: &FileTable) -> Result<Committer, Error>
+    requires { IsMade files.now }
+{
+    let mut committer = Committer::new(alloc, SimDisk::zero(alloc)?, 64);
+    commit(alloc, &mut committer, &[creation(alloc)?], files)?;
+    Ok(committer)
+}
+
+/// A plain disk on which the same is committed.
+fn plain_disk(alloc: Global, files: &FileTable) -> Result<PlainDisk, AllocError> {
+    let mut disk = PlainDisk::new(alloc)?;
+    disk.commit_times(alloc, &[creation(alloc)?], files, 1)?;
+    Ok(disk)
+}
+
+/// Two times that are compared.
+#[derive(Clone, Copy)]
+struct Times {
+    measured: Duration,
+    plain: Duration,
+}
+
+impl Times {
+    /// Before any is measured.
+    const NONE: Times = Times {
+        measured: Duration::MAX,
+        plain: Duration::MAX,
+    };
+
+    /// The less of each.
+    fn least(self, other: Times) -> Times {
+        Times {
+            measured: self.measured.min(other.measured),
+            plain: self.plain.min(other.plain),
+        }
+    }
+
+    /// The first in thousandths of the second.
+    fn ratio(&self) -> u128 {
+        self.measured.as_nanos().saturating_mul(1000) / self.plain.as_nanos().max(1)
+    }
+}
+
+/// The times of the groups' commits, which leave the same disk in both ways.
+fn time_commits<R: Clock + AllocGlobal>(
+    rt: &R,
+    group: &[Change],
+    files: &FileTable,
+) -> Result<Times, Error>
+    requires possible { IsMade files.now }
+    requires formed { AllByRecursion IsFormed group.now }
+{
+    let alloc = rt.alloc();
+    let mut committer = committer(alloc, files)?;
+    let mut disk = plain_disk(alloc, files)?;
+    let start = Instant::now(rt)?;
+    commit_times(alloc, &mut committer, group, files, GROUPS)?;
+    let committed = Instant::now(rt)?;
+    disk.commit_times(alloc, group, files, GROUPS)?;
+    let end = Instant::now(rt)?;
+    ensure!(
+        committer.crash(b"").bytes() == disk.bytes(),
+        "the disks differ"
+    );
+    Ok(Times {
+        measured: committed.duration_since(start),
+        plain: end.duration_since(committed),
+    })
+}
+
+/// A disk whose half 0 holds as many groups as it has room for.
+fn full_disk(alloc: Global, group: &[Change], files: &FileTable) -> Result<SimDisk, Error>
+    requires possible { IsMade files.now }
+    requires formed { AllByRecursion IsFormed group.now }
+{
+    let mut committer = committer(alloc, files)?;
+    commit_times(alloc, &mut committer, group, files, GROUPS_OF_HALF)?;
+    Ok(committer.crash(b""))
+}
+
+/// The sum of bytes.
+fn sum_of(bytes: &[u8]) -> u64 {
+    let mut sum = 0u64;
+    for byte in bytes {
+        sum = sum.wrapping_add(u64::from(*byte));
+    }
+    sum
+}
+
+/// The times of a recovery of a disk and of a reading of its half 0.
+fn time_recovery<R: Clock + AllocGlobal>(rt: &R, disk: &SimDisk) -> Result<Times, Error> {
+    let start = Instant::now(rt)?;
+    let files = journal::recover(rt.alloc(), disk)?;
+    let recovered = Instant::now(rt)?;
+    let sum = sum_of(&disk.bytes()[64..1_048_576]);
+    let end = Instant::now(rt)?;
+    ensure!(files.count() == 1 && sum != 0, "the half is empty");
+    Ok(Times {
+        measured: recovered.duration_since(start),
+        plain: end.duration_since(recovered),
+    })
+}
+
+fn main(rt: HostRuntime) -> Result<(), Error> {
+    let words: Vec<String> = env::args(&rt)?.collect(rt.alloc())?;
+    if words.len() > 1 {
+        println!(rt;
+            "commit_cost prints what {GROUPS} groups cost beside the same in plain code, and a recovery beside one reading; it takes no words"
+        )?;
+        return Ok(());
+    }
+    let group = group_of(rt.alloc())?;
+    let files = files_of(rt.alloc())?;
+    let mut commits = Times::NONE;
+    for _ in 0..ROUNDS {
+        commits = commits.least(time_commits(&rt, &group, &files)?);
+    }
+    println!(rt;
+        "{GROUPS} groups of {WRITES} writes: cuts and completions take {} thousandths of the time of plain code",
+        commits.ratio()
+    )?;
+    let disk = full_disk(rt.alloc(), &group, &files)?;
+    let mut recoveries = Times::NONE;
+    for _ in 0..ROUNDS {
+        recoveries = recoveries.least(time_recovery(&rt, &disk)?);
+    }
+    println!(rt;
+        "a half that is full: a recovery takes {} thousandths of the time of one reading of its bytes",
+        recoveries.ratio()
+    )?;
+    Ok(())
+}

@@ -1,0 +1,43 @@
+-- What is wrong with a disk, by its bytes alone.
+use Rattle.std.specs.Prelude.{◌≡◌, ℕ, ◌+◌, ◌<◌, ◌≤◌, List, length, slice_index, take, drop}
+use Rattle.std.specs.Int.{w32, from_le_bytes}
+use Rattle.std.specs.List.{AllByRecursion}
+use Rattle.disk_model.specs.declared.change.Change.{Change}
+use Rattle.disk_model.specs.declared.change.NamedFile.{NamedFile}
+use Rattle.disk_model.specs.Files.{IsFormed, Follow}
+use Rattle.disk_model.specs.Spelling.{body_of}
+use Rattle.disk_model.specs.Held.{Reads, IsRecord, Stands, selected_half, end_of}
+use Rattle.journal.specs.declared.fault.DiskFault.{DiskFault}
+use Rattle.journal.specs.declared.fault.DiskFault.TheVariants.{BadRecord, BadChange, PastHalf, OutOfMemory}
+
+-- the length that the four bytes behind a gate tell
+abbrev pub size_behind : List ℕ → ℕ → ℕ
+size_behind disk gate = from_le_bytes w32 (take 4 (drop (gate + 1) disk))
+
+-- no list of formed changes has the told length and stands behind it as a body
+abbrev pub HasNoBody : List ℕ → ℕ → Type 0
+HasNoBody disk gate = (cs : List Change) → AllByRecursion IsFormed cs → length (body_of cs) ≡ size_behind disk gate → Stands disk (gate + 5) (body_of cs) → ⊥
+
+-- what is wrong with the record behind this open gate, with these files before it, in a half that ends before `last`:
+-- its next gate lies past the half; else its body is no list of changes; else one of its changes is not possible
+abbrev pub FaultBehind : List ℕ → ℕ → ℕ → List NamedFile → DiskFault → Type 0
+FaultBehind disk last gate files PastHalf = last ≤ gate + 5 + size_behind disk gate
+FaultBehind disk last gate files BadRecord = (gate + 5 + size_behind disk gate < last) × HasNoBody disk gate
+FaultBehind disk last gate files BadChange = (cs : List Change) × IsRecord disk last gate cs × AllByRecursion IsFormed cs × (Follow files cs → ⊥)
+FaultBehind disk last gate files OutOfMemory = ⊥
+
+-- the first fault of the disk: good records lead up to this open gate, and the record behind it has the fault
+pub record IsFault (disk : List ℕ) (fault : DiskFault) : Type 0 where
+  pub size : length disk ≡ 2097152
+  pub gate : ℕ
+  pub files : List NamedFile
+  pub before : Reads disk (selected_half (slice_index disk 0)) gate files
+  pub opened : slice_index disk gate ≡ 1
+  pub behind : FaultBehind disk (end_of (selected_half (slice_index disk 0))) gate files fault
+
+-- an answer tells the first fault; want of memory tells nothing
+abbrev pub TellsFault : List ℕ → DiskFault → Type 0
+TellsFault disk BadRecord = IsFault disk BadRecord
+TellsFault disk BadChange = IsFault disk BadChange
+TellsFault disk PastHalf = IsFault disk PastHalf
+TellsFault disk OutOfMemory = Unit {0}

@@ -1,0 +1,3 @@
+-- The definitions.
+pub mod Reading
+pub mod Faults

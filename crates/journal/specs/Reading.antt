@@ -1,0 +1,150 @@
+-- Reading a half from left to right, with the first fault that is met. Only the private functions of this crate speak of it.
+use Rattle.std.specs.Prelude.{◌≡◌, ℕ, zero, suc, ◌+◌, ◌&&◌, List, [], ◌∷◌, length, take, drop, Option, Some, None, Result, Ok, Err, nat_lt, nat_le, is_none, slice_index, ◌==◌, not, Bool, true, if◌then◌else◌}
+use Rattle.std.specs.Int.{Width, w16, w32, byte_len, from_le_bytes}
+use Rattle.disk_model.specs.declared.change.Change.{Change}
+use Rattle.disk_model.specs.declared.change.Change.TheVariants.{Create, Write, Empty}
+use Rattle.disk_model.specs.declared.change.NamedFile.{NamedFile}
+use Rattle.disk_model.specs.Files.{changed}
+use Rattle.disk_model.specs.Held.{selected_half, start_of, end_of}
+use Rattle.files.specs.Names.{place_of}
+use Rattle.journal.specs.declared.fault.DiskFault.{DiskFault}
+use Rattle.journal.specs.declared.fault.DiskFault.TheVariants.{PastHalf, BadRecord, BadChange, OutOfMemory}
+
+-- the second reading follows the first, where that gives something
+infixl 10 ◌>>=◌
+abbrev pub ◌>>=◌ : {A B : Type 0} → Result A DiskFault → (A → Result B DiskFault) → Result B DiskFault
+(Ok x) >>= f = f x
+(Err e) >>= f = Err e
+
+-- reading fails with this fault, unless memory ran out
+abbrev pub Fails : {Y : Type 0} → DiskFault → Result Y DiskFault → Type 0
+Fails BadRecord read = read ≡ Err BadRecord
+Fails BadChange read = read ≡ Err BadChange
+Fails PastHalf read = read ≡ Err PastHalf
+Fails OutOfMemory read = Unit {0}
+
+-- what a function returned, seen by `view`, is what reading gives, unless memory ran out
+abbrev pub Gives : {X Y : Type 0} → (X → Y) → Result X DiskFault → Result Y DiskFault → Type 0
+Gives view (Ok x) read = read ≡ Ok (view x)
+Gives view (Err e) read = Fails e read
+
+-- a number of this width, and the bytes behind it
+abbrev pub number_at : Width → List ℕ → Result (ℕ × List ℕ) DiskFault
+number_at w bytes = if nat_lt (length bytes) (byte_len w) then Err BadRecord else Ok (from_le_bytes w (take (byte_len w) bytes), drop (byte_len w) bytes)
+
+-- so many bytes, and those behind them
+abbrev pub text_at : ℕ → List ℕ → Result (List ℕ × List ℕ) DiskFault
+text_at n bytes = if nat_lt (length bytes) n then Err BadRecord else Ok (take n bytes, drop n bytes)
+
+-- a byte of a name: 0x21 to 0x7E, without the slash
+abbrev pub is_name_byte : ℕ → Bool
+is_name_byte b = nat_le 33 b && nat_le b 126 && not (b == 47)
+
+-- all of these are bytes of a name
+abbrev pub all_name_bytes : List ℕ → Bool
+all_name_bytes [] = true
+all_name_bytes (b ∷ bytes) = is_name_byte b && all_name_bytes bytes
+
+-- a creation behind its kind, and the bytes behind it
+unfoldable pub create_at : List ℕ → Result (Change × List ℕ) DiskFault
+create_at [] = Err BadRecord
+create_at (n ∷ rest) = do
+  name ← text_at n rest
+  if nat_le 1 n && nat_le n 32 && all_name_bytes name.0 then Ok (Create name.0, name.1) else Err BadRecord
+
+-- a write behind its kind, and the bytes behind it
+unfoldable pub write_at : List ℕ → Result (Change × List ℕ) DiskFault
+write_at bytes = do
+  file ← number_at w16 bytes
+  offset ← number_at w32 file.1
+  n ← number_at w16 offset.1
+  text ← text_at n.0 n.1
+  if nat_le 1 n.0 && nat_le n.0 1024 then Ok (Write file.0 offset.0 text.0, text.1) else Err BadRecord
+
+-- an emptying behind its kind, and the bytes behind it
+unfoldable pub empty_at : List ℕ → Result (Change × List ℕ) DiskFault
+empty_at bytes = do
+  file ← number_at w16 bytes
+  Ok (Empty file.0, file.1)
+
+-- a change, and the bytes behind it
+unfoldable pub change_at : List ℕ → Result (Change × List ℕ) DiskFault
+change_at [] = Err BadRecord
+change_at (zero ∷ rest) = Err BadRecord
+change_at (suc zero ∷ rest) = create_at rest
+change_at (suc (suc zero) ∷ rest) = write_at rest
+change_at (suc (suc (suc zero)) ∷ rest) = empty_at rest
+change_at (suc (suc (suc (suc b))) ∷ rest) = Err BadRecord
+
+-- all changes of a body; the number is at least its length
+unfoldable pub changes_at : ℕ → List ℕ → Result (List Change) DiskFault
+changes_at n [] = Ok []
+changes_at zero (b ∷ bytes) = Err BadRecord
+changes_at (suc n) (b ∷ bytes) = do
+  first ← change_at (b ∷ bytes)
+  others ← changes_at n first.1
+  Ok (first.0 ∷ others)
+
+-- the change is possible with these files
+abbrev pub may_come : List NamedFile → Change → Bool
+may_come files (Create name) = is_none (place_of files name) && nat_lt (length files) 32
+may_come files (Write place offset bytes) = nat_lt place (length files) && nat_le (offset + length bytes) 16384
+may_come files (Empty place) = nat_lt place (length files)
+
+-- the files after a change, where it is possible
+abbrev pub step_at : List NamedFile → Change → Result (List NamedFile) DiskFault
+step_at files c = if may_come files c then Ok (changed files c) else Err BadChange
+
+-- the files after these changes, where each is possible where it comes
+unfoldable pub all_changed : List NamedFile → List Change → Result (List NamedFile) DiskFault
+all_changed files [] = Ok files
+all_changed files (c ∷ cs) = step_at files c >>= λ later. all_changed later cs
+
+-- what lies behind an open gate: the body, and what begins with the next gate
+unfoldable pub body_at : List ℕ → Result (List ℕ × List ℕ) DiskFault
+body_at bytes =
+    if nat_lt (length bytes) 4 then Err PastHalf
+    else if nat_le (length bytes) (4 + from_le_bytes w32 (take 4 bytes)) then Err PastHalf
+    else Ok (take (from_le_bytes w32 (take 4 bytes)) (drop 4 bytes), drop (from_le_bytes w32 (take 4 bytes)) (drop 4 bytes))
+
+-- the files after the record, and what begins with the next gate
+unfoldable pub record_at : List NamedFile → List ℕ → Result (List NamedFile × List ℕ) DiskFault
+record_at files bytes = do
+  body ← body_at bytes
+  cs ← changes_at (length body.0) body.0
+  later ← all_changed files cs
+  Ok (later, body.1)
+
+-- what lies behind the gate, where it is open
+abbrev pub opened : List ℕ → Option (List ℕ)
+opened [] = None
+opened (gate ∷ bytes) = if gate == 1 then Some bytes else None
+
+-- one answer for something, and another for nothing
+abbrev pub on_some : {A R : Type 0} → Option A → (A → R) → R → R
+on_some None f r = r
+on_some (Some x) f r = f x
+
+-- the files that the records from this gate on make of these files, and what is left from the first gate on that is not open;
+-- the number is at least the length
+unfoldable pub records_at : ℕ → List NamedFile → List ℕ → Result (List NamedFile × List ℕ) DiskFault
+records_at zero files rest = Ok (files, rest)
+records_at (suc n) files rest = on_some (opened rest) (λ bytes. record_at files bytes >>= λ x. records_at n x.0 x.1) (Ok (files, rest))
+
+-- what a function left behind is what reading gives, unless memory ran out
+abbrev pub GivesNew : {X Y : Type 0} → Result X DiskFault → Y → Result Y DiskFault → Type 0
+GivesNew (Ok x) new read = read ≡ Ok new
+GivesNew (Err e) new read = Fails e read
+
+-- the same, with a result beside
+abbrev pub GivesBoth : {X Y Z : Type 0} → (X → Y) → Result X DiskFault → Z → Result (Z × Y) DiskFault → Type 0
+GivesBoth view (Ok x) new read = read ≡ Ok (new, view x)
+GivesBoth view (Err e) new read = Fails e read
+
+-- the half that byte 0 selects
+abbrev pub selected : List ℕ → List ℕ
+selected disk = drop (start_of (selected_half (slice_index disk 0))) (take (end_of (selected_half (slice_index disk 0))) disk)
+
+-- the files, and what is left of the half from the first gate on that is not open; or the first fault
+abbrev pub recovered : List ℕ → Result (List NamedFile × List ℕ) DiskFault
+recovered disk = records_at (length (selected disk)) [] (selected disk)

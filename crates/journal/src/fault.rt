@@ -1,0 +1,41 @@
+//! Why a disk cannot be read.
+ghost use Rattle.std.specs.Prelude.{◌≡◌};
+ghost use Rattle.journal.specs.declared.fault.DiskFault.TheVariants.{OutOfMemory};
+
+use std::alloc::{AllocError, AllocFailed};
+use thiserror::Error;
+
+/// Why a disk cannot be read: the first fault of its records. Records are read from the first on, and inside a record
+/// PastHalf comes before BadRecord, and BadRecord before BadChange.
+#[derive(Clone, Copy, Debug, PartialEq, Eq, Error)]
+pub enum DiskFault {
+    /// A body that is no list of changes, or has a bad byte in a name.
+    #[error("a record's body is no list of changes")]
+    BadRecord = 1,
+    /// A change that is not possible where it comes: a name that is there, a 33rd file, a file that is not there, or a
+    /// write that ends past 16,384 bytes.
+    #[error("a record has a change that is not possible")]
+    BadChange = 2,
+    /// The gate behind a record would lie outside the half.
+    #[error("a record ends past its half")]
+    PastHalf = 3,
+    /// Memory ran out. It tells nothing about the disk.
+    #[error("out of memory")]
+    OutOfMemory = 4,
+}
+
+impl From<AllocError> for DiskFault {
+    ghost from_gives = { λ _ e. e ≡ OutOfMemory };
+
+    fn from(_error: AllocError) -> DiskFault {
+        DiskFault::OutOfMemory
+    }
+}
+
+impl<T: Drop> From<AllocFailed<T>> for DiskFault {
+    ghost from_gives = { λ _ e. e ≡ OutOfMemory };
+
+    fn from(_error: AllocFailed<T>) -> DiskFault {
+        DiskFault::OutOfMemory
+    }
+}

@@ -1,0 +1,102 @@
+//! Reading the records of a half.
+ghost use Rattle.std.specs.Prelude.{◌≡◌, [], length, option_map, None, IsOk};
+ghost use Rattle.journal.specs.Reading.{Gives, GivesNew, GivesBoth, step_at, all_changed, record_at, records_at, opened};
+
+use crate::fault::DiskFault;
+use crate::reading::{body_in, changes_of};
+use disk_model::Change;
+use files::FileTable;
+use std::alloc::Global;
+
+/// How many files there may be.
+const MOST_FILES: usize = 32;
+
+/// How many bytes a file may have.
+const LONGEST_FILE: usize = 16384;
+
+/// Does a change, where it is possible.
+fn apply(alloc: Global, files: &mut FileTable, change: &Change) -> Result<(), DiskFault>
+    ensures { GivesNew result files.new (step_at files.old change.now) }
+{
+    match change {
+        Change::Create(name) => {
+            if files.find(name.as_slice()).is_some() || files.count() >= MOST_FILES {
+                return Err(DiskFault::BadChange);
+            }
+            Ok(files.create(name.try_clone(alloc)?)?)
+        }
+        Change::Write {
+            file,
+            offset,
+            bytes,
+        } => {
+            let place = *file as usize;
+            let offset = *offset as usize;
+            let bytes = bytes.as_slice();
+            if place >= files.count() || offset + bytes.len() > LONGEST_FILE {
+                return Err(DiskFault::BadChange);
+            }
+            Ok(files.write(place, offset, bytes)?)
+        }
+        Change::Empty(file) => {
+            let place = *file as usize;
+            if place >= files.count() {
+                return Err(DiskFault::BadChange);
+            }
+            files.empty(place);
+            Ok(())
+        }
+    }
+}
+
+/// Does these changes in order.
+#[tactic(auto, unfolding(crate::specs::Reading::all_changed))]
+fn apply_all(alloc: Global, files: &mut FileTable, changes: &[Change]) -> Result<(), DiskFault>
+    ensures { GivesNew result files.new (all_changed files.old changes.now) }
+{
+    for change in changes {
+        apply(alloc, files, change)?;
+    }
+    Ok(())
+}
+
+/// Does the changes of the record whose gate lies before these bytes; what begins with the next gate.
+#[tactic(auto, unfolding(crate::specs::Reading::record_at))]
+fn record_of<'a>(
+    alloc: Global,
+    files: &mut FileTable,
+    bytes: &'a [u8],
+) -> Result<&'a [u8], DiskFault>
+    ensures { GivesBoth (λ x. x.now) result files.new (record_at files.old bytes.now) }
+{
+    let (body, after) = body_in(bytes)?;
+    let changes = changes_of(alloc, body)?;
+    apply_all(alloc, files, &changes)?;
+    Ok(after)
+}
+
+/// What lies behind the gate, where it is open.
+fn behind_open_gate(rest: &[u8]) -> Option<&[u8]>
+    ensures { option_map (λ x. x.now) result ≡ opened rest.now }
+{
+    match rest {
+        [] => None,
+        [gate, bytes @ ..] => { if *gate == 1 { Some(bytes) } else { None } }
+    }
+}
+
+/// The files that the records of a half make, and what is left of it from the first gate on that is not open.
+pub fn records_of(alloc: Global, half: &[u8]) -> Result<(FileTable, &[u8]), DiskFault>
+    ensures exact { Gives (λ x. (x.0, x.1.now)) result (records_at (length half.now) [] half.now) }
+    ensures closed { opened half.now ≡ None → IsOk result }
+{
+    let mut files = FileTable::new(alloc);
+    let mut rest = half;
+    for _ in 0..half.len() {
+        let Some(bytes) = behind_open_gate(rest) else {
+            return Ok((files, rest));
+        };
+        rest = record_of(alloc, &mut files, bytes)?;
+    }
+    Ok((files, rest))
+}

@@ -1,0 +1,42 @@
+//! Drains: every change is committed, and so all output is shown.
+ghost use Rattle.std.specs.Prelude.{ℕ, ◌≡◌, OnOk};
+ghost use Rattle.kernel_model.specs.Answers.{now};
+ghost use Rattle.kernel_model.specs.Drains.{IsDrained, completion_or_cut};
+ghost use Rattle.kernel_model.specs.Shown.{printed, told, shown, handed};
+ghost use Rattle.kernel_model.specs.Views.{contents};
+
+use crate::boot::Core;
+use kernel_laws::all_is_shown;
+use kernel_model::{Event, Refused};
+
+/// The completion of the write in flight that begins there; where none is in flight, a Cut.
+fn next_event(in_flight: Option<u32>) -> Event
+    ensures { result ≡ completion_or_cut in_flight }
+{
+    match in_flight {
+        Some(at) => Event::Complete { at },
+        None => Event::Cut,
+    }
+}
+
+impl Core {
+    /// Cuts groups, and completes writes in flight, the one that begins first on the disk first, until every change is
+    /// committed: then all that was written to terminals is shown, and all that processes were told is handed out. Refused:
+    /// DiskFailed, at once where a write has failed; Budget, where the history is full; OutOfMemory. The events that were
+    /// applied before a refusal stay.
+    pub fn drain(&mut self) -> Result<(), Refused>
+        ensures drained { IsDrained self.old self.new result }
+        ensures shown { OnOk result ((t : ℕ) → shown (now self.new) t ≡ contents (printed t (now self.new).log)) }
+        ensures handed { OnOk result ((p : ℕ) → handed (now self.new) p ≡ contents (told p (now self.new).log)) }
+    {
+        if self.shared.disk.has_failed() {
+            return Err(Refused::DiskFailed);
+        }
+        while self.committed() < self.changes() {
+            let event = next_event(self.in_flight());
+            self.apply(event)?;
+        }
+        all_is_shown();
+        Ok(())
+    }
+}

@@ -1,0 +1,30 @@
+//! The end of a run: what it leaves on the disk.
+ghost use Rattle.std.specs.Prelude.{◌≡◌};
+ghost use Rattle.disk_model.specs.Runs.{quiet};
+ghost use Rattle.simdisk.specs.Room.{crashed};
+ghost use Rattle.kernel_laws.specs.Crashes.{HoldsFront};
+ghost use Rattle.kernel_laws.specs.Resuming.{IsSound, MayLeave};
+ghost use Rattle.kernel_model.specs.Answers.{now};
+
+use crate::boot::Core;
+use kernel_laws::crashes_keep_the_committed;
+use simdisk::{SimDisk, fills_are_crashes};
+
+impl Core {
+    /// The disk that a crash leaves now, where the ranges of writes in flight or failed take these bytes, by rising place,
+    /// again and again from the start; an empty fill leaves the completed bytes. It holds the files after a front of the
+    /// run's changes, with every committed one in it, so that a core can be booted on it: `runs_go_on` says with which files.
+    /// Takes no memory.
+    pub fn halt(self, fill: &[u8]) -> SimDisk
+        ensures disk { result ≡ quiet (crashed (now self).storage.drive fill.now) }
+        ensures quiet { result ≡ quiet result.disk }
+        ensures sound { IsSound self.boot }
+        ensures left { MayLeave (now self) result.disk }
+        ensures holds { HoldsFront self.boot (now self) result.disk }
+    {
+        crashes_keep_the_committed();
+        fills_are_crashes();
+        let shared = self.shared;
+        shared.disk.crash(fill)
+    }
+}

@@ -1,0 +1,87 @@
+-- Where all changes are committed, everything is settled, and so all is released.
+use Rattle.std.proofs.Common.{◌≡◌, ℕ, ◌+◌, ◌<◌, ◌≤◌, inl, inr, Bool, true, false, if◌then◌else◌, List, [], ◌∷◌, ◌++◌, length, Option, Some, None, is_some, refl, ap, ◌∙◌, arith}
+use Rattle.std.specs.List.{AllByRecursion}
+use Rattle.disk_model.specs.declared.change.Change.{Change}
+use Rattle.kernel_model.specs.Entries.{Entry, Item, Got}
+use Rattle.kernel_model.specs.Paths.{RestsOn, IsSettled, change_count, is_settled, changes_of, with_change}
+use Rattle.kernel_model.specs.Shown.{Given, given_by, each_from, printed, told, told_from, told_with, is_made, items_for, bytes_for, front, released}
+use Rattle.kernel_model.specs.Steps.{zero_reply}
+use Rattle.kernel_model.specs.Views.{contents}
+use Rattle.kernel_model.proofs.Paths.{settled_to}
+use Rattle.kernel_laws.proofs.Each.{each_append}
+
+-- how many changes these events made
+abbrev pub count : List Entry → ℕ
+count log = length (changes_of log)
+
+count-with : (o : Option Change) (cs : List Change) → length (with_change o cs) ≡ (if is_some o then 1 else 0) + length cs
+count-with None cs = omega arith
+count-with (Some c) cs = omega arith
+
+count-append : (xs ys : List Entry) → count (xs ++ ys) ≡ count xs + count ys
+count-append [] ys = omega arith
+count-append (x ∷ xs) ys = omega (arith, count-with x.change (changes_of (xs ++ ys)), count-with x.change (changes_of xs), count-append xs ys)
+
+-- an event rests on changes of its past, and on its own
+rests_below : (n : ℕ) (past : List Entry) (e : Entry) (k : ℕ) → RestsOn n past e k → k < n + (count past + count (e ∷ []))
+rests_below n [] e k h =
+    let own : change_count e ≡ 1 = ap (λ (b : Bool). if b then 1 else 0) h.0 in
+    let same : k ≡ n = h.1 in omega (arith, count-with e.change [])
+rests_below n (x ∷ xs) e k (inl h) =
+    let own : change_count x ≡ 1 = ap (λ (b : Bool). if b then 1 else 0) h.0 in
+    let same : k ≡ n = h.1 in omega (arith, count-with x.change (changes_of xs))
+rests_below n (x ∷ xs) e k (inr h) = omega (arith, rests_below (n + change_count x) xs e k h, count-with x.change (changes_of xs))
+
+-- so it is settled where they are among the first c
+abbrev IsEarly : {A : Type 0} → ℕ → Given A → Type 0
+IsEarly c x = count (x.past ++ x.entry ∷ []) ≤ c
+
+early_settled : {A : Type 0} (c : ℕ) (x : Given A) → IsEarly c x → IsSettled c x.past x.entry
+early_settled c x early k rests = omega (arith, rests_below 0 x.past x.entry k rests, count-append x.past (x.entry ∷ []))
+
+-- ---- what events give
+
+given_early : {A : Type 0} (c : ℕ) (past : List Entry) (e : Entry) (xs : List A) → count (past ++ e ∷ []) ≤ c → AllByRecursion (IsEarly c) (given_by past e xs)
+given_early c past e [] early = tt
+given_early c past e (x ∷ xs) early = (early, given_early c past e xs early)
+
+-- the first of these events, behind their past
+first_early : (c : ℕ) (past : List Entry) (e : Entry) (es : List Entry) → count past + count (e ∷ es) ≤ c → count (past ++ e ∷ []) + count es ≤ c
+first_early c past e es all = omega (arith, count-append past (e ∷ []), count-append (e ∷ []) es)
+
+each_early : {A : Type 0} (c : ℕ) (f : Entry → List A) (past log : List Entry) → count past + count log ≤ c → AllByRecursion (IsEarly c) (each_from f past log)
+each_early c f past [] all = tt
+each_early c f past (e ∷ es) all =
+    let first = first_early c past e es all in
+    each_append (IsEarly c) (given_by past e (f e)) (each_from f (past ++ e ∷ []) es)
+    (given_early c past e (f e) (omega arith)) (each_early c f (past ++ e ∷ []) es first)
+
+told_with_early : (c : ℕ) (before : ℕ → List (Given Item)) (past : List Entry) (e : Entry) → ((q : ℕ) → AllByRecursion (IsEarly c) (before q))
+    → count (past ++ e ∷ []) ≤ c → (p : ℕ) → AllByRecursion (IsEarly c) (told_with before past e p)
+told_with_early c before past e h early p = by (is_made e.child p)
+  where
+    by : (b : Bool) → AllByRecursion (IsEarly c) (if b then before e.process ++ given_by past e (Got zero_reply ∷ []) else before p ++ given_by past e (items_for p e))
+    by true = each_append (IsEarly c) (before e.process) (given_by past e (Got zero_reply ∷ [])) (h e.process) (given_early c past e (Got zero_reply ∷ []) early)
+    by false = each_append (IsEarly c) (before p) (given_by past e (items_for p e)) (h p) (given_early c past e (items_for p e) early)
+
+told_early : (c : ℕ) (before : ℕ → List (Given Item)) (past log : List Entry) → ((q : ℕ) → AllByRecursion (IsEarly c) (before q))
+    → count past + count log ≤ c → (p : ℕ) → AllByRecursion (IsEarly c) (told_from before past log p)
+told_early c before past [] h all p = h p
+told_early c before past (e ∷ es) h all p =
+    let first = first_early c past e es all in
+    told_early c (told_with before past e) (past ++ e ∷ []) es (told_with_early c before past e h (omega arith)) first p
+
+-- ---- what is released
+
+all_released : {A : Type 0} (c : ℕ) (xs : List (Given A)) → AllByRecursion (IsEarly c) xs → released c xs ≡ contents xs
+all_released c [] h = refl
+all_released c (x ∷ xs) h =
+    ap (λ (b : Bool). contents (if b then x ∷ front (λ y. is_settled c y.past y.entry) xs else [])) (settled_to c 0 x.past x.entry (early_settled c x h.0))
+    ∙ ap (λ ys. x.what ∷ ys) (all_released c xs h.1)
+
+-- of this log all is released once c changes are committed, where it has as many
+pub printed_released : (c t : ℕ) (log : List Entry) → c ≡ count log → released c (printed t log) ≡ contents (printed t log)
+printed_released c t log all = all_released c (printed t log) (each_early c (λ e. bytes_for t e.output) [] log (omega (arith, all)))
+
+pub told_released : (c p : ℕ) (log : List Entry) → c ≡ count log → released c (told p log) ≡ contents (told p log)
+told_released c p log all = all_released c (told p log) (told_early c (λ q. []) [] log (λ q. tt) (omega (arith, all)) p)

@@ -1,0 +1,20 @@
+-- What is seen rests on committed changes, and these are in the front.
+use Rattle.std.proofs.Common.{◌≡◌, ℕ, ◌<◌, ◌≤◌, ◌∙◌, List, length, take, slice_get, Some, map, ap, sym, arith}
+use Rattle.kernel_model.specs.Answers.{committed}
+use Rattle.kernel_model.specs.Shown.{Given}
+use Rattle.kernel_model.specs.Views.{contents}
+use Rattle.kernel_model.specs.World.{World, begun, after}
+use Rattle.kernel_laws.specs.Promises.{IsLongestFront}
+use Rattle.kernel_laws.specs.Kept.{AreKept}
+use Rattle.kernel_laws.proofs.Keeping.{front-kept}
+use Rattle.kernel_laws.proofs.shown_is_kept.Goals as goal
+
+pub returns : goal.returns
+returns c b es held programs tapes left is =
+    let w : World = after (begun b) es in
+    let front = c.crashes_keep_the_committed.ensures b es held programs tapes left is in
+    let seen = c.headline.ensures.synchronous b es in (
+      front,
+      (λ t. front-kept (committed w) front.count _ _ (seen.terminals t) front.every_committed),
+      (λ p. front-kept (committed w) front.count _ _ (seen.traces p) front.every_committed),
+    )

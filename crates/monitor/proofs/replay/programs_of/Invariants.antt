@@ -1,8 +1,0 @@
--- A program for each of the script's so far, with its terminal.
-use Rattle.std.proofs.Common.{◌≡◌, ◌<◌, length}
-use Rattle.std.specs.List.{AllByRecursion}
-use Rattle.kernel.specs.declared.boot.Program.{Program}
-use Rattle.monitor.proofs.replay.programs_of.Given as goal
-
-abbrev pub invariant-loop-program : goal.invariant-loop-program
-invariant-loop-program g l = (length l.booted.items ≡ l.program-index) × AllByRecursion (λ (p : Program). p.terminal < 8) l.booted.items

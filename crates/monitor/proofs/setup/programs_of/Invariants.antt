@@ -1,0 +1,8 @@
+-- A program for each of the kept ones so far, with its terminal.
+use Rattle.std.proofs.Common.{◌≡◌, ◌<◌, length}
+use Rattle.std.specs.List.{AllByRecursion}
+use Rattle.kernel.specs.declared.boot.Program.{Program}
+use Rattle.monitor.proofs.setup.programs_of.Given as goal
+
+abbrev pub invariant-loop-program : goal.invariant-loop-program
+invariant-loop-program l = (length l.booted.items ≡ l.program-index) × AllByRecursion (λ (p : Program). p.terminal < 8) l.booted.items

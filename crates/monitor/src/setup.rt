@@ -1,0 +1,172 @@
+//! What a script sets up: programs and tapes, which are booted on a disk, and booted again on the disk that a crash leaves.
+ghost use Rattle.std.specs.Prelude.{◌≡◌, ◌≤◌, ◌<◌, length, vec_len, IfOk};
+ghost use Rattle.std.specs.List.{AllByRecursion};
+ghost use Rattle.disk_model.specs.Runs.{quiet};
+
+use crate::fault::Fault;
+use crate::script::{ScriptProgram, ScriptTape, Source, TAPES, Terminal, Words};
+use byte_list::Bytes;
+use elf32::Image;
+use kernel::{Core, Program, SimDisk};
+use std::alloc::Global;
+use std::fs;
+use std::rt::Files;
+
+/// What a program's image is made of.
+#[derive(Drop)]
+enum Code {
+    Words(Words),
+    /// The bytes of an image's file, as they were when it was read.
+    File(Vec<u8>),
+}
+
+impl Code {
+    /// What a script gives, with the image's file read.
+    fn read<R: Files + AllocGlobal>(rt: &R, source: Source) -> Result<Code, Fault> {
+        match source {
+            Source::Words(words) => Ok(Code::Words(words)),
+            Source::Image(path) => Ok(Code::File(fs::read(rt, path.as_str())?)),
+        }
+    }
+
+    fn image(&self, alloc: Global) -> Result<Image, Fault> {
+        match self {
+            Code::Words(words) => Ok(Image::from_text(alloc, words.as_slice())?),
+            Code::File(file) => Ok(elf32::parse(alloc, file)?),
+        }
+    }
+}
+
+/// A program that can be booted any number of times.
+#[derive(Drop)]
+struct Bootable {
+    terminal: Terminal,
+    code: Code,
+}
+
+impl Bootable {
+    /// The program, to be booted once.
+    fn program(&self, alloc: Global) -> Result<Program, Fault>
+        ensures { IfOk result (λ program. program.terminal < 8) }
+    {
+        Ok(Program {
+            image: self.code.image(alloc)?,
+            terminal: self.terminal.number,
+        })
+    }
+}
+
+/// What a script sets up: 1 to 8 programs in order, and the tapes that it gives.
+#[derive(Drop)]
+pub struct Setup {
+    programs: Vec<Bootable>,
+    tapes: Vec<ScriptTape>,
+    ghost some: { 1 ≤ vec_len programs },
+    ghost few: { vec_len programs ≤ 8 },
+}
+
+impl Setup {
+    /// Boots what a script sets up on a disk of zeros. The files of images are read here and never again: one after the
+    /// other, each with its checks before the next.
+    pub fn boot<R: Files + AllocGlobal>(
+        rt: &R,
+        programs: Vec<ScriptProgram>,
+        tapes: Vec<ScriptTape>,
+    ) -> Result<(Setup, Core), Fault>
+        requires some { 1 ≤ vec_len programs }
+        requires few { vec_len programs ≤ 8 }
+    {
+        let alloc = rt.alloc();
+        let (kept, programs) = read_programs(rt, programs)?;
+        let booted = tapes_of(alloc, tapes.as_slice())?;
+        let core = Core::boot(alloc, SimDisk::zero(alloc)?, programs, booted)?;
+        let setup = Setup {
+            programs: kept,
+            tapes,
+        };
+        Ok((setup, core))
+    }
+
+    /// Boots the same once more, on this disk.
+    pub fn boot_again(&self, alloc: Global, disk: SimDisk) -> Result<Core, Fault>
+        requires { disk ≡ quiet disk.disk }
+    {
+        let programs = programs_of(alloc, self.programs.as_slice())?;
+        let tapes = tapes_of(alloc, self.tapes.as_slice())?;
+        Ok(Core::boot(alloc, disk, programs, tapes)?)
+    }
+}
+
+/// The programs of a script, kept, and to be booted once.
+fn read_programs<R: Files + AllocGlobal>(
+    rt: &R,
+    programs: Vec<ScriptProgram>,
+) -> Result<(Vec<Bootable>, Vec<Program>), Fault>
+    ensures kept { IfOk result (λ read. length read.0.items ≡ vec_len programs) }
+    ensures len { IfOk result (λ read. length read.1.items ≡ vec_len programs) }
+    ensures terminals { IfOk result (λ read. AllByRecursion (λ p. p.terminal < 8) read.1.items) }
+{
+    let mut kept = Vec::new(rt.alloc());
+    let mut booted = Vec::new(rt.alloc());
+    for program in programs {
+        let bootable = Bootable {
+            terminal: program.terminal,
+            code: Code::read(rt, program.source)?,
+        };
+        booted.push(bootable.program(rt.alloc())?)?;
+        kept.push(bootable)?;
+    }
+    Ok((kept, booted))
+}
+
+/// Programs to be booted once more.
+fn programs_of(alloc: Global, programs: &[Bootable]) -> Result<Vec<Program>, Fault>
+    ensures len { IfOk result (λ booted. length booted.items ≡ length programs.now) }
+    ensures terminals { IfOk result (λ booted. AllByRecursion (λ p. p.terminal < 8) booted.items) }
+{
+    let mut booted = Vec::new(alloc);
+    for program in programs {
+        booted.push(program.program(alloc)?)?;
+    }
+    Ok(booted)
+}
+
+/// The eight tapes of a boot, by their numbers: those that a script gives, the others empty.
+fn tapes_of(alloc: Global, tapes: &[ScriptTape]) -> Result<Vec<Bytes>, Fault>
+    ensures { IfOk result (λ booted. length booted.items ≡ 8) }
+{
+    let mut booted = Vec::new(alloc);
+    for number in 0..TAPES {
+        let given = tapes.iter().find(|tape| tape.number == number);
+        booted.push(match given {
+            Some(tape) => tape.bytes.try_clone(alloc)?,
+            None => Bytes::empty(alloc),
+        })?;
+    }
+    Ok(booted)
+}
+
+#[cfg(test)]
+mod tests {
+    use super::*;
+    use crate::script::Script;
+    use kernel::Event;
+    use std::test::Fail;
+
+    #[test]
+    fn a_trap_ends_its_process(rt: HostRuntime) -> Result<(), Fail> {
+        let text = "program 0 00100073\nturn 1 5\nenter 1\n";
+        let Script {
+            programs,
+            tapes,
+            ..
+        } = Script::parse(rt.alloc(), text)?;
+        let (_setup, mut core) = Setup::boot(&rt, programs, tapes)?;
+        assert_eq!(rt; core.ended(1)?, None);
+        core.apply(Event::Turn { pid: 1, n: 5 })?;
+        core.apply(Event::Enter { pid: 1 })?;
+        // 256 and 6, the cause
+        assert_eq!(rt; core.ended(1)?, Some(262));
+        Ok(())
+    }
+}
