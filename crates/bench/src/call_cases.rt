@@ -1,6 +1,6 @@
 //! The table of calls, by programs that make them.
 use crate::play::check;
-use crate::tests::expect;
+use crate::running::expect;
 use std::test::Fail;
 
 /// Refusals by the order of their rows: with each call the conditions behind the one that refuses it hold as well, as
@@ -537,6 +537,34 @@ complete 166 => completed, 32 committed
 complete 165 => completed, 33 committed
 shown 1 => 4344
 trace 2 => -23; 1; -2; 1
+
+== the names, which a refusal for too many files reads
+program 0
+    li s0,0x7FFFFFFF
+    li s1,0x41
+    li s2,0x61
+again:
+    sb s1,0(s0)
+    open s0 1 2
+    close 2
+    addi s1,s1,1
+    bltu s1,s2,again
+program 1
+    write 1 &P 1
+    open &f 1 2
+    write 1 &C 1
+1 => entered*62
+commit => 31
+1 => entered
+2 => entered*3
+shown 1 => 50
+trace 2 => 1
+cut => cut 1 changes 2 writes
+complete 163 => completed, 31 committed
+shown 1 => 50
+complete 162 => completed, 32 committed
+shown 1 => 5043
+trace 2 => 1; -23; 1
 
 == calls that read nothing but their process
 program 0

@@ -374,6 +374,50 @@ fourth:
 trace 1 => -14; -14; -14; -14; -10; -10; 2; 3; 4; 5; -14; 3 at 7ffffffc ff000000; 2 at 7ffff001 07000000; 4 at 7ffff000 06010000; 5; -10; -14
 trace 5 => -14; -14; -14; -14; -10; -10; 2; 3; 4; 0; -10
 
+== the statuses of traps: 256 and the cause
+program 0
+    fork = 2
+    beqz a0,illegal
+    fork = 3
+    beqz a0,target
+    fork = 4
+    beqz a0,uneven
+    fork = 5
+    beqz a0,unmapped
+    fork = 6
+    beqz a0,unfetched
+    fork = 7
+    beqz a0,breakpoint
+    wait 0x7FFFF000 = 2 at 7ffff000 01010000
+    wait 0x7FFFF000 = 3 at 7ffff000 02010000
+    wait 0x7FFFF000 = 4 at 7ffff000 03010000
+    wait 0x7FFFF000 = 5 at 7ffff000 04010000
+    wait 0x7FFFF000 = 6 at 7ffff000 05010000
+    wait 0x7FFFF000 = 7 at 7ffff000 06010000
+    wait 0x7FFFF000 = -10
+illegal:
+    .word 0
+target:
+    li s1,2
+    jr s1                                   # its address is no multiple of 4
+uneven:
+    lw a0,1(zero)                           # nor is this one; that no page is there comes second
+unmapped:
+    lw a0,0(zero)
+unfetched:
+    jr zero
+breakpoint:
+    ebreak
+1 => entered*6
+2 => ended
+3 => ended
+4 => ended
+5 => ended
+6 => ended
+7 => ended
+1 => entered*7
+trace 1 => replies
+
 == the children of a process that has ended are nobody's
 program 0
     fork
@@ -743,6 +787,88 @@ reader:
 shown 0 => -
 commit => 1
 shown 0 => 43
+
+== a close learns what was written
+program 0
+    pipe 0x7FFFF000
+    fork
+    beqz a0,child
+    close 2
+    write 1 &C 1
+child:
+    open &f 1 2
+    write 3 &A 1
+1 => entered*2
+2 => entered*2
+1 => entered*2
+shown 0 => -
+commit => 1
+shown 0 => 43
+
+== an end, by exit, learns what was written
+program 0
+    pipe 0x7FFFF000
+    fork
+    beqz a0,child
+    wait 0
+    write 1 &D 1
+child:
+    fork
+    beqz a0,changer
+    exit 0
+changer:
+    open &f 1 2
+    write 3 &A 1
+1 => entered*2
+2 => entered
+3 => entered*2
+2 => ended
+1 => entered*2
+shown 0 => -
+commit => 1
+shown 0 => 44
+
+== an end, by a trap, learns what was written
+program 0
+    pipe 0x7FFFF000
+    fork
+    beqz a0,child
+    wait 0
+    write 1 &D 1
+child:
+    fork
+    beqz a0,changer
+    ebreak
+changer:
+    open &f 1 2
+    write 3 &A 1
+1 => entered*2
+2 => entered
+3 => entered*2
+2 => ended
+1 => entered*2
+shown 0 => -
+commit => 1
+shown 0 => 44
+
+== a fork learns what was written
+program 0
+    pipe 0x7FFFF000
+    fork
+    beqz a0,child
+    fork
+    write 1 &C 1
+child:
+    open &f 1 2
+    write 3 &A 1
+1 => entered*2
+2 => entered*2
+1 => entered*2
+shown 0 => -
+trace 1 => 0 at 7ffff000 0200000003000000; 2
+commit => 1
+shown 0 => 43
+trace 1 => 0 at 7ffff000 0200000003000000; 2; 3; 1
 ";
 
 #[test]
@@ -843,4 +969,100 @@ trace 2 => replies
 #[test]
 fn most_processes(rt: HostRuntime) -> Result<(), Fail> {
     check(&rt, MOST_PROCESSES)
+}
+
+/// What is held back by a fork that is refused since there are 1,024 processes.
+const HELD_AT_MOST_PROCESSES: &str = "
+== the number of the next process, which a refusal reads, as another fork left it
+program 0
+    li s0,1021
+again:
+    fork
+    beqz a0,child
+    addi s0,s0,-1
+    bnez s0,again
+    open &f 1 2
+    fork
+child:
+    exit 5
+program 1
+    write 1 &P 1
+    fork
+    write 1 &C 1
+1 => entered*1023
+2 => entered*3
+1024 => ended
+turn 1025 1 => refused 1 NoProcess
+shown 1 => 50
+trace 2 => 1
+commit => 1
+shown 1 => 5043
+trace 2 => 1; -23; 1
+
+== a pipe, which a refusal reads, as another write left it
+program 0
+    pipe 0x7FFFF000
+    fork
+    beqz a0,child
+    write 1 &P 1
+    fork
+    write 1 &C 1
+child:
+    open &f 1 2
+    write 3 &A 1
+program 1
+    li s0,1021
+again:
+    fork
+    beqz a0,child
+    addi s0,s0,-1
+    bnez s0,again
+child:
+    exit 5
+1 => entered*2
+2 => entered*1021
+3 => entered*2
+1 => entered*3
+shown 0 => 50
+trace 1 => 0 at 7ffff000 0200000003000000; 3; 1
+commit => 1
+shown 0 => 5043
+trace 1 => 0 at 7ffff000 0200000003000000; 3; 1; -23; 1
+
+== a pipe, which a refusal writes
+program 0
+    pipe 0x7FFFF000
+    fork
+    beqz a0,child
+    write 3 &A 1
+    open &f 1 2
+    fork
+child:
+    write 1 &P 1
+    read 2 0x7FFFE000 1
+    write 1 &C 1
+program 1
+    li s0,1021
+again:
+    fork
+    beqz a0,child
+    addi s0,s0,-1
+    bnez s0,again
+child:
+    exit 5
+1 => entered*3
+2 => entered*1021
+1 => entered*2
+3 => entered*3
+shown 0 => 50
+trace 3 => 0 at 7ffff000 0200000003000000; 0; 1
+commit => 1
+shown 0 => 5043
+trace 1 => 0 at 7ffff000 0200000003000000; 3; 1; 4; -23
+trace 3 => 0 at 7ffff000 0200000003000000; 0; 1; 1 at 7fffe000 41; 1
+";
+
+#[test]
+fn held_back_at_most_processes(rt: HostRuntime) -> Result<(), Fail> {
+    check(&rt, HELD_AT_MOST_PROCESSES)
 }

@@ -1,6 +1,6 @@
 //! Cores of one program on a disk that a test gives, and what tests do with them.
-ghost use Rattle.std.specs.Prelude.{◌≡◌, IfOk};
-ghost use Rattle.disk_model.specs.Runs.{quiet};
+ghost use Rattle.std.specs.Prelude.{◌≡◌, true, IfOk};
+ghost use Rattle.disk_model.specs.Storage.{is_quiet};
 
 use assembler::assemble;
 use byte_list::Bytes;
@@ -11,7 +11,7 @@ use std::test::Fail;
 
 /// A quiet disk of zeros, but for byte 0 and for these bytes, from this place on.
 pub fn disk_with(alloc: Global, selector: u8, at: u32, bytes: &[u8]) -> Result<SimDisk, Fail>
-    ensures { IfOk result (λ d. d ≡ quiet d.disk) }
+    ensures { IfOk result (λ d. is_quiet d ≡ true) }
 {
     let mut disk = SimDisk::zero(alloc)?;
     disk.submit(0, &[selector])?;
@@ -41,7 +41,7 @@ impl TestCore {
         tape: &[u8],
         disk: SimDisk,
     ) -> Result<Result<TestCore, BootFault>, Fail>
-        requires { disk ≡ quiet disk.disk }
+        requires { is_quiet disk ≡ true }
     {
         let (image, _listing) = assemble(alloc, source)?;
         let program = Program { image, terminal: 0 };
@@ -52,7 +52,7 @@ impl TestCore {
 
     /// A core of one program, and its tape, on this disk.
     pub fn boot(alloc: Global, source: &str, tape: &[u8], disk: SimDisk) -> Result<TestCore, Fail>
-        requires { disk ≡ quiet disk.disk }
+        requires { is_quiet disk ≡ true }
     {
         Ok(TestCore::try_boot(alloc, source, tape, disk)??)
     }
@@ -70,7 +70,7 @@ impl TestCore {
     }
 
     pub fn halt(self, fill: &[u8]) -> SimDisk
-        ensures { result ≡ quiet result.disk }
+        ensures { is_quiet result ≡ true }
     {
         self.core.halt(fill)
     }
@@ -85,6 +85,10 @@ impl TestCore {
 
     pub fn shown(&self) -> &[u8] {
         self.core.shown(0)
+    }
+
+    pub fn ended(&self) -> Result<Option<u32>, Refused> {
+        self.core.ended(1)
     }
 
     pub fn in_flight(&self) -> Option<u32> {

@@ -1,6 +1,6 @@
 //! Crashes of the writer, whose files are compared with a plain fold of its changes.
-ghost use Rattle.std.specs.Prelude.{◌≡◌};
-ghost use Rattle.disk_model.specs.Runs.{quiet};
+ghost use Rattle.std.specs.Prelude.{◌≡◌, true};
+ghost use Rattle.disk_model.specs.Storage.{is_quiet};
 
 use crate::cores::{TestCore, recover};
 use crate::first_run_cases::FILLS;
@@ -135,8 +135,8 @@ fn core_before_byte_0(alloc: Global) -> Result<TestCore, Fail> {
 }
 
 /// Whether a disk holds these files, and a further run on it begins with them.
-fn goes_on(alloc: Global, disk: SimDisk, files: &[PlainFile]) -> Result<bool, Fail>
-    requires { disk ≡ quiet disk.disk }
+pub fn goes_on(alloc: Global, disk: SimDisk, files: &[PlainFile]) -> Result<bool, Fail>
+    requires { is_quiet disk ≡ true }
 {
     let found = recover(alloc, &disk)?;
     let next = TestCore::boot(alloc, WRITER, &[], disk)?;

@@ -1,6 +1,7 @@
 //! The disk, by programs that change files: groups, drains and crashes.
 use crate::play::check;
-use crate::tests::{FIRST_PRINTS, FIRST_PROGRAM, PROGRAMS, expect};
+use crate::programs::{FIRST_PRINTS, FIRST_PROGRAM, PROGRAMS};
+use crate::running::expect;
 use std::process::Abort;
 use std::rt::Files;
 use std::test::Fail;
@@ -295,4 +296,61 @@ files => f 0
 #[test]
 fn boots(rt: HostRuntime) -> Result<(), Fail> {
     check(&rt, BOOTS)
+}
+
+/// The lines of `examples/crash.script`.
+const CRASH_SCRIPT: &str =
+    "# The gate of the commit is in flight at the first crash, and neither 0 nor 1 after it. The second crash comes behind a drain.
+program 0 06600293 fe512e23 ffc10513 00100593 00200613 00400893 00000073 04100293 fe512e23 ffc10593 00300613 00200893 00000073 00100513 00100613 00000073 00000513 00100893 00000073
+turn 1 100
+enter 1
+turn 1 100
+enter 1
+turn 1 100
+enter 1
+cut
+complete 65
+shown 0
+crash 7f
+files
+turn 1 100
+enter 1
+turn 1 100
+enter 1
+turn 1 100
+enter 1
+drain
+shown 0
+crash 7f
+files
+";
+
+/// What it prints.
+const CRASH_PRINTS: &str = "ran 6 call
+entered
+ran 5 call
+entered
+ran 2 call
+entered
+cut 2 changes 2 writes
+completed, 0 committed
+shown 0 -
+crashed
+files 0
+ran 6 call
+entered
+ran 5 call
+entered
+ran 2 call
+entered
+drained, 2 committed
+shown 0 41
+crashed
+files 1
+f 3
+";
+
+#[test]
+fn the_example_of_a_crash(rt: HostRuntime) -> Result<(), Fail> {
+    expect(&rt, CRASH_SCRIPT, CRASH_PRINTS)
 }

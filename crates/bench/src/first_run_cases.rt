@@ -1,7 +1,7 @@
 //! The first run's first program on its disk: what is counted, and what crashes leave.
 use crate::cores::{TestCore, recover};
 use crate::plain_files::has_front;
-use crate::tests::FIRST_SOURCE;
+use crate::programs::FIRST_SOURCE;
 use byte_list::Bytes;
 use disk_model::Change;
 use kernel::{Answer, Event, Refused, SimDisk};

@@ -4,6 +4,8 @@
 #[cfg(test)]
 mod call_cases;
 #[cfg(test)]
+mod checkpoint_cases;
+#[cfg(test)]
 mod child_cases;
 #[cfg(test)]
 mod cores;
@@ -16,11 +18,17 @@ mod disk_cases;
 #[cfg(test)]
 mod drain_cases;
 #[cfg(test)]
+mod end_cases;
+#[cfg(test)]
 mod first_run_cases;
 #[cfg(test)]
 mod plain_files;
 #[cfg(test)]
 mod play;
+#[cfg(test)]
+mod programs;
+#[cfg(test)]
+mod running;
 #[cfg(test)]
 mod tests;
 #[cfg(test)]

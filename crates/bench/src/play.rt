@@ -19,7 +19,7 @@
 //! - any other line of a script, and the line that it prints.
 //!
 //! What a turn prints is left out; what stands behind `#` is a comment.
-use crate::tests::run;
+use crate::running::run;
 use assembler::assemble;
 use std::alloc::{AllocError, Global};
 use std::fs;

@@ -1,6 +1,8 @@
 //! Runs of the whole program, over text in memory.
 ghost use Rattle.std.specs.Prelude.{◌<◌, ◌≤◌, length};
 
+use crate::programs::{FIRST_PRINTS, FIRST_PROGRAM, FIRST_SOURCE, FIRST_WORDS, PROGRAMS};
+use crate::running::{Ran, expect, run};
 use elf32::Image;
 use std::alloc::Global;
 use std::fs;
@@ -8,64 +10,6 @@ use std::io::{self, Error, ErrorKind, Write};
 use std::process::Abort;
 use std::rt::Files;
 use std::test::Fail;
-
-/// What a run wrote, and its exit status.
-#[derive(Drop)]
-pub struct Ran {
-    pub out: Vec<u8>,
-    pub err: Vec<u8>,
-    pub status: u8,
-}
-
-/// Runs the program with these words, parted by blanks, on an input.
-pub fn run<R: Files + AllocGlobal>(rt: &R, words: &str, input: &[u8]) -> Result<Ran, Fail> {
-    let mut list = Vec::new(rt.alloc());
-    for word in words.split_whitespace() {
-        list.push(String::from_str(rt.alloc(), word)?)?;
-    }
-    let mut out = Vec::new(rt.alloc());
-    let mut err = Vec::new(rt.alloc());
-    let mut input = input;
-    let status = monitor::bench(rt, &list, &mut input, &mut out, &mut err);
-    Ok(Ran { out, err, status })
-}
-
-/// Runs a script that is read from the input, compares what it prints, and wants status 0.
-pub fn expect<R: Files + AllocGlobal + Abort>(
-    rt: &R,
-    script: &str,
-    printed: &str,
-) -> Result<(), Fail> {
-    let ran = run(rt, "", script.as_bytes())?;
-    assert_eq!(rt; ran.status, 0, "{script}");
-    assert_eq!(rt; ran.out.as_slice(), printed.as_bytes(), "{script}");
-    assert!(rt; ran.err.is_empty());
-    Ok(())
-}
-
-/// The first run's two programs: the first creates the file `f`, writes 41 00 00 to it and `A` to its terminal, and ends;
-/// the second writes `B` to its terminal, and ends.
-pub const PROGRAMS: &str =
-    "program 0 06600293 fe512e23 ffc10513 00100593 00200613 00400893 00000073 04100293 fe512e23 ffc10593 00300613 00200893 00000073 00100513 00100613 00000073 00000513 00100893 00000073
-program 1 04200293 fe512e23 00100513 ffc10593 00100613 00200893 00000073 00000513 00100893 00000073
-";
-
-/// The first program up to its last write.
-pub const FIRST_PROGRAM: &str = "turn 1 100
-enter 1
-turn 1 100
-enter 1
-turn 1 100
-enter 1
-";
-
-pub const FIRST_PRINTS: &str = "ran 6 call
-entered
-ran 5 call
-entered
-ran 2 call
-entered
-";
 
 #[test]
 fn first_run(rt: HostRuntime) -> Result<(), Fail> {
@@ -552,51 +496,6 @@ fn a_source_is_assembled_and_listed(rt: HostRuntime) -> Result<(), Fail> {
     Ok(())
 }
 
-/// The first run's first program, as a source.
-pub const FIRST_SOURCE: &str = "_start: li t0, 0x66      # the name, f
-    sw t0, -4(sp)
-    addi a0, sp, -4
-    li a1, 1
-    li a2, 2                 # the file is made
-    li a7, 4                 # open
-    ecall
-    li t0, 0x41              # A
-    sw t0, -4(sp)
-    addi a1, sp, -4
-    li a2, 3
-    li a7, 2                 # write
-    ecall
-    li a0, 1                 # the terminal
-    li a2, 1
-    ecall
-    li a0, 0
-    li a7, 1                 # exit
-    ecall
-";
-
-/// Its words.
-const FIRST_WORDS: [u32; 19] = [
-    0x0660_0293,
-    0xFE51_2E23,
-    0xFFC1_0513,
-    0x0010_0593,
-    0x0020_0613,
-    0x0040_0893,
-    0x0000_0073,
-    0x0410_0293,
-    0xFE51_2E23,
-    0xFFC1_0593,
-    0x0030_0613,
-    0x0020_0893,
-    0x0000_0073,
-    0x0010_0513,
-    0x0010_0613,
-    0x0000_0073,
-    0x0000_0513,
-    0x0010_0893,
-    0x0000_0073,
-];
-
 #[test]
 fn the_first_program_is_assembled(rt: HostRuntime) -> Result<(), Fail> {
     let made = assemble(&rt, FIRST_SOURCE)?;
@@ -632,44 +531,72 @@ fn a_refused_source_writes_nothing(rt: HostRuntime) -> Result<(), Fail> {
     Ok(())
 }
 
-/// Adds the numbers of a table, and writes the sum in decimal digits and a line feed to the terminal.
-const SUM_SOURCE: &str = ".data
-table: .word 3, 1, 4, 1, 5, 9, 2, 6
-digits: .space 10
-newline: .byte 10
+/// The lines of `examples/sum.s`.
+const SUM_SOURCE: &str =
+    "# Adds the numbers of a table, and writes the sum in decimal digits and a line feed to the terminal.
+
+.data
+table:
+    .word 3, 1, 4, 1, 5, 9, 2, 6
+digits:                  # the label behind the table tells where the table ends
+    .space 10            # room for ten digits, the most that a number of 32 bits has
+newline:
+    .byte 10
+
 .text
 _start:
-    la t0, table
-    la t1, digits
-    li t2, 0
+    la   t0, table       # t0 goes over the table
+    la   t1, digits
+    li   t2, 0           # t2 is the sum so far
 add_next:
-    lw t3, 0(t0)
-    add t2, t2, t3
+    lw   t3, 0(t0)
+    add  t2, t2, t3
     addi t0, t0, 4
     bltu t0, t1, add_next
-    mv a0, t2
+
+    mv   a0, t2
     call print
-    li a0, 0
-    li a7, 1
+    li   a0, 0           # the status
+    li   a7, 1           # exit
     ecall
+
+# Writes the number in a0, and a line feed, to the terminal.
 print:
-    la a1, newline
-    li t1, 10
+    la   a1, newline     # the digits are made from the last to the first; a1 is the place of the first
+    li   t1, 10
 make_digit:
-    remu t3, a0, t1
-    addi t3, t3, 0x30
+    remu t3, a0, t1      # the last digit of what is left
+    addi t3, t3, 0x30    # as a character
     addi a1, a1, -1
-    sb t3, 0(a1)
+    sb   t3, 0(a1)
     divu a0, a0, t1
     bnez a0, make_digit
-    la a2, newline
+
+    la   a2, newline
     addi a2, a2, 1
-    sub a2, a2, a1
-    li a0, 1
-    li a7, 2
+    sub  a2, a2, a1      # how many bytes there are, the line feed among them
+    li   a0, 1           # descriptor 1 is the terminal
+    li   a7, 2           # write
     ecall
     ret
 ";
+
+/// The image is listed, a line for each of its 31 words.
+fn tell_listing<R: Files + AllocGlobal + Abort>(rt: &R) -> Result<(), Fail> {
+    let listed = run(rt, "list image", b"")?;
+    assert_eq!(rt; listed.status, 0);
+    let lines: Vec<&str> = str::from_utf8(&listed.out)?.lines().collect(rt.alloc())?;
+    assert_eq!(rt; lines.len(), 31);
+    assert_eq!(rt;
+        lines.first().copied(),
+        Some("00010000: 00001297  auipc t0,0x1")
+    );
+    assert_eq!(rt;
+        lines.last().copied(),
+        Some("00010078: 00008067  jalr zero,0(ra)")
+    );
+    Ok(())
+}
 
 #[test]
 fn an_assembled_program_runs(rt: HostRuntime) -> Result<(), Fail> {
@@ -678,7 +605,13 @@ fn an_assembled_program_runs(rt: HostRuntime) -> Result<(), Fail> {
         made.out.as_slice(),
         b"124 text bytes, 43 data bytes, entry 00010000\n".as_slice()
     );
+    tell_listing(&rt)?;
     // 38 instructions add up and pass on the sum, 22 make two digits and call
+    expect(
+        &rt,
+        "image 0 image\nturn 1 100000\nenter 1\nshown 0\n",
+        "ran 60 call\nentered\nshown 0 33310a\n",
+    )?;
     expect(
         &rt,
         "image 5 image\nturn 1 100000\nenter 1\nshown 5\nturn 1 100000\nenter 1\n",

@@ -51,7 +51,7 @@ pub fn change_up_to(core: &mut TestCore, changes: u64) -> Result<(), Fail> {
         if core.changes() >= changes {
             return Ok(());
         }
-        core.apply(Event::Turn { pid: 1, n: 100 })?;
+        core.apply(Event::Turn { pid: 1, n: 10_000 })?;
         core.apply(Event::Enter { pid: 1 })?;
     }
     Err(Fail::new("the writer makes no more changes"))

@@ -7,4 +7,6 @@ pub use burst::run_loan;
 pub use kernel::{Done, Loan, Rejected};
 
 #[cfg(test)]
+mod cores;
+#[cfg(test)]
 mod tests;

@@ -53,13 +53,6 @@ impl Bytes {
         self.bytes.as_slice()
     }
 
-    /// The bytes as a vector. Takes no memory.
-    pub fn into_vec(self) -> Vec<u8>
-        ensures { result.items ≡ self }
-    {
-        self.bytes
-    }
-
     /// So many zeros come behind the bytes. Where there is no memory for them nothing changes.
     pub fn extend_zeros(&mut self, count: usize) -> Result<(), AllocError>
         ensures ok { OnOk result (self.new ≡ self.old ++ replicate count 0) }

@@ -18,9 +18,8 @@ use Rattle.kernel_model.specs.State.{changed_by}
 use Rattle.kernel_model.specs.Steps.{set_slots}
 use Rattle.kernel_model.specs.declared.descriptor.Descriptor.{Descriptor}
 use Rattle.kernel_model.specs.declared.descriptor.Descriptor.TheVariants as descriptor
-use Rattle.kernel_model.specs.declared.descriptor.PipeEnd.TheVariants as pipe_end
 use Rattle.kernel_model.specs.declared.effect.Slot.{Slot}
-use Rattle.calls.specs.Plans.{NamesFile, NamesFiles, NamesPipe, NamesPipes}
+use Rattle.calls.specs.Plans.{NamesFile, NamesFiles}
 
 length-with_bytes : (files : List NamedFile) (place : ℕ) (o : Option NamedFile) (f : List ℕ → List ℕ) → length (with_bytes files place o f) ≡ length files
 length-with_bytes files place None f = refl
@@ -66,18 +65,6 @@ all-set_slots P (slot ∷ slots) ds h hs = all-set_slots P slots (slice_set ds s
 
 pub NamesFiles-more : (n m : ℕ) → n ≤ m → (ds : List (Option Descriptor)) → NamesFiles n ds → NamesFiles m ds
 NamesFiles-more n m le ds h = all-others (NamesFile n) (NamesFile m) (NamesFile-more n m le) ds h
-
--- among more pipes, a descriptor still names one
-NamesPipe-more : (n m : ℕ) → n ≤ m → (d : Option Descriptor) → NamesPipe n d → NamesPipe m d
-NamesPipe-more n m le (Some (descriptor.Pipe (pipe_end.Read k))) h = omega arith
-NamesPipe-more n m le (Some (descriptor.Pipe (pipe_end.Write k))) h = omega arith
-NamesPipe-more n m le (Some (descriptor.File file offset writes)) h = tt
-NamesPipe-more n m le (Some (descriptor.Tape t)) h = tt
-NamesPipe-more n m le (Some (descriptor.Terminal t)) h = tt
-NamesPipe-more n m le None h = tt
-
-pub NamesPipes-more : (n m : ℕ) → n ≤ m → (ds : List (Option Descriptor)) → NamesPipes n ds → NamesPipes m ds
-NamesPipes-more n m le ds h = all-others (NamesPipe n) (NamesPipe m) (NamesPipe-more n m le) ds h
 
 pub NamesFile-descriptor_at : (n : ℕ) (ds : List (Option Descriptor)) (fd : ℕ) → NamesFiles n ds → NamesFile n (descriptor_at ds fd)
 NamesFile-descriptor_at n [] fd h = tt

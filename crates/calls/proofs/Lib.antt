@@ -2,7 +2,6 @@
 pub mod Copied
 pub mod Naming
 pub mod Placing
-pub mod Ending
 pub mod Files
 pub mod Fitting
 pub mod Cases

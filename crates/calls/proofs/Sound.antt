@@ -1,40 +1,37 @@
 -- What holds of every row's edits, and of what it tells.
-use Rattle.std.proofs.Common.{◌≡◌, ℕ, suc, ◌+◌, ◌-◌, ◌^◌, ◌<◌, ◌≤◌, ◌==◌, inl, inr, Bool, true, false, List, [], ◌∷◌, ◌++◌, length, map, take, drop, slice_get, Option, Some, None, IfSome, refl, sym, ap, ◌∙◌, subst, arith, length-take}
+use Rattle.std.proofs.Common.{◌≡◌, ℕ, ◌+◌, ◌-◌, ◌^◌, ◌<◌, ◌≤◌, ◌==◌, inl, inr, Bool, true, false, List, [], ◌∷◌, ◌++◌, length, map, take, drop, slice_get, Option, Some, None, IfSome, refl, sym, ap, ◌∙◌, subst, arith, length-take}
 use Rattle.std.specs.Prelude.{if◌then◌else◌, option_map}
 use Rattle.std.specs.Int.{w32, to_le_bytes}
-use Rattle.std.specs.List.{AllByRecursion, Contains}
+use Rattle.std.specs.List.{AllByRecursion}
 use Rattle.std.specs.Option.{ForSome}
 use Rattle.std.proofs.lemmas.List.{length-map}
 use Rattle.std.proofs.lemmas.Option.{slice_get-map}
-use Rattle.disk_model.specs.declared.change.Change.{Change}
 use Rattle.disk_model.specs.declared.change.Change.TheVariants as change
 use Rattle.disk_model.specs.declared.change.NamedFile.{NamedFile}
 use Rattle.machine_model.specs.Access.{is_writable}
 use Rattle.machine_model.specs.Memory.{Memory}
 use Rattle.kernel_model.specs.Requests.{most_bytes, longest_name}
-use Rattle.kernel_model.specs.Rows.{Effect, EndedChild, status_in, ended_or, first_ended, number, with_bytes, row, row_end, read_tape, read_file, put_some, take_some, pipe_size, pipe_made, wait_ended, open_there, open_emptied, open_new, names_of, descriptor_at, ends_of}
+use Rattle.kernel_model.specs.Rows.{Effect, EndedChild, number, with_bytes, row, row_end, read_tape, read_file, put_some, take_some, pipe_size, pipe_made, wait_ended, open_there, open_emptied, open_new, names_of, descriptor_at, ends_of}
 use Rattle.kernel_model.specs.State.{TapeState, PipeState, unread, changed_by}
 use Rattle.kernel_model.specs.Steps.{set_slots}
 use Rattle.kernel_model.specs.declared.carrier.Carrier.{Carrier}
 use Rattle.kernel_model.specs.declared.descriptor.Descriptor.{Descriptor}
 use Rattle.kernel_model.specs.declared.descriptor.Descriptor.TheVariants as descriptor
 use Rattle.kernel_model.specs.declared.descriptor.PipeEnd.{PipeEnd}
-use Rattle.kernel_model.specs.declared.effect.Output.{Output}
 use Rattle.kernel_model.specs.declared.effect.PipeStep.TheVariants as pipe_step
 use Rattle.kernel_model.specs.declared.effect.Slot.{Slot}
-use Rattle.kernel_model.specs.declared.effect.TapeRead.{TapeRead}
 use Rattle.kernel_model.specs.declared.request.Request.{Request}
 use Rattle.kernel_model.specs.declared.request.Request.TheVariants as request
 use Rattle.kernel_model.specs.declared.request.Verdict.{Verdict}
 use Rattle.kernel_model.specs.declared.request.Verdict.TheVariants.{Waits, Replies, Ends}
 use Rattle.pipes.specs.Seen.{Seen}
-use Rattle.calls.specs.Plans.{NamesFile, NamesFiles, NamesPipe, NamesPipes, all_seen, MayAllStep, IsNext, CarriesBytes, IsPossible, AreLeft, AtMostOne, AtMostOneEntry, OpensAlone, MayBePlaced}
+use Rattle.calls.specs.Plans.{NamesFile, NamesFiles, MayAllStep, IsNext, CarriesBytes, IsPossible, AreLeft, AtMostOneEntry, OpensAlone, MayBePlaced}
 use Rattle.calls.specs.Shares.{pipe_of, shared_of}
 use Rattle.calls.specs.Wholes.{AreWhole, IsWhole}
 use Rattle.calls.proofs.Cases.{plain, waiting, to_terminal, to_file, to_slot, GoesToFile, row_write-cases, row_read-cases, closed, row_close-cases, row_seek-cases, IsMadeNew, row_open-cases, row_pipe-cases, made_child, row_fork-cases, row_wait-cases}
-use Rattle.calls.proofs.Files.{changed_by-grows, length-created, NamesFiles-more, NamesPipes-more, all-set_slots, NamesFile-descriptor_at, file_named-below, name-formed, file_named-new}
+use Rattle.calls.proofs.Files.{changed_by-grows, length-created, NamesFiles-more, all-set_slots, NamesFile-descriptor_at, file_named-below, name-formed, file_named-new}
 use Rattle.calls.proofs.Fitting.{FitsIn, bytes-placed}
-use Rattle.calls.proofs.Stepping.{adds-open-none, drops-open-none, all-grow, length-opened, HasFew, adds-may, drops-may, length-ends_of}
+use Rattle.calls.proofs.Stepping.{adds-open-none, drops-open-none, HasFew, adds-may, drops-may, length-ends_of}
 
 -- what is kept when a call comes: how processes have ended, the files, what is seen of the pipes, the tapes, and the caller's
 -- descriptors and children
@@ -69,7 +66,6 @@ EditsWhere (Ends status) e = EditsLittle e
 
 -- what holds of an effect of a request
 pub record IsSound (c : Kept) (r : Request) (e : Effect) : Type 0 where
-  pub one_edit : AtMostOne e.change e.output e.tape
   pub one_entry : AtMostOneEntry e.slots e.child e.collects
   pub opens : OpensAlone e.pipes
   pub edits : EditsWhere e.told e
@@ -78,19 +74,8 @@ pub record IsSound (c : Kept) (r : Request) (e : Effect) : Type 0 where
   pub left : IfSome e.tape (AreLeft c.tapes)
   pub few : length c.descriptors ≤ 16 → length e.pipes ≤ 16
   pub steps : (n : ℕ) → n + length c.descriptors < 2 ^ 64 → AllByRecursion (HasFew n) c.seen → MayAllStep c.seen e.pipes
-  pub piped : AllByRecursion (λ (slot : Slot). NamesPipe (length (all_seen c.seen e.pipes)) slot.holds) e.slots
   pub child : IfSome e.child (IsNext (length c.statuses))
-  pub collects : IfSome e.collects (Contains c.children)
   pub placed : (memory : Memory) → FitsIn memory r → MayBePlaced memory e.told
-
-one_change : (c : Option Change) → AtMostOne c None None
-one_change c = record { change_or_output = inr refl; change_or_tape = inr refl; output_or_tape = inl refl }
-
-one_output : (o : Option Output) → AtMostOne None o None
-one_output o = record { change_or_output = inl refl; change_or_tape = inl refl; output_or_tape = inr refl }
-
-one_tape : (t : Option TapeRead) → AtMostOne None None t
-one_tape t = record { change_or_output = inl refl; change_or_tape = inl refl; output_or_tape = inl refl }
 
 set_alone : (slots : List Slot) → AtMostOneEntry slots None None
 set_alone slots = record { slots_or_child = inr refl; slots_or_collects = inr refl; child_or_collects = inl refl }
@@ -105,7 +90,6 @@ collects_alone child = record { slots_or_child = inl refl; slots_or_collects = i
 
 plain-sound : (c : Kept) (r : Request) (k : ℕ) (reads writes : List Carrier) → IsSound c r (plain k reads writes)
 plain-sound c r k reads writes = record {
-  one_edit = one_output None;
   one_entry = set_alone _;
   opens = inr tt;
   edits = tt;
@@ -114,15 +98,12 @@ plain-sound c r k reads writes = record {
   left = tt;
   few = λ _. omega arith;
   steps = λ _ _ _. tt;
-  piped = tt;
   child = tt;
-  collects = tt;
   placed = λ _ _. refl;
 }
 
 waiting-sound : (c : Kept) (r : Request) (reads writes : List Carrier) → IsSound c r (waiting reads writes)
 waiting-sound c r reads writes = record {
-  one_edit = one_output None;
   one_entry = set_alone _;
   opens = inr tt;
   edits = (record { change = refl; output = refl; tape = refl; slots = refl; child = refl; collects = refl }, refl);
@@ -131,9 +112,7 @@ waiting-sound c r reads writes = record {
   left = tt;
   few = λ _. omega arith;
   steps = λ _ _ _. tt;
-  piped = tt;
   child = tt;
-  collects = tt;
   placed = λ _ _. tt;
 }
 
@@ -141,7 +120,6 @@ waiting-sound c r reads writes = record {
 
 shown-sound : (c : Kept) (r : Request) (t : ℕ) (bytes : List ℕ) → IsSound c r (to_terminal t bytes)
 shown-sound c r t bytes = record {
-  one_edit = one_output _;
   one_entry = set_alone _;
   opens = inr tt;
   edits = tt;
@@ -150,9 +128,7 @@ shown-sound c r t bytes = record {
   left = tt;
   few = λ _. omega arith;
   steps = λ _ _ _. tt;
-  piped = tt;
   child = tt;
-  collects = tt;
   placed = λ _ _. refl;
 }
 
@@ -175,7 +151,6 @@ filed-sound c fd n file offset read bytes fine goes =
     let names = NamesFile-descriptor_at (length c.files) c.descriptors fd fine.named in
     let there : file < length c.files = still-there (length c.files) (descriptor_at c.descriptors fd) file offset true names goes.stands in
     record {
-      one_edit = one_change _;
       one_entry = set_alone _;
       opens = inr tt;
       edits = tt;
@@ -184,9 +159,7 @@ filed-sound c fd n file offset read bytes fine goes =
       left = tt;
       few = λ _. omega arith;
       steps = λ _ _ _. tt;
-      piped = (tt, tt);
       child = tt;
-      collects = tt;
       placed = λ _ _. refl;
     }
 
@@ -204,7 +177,6 @@ put-fits seen k p bytes found few x is =
 put-sound : (c : Kept) (r : Request) (k : ℕ) (p : PipeState) (bytes : List ℕ) → slice_get (map pipe_of c.seen) k ≡ Some p → length (unread p) < 4096
     → IsSound c r (put_some k bytes (pipe_size - length (unread p)))
 put-sound c r k p bytes found few = record {
-  one_edit = one_output None;
   one_entry = set_alone _;
   opens = inr (tt, tt);
   edits = tt;
@@ -213,9 +185,7 @@ put-sound c r k p bytes found few = record {
   left = tt;
   few = λ _. omega arith;
   steps = λ _ _ _. (put-fits c.seen k p bytes found few, tt);
-  piped = tt;
   child = tt;
-  collects = tt;
   placed = λ _ _. refl;
 }
 
@@ -240,7 +210,6 @@ taken-left tapes t n tape found =
 tape-sound : (c : Kept) (fd at n : ℕ) (fits : Bool) (t : ℕ) (tape : TapeState) → fits ≡ true → slice_get c.tapes t ≡ Some tape
     → IsSound c (request.Read fd at n fits) (read_tape t at n (Some tape))
 tape-sound c fd at n fits t tape fit found = record {
-  one_edit = one_tape _;
   one_entry = set_alone _;
   opens = inr tt;
   edits = told-edits (length (take n (drop tape.place tape.bytes))) at (take n (drop tape.place tape.bytes)) _;
@@ -249,16 +218,13 @@ tape-sound c fd at n fits t tape fit found = record {
   left = taken-left c.tapes t n tape found;
   few = λ _. omega arith;
   steps = λ _ _ _. tt;
-  piped = tt;
   child = tt;
-  collects = tt;
   placed = λ memory fitting. part-placed memory at n (drop tape.place tape.bytes) (fitting fit);
 }
 
 file-sound : (c : Kept) (fd at n : ℕ) (fits : Bool) (file offset : ℕ) (f : NamedFile) → IsFine c (request.Read fd at n fits) → fits ≡ true
     → descriptor_at c.descriptors fd ≡ Some (descriptor.File file offset false) → IsSound c (request.Read fd at n fits) (read_file fd file offset at n (Some f))
 file-sound c fd at n fits file offset f fine fit stands = record {
-  one_edit = one_output None;
   one_entry = set_alone _;
   opens = inr tt;
   edits = told-edits (length (take n (drop offset f.bytes))) at (take n (drop offset f.bytes)) _;
@@ -271,9 +237,7 @@ file-sound c fd at n fits file offset f fine fit stands = record {
   left = tt;
   few = λ _. omega arith;
   steps = λ _ _ _. tt;
-  piped = (tt, tt);
   child = tt;
-  collects = tt;
   placed = λ memory fitting. part-placed memory at n (drop offset f.bytes) (fitting fit);
 }
 
@@ -286,7 +250,6 @@ take-fits seen k n p found x is =
 take-sound : (c : Kept) (fd at n : ℕ) (fits : Bool) (k : ℕ) (p : PipeState) → fits ≡ true → slice_get (map pipe_of c.seen) k ≡ Some p
     → IsSound c (request.Read fd at n fits) (take_some k at n (unread p))
 take-sound c fd at n fits k p fit found = record {
-  one_edit = one_output None;
   one_entry = set_alone _;
   opens = inr (tt, tt);
   edits = told-edits (length (take n (unread p))) at (take n (unread p)) _;
@@ -295,9 +258,7 @@ take-sound c fd at n fits k p fit found = record {
   left = tt;
   few = λ _. omega arith;
   steps = λ _ _ _. (take-fits c.seen k n p found, tt);
-  piped = tt;
   child = tt;
-  collects = tt;
   placed = λ memory fitting. part-placed memory at n (unread p) (fitting fit);
 }
 
@@ -315,7 +276,6 @@ create-possible files n read name whole made =
 
 there-sound : (c : Kept) (r : Request) (fd file : ℕ) (writes : Bool) → file < length c.files → IsSound c r (open_there fd file writes)
 there-sound c r fd file writes there = record {
-  one_edit = one_output None;
   one_entry = set_alone _;
   opens = inr tt;
   edits = tt;
@@ -324,15 +284,12 @@ there-sound c r fd file writes there = record {
   left = tt;
   few = λ _. omega arith;
   steps = λ _ _ _. tt;
-  piped = (tt, tt);
   child = tt;
-  collects = tt;
   placed = λ _ _. refl;
 }
 
 emptied-sound : (c : Kept) (r : Request) (fd file : ℕ) → length c.files ≤ 32 → file < length c.files → IsSound c r (open_emptied fd file)
 emptied-sound c r fd file few there = record {
-  one_edit = one_change _;
   one_entry = set_alone _;
   opens = inr tt;
   edits = tt;
@@ -341,16 +298,13 @@ emptied-sound c r fd file few there = record {
   left = tt;
   few = λ _. omega arith;
   steps = λ _ _ _. tt;
-  piped = (tt, tt);
   child = tt;
-  collects = tt;
   placed = λ _ _. refl;
 }
 
 new-sound : (c : Kept) (n mode fd : ℕ) (read : Option (List ℕ)) (name : List ℕ) → IsFine c (request.Open n mode read) → IsMadeNew (names_of c.files) n read name
     → IsSound c (request.Open n mode read) (open_new fd (length (names_of c.files)) name)
 new-sound c n mode fd read name fine made = record {
-  one_edit = one_change _;
   one_entry = set_alone _;
   opens = inr tt;
   edits = tt;
@@ -359,9 +313,7 @@ new-sound c n mode fd read name fine made = record {
   left = tt;
   few = λ _. omega arith;
   steps = λ _ _ _. tt;
-  piped = (tt, tt);
   child = tt;
-  collects = tt;
   placed = λ _ _. refl;
 }
 
@@ -369,7 +321,6 @@ new-sound c n mode fd read name fine made = record {
 
 closed-sound : (c : Kept) (r : Request) (fd : ℕ) (ends : List PipeEnd) → length ends ≤ 1 → IsSound c r (closed fd ends)
 closed-sound c r fd ends less = record {
-  one_edit = one_output None;
   one_entry = set_alone _;
   opens = inr (drops-open-none ends);
   edits = tt;
@@ -378,16 +329,13 @@ closed-sound c r fd ends less = record {
   left = tt;
   few = λ _. omega (arith, less, length-map ends pipe_step.Drop);
   steps = λ _ _ _. drops-may ends c.seen;
-  piped = (tt, tt);
   child = tt;
-  collects = tt;
   placed = λ _ _. refl;
 }
 
 moved-sound : (c : Kept) (r : Request) (fd file old offset : ℕ) (writes : Bool) → NamesFiles (length c.files) c.descriptors
     → descriptor_at c.descriptors fd ≡ Some (descriptor.File file old writes) → IsSound c r (to_slot offset fd (Some (descriptor.File file offset writes)))
 moved-sound c r fd file old offset writes names stands = record {
-  one_edit = one_output None;
   one_entry = set_alone _;
   opens = inr tt;
   edits = tt;
@@ -396,15 +344,12 @@ moved-sound c r fd file old offset writes names stands = record {
   left = tt;
   few = λ _. omega arith;
   steps = λ _ _ _. tt;
-  piped = (tt, tt);
   child = tt;
-  collects = tt;
   placed = λ _ _. refl;
 }
 
 end-sound : (c : Kept) (r : Request) (status : ℕ) → IsSound c r (row_end c.descriptors status)
 end-sound c r status = record {
-  one_edit = one_output None;
   one_entry = set_alone _;
   opens = inr (drops-open-none (ends_of c.descriptors));
   edits = record { change = refl; output = refl; tape = refl; slots = refl; child = refl; collects = refl };
@@ -413,9 +358,7 @@ end-sound c r status = record {
   left = tt;
   few = λ few. omega (arith, few, length-map (ends_of c.descriptors) pipe_step.Drop, length-ends_of c.descriptors);
   steps = λ _ _ _. drops-may (ends_of c.descriptors) c.seen;
-  piped = tt;
   child = tt;
-  collects = tt;
   placed = λ _ _. tt;
 }
 
@@ -424,7 +367,6 @@ end-sound c r status = record {
 pipe-sound : (c : Kept) (at : ℕ) (fits : Bool) (count reader writer : ℕ) → count ≡ length c.seen → fits ≡ true → count < 1024
     → IsSound c (request.Pipe at fits) (pipe_made count at reader writer)
 pipe-sound c at fits count reader writer is fit few = record {
-  one_edit = one_output None;
   one_entry = set_alone _;
   opens = inl refl;
   edits = tt;
@@ -433,15 +375,12 @@ pipe-sound c at fits count reader writer is fit few = record {
   left = tt;
   few = λ _. omega arith;
   steps = λ _ _ _. (omega arith, tt);
-  piped = (omega (arith, length-opened c.seen), (omega (arith, length-opened c.seen), tt));
   child = tt;
-  collects = tt;
   placed = λ memory fitting. bytes-placed memory 0 at 8 (to_le_bytes w32 reader ++ to_le_bytes w32 writer) (omega arith) (fitting fit);
 }
 
 child-sound : (c : Kept) (r : Request) → length c.statuses < 1024 → IsSound c r (made_child (length c.statuses + 1) (ends_of c.descriptors))
 child-sound c r few = record {
-  one_edit = one_output None;
   one_entry = child_alone _;
   opens = inr (adds-open-none (ends_of c.descriptors));
   edits = tt;
@@ -450,24 +389,9 @@ child-sound c r few = record {
   left = tt;
   few = λ few. omega (arith, few, length-map (ends_of c.descriptors) pipe_step.Add, length-ends_of c.descriptors);
   steps = λ n lt all. adds-may n (ends_of c.descriptors) c.seen (omega (arith, length-ends_of c.descriptors)) all;
-  piped = tt;
   child = (refl, few);
-  collects = tt;
   placed = λ _ _. refl;
 }
-
-among : (child : ℕ) (children : List ℕ) (status : Option ℕ) (behind : Option EndedChild) (e : EndedChild) → (behind ≡ Some e → Contains children e.child)
-    → ended_or child status behind ≡ Some e → Contains (child ∷ children) e.child
-among child children (Some status) behind e further is =
-    let same : record { child = child; status = status } ≡ e = cc in
-    (0, omega arith, ap (λ (x : EndedChild). x.child) same)
-among child children None behind e further is = let h = further is in (suc h.0, omega (arith, h.1), h.2)
-
--- a child that has ended is one of the children
-ended-among : (statuses : List (Option ℕ)) (children : List ℕ) (e : EndedChild) → first_ended statuses children ≡ Some e → Contains children e.child
-ended-among statuses [] e found = absurd (let no : ⊥ = cc in no)
-ended-among statuses (child ∷ children) e found =
-    among child children (status_in statuses child) (first_ended statuses children) e (ended-among statuses children e) found
 
 ended-edits : (b : Bool) (n at : ℕ) (bytes : List ℕ) (e : Effect) → EditsWhere (if b then number n else with_bytes n at bytes) e
 ended-edits true n at bytes e = tt
@@ -478,10 +402,9 @@ ended-placed : (memory : Memory) (b : Bool) (n at : ℕ) (bytes : List ℕ) → 
 ended-placed memory true n at bytes few fits = refl
 ended-placed memory false n at bytes few fits = bytes-placed memory n at 4 bytes few (fits refl)
 
-ended-sound : (c : Kept) (at : ℕ) (fits : Bool) (e : EndedChild) → fits ≡ true → first_ended c.statuses c.children ≡ Some e
+ended-sound : (c : Kept) (at : ℕ) (fits : Bool) (e : EndedChild) → fits ≡ true
     → IsSound c (request.Wait at fits) (wait_ended at c.children (Some e))
-ended-sound c at fits e fit found = record {
-  one_edit = one_output None;
+ended-sound c at fits e fit = record {
   one_entry = collects_alone _;
   opens = inr tt;
   edits = ended-edits (at == 0) e.child at (to_le_bytes w32 e.status) _;
@@ -490,9 +413,7 @@ ended-sound c at fits e fit found = record {
   left = tt;
   few = λ _. omega arith;
   steps = λ _ _ _. tt;
-  piped = tt;
   child = tt;
-  collects = ended-among c.statuses c.children e found;
   placed = λ memory fitting. ended-placed memory (at == 0) e.child at (to_le_bytes w32 e.status) (omega arith) (fitting fit);
 }
 
@@ -530,7 +451,7 @@ row-sound c p (request.Pipe at fits) fine =
 row-sound c p request.Fork fine = row_fork-cases (IsSound c request.Fork) (length c.statuses) c.descriptors (plain-sound c _) (child-sound c _)
 row-sound c p (request.Wait at fits) fine =
     row_wait-cases (IsSound c (request.Wait at fits)) c.statuses c.children at fits (plain-sound c _) (waiting-sound c _)
-    (λ e fit found. ended-sound c at fits e fit found)
+    (λ e fit found. ended-sound c at fits e fit)
 row-sound c p request.GetPid fine = plain-sound c _ p [] []
 row-sound c p (request.Seek fd offset) fine =
     row_seek-cases (IsSound c (request.Seek fd offset)) (descriptor_at c.descriptors fd) fd offset (plain-sound c _)
@@ -544,10 +465,3 @@ pub named-after : (c : Kept) (r : Request) (e : Effect) → IsSound c r e → Na
 named-after c r e sound names =
     all-set_slots (NamesFile (length (changed_by c.files e.change))) e.slots c.descriptors sound.named
     (NamesFiles-more (length c.files) (length (changed_by c.files e.change)) (changed_by-grows c.files e.change) c.descriptors names)
-
--- and a pipe
-pub piped-after : (c : Kept) (r : Request) (e : Effect) → IsSound c r e → NamesPipes (length c.seen) c.descriptors
-    → NamesPipes (length (all_seen c.seen e.pipes)) (set_slots c.descriptors e.slots)
-piped-after c r e sound names =
-    all-set_slots (NamesPipe (length (all_seen c.seen e.pipes))) e.slots c.descriptors sound.piped
-    (NamesPipes-more (length c.seen) (length (all_seen c.seen e.pipes)) (all-grow c.seen e.pipes) c.descriptors names)

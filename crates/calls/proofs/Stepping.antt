@@ -1,42 +1,16 @@
 -- Steps of pipes that come one after the other.
-use Rattle.std.proofs.Common.{◌≡◌, ℕ, zero, suc, ◌+◌, ◌-◌, ◌^◌, ◌<◌, ◌≤◌, List, [], ◌∷◌, ◌++◌, length, map, drop, slice_get, Option, Some, None, refl, sym, subst, arith, length-append}
+use Rattle.std.proofs.Common.{◌≡◌, ℕ, zero, suc, ◌+◌, ◌^◌, ◌<◌, ◌≤◌, List, [], ◌∷◌, length, map, slice_get, Option, Some, None, refl, sym, subst, arith}
 use Rattle.std.specs.List.{AllByRecursion, cons_option}
 use Rattle.std.specs.Option.{ForSome}
-use Rattle.std.proofs.Math.ListN.{length-set}
 use Rattle.kernel_model.specs.Rows.{end_of, ends_of}
-use Rattle.kernel_model.specs.State.{PipeState, new_pipe}
+use Rattle.kernel_model.specs.State.{PipeState}
 use Rattle.kernel_model.specs.declared.descriptor.Descriptor.{Descriptor}
 use Rattle.kernel_model.specs.declared.descriptor.PipeEnd.{PipeEnd}
 use Rattle.kernel_model.specs.declared.descriptor.PipeEnd.TheVariants.{Read, Write}
-use Rattle.kernel_model.specs.declared.effect.PipeStep.{PipeStep}
-use Rattle.kernel_model.specs.declared.effect.PipeStep.TheVariants.{Open, Put, Take, Add, Drop}
+use Rattle.kernel_model.specs.declared.effect.PipeStep.TheVariants.{Add, Drop}
 use Rattle.pipes.specs.Seen.{Seen, seen_of, Shows}
 use Rattle.pipes.specs.Stepping.{seen_with, seen_after, HasAtMost}
-use Rattle.calls.specs.Plans.{all_seen, MayAllStep, OpensNone}
-
--- ---- how many pipes there are
-
-length-with : (seen : List Seen) (k : ℕ) (o : Option Seen) (f : Seen → Seen) → length (seen_with seen k o f) ≡ length seen
-length-with seen k None f = refl
-length-with seen k (Some x) f = length-set seen k (f x)
-
--- no step takes a pipe away
-one-grows : (seen : List Seen) (step : PipeStep) → length seen ≤ length (seen_after seen step)
-one-grows seen Open = omega (arith, length-append seen (seen_of new_pipe ∷ []))
-one-grows seen (Put k bytes) = omega (arith, length-with seen k (slice_get seen k) (λ p. record p { held = p.held ++ bytes }))
-one-grows seen (Take k count) = omega (arith, length-with seen k (slice_get seen k) (λ p. record p { held = drop count p.held }))
-one-grows seen (Add (Read k)) = omega (arith, length-with seen k (slice_get seen k) (λ p. record p { readers = p.readers + 1 }))
-one-grows seen (Add (Write k)) = omega (arith, length-with seen k (slice_get seen k) (λ p. record p { writers = p.writers + 1 }))
-one-grows seen (Drop (Read k)) = omega (arith, length-with seen k (slice_get seen k) (λ p. record p { readers = p.readers - 1 }))
-one-grows seen (Drop (Write k)) = omega (arith, length-with seen k (slice_get seen k) (λ p. record p { writers = p.writers - 1 }))
-
-pub all-grow : (seen : List Seen) (steps : List PipeStep) → length seen ≤ length (all_seen seen steps)
-all-grow seen [] = omega arith
-all-grow seen (step ∷ steps) = omega (arith, one-grows seen step, all-grow (seen_after seen step) steps)
-
--- one more is opened
-pub length-opened : (seen : List Seen) → length (seen_after seen Open) ≡ length seen + 1
-length-opened seen = length-append seen (seen_of new_pipe ∷ [])
+use Rattle.calls.specs.Plans.{MayAllStep, OpensNone}
 
 -- ---- how many descriptors stand for an end
 

@@ -11,8 +11,6 @@ use Rattle.kernel_model.specs.Rows.{Effect, most_processes}
 use Rattle.kernel_model.specs.State.{TapeState}
 use Rattle.kernel_model.specs.declared.descriptor.Descriptor.{Descriptor}
 use Rattle.kernel_model.specs.declared.descriptor.Descriptor.TheVariants as descriptor
-use Rattle.kernel_model.specs.declared.descriptor.PipeEnd.TheVariants as pipe_end
-use Rattle.kernel_model.specs.declared.effect.Output.{Output}
 use Rattle.kernel_model.specs.declared.effect.PipeStep.{PipeStep}
 use Rattle.kernel_model.specs.declared.effect.PipeStep.TheVariants as pipe_step
 use Rattle.kernel_model.specs.declared.effect.Slot.{Slot}
@@ -48,19 +46,6 @@ NamesFile count None = Unit {0}
 abbrev pub NamesFiles : ℕ → List (Option Descriptor) → Type 0
 NamesFiles count ds = AllByRecursion (NamesFile count) ds
 
--- a descriptor that stands for an end of a pipe stands for one of so many pipes
-abbrev pub NamesPipe : ℕ → Option Descriptor → Type 0
-NamesPipe count (Some (descriptor.Pipe (pipe_end.Read k))) = k < count
-NamesPipe count (Some (descriptor.Pipe (pipe_end.Write k))) = k < count
-NamesPipe count (Some (descriptor.File file offset writes)) = Unit {0}
-NamesPipe count (Some (descriptor.Tape tape)) = Unit {0}
-NamesPipe count (Some (descriptor.Terminal terminal)) = Unit {0}
-NamesPipe count None = Unit {0}
-
--- each of these descriptors that stands for an end of a pipe stands for one of so many pipes
-abbrev pub NamesPipes : ℕ → List (Option Descriptor) → Type 0
-NamesPipes count ds = AllByRecursion (NamesPipe count) ds
-
 -- the pipes, as they are seen, after these steps, the first of them first
 abbrev pub all_seen : List Seen → List PipeStep → List Seen
 all_seen seen [] = seen
@@ -88,12 +73,6 @@ IsPossible files c = IsFormed c × MayCome files c
 -- so many bytes are left of the tape that they are read from
 abbrev pub AreLeft : List TapeState → TapeRead → Type 0
 AreLeft tapes r = IfSome (slice_get tapes r.tape) (λ tape. r.count ≤ length (drop tape.place tape.bytes))
-
--- of a change, an output and a tape that is read, at most one is there
-pub record AtMostOne (change : Option Change) (output : Option Output) (tape : Option TapeRead) : Type 0 where
-  pub change_or_output : (change ≡ None) ⊎ (output ≡ None)
-  pub change_or_tape : (change ≡ None) ⊎ (tape ≡ None)
-  pub output_or_tape : (output ≡ None) ⊎ (tape ≡ None)
 
 -- of descriptors that are set, a child that is made and one that is collected, at most one is there
 pub record AtMostOneEntry (slots : List Slot) (child collects : Option ℕ) : Type 0 where

@@ -2,13 +2,7 @@
 use Rattle.std.specs.Prelude.{◌≡◌, ℕ, List, [], map, Option}
 use Rattle.disk_model.specs.declared.change.NamedFile.{NamedFile}
 use Rattle.kernel_model.specs.State.{Shared, PipeState, TapeState}
-use Rattle.kernel_model.specs.Rows as rows
 use Rattle.pipes.specs.Seen.{Seen, Shows}
-use Rattle.processes.specs.declared.table.EndedChild.{EndedChild}
-
--- a child that has ended, as the table of processes gives it
-abbrev pub child_of : EndedChild → rows.EndedChild
-child_of e = record { child = e.child; status = e.status }
 
 -- a pipe to which nothing was ever written but what is seen of it
 abbrev pub pipe_of : Seen → PipeState

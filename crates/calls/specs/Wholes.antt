@@ -1,5 +1,5 @@
 -- Requests whose bytes are as many as they say.
-use Rattle.std.specs.Prelude.{◌≡◌, ℕ, ◌≤◌, length, List, Option, IfSome}
+use Rattle.std.specs.Prelude.{◌≡◌, ℕ, ◌≤◌, length, List, Option, None, IfSome}
 use Rattle.kernel_model.specs.Requests.{most_bytes, longest_name}
 use Rattle.kernel_model.specs.declared.request.Request.{Request}
 use Rattle.kernel_model.specs.declared.request.Request.TheVariants.{Exit, Write, Read, Open, Close, Pipe, Fork, Wait, GetPid, Seek, Sync, Unknown}
@@ -22,3 +22,18 @@ IsWhole GetPid = Unit {0}
 IsWhole (Seek fd offset) = Unit {0}
 IsWhole Sync = Unit {0}
 IsWhole Unknown = Unit {0}
+
+-- no bytes come with the request: it is no write and no open, or its bytes are too many or may not be read
+abbrev pub HoldsNone : Request → Type 0
+HoldsNone (Exit status) = Unit {0}
+HoldsNone (Write fd n bytes) = bytes ≡ None
+HoldsNone (Read fd at n fits) = Unit {0}
+HoldsNone (Open n mode name) = name ≡ None
+HoldsNone (Close fd) = Unit {0}
+HoldsNone (Pipe at fits) = Unit {0}
+HoldsNone Fork = Unit {0}
+HoldsNone (Wait at fits) = Unit {0}
+HoldsNone GetPid = Unit {0}
+HoldsNone (Seek fd offset) = Unit {0}
+HoldsNone Sync = Unit {0}
+HoldsNone Unknown = Unit {0}

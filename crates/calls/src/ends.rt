@@ -12,9 +12,6 @@ use kernel_model::{Carrier, Descriptor, PipeEnd, PipeStep, Slot, Verdict};
 use processes::Descriptors;
 use std::alloc::{AllocError, Global};
 
-/// How many descriptors a process has.
-const DESCRIPTORS: u32 = 16;
-
 /// The end of a pipe for which a descriptor stands, if it stands for one.
 fn end_of(descriptor: Option<Descriptor>) -> Option<PipeEnd>
     ensures { result ≡ end_of descriptor }
@@ -25,31 +22,16 @@ fn end_of(descriptor: Option<Descriptor>) -> Option<PipeEnd>
     }
 }
 
-/// There are no more than 16 descriptors: none can be made free behind the last.
-pub fn are_few(descriptors: &Descriptors)
-    ensures { length descriptors.now ≤ 16 }
-{
-    let mut freed = descriptors.duplicate();
-    freed.set(Slot {
-        fd: DESCRIPTORS as usize,
-        holds: None,
-    });
-    let _ = freed.free_behind(DESCRIPTORS as usize - 1);
-}
-
 /// The ends for which these descriptors stand.
 pub fn ends_of(alloc: Global, descriptors: &Descriptors) -> Result<Vec<PipeEnd>, AllocError>
     ensures ends { IfOk result (λ ends. ends.items ≡ ends_of descriptors.now) }
     ensures few { length descriptors.now ≤ 16 }
 {
-    are_few(descriptors);
-    let mut ends = Vec::new(alloc);
-    for fd in 0..DESCRIPTORS {
-        if let Some(end) = end_of(descriptors.get(fd)) {
-            ends.push(end)?;
-        }
-    }
-    Ok(ends)
+    descriptors
+        .as_slice()
+        .iter()
+        .filter_map(|descriptor| end_of(*descriptor))
+        .collect(alloc)
 }
 
 /// The pipe of an end, as a carrier.
@@ -87,8 +69,8 @@ fn closing(alloc: Global, ends: &[PipeEnd], told: Verdict) -> Result<Plan, Alloc
     Ok(plan)
 }
 
-/// The end of a process with a status, by a call or a trap: each end of a pipe for which a descriptor of its stands is given
-/// up. Refused for want of memory alone.
+/// The end of a process with a status, 0 to 255 by a call, or 256 plus a trap's cause: each end of a pipe for which a
+/// descriptor of its stands is given up. Refused for want of memory alone.
 pub fn plan_end(alloc: Global, descriptors: &Descriptors, status: u32) -> Result<Plan, AllocError>
     ensures row { IfOk result (λ plan. IsPlan plan (row_end descriptors.now status)) }
     ensures edits { IfOk result (λ plan. EditsAs plan.told plan) }

@@ -1,6 +1,6 @@
 //! What a call comes to, before anything is changed: the table of calls.
 ghost use Rattle.std.specs.Prelude.{◌≡◌, ◌≤◌, ◌<◌, ◌+◌, ◌^◌, ℕ, length, IfOk, IfSome};
-ghost use Rattle.std.specs.List.{AllByRecursion, Contains};
+ghost use Rattle.std.specs.List.{AllByRecursion};
 ghost use Rattle.disk_model.specs.declared.change.NamedFile.{NamedFile};
 ghost use Rattle.machine_model.specs.States.{State};
 ghost use Rattle.kernel_model.specs.Requests.{request_of};
@@ -12,9 +12,9 @@ ghost use Rattle.processes.specs.Parts.{part_at, descriptors_in, children_in, st
 ghost use Rattle.calls.specs.Errors.{code_of};
 ghost use Rattle.calls.specs.Shares.{shared_of, IsKept};
 ghost use Rattle.calls.specs.Wholes.{IsWhole};
-ghost use Rattle.calls.specs.Plans.{IsPlan, IsPossible, CarriesBytes, NamesFiles, NamesPipes, all_seen, MayAllStep, IsNext, AreLeft, AtMostOne, AtMostOneEntry, OpensAlone, EditsAs, MayBePlaced};
+ghost use Rattle.calls.specs.Plans.{IsPlan, IsPossible, CarriesBytes, NamesFiles, MayAllStep, IsNext, AreLeft, AtMostOneEntry, OpensAlone, EditsAs, MayBePlaced};
 
-use crate::ends::{are_few, close, plan_end};
+use crate::ends::{close, plan_end};
 use crate::errno::Errno;
 use crate::fork::fork;
 use crate::open::open;
@@ -90,9 +90,7 @@ fn descriptors_of(processes: &ProcTable, pid: u32) -> &Descriptors
     ensures value { result.now ≡ descriptors_in (part_at processes.now.parts pid) }
     ensures few { length result.now ≤ 16 }
 {
-    let descriptors = processes.descriptors(pid).unwrap();
-    are_few(descriptors);
-    descriptors
+    processes.descriptors(pid).unwrap()
 }
 
 /// The row of a request.
@@ -140,8 +138,9 @@ fn plan_row(
     }
 }
 
-/// What a request of process `pid` comes to; nothing changes. Where a machine asks this request, the bytes of the reply may
-/// be written at their place in that machine. Refused for want of memory alone.
+/// What a request of process `pid` comes to; nothing changes. It wants at most 32 files, of at most 16,384 bytes each. Where
+/// a machine asks this request, the bytes of the reply may be written at their place in that machine. Refused for want of
+/// memory alone.
 pub fn plan_call(
     alloc: Global,
     files: &FileTable,
@@ -160,7 +159,6 @@ pub fn plan_call(
     ensures row { (s : Shared) → IsKept s (statuses_of processes.now.parts) files.now pipes.now tapes.now
         → IfOk result (λ plan. IsPlan plan (row s pid (descriptors_in (part_at processes.now.parts pid))
         (children_in (part_at processes.now.parts pid)) request)) }
-    ensures one_edit { IfOk result (λ plan. AtMostOne plan.change plan.output plan.tape) }
     ensures one_entry { IfOk result (λ plan. AtMostOneEntry plan.slots.items plan.child plan.collects) }
     ensures opens { IfOk result (λ plan. OpensAlone plan.pipes.items) }
     ensures few { IfOk result (λ plan. length plan.pipes.items ≤ 16) }
@@ -172,11 +170,7 @@ pub fn plan_call(
     ensures steps { (s : Shared) (n : ℕ) → IsKept s (statuses_of processes.now.parts) files.now pipes.now tapes.now
         → AllByRecursion (HasAtMost n) s.pipes → n + 16 < 2 ^ 64
         → IfOk result (λ plan. MayAllStep pipes.now plan.pipes.items) }
-    ensures pipes { NamesPipes (length pipes.now) (descriptors_in (part_at processes.now.parts pid))
-        → IfOk result (λ plan. NamesPipes (length (all_seen pipes.now plan.pipes.items))
-        (set_slots (descriptors_in (part_at processes.now.parts pid)) plan.slots.items)) }
     ensures child { IfOk result (λ plan. IfSome plan.child (IsNext (length processes.now.parts))) }
-    ensures collects { IfOk result (λ plan. IfSome plan.collects (Contains (children_in (part_at processes.now.parts pid)))) }
     ensures place { IfOk result
         (λ plan. (s : State) → request ≡ request_of s → MayBePlaced s.hart.memory plan.told) }
 {

@@ -1,7 +1,7 @@
 //! The call at which a machine stands.
-ghost use Rattle.std.specs.Prelude.{◌≡◌, IfOk};
+ghost use Rattle.std.specs.Prelude.{◌≡◌, None, IfOk, IsOk};
 ghost use Rattle.kernel_model.specs.Requests.{read_bytes, may_be_placed, most_bytes, request_of as request_at};
-ghost use Rattle.calls.specs.Wholes.{AreWhole, IsWhole};
+ghost use Rattle.calls.specs.Wholes.{AreWhole, IsWhole, HoldsNone};
 
 use byte_list::Bytes;
 use formats::Reg;
@@ -22,7 +22,7 @@ const WORD_SIZE: u32 = 4;
 /// The longest name of a file, in bytes.
 pub const LONGEST_NAME: u32 = 32;
 
-/// The bytes that a call names, where they are at most so many and the process may read them.
+/// The bytes that a call names, where they are at most so many and the process may read them. Else no memory is taken.
 fn named_bytes(
     alloc: Global,
     machine: &Machine,
@@ -32,6 +32,7 @@ fn named_bytes(
 ) -> Result<Option<Bytes>, AllocError>
     ensures read { IfOk result (λ bytes. bytes ≡ read_bytes machine.now.hart.memory most at n) }
     ensures whole { IfOk result (λ bytes. AreWhole most n bytes) }
+    ensures none { read_bytes machine.now.hart.memory most at n ≡ None → IsOk result }
 {
     if n > most {
         return Ok(None);
@@ -51,10 +52,11 @@ fn may_be_placed(machine: &Machine, at: u32, n: u32) -> bool
 }
 
 /// The call that the registers name: its number in a7, its arguments in a0 to a2, with the bytes that it names. Refused
-/// for want of memory alone.
+/// for want of memory alone, which only the bytes of a write or of a name take.
 pub fn request_of(alloc: Global, machine: &Machine) -> Result<Request, AllocError>
     ensures request { IfOk result (λ r. r ≡ request_at machine.now) }
     ensures whole { IfOk result (λ r. IsWhole r) }
+    ensures none { HoldsNone (request_at machine.now) → IsOk result }
 {
     let a0 = machine.reg(Reg::new(10));
     let a1 = machine.reg(Reg::new(11));

@@ -6,6 +6,7 @@ ghost use Rattle.calls.specs.Plans.{AreLeft};
 ghost use Rattle.calls.specs.Places.{bytes_of};
 
 use byte_list::Bytes;
+use files::part_of;
 use kernel_model::TapeRead;
 use std::marker::Model;
 use std::sync::Arc;
@@ -41,14 +42,6 @@ fn bytes_of(tapes: &[Bytes], tape: usize) -> &[u8]
         Some(bytes) => bytes.as_slice(),
         None => &[],
     }
-}
-
-/// At most n of these bytes, from a place on; none where the place lies past their end.
-fn part_of(bytes: &[u8], place: usize, n: usize) -> &[u8]
-    ensures { result.now ≡ take n (drop place bytes.now) }
-{
-    let rest = &bytes[place.min(bytes.len())..];
-    &rest[..n.min(rest.len())]
 }
 
 impl TapeTable {

@@ -3,9 +3,9 @@ ghost use Rattle.std.specs.Prelude.{◌≡◌, ◌==◌, map, option_map, IfOk, 
 ghost use Rattle.std.specs.Int.{w32, to_le_bytes};
 ghost use Rattle.kernel_model.specs.Rows.{number, with_bytes, wait_ended, row_wait};
 ghost use Rattle.kernel_model.specs.declared.carrier.Carrier.TheVariants.{Proc};
+ghost use Rattle.processes.specs.Ended.{child_of};
 ghost use Rattle.processes.specs.Parts.{part_at, children_in, statuses_of};
 ghost use Rattle.calls.specs.Plans.{IsPlan};
-ghost use Rattle.calls.specs.Shares.{child_of};
 
 use crate::errno::Errno;
 use crate::plan::Plan;

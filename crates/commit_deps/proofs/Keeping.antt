@@ -10,7 +10,7 @@ use Rattle.std.proofs.lemmas.List.Sums.{count_by-le-length, sum_by-cons, sum_by-
 use Rattle.kernel_model.specs.declared.carrier.Carrier.{Carrier}
 use Rattle.kernel_model.specs.declared.carrier.Carrier.TheVariants.{Proc, File, Names, Pipe, Pipes, Tasks, Tape}
 use Rattle.kernel_model.specs.Entries.{Entry, is_same, is_among, meets}
-use Rattle.kernel_model.specs.Paths.{is_settled, is_settled_from, change_count, changes_of, with_change}
+use Rattle.kernel_model.specs.Paths.{is_settled, change_count, changes_of, with_change}
 use Rattle.kernel_model.proofs.Paths.{count_of}
 use Rattle.disk_model.specs.declared.change.Change.{Change}
 use Rattle.commit_deps.specs.declared.dependencies.Marked.{Marked}
@@ -181,12 +181,6 @@ greatest-says log marks keeps c own (x ∷ xs) =
     ∙ ap (λ (b : Bool). nat_le own c && (b && is_settled c log (reader xs))) ((keeps.marked x).says c)
     ∙ ap (λ (b : Bool). nat_le own c && b) (sym (settled-union c 0 log (x ∷ []) xs))
 
--- the greatest mark of several carriers says what a reader of them all rests on
-pub greatest-is-mark : (log : List Entry) (marks : List Marked) → Keeps log marks → (rs : List Carrier) → IsMarkOf (greatest_mark 0 rs marks) log (reader rs)
-greatest-is-mark log marks keeps rs = record {
-  says = λ c. greatest-says log marks keeps c 0 rs ∙ ap (λ (b : Bool). b && is_settled c log (reader rs)) (le-zero c);
-}
-
 count-with : (o : Option Change) (cs : List Change) → (if is_some o then 1 else 0) + length cs ≡ length (with_change o cs)
 count-with None cs = omega arith
 count-with (Some c) cs = omega arith
@@ -214,20 +208,9 @@ mark-says log marks e reads change keeps reads_it makes = record {
       ∙ sym (settled-event c 0 log e);
 }
 
--- an event that reads nothing and makes no change rests on none
-pub none-says : (log : List Entry) (e : Entry) → e.reads ≡ [] → e.change ≡ None → IsMarkOf 0 log e
-none-says log e reads_none makes_none = record {
-  says = λ c.
-      le-zero c
-      ∙ sym (settled-event c 0 log e
-      ∙ ap (λ (rs : List Carrier). is_settled_from c 0 log (reader rs) && (not (is_some e.change) || nat_lt (0 + count_of log) c)) reads_none
-      ∙ ap (λ (b : Bool). b && (not (is_some e.change) || nat_lt (0 + count_of log) c)) (settled-nothing c 0 log)
-      ∙ ap (λ (o : Option Change). not (is_some o) || nat_lt (0 + count_of log) c) makes_none);
-}
-
 -- an event that writes nothing leaves the marks right, whatever it rests on
-pub keeps-silent : (log : List Entry) (marks : List Marked) (e : Entry) → Keeps log marks → e.writes ≡ [] → Keeps (log ++ e ∷ []) marks
-keeps-silent log marks e keeps silent = record {
+pub keeps-silent : (log : List Entry) (marks : List Marked) (e : Entry) → e.writes ≡ [] → Keeps log marks → Keeps (log ++ e ∷ []) marks
+keeps-silent log marks e silent keeps = record {
   written = λ x.
       keeps.written x
       ∙ sym (or_false (is_written x log))

@@ -1,4 +1,3 @@
 pub mod Answering
 pub mod Readers
 pub mod Keeping
-pub mod Releasing

@@ -1,4 +1,3 @@
 pub mod Marks
 pub mod Kept
 pub mod Keeps
-pub mod Released

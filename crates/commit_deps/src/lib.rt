@@ -2,8 +2,10 @@
 #![tactic(auto)]
 
 mod dependencies;
+mod laws;
 mod mark;
 
 pub use dependencies::Dependencies;
 pub use kernel_model::Carrier;
+pub use laws::silent_events_leave_marks;
 pub use mark::Mark;

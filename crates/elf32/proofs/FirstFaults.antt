@@ -7,14 +7,14 @@ use Rattle.std.proofs.lemmas.List.{take_rest}
 use Rattle.elf32.specs.declared.header.FileHeader.{FileHeader}
 use Rattle.elf32.specs.declared.header.ProgramHeader.{ProgramHeader}
 use Rattle.elf32.specs.declared.fault.ElfFault.{ElfFault}
-use Rattle.elf32.specs.declared.fault.ElfFault.TheVariants.{BadSegment, BadSize, PastEnd, BadRange, Overlap, BadEntry, OutOfMemory}
+use Rattle.elf32.specs.declared.fault.ElfFault.TheVariants.{OutOfMemory}
 use Rattle.elf32.specs.Fields.{file_header, headers_in, program_headers}
-use Rattle.elf32.specs.Checks.{has_bad_table, has_sections, has_bad_layout, is_bad_segment, has_bad_size, is_past_end, has_bad_range, has_overlap, is_bad_entry, first_of, header_checks, segment_checks, first_fault}
+use Rattle.elf32.specs.Checks.{has_bad_table, has_sections, has_bad_layout, is_past_end, first_of, header_checks, segment_checks, first_fault}
 use Rattle.elf32.specs.declared.image.Segment.{Segment}
 use Rattle.elf32.specs.Images.{Program, IsProfile}
 use Rattle.elf32.specs.Names.{segment_in, program_in, Names, IsRefused}
 use Rattle.elf32.proofs.Profile.{profile}
-use Rattle.elf32.proofs.Passing.{none_at, six_pass, first_of-some, first_of-none}
+use Rattle.elf32.proofs.Passing.{none_at, first_of-some, first_of-none}
 
 -- a layout that is not bad has 1 to 4 program headers
 pub layout-count : (h : FileHeader) → has_bad_layout h ≡ false → (1 ≤ h.e_phnum) × (h.e_phnum ≤ 4)
@@ -56,11 +56,6 @@ table_is file h count table read =
 pub length-headers_in : (n : ℕ) (bytes : List ℕ) → length (headers_in n bytes) ≡ n
 length-headers_in zero bytes = refl
 length-headers_in (suc n) bytes = ap suc (length-headers_in n (drop 32 bytes))
-
--- no segment's bytes pass the end
-pub none_past : (end entry : ℕ) (hs : List ProgramHeader) → None ≡ first_of (segment_checks end entry hs) → list_any (is_past_end end) hs ≡ false
-none_past end entry hs sound =
-    (six_pass (list_any is_bad_segment hs) (list_any has_bad_size hs) (list_any (is_past_end end) hs) (has_bad_range hs) (has_overlap hs) (is_bad_entry entry hs) BadSegment BadSize PastEnd BadRange Overlap BadEntry (sym sound)).2
 
 pub within : (end : ℕ) (hs : List ProgramHeader) (k : ℕ) (d : ProgramHeader) → list_any (is_past_end end) hs ≡ false → k < length hs → (get_or hs k d).p_offset + (get_or hs k d).p_filesz ≤ end
 unfolding is_past_end

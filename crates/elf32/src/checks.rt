@@ -6,15 +6,9 @@ ghost use Rattle.elf32.specs.Checks.{lacks_magic, lacks_ident, has_bad_kind, has
 
 use crate::fault::ElfFault;
 use crate::header::{
-    EM_RISCV, ET_EXEC, EV_CURRENT, FILE_HEADER, FileHeader, MOST_HEADERS, PAGE, PF_R, PF_W, PF_X,
-    PROGRAM_HEADER, PT_LOAD, ProgramHeader,
+    EM_RISCV, ET_EXEC, EV_CURRENT, FILE_HEADER, FileHeader, IDENT, MAGIC, MOST_HEADERS, PAGE, PF_R,
+    PF_W, PF_X, PROGRAM_HEADER, PT_LOAD, ProgramHeader,
 };
-
-/// The first four bytes of a file: 7F and the letters ELF.
-const MAGIC: [u8; 4] = [0x7f, 0x45, 0x4c, 0x46];
-
-/// The twelve bytes behind them: 32 bits, little-endian, version 1, and zeros.
-const IDENT: [u8; 12] = [1, 1, 1, 0, 0, 0, 0, 0, 0, 0, 0, 0];
 
 /// The lowest address of a segment.
 const LOWEST: u32 = 0x0001_0000;

@@ -1,44 +1,56 @@
-//! The headers of an ELF32 file.
+//! The headers of an ELF32 file, as the System V ABI (gABI, chapters 4 and 5) and the RISC-V ABIs Specification
+//! (psABI, "ELF Object Files") have them. Sizes, offsets and addresses count bytes. Each number stands in the file
+//! little-endian, in the two or four bytes of its type.
 ghost use Rattle.std.specs.Prelude.{◌≡◌, ◌+◌, ◌*◌, ◌≤◌, length, take, drop};
 ghost use Rattle.elf32.specs.Fields.{half_at, word_at, file_header, program_header, headers_in};
 ghost use Rattle.elf32.specs.Checks.{may_read, may_write, may_execute};
 
 use byteorder::{ByteOrder, LittleEndian};
 
-/// How many bytes a file header has.
+/// The first four bytes of a file, `EI_MAG0` to `EI_MAG3`: 7F and the letters ELF (gABI, chapter 4, "ELF Identification").
+pub const MAGIC: [u8; 4] = [0x7f, 0x45, 0x4c, 0x46];
+
+/// The twelve bytes behind them (gABI, chapter 4, "ELF Identification"): 32 bits (`ELFCLASS32`, 1), little-endian
+/// (`ELFDATA2LSB`, 1), version 1 (`EV_CURRENT`), no extensions of an operating system (`ELFOSABI_NONE`, 0, version 0),
+/// and seven zeros.
+pub const IDENT: [u8; 12] = [1, 1, 1, 0, 0, 0, 0, 0, 0, 0, 0, 0];
+
+/// How many bytes a file header has (`Elf32_Ehdr`; gABI, chapter 4, "ELF Header").
 pub const FILE_HEADER: usize = 52;
 
-/// How many bytes a program header has.
+/// How many bytes a program header has (`Elf32_Phdr`; gABI, chapter 5, "Program Header").
 pub const PROGRAM_HEADER: usize = 32;
 
-/// How many program headers a file may have.
+/// How many program headers a file may have. This limit is bench's own.
 pub const MOST_HEADERS: usize = 4;
 
-/// The bytes of a page.
+/// The bytes of a page, which each segment has as its alignment, in `p_align` (gABI, chapter 5, "Program Header").
 pub const PAGE: u32 = 4096;
 
-/// The type of an executable file.
+/// The type of an executable file, in `e_type` (gABI, chapter 4, "ELF Header").
 pub const ET_EXEC: u16 = 2;
 
-/// The machine RISC-V.
+/// The machine RISC-V, in `e_machine` (psABI, "ELF Object Files", "File Header").
 pub const EM_RISCV: u16 = 243;
 
-/// The version of a file.
+/// The version of a file, in `e_version` (gABI, chapter 4, "ELF Header").
 pub const EV_CURRENT: u32 = 1;
 
-/// The type of a segment that is loaded.
+/// The type of a segment that is loaded, in `p_type` (gABI, chapter 5, "Program Header").
 pub const PT_LOAD: u32 = 1;
 
-/// The flag of a segment that may be executed.
+/// The bit in `p_flags` of a segment that may be executed (gABI, chapter 5, "Segment Permissions").
 pub const PF_X: u32 = 1;
 
-/// The flag of a segment that may be written.
+/// The bit in `p_flags` of a segment that may be written (gABI, chapter 5, "Segment Permissions").
 pub const PF_W: u32 = 2;
 
-/// The flag of a segment that may be read.
+/// The bit in `p_flags` of a segment that may be read (gABI, chapter 5, "Segment Permissions").
 pub const PF_R: u32 = 4;
 
-/// The fields of a file header behind its identification.
+/// The fields of a file header behind its identification (`Elf32_Ehdr`; gABI, chapter 4, "ELF Header"). What the bits of
+/// `e_flags` say for RISC-V stands in the psABI ("ELF Object Files", "File Header"): 0 is for no compressed instructions,
+/// and floating-point numbers passed in integer registers.
 #[derive(Clone, Copy, Debug)]
 pub struct FileHeader {
     pub e_type: u16,
@@ -56,7 +68,7 @@ pub struct FileHeader {
     pub e_shstrndx: u16,
 }
 
-/// The fields of a program header.
+/// The fields of a program header (`Elf32_Phdr`; gABI, chapter 5, "Program Header").
 #[derive(Clone, Copy, Debug, Default)]
 pub struct ProgramHeader {
     pub p_type: u32,

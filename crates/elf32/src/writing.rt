@@ -4,15 +4,13 @@ ghost use Rattle.elf32.specs.Images.{IsLoadable, IsProfile, page_count};
 ghost use Rattle.elf32.specs.Files.{AreNear, file_header_of, flags_of, program_header_of, offset_after, end_after, table_after, contents_after, file_of, RoundTrips};
 
 use crate::header::{
-    EM_RISCV, ET_EXEC, EV_CURRENT, FILE_HEADER, PAGE, PF_R, PF_W, PF_X, PROGRAM_HEADER, PT_LOAD,
+    EM_RISCV, ET_EXEC, EV_CURRENT, FILE_HEADER, IDENT, MAGIC, PAGE, PF_R, PF_W, PF_X,
+    PROGRAM_HEADER, PT_LOAD,
 };
 use crate::image::{Image, Segment};
 use crate::little_endian::{put_halves, put_words};
 use machine_model::Rights;
 use std::alloc::{AllocError, Global};
-
-/// 7F and the letters ELF; 32 bits, little-endian, version 1; zeros.
-const IDENTIFICATION: [u8; 16] = [0x7f, 0x45, 0x4c, 0x46, 1, 1, 1, 0, 0, 0, 0, 0, 0, 0, 0, 0];
 
 /// The file of an image: its headers, and from the second page on the bytes of its segments, each at an offset that is its
 /// address modulo a page. Physical addresses are the addresses. Between the parts, and up to the offset of a last segment
@@ -34,7 +32,8 @@ pub fn write(alloc: Global, image: &Image) -> Result<Vec<u8>, AllocError>
 fn put_file_header(file: &mut Vec<u8>, entry: u32, count: u16) -> Result<(), AllocError>
     ensures { OnOk result (file.new.items ≡ file.old.items ++ file_header_of entry count) }
 {
-    file.extend_from_slice(&IDENTIFICATION)?;
+    file.extend_from_slice(&MAGIC)?;
+    file.extend_from_slice(&IDENT)?;
     // Type and machine.
     put_halves(file, &[ET_EXEC, EM_RISCV])?;
     // Version, entry, offset of the program headers, offset of sections, flags.

@@ -1,3 +1,2 @@
 -- The lemmas.
-pub mod Finding
 pub mod Patching

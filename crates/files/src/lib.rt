@@ -1,11 +1,12 @@
 //! The table of files, which changes fold into.
 #![tactic(auto)]
 
-ghost use Rattle.std.specs.Prelude.{IfOk, ◌≡◌, ◌<◌, ◌≤◌, ◌+◌, ℕ, OnOk, OnErr, IsOk, length, slice_get, slice_index_or, take, drop, option_map, []};
+ghost use Rattle.std.specs.Prelude.{IfOk, IfSome, List, ◌≡◌, ◌<◌, ◌≤◌, ◌+◌, ℕ, OnOk, OnErr, IsOk, length, slice_get, slice_index_or, take, drop, option_map, []};
+ghost use Rattle.std.specs.List.{position};
+ghost use Rattle.std.specs.Str.{bytes_eq};
 ghost use Rattle.disk_model.specs.declared.change.NamedFile.{NamedFile};
 ghost use Rattle.disk_model.specs.declared.change.Change.TheVariants.{Create, Write, Empty};
 ghost use Rattle.disk_model.specs.Files.{changed, patched};
-ghost use Rattle.files.specs.Names.{is_same, place_of};
 
 use byte_list::Bytes;
 use disk_model::{Change, NamedFile};
@@ -29,34 +30,6 @@ impl Model for FileTable {
     ghost view = { λ t. t.files.items };
 }
 
-/// Whether two slices have the same bytes.
-fn same_bytes(a: &[u8], b: &[u8]) -> bool
-    ensures { result ≡ is_same a.now b.now }
-{
-    match a {
-        [] => match b {
-            [] => true,
-            [_, ..] => false,
-        },
-        [x, xs @ ..] => match b {
-            [] => false,
-            [y, ys @ ..] => *x == *y && same_bytes(xs, ys),
-        },
-    }
-}
-
-/// The place of the first file of this name.
-fn find_in(files: &[NamedFile], name: &[u8]) -> Option<usize>
-    ensures { result ≡ place_of files.now name.now }
-{
-    for i in 0..files.len() {
-        if same_bytes(files[i].name.as_slice(), name) {
-            return Some(i);
-        }
-    }
-    None
-}
-
 /// Writes bytes from the offset on, in place; a gap between the old end and the offset becomes zeros. Memory is taken first,
 /// and only for what the file grows by: where there is none nothing changes.
 fn patch(file: &mut Bytes, offset: usize, bytes: &[u8]) -> Result<(), AllocError>
@@ -72,7 +45,7 @@ fn patch(file: &mut Bytes, offset: usize, bytes: &[u8]) -> Result<(), AllocError
 }
 
 /// At most n of these bytes, from an offset on; none where the offset lies past their end.
-fn part_of(bytes: &[u8], offset: usize, n: usize) -> &[u8]
+pub fn part_of(bytes: &[u8], offset: usize, n: usize) -> &[u8]
     ensures { result.now ≡ take n (drop offset bytes.now) }
 {
     let rest = &bytes[offset.min(bytes.len())..];
@@ -99,9 +72,12 @@ impl FileTable {
 
     /// The place of the first file of this name.
     pub fn find(&self, name: &[u8]) -> Option<usize>
-        ensures { result ≡ place_of self.now name.now }
+        ensures place { result ≡ position (λ (f : NamedFile). bytes_eq f.name name.now) self.now }
+        ensures there { IfSome result (λ place. place < length self.now) }
     {
-        find_in(&self.files, name)
+        self.files
+            .iter()
+            .position(|file| file.name.as_slice() == name)
     }
 
     /// The name of the file at a place.
@@ -138,7 +114,7 @@ impl FileTable {
         Some(part_of(file.bytes.as_slice(), offset, n))
     }
 
-    /// A new and empty file of this name, behind the others.
+    /// A new and empty file of this name, behind the others. Where memory runs out nothing has changed.
     pub fn create(&mut self, name: Bytes) -> Result<(), AllocError>
         ensures ok { OnOk result (self.new ≡ changed self.old (Create name)) }
         ensures err { OnErr result (self.new ≡ self.old) }
@@ -148,11 +124,13 @@ impl FileTable {
         Ok(())
     }
 
-    /// These bytes at this offset of the file at a place; a gap between its old end and the offset is zeros.
+    /// These bytes at this offset of the file at a place; a gap between its old end and the offset is zeros. Takes memory for
+    /// what the file grows by, and none inside the file. Where memory runs out nothing has changed.
     pub fn write(&mut self, place: usize, offset: usize, bytes: &[u8]) -> Result<(), AllocError>
         requires { place < length self.old }
         ensures ok { OnOk result (self.new ≡ changed self.old (Write place offset bytes.now)) }
         ensures err { OnErr result (self.new ≡ self.old) }
+        ensures inside { (d : NamedFile) → offset + length bytes.now ≤ length (slice_index_or self.old place d).bytes → IsOk result }
     {
         patch(&mut self.files[place].bytes, offset, bytes)
     }
@@ -165,10 +143,14 @@ impl FileTable {
         self.files[place].bytes = Bytes::empty(self.alloc);
     }
 
-    /// Does a change. One that names a file that is not there changes nothing.
+    /// Does a change. One that names a file that is not there changes nothing. Takes memory for a new file and for what a file
+    /// grows by, and for nothing else. Where memory runs out nothing has changed.
     pub fn change(&mut self, change: &Change) -> Result<(), AllocError>
         ensures ok { OnOk result (self.new ≡ changed self.old change.now) }
         ensures err { OnErr result (self.new ≡ self.old) }
+        ensures empties { (place : ℕ) → change.now ≡ Empty place → IsOk result }
+        ensures inside { (place offset : ℕ) (bytes : List ℕ) → change.now ≡ Write place offset bytes
+            → IfSome (slice_get self.old place) (λ (f : NamedFile). offset + length bytes ≤ length f.bytes) → IsOk result }
     {
         match change {
             Change::Create(name) => {

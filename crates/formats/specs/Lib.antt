@@ -3,3 +3,4 @@ pub mod Fields
 pub mod Meaning
 pub mod Table
 pub mod Text
+pub mod Operands

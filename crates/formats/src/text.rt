@@ -1,9 +1,9 @@
 //! How registers and instructions are written.
-ghost use Rattle.std.specs.Prelude.{◌≡◌, Some};
-ghost use Rattle.std.specs.Fmt.{WritesOnOk};
-ghost use Rattle.formats.specs.Text.{register_name, with_registers, with_number, with_amount, with_address, with_two, with_upper, text_of};
+ghost use Rattle.std.specs.Prelude.{◌≡◌, ◌++◌, Some};
+ghost use Rattle.formats.specs.Operands.{operands_text};
+ghost use Rattle.formats.specs.Text.{register_name, text_of};
 
-use crate::fields::{Immediate, Reg, ShiftAmount, Upper};
+use crate::fields::{BranchOffset, Immediate, JumpOffset, Reg, ShiftAmount, Upper};
 use crate::instr::Instr;
 use std::fmt;
 
@@ -59,126 +59,137 @@ impl fmt::Display for Reg {
     }
 }
 
+/// The operands of an instruction, by the form in which they are written.
+#[derive(Drop)]
+enum Operands {
+    /// `rd,rs1,rs2`.
+    Registers(Reg, Reg, Reg),
+    /// `rd,rs1,imm`.
+    Number(Reg, Reg, Immediate),
+    /// `rs1,rs2,offset`.
+    Branch(Reg, Reg, BranchOffset),
+    /// `rd,rs1,amount`.
+    Amount(Reg, Reg, ShiftAmount),
+    /// `register,imm(rs1)`.
+    Address(Reg, Reg, Immediate),
+    /// `rd,0x` and the upper bits.
+    Upper(Reg, Upper),
+    /// `rd,offset`.
+    Jump(Reg, JumpOffset),
+    /// Nothing.
+    None,
+}
+
+/// The operands with a blank before them; nothing where there are none.
+impl fmt::Display for Operands {
+    ghost output = { λ o. Some (operands_text o) };
+
+    fn fmt<W: fmt::Write>(&self, f: &mut fmt::Formatter<W>) -> fmt::Result {
+        match *self {
+            Operands::Registers(rd, rs1, rs2) => write!(f, " {rd},{rs1},{rs2}"),
+            Operands::Number(rd, rs1, imm) => {
+                let imm = imm.value();
+                write!(f, " {rd},{rs1},{imm}")
+            }
+            Operands::Branch(rs1, rs2, offset) => {
+                let offset = offset.value();
+                write!(f, " {rs1},{rs2},{offset}")
+            }
+            Operands::Amount(rd, rs1, amount) => {
+                let amount = amount.value();
+                write!(f, " {rd},{rs1},{amount}")
+            }
+            Operands::Address(register, rs1, imm) => {
+                let imm = imm.value();
+                write!(f, " {register},{imm}({rs1})")
+            }
+            Operands::Upper(rd, imm) => {
+                let imm = imm.value();
+                write!(f, " {rd},0x{imm:x}")
+            }
+            Operands::Jump(rd, offset) => {
+                let offset = offset.value();
+                write!(f, " {rd},{offset}")
+            }
+            Operands::None => Ok(()),
+        }
+    }
+}
+
+impl Instr {
+    /// The mnemonic and the operands.
+    fn parts(&self) -> (&'static str, Operands)
+        ensures { text_of self.now ≡ result.0.now ++ operands_text result.1 }
+    {
+        match *self {
+            Instr::Lui { rd, imm } => ("lui", Operands::Upper(rd, imm)),
+            Instr::Auipc { rd, imm } => ("auipc", Operands::Upper(rd, imm)),
+            Instr::Jal { rd, offset } => ("jal", Operands::Jump(rd, offset)),
+            Instr::Jalr { rd, rs1, imm } => ("jalr", Operands::Address(rd, rs1, imm)),
+            Instr::Beq { rs1, rs2, offset } => ("beq", Operands::Branch(rs1, rs2, offset)),
+            Instr::Bne { rs1, rs2, offset } => ("bne", Operands::Branch(rs1, rs2, offset)),
+            Instr::Blt { rs1, rs2, offset } => ("blt", Operands::Branch(rs1, rs2, offset)),
+            Instr::Bge { rs1, rs2, offset } => ("bge", Operands::Branch(rs1, rs2, offset)),
+            Instr::Bltu { rs1, rs2, offset } => ("bltu", Operands::Branch(rs1, rs2, offset)),
+            Instr::Bgeu { rs1, rs2, offset } => ("bgeu", Operands::Branch(rs1, rs2, offset)),
+            Instr::Lb { rd, rs1, imm } => ("lb", Operands::Address(rd, rs1, imm)),
+            Instr::Lh { rd, rs1, imm } => ("lh", Operands::Address(rd, rs1, imm)),
+            Instr::Lw { rd, rs1, imm } => ("lw", Operands::Address(rd, rs1, imm)),
+            Instr::Lbu { rd, rs1, imm } => ("lbu", Operands::Address(rd, rs1, imm)),
+            Instr::Lhu { rd, rs1, imm } => ("lhu", Operands::Address(rd, rs1, imm)),
+            Instr::Sb { rs1, rs2, imm } => ("sb", Operands::Address(rs2, rs1, imm)),
+            Instr::Sh { rs1, rs2, imm } => ("sh", Operands::Address(rs2, rs1, imm)),
+            Instr::Sw { rs1, rs2, imm } => ("sw", Operands::Address(rs2, rs1, imm)),
+            Instr::Addi { rd, rs1, imm } => ("addi", Operands::Number(rd, rs1, imm)),
+            Instr::Slti { rd, rs1, imm } => ("slti", Operands::Number(rd, rs1, imm)),
+            Instr::Sltiu { rd, rs1, imm } => ("sltiu", Operands::Number(rd, rs1, imm)),
+            Instr::Xori { rd, rs1, imm } => ("xori", Operands::Number(rd, rs1, imm)),
+            Instr::Ori { rd, rs1, imm } => ("ori", Operands::Number(rd, rs1, imm)),
+            Instr::Andi { rd, rs1, imm } => ("andi", Operands::Number(rd, rs1, imm)),
+            Instr::Slli { rd, rs1, amount } => ("slli", Operands::Amount(rd, rs1, amount)),
+            Instr::Srli { rd, rs1, amount } => ("srli", Operands::Amount(rd, rs1, amount)),
+            Instr::Srai { rd, rs1, amount } => ("srai", Operands::Amount(rd, rs1, amount)),
+            Instr::Add { rd, rs1, rs2 } => ("add", Operands::Registers(rd, rs1, rs2)),
+            Instr::Sub { rd, rs1, rs2 } => ("sub", Operands::Registers(rd, rs1, rs2)),
+            Instr::Sll { rd, rs1, rs2 } => ("sll", Operands::Registers(rd, rs1, rs2)),
+            Instr::Slt { rd, rs1, rs2 } => ("slt", Operands::Registers(rd, rs1, rs2)),
+            Instr::Sltu { rd, rs1, rs2 } => ("sltu", Operands::Registers(rd, rs1, rs2)),
+            Instr::Xor { rd, rs1, rs2 } => ("xor", Operands::Registers(rd, rs1, rs2)),
+            Instr::Srl { rd, rs1, rs2 } => ("srl", Operands::Registers(rd, rs1, rs2)),
+            Instr::Sra { rd, rs1, rs2 } => ("sra", Operands::Registers(rd, rs1, rs2)),
+            Instr::Or { rd, rs1, rs2 } => ("or", Operands::Registers(rd, rs1, rs2)),
+            Instr::And { rd, rs1, rs2 } => ("and", Operands::Registers(rd, rs1, rs2)),
+            Instr::Mul { rd, rs1, rs2 } => ("mul", Operands::Registers(rd, rs1, rs2)),
+            Instr::Mulh { rd, rs1, rs2 } => ("mulh", Operands::Registers(rd, rs1, rs2)),
+            Instr::Mulhsu { rd, rs1, rs2 } => ("mulhsu", Operands::Registers(rd, rs1, rs2)),
+            Instr::Mulhu { rd, rs1, rs2 } => ("mulhu", Operands::Registers(rd, rs1, rs2)),
+            Instr::Div { rd, rs1, rs2 } => ("div", Operands::Registers(rd, rs1, rs2)),
+            Instr::Divu { rd, rs1, rs2 } => ("divu", Operands::Registers(rd, rs1, rs2)),
+            Instr::Rem { rd, rs1, rs2 } => ("rem", Operands::Registers(rd, rs1, rs2)),
+            Instr::Remu { rd, rs1, rs2 } => ("remu", Operands::Registers(rd, rs1, rs2)),
+            Instr::Fence => ("fence", Operands::None),
+            Instr::Ecall => ("ecall", Operands::None),
+            Instr::Ebreak => ("ebreak", Operands::None),
+        }
+    }
+}
+
 /// The instruction as an assembler reads it, as `addi a0,zero,5`: mnemonic and names in lower case, immediates and
 /// offsets in decimal, the upper immediate of LUI and AUIPC in hexadecimal.
 impl fmt::Display for Instr {
     ghost output = { λ i. Some (text_of i) };
 
     fn fmt<W: fmt::Write>(&self, f: &mut fmt::Formatter<W>) -> fmt::Result {
-        match *self {
-            Instr::Lui { rd, imm } => upper(f, "lui", rd, imm),
-            Instr::Auipc { rd, imm } => upper(f, "auipc", rd, imm),
-            Instr::Jal { rd, offset } => {
-                let offset = offset.value();
-                write!(f, "jal {rd},{offset}")
-            }
-            Instr::Jalr { rd, rs1, imm } => address(f, "jalr", rd, rs1, imm),
-            Instr::Beq { rs1, rs2, offset } => number(f, "beq", rs1, rs2, offset.value()),
-            Instr::Bne { rs1, rs2, offset } => number(f, "bne", rs1, rs2, offset.value()),
-            Instr::Blt { rs1, rs2, offset } => number(f, "blt", rs1, rs2, offset.value()),
-            Instr::Bge { rs1, rs2, offset } => number(f, "bge", rs1, rs2, offset.value()),
-            Instr::Bltu { rs1, rs2, offset } => number(f, "bltu", rs1, rs2, offset.value()),
-            Instr::Bgeu { rs1, rs2, offset } => number(f, "bgeu", rs1, rs2, offset.value()),
-            Instr::Lb { rd, rs1, imm } => address(f, "lb", rd, rs1, imm),
-            Instr::Lh { rd, rs1, imm } => address(f, "lh", rd, rs1, imm),
-            Instr::Lw { rd, rs1, imm } => address(f, "lw", rd, rs1, imm),
-            Instr::Lbu { rd, rs1, imm } => address(f, "lbu", rd, rs1, imm),
-            Instr::Lhu { rd, rs1, imm } => address(f, "lhu", rd, rs1, imm),
-            Instr::Sb { rs1, rs2, imm } => address(f, "sb", rs2, rs1, imm),
-            Instr::Sh { rs1, rs2, imm } => address(f, "sh", rs2, rs1, imm),
-            Instr::Sw { rs1, rs2, imm } => address(f, "sw", rs2, rs1, imm),
-            Instr::Addi { rd, rs1, imm } => number(f, "addi", rd, rs1, imm.value()),
-            Instr::Slti { rd, rs1, imm } => number(f, "slti", rd, rs1, imm.value()),
-            Instr::Sltiu { rd, rs1, imm } => number(f, "sltiu", rd, rs1, imm.value()),
-            Instr::Xori { rd, rs1, imm } => number(f, "xori", rd, rs1, imm.value()),
-            Instr::Ori { rd, rs1, imm } => number(f, "ori", rd, rs1, imm.value()),
-            Instr::Andi { rd, rs1, imm } => number(f, "andi", rd, rs1, imm.value()),
-            Instr::Slli { rd, rs1, amount } => shift(f, "slli", rd, rs1, amount),
-            Instr::Srli { rd, rs1, amount } => shift(f, "srli", rd, rs1, amount),
-            Instr::Srai { rd, rs1, amount } => shift(f, "srai", rd, rs1, amount),
-            Instr::Add { rd, rs1, rs2 } => registers(f, "add", rd, rs1, rs2),
-            Instr::Sub { rd, rs1, rs2 } => registers(f, "sub", rd, rs1, rs2),
-            Instr::Sll { rd, rs1, rs2 } => registers(f, "sll", rd, rs1, rs2),
-            Instr::Slt { rd, rs1, rs2 } => registers(f, "slt", rd, rs1, rs2),
-            Instr::Sltu { rd, rs1, rs2 } => registers(f, "sltu", rd, rs1, rs2),
-            Instr::Xor { rd, rs1, rs2 } => registers(f, "xor", rd, rs1, rs2),
-            Instr::Srl { rd, rs1, rs2 } => registers(f, "srl", rd, rs1, rs2),
-            Instr::Sra { rd, rs1, rs2 } => registers(f, "sra", rd, rs1, rs2),
-            Instr::Or { rd, rs1, rs2 } => registers(f, "or", rd, rs1, rs2),
-            Instr::And { rd, rs1, rs2 } => registers(f, "and", rd, rs1, rs2),
-            Instr::Mul { rd, rs1, rs2 } => registers(f, "mul", rd, rs1, rs2),
-            Instr::Mulh { rd, rs1, rs2 } => registers(f, "mulh", rd, rs1, rs2),
-            Instr::Mulhsu { rd, rs1, rs2 } => registers(f, "mulhsu", rd, rs1, rs2),
-            Instr::Mulhu { rd, rs1, rs2 } => registers(f, "mulhu", rd, rs1, rs2),
-            Instr::Div { rd, rs1, rs2 } => registers(f, "div", rd, rs1, rs2),
-            Instr::Divu { rd, rs1, rs2 } => registers(f, "divu", rd, rs1, rs2),
-            Instr::Rem { rd, rs1, rs2 } => registers(f, "rem", rd, rs1, rs2),
-            Instr::Remu { rd, rs1, rs2 } => registers(f, "remu", rd, rs1, rs2),
-            Instr::Fence => f.write_str("fence"),
-            Instr::Ecall => f.write_str("ecall"),
-            Instr::Ebreak => f.write_str("ebreak"),
-        }
+        let (op, operands) = self.parts();
+        write!(f, "{op}{operands}")
     }
 }
 
-/// `op rd,rs1,rs2`.
-fn registers<W: fmt::Write>(
-    f: &mut fmt::Formatter<W>,
-    op: &str,
-    rd: Reg,
-    rs1: Reg,
-    rs2: Reg,
-) -> fmt::Result
-    ensures { WritesOnOk W.write_str_gives f.old result (with_registers op.now rd rs1 rs2) f.new }
-{
-    write!(f, "{op} {rd},{rs1},{rs2}")
-}
+/// What `{}` writes.
+impl fmt::Debug for Instr {
+    ghost debug_output = { λ i. Some (text_of i) };
 
-/// `op a,b,number`: an operation with an immediate, or a branch.
-fn number<W: fmt::Write>(
-    f: &mut fmt::Formatter<W>,
-    op: &str,
-    a: Reg,
-    b: Reg,
-    number: i32,
-) -> fmt::Result
-    ensures { WritesOnOk W.write_str_gives f.old result (with_number op.now a b number) f.new }
-{
-    write!(f, "{op} {a},{b},{number}")
-}
-
-/// `op rd,rs1,amount`.
-fn shift<W: fmt::Write>(
-    f: &mut fmt::Formatter<W>,
-    op: &str,
-    rd: Reg,
-    rs1: Reg,
-    amount: ShiftAmount,
-) -> fmt::Result
-    ensures { WritesOnOk W.write_str_gives f.old result (with_amount op.now rd rs1 amount) f.new }
-{
-    let amount = amount.value();
-    write!(f, "{op} {rd},{rs1},{amount}")
-}
-
-/// `op register,imm(rs1)`.
-fn address<W: fmt::Write>(
-    f: &mut fmt::Formatter<W>,
-    op: &str,
-    register: Reg,
-    rs1: Reg,
-    imm: Immediate,
-) -> fmt::Result
-    ensures { WritesOnOk W.write_str_gives f.old result (with_address op.now register rs1 imm) f.new }
-{
-    let imm = imm.value();
-    write!(f, "{op} {register},{imm}({rs1})")
-}
-
-/// `op rd,0x` and the upper bits.
-fn upper<W: fmt::Write>(f: &mut fmt::Formatter<W>, op: &str, rd: Reg, imm: Upper) -> fmt::Result
-    ensures { WritesOnOk W.write_str_gives f.old result (with_upper op.now rd imm) f.new }
-{
-    let imm = imm.value();
-    write!(f, "{op} {rd},0x{imm:x}")
+    fn fmt<W: fmt::Write>(&self, f: &mut fmt::Formatter<W>) -> fmt::Result {
+        fmt::Display::fmt(self, f)
+    }
 }

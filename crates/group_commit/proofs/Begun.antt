@@ -19,10 +19,6 @@ end_within : (half : Bool) → end_of half ≤ 2097088
 end_within false = omega arith
 end_within true = omega arith
 
-start_before : (half : Bool) → start_of half < end_of half
-start_before false = omega arith
-start_before true = omega arith
-
 byte_spaced : (at byte : ℕ) → at + 1 ≤ 2097152 → AreSpaced 2097152 (one_byte at byte)
 byte_spaced at byte le = (omega arith, omega arith, omega arith, refl, tt)
 

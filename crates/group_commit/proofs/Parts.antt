@@ -2,7 +2,7 @@
 use Rattle.std.proofs.Common.{◌≡◌, ℕ, zero, suc, ◌+◌, ◌<◌, ◌≤◌, min, Bool, true, false, List, [], ◌∷◌, ◌++◌, length, take, drop, refl, sym, ap, ◌∙◌, append_assoc, arith, inl, inr}
 use Rattle.std.specs.Prelude.{◌==◌, ◌||◌, ◌&&◌, nat_le}
 use Rattle.std.proofs.lemmas.Bool.{cases_lt, false≢true, le-leb}
-use Rattle.std.proofs.lemmas.List.{take_all, drop_all, append-nil, length-drop, length-take}
+use Rattle.std.proofs.lemmas.List.{take_all, drop_all, length-drop, length-take}
 use Rattle.disk_model.specs.declared.change.Piece.{Piece}
 use Rattle.disk_model.specs.Storage.{pieces, pieces_from}
 use Rattle.simdisk.specs.Room.{is_apart, AreSpaced}
@@ -49,15 +49,6 @@ pieces_more size out at n rest total some one e so_far =
     ∙ ap (λ (l : List ℕ). out ++ (part at l ∷ pieces_from (length (drop n rest)) size (at + size) (drop n rest))) m.0
     ∙ ap (λ (l : List ℕ). out ++ (part at (take size rest) ∷ pieces_from (length l) size (at + size) l)) m.1
     ∙ ap (λ (l : List Piece). out ++ l) (sym (first_piece size at rest some one)) ∙ so_far
-
-no_pieces : (size at : ℕ) (rest : List ℕ) → length rest ≤ 0 → pieces_from (length rest) size at rest ≡ []
-no_pieces size at [] none = refl
-no_pieces size at (x ∷ rest) none = absurd (omega arith)
-
--- no more pieces
-pub pieces_end : (size : ℕ) (out : List Piece) (at : ℕ) (rest : List ℕ) (total : List Piece) → length rest ≤ 0 → out ++ pieces_from (length rest) size at rest ≡ total → out ≡ total
-pieces_end size out at rest total none so_far =
-    sym (append-nil out) ∙ ap (λ (l : List Piece). out ++ l) (sym (no_pieces size at rest none)) ∙ so_far
 
 -- a test for 0 that failed
 pub some_of : (b : Bool) (n : ℕ) → b ≡ (n == 0) → b ≡ false → 0 < n

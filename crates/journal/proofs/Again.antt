@@ -12,9 +12,9 @@ use Rattle.disk_model.specs.declared.change.Change.TheVariants.{Create, Write, E
 use Rattle.disk_model.specs.declared.change.NamedFile.{NamedFile}
 use Rattle.disk_model.specs.Files.{IsFormed, IsNameByte, MayCome, Follow, changed, files_after}
 use Rattle.disk_model.specs.Spelling.{spelling, body_of}
-use Rattle.files.specs.Names.{is_same, one_further, place_of}
 use Rattle.journal.specs.declared.fault.DiskFault.{DiskFault}
-use Rattle.journal.specs.Reading.{◌>>=◌, number_at, text_at, create_at, write_at, empty_at, change_at, changes_at, all_changed, may_come, is_name_byte, all_name_bytes}
+use Rattle.journal.proofs.Names.{none_found}
+use Rattle.journal.specs.Reading.{◌>>=◌, number_at, text_at, create_at, write_at, empty_at, change_at, changes_at, all_changed, is_unnamed, may_come, is_name_byte, all_name_bytes}
 
 text_again : (text rest : List ℕ) → text_at (length text) (text ++ rest) ≡ Ok (text, rest)
 text_again text rest =
@@ -107,27 +107,9 @@ changes_again (c ∷ cs) (suc n) f le =
     ∙ ap (λ (r : Result (Change × List ℕ) DiskFault). r >>= λ first. changes_at n first.1 >>= λ others. Ok (first.0 ∷ others)) (change_again c (body_of cs) f.0)
     ∙ ap (λ (r : Result (List Change) DiskFault). r >>= λ others. Ok (c ∷ others)) (changes_again cs n f.1 (omega arith))
 
-is_same_true : (a b : List ℕ) → is_same a b ≡ true → a ≡ b
-is_same_true [] [] h = refl
-is_same_true [] (b ∷ bs) h = absurd cc
-is_same_true (x ∷ xs) [] h = absurd cc
-is_same_true (x ∷ xs) (b ∷ bs) h =
-    let p = and_parts (x == b) (is_same xs bs) h in
-    let head = eqb-true x b p.0 in let tail = is_same_true xs bs p.1 in cc
-
-none_further : (o : Option ℕ) → is_none o ≡ true → is_none (one_further o) ≡ true
-none_further None h = refl
-none_further (Some i) h = absurd cc
-
-none_has : (files : List NamedFile) (name : List ℕ) → AllByRecursion (λ (f : NamedFile). f.name ≡ name → ⊥) files → is_none (place_of files name) ≡ true
-none_has [] name h = refl
-none_has (f ∷ fs) name h = elim (is_same f.name name) as (λ b. is_same f.name name ≡ b → is_none (cond b (Some 0) (one_further (place_of fs name))) ≡ true) [
-  | true ↦ λ e. absurd (h.0 (is_same_true f.name name e))
-  | false ↦ λ e. none_further (place_of fs name) (none_has fs name h.1)
-] refl
-
 pub may_true : (files : List NamedFile) (c : Change) → MayCome files c → may_come files c ≡ true
-may_true files (Create name) m = and_true (is_none (place_of files name)) (nat_lt (length files) 32) (none_has files name m.0) (lt_true (length files) 32 m.1)
+may_true files (Create name) m =
+    and_true (is_unnamed files name) (nat_lt (length files) 32) (none_found files name m.0) (lt_true (length files) 32 m.1)
 may_true files (Write n offset bytes) m = and_true (nat_lt n (length files)) (nat_le (offset + length bytes) 16384) (lt_true n (length files) m.0) (le_true (offset + length bytes) 16384 m.1)
 may_true files (Empty n) m = lt_true n (length files) m
 

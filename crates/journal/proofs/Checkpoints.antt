@@ -3,7 +3,7 @@ use Rattle.std.proofs.Common.{◌≡◌, ℕ, zero, suc, ◌+◌, ◌<◌, ◌�
 use Rattle.std.specs.Prelude.{◌==◌, Bool, false}
 use Rattle.std.specs.List.{AllByRecursion}
 use Rattle.std.proofs.lemmas.Bool.{cases_lt, false≢true}
-use Rattle.std.proofs.lemmas.List.{take_all, drop_all, drop_more, append-nil, length-drop}
+use Rattle.std.proofs.lemmas.List.{take_all, drop_all, drop_more, length-drop}
 use Rattle.disk_model.specs.declared.change.Change.{Change}
 use Rattle.disk_model.specs.declared.change.Change.TheVariants.{Create, Write}
 use Rattle.disk_model.specs.declared.change.NamedFile.{NamedFile}
@@ -46,15 +46,6 @@ writes_more size out file offset n rest total some one e so_far =
     ∙ ap (λ (l : List ℕ). out ++ (Write file offset (take size rest) ∷ writes_from (length l) size file (offset + size) l)) m.1
     ∙ ap (λ (l : List Change). out ++ l) (sym (first_write size file offset rest some one)) ∙ so_far
 
-no_writes : (size file offset : ℕ) (rest : List ℕ) → length rest ≤ 0 → writes_from (length rest) size file offset rest ≡ []
-no_writes size file offset [] none = refl
-no_writes size file offset (x ∷ rest) none = absurd (omega arith)
-
--- no more writes
-pub writes_end : (size : ℕ) (out : List Change) (file offset : ℕ) (rest : List ℕ) (total : List Change) → length rest ≤ 0 → out ++ writes_from (length rest) size file offset rest ≡ total → out ≡ total
-writes_end size out file offset rest total none so_far =
-    sym (append-nil out) ∙ ap (λ (l : List Change). out ++ l) (sym (no_writes size file offset rest none)) ∙ so_far
-
 pub file_first : (files : List NamedFile) → [] ++ rebuild_from 0 (drop 0 files) ≡ rebuild files
 unfolding rebuild
 file_first files = refl
@@ -67,11 +58,6 @@ file_more out files i d total lt so_far =
     ap (λ (l : List Change). l ++ rebuild_from (i + 1) (drop (i + 1) files)) (append_assoc out (Create (get_or files i d).name ∷ []) (writes_from (length (get_or files i d).bytes) 1024 i 0 (get_or files i d).bytes))
     ∙ append_assoc out (changes_making i (get_or files i d)) (rebuild_from (i + 1) (drop (i + 1) files))
     ∙ ap (λ (l : List NamedFile). out ++ rebuild_from i l) (sym (drop_more files i d lt)) ∙ so_far
-
--- no more files
-pub file_end : (out : List Change) (files : List NamedFile) (i : ℕ) (total : List Change) → length files ≤ i → out ++ rebuild_from i (drop i files) ≡ total → out ≡ total
-file_end out files i total ge so_far =
-    sym (append-nil out) ∙ ap (λ (l : List NamedFile). out ++ rebuild_from i l) (sym (drop_all i files ge)) ∙ so_far
 
 -- each file is short
 pub short_at : (files : List NamedFile) (i : ℕ) (d : NamedFile) → AllByRecursion (λ (f : NamedFile). length f.bytes ≤ 16384) files → i < length files → length (get_or files i d).bytes ≤ 16384

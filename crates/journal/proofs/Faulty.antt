@@ -29,9 +29,6 @@ fails d = Err d
 ok_err : {A : Type 0} (x : A) (d : DiskFault) → Ok x ≡ fails d → ⊥
 ok_err x d e = cc
 
-err_is : {A : Type 0} (c d : DiskFault) → fails {A = A} c ≡ fails d → c ≡ d
-err_is c d e = cc
-
 bind_err : {A B : Type 0} (r : Result A DiskFault) (f : A → Result B DiskFault) (d : DiskFault) → (r >>= f) ≡ Err d → (r ≡ Err d) ⊎ ((x : A) × (r ≡ Ok x) × (f x ≡ Err d))
 bind_err (Ok x) f d e = inr (x, refl, e)
 bind_err (Err c) f d e = inl cc

@@ -12,34 +12,20 @@ use Rattle.disk_model.specs.declared.change.NamedFile.{NamedFile}
 use Rattle.disk_model.specs.Files.{IsFormed, MayCome, Follow, changed, files_after}
 use Rattle.disk_model.specs.Spelling.{body_of, sized_body, gate_behind}
 use Rattle.disk_model.specs.Held.{IsRecord, Records, joined, Reads, IsHeldTo, selected_half, start_of, end_of}
-use Rattle.files.specs.Names.{is_same, one_further, place_of}
 use Rattle.journal.specs.declared.fault.DiskFault.{DiskFault}
 use Rattle.journal.specs.declared.fault.DiskFault.TheVariants.{BadRecord, BadChange, PastHalf, OutOfMemory}
-use Rattle.journal.specs.Reading.{◌>>=◌, body_at, changes_at, all_changed, may_come, step_at, record_at, records_at, opened, on_some, selected, recovered, Fails}
+use Rattle.journal.specs.Reading.{◌>>=◌, body_at, changes_at, all_changed, is_unnamed, may_come, step_at, record_at, records_at, opened, on_some, selected, recovered, Fails}
+use Rattle.journal.proofs.Names.{none_has}
 use Rattle.journal.proofs.Found.{IsBytes, bytes_drop, bytes_take, bind_ok, guard_ok, test_ok, ok_is, changes_takes}
 use Rattle.journal.proofs.Whole.{tail, tail_cons, half_facts, held_read}
 
 abbrev pub done : {A : Type 0} → A → Result A DiskFault
 done x = Ok x
 
-same_refl : (a : List ℕ) → is_same a a ≡ true
-same_refl [] = refl
-same_refl (x ∷ xs) = let h : (x == x) ≡ true = eq-eqb x x refl in let t = same_refl xs in rw (h, t) refl
-
-place_parts : (b : Bool) (o : Option ℕ) → is_none (cond b (Some 0) (one_further o)) ≡ true → (b ≡ false) × (is_none o ≡ true)
-place_parts true o e = absurd cc
-place_parts false None e = (refl, refl)
-place_parts false (Some i) e = absurd cc
-
-none_is : (files : List NamedFile) (name : List ℕ) → is_none (place_of files name) ≡ true → AllByRecursion (λ (f : NamedFile). f.name ≡ name → ⊥) files
-none_is [] name h = tt
-none_is (f ∷ fs) name h =
-    let p = place_parts (is_same f.name name) (place_of fs name) h in
-    ((λ e. false≢true (sym p.0 ∙ ap (is_same f.name) (sym e) ∙ same_refl f.name)), none_is fs name p.1)
-
 may_is : (files : List NamedFile) (c : Change) → may_come files c ≡ true → MayCome files c
 may_is files (Create name) h =
-    let p = and_parts (is_none (place_of files name)) (nat_lt (length files) 32) h in (none_is files name p.0, ltb-true (length files) 32 p.1)
+    let p = and_parts (is_unnamed files name) (nat_lt (length files) 32) h in
+    (none_has files name p.0, ltb-true (length files) 32 p.1)
 may_is files (Write n offset bytes) h = let p = and_parts (nat_lt n (length files)) (nat_le (offset + length bytes) 16384) h in (ltb-true n (length files) p.0, leb-true (offset + length bytes) 16384 p.1)
 may_is files (Empty n) h = ltb-true n (length files) h
 

@@ -3,6 +3,7 @@ pub mod Bodies
 pub mod Checkpoints
 pub mod Loop
 pub mod Gates
+pub mod Names
 pub mod Again
 pub mod Whole
 pub mod Found

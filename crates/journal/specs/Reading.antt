@@ -1,12 +1,13 @@
 -- Reading a half from left to right, with the first fault that is met. Only the private functions of this crate speak of it.
 use Rattle.std.specs.Prelude.{◌≡◌, ℕ, zero, suc, ◌+◌, ◌&&◌, List, [], ◌∷◌, length, take, drop, Option, Some, None, Result, Ok, Err, nat_lt, nat_le, is_none, slice_index, ◌==◌, not, Bool, true, if◌then◌else◌}
 use Rattle.std.specs.Int.{Width, w16, w32, byte_len, from_le_bytes}
+use Rattle.std.specs.List.{position}
+use Rattle.std.specs.Str.{bytes_eq}
 use Rattle.disk_model.specs.declared.change.Change.{Change}
 use Rattle.disk_model.specs.declared.change.Change.TheVariants.{Create, Write, Empty}
 use Rattle.disk_model.specs.declared.change.NamedFile.{NamedFile}
 use Rattle.disk_model.specs.Files.{changed}
 use Rattle.disk_model.specs.Held.{selected_half, start_of, end_of}
-use Rattle.files.specs.Names.{place_of}
 use Rattle.journal.specs.declared.fault.DiskFault.{DiskFault}
 use Rattle.journal.specs.declared.fault.DiskFault.TheVariants.{PastHalf, BadRecord, BadChange, OutOfMemory}
 
@@ -85,9 +86,13 @@ changes_at (suc n) (b ∷ bytes) = do
   others ← changes_at n first.1
   Ok (first.0 ∷ others)
 
+-- no file has this name
+unfoldable pub is_unnamed : List NamedFile → List ℕ → Bool
+is_unnamed files name = is_none (position (λ (f : NamedFile). bytes_eq f.name name) files)
+
 -- the change is possible with these files
 abbrev pub may_come : List NamedFile → Change → Bool
-may_come files (Create name) = is_none (place_of files name) && nat_lt (length files) 32
+may_come files (Create name) = is_unnamed files name && nat_lt (length files) 32
 may_come files (Write place offset bytes) = nat_lt place (length files) && nat_le (offset + length bytes) 16384
 may_come files (Empty place) = nat_lt place (length files)
 

@@ -1,6 +1,6 @@
 //! Reading the records of a half.
 ghost use Rattle.std.specs.Prelude.{◌≡◌, [], length, option_map, None, IsOk};
-ghost use Rattle.journal.specs.Reading.{Gives, GivesNew, GivesBoth, step_at, all_changed, record_at, records_at, opened};
+ghost use Rattle.journal.specs.Reading.{is_unnamed, Gives, GivesNew, GivesBoth, step_at, all_changed, record_at, records_at, opened};
 
 use crate::fault::DiskFault;
 use crate::reading::{body_in, changes_of};
@@ -14,13 +14,21 @@ const MOST_FILES: usize = 32;
 /// How many bytes a file may have.
 const LONGEST_FILE: usize = 16384;
 
+/// Whether no file has this name.
+#[tactic(auto, unfolding(crate::specs::Reading::is_unnamed))]
+fn is_unnamed(files: &FileTable, name: &[u8]) -> bool
+    ensures { result ≡ is_unnamed files.now name.now }
+{
+    files.find(name).is_none()
+}
+
 /// Does a change, where it is possible.
 fn apply(alloc: Global, files: &mut FileTable, change: &Change) -> Result<(), DiskFault>
     ensures { GivesNew result files.new (step_at files.old change.now) }
 {
     match change {
         Change::Create(name) => {
-            if files.find(name.as_slice()).is_some() || files.count() >= MOST_FILES {
+            if !is_unnamed(files, name.as_slice()) || files.count() >= MOST_FILES {
                 return Err(DiskFault::BadChange);
             }
             Ok(files.create(name.try_clone(alloc)?)?)

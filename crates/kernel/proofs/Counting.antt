@@ -1,15 +1,10 @@
 -- How many instructions a core counts is how many its Turns ran, and a u64 holds it.
 use Rattle.std.proofs.Common.{◌≡◌, ℕ, zero, suc, ◌+◌, ◌*◌, ◌^◌, ◌<◌, ◌≤◌, Bool, true, false, if◌then◌else◌, List, [], ◌∷◌, ◌++◌, length, map, slice_get, slice_set, Option, Some, None, is_some, Result, Ok, Err, refl, sym, ap, subst, ◌∙◌, arith, append_assoc, length-append}
 use Rattle.std.specs.Prelude.{IfOk, OnOk, OnErr}
-use Rattle.formats.specs.Table.{instr_of}
-use Rattle.formats.specs.declared.instr.Instr.{Instr}
-use Rattle.machine_model.specs.Access.{fetched}
-use Rattle.machine_model.specs.Effects.{Effect, Becomes, Stands, effect}
-use Rattle.machine_model.specs.States.{State, Stepped, Goes, Halts, Ran, state, ran as ran_to, counted, by_instr, by_fetch, next, run, stands_at}
-use Rattle.machine_model.specs.declared.access.BusFault.{BusFault}
+use Rattle.machine_model.specs.States.{State, Stepped, Goes, Halts, Ran, state, ran as ran_to, next, run, stands_at}
 use Rattle.machine_model.specs.declared.stop.Stop.{Stop}
 use Rattle.machine_model.specs.declared.stop.Stop.TheVariants.{Limit, Call, Trap}
-use Rattle.machine.proofs.Running.{run-zero, run-goes, run-halts}
+use Rattle.machine_model.proofs.Running.{run-zero, run-goes, run-halts, next-count}
 use Rattle.kernel_model.specs.Answers.{Kernel, Applies, AllAccepted, refusal, turn_refusal, ran_by, now, is_lent, is_full, with_event}
 use Rattle.kernel_model.specs.Loans.{events_of}
 use Rattle.kernel_model.specs.Ran.{instructions_of, instructions_in, instructions_from}
@@ -24,8 +19,8 @@ use Rattle.kernel_model.specs.declared.event.Event.{Event}
 use Rattle.kernel_model.specs.declared.event.Event.TheVariants.{Turn, Enter, Cut, Complete, Fail}
 use Rattle.kernel_model.specs.declared.request.Verdict.{Verdict}
 use Rattle.kernel_model.specs.declared.request.Verdict.TheVariants.{Waits, Replies, Ends}
+use Rattle.kernel_model.proofs.ChildRows.{IsNoneOrNextProcess, call_next}
 use Rattle.kernel_model.proofs.Runs.{after-append, append-nil, now-with_event}
-use Rattle.kernel_laws.proofs.Children.{IsNext, call_next}
 use Rattle.kernel.specs.Booting.{program_of}
 use Rattle.kernel.specs.Cores.{boot_of, run_of, kernel_of, IsCore}
 use Rattle.kernel.specs.Counted.{ran_in, done_by, IsCounted}
@@ -46,22 +41,6 @@ use Rattle.kernel.proofs.SettleCore.{process-in, IsTakenOf}
 use Rattle.kernel.proofs.SettleWorld.{run-reaches}
 
 -- ---- a run counts what it does
-effect-counts : (s t : State) (e : Effect) → counted s.count e ≡ Goes t → t.count ≡ s.count + 1
-effect-counts s t (Becomes h) e = let same : state h (s.count + 1) ≡ t = cc in sym (ap (λ (x : State). x.count) same)
-effect-counts s t (Stands stop) e = cc
-
-instr-counts : (s t : State) (o : Option Instr) → by_instr s o ≡ Goes t → t.count ≡ s.count + 1
-instr-counts s t None e = cc
-instr-counts s t (Some i) e = effect-counts s t (effect i s.hart) e
-
-fetch-counts : (s t : State) (r : Result ℕ BusFault) → by_fetch s r ≡ Goes t → t.count ≡ s.count + 1
-fetch-counts s t (Err fault) e = cc
-fetch-counts s t (Ok word) e = instr-counts s t (instr_of word) e
-
-next-counts : (s t : State) → next s ≡ Goes t → t.count ≡ s.count + 1
-unfolding next
-next-counts s t e = fetch-counts s t (fetched s.hart.memory s.hart.pc) e
-
 pub run-counts : (n : ℕ) (s : State) → (run n s).state.count ≡ s.count + (run n s).count
 run-counts zero s =
     let none : (run zero s).count ≡ 0 = ap (λ (r : Ran). r.count) (run-zero s) in
@@ -75,7 +54,7 @@ run-counts (suc n) s = by (λ t. run-counts n t) (next s) refl
         let one : (run (suc n) s).count ≡ 1 + (run n t).count = ap (λ (r : Ran). r.count) (run-goes n s t e) in
         let same : (run (suc n) s).state.count ≡ (run n t).state.count = ap (λ (r : Ran). r.state.count) (run-goes n s t e) in
         let rest : (run n t).state.count ≡ t.count + (run n t).count = onward t in
-        let more : t.count ≡ s.count + 1 = next-counts s t e in
+        let more : t.count ≡ s.count + 1 = next-count s t e in
         omega (arith, one, same, rest, more)
     by onward (Halts why) e =
         let none : (run (suc n) s).count ≡ 0 = ap (λ (r : Ran). r.count) (run-halts n s why e) in
@@ -158,11 +137,11 @@ event-done k (Complete at) fine = omega arith
 event-done k (Fail at) fine = omega arith
 
 -- ---- how many processes there are after it
-forked-few : (p : Process) (count : ℕ) (o : Option ℕ) → IsNext count o → count ≤ most_processes → count + length (forked p o) ≤ most_processes
+forked-few : (p : Process) (count : ℕ) (o : Option ℕ) → IsNoneOrNextProcess count o → count ≤ most_processes → count + length (forked p o) ≤ most_processes
 forked-few p count None next few = omega arith
 forked-few p count (Some child) next few = omega (arith, next)
 
-effect-few : (s : SyncState) (pid : ℕ) (p : Process) (e : Row) (v : Verdict) → IsNext (length s.processes) e.child → length s.processes ≤ most_processes
+effect-few : (s : SyncState) (pid : ℕ) (p : Process) (e : Row) (v : Verdict) → IsNoneOrNextProcess (length s.processes) e.child → length s.processes ≤ most_processes
     → length (after_effect s pid p e v).state.processes ≤ most_processes
 effect-few s pid p e Waits next few = few
 effect-few s pid p e (Replies r) next few =

@@ -4,8 +4,7 @@ use Rattle.std.specs.List.{AllByRecursion}
 use Rattle.calls.specs.Plans.{NamesFiles, MayAllStep, all_seen}
 use Rattle.calls.specs.declared.plan.Plan.{Plan}
 use Rattle.pipes.specs.Seen.{Seen, Shows}
-use Rattle.pipes.specs.Stepping.{HasAtMost, seen_after}
-use Rattle.pipes.proofs.Showing.{shows-next, grow-by-one}
+use Rattle.pipes.specs.Stepping.{HasAtMost, MayStep, seen_after}
 use Rattle.processes.specs.Parts.{Part, part_of, part_at, with_part}
 use Rattle.kernel_model.specs.Entries.{Entry}
 use Rattle.kernel_model.specs.State.{Process, PipeState, process_at, put_process, changed_by, stepped, all_stepped}
@@ -66,29 +65,34 @@ parts-planned w parts parts' pid p plan h there named is =
     }
 
 -- ---- the pipes
-shows-all : (pipes : List PipeState) (seen : List Seen) (steps : List PipeStep) → Shows pipes seen → MayAllStep seen steps
+-- the laws of a step of a pipe: what is seen of the pipes after it, and that it adds at most one descriptor to an end
+pub record PipeLaws : Type 0 where
+  pub shown : (pipes : List PipeState) (seen : List Seen) (step : PipeStep) → Shows pipes seen → MayStep seen step → Shows (stepped pipes step) (seen_after seen step)
+  pub grown : (n : ℕ) (pipes : List PipeState) (step : PipeStep) → AllByRecursion (HasAtMost n) pipes → AllByRecursion (HasAtMost (n + 1)) (stepped pipes step)
+
+shows-all : PipeLaws → (pipes : List PipeState) (seen : List Seen) (steps : List PipeStep) → Shows pipes seen → MayAllStep seen steps
     → Shows (all_stepped pipes steps) (all_seen seen steps)
-shows-all pipes seen [] h may = h
-shows-all pipes seen (step ∷ steps) h may = shows-all (stepped pipes step) (seen_after seen step) steps (shows-next pipes seen step h may.0) may.1
+shows-all laws pipes seen [] h may = h
+shows-all laws pipes seen (step ∷ steps) h may = shows-all laws (stepped pipes step) (seen_after seen step) steps (laws.shown pipes seen step h may.0) may.1
 
 few-more : (n m : ℕ) (pipes : List PipeState) → n ≤ m → AllByRecursion (HasAtMost n) pipes → AllByRecursion (HasAtMost m) pipes
 few-more n m [] more h = tt
 few-more n m (p ∷ ps) more h = ((omega (arith, more, h.0.0), omega (arith, more, h.0.1)), few-more n m ps more h.1)
 
-few-all : (n m : ℕ) (pipes : List PipeState) (steps : List PipeStep) → n + length steps ≤ m → AllByRecursion (HasAtMost n) pipes
+few-all : PipeLaws → (n m : ℕ) (pipes : List PipeState) (steps : List PipeStep) → n + length steps ≤ m → AllByRecursion (HasAtMost n) pipes
     → AllByRecursion (HasAtMost m) (all_stepped pipes steps)
-few-all n m pipes [] room h = few-more n m pipes (omega (arith, room)) h
-few-all n m pipes (step ∷ steps) room h = few-all (n + 1) m (stepped pipes step) steps (omega (arith, room)) (grow-by-one n pipes step h)
+few-all laws n m pipes [] room h = few-more n m pipes (omega (arith, room)) h
+few-all laws n m pipes (step ∷ steps) room h = few-all laws (n + 1) m (stepped pipes step) steps (omega (arith, room)) (laws.grown n pipes step h)
 
-pub pipes-planned : (w : World) (seen : List Seen) (steps : List PipeStep) (t : Transition) → t.state.pipes ≡ all_stepped w.sync.pipes steps
+pub pipes-planned : PipeLaws → (w : World) (seen : List Seen) (steps : List PipeStep) (t : Transition) → t.state.pipes ≡ all_stepped w.sync.pipes steps
     → length steps ≤ 16 → MayAllStep seen steps → ArePipes w seen → ArePipes (world_after w t) (all_seen seen steps)
-pipes-planned w seen steps t is few may h =
+pipes-planned laws w seen steps t is few may h =
     let longer : length (w.log ++ t.entry ∷ []) ≡ length w.log + 1 = length-snoc w.log t.entry in
     record {
-      shown = subst (λ (ps : List PipeState). Shows ps (all_seen seen steps)) (sym is) (shows-all w.sync.pipes seen steps h.shown may);
+      shown = subst (λ (ps : List PipeState). Shows ps (all_seen seen steps)) (sym is) (shows-all laws w.sync.pipes seen steps h.shown may);
       few =
           subst (λ (ps : List PipeState). AllByRecursion (HasAtMost (16 * length (w.log ++ t.entry ∷ []))) ps) (sym is)
-          (few-all (16 * length w.log) (16 * length (w.log ++ t.entry ∷ [])) w.sync.pipes steps (omega (arith, few, longer)) h.few);
+          (few-all laws (16 * length w.log) (16 * length (w.log ++ t.entry ∷ [])) w.sync.pipes steps (omega (arith, few, longer)) h.few);
     }
 
 -- ---- an event that touches neither

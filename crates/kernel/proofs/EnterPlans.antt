@@ -6,7 +6,7 @@ use Rattle.machine_model.specs.States.{State, stands_at, next, by_step, Stepped,
 use Rattle.machine_model.specs.declared.stop.Stop.{Stop}
 use Rattle.machine_model.specs.declared.stop.Stop.TheVariants.{Limit, Call, Trap}
 use Rattle.machine_model.specs.declared.stop.Cause.{Cause}
-use Rattle.machine.proofs.Keeping.{next-not_limit}
+use Rattle.machine_model.proofs.Halting.{next-not_limit}
 use Rattle.calls.specs.Plans.{IsPlan, IsPossible, NamesFiles, AreLeft, AtMostOneEntry, OpensAlone, MayBePlaced, EditsAs, EditsPipesAlone, IsNext, MayAllStep}
 use Rattle.calls.specs.Shares.{IsKept}
 use Rattle.calls.specs.declared.plan.Plan.{Plan}

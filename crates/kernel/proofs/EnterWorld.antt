@@ -40,7 +40,7 @@ use Rattle.kernel.specs.declared.shared.Shared.{Shared}
 use Rattle.kernel.specs.declared.task.Task.{Task}
 use Rattle.kernel.specs.declared.trace.Trace.{Trace}
 use Rattle.kernel.proofs.EnterFine.{IsFineTask}
-use Rattle.kernel.proofs.EnterParts.{parts-planned, pipes-planned, counted-quiet}
+use Rattle.kernel.proofs.EnterParts.{PipeLaws, parts-planned, pipes-planned, counted-quiet}
 use Rattle.kernel.proofs.EnterPlans.{part-seen}
 use Rattle.kernel.proofs.EnterTasks.{world_after, told-tasks, told-by-one}
 use Rattle.kernel.proofs.Lists.{get-within, get-set, map-set-same, length-map, map-append, all-at, all-both}
@@ -55,6 +55,11 @@ RebuiltLaw = (files : List NamedFile) → IsMade files → CanBeRebuilt files
 -- files that possible changes made are such files still after one more
 abbrev pub ChangeLaw : Type 0
 ChangeLaw = (files : List NamedFile) (change : Change) → IsMade files → IsFormed change → MayCome files change → IsMade (changed files change)
+
+-- the laws by which the parts follow an Enter: of the files, and of the pipes
+pub record EnterLaws : Type 0 where
+  pub changes : ChangeLaw
+  pub pipes : PipeLaws
 
 -- ---- what the plan rests on
 pub sight-is : (w : World) (tasks : List Task) (s : Shared) → Mirrors w tasks s → IsSightOf w.sync (seen_of s)
@@ -173,11 +178,11 @@ made-lending number mark c s t (Some u) ls made =
     ∙ ap (λ (o : Option ℕ). ls ++ record { loans = 0; out = o } ∷ []) made.1.out
     ∙ ap (λ (x : Option ℕ). with_child ls x) (sym made.0)
 
-pub done-runs : ChangeLaw → (w : World) (tasks : List Task) (s s' : Shared) (pid place : ℕ) (full : Bool) (t t' : Task) (outcome : Outcome) (child : Option Task)
+pub done-runs : EnterLaws → (w : World) (tasks : List Task) (s s' : Shared) (pid place : ℕ) (full : Bool) (t t' : Task) (outcome : Outcome) (child : Option Task)
     → Mirrors w tasks s → pid ≡ place + 1 → slice_get tasks place ≡ Some t → IsFineTask t full
     → IsDone pid t t' s s' outcome child
     → IsRun w pid tasks (slice_set tasks place t' ++ option_to_list child) s' outcome
-done-runs law w tasks s s' pid place full t t' outcome child h number there fine done =
+done-runs laws w tasks s s' pid place full t t' outcome child h number there fine done =
     let plan : Plan = done.plan in
     let x : Entry = entry_of pid plan in
     let of : IsProcessOf w.sync.processes pid t = process-there w s.told tasks pid place t h.each number there in
@@ -198,7 +203,7 @@ done-runs law w tasks s s' pid place full t t' outcome child h number there fine
             (makes-told plan plan.told done.plans.edits) marked.0
             (subst (λ (c : ℕ). IsTold plan.told done.mark c s.told t t') committed done.told)
             (subst (λ (c : ℕ). MakesTask plan.child done.mark c (machine_of t) t.trace child) committed done.made) h.each);
-        changes = changes-more law w (planned w.sync pid of.process plan) s s' plan.change refl refl done.plans.possible done.shared.changes done.shared.files h.changes;
+        changes = changes-more laws.changes w (planned w.sync pid of.process plan) s s' plan.change refl refl done.plans.possible done.shared.changes done.shared.files h.changes;
         tapes = done.shared.tapes ∙ ap (λ (ts : List TapeState). read_by ts plan.tape) h.tapes;
         parts =
             parts-planned w s.processes.parts s'.processes.parts pid of.process plan h.parts of.there
@@ -207,7 +212,7 @@ done-runs law w tasks s s' pid place full t t' outcome child h number there fine
             done.shared.parts;
         pipes =
             subst (λ (y : List Seen). ArePipes v y) (sym done.shared.pipes)
-            (pipes-planned w s.pipes plan.pipes.items (planned w.sync pid of.process plan) refl done.plans.steps.few done.plans.may h.pipes);
+            (pipes-planned laws.pipes w s.pipes plan.pipes.items (planned w.sync pid of.process plan) refl done.plans.steps.few done.plans.may h.pipes);
         counted =
             counted-quiet w v s.told s'.told x refl
             (let one : told_after plan.told s.told ≤ s.told + 1 = told-by-one plan.told s.told in

@@ -2,7 +2,7 @@
 use Rattle.std.proofs.Common.{◌≡◌, ℕ, zero, suc, ◌+◌, ◌*◌, ◌^◌, ◌<◌, ◌≤◌, Bool, true, false, ◌||◌, not, if◌then◌else◌, List, [], ◌∷◌, ◌++◌, length, map, slice_get, slice_set, Option, Some, None, is_some, nat_lt, nat_le, refl, sym, ap, subst, ◌∙◌, arith}
 use Rattle.std.proofs.lemmas.Bool.{le-ltb, lt-leb}
 use Rattle.machine_model.specs.States.{State, Stepped, Goes, Halts, Ran, next, run, stands_at}
-use Rattle.machine.proofs.Running.{run-zero, run-goes, run-halts}
+use Rattle.machine_model.proofs.Running.{run-zero, run-goes, run-halts}
 use Rattle.kernel_model.specs.Answers.{Kernel, Lending, AllAccepted, refusal, turn_refusal, enter_refusal, first_of, ◌⇒◌, limit, is_full, lending_at, with_child, with_event}
 use Rattle.kernel_model.specs.Loans.{returned, events_of, put_lending, loans_in}
 use Rattle.kernel_model.specs.State.{Process, process_at, put_process}

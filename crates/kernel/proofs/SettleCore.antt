@@ -27,7 +27,7 @@ use Rattle.kernel.specs.declared.loan.Rejected.{Rejected}
 use Rattle.kernel.specs.declared.shared.Shared.{Shared}
 use Rattle.kernel.specs.declared.task.Task.{Task}
 use Rattle.kernel.proofs.EnterCore.{same-out, child-out}
-use Rattle.kernel.proofs.EnterWorld.{ChangeLaw, same-mirrors, same-lendings}
+use Rattle.kernel.proofs.EnterWorld.{EnterLaws, same-mirrors, same-lendings}
 use Rattle.kernel.proofs.FewLoans.{few-longer, few-same, few-put, few-at, few-child}
 use Rattle.kernel.proofs.Lists.{map-set, get-map, count-cons}
 use Rattle.kernel.proofs.SettleWorld.{run-reaches, back-mirrors, both-run}
@@ -143,17 +143,17 @@ turn-taken b history history' tasks s s' last place t u d a h number there of st
           (if is_some o then Some (outcome_after (kernel_of b history tasks last) d.pid d.count) else None)) stands);
     }
 
-pub enter-taken : ChangeLaw → (b : Booted) (history history' : List Event) (tasks new : List Task) (s s' : Shared) (last place : ℕ) (d : Done) (at : Stop) (a : Answer)
+pub enter-taken : EnterLaws → (b : Booted) (history history' : List Event) (tasks new : List Task) (s s' : Shared) (last place : ℕ) (d : Done) (at : Stop) (a : Answer)
     → IsCore b history tasks s → d.pid ≡ place + 1 → stands_at d.machine ≡ Some at
     → (e : IsCallSettled d place tasks new s s' a) → IsLoanOf e.task d → history' ≡ history ++ Turn d.pid d.count ∷ Enter d.pid ∷ []
     → IsTaken b history history' tasks new last place e.task e.after s' d a
-enter-taken law b history history' tasks new s s' last place d at a h number stands e of grown =
+enter-taken laws b history history' tasks new s s' last place d at a h number stands e of grown =
     let es = events-some d at stands in
     let w : World = run_of b history in
     let k : Kernel = kernel_of b history tasks last in
     let t : Task = e.task in
     let u : Task = e.after in
-    let both = both-run law w tasks s s' d.pid place d.count d.quantum d.machine t u e.outcome e.child h.mirrors number e.there of.out (reached t d of) d.room
+    let both = both-run laws w tasks s s' d.pid place d.count d.quantum d.machine t u e.outcome e.child h.mirrors number e.there of.out (reached t d of) d.room
     (ap (λ (x : Option Stop). is_some x) stands) e.entered in
     let done = e.entered.entered in
     let outcome : e.outcome ≡ outcome_after k d.pid d.count =
@@ -316,12 +316,12 @@ turn-result b history history' tasks s s' last place t u d (Ok a) h number there
 }
 turn-result b history history' tasks s s' last place t u d (Err e) h number there of stands back noted grown answer = tt
 
-pub enter-result : ChangeLaw → (b : Booted) (history history' : List Event) (tasks new : List Task) (s s' : Shared) (last place : ℕ) (t : Task) (d : Done) (at : Stop) (r : Result Answer Rejected)
+pub enter-result : EnterLaws → (b : Booted) (history history' : List Event) (tasks new : List Task) (s s' : Shared) (last place : ℕ) (t : Task) (d : Done) (at : Stop) (r : Result Answer Rejected)
     → IsCore b history tasks s → d.pid ≡ place + 1 → slice_get tasks place ≡ Some t → IsLoanOf t d → stands_at d.machine ≡ Some at
     → IfOk r (λ a. IsCallSettled d place tasks new s s' a)
     → OnOk r (history' ≡ history ++ Turn d.pid d.count ∷ Enter d.pid ∷ [])
     → IfOk r (λ a. IsTakenOf b history history' tasks new last place s' d a)
-enter-result law b history history' tasks new s s' last place t d at (Ok a) h number there of stands done grown =
+enter-result laws b history history' tasks new s s' last place t d at (Ok a) h number there of stands done grown =
     let twice : Some t ≡ Some done.task = sym there ∙ done.there in
     let same : t ≡ done.task = cc in
     let own : IsLoanOf done.task d = subst (λ (x : Task). IsLoanOf x d) same of in
@@ -330,9 +330,9 @@ enter-result law b history history' tasks new s s' last place t d at (Ok a) h nu
       after = done.after;
       there = done.there;
       of = own;
-      taken = enter-taken law b history history' tasks new s s' last place d at a h number stands done own grown;
+      taken = enter-taken laws b history history' tasks new s s' last place d at a h number stands done own grown;
     }
-enter-result law b history history' tasks new s s' last place t d at (Err e) h number there of stands done grown = tt
+enter-result laws b history history' tasks new s s' last place t d at (Err e) h number there of stands done grown = tt
 
 pub settle-events : (b : Booted) (history history' : List Event) (tasks new : List Task) (s' : Shared) (last place : ℕ) (d : Done) (r : Result Answer Rejected)
     → d.pid ≡ place + 1

@@ -1,7 +1,7 @@
 -- A loan's result in the parts is a Turn, and an Enter, of the run.
 use Rattle.std.proofs.Common.{◌≡◌, ℕ, zero, suc, ◌+◌, ◌^◌, ◌<◌, inl, inr, true, false, List, [], ◌∷◌, ◌++◌, map, option_to_list, slice_get, slice_set, Option, Some, None, is_some, refl, sym, ap, subst, ◌∙◌, arith}
 use Rattle.machine_model.specs.States.{State, Stepped, Goes, Halts, Ran, ran, next, run, after, stands_at}
-use Rattle.machine.proofs.Running.{run-zero, run-goes, run-halts}
+use Rattle.machine_model.proofs.Running.{run-zero, run-goes, run-halts}
 use Rattle.kernel_model.specs.State.{Process, put_process}
 use Rattle.kernel_model.specs.Steps.{own_entry, after_run}
 use Rattle.kernel_model.specs.World.{World, happens}
@@ -18,7 +18,7 @@ use Rattle.kernel.specs.declared.trace.End.{End}
 use Rattle.kernel.specs.declared.whereabouts.Whereabouts.TheVariants.{Here}
 use Rattle.kernel.proofs.EnterFine.{IsFineTask}
 use Rattle.kernel.proofs.EnterParts.{parts-quiet, pipes-quiet, counted-quiet}
-use Rattle.kernel.proofs.EnterWorld.{ChangeLaw, IsRun, done-runs, same-task}
+use Rattle.kernel.proofs.EnterWorld.{EnterLaws, IsRun, done-runs, same-task}
 use Rattle.kernel.proofs.Lists.{map-set, get-within, get-set, get-set-here, set-again}
 use Rattle.kernel.proofs.Quiet.{own-silent, screens-quiet, trace-quiet, changes-part, waits-own}
 use Rattle.kernel.proofs.Turning.{IsProcessOf, bare-of, process-there, world_with, turn_of, turn-happens, turn-parts}
@@ -134,12 +134,12 @@ back-mirrors w tasks s s' pid place n q m t u h number there out reached few bac
     })
 
 -- ---- the Turn and its Enter
-pub both-run : ChangeLaw → (w : World) (tasks : List Task) (s s' : Shared) (pid place n q : ℕ) (m : State) (t u : Task) (outcome : Outcome) (child : Option Task)
+pub both-run : EnterLaws → (w : World) (tasks : List Task) (s s' : Shared) (pid place n q : ℕ) (m : State) (t u : Task) (outcome : Outcome) (child : Option Task)
     → Mirrors w tasks s → pid ≡ place + 1 → slice_get tasks place ≡ Some t → out_of t ≡ Some q → m ≡ (run n (machine_of t)).state → m.count < 2 ^ 40
     → is_some (stands_at m) ≡ true
     → (e : IsTurnEntered pid m t u s s' outcome child)
     → IsRun (happens w (Turn pid n)) pid (slice_set tasks place e.middle) (slice_set tasks place u ++ option_to_list child) s' outcome
-both-run law w tasks s s' pid place n q m t u outcome child h number there out reached few stands e =
+both-run laws w tasks s s' pid place n q m t u outcome child h number there out reached few stands e =
     let s1 : Shared = marked_with s e.marks in
     let w1 : World = happens w (Turn pid n) in
     let tasks1 : List Task = slice_set tasks place e.middle in
@@ -155,4 +155,4 @@ both-run law w tasks s s' pid place n q m t u outcome child h number there out r
       room = refl;
     } in
     subst (λ (ts : List Task). IsRun w1 pid tasks1 (ts ++ option_to_list child) s' outcome) (set-again tasks place e.middle u)
-    (done-runs law w1 tasks1 s1 s' pid place false e.middle u outcome child h1 number there1 fine e.entered)
+    (done-runs laws w1 tasks1 s1 s' pid place false e.middle u outcome child h1 number there1 fine e.entered)

@@ -5,7 +5,6 @@ use Rattle.std.specs.List.{AllByRecursion}
 use Rattle.std.proofs.lemmas.Bool.{leb-false}
 use Rattle.commit_deps.specs.Keeps.{Keeps}
 use Rattle.commit_deps.specs.declared.dependencies.Marked.{Marked}
-use Rattle.commit_deps.proofs.Keeping.{keeps-more, mark-says}
 use Rattle.disk_model.specs.Files.{IsFormed, IsMade}
 use Rattle.disk_model.specs.Storage.{Storage, cut, group, checkpoint, group_of, group_or_checkpoint, fits, completed, failed, failed_by, is_empty, is_quiet, piece_at}
 use Rattle.disk_model.specs.Rebuild.{rebuild}
@@ -48,9 +47,9 @@ use Rattle.kernel.proofs.Refusing.{none-of-two, none-of-four}
 use Rattle.kernel.proofs.EnterParts.{parts-quiet, pipes-quiet, counted-quiet}
 use Rattle.kernel.proofs.Quiet.{disk-silent, screens-quiet, trace-quiet, changes-part, waits-disk}
 
--- the disk's events write no carrier
-pub keeps-disk : (log : List Entry) (marks : List Marked) → Keeps log marks → Keeps (log ++ disk_entry ∷ []) marks
-keeps-disk log marks h = keeps-more log marks disk_entry 0 h (mark-says log marks disk_entry [] None h refl refl)
+-- the law of marks: those of a log are those of one event more, if that writes no carrier
+abbrev pub SilentLaw : Type 0
+SilentLaw = (log : List Entry) (marks : List Marked) (e : Entry) → e.writes ≡ [] → Keeps log marks → Keeps (log ++ e ∷ []) marks
 
 -- the run after an event of the disk that leads to this storage
 abbrev pub stored_world : World → Storage → World
@@ -160,28 +159,28 @@ pub record IsSameRest (old new : Shared) : Type 0 where
   pub parts : new.processes.parts ≡ old.processes.parts
   pub told : new.told ≡ old.told
 
-pub stored-mirrors : (w : World) (st st' : Storage) (old new : List Task) (s s' : Shared) → Mirrors w old s → st' ≡ st
+pub stored-mirrors : SilentLaw → (w : World) (st st' : Storage) (old new : List Task) (s s' : Shared) → Mirrors w old s → st' ≡ st
     → AreMoved st.committed old new → AreAdvanced st.committed s.screens.items s'.screens.items
     → s'.dependencies.marks ≡ s.dependencies.marks → s'.changes.items ≡ s.changes.items → s'.files ≡ s.files → s'.tapes ≡ s.tapes → IsSameRest s s' → s'.disk ≡ st'
     → Mirrors (stored_world w st) new s'
-stored-mirrors w st st' old new s s' h same moved advanced marks changes files tapes rest disk = record {
+stored-mirrors law w st st' old new s s' h same moved advanced marks changes files tapes rest disk = record {
   each = subst (λ (n : ℕ). AreTasks (stored_world w st) n new) (sym rest.told) (tasks-moved w s.told st old new h.each moved);
   changes = changes-part w (stored_world w st) s s' disk_entry disk-silent refl refl changes files h.changes;
   tapes = tapes ∙ h.tapes;
   parts = parts-quiet w (stored_world w st) s.processes.parts s'.processes.parts refl refl rest.parts h.parts;
   pipes = pipes-quiet w (stored_world w st) s.pipes s'.pipes disk_entry refl refl rest.pipes h.pipes;
   counted = counted-quiet w (stored_world w st) s.told s'.told disk_entry refl (let is : s'.told ≡ s.told = rest.told in omega (arith, is)) h.counted;
-  kept = subst (λ (ms : List Marked). Keeps (w.log ++ disk_entry ∷ []) ms) (sym marks) (keeps-disk w.log s.dependencies.marks h.kept);
+  kept = subst (λ (ms : List Marked). Keeps (w.log ++ disk_entry ∷ []) ms) (sym marks) (law w.log s.dependencies.marks disk_entry refl h.kept);
   screens = screens-moved w.storage.committed st.committed (w.log ++ disk_entry ∷ []) s.screens.items s'.screens.items
       (screens-quiet w.storage.committed w.log disk_entry s.screens.items disk-silent h.screens) advanced;
   disk = disk ∙ same;
 }
 
 -- the same, where no more is committed
-pub still-mirrors : (w : World) (st st' : Storage) (tasks : List Task) (s : Shared) → Mirrors w tasks s → st' ≡ st → st.committed ≡ w.storage.committed
+pub still-mirrors : SilentLaw → (w : World) (st st' : Storage) (tasks : List Task) (s : Shared) → Mirrors w tasks s → st' ≡ st → st.committed ≡ w.storage.committed
     → Mirrors (stored_world w st) tasks (record s { disk = st' })
-still-mirrors w st st' tasks s h same committed =
-    stored-mirrors w st st' tasks tasks s (record s { disk = st' }) h same
+still-mirrors law w st st' tasks s h same committed =
+    stored-mirrors law w st st' tasks tasks s (record s { disk = st' }) h same
     (subst (λ (c : ℕ). AreMoved c tasks tasks) (sym committed) (tasks-still w s.told tasks h.each))
     (subst (λ (c : ℕ). AreAdvanced c s.screens.items s.screens.items) (sym committed) (screens-still w.storage.committed w.log s.screens.items h.screens))
     refl refl refl refl (record { pipes = refl; parts = refl; told = refl }) refl
@@ -235,20 +234,20 @@ write-refusal-is b history tasks s last at full h is =
 write-fine : (st : Storage) (at : ℕ) (full : Bool) → write_refusal st at full ≡ None → full ≡ false
 write-fine st at full h = (none-of-two full (is_none (piece_at st.drive.in_flight at)) refused.Budget refused.NoSuchWrite h).0
 
-pub fail-core : (b : Booted) (history history' : List Event) (tasks : List Task) (s : Shared) (d : Storage) (at : ℕ) (full : Bool) (r : Result Answer Refused)
+pub fail-core : SilentLaw → (b : Booted) (history history' : List Event) (tasks : List Task) (s : Shared) (d : Storage) (at : ℕ) (full : Bool) (r : Result Answer Refused)
     → IsCore b history tasks s → full ≡ full_of (length history) tasks
     → IfOk r (HasFailed s.disk d at full) → OnOk r (history' ≡ history ++ Fail at ∷ [])
     → OnErr r (history' ≡ history) → OnErr r (d ≡ s.disk)
     → IsCore b history' tasks (record s { disk = d })
-fail-core b history history' tasks s d at full (Ok a) h is done grown x y =
+fail-core law b history history' tasks s d at full (Ok a) h is done grown x y =
     let w : World = run_of b history in
     let st : Storage = failed w.storage at in
     let same : d ≡ st = done.disk ∙ ap (λ (t : Storage). failed t at) h.mirrors.disk in
     let none : st.committed ≡ w.storage.committed = failed-committed w.storage at in
     stored-core b history history' tasks tasks s (record s { disk = d }) (Fail at) st full h is (write-fine s.disk at full done.fine) grown refl
     (subst (λ (c : ℕ). AreMoved c tasks tasks) (sym none) (tasks-still w s.told tasks h.mirrors.each))
-    (still-mirrors w st d tasks s h.mirrors same none)
-fail-core b history history' tasks s d at full (Err why) h is done grown x y = same-stored b history history' tasks s d x y h
+    (still-mirrors law w st d tasks s h.mirrors same none)
+fail-core law b history history' tasks s d at full (Err why) h is done grown x y = same-stored b history history' tasks s d x y h
 
 pub fail-applies : (b : Booted) (history history' : List Event) (tasks : List Task) (s : Shared) (d : Storage) (last at : ℕ) (full : Bool) (r : Result Answer Refused)
     → IsCore b history tasks s → full ≡ full_of (length history) tasks
@@ -264,20 +263,20 @@ fail-applies b history history' tasks s d last at full (Err e) h is done grown w
     refused-applies b history history' tasks tasks last (Fail at) (write_refusal s.disk at full) e x refl (write-refusal-is b history tasks s last at full h is) why
 
 -- ---- a Complete
-pub completed-core : (b : Booted) (history history' : List Event) (old new : List Task) (s s' : Shared) (at committed : ℕ) (full : Bool)
+pub completed-core : SilentLaw → (b : Booted) (history history' : List Event) (old new : List Task) (s s' : Shared) (at committed : ℕ) (full : Bool)
     → IsCore b history old s → full ≡ full_of (length history) old
     → IsCompleted s.disk s'.disk at full committed → history' ≡ history ++ Complete at ∷ []
     → AreMoved committed old new → AreAdvanced committed s.screens.items s'.screens.items
     → s'.dependencies.marks ≡ s.dependencies.marks → s'.changes.items ≡ s.changes.items → s'.files ≡ s.files → s'.tapes ≡ s.tapes → IsSameRest s s'
     → IsCore b history' new s'
-completed-core b history history' old new s s' at committed full h is done grown moved advanced marks changes files tapes rest =
+completed-core law b history history' old new s s' at committed full h is done grown moved advanced marks changes files tapes rest =
     let w : World = run_of b history in
     let st : Storage = completed w.storage at in
     let same : s'.disk ≡ st = done.disk ∙ ap (λ (t : Storage). completed t at) h.mirrors.disk in
     let count : committed ≡ st.committed = done.count ∙ ap (λ (t : Storage). t.committed) same in
     let moved_so : AreMoved st.committed old new = subst (λ (c : ℕ). AreMoved c old new) count moved in
     stored-core b history history' old new s s' (Complete at) st full h is (write-fine s.disk at full done.fine) grown refl moved_so
-    (stored-mirrors w st s'.disk old new s s' h.mirrors same moved_so
+    (stored-mirrors law w st s'.disk old new s s' h.mirrors same moved_so
     (subst (λ (c : ℕ). AreAdvanced c s.screens.items s'.screens.items) count advanced) marks changes files tapes rest refl)
 
 pub completed-applies : (b : Booted) (history history' : List Event) (old new : List Task) (s : Shared) (d : Storage) (last at committed : ℕ) (full : Bool)
@@ -342,20 +341,20 @@ cut-same w s h disk =
     ∙ ap (λ (cs : List Change). cut w.storage (drop w.storage.committed cs) s.files) h.changes
     ∙ ap (λ (fs : List NamedFile). cut w.storage (drop w.storage.committed (changes_of w.log)) fs) h.files
 
-pub cut-core : (b : Booted) (history history' : List Event) (tasks : List Task) (s : Shared) (d : Storage) (full : Bool) (r : Result Answer Refused)
+pub cut-core : SilentLaw → (b : Booted) (history history' : List Event) (tasks : List Task) (s : Shared) (d : Storage) (full : Bool) (r : Result Answer Refused)
     → IsCore b history tasks s → full ≡ full_of (length history) tasks
     → IfOk r (WasCut s.disk d s.changes.items s.files full) → OnOk r (history' ≡ history ++ Cut ∷ [])
     → OnErr r (history' ≡ history) → OnErr r (d ≡ s.disk)
     → IsCore b history' tasks (record s { disk = d })
-cut-core b history history' tasks s d full (Ok a) h is done grown x y =
+cut-core law b history history' tasks s d full (Ok a) h is done grown x y =
     let w : World = run_of b history in
     let st : Storage = cut w.storage (drop w.storage.committed (changes_of w.log)) w.sync.files in
     let same : d ≡ st = done.disk ∙ cut-same w s h.mirrors.changes h.mirrors.disk in
     let none : st.committed ≡ w.storage.committed = cut-committed w.storage (drop w.storage.committed (changes_of w.log)) w.sync.files in
     stored-core b history history' tasks tasks s (record s { disk = d }) Cut st full h is (cut-fine s.disk (drop s.disk.committed s.changes.items) full done.fine) grown refl
     (subst (λ (c : ℕ). AreMoved c tasks tasks) (sym none) (tasks-still w s.told tasks h.mirrors.each))
-    (still-mirrors w st d tasks s h.mirrors same none)
-cut-core b history history' tasks s d full (Err why) h is done grown x y = same-stored b history history' tasks s d x y h
+    (still-mirrors law w st d tasks s h.mirrors same none)
+cut-core law b history history' tasks s d full (Err why) h is done grown x y = same-stored b history history' tasks s d x y h
 
 pub cut-applies : (b : Booted) (history history' : List Event) (tasks : List Task) (s : Shared) (d : Storage) (last : ℕ) (full : Bool) (r : Result Answer Refused)
     → IsCore b history tasks s → full ≡ full_of (length history) tasks

@@ -6,6 +6,7 @@ use crate::boot::Core;
 use crate::storing::{complete, cut, fail, release};
 use crate::tasks::is_full;
 use crate::turn::turn;
+use commit_deps::silent_events_leave_marks;
 use kernel_model::{Answer, Event, Refused};
 
 impl Core {
@@ -56,6 +57,7 @@ impl Core {
     fn cut(&mut self) -> Result<Answer, Refused>
         ensures { Applies self.old Event.Cut self.new result }
     {
+        silent_events_leave_marks();
         let full = is_full(self.history.len(), &self.tasks);
         cut(
             self.alloc,
@@ -71,6 +73,7 @@ impl Core {
     fn complete(&mut self, at: u32) -> Result<Answer, Refused>
         ensures { Applies self.old (Event.Complete at) self.new result }
     {
+        silent_events_leave_marks();
         let full = is_full(self.history.len(), &self.tasks);
         let committed = complete(&mut self.history, full, &mut self.shared.disk, at)?;
         release(&mut self.tasks, &mut self.shared.screens, committed);
@@ -81,6 +84,7 @@ impl Core {
     fn fail(&mut self, at: u32) -> Result<Answer, Refused>
         ensures { Applies self.old (Event.Fail at) self.new result }
     {
+        silent_events_leave_marks();
         let full = is_full(self.history.len(), &self.tasks);
         fail(&mut self.history, full, &mut self.shared.disk, at)
     }

@@ -1,9 +1,9 @@
 //! The core, and how it is booted.
-ghost use Rattle.std.specs.Prelude.{ℕ, List, ◌≡◌, ◌≤◌, ◌<◌, [], length, map, IfOk, IfErr};
+ghost use Rattle.std.specs.Prelude.{ℕ, List, ◌≡◌, ◌≤◌, ◌<◌, [], true, length, map, IfOk, IfErr};
 ghost use Rattle.std.specs.List.{AllByRecursion};
 ghost use Rattle.disk_model.specs.declared.change.NamedFile.{NamedFile};
 ghost use Rattle.disk_model.specs.Held.{IsHeld};
-ghost use Rattle.disk_model.specs.Runs.{quiet};
+ghost use Rattle.disk_model.specs.Storage.{is_quiet};
 ghost use Rattle.kernel_model.specs.World.{HoldsItsFiles};
 ghost use Rattle.kernel_model.specs.Bytes.{ProgramsHoldBytes, TapesHoldBytes};
 ghost use Rattle.kernel.specs.Booting.{TellsBootFault, boot_fault, program_of, nothing_lent};
@@ -118,6 +118,9 @@ impl Core {
     /// the files that the disk holds. Refused where the disk cannot be read, by its first fault, and for want of memory; a
     /// disk that holds files, as the crash or the end of a run leaves it, is refused for want of memory alone.
     ///
+    /// On the disk nothing is in flight and nothing has failed: `SimDisk::quiet` is the test, and `SimDisk::zero`,
+    /// `SimDisk::open` and `halt` give such disks.
+    ///
     /// Its boot meets all three premises under which `kernel_laws::headline` speaks of crashes: the disk holds its files,
     /// and the memory of each program and each tape hold bytes.
     pub fn boot(
@@ -130,7 +133,7 @@ impl Core {
         requires few { length programs.items ≤ 8 }
         requires terminals { AllByRecursion (λ p. p.terminal < 8) programs.items }
         requires few_tapes { length tapes.items ≤ 8 }
-        requires quiet { disk ≡ quiet disk.disk }
+        requires quiet { is_quiet disk ≡ true }
         ensures programs { IfOk result (λ core. core.boot.programs ≡ map program_of programs.items) }
         ensures given_tapes { IfOk result (λ core. core.boot.tapes ≡ tapes.items) }
         ensures disk { IfOk result (λ core. core.boot.disk ≡ disk.disk) }

@@ -34,7 +34,7 @@ use files::FileTable;
 use kernel_model::{Answer, Event, Outcome, Output, Refused};
 use machine::Machine;
 use machine_model::{Reply, Stop};
-use pipes::{Pipe, PipeTable};
+use pipes::{Pipe, PipeTable, ends_grow_by_one, steps_are_shown};
 use processes::ProcTable;
 use std::alloc::{AllocError, Global};
 
@@ -485,6 +485,8 @@ pub fn enter(
 {
     checkpoints_fit();
     made_files_change();
+    steps_are_shown();
+    ends_grow_by_one();
     let full = is_full(history.len(), tasks);
     let place = enter_place(tasks, full, pid)?;
     tasks.reserve(1)?;

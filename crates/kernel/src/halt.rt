@@ -1,6 +1,7 @@
 //! The end of a run: what it leaves on the disk.
-ghost use Rattle.std.specs.Prelude.{◌≡◌};
+ghost use Rattle.std.specs.Prelude.{◌≡◌, true};
 ghost use Rattle.disk_model.specs.Runs.{quiet};
+ghost use Rattle.disk_model.specs.Storage.{is_quiet};
 ghost use Rattle.simdisk.specs.Room.{crashed};
 ghost use Rattle.kernel_laws.specs.Crashes.{HoldsFront};
 ghost use Rattle.kernel_laws.specs.Resuming.{IsSound, MayLeave};
@@ -17,7 +18,7 @@ impl Core {
     /// Takes no memory.
     pub fn halt(self, fill: &[u8]) -> SimDisk
         ensures disk { result ≡ quiet (crashed (now self).storage.drive fill.now) }
-        ensures quiet { result ≡ quiet result.disk }
+        ensures quiet { is_quiet result ≡ true }
         ensures sound { IsSound self.boot }
         ensures left { MayLeave (now self) result.disk }
         ensures holds { HoldsFront self.boot (now self) result.disk }

@@ -1,5 +1,5 @@
 //! Loans' results taken back.
-ghost use Rattle.std.specs.Prelude.{ℕ, ◌≡◌, ◌≢◌, ◌+◌, ◌<◌, ◌≤◌, ◌^◌, ◌++◌, ◌∷◌, [], ◌↔◌, IsTrue, List, length, vec_len, vec_capacity, Some, None, IfOk, IfErr, OnOk, OnErr};
+ghost use Rattle.std.specs.Prelude.{◌≡◌, ◌≢◌, ◌+◌, ◌<◌, ◌^◌, ◌++◌, ◌∷◌, [], ◌↔◌, IsTrue, length, Some, None, IfOk, IfErr, OnOk, OnErr};
 ghost use Rattle.machine_model.specs.States.{stands_at};
 ghost use Rattle.kernel_model.specs.Answers.{AllAccepted};
 ghost use Rattle.kernel_model.specs.Loans.{IsOfLoan, returned, events_of, settled, settled_answer};
@@ -21,6 +21,7 @@ use disk_model::{checkpoints_fit, made_files_change};
 use kernel_model::{Answer, Event, Refused};
 use machine::Machine;
 use machine_model::Stop;
+use pipes::{ends_grow_by_one, steps_are_shown};
 use std::alloc::Global;
 
 /// Whether a result is of the loan that the process is out on.
@@ -196,6 +197,8 @@ impl Core {
     {
         checkpoints_fit();
         made_files_change();
+        steps_are_shown();
+        ends_grow_by_one();
         let Some(place) = place_of(&self.tasks, done.pid) else {
             return Err(Rejected {
                 why: Refused::Stranger,

@@ -1,6 +1,7 @@
 //! The tasks of all processes.
 ghost use Rattle.std.specs.Prelude.{◌≡◌, ◌+◌, ◌*◌, ◌^◌, ◌≤◌, ◌<◌, None, Some, true, is_some, length, map, slice_get, MatchOption, MatchResult, IfOk, IfErr, OnErr};
 ghost use Rattle.kernel_model.specs.State.{process_at};
+ghost use Rattle.kernel_model.specs.declared.answer.Refused.TheVariants.{Lent};
 ghost use Rattle.kernel.specs.Tasks.{machine_of, out_of, process_of, count_out, RanAt};
 ghost use Rattle.kernel.specs.Tests.{full_of, turn_refusal_of, enter_refusal_of, IsPlaceOf};
 ghost use Rattle.kernel.specs.Advanced.{AreMoved};
@@ -83,6 +84,7 @@ pub fn run_at(tasks: &mut [Task], place: usize, n: u32) -> Result<(u32, Stop), R
     requires room { (t : Task) → slice_get tasks.old place ≡ Some t → (machine_of t).count + n ≤ 2 ^ 40 }
     ensures ran { IfOk result (λ r. RanAt tasks.old tasks.new place n r.0 r.1) }
     ensures lent { OnErr result ((t : Task) → slice_get tasks.old place ≡ Some t → is_some (out_of t) ≡ true) }
+    ensures cause { IfErr result (λ why. why ≡ Lent) }
     ensures same { OnErr result (tasks.new ≡ tasks.old) }
 {
     let task = &mut tasks[place];

@@ -16,11 +16,12 @@ use Rattle.kernel_model.specs.declared.event.Event.{Event}
 use Rattle.kernel_model.specs.declared.event.Event.TheVariants.{Turn, Enter, Cut, Complete, Fail}
 use Rattle.kernel_model.specs.declared.request.Verdict.{Verdict}
 use Rattle.kernel_model.specs.declared.request.Verdict.TheVariants.{Waits, Replies, Ends}
+use Rattle.kernel_model.proofs.ChildRows.{IsNoneOrNextProcess, call_next}
 use Rattle.kernel_model.proofs.Runs.{append-nil}
 use Rattle.kernel_laws.specs.Promises.{ComesTo, IsDescended, ancestor, ancestor_from, ancestor_with}
 use Rattle.kernel_laws.proofs.Machines.{comes_at_once, comes_replied}
 use Rattle.kernel_laws.proofs.Processes.{at_last, put_none, length_put}
-use Rattle.kernel_laws.proofs.Children.{IsNext, call_next, step_not_made}
+use Rattle.kernel_laws.proofs.Children.{step_not_made}
 use Rattle.kernel_laws.proofs.Replies.{replies_of, replies_of-made, goes_on}
 
 -- Process p is new after a transition: it was made by a process that stood at a call, and is as that one was, told 0.
@@ -53,7 +54,7 @@ turn_new s p q n new (Some y) = elim (is_some y.status) as (λ b.
     ]
 
 -- the process that is made, if one is, is the only one that is new
-forked_new : (s : SyncState) (p q : ℕ) (x y new : Process) (o : Option ℕ) → IsNext (length s.processes) o → process_at s.processes p ≡ None
+forked_new : (s : SyncState) (p q : ℕ) (x y new : Process) (o : Option ℕ) → IsNoneOrNextProcess (length s.processes) o → process_at s.processes p ≡ None
     → process_at (put_process s.processes q x ++ forked y o) p ≡ Some new → (is_made o p ≡ true) × (new.state ≡ replied y.state zero_reply)
 forked_new s p q x y new None next none there =
     let no : None ≡ Some new = sym (put_none s.processes p q x none) ∙ ap (λ (ps : List Process). process_at ps p) (sym (append-nil (put_process s.processes q x))) ∙ there in
@@ -65,7 +66,7 @@ forked_new s p q x y new (Some child) next none there =
     (eq-eqb child p same, ap (λ (z : Process). z.state) (sym last.1))
 
 effect_new : (s : SyncState) (p q : ℕ) (y new : Process) (e : Effect) (v : Verdict) → process_at s.processes q ≡ Some y → stands_at y.state ≡ Some Call
-    → IsNext (length s.processes) e.child → MakesNew s p new (after_effect s q y e v)
+    → IsNoneOrNextProcess (length s.processes) e.child → MakesNew s p new (after_effect s q y e v)
 effect_new s p q y new e Waits at call next = same_new s p new (after_effect s q y e Waits) refl
 effect_new s p q y new e (Replies r) at call next = λ none there.
     let is = forked_new s p q (after_reply y e r) y new e.child next none there in

@@ -1,5 +1,5 @@
 -- A longest front of what was given is kept where the changes are on which it may rest.
-use Rattle.std.proofs.Common.{◌≡◌, ℕ, zero, suc, ◌<◌, ◌≤◌, ◌∙◌, List, [], ◌∷◌, length, take, slice_get, Some, map, ap, sym, arith, refl}
+use Rattle.std.proofs.Common.{◌≡◌, ℕ, zero, suc, ◌<◌, ◌≤◌, List, [], ◌∷◌, length, take, ap, arith}
 use Rattle.kernel_model.specs.Shown.{Given}
 use Rattle.kernel_model.specs.Views.{contents}
 use Rattle.kernel_laws.specs.Promises.{IsLongestFront}

@@ -5,3 +5,8 @@ pub mod Runs
 pub mod Ends
 pub mod EndRows
 pub mod EndRuns
+pub mod ChildRows
+pub mod Limits
+pub mod LimitRows
+pub mod LimitRuns
+pub mod Least

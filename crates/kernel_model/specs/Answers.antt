@@ -181,7 +181,7 @@ changes_to_commit st = st.next_committed - st.committed
 abbrev pub writes_to_come : Storage → ℕ
 writes_to_come st = length st.drive.in_flight + piece_count st.stages
 
--- the answer to a Turn of n instructions, which a process runs
+-- the answer to a Turn of n instructions, which a process runs; that of None is never reached: such a Turn is refused NoProcess
 abbrev pub ran_by : Option Process → ℕ → Answer
 ran_by None n = answer_of.Waits
 ran_by (Some p) n = let r = run n p.state in answer_of.Ran r.count r.stop

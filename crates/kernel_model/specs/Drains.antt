@@ -1,5 +1,5 @@
 -- A drain: groups are cut and their writes completed until every change is committed.
-use Rattle.std.specs.Prelude.{◌≡◌, ℕ, not, nat_le, true, List, [], ◌∷◌, Option, Some, None, Result, MatchResult}
+use Rattle.std.specs.Prelude.{◌≡◌, ℕ, not, true, List, [], ◌∷◌, Option, Some, None, Result, MatchResult}
 use Rattle.disk_model.specs.Storage.{is_empty}
 use Rattle.kernel_model.specs.Answers.{Kernel, now, committed, changes, in_flight, is_full, refusal, with_event, first_of, Refuses, ◌⇒◌}
 use Rattle.kernel_model.specs.World.{World}

@@ -6,6 +6,7 @@ pub mod Steps
 pub mod Paths
 pub mod World
 pub mod Ends
+pub mod Limits
 pub mod Bytes
 pub mod Shown
 pub mod Answers

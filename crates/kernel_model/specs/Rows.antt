@@ -1,4 +1,5 @@
--- The table of calls: what each request comes to, its tests in their order.
+-- The table of calls: what each request comes to, its tests in their order. No run of at most 8 programs comes to an answer for a
+-- file, a tape or a pipe that is not there: `kernel_model::tables_keep_their_limits`, and of pipes `kernel_model::ends_are_counted`.
 use Rattle.std.specs.Prelude.{ℕ, zero, suc, ◌+◌, ◌-◌, ◌^◌, ◌%◌, ◌==◌, ◌&&◌, ◌++◌, ◌||◌, not, Bool, true, false, if◌then◌else◌, nat_lt, nat_le, List, [], ◌∷◌, length, slice_get, map, filter_map, take, drop, Option, Some, None, is_none, option_map, unwrap_or}
 use Rattle.std.specs.List.{list_all, position}
 use Rattle.std.specs.Str.{bytes_eq}
@@ -426,7 +427,7 @@ abbrev pub ended_or : ℕ → Option ℕ → Option EndedChild → Option EndedC
 ended_or child (Some status) behind = Some (record { child = child; status = status })
 ended_or child None behind = behind
 
--- the first of these children that has ended
+-- the first of these children that has ended; in a run the least by number that has, `kernel_model::first_ended_is_least`
 abbrev pub first_ended : List (Option ℕ) → List ℕ → Option EndedChild
 first_ended statuses [] = None
 first_ended statuses (child ∷ children) = ended_or child (status_in statuses child) (first_ended statuses children)

@@ -83,7 +83,7 @@ tapes_of zero tapes = []
 tapes_of (suc n) [] = tape_of [] ∷ tapes_of n []
 tapes_of (suc n) (tape ∷ tapes) = tape_of tape ∷ tapes_of n tapes
 
--- how many tapes there are, and how many terminals
+-- how many tapes there are
 abbrev pub tape_count : ℕ
 tape_count = 8
 

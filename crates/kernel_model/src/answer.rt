@@ -53,26 +53,37 @@ pub enum Answer {
 /// Why an event is refused. The tests come in the order that each event states.
 #[derive(Clone, Copy, Debug, PartialEq, Eq, Error)]
 pub enum Refused {
+    /// There is no process of that number.
     #[error("no such process")]
     NoProcess = 1,
+    /// The process has ended.
     #[error("the process has ended")]
     Ended = 2,
+    /// The process is out on loan.
     #[error("the process is out on loan")]
     Lent = 3,
+    /// The process stands at no call and no trap, so it cannot enter the kernel.
     #[error("the process stands at no call and no trap")]
     NotStopped = 4,
+    /// The group before is not committed: a write of it is in flight.
     #[error("a group is not yet committed")]
     GroupInFlight = 5,
+    /// Every change is committed.
     #[error("no change is uncommitted")]
     NothingToCut = 6,
+    /// No write in flight begins at that place of the disk.
     #[error("no write in flight begins there")]
     NoSuchWrite = 7,
+    /// A write of this run has failed.
     #[error("a write has failed")]
     DiskFailed = 8,
+    /// There is no memory for it.
     #[error("out of memory")]
     OutOfMemory = 9,
+    /// The result is not of the loan that its process is out on.
     #[error("the result is of no loan that is out")]
     Stranger = 10,
+    /// The process would pass 2^40 instructions, or the run 2^40 events, where two are kept for each loan that is out.
     #[error("the history or the process has no room for it")]
     Budget = 11,
 }

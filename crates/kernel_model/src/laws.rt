@@ -1,13 +1,15 @@
 //! Laws over all runs.
-ghost use Rattle.std.specs.Prelude.{List, ◌++◌, ◌≡◌, ◌↔◌, ℕ, IsTrue, is_none, is_some, slice_get};
+ghost use Rattle.std.specs.Prelude.{List, length, ◌++◌, ◌≡◌, ◌≤◌, ◌↔◌, ℕ, IsTrue, is_none, is_some, slice_get};
 ghost use Rattle.std.specs.List.{list_all};
 ghost use Rattle.disk_model.specs.Files.{files_after};
 ghost use Rattle.kernel_model.specs.declared.event.Event.{Event};
 ghost use Rattle.kernel_model.specs.Entries.{Entry};
 ghost use Rattle.kernel_model.specs.Paths.{IsSettled, is_settled, changes_of};
-ghost use Rattle.kernel_model.specs.State.{Process, PipeState, process_at};
+ghost use Rattle.kernel_model.specs.State.{Process, PipeState, process_at, shared};
 ghost use Rattle.kernel_model.specs.Ends.{count_held};
-ghost use Rattle.kernel_model.specs.World.{Boot, begun, after};
+ghost use Rattle.kernel_model.specs.Rows.{first_ended, most_processes};
+ghost use Rattle.kernel_model.specs.Limits.{AreFewAndShort, FindsLeast, KeepLimits, TapesAreThere};
+ghost use Rattle.kernel_model.specs.World.{Boot, HoldsItsFiles, begun, after, tape_count};
 ghost use Rattle.kernel_model.specs.declared.descriptor.PipeEnd.TheVariants.{Read, Write};
 
 /// A law: the test says exactly whether all changes on which an event rests are among the first c.
@@ -53,4 +55,26 @@ pub fn ended_hold_nothing()
     ensures { (b : Boot) (es : List Event) (pid : ℕ) (p : Process)
         → process_at (after (begun b) es).sync.processes pid ≡ Some p → IsTrue (is_some p.status)
         → IsTrue (list_all is_none p.descriptors) }
+{}
+
+/// A law: whatever events come, the tables keep their limits, and what they name is there. Each process has 16 descriptors, of
+/// which none stands for a file that is not there, and its children stand by rising number. There are at most 1,024 pipes, and
+/// each holds at most 4,096 bytes. Where the boot has at most 1,024 programs, there are at most 1,024 processes; where it has
+/// at most 8, no descriptor stands for a tape that is not there; and where its disk holds its files, there are at most 32
+/// files, each of at most 16,384 bytes. (Of pipes `ends_are_counted` says that each end that is named is there.)
+pub fn tables_keep_their_limits()
+    ensures tables { (b : Boot) (es : List Event) → KeepLimits (after (begun b) es).sync }
+    ensures processes { (b : Boot) (es : List Event) → length b.programs ≤ most_processes
+        → length (after (begun b) es).sync.processes ≤ most_processes }
+    ensures tapes { (b : Boot) (es : List Event) → length b.programs ≤ tape_count → TapesAreThere (after (begun b) es).sync }
+    ensures files { (b : Boot) (es : List Event) → HoldsItsFiles b → AreFewAndShort (after (begun b) es).sync.files }
+{}
+
+/// A law: of a process's children, the first that has ended is the least by number that has. So that is the one that a wait
+/// collects; and where it finds none, none has ended.
+pub fn first_ended_is_least()
+    ensures { (b : Boot) (es : List Event) (pid : ℕ) (p : Process)
+        → process_at (after (begun b) es).sync.processes pid ≡ Some p
+        → let statuses = (shared (after (begun b) es).sync).statuses in
+        FindsLeast statuses p.children (first_ended statuses p.children) }
 {}

@@ -15,6 +15,7 @@ pub use descriptor::{Descriptor, PipeEnd};
 pub use effect::{Output, PipeStep, Slot, TapeRead};
 pub use event::Event;
 pub use laws::{
-    ended_hold_nothing, ends_are_counted, ends_stay_closed, files_are_folded, settled_is,
+    ended_hold_nothing, ends_are_counted, ends_stay_closed, files_are_folded, first_ended_is_least,
+    settled_is, tables_keep_their_limits,
 };
 pub use request::{Request, Verdict};

@@ -68,6 +68,6 @@ pub enum Verdict {
     Waits,
     /// A reply.
     Replies(Reply),
-    /// That it has ended, with a status.
+    /// That it has ended, with a status: 0 to 255, or 256 plus the number of a trap's cause.
     Ends(u32),
 }

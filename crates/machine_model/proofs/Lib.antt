@@ -1,2 +1,4 @@
 pub mod Memories
+pub mod Running
+pub mod Halting
 pub mod Stepping

@@ -1,20 +1,20 @@
 -- What `next` and `run` compute is what the relations say.
-use Rattle.std.proofs.Common.{◌≡◌, ◌≢◌, ◌↔◌, ℕ, suc, zero, ◌+◌, ◌<◌, Bool, true, false, cond, refl, sym, ap, subst, ◌∙◌, arith}
+use Rattle.std.proofs.Common.{◌≡◌, ◌≢◌, ◌↔◌, ℕ, suc, zero, ◌+◌, ◌<◌, refl, sym, ap, subst, ◌∙◌, arith}
 use Rattle.std.specs.Prelude.{Option, Some, None, Result, Ok, Err}
 use Rattle.formats.specs.declared.instr.Instr.{Instr}
-use Rattle.formats.specs.declared.instr.Instr.TheVariants as instr
 use Rattle.formats.specs.Meaning.{Means}
 use Rattle.formats.specs.Table.{instr_of}
 use Rattle.machine_model.specs.Access.{fetched}
-use Rattle.machine_model.specs.Effects.{Hart, Effect, Becomes, Stands, effect, load_effect, store_effect}
-use Rattle.machine_model.specs.Memory.{Memory}
+use Rattle.machine_model.specs.Effects.{Effect, Becomes, Stands, effect}
 use Rattle.machine_model.specs.States.{State, state, Stepped, Goes, Halts, Ran, ran, counted, by_instr, by_fetch, next, after, by_step, run, stands_at}
-use Rattle.machine_model.specs.Steps.{Step, FetchFails, IsIllegal, InstructionStands, StandsAt, ByFetch, ByWord, ByInstruction, Runs, NextIsStep, RunIsSteps}
+use Rattle.machine_model.specs.Steps.{Step, StandsAt, ByFetch, ByWord, ByInstruction, Runs, NextIsStep, RunIsSteps}
 use Rattle.machine_model.specs.declared.access.BusFault.{BusFault}
 use Rattle.machine_model.specs.declared.stop.Cause.{Cause}
 use Rattle.machine_model.specs.declared.stop.Cause.TheVariants as cause
 use Rattle.machine_model.specs.declared.stop.Stop.{Stop}
-use Rattle.machine_model.specs.declared.stop.Stop.TheVariants.{Limit, Call, Trap}
+use Rattle.machine_model.specs.declared.stop.Stop.TheVariants.{Limit, Trap}
+use Rattle.machine_model.proofs.Running.{run-zero, run-goes, run-halts}
+use Rattle.machine_model.proofs.Halting.{same_stop, effect_not}
 
 -- the law of the instruction table
 abbrev pub Agree : Type 0
@@ -28,9 +28,6 @@ halts_not t stop e = cc
 
 same_goal : (s t : State) → Goes s ≡ Goes t → s ≡ t
 same_goal s t e = cc
-
-same_stop : (a b : Stop) → Halts a ≡ Halts b → a ≡ b
-same_stop a b e = cc
 
 effect-goes : (s t : State) (w : ℕ) (i : Instr) (e : Effect) → fetched s.hart.memory s.hart.pc ≡ Ok w → Means w i → effect i s.hart ≡ e → counted s.count e ≡ Goes t → Step s t
 effect-goes s t w i (Becomes h) f m is g =
@@ -99,19 +96,6 @@ stands-next agree s stop (ByInstruction own) =
 pub next-is-step : Agree → NextIsStep
 next-is-step agree s = ((λ t. (next-goes agree s t, step-next agree s t)), (λ stop. (next-halts agree s stop, stands-next agree s stop)))
 
--- a run, by what its first state comes to next
-run-goes : (n : ℕ) (s t : State) → next s ≡ Goes t → run (suc n) s ≡ after 1 (run n t)
-unfolding run
-run-goes n s t e = ap (λ (x : Stepped). by_step x (λ t. after 1 (run n t)) (λ stop. ran 0 s stop)) e
-
-run-halts : (n : ℕ) (s : State) (stop : Stop) → next s ≡ Halts stop → run (suc n) s ≡ ran 0 s stop
-unfolding run
-run-halts n s stop e = ap (λ (x : Stepped). by_step x (λ t. after 1 (run n t)) (λ stop. ran 0 s stop)) e
-
-run-zero : (s : State) → run zero s ≡ ran 0 s Limit
-unfolding run
-run-zero s = refl
-
 -- what the law says of one run
 abbrev IsRun : ℕ → State → Ran → Type 0
 IsRun max s r = Runs r.count s r.state × ((r.stop ≡ Limit) ↔ (r.count ≡ max)) × (r.stop ≢ Limit → (r.count < max) × (stands_at r.state ≡ Some r.stop))
@@ -124,91 +108,6 @@ one_more n s t r step is =
       ((λ limit. let all : r.count ≡ n = is.1.0 limit in omega arith), (λ all. is.1.1 (omega arith))),
       λ other. let f = is.2 other in (omega (arith, f.0), f.1),
     )
-
-becomes_not : (h : Hart) → Becomes h ≡ Stands Limit → ⊥
-becomes_not h e = cc
-
-stands_not : (stop : Stop) → (stop ≡ Limit → ⊥) → Stands stop ≡ Stands Limit → ⊥
-stands_not stop apart e = apart (inner stop e)
-  where
-    inner : (stop : Stop) → Stands stop ≡ Stands Limit → stop ≡ Limit
-    inner stop e = cc
-
-trap_not : (c : Cause) → Stands (Trap c) ≡ Stands Limit → ⊥
-trap_not c e = stands_not (Trap c) (apart c) e
-  where
-    apart : (c : Cause) → Trap c ≡ Limit → ⊥
-    apart c e = cc
-
-call_not : Stands Call ≡ Stands Limit → ⊥
-call_not e = stands_not Call apart e
-  where
-    apart : Call ≡ Limit → ⊥
-    apart e = cc
-
-jump_not : (b : Bool) (h : Hart) → cond b (Becomes h) (Stands (Trap cause.MisalignedTarget)) ≡ Stands Limit → ⊥
-jump_not true h e = becomes_not h e
-jump_not false h e = trap_not cause.MisalignedTarget e
-
-load_not : (h : Hart) (rd : ℕ) (extended : ℕ → ℕ) (r : Result ℕ BusFault) → load_effect h rd extended r ≡ Stands Limit → ⊥
-load_not h rd extended (Ok value) e = becomes_not _ e
-load_not h rd extended (Err fault) e = trap_not _ e
-
-store_not : (h : Hart) (m : Memory) (f : Option BusFault) → store_effect h m f ≡ Stands Limit → ⊥
-store_not h m None e = becomes_not _ e
-store_not h m (Some fault) e = trap_not _ e
-
--- no instruction stands at the limit
-effect_not : (i : Instr) (h : Hart) → effect i h ≡ Stands Limit → ⊥
-unfolding effect
-effect_not (instr.Lui rd imm) h e = becomes_not _ e
-effect_not (instr.Auipc rd imm) h e = becomes_not _ e
-effect_not (instr.Jal rd offset) h e = jump_not _ _ e
-effect_not (instr.Jalr rd rs1 imm) h e = jump_not _ _ e
-effect_not (instr.Beq rs1 rs2 offset) h e = jump_not _ _ e
-effect_not (instr.Bne rs1 rs2 offset) h e = jump_not _ _ e
-effect_not (instr.Blt rs1 rs2 offset) h e = jump_not _ _ e
-effect_not (instr.Bge rs1 rs2 offset) h e = jump_not _ _ e
-effect_not (instr.Bltu rs1 rs2 offset) h e = jump_not _ _ e
-effect_not (instr.Bgeu rs1 rs2 offset) h e = jump_not _ _ e
-effect_not (instr.Lb rd rs1 imm) h e = load_not h rd _ _ e
-effect_not (instr.Lh rd rs1 imm) h e = load_not h rd _ _ e
-effect_not (instr.Lw rd rs1 imm) h e = load_not h rd _ _ e
-effect_not (instr.Lbu rd rs1 imm) h e = load_not h rd _ _ e
-effect_not (instr.Lhu rd rs1 imm) h e = load_not h rd _ _ e
-effect_not (instr.Sb rs1 rs2 imm) h e = store_not h _ _ e
-effect_not (instr.Sh rs1 rs2 imm) h e = store_not h _ _ e
-effect_not (instr.Sw rs1 rs2 imm) h e = store_not h _ _ e
-effect_not (instr.Addi rd rs1 imm) h e = becomes_not _ e
-effect_not (instr.Slti rd rs1 imm) h e = becomes_not _ e
-effect_not (instr.Sltiu rd rs1 imm) h e = becomes_not _ e
-effect_not (instr.Xori rd rs1 imm) h e = becomes_not _ e
-effect_not (instr.Ori rd rs1 imm) h e = becomes_not _ e
-effect_not (instr.Andi rd rs1 imm) h e = becomes_not _ e
-effect_not (instr.Slli rd rs1 amount) h e = becomes_not _ e
-effect_not (instr.Srli rd rs1 amount) h e = becomes_not _ e
-effect_not (instr.Srai rd rs1 amount) h e = becomes_not _ e
-effect_not (instr.Add rd rs1 rs2) h e = becomes_not _ e
-effect_not (instr.Sub rd rs1 rs2) h e = becomes_not _ e
-effect_not (instr.Sll rd rs1 rs2) h e = becomes_not _ e
-effect_not (instr.Slt rd rs1 rs2) h e = becomes_not _ e
-effect_not (instr.Sltu rd rs1 rs2) h e = becomes_not _ e
-effect_not (instr.Xor rd rs1 rs2) h e = becomes_not _ e
-effect_not (instr.Srl rd rs1 rs2) h e = becomes_not _ e
-effect_not (instr.Sra rd rs1 rs2) h e = becomes_not _ e
-effect_not (instr.Or rd rs1 rs2) h e = becomes_not _ e
-effect_not (instr.And rd rs1 rs2) h e = becomes_not _ e
-effect_not (instr.Mul rd rs1 rs2) h e = becomes_not _ e
-effect_not (instr.Mulh rd rs1 rs2) h e = becomes_not _ e
-effect_not (instr.Mulhsu rd rs1 rs2) h e = becomes_not _ e
-effect_not (instr.Mulhu rd rs1 rs2) h e = becomes_not _ e
-effect_not (instr.Div rd rs1 rs2) h e = becomes_not _ e
-effect_not (instr.Divu rd rs1 rs2) h e = becomes_not _ e
-effect_not (instr.Rem rd rs1 rs2) h e = becomes_not _ e
-effect_not (instr.Remu rd rs1 rs2) h e = becomes_not _ e
-effect_not instr.Fence h e = becomes_not _ e
-effect_not instr.Ecall h e = call_not e
-effect_not instr.Ebreak h e = trap_not _ e
 
 trap_limit : (c : Cause) (stop : Stop) → stop ≡ Trap c → stop ≡ Limit → ⊥
 trap_limit c stop is e = clash c (sym is ∙ e)

@@ -1,6 +1,6 @@
 -- A store over a memory by its words.
 use Rattle.std.proofs.Common.{◌≡◌, ℕ, ◌+◌, ◌*◌, ◌/◌, ◌%◌, ◌^◌, ◌<◌, ◌≤◌, Bool, true, false, cond, List, [], ◌∷◌, length, refl, sym, ap, ◌∙◌, arith}
-use Rattle.std.specs.Prelude.{◌==◌, ◌≢◌, nat_lt, slice_index, slice_set, Option, Some, None, option_map, if◌then◌else◌}
+use Rattle.std.specs.Prelude.{◌==◌, ◌≢◌, nat_lt, slice_set, Option, Some, None, option_map, if◌then◌else◌}
 use Rattle.std.proofs.Common.{inl, inr}
 use Rattle.std.proofs.Math.ListN.{length-set}
 use Rattle.std.proofs.lemmas.List.{get_or-set_same, get_or-set_other}
@@ -22,13 +22,6 @@ get-any words q = get-memory_of (cell_at words) q
 -- pointwise equal words make the same memory
 pub same_words : (f g : ℕ → Option Word) → ((n : ℕ) → f n ≡ g n) → memory_of_words f ≡ memory_of_words g
 same_words f g same = λ i. memory_of_words (λ n. same n i)
-
-at_set : (bytes : List ℕ) (j b i : ℕ) → j < length bytes → slice_index (slice_set bytes j b) i ≡ cond (i == j) b (slice_index bytes i)
-at_set bytes j b i h =
-    elim (eqb_tells i j) [
-      | inl e ↦ rw (e.0, e.1) (get_or-set_same bytes j b 0 h)
-      | inr e ↦ rw e.0 (get_or-set_other bytes j i b 0 e.1)
-    ]
 
 changed : Word → ℕ → ℕ → Word
 changed w j b = record { bytes = slice_set w.bytes j b; rights = w.rights }

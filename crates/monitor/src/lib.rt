@@ -4,7 +4,6 @@
 mod command;
 mod fault;
 mod list;
-mod print;
 mod program;
 mod replay;
 mod script;

@@ -2,7 +2,6 @@
 use crate::command::{Task, parse};
 use crate::fault::Fault;
 use crate::list::list;
-use crate::print::print;
 use crate::replay::{image_in, replay};
 use crate::source::assemble_source;
 use clap::Error;
@@ -31,11 +30,12 @@ fn perform<R: Files + AllocGlobal, I: Read, O: Write>(
             let text = fs::read_to_string(rt, source)?;
             let assembled = assemble_source(rt.alloc(), text.as_str())?;
             fs::write(rt, image, assembled.file.as_slice())?;
-            print(out, &assembled.line)?;
+            let line = assembled.line;
+            writeln!(out, "{line}")?;
         }
         Task::List(path) => {
             let image = image_in(rt, path)?;
-            list(rt.alloc(), &image, out)?;
+            list(&image, out)?;
         }
     }
     Ok(())

@@ -1,7 +1,7 @@
 //! What a script sets up: programs and tapes, which are booted on a disk, and booted again on the disk that a crash leaves.
-ghost use Rattle.std.specs.Prelude.{◌≡◌, ◌≤◌, ◌<◌, length, vec_len, IfOk};
+ghost use Rattle.std.specs.Prelude.{◌≡◌, ◌≤◌, ◌<◌, true, length, vec_len, IfOk};
 ghost use Rattle.std.specs.List.{AllByRecursion};
-ghost use Rattle.disk_model.specs.Runs.{quiet};
+ghost use Rattle.disk_model.specs.Storage.{is_quiet};
 
 use crate::fault::Fault;
 use crate::script::{ScriptProgram, ScriptTape, Source, TAPES, Terminal, Words};
@@ -89,7 +89,7 @@ impl Setup {
 
     /// Boots the same once more, on this disk.
     pub fn boot_again(&self, alloc: Global, disk: SimDisk) -> Result<Core, Fault>
-        requires { disk ≡ quiet disk.disk }
+        requires { is_quiet disk ≡ true }
     {
         let programs = programs_of(alloc, self.programs.as_slice())?;
         let tapes = tapes_of(alloc, self.tapes.as_slice())?;

@@ -2,6 +2,6 @@
 use Rattle.kernel_model.specs.Rows as rows
 use Rattle.processes.specs.declared.table.EndedChild.{EndedChild}
 
--- a child that has ended, as the table of processes gives it
-abbrev pub ended_of : rows.EndedChild → EndedChild
-ended_of e = record { child = e.child; status = e.status }
+-- a child that has ended, as the table of calls sees it
+abbrev pub child_of : EndedChild → rows.EndedChild
+child_of e = record { child = e.child; status = e.status }

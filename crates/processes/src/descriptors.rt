@@ -45,6 +45,14 @@ impl Descriptors {
         Descriptors { slots }
     }
 
+    /// What each of them stands for, by their numbers.
+    pub fn as_slice(&self) -> &[Option<Descriptor>]
+        ensures value { result.now ≡ self.now }
+        ensures count { length self.now ≡ 16 }
+    {
+        &self.slots
+    }
+
     /// What a descriptor stands for; None where it is free or there is none of the number.
     pub fn get(&self, fd: u32) -> Option<Descriptor>
         ensures { result ≡ descriptor_at self.now fd }

@@ -1,6 +1,6 @@
 //! One process of the table.
-ghost use Rattle.std.specs.Prelude.{◌≡◌, ◌<◌, ◌≤◌, ◌∷◌, [], List, Option, OnOk, OnErr};
-ghost use Rattle.processes.specs.Parts.{child_part, ended_part, with_child, with_slots, without_child};
+ghost use Rattle.std.specs.Prelude.{◌≡◌, ◌<◌, ◌≤◌, ◌∷◌, [], List, Option, OnOk, OnErr, length};
+ghost use Rattle.processes.specs.Parts.{boot_part, child_part, ended_part, with_child, with_slots, without_child};
 
 use crate::descriptors::Descriptors;
 use kernel_model::Slot;
@@ -16,7 +16,7 @@ pub struct ProcEntry {
 }
 
 impl Model for ProcEntry {
-    ghost use Rattle.std.specs.Prelude.{◌-◌, vec_capacity, vec_len};
+    ghost use Rattle.std.specs.Prelude.{◌≡◌, ◌-◌, length, vec_capacity, vec_len};
     ghost use Rattle.processes.specs.Entries.{Entry};
 
     ghost Value = { Entry };
@@ -25,15 +25,17 @@ impl Model for ProcEntry {
       part = record { descriptors = e.descriptors; children = e.children.items; status = e.status };
       room = vec_capacity e.children - vec_len e.children;
     } };
+
+    ghost invariant = { λ e. length e.descriptors ≡ 16 };
 }
 
 impl ProcEntry {
-    /// A process without children that has not ended. Takes no memory.
-    pub fn new(alloc: Global, descriptors: Descriptors) -> ProcEntry
-        ensures { result.part ≡ record { descriptors = descriptors; children = []; status = None } }
+    /// A process at boot, with the number of its tape and its terminal. Takes no memory.
+    pub fn new(alloc: Global, tape: u32, terminal: u32) -> ProcEntry
+        ensures { result.part ≡ boot_part tape terminal }
     {
         ProcEntry {
-            descriptors,
+            descriptors: Descriptors::new(tape, terminal),
             children: Vec::new(alloc),
             status: None,
         }
@@ -41,7 +43,8 @@ impl ProcEntry {
 
     /// What its descriptors stand for.
     pub fn descriptors(&self) -> &Descriptors
-        ensures { result.now ≡ self.now.part.descriptors }
+        ensures value { result.now ≡ self.now.part.descriptors }
+        ensures few { length result.now ≤ 16 }
     {
         &self.descriptors
     }
@@ -100,10 +103,14 @@ impl ProcEntry {
         self.children.push(child).unwrap();
     }
 
-    /// The child of a fork.
+    /// The child of a fork. Takes no memory.
     pub fn child(&self, alloc: Global) -> ProcEntry
         ensures { result.part ≡ child_part self.now.part }
     {
-        ProcEntry::new(alloc, self.descriptors.duplicate())
+        ProcEntry {
+            descriptors: self.descriptors.duplicate(),
+            children: Vec::new(alloc),
+            status: None,
+        }
     }
 }

@@ -1,5 +1,5 @@
 //! The table of all processes.
-ghost use Rattle.std.specs.Prelude.{◌≡◌, ◌+◌, ◌<◌, ◌≤◌, ◌++◌, ◌∷◌, [], List, length, map, OnOk, OnErr, Some, None};
+ghost use Rattle.std.specs.Prelude.{◌≡◌, ◌+◌, ◌<◌, ◌≤◌, ◌++◌, ◌∷◌, [], List, length, map, OnOk, OnErr, IfSome, Some, None};
 ghost use Rattle.std.specs.Option.{option_copied, option_map};
 ghost use Rattle.machine_model.specs.declared.reply.Reply.{Reply};
 ghost use Rattle.kernel_model.specs.Rows.{Effect, descriptor_at, first_ended, most_processes, row_fork, status_in};
@@ -7,7 +7,7 @@ ghost use Rattle.kernel_model.specs.State.{Process, process_at, put_process};
 ghost use Rattle.kernel_model.specs.Steps.{after_end, after_reply, forked};
 ghost use Rattle.processes.specs.Parts.{Part, part_of, part_at, place_in, with_part, descriptors_in, children_in, statuses_of, boot_part, with_slots, without_child, ended_part, after_fork};
 ghost use Rattle.processes.specs.Entries.{Entry};
-ghost use Rattle.processes.specs.Ended.{ended_of};
+ghost use Rattle.processes.specs.Ended.{child_of};
 
 use crate::descriptors::Descriptors;
 use crate::entry::ProcEntry;
@@ -76,8 +76,8 @@ impl ProcTable {
         ensures ok { OnOk result (self.new.parts ≡ self.old.parts ++ boot_part tape terminal ∷ []) }
         ensures err { OnErr result (self.new.parts ≡ self.old.parts) }
     {
-        let descriptors = Descriptors::new(tape, terminal);
-        self.entries.push(ProcEntry::new(self.alloc, descriptors))?;
+        self.entries
+            .push(ProcEntry::new(self.alloc, tape, terminal))?;
         Ok(())
     }
 
@@ -103,7 +103,8 @@ impl ProcTable {
 
     /// The descriptors of a process, if it is there.
     pub fn descriptors(&self, pid: u32) -> Option<&Descriptors>
-        ensures { option_copied result ≡ option_map (λ (part : Part). part.descriptors) (part_at self.now.parts pid) }
+        ensures value { option_copied result ≡ option_map (λ (part : Part). part.descriptors) (part_at self.now.parts pid) }
+        ensures few { IfSome result (λ ds. length ds.now ≤ 16) }
     {
         Some(self.entry(pid)?.descriptors())
     }
@@ -133,10 +134,10 @@ impl ProcTable {
         self.entry(pid)?.status()
     }
 
-    /// The first child of a process that it has not collected and that has ended. Takes a time that grows with the number
-    /// of these children.
+    /// The first child of a process that it has not collected and that has ended: the least by number, since children stand
+    /// by rising number. Takes a time that grows with the number of these children.
     pub fn ended_child(&self, pid: u32) -> Option<EndedChild>
-        ensures { result ≡ option_map ended_of (first_ended (statuses_of self.now.parts) (children_in (part_at self.now.parts pid))) }
+        ensures { option_map child_of result ≡ first_ended (statuses_of self.now.parts) (children_in (part_at self.now.parts pid)) }
     {
         let children = self.children(pid);
         for child in children {

@@ -1,5 +1,4 @@
 -- The lemmas.
 pub mod Lists
-pub mod Least
 pub mod Filling
 pub mod Crashes

@@ -1,44 +1,12 @@
 -- Lists of pieces: a search by place, and pieces that lie on a disk.
-use Rattle.std.proofs.Common.{◌≡◌, ℕ, zero, suc, ◌+◌, ◌<◌, ◌≤◌, Bool, true, false, List, [], ◌∷◌, ◌++◌, length, get_or, take, drop, Option, Some, None, refl, sym, ap, subst, ◌∙◌, arith, append_assoc}
+use Rattle.std.proofs.Common.{◌≡◌, ℕ, zero, suc, ◌+◌, ◌<◌, ◌≤◌, Bool, true, false, List, [], ◌∷◌, ◌++◌, length, get_or, Option, Some, None, refl, sym, ap, subst, ◌∙◌, arith}
 use Rattle.std.specs.Prelude.{◌==◌, if◌then◌else◌, is_some, IfSome, IfNone}
-use Rattle.std.specs.List.{remove}
-use Rattle.std.proofs.lemmas.List.{drop_more, take_more, drop_all}
+use Rattle.std.specs.List.{remove, HoldsAt, AllWithin}
+use Rattle.std.specs.Option.{MatchOption}
+use Rattle.std.proofs.lemmas.List.Recursion.{found_at, found_nowhere}
 use Rattle.disk_model.specs.declared.change.Piece.{Piece}
 use Rattle.disk_model.specs.Storage.{piece_at, without}
 use Rattle.simdisk.specs.Room.{LieOn, AreSpaced}
-
--- the search has come to place i
-pub record Sought (ps : List Piece) (at i : ℕ) : Type 0 where
-  pub within : i ≤ length ps
-  pub found : piece_at ps at ≡ piece_at (drop i ps) at
-  pub rest : without ps at ≡ take i ps ++ without (drop i ps) at
-
-pub sought_first : (ps : List Piece) (at : ℕ) → Sought ps at 0
-sought_first ps at = record { within = omega arith; found = refl; rest = refl }
-
-pub sought_next : (ps : List Piece) (at i : ℕ) (d : Piece) → i < length ps → (get_or ps i d).at == at ≡ false → Sought ps at i → Sought ps at (i + 1)
-sought_next ps at i d lt differs s =
-    let here = drop_more ps i d lt in record {
-      within = omega arith;
-      found = s.found ∙ ap (λ (l : List Piece). piece_at l at) here ∙ ap (λ (b : Bool). if b then Some (get_or ps i d) else piece_at (drop (i + 1) ps) at) differs;
-      rest = s.rest ∙ ap (λ (l : List Piece). take i ps ++ without l at) here
-          ∙ ap (λ (b : Bool). take i ps ++ (if b then drop (i + 1) ps else get_or ps i d ∷ without (drop (i + 1) ps) at)) differs
-          ∙ sym (append_assoc (take i ps) (get_or ps i d ∷ []) (without (drop (i + 1) ps) at))
-          ∙ ap (λ (l : List Piece). l ++ without (drop (i + 1) ps) at) (sym (take_more ps i d lt));
-    }
-
-pub sought_here : (ps : List Piece) (at i : ℕ) (d : Piece) → i < length ps → (get_or ps i d).at == at ≡ true → Sought ps at i
-    → (piece_at ps at ≡ Some (get_or ps i d)) × (without ps at ≡ remove ps i)
-sought_here ps at i d lt is s =
-    let here = drop_more ps i d lt in (
-      s.found ∙ ap (λ (l : List Piece). piece_at l at) here ∙ ap (λ (b : Bool). if b then Some (get_or ps i d) else piece_at (drop (i + 1) ps) at) is,
-      s.rest ∙ ap (λ (l : List Piece). take i ps ++ without l at) here
-          ∙ ap (λ (b : Bool). take i ps ++ (if b then drop (i + 1) ps else get_or ps i d ∷ without (drop (i + 1) ps) at)) is
-          ∙ ap (λ (k : ℕ). take i ps ++ drop k ps) (let e : i + 1 ≡ suc i = omega arith in e),
-    )
-
-pub sought_none : (ps : List Piece) (at i : ℕ) → length ps ≤ i → Sought ps at i → piece_at ps at ≡ None
-sought_none ps at i ge s = s.found ∙ ap (λ (l : List Piece). piece_at l at) (drop_all i ps ge)
 
 pub without_none : (ps : List Piece) (at : ℕ) → piece_at ps at ≡ None → without ps at ≡ ps
 without_none [] at e = refl
@@ -47,6 +15,35 @@ without_none (p ∷ ps) at e = go (p.at == at) e (without_none ps at)
     go : (b : Bool) → (if b then Some p else piece_at ps at) ≡ None → (piece_at ps at ≡ None → without ps at ≡ ps) → (if b then ps else p ∷ without ps at) ≡ p ∷ ps
     go true e rec = absurd cc
     go false e rec = ap (λ (l : List Piece). p ∷ l) (rec e)
+
+abbrev nothing : Piece
+nothing = record { at = 0; bytes = [] }
+
+-- whether a piece begins there
+abbrev pub begins : ℕ → Piece → Bool
+begins at p = p.at == at
+
+without_at : (ps : List Piece) (at i : ℕ) (d : Piece) → i < length ps → ((k : ℕ) → k < i → begins at (get_or ps k d) ≡ false) → begins at (get_or ps i d) ≡ true → without ps at ≡ remove ps i
+without_at [] at i d lt misses hit = absurd (omega arith)
+without_at (p ∷ ps) at zero d lt misses hit = ap (λ (b : Bool). if b then ps else p ∷ without ps at) hit
+without_at (p ∷ ps) at (suc i) d lt misses hit =
+    ap (λ (b : Bool). if b then ps else p ∷ without ps at) (misses 0 (omega arith))
+    ∙ ap (λ (l : List Piece). p ∷ l) (without_at ps at i d (omega arith) (λ k lt. misses (suc k) (omega arith)) hit)
+
+-- what a search for the first piece that begins there tells
+pub place_is : (ps : List Piece) (at : ℕ) (o : Option ℕ)
+    → MatchOption o (AllWithin (λ p. begins at p ≡ false) ps 0 (length ps)) (λ i. (i < length ps) × HoldsAt (λ p. begins at p ≡ true) ps i × AllWithin (λ p. begins at p ≡ false) ps 0 i)
+    → IfSome o (λ i. (i < length ps) × ((d : Piece) → piece_at ps at ≡ Some (get_or ps i d)) × (without ps at ≡ remove ps i)) × IfNone o ((piece_at ps at ≡ None) × (without ps at ≡ ps))
+place_is ps at None misses =
+    let none : piece_at ps at ≡ None = found_nowhere (λ l. piece_at l at) (begins at) Some None refl (λ _ _. refl) ps nothing (λ k lt. misses k nothing (omega arith) lt) in (tt, (none, without_none ps at none))
+place_is ps at (Some i) first = (
+  (
+    first.0,
+    λ d. found_at (λ l. piece_at l at) (begins at) Some None refl (λ _ _. refl) ps i d first.0 (λ k lt. first.2 k d (omega arith) lt) (first.1 d),
+    without_at ps at i nothing first.0 (λ k lt. first.2 k nothing (omega arith) lt) (first.1 nothing),
+  ),
+  tt,
+)
 
 pub lie_more : (n : ℕ) (ps : List Piece) (p : Piece) → LieOn n ps → p.at + length p.bytes ≤ n → LieOn n (ps ++ p ∷ [])
 lie_more n [] p h le = (le, tt)

@@ -1,17 +1,16 @@
 -- Where a write may go, and what a crash leaves for a fill.
-use Rattle.std.specs.Prelude.{◌≡◌, ℕ, ◌+◌, ◌≤◌, ◌%◌, ◌&&◌, ◌||◌, nat_lt, nat_le, Bool, true, false, if◌then◌else◌, List, [], ◌∷◌, ◌++◌, length, slice_index}
+use Rattle.std.specs.Prelude.{◌≡◌, ℕ, ◌+◌, ◌≤◌, ◌%◌, ◌&&◌, ◌||◌, nat_lt, nat_le, Bool, true, if◌then◌else◌, List, [], ◌∷◌, ◌++◌, length, slice_index}
+use Rattle.std.specs.List.{list_any, list_all}
 use Rattle.disk_model.specs.declared.change.Piece.{Piece}
 use Rattle.disk_model.specs.Storage.{Drive, is_empty}
 
 -- the place lies in the range of one of these pieces
 abbrev pub in_range : List Piece → ℕ → Bool
-in_range [] i = false
-in_range (p ∷ ps) i = (nat_le p.at i && nat_lt i (p.at + length p.bytes)) || in_range ps i
+in_range ps i = list_any (λ (p : Piece). nat_le p.at i && nat_lt i (p.at + length p.bytes)) ps
 
 -- the range of n bytes from `at` on meets none of these pieces
 abbrev pub is_apart : List Piece → ℕ → ℕ → Bool
-is_apart [] at n = true
-is_apart (p ∷ ps) at n = (nat_le (at + n) p.at || nat_le (p.at + length p.bytes) at) && is_apart ps at n
+is_apart ps at n = list_all (λ (p : Piece). nat_le (at + n) p.at || nat_le (p.at + length p.bytes) at) ps
 
 -- there is room for a write: 1 to 4,096 bytes on the disk, which meet nothing in flight or failed
 abbrev pub has_room : Drive → ℕ → ℕ → Bool

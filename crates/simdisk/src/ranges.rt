@@ -12,12 +12,7 @@ pub fn place_of(pieces: &[Piece], at: u32) -> Option<usize>
     ensures found { IfSome result (λ i. (i < length pieces.now) × ((d : Piece) → piece_at pieces.now at ≡ Some (slice_index_or pieces.now i d)) × (without pieces.now at ≡ remove pieces.now i)) }
     ensures none { IfNone result ((piece_at pieces.now at ≡ None) × (without pieces.now at ≡ pieces.now)) }
 {
-    for i in 0..pieces.len() {
-        if pieces[i].at == at {
-            return Some(i);
-        }
-    }
-    None
+    pieces.iter().position(|piece| piece.at == at)
 }
 
 /// The first piece that begins there, taken out of the list.
@@ -56,28 +51,20 @@ pub fn are_apart(pieces: &[Piece], at: usize, n: usize) -> bool
     requires { at + n ≤ 2097152 }
     ensures { result ≡ is_apart pieces.now at n }
 {
-    for piece in pieces {
+    pieces.iter().all(|piece| {
         let from = piece.at as usize;
-        let len = piece.bytes.as_slice().len();
-        if from < at + n && at < from + len {
-            return false;
-        }
-    }
-    true
+        at + n <= from || from + piece.bytes.as_slice().len() <= at
+    })
 }
 
 /// Whether a place lies in the range of one of the pieces.
 pub fn is_in_range(pieces: &[Piece], place: usize) -> bool
     ensures { result ≡ in_range pieces.now place }
 {
-    for piece in pieces {
+    pieces.iter().any(|piece| {
         let from = piece.at as usize;
-        let len = piece.bytes.as_slice().len();
-        if from <= place && place < from + len {
-            return true;
-        }
-    }
-    false
+        from <= place && place < from + piece.bytes.as_slice().len()
+    })
 }
 
 /// Whether a place lies in the range of a piece of either list.

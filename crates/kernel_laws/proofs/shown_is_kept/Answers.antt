@@ -1,11 +1,6 @@
 -- What is seen rests on committed changes, and these are in the front.
-use Rattle.std.proofs.Common.{◌≡◌, ℕ, ◌<◌, ◌≤◌, ◌∙◌, List, length, take, slice_get, Some, map, ap, sym, arith}
 use Rattle.kernel_model.specs.Answers.{committed}
-use Rattle.kernel_model.specs.Shown.{Given}
-use Rattle.kernel_model.specs.Views.{contents}
 use Rattle.kernel_model.specs.World.{World, begun, after}
-use Rattle.kernel_laws.specs.Promises.{IsLongestFront}
-use Rattle.kernel_laws.specs.Kept.{AreKept}
 use Rattle.kernel_laws.proofs.Keeping.{front-kept}
 use Rattle.kernel_laws.proofs.shown_is_kept.Goals as goal
 

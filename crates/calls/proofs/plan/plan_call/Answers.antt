@@ -7,7 +7,7 @@ use Rattle.processes.specs.Parts.{Part, part_at, descriptors_in, children_in, st
 use Rattle.calls.specs.declared.plan.Plan.{Plan}
 use Rattle.calls.specs.Plans.{IsPlan, IsNext}
 use Rattle.calls.specs.Shares.{shared_of}
-use Rattle.calls.proofs.Sound.{Kept, IsSound, named-after, piped-after}
+use Rattle.calls.proofs.Sound.{Kept, IsSound, named-after}
 use Rattle.calls.proofs.Seeing.{row-kept}
 use Rattle.calls.proofs.Stepping.{few-shown}
 use Rattle.calls.proofs.Fitting.{FitsIn, request-fits}
@@ -43,9 +43,6 @@ returns-clause-row c = λ s kept.
     ap (λ (xs : List (Option Descriptor)). row all c.args.pid xs children c.args.request) c.descriptors_of-descriptors.ensures.value
     ∙ row-kept s statuses c.args.files.now c.args.pipes.now c.args.tapes.now c.args.pid ds children c.args.request kept in
     subst (λ (e : Effect). IfOk c.plan_row.result (λ plan. IsPlan plan e)) same c.plan_row.ensures.row
-
-pub returns-clause-one_edit : goal.returns-clause-one_edit
-returns-clause-one_edit c = if_planned c.plan_row.result _ _ (λ (plan : Plan) sound. sound.one_edit) (sound-of c)
 
 pub returns-clause-one_entry : goal.returns-clause-one_entry
 returns-clause-one_entry c = if_planned c.plan_row.result _ _ (λ (plan : Plan) sound. sound.one_entry) (sound-of c)
@@ -83,21 +80,12 @@ returns-clause-steps c = λ s n kept few lt.
     ap length (sym c.descriptors_of-descriptors.ensures.value) in
     if_planned c.plan_row.result _ _ (λ (plan : Plan) sound. sound.steps n (omega arith) (few-shown n s.pipes c.args.pipes.now kept.pipes few)) (sound-of c)
 
-pub returns-clause-pipes : goal.returns-clause-pipes
-unfolding kept-of
-returns-clause-pipes c = λ names.
-    if_planned c.plan_row.result _ _ (λ (plan : Plan) sound. piped-after (kept-of c) c.args.request (effect_of plan) sound names) (sound-of c)
-
 pub returns-clause-child : goal.returns-clause-child
 unfolding kept-of
 returns-clause-child c =
     let size : length (statuses_of c.args.processes.now.parts) ≡ length c.args.processes.now.parts =
     length-map c.args.processes.now.parts (λ (part : Part). part.status) in
     if_planned c.plan_row.result _ _ (λ (plan : Plan) sound. subst (λ (n : ℕ). IfSome plan.child (IsNext n)) size sound.child) (sound-of c)
-
-pub returns-clause-collects : goal.returns-clause-collects
-unfolding kept-of
-returns-clause-collects c = if_planned c.plan_row.result _ _ (λ (plan : Plan) sound. sound.collects) (sound-of c)
 
 pub returns-clause-place : goal.returns-clause-place
 unfolding kept-of

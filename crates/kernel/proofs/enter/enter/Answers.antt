@@ -54,7 +54,7 @@ runs : (c : After-index_mut-task) (u : Task) (s' : Shared) (outcome : Outcome) (
     → (w : World) → Mirrors w c.args.tasks.now.items c.args.shared.now
     → IsRun w c.args.pid c.args.tasks.now.items (slice_set c.args.tasks.now.items c.in_ok-place.place u ++ option_to_list child) s' outcome
 runs c u s' outcome child done w h =
-    done-runs c.made_files_change.ensures w c.args.tasks.now.items c.args.shared.now s' c.args.pid c.in_ok-place.place c.is_full-full.result c.index_mut-task.result.now u outcome child
+    done-runs (record { changes = c.made_files_change.ensures; pipes = record { shown = c.steps_are_shown.ensures.next; grown = c.ends_grow_by_one.ensures } }) w c.args.tasks.now.items c.args.shared.now s' c.args.pid c.in_ok-place.place c.is_full-full.result c.index_mut-task.result.now u outcome child
     h (placed c).number (there c) (fine c) done
 
 pub returns-clause-answer : goal.returns-clause-answer

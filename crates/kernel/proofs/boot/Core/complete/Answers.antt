@@ -16,7 +16,7 @@ invariant_of-self-2 c =
     let full : c.is_full-full.result ≡ full_of (length c.self.inside.history.items) c.self.inside.tasks.items =
     c.is_full-full.ensures ∙ ap (λ n. full_of n c.deref.result.now) (c.len.ensures ∙ size)
     ∙ ap (λ (ts : List Task). full_of (length c.self.inside.history.items) ts) c.deref.ensures.value in (
-      completed-core c.self.inside.booted c.self.inside.history.items c.complete.new.history.items c.self.inside.tasks.items c.release.new.tasks.items
+      completed-core c.silent_events_leave_marks.ensures c.self.inside.booted c.self.inside.history.items c.complete.new.history.items c.self.inside.tasks.items c.release.new.tasks.items
           c.self.inside.shared (record {
             dependencies = c.self.inside.shared.dependencies;
             changes = c.self.inside.shared.changes;

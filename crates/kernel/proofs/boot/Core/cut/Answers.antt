@@ -26,7 +26,7 @@ invariant_of-self c =
     let full : c.is_full-full.result ≡ full_of (length c.self.inside.history.items) c.self.inside.tasks.items =
     c.is_full-full.ensures ∙ ap (λ n. full_of n c.deref.result.now) (c.len.ensures ∙ size)
     ∙ ap (λ (ts : List Task). full_of (length c.self.inside.history.items) ts) c.deref.ensures.value in (
-      cut-core c.self.inside.booted c.self.inside.history.items c.cut.new.history.items c.self.inside.tasks.items c.self.inside.shared c.cut.new.disk
+      cut-core c.silent_events_leave_marks.ensures c.self.inside.booted c.self.inside.history.items c.cut.new.history.items c.self.inside.tasks.items c.self.inside.shared c.cut.new.disk
           c.is_full-full.result c.cut.result c.self.invariant.0 full
           (subst (λ (cs : List Change). IfOk c.cut.result (WasCut c.self.inside.shared.disk c.cut.new.disk cs c.self.inside.shared.files c.is_full-full.result))
           c.deref-2.ensures.value c.cut.ensures.done)

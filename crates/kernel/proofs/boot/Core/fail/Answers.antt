@@ -15,7 +15,7 @@ invariant_of-self c =
     let full : c.is_full-full.result ≡ full_of (length c.self.inside.history.items) c.self.inside.tasks.items =
     c.is_full-full.ensures ∙ ap (λ n. full_of n c.deref.result.now) (c.len.ensures ∙ size)
     ∙ ap (λ (ts : List Task). full_of (length c.self.inside.history.items) ts) c.deref.ensures.value in (
-      fail-core c.self.inside.booted c.self.inside.history.items c.fail.new.history.items c.self.inside.tasks.items c.self.inside.shared c.fail.new.disk c.args.at
+      fail-core c.silent_events_leave_marks.ensures c.self.inside.booted c.self.inside.history.items c.fail.new.history.items c.self.inside.tasks.items c.self.inside.shared c.fail.new.disk c.args.at
           c.is_full-full.result c.fail.result c.self.invariant.0 full c.fail.ensures.done c.fail.ensures.history c.fail.ensures.same_history c.fail.ensures.same_disk,
       counted-other c.self.inside.booted c.self.inside.history.items c.fail.new.history.items c.self.inside.tasks.items c.self.inside.tasks.items
           c.self.inside.last_lent c.self.inside.ran (Fail c.args.at) c.fail.result refl c.self.invariant.1

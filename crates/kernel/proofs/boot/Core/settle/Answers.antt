@@ -214,7 +214,7 @@ invariant_of-self-in-Some-stopped c =
     let yes : IsTrue true = search rules in
     let of : IsLoanOf t d = c.is_of_loan.ensures.0 (subst (λ (x : Bool). IsTrue x) (sym c.if-not-is_of_loan.false) yes) in
     let stands : stands_at d.machine ≡ Some c.in-Some-stopped.at = sym c.stopped.ensures ∙ c.in-Some-stopped.is in
-    let taken = enter-result c.made_files_change.ensures b history c.settle_call.new.history.items tasks c.settle_call.new.tasks.items c.self.inside.shared c.settle_call.new.shared last place t d c.in-Some-stopped.at c.settle_call.result
+    let taken = enter-result (record { changes = c.made_files_change.ensures; pipes = record { shown = c.steps_are_shown.ensures.next; grown = c.ends_grow_by_one.ensures } }) b history c.settle_call.new.history.items tasks c.settle_call.new.tasks.items c.self.inside.shared c.settle_call.new.shared last place t d c.in-Some-stopped.at c.settle_call.result
     c.self.invariant.0 placed.number there of stands
     (subst (λ (ts : List Task). IfOk c.settle_call.result (λ a. IsCallSettled d place ts c.settle_call.new.tasks.items c.self.inside.shared c.settle_call.new.shared a))
     (set-same tasks place t there) c.settle_call.ensures.done)
@@ -275,7 +275,7 @@ returns-in-Some-stopped-clause-events c =
     let yes : IsTrue true = search rules in
     let of : IsLoanOf t d = c.is_of_loan.ensures.0 (subst (λ (x : Bool). IsTrue x) (sym c.if-not-is_of_loan.false) yes) in
     let stands : stands_at d.machine ≡ Some c.in-Some-stopped.at = sym c.stopped.ensures ∙ c.in-Some-stopped.is in
-    let taken = enter-result c.made_files_change.ensures b history c.settle_call.new.history.items tasks c.settle_call.new.tasks.items c.self.inside.shared c.settle_call.new.shared last place t d c.in-Some-stopped.at c.settle_call.result
+    let taken = enter-result (record { changes = c.made_files_change.ensures; pipes = record { shown = c.steps_are_shown.ensures.next; grown = c.ends_grow_by_one.ensures } }) b history c.settle_call.new.history.items tasks c.settle_call.new.tasks.items c.self.inside.shared c.settle_call.new.shared last place t d c.in-Some-stopped.at c.settle_call.result
     c.self.invariant.0 placed.number there of stands
     (subst (λ (ts : List Task). IfOk c.settle_call.result (λ a. IsCallSettled d place ts c.settle_call.new.tasks.items c.self.inside.shared c.settle_call.new.shared a))
     (set-same tasks place t there) c.settle_call.ensures.done)
@@ -297,7 +297,7 @@ returns-in-Some-stopped-clause-answer c =
     let yes : IsTrue true = search rules in
     let of : IsLoanOf t d = c.is_of_loan.ensures.0 (subst (λ (x : Bool). IsTrue x) (sym c.if-not-is_of_loan.false) yes) in
     let stands : stands_at d.machine ≡ Some c.in-Some-stopped.at = sym c.stopped.ensures ∙ c.in-Some-stopped.is in
-    let taken = enter-result c.made_files_change.ensures b history c.settle_call.new.history.items tasks c.settle_call.new.tasks.items c.self.inside.shared c.settle_call.new.shared last place t d c.in-Some-stopped.at c.settle_call.result
+    let taken = enter-result (record { changes = c.made_files_change.ensures; pipes = record { shown = c.steps_are_shown.ensures.next; grown = c.ends_grow_by_one.ensures } }) b history c.settle_call.new.history.items tasks c.settle_call.new.tasks.items c.self.inside.shared c.settle_call.new.shared last place t d c.in-Some-stopped.at c.settle_call.result
     c.self.invariant.0 placed.number there of stands
     (subst (λ (ts : List Task). IfOk c.settle_call.result (λ a. IsCallSettled d place ts c.settle_call.new.tasks.items c.self.inside.shared c.settle_call.new.shared a))
     (set-same tasks place t there) c.settle_call.ensures.done)

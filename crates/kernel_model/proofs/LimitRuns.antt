@@ -1,0 +1,328 @@
+-- Through each event the tables of a state keep their limits.
+use Rattle.std.proofs.Common.{◌≡◌, ℕ, zero, suc, ◌+◌, ◌<◌, ◌≤◌, inl, inr, Bool, true, false, not, List, [], ◌∷◌, ◌++◌, length, slice_get, Option, Some, None, is_some, IfSome, refl, sym, ap, ◌∙◌, subst, arith, length-append}
+use Rattle.std.specs.Prelude.{if◌then◌else◌, option_to_list, filter}
+use Rattle.std.specs.List.{AllByRecursion}
+use Rattle.std.proofs.lemmas.List.{length-map, length-set, length-drop}
+use Rattle.disk_model.specs.Held.{joined}
+use Rattle.disk_model.specs.declared.change.Change.{Change}
+use Rattle.disk_model.specs.declared.change.NamedFile.{NamedFile}
+use Rattle.disk_model.proofs.Tidy.{IsTidyFile, tidy_after}
+use Rattle.machine_model.specs.declared.reply.Reply.{Reply}
+use Rattle.machine_model.specs.States.{stands_at, replied}
+use Rattle.kernel_model.specs.Limits.{KeepLimits, TapesAreThere, AreFewAndShort, RiseWithin, descriptor_count}
+use Rattle.kernel_model.specs.Rows.{Effect, most_processes}
+use Rattle.kernel_model.specs.State.{SyncState, Process, TapeState, process_at, put_process, with_process, shared, changed_by, read_by, with_place}
+use Rattle.kernel_model.specs.Steps.{after_run, after_turn, own_entry, impossible, is_collected, after_reply, forked, after_end, after_effect, after_effect_if, effect_at, after_enter, step, zero_reply}
+use Rattle.kernel_model.specs.World.{World, Boot, BootProgram, HoldsItsFiles, first_process, processes_from, tapes_of, tape_count, begun, happens, after}
+use Rattle.kernel_model.specs.declared.descriptor.Descriptor.{Descriptor}
+use Rattle.kernel_model.specs.declared.effect.TapeRead.{TapeRead}
+use Rattle.kernel_model.specs.declared.event.Event.{Event}
+use Rattle.kernel_model.specs.declared.event.Event.TheVariants.{Turn, Enter, Cut, Complete, Fail}
+use Rattle.kernel_model.specs.declared.request.Verdict.{Verdict}
+use Rattle.kernel_model.specs.declared.request.Verdict.TheVariants.{Waits, Replies, Ends}
+use Rattle.kernel_model.proofs.Limits.{each_get, put_length, at_put, at_append, at_below, rise_higher, rise_filter, rise_more, IsThere, AreThere, are_there_more, free_there, closed_there, there_at, set_there, slots_length, IsHeld, IsBrief, FilesStand, LeavesFew, changed_grows, changed_stand}
+use Rattle.kernel_model.proofs.Runs.{append-nil}
+use Rattle.kernel_model.proofs.LimitRows.{IsNext, PipesFit, Keeps, effect_keeps}
+
+-- process pid, which is p, of so many files, tapes and processes
+record Stands (files tapes processes pid : ℕ) (p : Process) : Type 0 where
+  pub count : length p.descriptors ≡ descriptor_count
+  pub there : AreThere files tapes p.descriptors
+  pub children : RiseWithin pid processes p.children
+
+-- all processes, the pipes and how many tapes there are, where descriptors stand for tapes of numbers below `named`
+record AllStand (named : ℕ) (s : SyncState) : Type 0 where
+  pub each : (pid : ℕ) (p : Process) → process_at s.processes pid ≡ Some p → Stands (length s.files) named (length s.processes) pid p
+  pub pipes : PipesFit s.pipes
+  pub tapes : length s.tapes ≡ tape_count
+
+-- what an event keeps
+record Kept (tapes : ℕ) (s t : SyncState) : Type 0 where
+  pub stand : AllStand tapes t
+  pub few : length s.processes ≤ most_processes → length t.processes ≤ most_processes
+  pub files : FilesStand s.files → FilesStand t.files
+
+same_kept : (tapes : ℕ) (s : SyncState) → AllStand tapes s → Kept tapes s s
+same_kept tapes s all = record { stand = all; few = λ h. h; files = λ h. h }
+
+-- among more files and processes a process stands as well
+stands_more : (files more tapes processes top pid : ℕ) (p : Process) → files ≤ more → processes ≤ top → Stands files tapes processes pid p → Stands more tapes top pid p
+stands_more files more tapes processes top pid p le below h = record {
+  count = h.count;
+  there = are_there_more files more tapes le p.descriptors h.there;
+  children = rise_higher pid processes top p.children below h.children;
+}
+
+-- ---- an effect
+
+by_grows : (files : List NamedFile) (o : Option Change) → length files ≤ length (changed_by files o)
+by_grows files None = omega arith
+by_grows files (Some c) = changed_grows files c
+
+place_length : (tapes : List TapeState) (t count : ℕ) (o : Option TapeState) → length (with_place tapes t count o) ≡ length tapes
+place_length tapes t count None = refl
+place_length tapes t count (Some tape) = length-set tapes t (record tape { place = tape.place + count })
+
+read_length : (tapes : List TapeState) (o : Option TapeRead) → length (read_by tapes o) ≡ length tapes
+read_length tapes None = refl
+read_length tapes (Some r) = place_length tapes r.tape r.count (slice_get tapes r.tape)
+
+by_stand : (files : List NamedFile) (o : Option Change) → IfSome o (LeavesFew files) → FilesStand files → FilesStand (changed_by files o)
+by_stand files None leaves h = h
+by_stand files (Some c) leaves h = changed_stand files c leaves h
+
+-- how many processes are made
+abbrev made : Option ℕ → ℕ
+made None = 0
+made (Some child) = 1
+
+forked_length : (p : Process) (o : Option ℕ) → length (forked p o) ≡ made o
+forked_length p None = refl
+forked_length p (Some child) = refl
+
+few_made : (count : ℕ) (o : Option ℕ) → IsNext count o → count ≤ most_processes → count + made o ≤ most_processes
+few_made count None next le = omega (arith, le)
+few_made count (Some child) next le = omega (arith, next.1)
+
+-- the children left, with the one that is made
+children_stand : (children : List ℕ) (collects : ℕ → Bool) (o : Option ℕ) (pid count : ℕ) → pid ≤ count → IsNext count o → RiseWithin pid count children
+    → RiseWithin pid (count + made o) (filter collects children ++ option_to_list o)
+children_stand children collects None pid count le next h =
+    subst (λ (ns : List ℕ). RiseWithin pid (count + 0) ns) (sym (append-nil (filter collects children)))
+    (rise_higher pid count (count + 0) (filter collects children) (omega arith) (rise_filter collects pid count children h))
+children_stand children collects (Some child) pid count le next h =
+    let is : child ≡ count + 1 = next.0 in
+    subst (λ (n : ℕ). RiseWithin pid (count + 1) (filter collects children ++ n ∷ [])) (sym is)
+    (rise_more pid count (filter collects children) le (rise_filter collects pid count children h))
+
+-- Below, a process that stands there.
+module _ (tapes : ℕ) (s : SyncState) (all : AllStand tapes s) (pid : ℕ) (p : Process) (at : process_at s.processes pid ≡ Some p) where
+  own : Stands (length s.files) tapes (length s.processes) pid p
+  own = all.each pid p at
+
+  -- the process is now another, where all else stays
+  put_each : (q : Process) → Stands (length s.files) tapes (length s.processes) pid q → (j : ℕ) (x : Process)
+      → process_at (put_process s.processes pid q) j ≡ Some x → Stands (length s.files) tapes (length s.processes) j x
+  put_each q new j x e = elim (at_put s.processes pid j q x e) [
+    | inl t ↦ subst (λ (y : Process). Stands (length s.files) tapes (length s.processes) j y) t.1
+        (subst (λ (i : ℕ). Stands (length s.files) tapes (length s.processes) i q) (sym t.0) new)
+    | inr t ↦ all.each j x t
+  ]
+
+  run_kept : (n : ℕ) → Kept tapes s (with_process s pid (after_run n p))
+  run_kept n =
+      let count = put_length s.processes pid (after_run n p) in
+      record {
+        stand = record {
+          each = λ j x is. stands_more (length s.files) (length s.files) tapes (length s.processes) (length (put_process s.processes pid (after_run n p))) j x (omega arith) (omega (arith, count))
+              (put_each (after_run n p) (record { count = own.count; there = own.there; children = own.children }) j x is);
+          pipes = all.pipes;
+          tapes = all.tapes;
+        };
+        few = λ h. omega (arith, count, h);
+        files = λ h. h;
+      }
+
+  end_kept : (e : Effect) (status : ℕ) → Keeps (shared s) tapes (all.pipes) e → Kept tapes s (after_effect s pid p e (Ends status)).state
+  end_kept e status keeps =
+      let count = put_length s.processes pid (after_end p status) in
+      record {
+        stand = record {
+          each = λ j x is. stands_more (length s.files) (length s.files) tapes (length s.processes) (length (put_process s.processes pid (after_end p status))) j x (omega arith) (omega (arith, count))
+              (put_each (after_end p status) (record {
+                count = length-map p.descriptors (λ (d : Option Descriptor). None) ∙ own.count;
+                there = closed_there (length s.files) tapes p.descriptors;
+                children = own.children;
+              }) j x is);
+          pipes = keeps.pipes;
+          tapes = all.tapes;
+        };
+        few = λ h. omega (arith, count, h);
+        files = λ h. h;
+      }
+
+  -- Below, an effect that keeps the limits, and a reply.
+  module _ (e : Effect) (r : Reply) (keeps : Keeps (shared s) tapes all.pipes e) where
+    next : IsNext (length s.processes) e.child
+    next = subst (λ (n : ℕ). IsNext n e.child) (length-map s.processes (λ (q : Process). q.status)) keeps.child
+
+    grows : length s.files ≤ length (changed_by s.files e.change)
+    grows = by_grows s.files e.change
+
+    abbrev Then : ℕ → Process → Type 0
+    Then j x = Stands (length (changed_by s.files e.change)) tapes (length s.processes + made e.child) j x
+
+    replied_stands : Then pid (after_reply p e r)
+    replied_stands = record {
+      count = slots_length e.slots p.descriptors ∙ own.count;
+      there = set_there (length (changed_by s.files e.change)) tapes e.slots p.descriptors keeps.slots
+          (are_there_more (length s.files) (length (changed_by s.files e.change)) tapes grows p.descriptors own.there);
+      children = children_stand p.children (λ child. not (is_collected e.collects child)) e.child pid (length s.processes) (at_below s.processes pid p at) next own.children;
+    }
+
+    forked_stands : (j k : ℕ) (x : Process) (o : Option ℕ) → slice_get (forked p o) k ≡ Some x → Then j x
+    forked_stands j k x None is = absurd (let no : ⊥ = cc in no)
+    forked_stands j zero x (Some child) is =
+        let new : Process = record { state = replied p.state zero_reply; descriptors = p.descriptors; children = []; status = None } in
+        let same : new ≡ x = cc in
+        subst (λ (y : Process). Then j y) same (record {
+          count = own.count;
+          there = are_there_more (length s.files) (length (changed_by s.files e.change)) tapes grows p.descriptors own.there;
+          children = tt;
+        })
+    forked_stands j (suc k) x (Some child) is = absurd (let no : ⊥ = cc in no)
+
+    each_stands : (j : ℕ) (x : Process) → process_at (put_process s.processes pid (after_reply p e r) ++ forked p e.child) j ≡ Some x → Then j x
+    each_stands j x is = elim (at_append (put_process s.processes pid (after_reply p e r)) (forked p e.child) j x is) [
+      | inl there ↦ elim (at_put s.processes pid j (after_reply p e r) x there) [
+        | inl t ↦ subst (λ (y : Process). Then j y) t.1 (subst (λ (i : ℕ). Then i (after_reply p e r)) (sym t.0) replied_stands)
+        | inr t ↦ stands_more (length s.files) (length (changed_by s.files e.change)) tapes (length s.processes) (length s.processes + made e.child) j x grows (omega arith) (all.each j x t)
+      ]
+      | inr t ↦ forked_stands j t.0 x e.child t.1
+    ]
+
+    total : length (put_process s.processes pid (after_reply p e r) ++ forked p e.child) ≡ length s.processes + made e.child
+    total = omega (
+      arith,
+      length-append (put_process s.processes pid (after_reply p e r)) (forked p e.child),
+      forked_length p e.child,
+      put_length s.processes pid (after_reply p e r),
+    )
+
+    reply_kept : Kept tapes s (after_effect s pid p e (Replies r)).state
+    reply_kept = record {
+      stand = record {
+        each = λ j x is. subst (λ (n : ℕ). Stands (length (changed_by s.files e.change)) tapes n j x) (sym total) (each_stands j x is);
+        pipes = keeps.pipes;
+        tapes = read_length s.tapes e.tape ∙ all.tapes;
+      };
+      few = λ h. omega (arith, total, few_made (length s.processes) e.child next h);
+      files = λ h. by_stand s.files e.change keeps.change h;
+    }
+
+  told_kept : (e : Effect) (v : Verdict) → Keeps (shared s) tapes all.pipes e → Kept tapes s (after_effect s pid p e v).state
+  told_kept e Waits keeps = same_kept tapes s all
+  told_kept e (Replies r) keeps = reply_kept e r keeps
+  told_kept e (Ends status) keeps = end_kept e status keeps
+
+  effect_if_kept : (o : Option Effect) → IfSome o (Keeps (shared s) tapes all.pipes) → Kept tapes s (after_effect_if s pid p o).state
+  effect_if_kept None keeps = same_kept tapes s all
+  effect_if_kept (Some e) keeps = told_kept e e.told keeps
+
+  turn_kept : (n : ℕ) (b : Bool) → Kept tapes s (if b then impossible pid s else record { state = with_process s pid (after_run n p); entry = own_entry pid }).state
+  turn_kept n true = same_kept tapes s all
+  turn_kept n false = run_kept n
+
+  enter_kept : (b : Bool) → Kept tapes s (if b then impossible pid s else after_effect_if s pid p (effect_at (shared s) pid p (stands_at p.state))).state
+  enter_kept true = same_kept tapes s all
+  enter_kept false = effect_if_kept (effect_at (shared s) pid p (stands_at p.state)) (effect_keeps (shared s) tapes all.pipes pid p (stands_at p.state) own.there)
+
+-- ---- events
+
+after_turn_kept : (tapes : ℕ) (s : SyncState) (pid n : ℕ) (o : Option Process) → AllStand tapes s → process_at s.processes pid ≡ o → Kept tapes s (after_turn s pid n o).state
+after_turn_kept tapes s pid n None all at = same_kept tapes s all
+after_turn_kept tapes s pid n (Some p) all at = turn_kept tapes s all pid p at n (is_some p.status)
+
+after_enter_kept : (tapes : ℕ) (s : SyncState) (pid : ℕ) (o : Option Process) → AllStand tapes s → process_at s.processes pid ≡ o → Kept tapes s (after_enter s pid o).state
+after_enter_kept tapes s pid None all at = same_kept tapes s all
+after_enter_kept tapes s pid (Some p) all at = enter_kept tapes s all pid p at (is_some p.status)
+
+step_kept : (tapes : ℕ) (s : SyncState) (e : Event) → AllStand tapes s → Kept tapes s (step s e).state
+step_kept tapes s (Turn pid n) all = after_turn_kept tapes s pid n (process_at s.processes pid) all refl
+step_kept tapes s (Enter pid) all = after_enter_kept tapes s pid (process_at s.processes pid) all refl
+step_kept tapes s Cut all = same_kept tapes s all
+step_kept tapes s (Complete at) all = same_kept tapes s all
+step_kept tapes s (Fail at) all = same_kept tapes s all
+
+-- ---- runs
+
+after_kept : (tapes : ℕ) (es : List Event) (w : World) → AllStand tapes w.sync → Kept tapes w.sync (after w es).sync
+after_kept tapes [] w all = same_kept tapes w.sync all
+after_kept tapes (e ∷ es) w all =
+    let one = step_kept tapes w.sync e all in
+    let more = after_kept tapes es (happens w e) one.stand in
+    record { stand = more.stand; few = λ h. more.few (one.few h); files = λ h. more.files (one.files h) }
+
+-- a boot's processes are as many as its programs, and each has a tape of a number below that
+first_length : (i : ℕ) (ps : List BootProgram) → length (processes_from i ps) ≡ length ps
+first_length i [] = refl
+first_length i (p ∷ ps) = ap suc (first_length (i + 1) ps)
+
+first_get : (files tapes processes i pid k : ℕ) (ps : List BootProgram) (p : Process) → i + length ps ≤ tapes → slice_get (processes_from i ps) k ≡ Some p → Stands files tapes processes pid p
+first_get files tapes processes i pid k [] p le is = absurd (let no : ⊥ = cc in no)
+first_get files tapes processes i pid zero (q ∷ ps) p le is =
+    let same : first_process i q ≡ p = cc in
+    subst (λ (x : Process). Stands files tapes processes pid x) same (record { count = refl; there = (omega (arith, le), (tt, free_there files tapes 14)); children = tt })
+first_get files tapes processes i pid (suc k) (q ∷ ps) p le is = first_get files tapes processes (i + 1) pid k ps p (omega (arith, le)) is
+
+first_at : (files tapes processes pid : ℕ) (ps : List BootProgram) (p : Process) → length ps ≤ tapes → process_at (processes_from 0 ps) pid ≡ Some p → Stands files tapes processes pid p
+first_at files tapes processes zero ps p le is = absurd (let no : ⊥ = cc in no)
+first_at files tapes processes (suc k) ps p le is = first_get files tapes processes 0 (suc k) k ps p (omega (arith, le)) is
+
+tapes_length : (n : ℕ) (tapes : List (List ℕ)) → length (tapes_of n tapes) ≡ n
+tapes_length zero tapes = refl
+tapes_length (suc n) [] = ap suc (tapes_length n [])
+tapes_length (suc n) (tape ∷ tapes) = ap suc (tapes_length n tapes)
+
+begun_stand : (b : Boot) → AllStand (length b.programs) (begun b).sync
+begun_stand b = record {
+  each = λ pid p is. first_at (length b.files) (length b.programs) (length (processes_from 0 b.programs)) pid b.programs p (omega arith) is;
+  pipes = record { few = omega arith; held = tt };
+  tapes = tapes_length tape_count b.tapes;
+}
+
+run_kept_all : (b : Boot) (es : List Event) → Kept (length b.programs) (begun b).sync (after (begun b) es).sync
+run_kept_all b es = after_kept (length b.programs) es (begun b) (begun_stand b)
+
+-- ---- the laws
+
+pub run_processes : (b : Boot) (es : List Event) → length b.programs ≤ most_processes → length (after (begun b) es).sync.processes ≤ most_processes
+run_processes b es le = (run_kept_all b es).few (omega (arith, first_length 0 b.programs, le))
+
+pub run_limits : (b : Boot) (es : List Event) → KeepLimits (after (begun b) es).sync
+run_limits b es =
+    let all = (run_kept_all b es).stand in
+    record {
+      processes = λ pid p at.
+          let own = all.each pid p at in
+          record {
+            descriptors = own.count;
+            named = λ fd file offset writes is. subst (IsThere (length (after (begun b) es).sync.files) (length b.programs)) is
+                (there_at (length (after (begun b) es).sync.files) (length b.programs) p.descriptors fd own.there);
+            children = own.children;
+          };
+      pipes = all.pipes.few;
+      held = λ k p at.
+          let own = each_get IsHeld (after (begun b) es).sync.pipes k p all.pipes.held at in
+          record { taken = own.taken; held = omega (arith, own.taken, own.most, length-drop p.taken p.written) };
+    }
+
+pub run_tapes : (b : Boot) (es : List Event) → length b.programs ≤ tape_count → TapesAreThere (after (begun b) es).sync
+run_tapes b es le pid fd t p at is =
+    let all = (run_kept_all b es).stand in
+    let below : t < length b.programs = subst (IsThere (length (after (begun b) es).sync.files) (length b.programs)) is
+    (there_at (length (after (begun b) es).sync.files) (length b.programs) p.descriptors fd (all.each pid p at).there) in
+    omega (arith, below, le, all.tapes)
+
+-- files that a disk holds are few and short
+brief_tidy : (files : List NamedFile) → AllByRecursion IsTidyFile files → AllByRecursion IsBrief files
+brief_tidy [] h = tt
+brief_tidy (f ∷ files) h = (record { some = h.0.name.0; name = h.0.name.1; bytes = h.0.short }, brief_tidy files h.1)
+
+booted_files : (b : Boot) → HoldsItsFiles b → FilesStand b.files
+booted_files b held = subst FilesStand (sym held.reads.makes) (
+    let tidy = tidy_after (joined held.reads.groups) held.reads.possible in record { few = tidy.few; each = brief_tidy _ tidy.each })
+
+pub run_files : (b : Boot) (es : List Event) → HoldsItsFiles b → AreFewAndShort (after (begun b) es).sync.files
+run_files b es held =
+    let files = (run_kept_all b es).files (booted_files b held) in
+    record {
+      few = files.few;
+      short = λ place f at.
+          let own = each_get IsBrief (after (begun b) es).sync.files place f files.each at in
+          record { some = own.some; name = own.name; bytes = own.bytes };
+    }
+
+pub run_children : (b : Boot) (es : List Event) (pid : ℕ) (p : Process) → process_at (after (begun b) es).sync.processes pid ≡ Some p
+    → RiseWithin pid (length (after (begun b) es).sync.processes) p.children
+run_children b es pid p at = ((run_kept_all b es).stand.each pid p at).children
