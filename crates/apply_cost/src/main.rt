@@ -161,6 +161,14 @@ impl Run {
     }
 }
 
+/// What a write takes after many events, in thousandths of what it takes after few.
+fn ratio_of<R: AllocGlobal + Clock>(rt: &R, writer: &Writer) -> Result<u128, Error> {
+    let mut run = Run::of(rt.alloc(), writer)?;
+    let short = run.time_behind(rt, SHORT)?.as_nanos();
+    let long = run.time_behind(rt, LONG)?.as_nanos();
+    Ok(long.saturating_mul(1000) / short.max(1))
+}
+
 fn main(rt: HostRuntime) -> Result<(), Error> {
     let words: Vec<String> = env::args(&rt)?.collect(rt.alloc())?;
     if words.len() > 1 {
@@ -170,10 +178,7 @@ fn main(rt: HostRuntime) -> Result<(), Error> {
         return Ok(());
     }
     for writer in &WRITERS {
-        let mut run = Run::of(rt.alloc(), writer)?;
-        let short = run.time_behind(&rt, SHORT)?.as_nanos();
-        let long = run.time_behind(&rt, LONG)?.as_nanos();
-        let ratio = long.saturating_mul(1000) / short.max(1);
+        let ratio = ratio_of(&rt, writer)?;
         println!(rt;
             "a write to {}: behind {LONG} events {ratio} thousandths of its time behind {SHORT}",
             writer.to

@@ -5,8 +5,3 @@ mod burst;
 
 pub use burst::run_loan;
 pub use kernel::{Done, Loan, Rejected};
-
-#[cfg(test)]
-mod cores;
-#[cfg(test)]
-mod tests;

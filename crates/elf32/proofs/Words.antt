@@ -56,7 +56,7 @@ All-one P x p zero d lt = p
 All-one P x p (suc k) d lt = absurd (omega (arith, lt))
 
 -- the program of words meets the profile
-IsProfile-words : (words : List ℕ) → 0 < length words → length words ≤ 15360 → IsProfile (program_of_words words)
+IsProfile-words : (words : List ℕ) → 0 < length words → length words ≤ 61440 → IsProfile (program_of_words words)
 IsProfile-words words some few = record {
   some = omega arith;
   few = omega arith;
@@ -68,6 +68,6 @@ IsProfile-words words some few = record {
 }
 
 pub IsProfile-segments : (words bytes : List ℕ) (segments : List Segment) → segments ≡ record { vaddr = 0x00010000; memsz = 4 * length words; rights = record { read = true; write = false; execute = true }; bytes = bytes } ∷ [] → bytes ≡ bytes_of_words words
-    → 0 < length words → length words ≤ 15360 → IsProfile (record { entry = 0x00010000; segments = segments })
+    → 0 < length words → length words ≤ 61440 → IsProfile (record { entry = 0x00010000; segments = segments })
 IsProfile-segments words bytes segments is spelled some few =
     subst (λ (list : List Segment). IsProfile (record { entry = 0x00010000; segments = list })) (sym (is ∙ ap (λ (b : List ℕ). record { vaddr = 0x00010000; memsz = 4 * length words; rights = record { read = true; write = false; execute = true }; bytes = b } ∷ []) spelled)) (IsProfile-words words some few)

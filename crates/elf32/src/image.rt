@@ -55,7 +55,7 @@ impl Image {
     /// first word.
     pub fn from_text(alloc: Global, words: &[u32]) -> Result<Image, AllocError>
         requires some { 0 < length words.now }
-        requires fits { length words.now ≤ 15360 }
+        requires fits { length words.now ≤ 61440 }
         ensures { IfOk result (λ image. image ≡ program_of_words words.now) }
     {
         let mut bytes = Vec::new(alloc);

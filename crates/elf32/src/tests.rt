@@ -1,4 +1,6 @@
 //! A small program's file, that file with a fault in each place, and files of two segments.
+ghost use Rattle.std.specs.Prelude.{◌≡◌, IfOk, length};
+
 use crate::fault::ElfFault;
 use crate::image::Image;
 use crate::parsing::parse;
@@ -230,6 +232,28 @@ fn a_last_segment_of_no_bytes_is_kept(rt: HostRuntime) -> Result<(), Fail> {
         assert_eq!(rt; one.rights, other.rights);
         assert_eq!(rt; one.bytes.as_slice(), other.bytes.as_slice());
     }
+    Ok(())
+}
+
+/// This word so many times.
+fn repeated(alloc: Global, word: u32, count: usize) -> Result<Vec<u32>, AllocError>
+    ensures { IfOk result (λ words. length words.items ≡ count) }
+{
+    vec![in alloc; word; count]
+}
+
+#[test]
+fn the_longest_text_fills_sixty_pages(rt: HostRuntime) -> Result<(), Fail> {
+    let words = repeated(rt.alloc(), ECALL, 61_440)?;
+    let image = Image::from_text(rt.alloc(), &words)?;
+    let mut file = write(rt.alloc(), &image)?;
+    assert_eq!(rt; file.len(), 249_856);
+    assert_eq!(rt; fault(rt.alloc(), &file), 0);
+    // one word more, of the file and of memory
+    file.resize(249_860, 0)?;
+    set(&mut file, 68, 4);
+    set(&mut file, 72, 4);
+    assert_eq!(rt; fault(rt.alloc(), &file), 10);
     Ok(())
 }
 

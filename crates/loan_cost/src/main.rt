@@ -122,6 +122,14 @@ fn measure<R: Clock>(rt: &R, core: &mut Core, loans: u32) -> Result<Times, Error
     Ok(times)
 }
 
+/// What lending and taking back took of the time of the run, in thousandths, with so many pages of data.
+fn ratio_with<R: AllocGlobal + Clock>(rt: &R, pages: u32) -> Result<u128, Error>
+    requires { pages ≤ 51 }
+{
+    let mut core = boot(rt.alloc(), pages)?;
+    Ok(measure(rt, &mut core, LOANS)?.ratio())
+}
+
 fn main(rt: HostRuntime) -> Result<(), Error> {
     let words: Vec<String> = env::args(&rt)?.collect(rt.alloc())?;
     if words.len() > 1 {
@@ -131,8 +139,7 @@ fn main(rt: HostRuntime) -> Result<(), Error> {
         return Ok(());
     }
     for pages in [1, 16, 51] {
-        let mut core = boot(rt.alloc(), pages)?;
-        let ratio = measure(&rt, &mut core, LOANS)?.ratio();
+        let ratio = ratio_with(&rt, pages)?;
         println!(rt; "{pages} pages of data: lend and settle take {ratio} thousandths of the run")?;
     }
     Ok(())

@@ -113,21 +113,3 @@ impl From<io::Error> for Fault {
         }
     }
 }
-
-#[cfg(test)]
-mod tests {
-    use crate::fault::Fault;
-    use kernel::{BootFault, DiskFault};
-    use std::test::Fail;
-
-    #[test]
-    fn a_damaged_disk_has_its_line(rt: HostRuntime) -> Result<(), Fail> {
-        let fault = Fault::from(BootFault::Disk(DiskFault::PastHalf));
-        assert_eq!(rt; fault.status(), 3);
-        assert_eq!(rt;
-            format!(in rt.alloc(); "{fault}")?.as_str(),
-            "bench: disk refused: 3 PastHalf"
-        );
-        Ok(())
-    }
-}

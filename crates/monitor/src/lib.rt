@@ -10,4 +10,5 @@ mod script;
 mod setup;
 mod source;
 
+pub use fault::Fault;
 pub use program::bench;

@@ -14,7 +14,7 @@ const MOST_PROGRAMS: usize = 8;
 const TERMINALS: u32 = 8;
 
 /// The most words of a program: 60 pages.
-const MOST_WORDS: usize = 15360;
+const MOST_WORDS: usize = 61440;
 
 /// How many tapes there are.
 pub const TAPES: u32 = 8;
@@ -22,19 +22,19 @@ pub const TAPES: u32 = 8;
 /// The most bytes of a tape.
 const MOST_TAPE_BYTES: usize = 65536;
 
-/// The words of a program, 1 to 15,360, for the addresses from 0x00010000 on.
+/// The words of a program, 1 to 61,440, for the addresses from 0x00010000 on.
 #[derive(Drop)]
 pub struct Words {
     words: Vec<u32>,
     ghost some: { 0 < vec_len words },
-    ghost few: { vec_len words ≤ 15360 },
+    ghost few: { vec_len words ≤ 61440 },
 }
 
 impl Words {
     /// The words in order.
     pub fn as_slice(&self) -> &[u32]
         ensures some { 0 < length result.now }
-        ensures few { length result.now ≤ 15360 }
+        ensures few { length result.now ≤ 61440 }
     {
         self.words.as_slice()
     }

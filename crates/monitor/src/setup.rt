@@ -145,28 +145,3 @@ fn tapes_of(alloc: Global, tapes: &[ScriptTape]) -> Result<Vec<Bytes>, Fault>
     }
     Ok(booted)
 }
-
-#[cfg(test)]
-mod tests {
-    use super::*;
-    use crate::script::Script;
-    use kernel::Event;
-    use std::test::Fail;
-
-    #[test]
-    fn a_trap_ends_its_process(rt: HostRuntime) -> Result<(), Fail> {
-        let text = "program 0 00100073\nturn 1 5\nenter 1\n";
-        let Script {
-            programs,
-            tapes,
-            ..
-        } = Script::parse(rt.alloc(), text)?;
-        let (_setup, mut core) = Setup::boot(&rt, programs, tapes)?;
-        assert_eq!(rt; core.ended(1)?, None);
-        core.apply(Event::Turn { pid: 1, n: 5 })?;
-        core.apply(Event::Enter { pid: 1 })?;
-        // 256 and 6, the cause
-        assert_eq!(rt; core.ended(1)?, Some(262));
-        Ok(())
-    }
-}

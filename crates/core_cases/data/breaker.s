@@ -1,0 +1,2 @@
+# Stops at EBREAK, at once.
+_start: ebreak

@@ -1,0 +1,8 @@
+-- A program for each of the sources so far, with its terminal.
+use Rattle.std.proofs.Common.{◌≡◌, ◌<◌, length}
+use Rattle.std.specs.List.{AllByRecursion}
+use Rattle.kernel.specs.declared.boot.Program.{Program}
+use Rattle.core_cases.proofs.cores.programs_of.Given as goal
+
+abbrev pub invariant-loop-source : goal.invariant-loop-source
+invariant-loop-source l = (length l.booted.items ≡ l.source-index) × AllByRecursion (λ (p : Program). p.terminal < 8) l.booted.items

@@ -1,0 +1,205 @@
+//! Cores of the programs and tapes that a case gives.
+ghost use Rattle.std.specs.Prelude.{◌≡◌, ◌<◌, IfOk, length};
+ghost use Rattle.std.specs.List.{AllByRecursion};
+
+use anyhow::{Error, bail};
+use assembler::assemble;
+use bursts::{Done, Rejected, run_loan};
+use byte_list::Bytes;
+use files::FileTable;
+use kernel::{Answer, BootFault, Core, DiskFault, Event, Program, Refused, SimDisk};
+use machine_model::Reply;
+use std::alloc::{AllocError, Global};
+
+/// A program that can be booted any number of times: its terminal, and its source.
+#[derive(Drop)]
+pub struct Source {
+    pub terminal: u32,
+    pub text: String,
+    ghost known: { terminal < 8 },
+}
+
+/// Programs to be booted once.
+fn programs_of(alloc: Global, sources: &[Source]) -> Result<Vec<Program>, Error>
+    ensures len { IfOk result (λ booted. length booted.items ≡ length sources.now) }
+    ensures terminals { IfOk result (λ booted. AllByRecursion (λ p. p.terminal < 8) booted.items) }
+{
+    let mut booted = Vec::new(alloc);
+    for source in sources {
+        let (image, _listing) = assemble(alloc, source.text.as_str())?;
+        let terminal = source.terminal;
+        booted.push(Program { image, terminal })?;
+    }
+    Ok(booted)
+}
+
+/// Tapes to be booted once.
+fn tapes_of(alloc: Global, tapes: &[Vec<u8>]) -> Result<Vec<Bytes>, AllocError>
+    ensures { IfOk result (λ booted. length booted.items ≡ length tapes.now) }
+{
+    let mut booted = Vec::new(alloc);
+    for tape in tapes {
+        booted.push(Bytes::copy_of(alloc, tape)?)?;
+    }
+    Ok(booted)
+}
+
+/// The files that a disk holds, as `journal::recover` finds them.
+pub fn recover(alloc: Global, disk: &SimDisk) -> Result<FileTable, DiskFault> {
+    journal::recover(alloc, disk)
+}
+
+/// A core whose calls are looked at by running them: they are the core's own, but for their contracts, which would make
+/// each case a proof of what its run comes to.
+#[derive(Drop)]
+pub struct TestCore {
+    core: Core,
+}
+
+impl TestCore {
+    /// The boot of these programs and tapes on the completed bytes of a disk.
+    pub fn try_boot(
+        alloc: Global,
+        sources: &[Source],
+        tapes: &[Vec<u8>],
+        disk: &SimDisk,
+    ) -> Result<Result<TestCore, BootFault>, Error> {
+        if sources.is_empty() || sources.len() > 8 || tapes.len() > 8 {
+            bail!("a core has one to eight programs, and at most eight tapes");
+        }
+        let disk = SimDisk::open(alloc, disk.bytes())?;
+        let programs = programs_of(alloc, sources)?;
+        let booted = Core::boot(alloc, disk, programs, tapes_of(alloc, tapes)?);
+        Ok(booted.map(|core| TestCore { core }))
+    }
+
+    /// A core of these programs and tapes on the completed bytes of a disk.
+    pub fn boot(
+        alloc: Global,
+        sources: &[Source],
+        tapes: &[Vec<u8>],
+        disk: &SimDisk,
+    ) -> Result<TestCore, Error> {
+        Ok(TestCore::try_boot(alloc, sources, tapes, disk)??)
+    }
+
+    pub fn apply(&mut self, event: Event) -> Result<Answer, Refused> {
+        self.core.apply(event)
+    }
+
+    pub fn run_script(&mut self, events: &[Event]) -> usize {
+        self.core.run_script(events)
+    }
+
+    pub fn drain(&mut self) -> Result<(), Refused> {
+        self.core.drain()
+    }
+
+    pub fn halt(self, fill: &[u8]) -> SimDisk {
+        self.core.halt(fill)
+    }
+
+    /// Lends a process, where one may be lent, for a quantum of instructions, and runs the loan apart from the core.
+    pub fn burst(&mut self, quantum: u32) -> Result<Option<Done>, Refused> {
+        let loan = self.core.lend(quantum)?;
+        Ok(loan.map(|loan| run_loan(loan)))
+    }
+
+    pub fn settle(&mut self, done: Done) -> Result<Answer, Rejected> {
+        self.core.settle(done)
+    }
+
+    pub fn boot_files(&self) -> &FileTable {
+        self.core.boot_files()
+    }
+
+    pub fn history(&self) -> &[Event] {
+        self.core.history()
+    }
+
+    /// What a terminal shows: nothing, where there is no such terminal.
+    pub fn shown(&self, terminal: u32) -> &[u8] {
+        if terminal < 8 {
+            self.core.shown(terminal)
+        } else {
+            &[]
+        }
+    }
+
+    pub fn trace(&self, pid: u32) -> Result<&[Reply], Refused> {
+        self.core.trace(pid)
+    }
+
+    pub fn ended(&self, pid: u32) -> Result<Option<u32>, Refused> {
+        self.core.ended(pid)
+    }
+
+    pub fn in_flight(&self) -> Option<u32> {
+        self.core.in_flight()
+    }
+
+    pub fn changes(&self) -> u64 {
+        self.core.changes()
+    }
+
+    pub fn committed(&self) -> u64 {
+        self.core.committed()
+    }
+
+    pub fn ran(&self) -> u64 {
+        self.core.ran()
+    }
+
+    pub fn wants_cut(&self) -> bool {
+        self.core.wants_cut()
+    }
+
+    /// Process 1 makes calls until there are so many changes, at most a hundred calls.
+    pub fn change_up_to(&mut self, changes: u64) -> Result<(), Error> {
+        for _ in 0..100 {
+            if self.changes() >= changes {
+                return Ok(());
+            }
+            self.apply(Event::Turn { pid: 1, n: 10_000 })?;
+            self.apply(Event::Enter { pid: 1 })?;
+        }
+        bail!("process 1 makes no more changes")
+    }
+
+    /// Process 1 makes so many further changes, by at most a hundred calls.
+    pub fn change_by(&mut self, changes: u64) -> Result<(), Error> {
+        self.change_up_to(self.changes().saturating_add(changes))
+    }
+
+    /// Cuts a group, and answers how many writes commit it.
+    pub fn cut(&mut self) -> Result<u64, Error> {
+        match self.apply(Event::Cut)? {
+            Answer::Cut { writes, .. } => Ok(writes),
+            _ => bail!("this was no cut"),
+        }
+    }
+
+    /// So many events, each the completion of the write in flight that begins first on the disk, or a Cut where none is.
+    pub fn commit(&mut self, events: u64) -> Result<(), Refused> {
+        for _ in 0..events {
+            let event = match self.in_flight() {
+                Some(at) => Event::Complete { at },
+                None => Event::Cut,
+            };
+            self.apply(event)?;
+        }
+        Ok(())
+    }
+
+    /// Process 1 makes so many further changes, which one group commits. Answers how many writes that took.
+    pub fn round(&mut self, changes: u64) -> Result<u64, Error> {
+        self.change_by(changes)?;
+        let writes = self.cut()?;
+        self.commit(writes)?;
+        if self.committed() == self.changes() {
+            Ok(writes)
+        } else {
+            bail!("one group does not commit all changes")
+        }
+    }
+}

@@ -1,0 +1,15 @@
+//! The line of a disk that cannot be read, to which no command comes today.
+use crate::compare::compare;
+use anyhow::{Error, ensure};
+use kernel::{BootFault, DiskFault};
+use monitor::Fault;
+use std::alloc::Global;
+
+/// It names the first fault, and the status is 3.
+pub fn check(alloc: Global) -> Result<(), Error> {
+    let fault = Fault::from(BootFault::Disk(DiskFault::PastHalf));
+    let status = fault.status();
+    ensure!(status == 3, "the status was {status}");
+    let line = format!(in alloc; "{fault}")?;
+    compare(line.as_str(), "bench: disk refused: 3 PastHalf")
+}

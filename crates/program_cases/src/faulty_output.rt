@@ -1,0 +1,65 @@
+//! Outputs that take few writes: what the program printed goes out at once, and its status says where it could not.
+use anyhow::{Error, ensure};
+use std::io::{self, ErrorKind, Write};
+use std::rt::Files;
+
+/// An output that takes so many writes, and then fails.
+#[derive(Drop)]
+struct Output {
+    writes: usize,
+    room: usize,
+}
+
+impl Write for Output {
+    fn write(&mut self, buf: &[u8]) -> io::Result<usize> {
+        if self.writes >= self.room {
+            return Err(io::Error::from(ErrorKind::BrokenPipe));
+        }
+        self.writes += 1;
+        Ok(buf.len())
+    }
+
+    fn flush(&mut self) -> io::Result<()> {
+        Ok(())
+    }
+}
+
+/// A script of eight lines of output.
+const SCRIPT: &[u8] =
+    b"program 0 00100073\nturn 1 0\nturn 1 0\nshown 0\ntrace 1\ncut\nturn 1 5\nenter 1\nshown 1\n";
+
+/// Runs the program with this word, if it is one, on the script: it fills the output's room, and ends with this status
+/// and this text on standard error.
+fn check_room<R: Files + AllocGlobal>(
+    rt: &R,
+    word: &str,
+    room: usize,
+    status: u8,
+    said: &str,
+) -> Result<(), Error> {
+    let mut words = Vec::new(rt.alloc());
+    if !word.is_empty() {
+        words.push(String::from_str(rt.alloc(), word)?)?;
+    }
+    let mut input = SCRIPT;
+    let mut out = Output { writes: 0, room };
+    let mut err = Vec::new(rt.alloc());
+    let ended = monitor::bench(rt, &words, &mut input, &mut out, &mut err);
+    let writes = out.writes;
+    ensure!(ended == status, "room for {room} writes: status {ended}");
+    ensure!(writes == room, "room for {room} writes: {writes} writes");
+    ensure!(
+        err.as_slice() == said.as_bytes(),
+        "room for {room} writes: another line"
+    );
+    Ok(())
+}
+
+/// One write is enough for all output, of a script and of help; where there is none, the status is 6.
+pub fn check<R: Files + AllocGlobal>(rt: &R) -> Result<(), Error> {
+    for word in ["", "--help"] {
+        check_room(rt, word, 1, 0, "")?;
+        check_room(rt, word, 0, 6, "bench: input or output failed\n")?;
+    }
+    Ok(())
+}

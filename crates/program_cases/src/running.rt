@@ -1,0 +1,24 @@
+//! Runs of the whole program, over text in memory.
+use std::alloc::AllocError;
+use std::rt::Files;
+
+/// What a run wrote, and its exit status.
+#[derive(Drop)]
+pub struct Ran {
+    pub out: Vec<u8>,
+    pub err: Vec<u8>,
+    pub status: u8,
+}
+
+/// Runs the program with these words, parted by blanks, on an input.
+pub fn run<R: Files + AllocGlobal>(rt: &R, words: &str, input: &[u8]) -> Result<Ran, AllocError> {
+    let mut list = Vec::new(rt.alloc());
+    for word in words.split_whitespace() {
+        list.push(String::from_str(rt.alloc(), word)?)?;
+    }
+    let mut out = Vec::new(rt.alloc());
+    let mut err = Vec::new(rt.alloc());
+    let mut input = input;
+    let status = monitor::bench(rt, &list, &mut input, &mut out, &mut err);
+    Ok(Ran { out, err, status })
+}
