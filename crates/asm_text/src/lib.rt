@@ -12,8 +12,6 @@ mod number;
 mod quoted;
 mod runs;
 mod scan;
-#[cfg(test)]
-mod tests;
 mod text;
 mod token;
 

@@ -16,8 +16,6 @@ mod mnemonic;
 mod names;
 mod operands;
 mod statement;
-#[cfg(test)]
-mod tests;
 mod tokens;
 
 pub use assembly::assemble;

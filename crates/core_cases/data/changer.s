@@ -1,3 +1,4 @@
+# Makes the file f, and ends with status 7, which is 263 modulo 256.
 _start: la a0,name
         li a1,1
         li a2,2

@@ -1,3 +1,4 @@
+# Makes the file f, writes 41 00 00 to it and A to its terminal, and ends.
 _start: li t0, 0x66      # the name, f
     sw t0, -4(sp)
     addi a0, sp, -4

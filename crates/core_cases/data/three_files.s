@@ -1,3 +1,6 @@
+# Makes the files a, b and c, and goes on writing, in rounds: 1,024 bytes to each of two blocks of a, from 500 on, and to each
+# of six blocks of c, from its start. A write begins with its number, in four bytes; after it stands the file's letter again
+# and again.
 _start: addi s1,sp,-2048      # what goes to a
         addi s2,sp,-1024      # what goes to c
         li t1,0x61616161

@@ -1,3 +1,6 @@
+# Goes on writing to the file f, which it makes if it is not there: 1,024 bytes to each of its sixteen blocks in turn, again
+# and again. A write begins with its number, in four bytes; after it are zeros. On the tape stands the number of the last
+# write before, a multiple of sixteen, or nothing for none.
 _start: addi s1,sp,-1024
         li a0,0
         mv a1,s1

@@ -8,7 +8,6 @@ use bursts::{Done, Rejected, run_loan};
 use byte_list::Bytes;
 use files::FileTable;
 use kernel::{Answer, BootFault, Core, DiskFault, Event, Program, Refused, SimDisk};
-use machine_model::Reply;
 use std::alloc::{AllocError, Global};
 
 /// A program that can be booted any number of times: its terminal, and its source.
@@ -51,9 +50,16 @@ pub fn recover(alloc: Global, disk: &SimDisk) -> Result<FileTable, DiskFault> {
 
 /// A core whose calls are looked at by running them: they are the core's own, but for their contracts, which would make
 /// each case a proof of what its run comes to.
-#[derive(Drop)]
 pub struct TestCore {
     core: Core,
+}
+
+impl Drop for TestCore {
+    /// A core that is let go is halted. So that is done in one place, and not again wherever a case may end.
+    fn drop(self) {
+        let TestCore { core } = self;
+        let _disk = core.halt(b"");
+    }
 }
 
 impl TestCore {
@@ -96,7 +102,8 @@ impl TestCore {
     }
 
     pub fn halt(self, fill: &[u8]) -> SimDisk {
-        self.core.halt(fill)
+        let TestCore { core } = self;
+        core.halt(fill)
     }
 
     /// Lends a process, where one may be lent, for a quantum of instructions, and runs the loan apart from the core.
@@ -126,8 +133,13 @@ impl TestCore {
         }
     }
 
-    pub fn trace(&self, pid: u32) -> Result<&[Reply], Refused> {
-        self.core.trace(pid)
+    /// The numbers that a process was replied, as far as they are handed out.
+    pub fn replied(&self, alloc: Global, pid: u32) -> Result<Vec<u32>, Error> {
+        let mut numbers = Vec::new(alloc);
+        for reply in self.core.trace(pid)? {
+            numbers.push(reply.a0)?;
+        }
+        Ok(numbers)
     }
 
     pub fn ended(&self, pid: u32) -> Result<Option<u32>, Refused> {
@@ -154,11 +166,11 @@ impl TestCore {
         self.core.wants_cut()
     }
 
-    /// Process 1 makes calls until there are so many changes, at most a hundred calls.
-    pub fn change_up_to(&mut self, changes: u64) -> Result<(), Error> {
+    /// Process 1 makes calls until there are so many changes, at most a hundred calls. Answers how many there are.
+    pub fn change_up_to(&mut self, changes: u64) -> Result<u64, Error> {
         for _ in 0..100 {
             if self.changes() >= changes {
-                return Ok(());
+                return Ok(self.changes());
             }
             self.apply(Event::Turn { pid: 1, n: 10_000 })?;
             self.apply(Event::Enter { pid: 1 })?;
@@ -166,13 +178,9 @@ impl TestCore {
         bail!("process 1 makes no more changes")
     }
 
-    /// Process 1 makes so many further changes, by at most a hundred calls.
-    pub fn change_by(&mut self, changes: u64) -> Result<(), Error> {
-        self.change_up_to(self.changes().saturating_add(changes))
-    }
-
-    /// Cuts a group, and answers how many writes commit it.
-    pub fn cut(&mut self) -> Result<u64, Error> {
+    /// Process 1 makes so many further changes, which are cut as one group. Answers how many writes commit it.
+    pub fn cut_after(&mut self, changes: u64) -> Result<u64, Error> {
+        self.change_up_to(self.changes().saturating_add(changes))?;
         match self.apply(Event::Cut)? {
             Answer::Cut { writes, .. } => Ok(writes),
             _ => bail!("this was no cut"),
@@ -193,13 +201,35 @@ impl TestCore {
 
     /// Process 1 makes so many further changes, which one group commits. Answers how many writes that took.
     pub fn round(&mut self, changes: u64) -> Result<u64, Error> {
-        self.change_by(changes)?;
-        let writes = self.cut()?;
+        let writes = self.cut_after(changes)?;
         self.commit(writes)?;
         if self.committed() == self.changes() {
             Ok(writes)
         } else {
             bail!("one group does not commit all changes")
         }
+    }
+
+    /// So many such rounds, and the writes that each took.
+    pub fn rounds(&mut self, alloc: Global, rounds: u32, changes: u64) -> Result<Vec<u64>, Error> {
+        let mut writes = Vec::new(alloc);
+        for _ in 0..rounds {
+            writes.push(self.round(changes)?)?;
+        }
+        Ok(writes)
+    }
+
+    /// Loans for this quantum are run and taken back until no process is lent, at most a hundred. Answers how many there
+    /// were.
+    pub fn loans(&mut self, quantum: u32) -> Result<u32, Error> {
+        for count in 0..100 {
+            let Some(done) = self.burst(quantum)? else {
+                return Ok(count);
+            };
+            if self.settle(done).is_err() {
+                bail!("a result is refused");
+            }
+        }
+        bail!("there is no end of loans")
     }
 }

@@ -8,8 +8,6 @@ mod image;
 mod laws;
 mod little_endian;
 mod parsing;
-#[cfg(test)]
-mod tests;
 mod writing;
 
 pub use fault::ElfFault;

@@ -8,8 +8,6 @@ mod loading;
 mod machine;
 mod stopped;
 mod table;
-#[cfg(test)]
-mod tests;
 
 pub use elf32::{Image, Segment};
 pub use machine::Machine;

@@ -1,15 +1,15 @@
 //! Runs the program `bench` on the cases in files, and compares what it does with what stands there beside it.
 //!
-//! The words are the files' names: `.calls` for programs that call the kernel (`calls`), `.sessions` for runs of the
+//! The words are the files' names: `.calls` for programs that call the kernel (`kernel_calls`), `.sessions` for runs of the
 //! program by its command line (`sessions`). A file begins with a comment, and each case with a line `== TITLE`. A line
 //! is printed for each file; at the first case that comes out otherwise the program ends with status 1, and says which.
 #![tactic(auto)]
 
-mod calls;
 mod compare;
 mod damaged_disk;
 mod faulty_output;
 mod hex_parts;
+mod kernel_calls;
 mod notation;
 mod running;
 mod sessions;
@@ -21,7 +21,7 @@ use std::{env, fs};
 /// Runs a case, in the notation that the name of its file ends with.
 fn check_case<R: Files + AllocGlobal>(rt: &R, name: &str, case: &str) -> Result<(), Error> {
     if name.ends_with(".calls") {
-        calls::check(rt, case)
+        kernel_calls::check(rt, case)
     } else {
         sessions::check(rt, case)
     }

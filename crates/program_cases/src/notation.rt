@@ -1,4 +1,4 @@
-//! Programs that call the kernel, in the notation of `calls`: their sources, and the replies beside their calls.
+//! Programs that call the kernel, in the notation of `kernel_calls`: their sources, and the replies beside their calls.
 use crate::hex_parts::push_parts;
 use anyhow::{Error, bail};
 use assembler::assemble;

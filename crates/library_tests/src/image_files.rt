@@ -1,10 +1,7 @@
 //! A small program's file, that file with a fault in each place, and files of two segments.
 ghost use Rattle.std.specs.Prelude.{◌≡◌, IfOk, length};
 
-use crate::fault::ElfFault;
-use crate::image::Image;
-use crate::parsing::parse;
-use crate::writing::write;
+use elf32::{ElfFault, Image, parse, write};
 use machine_model::Rights;
 use std::alloc::{AllocError, Global};
 use std::test::Fail;

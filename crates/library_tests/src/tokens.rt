@@ -1,5 +1,5 @@
 //! Sources with their tokens, and sources with a fault.
-use crate::{Cause, TextFault, TokenKind, lines};
+use asm_text::{Cause, TextFault, TokenKind, lines};
 use std::alloc::Global;
 use std::test::Fail;
 

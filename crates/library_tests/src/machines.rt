@@ -1,8 +1,8 @@
 //! Small programs, loaded and run.
-use crate::machine::Machine;
 use byte_list::Bytes;
 use elf32::Image;
 use formats::Reg;
+use machine::Machine;
 use machine_model::{Cause, Reply, Stop};
 use std::test::Fail;
 

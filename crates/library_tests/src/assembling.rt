@@ -1,4 +1,4 @@
-use crate::{AsmFault, Cause, Listing, assemble};
+use assembler::{AsmFault, Cause, Listing, assemble};
 use elf32::{Image, write};
 use std::alloc::Global;
 use std::process::Abort;
