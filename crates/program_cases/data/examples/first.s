@@ -11,7 +11,7 @@ _start:
     li   a7, 4           # open
     ecall                # replies the least free descriptor
 
-    li   t0, 0x41        # the letter A, and three zeros behind it
+    li   t0, 0x41        # the letter A, and three zeros after it
     sw   t0, -4(sp)
     addi a1, sp, -4      # from here
     li   a2, 3           # three bytes

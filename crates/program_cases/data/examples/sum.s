@@ -3,7 +3,7 @@
 .data
 table:
     .word 3, 1, 4, 1, 5, 9, 2, 6
-digits:                  # the label behind the table tells where the table ends
+digits:                  # the label after the table tells where the table ends
     .space 10            # room for ten digits, the most that a number of 32 bits has
 newline:
     .byte 10
