@@ -11,8 +11,6 @@ mod read;
 mod request;
 mod seek;
 mod tapes;
-#[cfg(test)]
-mod tests;
 mod told;
 mod wait;
 mod write;

@@ -5,8 +5,6 @@ mod committer;
 mod pieces;
 mod plan;
 mod refusal;
-#[cfg(test)]
-mod tests;
 
 pub use committer::Committer;
 pub use refusal::CommitRefusal;

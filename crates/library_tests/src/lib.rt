@@ -5,10 +5,14 @@
 #[cfg(test)]
 mod assembling;
 #[cfg(test)]
+mod groups;
+#[cfg(test)]
 mod image_files;
 #[cfg(test)]
 mod instructions;
 #[cfg(test)]
 mod machines;
+#[cfg(test)]
+mod planned_calls;
 #[cfg(test)]
 mod tokens;

@@ -2,16 +2,12 @@
 ghost use Rattle.std.specs.Prelude.{◌≡◌, ◌≤◌, length, IfOk};
 ghost use Rattle.std.specs.List.{AllByRecursion};
 ghost use Rattle.disk_model.specs.declared.change.NamedFile.{NamedFile};
-ghost use Rattle.kernel_model.specs.declared.effect.Slot.{Slot};
 ghost use Rattle.processes.specs.Parts.{part_at, descriptors_in};
-ghost use Rattle.calls.specs.Plans.{NamesFile, NamesFiles};
+ghost use Rattle.calls.specs.Plans.{NamesFiles};
 ghost use Rattle.calls.specs.Wholes.{IsWhole};
 
-use crate::ends::plan_end;
-use crate::plan::{Plan, plan_call};
-use crate::request::request_of;
-use crate::tapes::TapeTable;
 use byte_list::Bytes;
+use calls::{Plan, TapeTable, plan_call, plan_end, request_of};
 use files::FileTable;
 use kernel_model::{Carrier, Descriptor, PipeEnd, PipeStep, Request, Slot, Verdict};
 use machine::{Image, Machine};
@@ -101,21 +97,16 @@ fn tapes_of(alloc: Global, bytes: &[u8]) -> Result<TapeTable, Fail> {
     Ok(TapeTable::new(Arc::new(alloc, tapes)?))
 }
 
-/// Two processes, of which the second reads tape 0 and writes terminal 3, and has this descriptor.
-fn processes_with(alloc: Global, slot: Slot) -> Result<ProcTable, Fail>
-    requires { NamesFile 1 slot.holds }
+/// Two processes, of which the second reads tape 0 and writes terminal 3.
+fn two_processes(alloc: Global) -> Result<ProcTable, Fail>
     ensures count { IfOk result (λ processes. length processes.parts ≡ 2) }
     ensures named { IfOk result (λ processes. NamesFiles 1 (descriptors_in (part_at processes.parts 2))) }
 {
     let mut processes = ProcTable::new(alloc);
     processes.boot(0, 0)?;
     processes.boot(0, 3)?;
-    processes.set(2, slot);
     Ok(processes)
 }
-
-/// A descriptor that is free.
-const FREE: Slot = Slot { fd: 2, holds: None };
 
 /// One file, with the bytes 'abc'.
 fn file_of_abc(alloc: Global) -> Result<FileTable, Fail>
@@ -152,7 +143,7 @@ fn plan_of(alloc: Global, request: Request) -> Result<Plan, Fail>
     let files = file_of_abc(alloc)?;
     let tapes = tapes_of(alloc, b"hi")?;
     let pipes = PipeTable::new(alloc)?;
-    let processes = processes_with(alloc, FREE)?;
+    let processes = two_processes(alloc)?;
     let plan = plan_call(alloc, &files, &pipes, &tapes, &processes, 2, request)?;
     Ok(plan)
 }
@@ -225,7 +216,7 @@ fn a_tape_goes_on(rt: HostRuntime) -> Result<(), Fail> {
     let files = file_of_abc(alloc)?;
     let pipes = PipeTable::new(alloc)?;
     let mut tapes = tapes_of(alloc, b"hello")?;
-    let processes = processes_with(alloc, FREE)?;
+    let processes = two_processes(alloc)?;
     let request = Request::Read {
         fd: 0,
         at: 64,

@@ -2,10 +2,10 @@
 ghost use Rattle.std.specs.Prelude.{◌≡◌, OnOk};
 ghost use Rattle.disk_model.specs.Files.{IsFormed, IsMade, MayCome, changed};
 
-use crate::{CommitRefusal, Committer};
 use byte_list::Bytes;
 use disk_model::{Change, made_files_change};
 use files::FileTable;
+use group_commit::{CommitRefusal, Committer};
 use simdisk::SimDisk;
 use std::alloc::{AllocError, Global};
 use std::test::Fail;
