@@ -1,5 +1,5 @@
-//! What a write costs the kernel, to a terminal, to a file and to a pipe: the time of its Enter behind a short history and
-//! behind a long one.
+//! What a write costs the kernel, to a terminal, to a file and to a pipe: the time of its Enter after a short history and
+//! after a long one.
 #![tactic(auto)]
 
 use anyhow::Error;
@@ -9,7 +9,7 @@ use std::alloc::Global;
 use std::env;
 use std::time::{Clock, Duration, Instant};
 
-/// Behind how many events the Enters are timed.
+/// After how many events the Enters are timed.
 const SHORT: usize = 1_000;
 
 const LONG: usize = 100_000;
@@ -79,7 +79,7 @@ struct Writer {
     /// What it writes to.
     to: &'static str,
     source: &'static str,
-    /// Whether each write comes behind another call; else each call is a write.
+    /// Whether each write follows another call; else each call is a write.
     alternates: bool,
 }
 
@@ -114,8 +114,8 @@ impl Run {
     fn of(alloc: Global, writer: &Writer) -> Result<Run, Error> {
         let (image, _) = assemble(alloc, writer.source)?;
         let program = Program { image, terminal: 0 };
-        let disk = SimDisk::zero(alloc)?;
-        let core = Core::boot(alloc, disk, vec![in alloc; program]?, Vec::new(alloc))?;
+        let device = SimDisk::zero(alloc)?;
+        let core = Core::boot(alloc, device, vec![in alloc; program]?, Vec::new(alloc))?;
         Ok(Run {
             core,
             calls: 0,
@@ -148,8 +148,8 @@ impl Run {
         Ok(())
     }
 
-    /// The time of so many calls' writes, all together, behind so many events.
-    fn time_behind<R: Clock>(&mut self, rt: &R, events: usize) -> Result<Duration, Error> {
+    /// The time of so many calls' writes, all together, after so many events.
+    fn time_after<R: Clock>(&mut self, rt: &R, events: usize) -> Result<Duration, Error> {
         self.go_to(rt, events)?;
         let mut time = Duration::ZERO;
         for _ in 0..CALLS {
@@ -164,8 +164,8 @@ impl Run {
 /// What a write takes after many events, in thousandths of what it takes after few.
 fn ratio_of<R: AllocGlobal + Clock>(rt: &R, writer: &Writer) -> Result<u128, Error> {
     let mut run = Run::of(rt.alloc(), writer)?;
-    let short = run.time_behind(rt, SHORT)?.as_nanos();
-    let long = run.time_behind(rt, LONG)?.as_nanos();
+    let short = run.time_after(rt, SHORT)?.as_nanos();
+    let long = run.time_after(rt, LONG)?.as_nanos();
     Ok(long.saturating_mul(1000) / short.max(1))
 }
 

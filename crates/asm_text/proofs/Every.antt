@@ -31,7 +31,7 @@ abbrev blanks_of : Place → ℕ
 blanks_of p = prefix_len is_blank p.bytes
 
 abbrev directly_at : Place → Bool
-directly_at p = p.behind_word && eqb (blanks_of p) 0
+directly_at p = p.after_word && eqb (blanks_of p) 0
 
 -- where a line goes on and no comment begins, a token comes next or nothing does
 by_token : (number from : ℕ) (line : List ℕ) (tokens : List Token) (p : Place) → IsRead from line tokens p
@@ -42,7 +42,7 @@ by_token number from line tokens p read next b rest here_is on None token =
 by_token number from line tokens p read next b rest here_is on (Some (kind, len)) token =
     let size = some_len (directly_at p) (b ∷ rest) kind len token in
     let t : Token = record { kind = kind; start = p.at + blanks_of p; end = p.at + blanks_of p + len } in
-    let q : Place = record { at = p.at + blanks_of p + len; bytes = drop len (b ∷ rest); behind_word = is_word kind } in
+    let q : Place = record { at = p.at + blanks_of p + len; bytes = drop len (b ∷ rest); after_word = is_word kind } in
     next (tokens ++ t ∷ []) q
     (omega (arith, size.0, size.1, length-drop len (b ∷ rest), ap length here_is, length-drop (blanks_of p) p.bytes, prefix_len-le-length is_blank p.bytes))
     (read_further read (blanks_of p) (directly_at p) (b ∷ rest) refl refl here_is kind len (is_word kind) (drop len (b ∷ rest)) (tokens ++ t ∷ []) token size.1 refl refl refl)
@@ -70,22 +70,22 @@ has_line number from line =
 abbrev HasText : List ℕ → Type 0
 HasText source = ((ls : List Line) × IsText source ls) ⊎ ((line : ℕ) × (column : ℕ) × FirstFault source line column)
 
-by_behind : (source : List ℕ) (lines : List Line) (from : ℕ) (rest : List ℕ) → AreRead source lines from rest
+by_after : (source : List ℕ) (lines : List Line) (from : ℕ) (rest : List ℕ) → AreRead source lines from rest
     → ((items : List Line) (start : ℕ) (onward : List ℕ) → length onward < length rest → AreRead source items start onward → HasText source)
-    → (l : Line) → IsLine (length lines + 1) from (take (prefix_len goes_on rest) rest) l → (behind : List ℕ) → behind ≡ drop (prefix_len goes_on rest) rest → HasText source
-by_behind source lines from rest read next l line [] behind_is =
-    inl (lines ++ l ∷ [], text_read read (prefix_len goes_on rest) (take (prefix_len goes_on rest) rest) [] refl refl behind_is l (lines ++ l ∷ []) line refl refl)
-by_behind source lines from rest read next l line (b ∷ onward) behind_is =
+    → (l : Line) → IsLine (length lines + 1) from (take (prefix_len goes_on rest) rest) l → (after : List ℕ) → after ≡ drop (prefix_len goes_on rest) rest → HasText source
+by_after source lines from rest read next l line [] after_is =
+    inl (lines ++ l ∷ [], text_read read (prefix_len goes_on rest) (take (prefix_len goes_on rest) rest) [] refl refl after_is l (lines ++ l ∷ []) line refl refl)
+by_after source lines from rest read next l line (b ∷ onward) after_is =
     let text : List ℕ = take (prefix_len goes_on rest) rest in
     next (lines ++ l ∷ []) (from + (length text + 1)) onward
-    (omega (arith, ap length behind_is, length-drop (prefix_len goes_on rest) rest))
-    (lines_further read (prefix_len goes_on rest) text (b ∷ onward) refl refl behind_is l (lines ++ l ∷ []) b onward (from + (length text + 1)) line refl refl refl)
+    (omega (arith, ap length after_is, length-drop (prefix_len goes_on rest) rest))
+    (lines_further read (prefix_len goes_on rest) text (b ∷ onward) refl refl after_is l (lines ++ l ∷ []) b onward (from + (length text + 1)) line refl refl refl)
 
 source_goes : (fuel : ℕ) (source : List ℕ) (lines : List Line) (from : ℕ) (rest : List ℕ) → length rest < fuel → AreRead source lines from rest → HasText source
 source_goes zero source lines from rest few read = absurd (omega arith)
 source_goes (suc fuel) source lines from rest few read =
     let n : ℕ = prefix_len goes_on rest in
-    ⊎_elim (λ is. by_behind source lines from rest read (λ items start onward less further. source_goes fuel source items start onward (omega arith) further) is.0 is.1 (drop n rest) refl)
+    ⊎_elim (λ is. by_after source lines from rest read (λ items start onward less further. source_goes fuel source items start onward (omega arith) further) is.0 is.1 (drop n rest) refl)
     (λ fault. inr (length lines + 1, fault.0, first_fault read n (take n rest) (drop n rest) refl refl refl (length lines + 1) fault.0 (refl, fault.1)))
     (has_line (length lines + 1) from (take n rest))
 

@@ -17,14 +17,14 @@ use Rattle.asm_text.specs.Scan.{run_len, word_of, number_of, string_of, contents
 use Rattle.asm_text.specs.declared.token.TokenKind.{TokenKind}
 use Rattle.asm_text.specs.declared.token.TokenKind.TheVariants.{Word, Number, Text, Comma, Colon, Open, Close, Plus, Minus}
 use Rattle.asm_text.proofs.Choices.{chosen, when_true, when_false, mapped}
-use Rattle.asm_text.proofs.Names.{front_passes, run_ends, run_is}
+use Rattle.asm_text.proofs.Names.{prefix_passes, run_ends, run_is}
 use Rattle.asm_text.proofs.Quotes.{contents_found, contents_only}
 use Rattle.asm_text.proofs.Digits.{number_names}
 
--- a token of this kind and length stands at the front
-pub record IsFound (behind_word : Bool) (bytes : List ℕ) (kind : TokenKind) (len : ℕ) : Type 0 where
+-- a token of this kind and length comes first
+pub record IsFound (after_word : Bool) (bytes : List ℕ) (kind : TokenKind) (len : ℕ) : Type 0 where
   pub within : len ≤ length bytes
-  pub token : IsToken behind_word kind (take len bytes) (drop len bytes)
+  pub token : IsToken after_word kind (take len bytes) (drop len bytes)
 
 as_found : (w : Bool) (bytes : List ℕ) (k kind : TokenKind) (n len : ℕ) → ◌≡◌ {A = TokenKind × ℕ} (k, n) (kind, len) → IsFound w bytes k n → IsFound w bytes kind len
 as_found w bytes k kind n len same f = subst (λ (p : TokenKind × ℕ). IsFound w bytes p.0 p.1) same f
@@ -38,7 +38,7 @@ word_found w b bs kind len begins e =
     let count = length-take-le m bs within in
     as_found w (b ∷ bs) Word kind (suc m) len parts.1 (record {
       within = omega arith;
-      token = ((begins, front_passes is_name_byte bs, (let fits : suc (length (take m bs)) ≤ 64 = omega arith in fits)), run_ends is_name_byte bs);
+      token = ((begins, prefix_passes is_name_byte bs, (let fits : suc (length (take m bs)) ≤ 64 = omega arith in fits)), run_ends is_name_byte bs);
     })
 
 number_found : (w : Bool) (b : ℕ) (bs : List ℕ) (kind : TokenKind) (len : ℕ) → (is_ascii_digit b || (eqb b 45 && not w)) ≡ true → number_of (take (run_len (b ∷ bs)) (b ∷ bs)) ≡ Some (kind, len) → IsFound w (b ∷ bs) kind len
@@ -63,10 +63,10 @@ string_found w bs kind len e =
     let text : List ℕ = 34 ∷ (flat_map spelling held.0.0 ++ 34 ∷ []) in
     let parted : 34 ∷ bs ≡ text ++ q.rest = ap (λ (l : List ℕ). 34 ∷ l) (q.text ∙ sym (append_assoc (flat_map spelling held.0.0) (34 ∷ []) q.rest)) in
     let count : length text ≡ 1 + held.0.1 = omega (arith, q.count, length-append (flat_map spelling held.0.0) (34 ∷ [])) in
-    let front : take (1 + held.0.1) (34 ∷ bs) ≡ text = ap (λ (n : ℕ). take n (34 ∷ bs)) (sym count) ∙ ap (take (length text)) parted ∙ take-append_seam text q.rest in
+    let prefix : take (1 + held.0.1) (34 ∷ bs) ≡ text = ap (λ (n : ℕ). take n (34 ∷ bs)) (sym count) ∙ ap (take (length text)) parted ∙ take-append_seam text q.rest in
     as_found w (34 ∷ bs) (Text held.0.0) kind (1 + held.0.1) len held.2 (record {
       within = omega (arith, count, ap length parted, length-append text q.rest);
-      token = (record { spelled = q.spelled; quoted = front }, tt);
+      token = (record { spelled = q.spelled; quoted = prefix }, tt);
     })
 
 mark_found : (w : Bool) (b : ℕ) (bs : List ℕ) (kind : TokenKind) (len : ℕ) → option_map {U = TokenKind × ℕ} (λ (k : TokenKind). (k, 1)) (mark_of w b) ≡ Some (kind, len) → IsFound w (b ∷ bs) kind len
@@ -100,7 +100,7 @@ mark_found w b bs kind len e =
         (chosen (eqb b 44) (Some Comma) _ (Some k) m)
 
 -- what is found has its form
-pub found : (behind_word : Bool) (bytes : List ℕ) (kind : TokenKind) (len : ℕ) → token_at behind_word bytes ≡ Some (kind, len) → IsFound behind_word bytes kind len
+pub found : (after_word : Bool) (bytes : List ℕ) (kind : TokenKind) (len : ℕ) → token_at after_word bytes ≡ Some (kind, len) → IsFound after_word bytes kind len
 found w [] kind len e = absurd (let no : ⊥ = cc in no)
 found w (b ∷ bs) kind len e =
     ⊎_elim (λ word. word_found w b bs kind len word.0 word.1) (λ no_word.
@@ -112,7 +112,7 @@ found w (b ∷ bs) kind len e =
     (chosen (begins_word b) (word_of (run_len (b ∷ bs))) _ (Some (kind, len)) e)
 
 -- what has its form is found
-pub only : (behind_word : Bool) (kind : TokenKind) (text rest : List ℕ) → IsToken behind_word kind text rest → token_at behind_word (text ++ rest) ≡ Some (kind, length text)
+pub only : (after_word : Bool) (kind : TokenKind) (text rest : List ℕ) → IsToken after_word kind text rest → token_at after_word (text ++ rest) ≡ Some (kind, length text)
 only w Word [] rest t = absurd t.0
 only w Word (c ∷ cs) rest t =
     let run = run_is is_name_byte cs rest t.0.1 t.1 in
@@ -138,7 +138,7 @@ only w Plus text rest t = ap (λ (l : List ℕ). token_at w (l ++ rest)) t.0.0 �
 only w Minus text rest t = ap (λ (l : List ℕ). token_at w (l ++ rest)) t.0.0 ∙ ap (λ (v : Bool). token_at v (45 ∷ rest)) t.0.1 ∙ ap (λ (m : ℕ). Some (Minus, m)) (sym (ap length t.0.0))
 
 -- where none is found, none stands
-pub none : (behind_word : Bool) (bytes : List ℕ) → token_at behind_word bytes ≡ None → (kind : TokenKind) (text rest : List ℕ) → bytes ≡ text ++ rest → IsToken behind_word kind text rest → ⊥
+pub none : (after_word : Bool) (bytes : List ℕ) → token_at after_word bytes ≡ None → (kind : TokenKind) (text rest : List ℕ) → bytes ≡ text ++ rest → IsToken after_word kind text rest → ⊥
 none w bytes e kind text rest parted t =
     let one : token_at w bytes ≡ Some (kind, length text) = ap (token_at w) parted ∙ only w kind text rest t in
     let no : ⊥ = cc in

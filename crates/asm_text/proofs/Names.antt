@@ -8,14 +8,14 @@ use Rattle.asm_text.specs.Letters.{IsRunEnd}
 use Rattle.asm_text.proofs.Choices.{when_true, when_false}
 
 -- the elements of the run pass
-pub front_passes : (p : ℕ → Bool) (bs : List ℕ) → AllPass p (take (prefix_len p bs) bs)
-front_passes p bs k d lt =
+pub prefix_passes : (p : ℕ → Bool) (bs : List ℕ) → AllPass p (take (prefix_len p bs) bs)
+prefix_passes p bs k d lt =
     let within = prefix_len-le-length p bs in
     let len = length-take-le (prefix_len p bs) bs within in
     let k_in : k < prefix_len p bs = omega arith in
     ap p (get_or-take (prefix_len p bs) bs k d k_in) ∙ prefix_len_passes p bs k d k_in
 
--- what is behind it does not
+-- what comes after it does not
 ends_by : (p : ℕ → Bool) (b : ℕ) (bs : List ℕ) (t : Bool) → p b ≡ t → IsRunEnd p (drop (prefix_len p bs) bs) → IsRunEnd p (drop (cond t (1 + prefix_len p bs) 0) (b ∷ bs))
 ends_by p b bs true e further =
     let more : suc (prefix_len p bs) ≡ 1 + prefix_len p bs = omega arith in
@@ -26,7 +26,7 @@ pub run_ends : (p : ℕ → Bool) (bs : List ℕ) → IsRunEnd p (drop (prefix_l
 run_ends p [] = tt
 run_ends p (b ∷ bs) = ends_by p b bs (p b) refl (run_ends p bs)
 
--- elements that pass, and behind them none that does, are the run
+-- elements that pass, where none comes next that does, are the run
 pub run_is : (p : ℕ → Bool) (xs rest : List ℕ) → AllPass p xs → IsRunEnd p rest → prefix_len p (xs ++ rest) ≡ length xs
 run_is p [] [] all end = refl
 run_is p [] (b ∷ bs) all end = when_false (p b) (1 + prefix_len p bs) 0 end

@@ -9,14 +9,14 @@ use Rattle.asm_text.specs.Scan.{escaped, one_more, contents_from}
 use Rattle.asm_text.proofs.Choices.{chosen, then_some}
 use Rattle.asm_text.proofs.Strings.{plain}
 
--- contents, and how many bytes they and the closing quote take, at the front of bytes
+-- contents, and how many bytes they and the closing quote take, as a prefix of bytes
 pub record IsQuoted (bs : List ℕ) (f : List ℕ × ℕ) : Type 0 where
   pub rest : List ℕ
   pub spelled : AllPass has_spelling f.0
   pub text : bs ≡ flat_map spelling f.0 ++ 34 ∷ rest
   pub count : f.1 ≡ length (flat_map spelling f.0) + 1
 
--- one byte more in front
+-- one byte more before them
 quoted_more : (c : ℕ) (text bs : List ℕ) (n : ℕ) (g : List ℕ × ℕ) → spelling c ≡ text → has_spelling c ≡ true → n ≡ length text → IsQuoted bs g → IsQuoted (text ++ bs) (c ∷ g.0, n + g.1)
 quoted_more c text bs n g spells has n_is q =
     let more : spelling c ++ flat_map spelling g.0 ≡ text ++ flat_map spelling g.0 = ap (λ (t : List ℕ). t ++ flat_map spelling g.0) spells in
@@ -56,11 +56,11 @@ plain_spells b quote backslash low high =
     ((let own : spelling b ≡ b ∷ [] = grind (arith, nat_tests) in own), (let has : has_spelling b ≡ true = grind (arith, nat_tests) in has))
 
 -- what one_more was made of
-grown : (front : List ℕ) (o : Option (List ℕ × ℕ)) (f : List ℕ × ℕ) → one_more front o ≡ Some f → (g : List ℕ × ℕ) × (o ≡ Some g) × ((front ++ g.0, 1 + g.1) ≡ f)
-grown front None f e = absurd (let no : ⊥ = cc in no)
-grown front (Some g) f e = (g, refl, (let same : ◌≡◌ {A = List ℕ × ℕ} (front ++ g.0, 1 + g.1) f = cc in same))
+grown : (prefix : List ℕ) (o : Option (List ℕ × ℕ)) (f : List ℕ × ℕ) → one_more prefix o ≡ Some f → (g : List ℕ × ℕ) × (o ≡ Some g) × ((prefix ++ g.0, 1 + g.1) ≡ f)
+grown prefix None f e = absurd (let no : ⊥ = cc in no)
+grown prefix (Some g) f e = (g, refl, (let same : ◌≡◌ {A = List ℕ × ℕ} (prefix ++ g.0, 1 + g.1) f = cc in same))
 
--- what is held behind a backslash, or not behind one
+-- what is held after a backslash, or not after one
 abbrev pub IsHeld : Bool → List ℕ → List ℕ × ℕ → Type 0
 IsHeld true bs f = IsQuoted (92 ∷ bs) (f.0, 1 + f.1)
 IsHeld false bs f = IsQuoted bs f
@@ -101,7 +101,7 @@ contents_found false (b ∷ bs) f e =
     (chosen (eqb b 92) (one_more [] (contents_from true bs)) _ (Some f) no_quote.1))
     (chosen (eqb b 34) (Some ([], 1)) _ (Some f) e)
 
--- contents with one byte more in front, written by this many bytes
+-- contents with one byte more before them, written by this many bytes
 abbrev longer : ℕ → ℕ → Option (List ℕ × ℕ) → Option (List ℕ × ℕ)
 longer c n None = None
 longer c n (Some f) = Some (c ∷ f.0, n + f.1)

@@ -9,7 +9,7 @@ use Rattle.asm_text.specs.Text.{IsLine, IsLineFault}
 use Rattle.asm_text.specs.Scan.{token_at, GoesOn}
 use Rattle.asm_text.specs.declared.token.TokenKind.{TokenKind}
 use Rattle.asm_text.specs.declared.token.Token.{Token}
-use Rattle.asm_text.proofs.Names.{front_passes, run_ends}
+use Rattle.asm_text.proofs.Names.{prefix_passes, run_ends}
 use Rattle.asm_text.proofs.Finding.{found, none}
 
 -- one more step
@@ -19,25 +19,25 @@ leads_further Step p (y ∷ ys) q x r way step = (way.0, way.1, leads_further St
 
 -- a place this many blanks further on
 abbrev pub past_blanks : Place → ℕ → Bool → Place
-past_blanks p n directly = record { at = p.at + n; bytes = drop n p.bytes; behind_word = directly }
+past_blanks p n directly = record { at = p.at + n; bytes = drop n p.bytes; after_word = directly }
 
-pub over_blanks : (p : Place) (n : ℕ) (directly : Bool) → n ≡ prefix_len is_blank p.bytes → directly ≡ (p.behind_word && eqb n 0) → IsOverBlanks p (past_blanks p n directly)
+pub over_blanks : (p : Place) (n : ℕ) (directly : Bool) → n ≡ prefix_len is_blank p.bytes → directly ≡ (p.after_word && eqb n 0) → IsOverBlanks p (past_blanks p n directly)
 over_blanks p n directly n_is directly_is =
     let within : n ≤ length p.bytes = omega (arith, prefix_len-le-length is_blank p.bytes) in
     let len = length-take-le n p.bytes within in
     record {
       blanks = take n p.bytes;
       parted = sym (take-append-drop n p.bytes);
-      blank = subst (λ (m : ℕ). AllPass is_blank (take m p.bytes)) (sym n_is) (front_passes is_blank p.bytes);
+      blank = subst (λ (m : ℕ). AllPass is_blank (take m p.bytes)) (sym n_is) (prefix_passes is_blank p.bytes);
       place = omega arith;
-      directly = directly_is ∙ ap (λ (m : ℕ). p.behind_word && eqb m 0) (sym len);
+      directly = directly_is ∙ ap (λ (m : ℕ). p.after_word && eqb m 0) (sym len);
     }
 
--- the token behind the blanks
-pub over_token : (p : Place) (kind : TokenKind) (len : ℕ) (word : Bool) → token_at p.behind_word p.bytes ≡ Some (kind, len) → word ≡ is_word kind
-    → IsOverToken (record { kind = kind; start = p.at; end = p.at + len }) p (record { at = p.at + len; bytes = drop len p.bytes; behind_word = word })
+-- the token after the blanks
+pub over_token : (p : Place) (kind : TokenKind) (len : ℕ) (word : Bool) → token_at p.after_word p.bytes ≡ Some (kind, len) → word ≡ is_word kind
+    → IsOverToken (record { kind = kind; start = p.at; end = p.at + len }) p (record { at = p.at + len; bytes = drop len p.bytes; after_word = word })
 over_token p kind len word token word_is =
-    let f = found p.behind_word p.bytes kind len token in
+    let f = found p.after_word p.bytes kind len token in
     record {
       text = take len p.bytes;
       parted = sym (take-append-drop len p.bytes);
@@ -48,13 +48,13 @@ over_token p kind len word token word_is =
       directly = word_is;
     }
 
--- behind the blanks, no blank stands
+-- after the blanks, no blank stands
 no_blank : (bs : List ℕ) (n b : ℕ) (rest : List ℕ) → n ≡ prefix_len is_blank bs → drop n bs ≡ b ∷ rest → is_blank b ≡ false
-no_blank bs n b rest n_is front = subst (IsRunEnd is_blank) (ap (λ (m : ℕ). drop m bs) (sym n_is) ∙ front) (run_ends is_blank bs)
+no_blank bs n b rest n_is prefix = subst (IsRunEnd is_blank) (ap (λ (m : ℕ). drop m bs) (sym n_is) ∙ prefix) (run_ends is_blank bs)
 
-pub no_token : (behind_word : Bool) (bs : List ℕ) (n : ℕ) (here : List ℕ) → n ≡ prefix_len is_blank bs → drop n bs ≡ here → GoesOn here → token_at behind_word here ≡ None → IsNothing behind_word here
-no_token behind_word bs n [] n_is here_is on token = on
-no_token behind_word bs n (b ∷ rest) n_is here_is on token = (no_blank bs n b rest n_is here_is, on, none behind_word (b ∷ rest) token)
+pub no_token : (after_word : Bool) (bs : List ℕ) (n : ℕ) (here : List ℕ) → n ≡ prefix_len is_blank bs → drop n bs ≡ here → GoesOn here → token_at after_word here ≡ None → IsNothing after_word here
+no_token after_word bs n [] n_is here_is on token = on
+no_token after_word bs n (b ∷ rest) n_is here_is on token = (no_blank bs n b rest n_is here_is, on, none after_word (b ∷ rest) token)
 
 -- the tokens lead from the line's start to this place
 pub record IsRead (from : ℕ) (line : List ℕ) (tokens : List Token) (p : Place) : Type 0 where
@@ -64,48 +64,48 @@ pub record IsRead (from : ℕ) (line : List ℕ) (tokens : List Token) (p : Plac
 
 module _ {from : ℕ} {line : List ℕ} {tokens : List Token} {p : Place} (read : IsRead from line tokens p)
     (n : ℕ) (directly : Bool) (here : List ℕ)
-    (n_is : n ≡ prefix_len is_blank p.bytes) (directly_is : directly ≡ (p.behind_word && eqb n 0)) (here_is : here ≡ drop n p.bytes) where
-  over : IsOverBlanks p (record { at = p.at + n; bytes = here; behind_word = directly })
-  over = subst (λ (bs : List ℕ). IsOverBlanks p (record { at = p.at + n; bytes = bs; behind_word = directly })) (sym here_is) (over_blanks p n directly n_is directly_is)
+    (n_is : n ≡ prefix_len is_blank p.bytes) (directly_is : directly ≡ (p.after_word && eqb n 0)) (here_is : here ≡ drop n p.bytes) where
+  over : IsOverBlanks p (record { at = p.at + n; bytes = here; after_word = directly })
+  over = subst (λ (bs : List ℕ). IsOverBlanks p (record { at = p.at + n; bytes = bs; after_word = directly })) (sym here_is) (over_blanks p n directly n_is directly_is)
 
-  -- the line ends behind the blanks
+  -- the line ends after the blanks
   pub line_read : (number : ℕ) (items : List Token) → items ≡ tokens → IsEndOrComment here → IsLine number from line (record { number = number; start = from; end = from + length line; tokens = items })
   line_read number items items_are ends = record {
     number = refl;
     start = refl;
     end = refl;
-    behind = p;
-    last = record { at = p.at + n; bytes = here; behind_word = directly };
+    after = p;
+    last = record { at = p.at + n; bytes = here; after_word = directly };
     tokens = subst (λ (ts : List Token). Leads IsNext (line_start from line) ts p) (sym items_are) read.leads;
     blanks = over;
     ends = ends;
   }
 
-  -- nothing stands behind the blanks
+  -- nothing stands after the blanks
   pub line_fault : GoesOn here → token_at directly here ≡ None → IsLineFault from line (p.at + n - from + 1)
   line_fault on token = record {
     before = tokens;
-    behind = p;
-    last = record { at = p.at + n; bytes = here; behind_word = directly };
+    after = p;
+    last = record { at = p.at + n; bytes = here; after_word = directly };
     tokens = read.leads;
     blanks = over;
     nothing = no_token directly p.bytes n here n_is (sym here_is) on token;
     place = omega (arith, read.onward);
   }
 
-  -- a token stands behind the blanks
+  -- a token stands after the blanks
   pub read_further : (kind : TokenKind) (len : ℕ) (word : Bool) (rest : List ℕ) (items : List Token)
       → token_at directly here ≡ Some (kind, len) → len ≤ length here → word ≡ is_word kind → rest ≡ drop len here
       → items ≡ tokens ++ record { kind = kind; start = p.at + n; end = p.at + n + len } ∷ []
-      → IsRead from line items (record { at = p.at + n + len; bytes = rest; behind_word = word })
+      → IsRead from line items (record { at = p.at + n + len; bytes = rest; after_word = word })
   read_further kind len word rest items token fits word_is rest_is items_are =
-      let q : Place = record { at = p.at + n; bytes = here; behind_word = directly } in
+      let q : Place = record { at = p.at + n; bytes = here; after_word = directly } in
       let t : Token = record { kind = kind; start = p.at + n; end = p.at + n + len } in
-      let r : Place = record { at = p.at + n + len; bytes = rest; behind_word = word } in
+      let r : Place = record { at = p.at + n + len; bytes = rest; after_word = word } in
       let next : IsNext p t r = record {
         between = q;
         blanks = over;
-        token = subst (λ (bs : List ℕ). IsOverToken t q (record { at = p.at + n + len; bytes = bs; behind_word = word })) (sym rest_is) (over_token q kind len word token word_is);
+        token = subst (λ (bs : List ℕ). IsOverToken t q (record { at = p.at + n + len; bytes = bs; after_word = word })) (sym rest_is) (over_token q kind len word token word_is);
       } in
       let blanks_in : n ≤ length p.bytes = omega (arith, prefix_len-le-length is_blank p.bytes) in
       record {

@@ -11,7 +11,7 @@ use Rattle.asm_text.specs.Faults.{StandsBy}
 use Rattle.asm_text.specs.declared.fault.Cause.{Cause}
 use Rattle.asm_text.specs.declared.fault.Cause.TheVariants.{Syntax, OutOfMemory}
 use Rattle.asm_text.specs.declared.token.Line.{Line}
-use Rattle.asm_text.proofs.Names.{front_passes, run_ends}
+use Rattle.asm_text.proofs.Names.{prefix_passes, run_ends}
 use Rattle.asm_text.proofs.Reading.{leads_further}
 
 -- the lines so far lead from the source's start to here
@@ -25,7 +25,7 @@ pub seen_from : (P Q : ℕ → ℕ → Type 0) → ((line column : ℕ) → P li
 seen_from P Q further Syntax line column at = further line column at
 seen_from P Q further OutOfMemory line column at = at
 
--- slices of one element less, and of none
+-- slices of one element fewer, and of none
 pub all_but_first : (l : List ℕ) → take (length l - 1) (drop 1 l) ≡ drop 1 l
 all_but_first l = ap (λ (n : ℕ). take n (drop 1 l)) (sym (length-drop 1 l)) ∙ take-length (drop 1 l)
 
@@ -38,15 +38,15 @@ is_none [] few = refl
 is_none (b ∷ bs) few = absurd (omega arith)
 
 module _ {source : List ℕ} {lines : List Line} {from : ℕ} {rest : List ℕ} (read : AreRead source lines from rest)
-    (n : ℕ) (text behind : List ℕ) (n_is : n ≡ prefix_len goes_on rest) (text_is : text ≡ take n rest) (behind_is : behind ≡ drop n rest) where
-  parts : rest ≡ text ++ behind
-  parts = sym (take-append-drop n rest) ∙ (λ i. sym text_is i ++ sym behind_is i)
+    (n : ℕ) (text after : List ℕ) (n_is : n ≡ prefix_len goes_on rest) (text_is : text ≡ take n rest) (after_is : after ≡ drop n rest) where
+  parts : rest ≡ text ++ after
+  parts = sym (take-append-drop n rest) ∙ (λ i. sym text_is i ++ sym after_is i)
 
   one_line : AllPass goes_on text
-  one_line = subst (AllPass goes_on) (sym (text_is ∙ ap (λ (m : ℕ). take m rest) n_is)) (front_passes goes_on rest)
+  one_line = subst (AllPass goes_on) (sym (text_is ∙ ap (λ (m : ℕ). take m rest) n_is)) (prefix_passes goes_on rest)
 
-  line_ends : IsRunEnd goes_on behind
-  line_ends = subst (IsRunEnd goes_on) (sym (behind_is ∙ ap (λ (m : ℕ). drop m rest) n_is)) (run_ends goes_on rest)
+  line_ends : IsRunEnd goes_on after
+  line_ends = subst (IsRunEnd goes_on) (sym (after_is ∙ ap (λ (m : ℕ). drop m rest) n_is)) (run_ends goes_on rest)
 
   -- a fault of the line is the first of the source
   pub first_fault : (line column : ℕ) → (line ≡ length lines + 1) × IsLineFault from text column → FirstFault source line column
@@ -54,7 +54,7 @@ module _ {source : List ℕ} {lines : List Line} {from : ℕ} {rest : List ℕ} 
     before = lines;
     start = record { count = length lines + 1; from = from; bytes = rest };
     text = text;
-    rest = behind;
+    rest = after;
     leads = read.leads;
     parted = parts;
     one_line = one_line;
@@ -64,7 +64,7 @@ module _ {source : List ℕ} {lines : List Line} {from : ℕ} {rest : List ℕ} 
   }
 
   -- the last line ends the text
-  pub text_read : (last : Line) (items : List Line) → IsLine (length lines + 1) from text last → items ≡ lines ++ last ∷ [] → behind ≡ [] → IsText source items
+  pub text_read : (last : Line) (items : List Line) → IsLine (length lines + 1) from text last → items ≡ lines ++ last ∷ [] → after ≡ [] → IsText source items
   text_read last items line items_are ends =
       let all : rest ≡ text = parts ∙ ap (λ (l : List ℕ). text ++ l) ends ∙ append-nil text in
       record {
@@ -77,8 +77,8 @@ module _ {source : List ℕ} {lines : List Line} {from : ℕ} {rest : List ℕ} 
         line = subst (λ (bs : List ℕ). IsLine (length lines + 1) from bs last) (sym all) line;
       }
 
-  -- a line feed ends the line, and the next begins behind it
-  pub lines_further : (l : Line) (items : List Line) (b : ℕ) (next : List ℕ) (start : ℕ) → IsLine (length lines + 1) from text l → items ≡ lines ++ l ∷ [] → behind ≡ b ∷ next → start ≡ from + (length text + 1) → AreRead source items start next
+  -- a line feed ends the line, and the next begins after it
+  pub lines_further : (l : Line) (items : List Line) (b : ℕ) (next : List ℕ) (start : ℕ) → IsLine (length lines + 1) from text l → items ≡ lines ++ l ∷ [] → after ≡ b ∷ next → start ≡ from + (length text + 1) → AreRead source items start next
   lines_further l items b next start line items_are goes start_is =
       let feed : b ≡ 10 = line_feed b next (subst (IsRunEnd goes_on) goes line_ends) in
       let p : LineStart = record { count = length lines + 1; from = from; bytes = rest } in
@@ -95,7 +95,7 @@ module _ {source : List ℕ} {lines : List Line} {from : ℕ} {rest : List ℕ} 
       record {
         leads = subst (λ (ls : List Line). Leads IsNextLine (source_start source) ls q) (sym items_are) (leads_further IsNextLine (source_start source) lines p l q read.leads step);
         onward = omega (arith, read.onward, count_is, start_is);
-        remains = omega (arith, read.remains, start_is, ap length parts, length-append text behind, ap length goes);
+        remains = omega (arith, read.remains, start_is, ap length parts, length-append text after, ap length goes);
       }
     where
       line_feed : (b : ℕ) (next : List ℕ) → not (eqb b 10) ≡ false → b ≡ 10

@@ -3,10 +3,10 @@ use Rattle.std.proofs.Common.{◌≡◌, ℕ, ◌+◌, ◌≤◌, false, List, [
 use Rattle.std.proofs.lemmas.Bool.Decides.{nat_tests}
 use Rattle.asm_text.specs.Scan.{one_more, contents_from}
 
--- contents behind others, in front of which this many bytes were read
-abbrev pub behind : List ℕ → ℕ → Option (List ℕ × ℕ) → Option (List ℕ × ℕ)
-behind front taken None = None
-behind front taken (Some found) = Some (front ++ found.0, taken + found.1)
+-- contents after others, for which this many bytes were read
+abbrev pub after : List ℕ → ℕ → Option (List ℕ × ℕ) → Option (List ℕ × ℕ)
+after prefix taken None = None
+after prefix taken (Some found) = Some (prefix ++ found.0, taken + found.1)
 
 -- a byte that stands for itself
 pub plain : (b : ℕ) (bs : List ℕ) → (b ≡ 34 → ⊥) → (b ≡ 92 → ⊥) → 32 ≤ b → b ≤ 126 → contents_from false (b ∷ bs) ≡ one_more (b ∷ []) (contents_from false bs)

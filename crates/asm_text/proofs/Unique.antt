@@ -26,17 +26,17 @@ same_way {P} Step one p (x ∷ xs) q (y ∷ ys) r way stops other ends =
     let rest = same_way Step one way.0 xs q ys r way.2 stops (subst (λ (s : P). Leads Step s ys r) (sym first.1) other.2) ends in
     ((λ i. first.0 i ∷ rest.0 i), rest.1)
 
--- the place behind the blanks
-abbrev settled : Place → Place
-settled p = record { at = p.at + prefix_len is_blank p.bytes; bytes = drop (prefix_len is_blank p.bytes) p.bytes; behind_word = p.behind_word && eqb (prefix_len is_blank p.bytes) 0 }
+-- the place after the blanks
+abbrev past_blanks : Place → Place
+past_blanks p = record { at = p.at + prefix_len is_blank p.bytes; bytes = drop (prefix_len is_blank p.bytes) p.bytes; after_word = p.after_word && eqb (prefix_len is_blank p.bytes) 0 }
 
-settled_is : (p q : Place) → IsOverBlanks p q → IsRunEnd is_blank q.bytes → q ≡ settled p
-settled_is p q over ends =
+past_blanks_is : (p q : Place) → IsOverBlanks p q → IsRunEnd is_blank q.bytes → q ≡ past_blanks p
+past_blanks_is p q over ends =
     let count : prefix_len is_blank p.bytes ≡ length over.blanks = ap (prefix_len is_blank) over.parted ∙ run_is is_blank over.blanks q.bytes over.blank ends in
     let at : q.at ≡ p.at + prefix_len is_blank p.bytes = over.place ∙ ap (λ (n : ℕ). p.at + n) (sym count) in
     let bytes : q.bytes ≡ drop (prefix_len is_blank p.bytes) p.bytes = sym (drop-append_seam over.blanks q.bytes) ∙ ap (drop (length over.blanks)) (sym over.parted) ∙ ap (λ (n : ℕ). drop n p.bytes) (sym count) in
-    let behind : q.behind_word ≡ (p.behind_word && eqb (prefix_len is_blank p.bytes) 0) = over.directly ∙ ap (λ (n : ℕ). p.behind_word && eqb n 0) (sym count) in
-    λ i. record { at = at i; bytes = bytes i; behind_word = behind i }
+    let after : q.after_word ≡ (p.after_word && eqb (prefix_len is_blank p.bytes) 0) = over.directly ∙ ap (λ (n : ℕ). p.after_word && eqb n 0) (sym count) in
+    λ i. record { at = at i; bytes = bytes i; after_word = after i }
 
 -- no token begins with a blank or `#`
 no_token_at_blank : (w : Bool) (b : ℕ) (bs : List ℕ) → is_blank b ≡ true → token_at w (b ∷ bs) ≡ None
@@ -85,26 +85,26 @@ no_token_at_nothing w (b ∷ bs) nothing kind len token =
     let f = found w (b ∷ bs) kind len token in
     nothing.2 kind (take len (b ∷ bs)) (drop len (b ∷ bs)) (sym (take-append-drop len (b ∷ bs))) f.token
 
--- the token that comes next, and the place behind it
+-- the token that comes next, and the place after it
 record IsStep (p : Place) (t : Token) (q : Place) : Type 0 where
   len : ℕ
-  token : token_at (settled p).behind_word (settled p).bytes ≡ Some (t.kind, len)
-  is_token : t ≡ record { kind = t.kind; start = (settled p).at; end = (settled p).at + len }
-  is_place : q ≡ record { at = (settled p).at + len; bytes = drop len (settled p).bytes; behind_word = is_word t.kind }
+  token : token_at (past_blanks p).after_word (past_blanks p).bytes ≡ Some (t.kind, len)
+  is_token : t ≡ record { kind = t.kind; start = (past_blanks p).at; end = (past_blanks p).at + len }
+  is_place : q ≡ record { at = (past_blanks p).at + len; bytes = drop len (past_blanks p).bytes; after_word = is_word t.kind }
 
 step_of : (p : Place) (t : Token) (q : Place) → IsNext p t q → IsStep p t q
 step_of p t q next =
     let m = next.between in
     let over = next.token in
-    let token : token_at m.behind_word m.bytes ≡ Some (t.kind, length over.text) = ap (token_at m.behind_word) over.parted ∙ only m.behind_word t.kind over.text q.bytes over.form in
-    let m_is = settled_is p m next.blanks (run_end_at_token m.behind_word m.bytes t.kind (length over.text) token) in
+    let token : token_at m.after_word m.bytes ≡ Some (t.kind, length over.text) = ap (token_at m.after_word) over.parted ∙ only m.after_word t.kind over.text q.bytes over.form in
+    let m_is = past_blanks_is p m next.blanks (run_end_at_token m.after_word m.bytes t.kind (length over.text) token) in
     let bytes : q.bytes ≡ drop (length over.text) m.bytes = sym (drop-append_seam over.text q.bytes) ∙ ap (drop (length over.text)) (sym over.parted) in
-    subst (λ (s : Place). (token_at s.behind_word s.bytes ≡ Some (t.kind, length over.text)) × (t.start ≡ s.at) × (t.end ≡ s.at + length over.text) × (q.bytes ≡ drop (length over.text) s.bytes) → IsStep p t q) (sym m_is)
+    subst (λ (s : Place). (token_at s.after_word s.bytes ≡ Some (t.kind, length over.text)) × (t.start ≡ s.at) × (t.end ≡ s.at + length over.text) × (q.bytes ≡ drop (length over.text) s.bytes) → IsStep p t q) (sym m_is)
     (λ h. record {
       len = length over.text;
       token = h.0;
       is_token = λ i. record { kind = t.kind; start = h.1 i; end = h.2 i };
-      is_place = λ i. record { at = (over.place ∙ h.2) i; bytes = h.3 i; behind_word = over.directly i };
+      is_place = λ i. record { at = (over.place ∙ h.2) i; bytes = h.3 i; after_word = over.directly i };
     })
     (token, over.first, over.last, bytes)
 
@@ -112,33 +112,33 @@ one_step : (p : Place) (t : Token) (q : Place) (u : Token) (r : Place) → IsNex
 one_step p t q u r first other =
     let a = step_of p t q first in
     let b = step_of p u r other in
-    let s = settled p in
+    let s = past_blanks p in
     let same : ◌≡◌ {A = TokenKind × ℕ} (t.kind, a.len) (u.kind, b.len) = cc (sym a.token ∙ b.token) in (
       a.is_token ∙ ap (λ (k : TokenKind × ℕ). record { kind = k.0; start = s.at; end = s.at + k.1 }) same ∙ sym b.is_token,
-      a.is_place ∙ ap (λ (k : TokenKind × ℕ). record { at = s.at + k.1; bytes = drop k.1 s.bytes; behind_word = is_word k.0 }) same ∙ sym b.is_place,
+      a.is_place ∙ ap (λ (k : TokenKind × ℕ). record { at = s.at + k.1; bytes = drop k.1 s.bytes; after_word = is_word k.0 }) same ∙ sym b.is_place,
     )
 
 -- where no token is found, no step goes on
-stops_at : (p : Place) → ((kind : TokenKind) (len : ℕ) → token_at (settled p).behind_word (settled p).bytes ≡ Some (kind, len) → ⊥) → (t : Token) (q : Place) → IsNext p t q → ⊥
+stops_at : (p : Place) → ((kind : TokenKind) (len : ℕ) → token_at (past_blanks p).after_word (past_blanks p).bytes ≡ Some (kind, len) → ⊥) → (t : Token) (q : Place) → IsNext p t q → ⊥
 stops_at p none t q next = let s = step_of p t q next in none t.kind s.len s.token
 
 end_stops : (p last : Place) → IsOverBlanks p last → IsEndOrComment last.bytes → (t : Token) (q : Place) → IsNext p t q → ⊥
 end_stops p last over ends =
-    let last_is = settled_is p last over (run_end_at_end last.bytes ends) in
+    let last_is = past_blanks_is p last over (run_end_at_end last.bytes ends) in
     stops_at p (λ kind len token.
-    let none : token_at (settled p).behind_word (settled p).bytes ≡ None = subst (λ (s : Place). token_at s.behind_word s.bytes ≡ None) last_is (no_token_at_end last.behind_word last.bytes ends) in
+    let none : token_at (past_blanks p).after_word (past_blanks p).bytes ≡ None = subst (λ (s : Place). token_at s.after_word s.bytes ≡ None) last_is (no_token_at_end last.after_word last.bytes ends) in
     let no : ⊥ = cc in
     no)
 
-nothing_stops : (p last : Place) → IsOverBlanks p last → IsNothing last.behind_word last.bytes → (t : Token) (q : Place) → IsNext p t q → ⊥
+nothing_stops : (p last : Place) → IsOverBlanks p last → IsNothing last.after_word last.bytes → (t : Token) (q : Place) → IsNext p t q → ⊥
 nothing_stops p last over nothing =
-    let last_is = settled_is p last over (run_end_at_nothing last.behind_word last.bytes nothing) in
-    stops_at p (subst (λ (s : Place). (kind : TokenKind) (len : ℕ) → token_at s.behind_word s.bytes ≡ Some (kind, len) → ⊥) last_is (no_token_at_nothing last.behind_word last.bytes nothing))
+    let last_is = past_blanks_is p last over (run_end_at_nothing last.after_word last.bytes nothing) in
+    stops_at p (subst (λ (s : Place). (kind : TokenKind) (len : ℕ) → token_at s.after_word s.bytes ≡ Some (kind, len) → ⊥) last_is (no_token_at_nothing last.after_word last.bytes nothing))
 
 -- a line has one reading
 one_line : (n at : ℕ) (bytes : List ℕ) (l m : Line) → IsLine n at bytes l → IsLine n at bytes m → l ≡ m
 one_line n at bytes l m a b =
-    let same = same_way IsNext one_step (line_start at bytes) l.tokens a.behind m.tokens b.behind a.tokens (end_stops a.behind a.last a.blanks a.ends) b.tokens (end_stops b.behind b.last b.blanks b.ends) in
+    let same = same_way IsNext one_step (line_start at bytes) l.tokens a.after m.tokens b.after a.tokens (end_stops a.after a.last a.blanks a.ends) b.tokens (end_stops b.after b.last b.blanks b.ends) in
     λ i. record { number = (a.number ∙ sym b.number) i; start = (a.start ∙ sym b.start) i; end = (a.end ∙ sym b.end) i; tokens = same.0 i }
 
 end_is_something : (w : Bool) (bytes : List ℕ) → IsEndOrComment bytes → IsNothing w bytes → ⊥
@@ -147,14 +147,14 @@ end_is_something w (b ∷ bs) ends nothing = nothing.1 ends
 
 line_or_fault : (n at : ℕ) (bytes : List ℕ) (l : Line) (column : ℕ) → IsLine n at bytes l → IsLineFault at bytes column → ⊥
 line_or_fault n at bytes l column a f =
-    let same = same_way IsNext one_step (line_start at bytes) l.tokens a.behind f.before f.behind a.tokens (end_stops a.behind a.last a.blanks a.ends) f.tokens (nothing_stops f.behind f.last f.blanks f.nothing) in
-    let last_is = settled_is a.behind a.last a.blanks (run_end_at_end a.last.bytes a.ends) ∙ ap settled same.1 ∙ sym (settled_is f.behind f.last f.blanks (run_end_at_nothing f.last.behind_word f.last.bytes f.nothing)) in
-    end_is_something f.last.behind_word f.last.bytes (subst (λ (s : Place). IsEndOrComment s.bytes) last_is a.ends) f.nothing
+    let same = same_way IsNext one_step (line_start at bytes) l.tokens a.after f.before f.after a.tokens (end_stops a.after a.last a.blanks a.ends) f.tokens (nothing_stops f.after f.last f.blanks f.nothing) in
+    let last_is = past_blanks_is a.after a.last a.blanks (run_end_at_end a.last.bytes a.ends) ∙ ap past_blanks same.1 ∙ sym (past_blanks_is f.after f.last f.blanks (run_end_at_nothing f.last.after_word f.last.bytes f.nothing)) in
+    end_is_something f.last.after_word f.last.bytes (subst (λ (s : Place). IsEndOrComment s.bytes) last_is a.ends) f.nothing
 
 one_column : (at : ℕ) (bytes : List ℕ) (c d : ℕ) → IsLineFault at bytes c → IsLineFault at bytes d → c ≡ d
 one_column at bytes c d f g =
-    let same = same_way IsNext one_step (line_start at bytes) f.before f.behind g.before g.behind f.tokens (nothing_stops f.behind f.last f.blanks f.nothing) g.tokens (nothing_stops g.behind g.last g.blanks g.nothing) in
-    let last_is : f.last ≡ g.last = settled_is f.behind f.last f.blanks (run_end_at_nothing f.last.behind_word f.last.bytes f.nothing) ∙ ap settled same.1 ∙ sym (settled_is g.behind g.last g.blanks (run_end_at_nothing g.last.behind_word g.last.bytes g.nothing)) in
+    let same = same_way IsNext one_step (line_start at bytes) f.before f.after g.before g.after f.tokens (nothing_stops f.after f.last f.blanks f.nothing) g.tokens (nothing_stops g.after g.last g.blanks g.nothing) in
+    let last_is : f.last ≡ g.last = past_blanks_is f.after f.last f.blanks (run_end_at_nothing f.last.after_word f.last.bytes f.nothing) ∙ ap past_blanks same.1 ∙ sym (past_blanks_is g.after g.last g.blanks (run_end_at_nothing g.last.after_word g.last.bytes g.nothing)) in
     let ats : f.last.at ≡ g.last.at = ap (λ (p : Place). p.at) last_is in
     omega (arith, f.place, g.place)
 
@@ -177,7 +177,7 @@ one_next p l q m r a b =
     let from : q.from ≡ r.from = a.place ∙ ap (λ (t : List ℕ). p.from + length t + 1) texts ∙ sym b.place in
     (line, λ i. record { count = (a.number ∙ sym b.number) i; from = from i; bytes = bytes i })
 
--- behind the last line, and at a faulty one, no line comes
+-- after the last line, and at a faulty one, no line comes
 last_stops : (p : LineStart) → AllPass goes_on p.bytes → (m : Line) (r : LineStart) → IsNextLine p m r → ⊥
 last_stops p all m r b =
     let x = text_is p.bytes p.bytes [] (sym (append-nil p.bytes)) all tt in

@@ -3,7 +3,7 @@ use Rattle.std.specs.Prelude.{◌≡◌, ℕ, ◌+◌, ◌*◌, ◌^◌, ◌&&�
 use Rattle.std.specs.Char.{digit_value}
 use Rattle.std.specs.Option.{option_and_then}
 
--- the number that digits to a base make behind digits of the value `high`; none where one of them is no digit to it
+-- the number that digits to a base make after digits of the value `high`; none where one of them is no digit to it
 abbrev pub digits_value : ℕ → ℕ → List ℕ → Option ℕ
 digits_value base high [] = Some high
 digits_value base high (b ∷ bs) = if nat_lt (digit_value b) base then digits_value base (base * high + digit_value b) bs else None
@@ -13,7 +13,7 @@ abbrev pub some_digits : ℕ → List ℕ → Option ℕ
 some_digits base [] = None
 some_digits base (b ∷ bs) = digits_value base 0 (b ∷ bs)
 
--- a number with no sign: hexadecimal behind `0x`, else decimal
+-- a number with no sign: hexadecimal after `0x`, else decimal
 abbrev pub magnitude : List ℕ → Option ℕ
 magnitude [] = None
 magnitude (a ∷ []) = some_digits 10 (a ∷ [])

@@ -23,12 +23,12 @@ escaped b =
     else (if b == 34 then Some 34
     else None))))
 
--- contents behind others, and one byte more that they take
+-- contents after others, and one byte more that they take
 abbrev pub one_more : List ℕ → Option (List ℕ × ℕ) → Option (List ℕ × ℕ)
-one_more front None = None
-one_more front (Some found) = Some (front ++ found.0, 1 + found.1)
+one_more prefix None = None
+one_more prefix (Some found) = Some (prefix ++ found.0, 1 + found.1)
 
--- the contents up to the closing quote, and how many bytes they and the quote take; `escaping`: behind a backslash
+-- the contents up to the closing quote, and how many bytes they and the quote take; `escaping`: after a backslash
 abbrev pub contents_from : Bool → List ℕ → Option (List ℕ × ℕ)
 contents_from escaping [] = None
 contents_from true (b ∷ bs) = option_and_then (λ c. one_more (c ∷ []) (contents_from false bs)) (escaped b)
@@ -38,7 +38,7 @@ contents_from false (b ∷ bs) =
     else (if nat_le 32 b && nat_le b 126 then one_more (b ∷ []) (contents_from false bs)
     else None))
 
--- how many bytes a word or a number at the front takes, its first byte whatever it is
+-- how many bytes a word or a number takes that comes first, its first byte whatever it is
 abbrev pub run_len : List ℕ → ℕ
 run_len [] = 0
 run_len (b ∷ bs) = suc (prefix_len is_name_byte bs)
@@ -53,23 +53,23 @@ abbrev pub string_of : Option (List ℕ × ℕ) → Option (TokenKind × ℕ)
 string_of found = option_map (λ f. (Text f.0, 1 + f.1)) found
 
 abbrev pub mark_of : Bool → ℕ → Option TokenKind
-mark_of behind_word b =
+mark_of after_word b =
     if b == 44 then Some Comma
     else (if b == 58 then Some Colon
     else (if b == 40 then Some Open
     else (if b == 41 then Some Close
-    else (if behind_word && (b == 43) then Some Plus
-    else (if behind_word && (b == 45) then Some Minus
+    else (if after_word && (b == 43) then Some Plus
+    else (if after_word && (b == 45) then Some Minus
     else None)))))
 
--- the kind of the token at the front, and how many bytes it takes
+-- the kind of the token that comes first, and how many bytes it takes
 abbrev pub token_at : Bool → List ℕ → Option (TokenKind × ℕ)
-token_at behind_word [] = None
-token_at behind_word (b ∷ bs) =
+token_at after_word [] = None
+token_at after_word (b ∷ bs) =
     if begins_word b then word_of (run_len (b ∷ bs))
-    else (if is_ascii_digit b || ((b == 45) && not behind_word) then number_of (take (run_len (b ∷ bs)) (b ∷ bs))
+    else (if is_ascii_digit b || ((b == 45) && not after_word) then number_of (take (run_len (b ∷ bs)) (b ∷ bs))
     else (if b == 34 then string_of (contents_from false bs)
-    else option_map (λ kind. (kind, 1)) (mark_of behind_word b)))
+    else option_map (λ kind. (kind, 1)) (mark_of after_word b)))
 
 -- the line goes on, and not with a comment
 abbrev pub GoesOn : List ℕ → Type 0

@@ -6,11 +6,11 @@ use Rattle.asm_text.specs.declared.token.Line.{Line}
 
 -- a token lies in its line, and the bytes of the source that it takes have the form of its kind
 pub record IsSlice (source : List ℕ) (l : Line) (t : Token) : Type 0 where
-  pub behind_start : l.start ≤ t.start
+  pub after_start : l.start ≤ t.start
   pub some : t.start < t.end
   pub before_end : t.end ≤ l.end
-  pub behind_word : Bool
-  pub form : IsForm behind_word t.kind (slice_range source t.start t.end)
+  pub after_word : Bool
+  pub form : IsForm after_word t.kind (slice_range source t.start t.end)
 
 -- a line lies in the source, and its tokens in it
 pub record HasSlices (source : List ℕ) (l : Line) : Type 0 where

@@ -7,25 +7,25 @@ use Rattle.asm_text.specs.declared.token.Token.{Token}
 use Rattle.asm_text.specs.declared.token.Line.{Line}
 
 -- A line: its number, where it begins and ends, and the tokens that stand in it, with only blanks before and between
--- them, and behind them blanks and perhaps a comment.
+-- them, and after them blanks and perhaps a comment.
 pub record IsLine (count from : ℕ) (bytes : List ℕ) (l : Line) : Type 0 where
   pub number : l.number ≡ count
   pub start : l.start ≡ from
   pub end : l.end ≡ from + length bytes
-  pub behind : Place
+  pub after : Place
   pub last : Place
-  pub tokens : Leads IsNext (line_start from bytes) l.tokens behind
-  pub blanks : IsOverBlanks behind last
+  pub tokens : Leads IsNext (line_start from bytes) l.tokens after
+  pub blanks : IsOverBlanks after last
   pub ends : IsEndOrComment last.bytes
 
--- A line's first fault: behind tokens and blanks, a place where nothing stands. Columns count its bytes from 1.
+-- A line's first fault: after tokens and blanks, a place where nothing stands. Columns count its bytes from 1.
 pub record IsLineFault (from : ℕ) (bytes : List ℕ) (column : ℕ) : Type 0 where
   pub before : List Token
-  pub behind : Place
+  pub after : Place
   pub last : Place
-  pub tokens : Leads IsNext (line_start from bytes) before behind
-  pub blanks : IsOverBlanks behind last
-  pub nothing : IsNothing last.behind_word last.bytes
+  pub tokens : Leads IsNext (line_start from bytes) before after
+  pub blanks : IsOverBlanks after last
+  pub nothing : IsNothing last.after_word last.bytes
   pub place : from + column ≡ last.at + 1
 
 -- no byte of a line is a line feed
@@ -60,7 +60,7 @@ pub record IsText (source : List ℕ) (ls : List Line) : Type 0 where
   pub one_line : IsOneLine start.bytes
   pub line : IsLine start.count start.from start.bytes last
 
--- The first fault of a source: that of a line, behind lines that have none.
+-- The first fault of a source: that of a line, after lines that have none.
 pub record FirstFault (source : List ℕ) (line column : ℕ) : Type 0 where
   pub before : List Line
   pub start : LineStart

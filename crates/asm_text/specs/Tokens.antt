@@ -8,18 +8,18 @@ use Rattle.asm_text.specs.declared.token.TokenKind.{TokenKind}
 use Rattle.asm_text.specs.declared.token.TokenKind.TheVariants.{Word, Number, Text, Comma, Colon, Open, Close, Plus, Minus}
 use Rattle.asm_text.specs.declared.token.Token.{Token}
 
--- The form of each kind of token. Directly behind a word `+` and `-` are tokens of their own; anywhere else `-` begins a
+-- The form of each kind of token. Directly after a word `+` and `-` are tokens of their own; anywhere else `-` begins a
 -- number, and `+` nothing.
 abbrev pub IsForm : Bool → TokenKind → List ℕ → Type 0
-IsForm behind_word Word text = IsWord text
-IsForm behind_word (Number n) text = IsNumber text n × ((behind_word && has_sign text) ≡ false)
-IsForm behind_word (Text contents) text = IsString contents text
-IsForm behind_word Comma text = text ≡ 44 ∷ []
-IsForm behind_word Colon text = text ≡ 58 ∷ []
-IsForm behind_word Open text = text ≡ 40 ∷ []
-IsForm behind_word Close text = text ≡ 41 ∷ []
-IsForm behind_word Plus text = (text ≡ 43 ∷ []) × (behind_word ≡ true)
-IsForm behind_word Minus text = (text ≡ 45 ∷ []) × (behind_word ≡ true)
+IsForm after_word Word text = IsWord text
+IsForm after_word (Number n) text = IsNumber text n × ((after_word && has_sign text) ≡ false)
+IsForm after_word (Text contents) text = IsString contents text
+IsForm after_word Comma text = text ≡ 44 ∷ []
+IsForm after_word Colon text = text ≡ 58 ∷ []
+IsForm after_word Open text = text ≡ 40 ∷ []
+IsForm after_word Close text = text ≡ 41 ∷ []
+IsForm after_word Plus text = (text ≡ 43 ∷ []) × (after_word ≡ true)
+IsForm after_word Minus text = (text ≡ 45 ∷ []) × (after_word ≡ true)
 
 abbrev pub is_word : TokenKind → Bool
 is_word Word = true
@@ -32,7 +32,7 @@ is_word Close = false
 is_word Plus = false
 is_word Minus = false
 
--- words and numbers are whole: no letter, digit or `_` comes behind them
+-- words and numbers are whole: no letter, digit or `_` comes after them
 abbrev pub IsWhole : TokenKind → List ℕ → Type 0
 IsWhole Word rest = IsRunEnd is_name_byte rest
 IsWhole (Number n) rest = IsRunEnd is_name_byte rest
@@ -44,18 +44,18 @@ IsWhole Close rest = Unit {0}
 IsWhole Plus rest = Unit {0}
 IsWhole Minus rest = Unit {0}
 
--- the text of a token, and what comes behind it
+-- the text of a token, and what comes after it
 abbrev pub IsToken : Bool → TokenKind → List ℕ → List ℕ → Type 0
-IsToken behind_word kind text rest = IsForm behind_word kind text × IsWhole kind rest
+IsToken after_word kind text rest = IsForm after_word kind text × IsWhole kind rest
 
 -- A place in a line: its byte in the source, the bytes from there to the line's end, and whether a word ends there.
 pub record Place : Type 0 where
   pub at : ℕ
   pub bytes : List ℕ
-  pub behind_word : Bool
+  pub after_word : Bool
 
 abbrev pub line_start : ℕ → List ℕ → Place
-line_start from line = record { at = from; bytes = line; behind_word = false }
+line_start from line = record { at = from; bytes = line; after_word = false }
 
 -- from one place over blanks, if any, to another
 pub record IsOverBlanks (p q : Place) : Type 0 where
@@ -63,19 +63,19 @@ pub record IsOverBlanks (p q : Place) : Type 0 where
   pub parted : p.bytes ≡ blanks ++ q.bytes
   pub blank : AllPass is_blank blanks
   pub place : q.at ≡ p.at + length blanks
-  pub directly : q.behind_word ≡ (p.behind_word && (length blanks == 0))
+  pub directly : q.after_word ≡ (p.after_word && (length blanks == 0))
 
--- from one place over a token to the place behind it
+-- from one place over a token to the place after it
 pub record IsOverToken (t : Token) (p q : Place) : Type 0 where
   pub text : List ℕ
   pub parted : p.bytes ≡ text ++ q.bytes
-  pub form : IsToken p.behind_word t.kind text q.bytes
+  pub form : IsToken p.after_word t.kind text q.bytes
   pub first : t.start ≡ p.at
   pub last : t.end ≡ p.at + length text
   pub place : q.at ≡ t.end
-  pub directly : q.behind_word ≡ is_word t.kind
+  pub directly : q.after_word ≡ is_word t.kind
 
--- from one place over blanks, if any, and over a token behind them
+-- from one place over blanks, if any, and over a token after them
 pub record IsNext (p : Place) (t : Token) (q : Place) : Type 0 where
   pub between : Place
   pub blanks : IsOverBlanks p between
@@ -93,7 +93,7 @@ IsEndOrComment (b ∷ bs) = b ≡ 35
 
 -- no blank, comment or token stands here, and the line goes on
 abbrev pub IsNothing : Bool → List ℕ → Type 0
-IsNothing behind_word [] = ⊥
-IsNothing behind_word (b ∷ bs) =
+IsNothing after_word [] = ⊥
+IsNothing after_word (b ∷ bs) =
     (is_blank b ≡ false) × (b ≢ 35)
-    × ((kind : TokenKind) (text rest : List ℕ) → b ∷ bs ≡ text ++ rest → IsToken behind_word kind text rest → ⊥)
+    × ((kind : TokenKind) (text rest : List ℕ) → b ∷ bs ≡ text ++ rest → IsToken after_word kind text rest → ⊥)

@@ -1,6 +1,6 @@
 //! Why a source has no tokens.
 ghost use Rattle.std.specs.Prelude.{◌≡◌};
-ghost use Rattle.asm_text.specs.Faults.{out_of_memory};
+ghost use Rattle.asm_text.specs.Faults.{number_of, out_of_memory};
 
 use std::alloc::{AllocError, AllocFailed};
 use thiserror::Error;
@@ -14,6 +14,15 @@ pub enum Cause {
     /// Memory ran out.
     #[error("out of memory")]
     OutOfMemory = 2,
+}
+
+impl Cause {
+    /// Its number, 1 or 2.
+    pub fn number(self) -> u8
+        ensures { result ≡ number_of self }
+    {
+        self as u8
+    }
 }
 
 /// Why a source has no tokens, and where. Lines and columns are counted from 1, columns in bytes. Want of memory stands

@@ -1,7 +1,7 @@
 //! The lines and tokens of an assembler's source.
 //!
 //! A line has tokens, blanks (spaces and tabs) and at the end perhaps a comment, which begins with `#`. `+` and `-` directly
-//! behind a word are tokens of their own, as in `label+4`, `label-4` and `label--4`; anywhere else `-` begins a number and
+//! after a word are tokens of their own, as in `label+4`, `label-4` and `label--4`; anywhere else `-` begins a number and
 //! `+` has no form.
 #![tactic(auto)]
 

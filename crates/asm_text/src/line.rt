@@ -13,7 +13,7 @@ use crate::token::{Line, Token, Tokens};
 use std::alloc::Global;
 
 /// Whether a word ends here, these many blanks further on.
-fn still_behind(word: bool, blanks: usize) -> bool
+fn still_after(word: bool, blanks: usize) -> bool
     ensures { result ≡ (word && (blanks == 0)) }
 {
     word && blanks == 0
@@ -39,12 +39,12 @@ pub fn line_at(alloc: Global, number: usize, start: usize, bytes: &[u8]) -> Resu
     let mut tokens = Vec::new(alloc);
     let mut at = start;
     let mut rest = bytes;
-    let mut behind_word = false;
+    let mut after_word = false;
     loop {
         let blanks = blank_len(rest);
         let (_, here) = rest.split_at(blanks);
         at += blanks;
-        let directly = still_behind(behind_word, blanks);
+        let directly = still_after(after_word, blanks);
         if is_over(here) {
             return Ok(Line {
                 number,
@@ -60,14 +60,14 @@ pub fn line_at(alloc: Global, number: usize, start: usize, bytes: &[u8]) -> Resu
                 column: at - start + 1,
             });
         };
-        let (_, behind) = here.split_at(len);
-        behind_word = kind.is_word();
+        let (_, after) = here.split_at(len);
+        after_word = kind.is_word();
         tokens.push(Token {
             kind,
             start: at,
             end: at + len,
         })?;
         at += len;
-        rest = behind;
+        rest = after;
     }
 }

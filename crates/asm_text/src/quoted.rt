@@ -20,7 +20,7 @@ fn escaped(byte: u8) -> Option<u8>
     }
 }
 
-/// What the byte behind the opening quote, and those behind it, hold up to the closing quote; and how many bytes that
+/// What the byte after the opening quote, and those after it, hold up to the closing quote; and how many bytes that
 /// and the quote take. None where they hold no string.
 pub fn contents(alloc: Global, bytes: &[u8]) -> Result<Option<(Bytes, usize)>, AllocError>
     ensures value { IfOk result (λ found. found ≡ contents_from false bytes.now) }

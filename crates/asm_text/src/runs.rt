@@ -25,7 +25,7 @@ fn is_blank(byte: u8) -> bool
     byte == b' ' || byte == b'\t'
 }
 
-/// How many blanks stand at the front.
+/// How many blanks come first.
 pub fn blank_len(bytes: &[u8]) -> usize
     ensures value { result ≡ prefix_len is_blank bytes.now }
     ensures bound { result ≤ length bytes.now }
@@ -38,7 +38,7 @@ pub fn blank_len(bytes: &[u8]) -> usize
     bytes.len()
 }
 
-/// How many letters, digits and `_` stand at the front.
+/// How many letters, digits and `_` come first.
 fn name_len(bytes: &[u8]) -> usize
     ensures value { result ≡ prefix_len is_name_byte bytes.now }
     ensures bound { result ≤ length bytes.now }
@@ -51,7 +51,7 @@ fn name_len(bytes: &[u8]) -> usize
     bytes.len()
 }
 
-/// How many bytes a word or a number at the front takes, its first byte whatever it is.
+/// How many bytes a word or a number takes that comes first, its first byte whatever it is.
 pub fn run_len(bytes: &[u8]) -> usize
     ensures value { result ≡ run_len bytes.now }
     ensures bound { result ≤ length bytes.now }

@@ -1,4 +1,4 @@
-//! The token at the front of some bytes.
+//! The token with which some bytes begin.
 ghost use Rattle.std.specs.Prelude.{◌≡◌, ◌<◌, ◌≤◌, ◌+◌, IfOk, IfSome, false, length};
 ghost use Rattle.asm_text.specs.Scan.{word_of, number_of, string_of, contents_from, mark_of, token_at};
 
@@ -42,27 +42,27 @@ fn string_of(alloc: Global, bytes: &[u8]) -> Result<Option<(TokenKind, usize)>, 
 }
 
 /// The token that is one byte.
-fn mark_of(behind_word: bool, byte: u8) -> Option<TokenKind>
-    ensures { result ≡ mark_of behind_word byte }
+fn mark_of(after_word: bool, byte: u8) -> Option<TokenKind>
+    ensures { result ≡ mark_of after_word byte }
 {
     match byte {
         b',' => Some(TokenKind::Comma),
         b':' => Some(TokenKind::Colon),
         b'(' => Some(TokenKind::Open),
         b')' => Some(TokenKind::Close),
-        b'+' if behind_word => Some(TokenKind::Plus),
-        b'-' if behind_word => Some(TokenKind::Minus),
+        b'+' if after_word => Some(TokenKind::Plus),
+        b'-' if after_word => Some(TokenKind::Minus),
         _ => None,
     }
 }
 
-/// The kind of the token at the front, and how many bytes it takes. `behind_word`: a word ends directly before.
+/// The kind of the token that comes first, and how many bytes it takes. `after_word`: a word ends directly before.
 pub fn token_at(
     alloc: Global,
-    behind_word: bool,
+    after_word: bool,
     bytes: &[u8],
 ) -> Result<Option<(TokenKind, usize)>, AllocError>
-    ensures value { IfOk result (λ found. found ≡ token_at behind_word bytes.now) }
+    ensures value { IfOk result (λ found. found ≡ token_at after_word bytes.now) }
     ensures bound { IfOk result (λ found. IfSome found (λ f. (0 < f.1) × (f.1 ≤ length bytes.now))) }
 {
     let [first, rest @ ..] = bytes else {
@@ -71,13 +71,13 @@ pub fn token_at(
     if begins_word(*first) {
         return Ok(word_of(run_len(bytes)));
     }
-    if first.is_ascii_digit() || (*first == b'-' && !behind_word) {
+    if first.is_ascii_digit() || (*first == b'-' && !after_word) {
         return Ok(number_of(&bytes[..run_len(bytes)]));
     }
     if *first == b'"' {
         return string_of(alloc, rest);
     }
-    match mark_of(behind_word, *first) {
+    match mark_of(after_word, *first) {
         Some(kind) => Ok(Some((kind, 1))),
         None => Ok(None),
     }

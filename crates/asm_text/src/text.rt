@@ -26,10 +26,10 @@ pub fn lines(alloc: Global, source: &str) -> Result<Vec<Line>, TextFault>
     let mut start = 0;
     let mut rest = source.as_bytes();
     loop {
-        let (line, behind) = rest.split_at(line_len(rest));
+        let (line, after) = rest.split_at(line_len(rest));
         let read = line_at(alloc, lines.len() + 1, start, line)?;
         lines.push(read)?;
-        let [_, next @ ..] = behind else {
+        let [_, next @ ..] = after else {
             return Ok(lines);
         };
         start += line.len() + 1;

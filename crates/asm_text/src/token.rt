@@ -12,7 +12,7 @@ pub enum TokenKind {
     /// bytes.
     Word,
     /// A decimal number, or a hexadecimal one after `0x`, with `-` directly before it where it is negative: a value
-    /// from -2^31 to 2^32 - 1. Directly behind a word `-` is `Minus`, and no part of a number.
+    /// from -2^31 to 2^32 - 1. Directly after a word `-` is `Minus`, and no part of a number.
     Number(i64),
     /// A string in double quotes: its bytes, with the escapes replaced.
     Text(Bytes),
@@ -24,9 +24,9 @@ pub enum TokenKind {
     Open,
     /// `)`
     Close,
-    /// `+`, which stands directly behind a word.
+    /// `+`, which stands directly after a word.
     Plus,
-    /// `-` directly behind a word.
+    /// `-` directly after a word.
     Minus,
 }
 
@@ -48,7 +48,7 @@ pub struct Token {
     pub kind: TokenKind,
     /// The place of its first byte in the source, from 0.
     pub start: usize,
-    /// The place behind its last byte.
+    /// The place after its last byte.
     pub end: usize,
 }
 
@@ -101,7 +101,7 @@ pub struct Line {
     pub number: usize,
     /// The place of its first byte in the source, from 0.
     pub start: usize,
-    /// The place behind its last byte, its comment included: that of its LF, or the end of the source.
+    /// The place after its last byte, its comment included: that of its LF, or the end of the source.
     pub end: usize,
     /// Its tokens.
     pub tokens: Tokens,

@@ -26,7 +26,7 @@ fitting w len e small = omega arith
 abbrev pub contents_shown : Filling → Result Contents AsmFault
 contents_shown f = Ok f.contents
 
--- behind all lines the first pass's position counts what the sections hold
+-- after all lines the first pass's position counts what the sections hold
 pub measured-contents : (scope : Scope) (lines : List Line) (l : Layout) (c : Contents) → all_placed scope.source lines start_layout ≡ Ok l → contents_filled scope lines ≡ Ok c → IsMeasured l.position c
 measured-contents scope lines l c is js =
     let (f, made, shows) = and_then-ok (all_filled scope lines start_filling) contents_shown c js in
@@ -41,13 +41,13 @@ measured-fits p c m fits = (fitting p.words (length c.cells) m.words (omega arit
 abbrev pub made_of : ℕ → Contents → Result Assembled AsmFault
 made_of entry c = Ok (assembled entry c)
 
--- the passes behind the first, and behind the second
-abbrev pub assembly_behind : List ℕ → List Line → Layout → ℕ → Result Assembled AsmFault
-assembly_behind source lines l entry =
+-- the passes after the first, and after the second
+abbrev pub assembly_after : List ℕ → List Line → Layout → ℕ → Result Assembled AsmFault
+assembly_after source lines l entry =
     and_then (contents_filled (record { source = source; labels = l.labels; data_base = data_base l.position.words }) lines) (λ c. Ok (assembled entry c))
 
 abbrev pub assembly_from : List ℕ → List Line → Layout → Result Assembled AsmFault
-assembly_from source lines l = and_then (entry_of l) (λ entry. assembly_behind source lines l entry)
+assembly_from source lines l = and_then (entry_of l) (λ entry. assembly_after source lines l entry)
 
 -- the sections are as long as the first pass found
 pub sized : (scope : Scope) (lines : List Line) (l : Layout) (c : Contents) → all_placed scope.source lines start_layout ≡ Ok l → contents_filled scope lines ≡ Ok c → pages (4 * l.position.words) + pages l.position.bytes ≤ 60
@@ -72,6 +72,6 @@ pub listed-made : (source : List ℕ) (lines : List Line) (image : Program) (lis
 listed-made source lines image listing is =
     let wanted : Assembled = record { image = image; listing = listing } in
     let (l, _, is2) = and_then-ok (all_placed source lines start_layout) (assembly_from source lines) wanted is in
-    let (entry, _, is3) = and_then-ok (entry_of l) (assembly_behind source lines l) wanted is2 in
+    let (entry, _, is3) = and_then-ok (entry_of l) (assembly_after source lines l) wanted is2 in
     let (c, _, is4) = and_then-ok (contents_filled (record { source = source; labels = l.labels; data_base = data_base l.position.words }) lines) (made_of entry) wanted is3 in
     subst (λ (a : Assembled). IsListedIn a.image a.listing) (same_assembled (assembled entry c) wanted is4) (listing-of 65536 c.cells)

@@ -16,7 +16,7 @@ use Rattle.assembler.specs.Labels.{SpotsByName}
 use Rattle.assembler.specs.Layout.{counted, start_layout, placed, all_placed, after, spot_of, advanced, with_words, with_bytes, space_checked}
 use Rattle.assembler.specs.Filling.{Contents, Filling, Scope, start_filling, address_of, address_named, filled, all_filled, contents_filled}
 use Rattle.assembler.specs.Assembly.{pages, data_base, scope_of, entry_of, Assembled, assembled, Assembles, image_of, text_segment, data_segments}
-use Rattle.assembler.specs.Sections.{Piece, lines_of, IsRead, section_behind, AreRead, text_of, data_of, data_begins, address_behind, HoldsBytes, IsByLines}
+use Rattle.assembler.specs.Sections.{Piece, lines_of, IsRead, section_after, AreRead, text_of, data_of, data_begins, address_after, HoldsBytes, IsByLines}
 use Rattle.assembler.specs.declared.fault.AsmFault.{AsmFault}
 use Rattle.assembler.specs.declared.layout.Position.{Position}
 use Rattle.assembler.specs.declared.layout.Layout.{Layout}
@@ -31,7 +31,7 @@ use Rattle.assembler.proofs.Registers.{statement-known}
 use Rattle.assembler.proofs.StatementBytes.{text_bytes, IsPut, IsHolding, statement-holding}
 use Rattle.assembler.proofs.LabelPlaces.{all-stay, label-found}
 use Rattle.assembler.proofs.Sizes.{IsMeasured, IsPlaced, placed-is, IsFilled, filled-is, same_split, same_statement, same_position, same_filling, measured-filled}
-use Rattle.assembler.proofs.Assemblies.{assembly_from, assembly_behind, made_of, contents_shown, same_assembled, same_contents, sized}
+use Rattle.assembler.proofs.Assemblies.{assembly_from, assembly_after, made_of, contents_shown, same_assembled, same_contents, sized}
 use Rattle.assembler.proofs.Listings.{all_placed-append, same_positions, entry-fits}
 
 -- ---- a line
@@ -43,8 +43,8 @@ section-advanced p n = by_section p.in_data refl
     by_section true is = refl
     by_section false is = refl
 
--- a position goes on in the section behind its statement
-section-after : (p : Position) (s : Statement) (tokens : List Token) → (after p s tokens).in_data ≡ section_behind p.in_data s
+-- a position goes on in the section after its statement
+section-after : (p : Position) (s : Statement) (tokens : List Token) → (after p s tokens).in_data ≡ section_after p.in_data s
 section-after p statement.Nothing tokens = refl
 section-after p statement.Text tokens = refl
 section-after p statement.Data tokens = refl
@@ -60,7 +60,7 @@ record IsStep (scope : Scope) (f : Filling) (p : Piece) (g : Filling) : Type 0 w
   read : IsRead scope.source p
   holds : HoldsBytes scope p.line (address_of scope.data_base (spot_of f.position)) p.statement p.bytes
   put : IsPut p.in_data p.bytes f.contents g.contents
-  behind : g.position.in_data ≡ section_behind p.in_data p.statement
+  next_section : g.position.in_data ≡ section_after p.in_data p.statement
   filling : filled scope p.line f ≡ Ok g
 
 -- the piece of a line
@@ -73,7 +73,7 @@ line-piece : (scope : Scope) (line : Line) (l m : Layout) (f g : Filling) → l.
 line-piece scope line l m f g at is js =
     let first : IsPlaced scope.source line l m = placed-is scope.source line l m is in
     let second : IsFilled scope line f g = filled-is scope line f g js in
-    let split : first.split ≡ second.split = same_split scope.source line first.split second.split first.front second.front in
+    let split : first.split ≡ second.split = same_split scope.source line first.split second.split first.prefix second.prefix in
     let body : statement_read scope.source f.position.in_data line.end second.split.1 ≡ Ok first.made =
     subst (λ (p : Position). statement_read scope.source p.in_data line.end second.split.1 ≡ Ok first.made) at
     (subst (λ (r : Option Label × List Token). statement_read scope.source l.position.in_data line.end r.1 ≡ Ok first.made) split first.body) in
@@ -88,10 +88,10 @@ line-piece scope line l m f g at is js =
       same = refl;
       step = record {
         section = refl;
-        read = record { behind = second.split.1; front = second.front; body = second.body };
+        read = record { rest = second.split.1; prefix = second.prefix; body = second.body };
         holds = held.holds;
         put = held.put;
-        behind = sym (ap (λ (p : Position). p.in_data) second.position) ∙ section-after f.position second.made line.tokens;
+        next_section = sym (ap (λ (p : Position). p.in_data) second.position) ∙ section-after f.position second.made line.tokens;
         filling = js;
       };
     }
@@ -124,8 +124,8 @@ module _ (scope : Scope) where
   steps-read f [] g steps = tt
   steps-read f (p ∷ ps) g steps =
       let step : IsStep scope f p steps.0 = steps.1 in
-      let rest : AreRead scope.source (section_behind p.in_data p.statement) ps = subst (λ (b : Bool). AreRead scope.source b ps) step.behind (steps-read steps.0 ps g steps.2) in
-      (step.section, step.read, subst (λ (b : Bool). AreRead scope.source (section_behind b p.statement) ps) step.section rest)
+      let rest : AreRead scope.source (section_after p.in_data p.statement) ps = subst (λ (b : Bool). AreRead scope.source b ps) step.next_section (steps-read steps.0 ps g steps.2) in
+      (step.section, step.read, subst (λ (b : Bool). AreRead scope.source (section_after b p.statement) ps) step.section rest)
 
   steps-text : (f : Filling) (ps : List Piece) (g : Filling) → Leads (IsStep scope) f ps g → text_bytes g.contents ≡ text_bytes f.contents ++ text_of ps
   steps-text f [] g steps = ap (λ (x : Filling). text_bytes x.contents) (sym steps) ∙ sym (append-nil (text_bytes f.contents))
@@ -155,15 +155,15 @@ module _ (scope : Scope) where
   record IsBetween (f : Filling) (before : List Piece) (p : Piece) (after : List Piece) (g : Filling) : Type 0 where
     begin : Filling
     end : Filling
-    front : Leads (IsStep scope) f before begin
+    prefix : Leads (IsStep scope) f before begin
     here : IsStep scope begin p end
     back : Leads (IsStep scope) end after g
 
   steps-between : (f : Filling) (before : List Piece) (p : Piece) (after : List Piece) (g : Filling) → Leads (IsStep scope) f (before ++ p ∷ after) g → IsBetween f before p after g
-  steps-between f [] p after g steps = record { begin = f; end = steps.0; front = refl; here = steps.1; back = steps.2 }
+  steps-between f [] p after g steps = record { begin = f; end = steps.0; prefix = refl; here = steps.1; back = steps.2 }
   steps-between f (q ∷ before) p after g steps =
       let rest : IsBetween steps.0 before p after g = steps-between steps.0 before p after g steps.2 in
-      record { begin = rest.begin; end = rest.end; front = (steps.0, steps.1, rest.front); here = rest.here; back = rest.back }
+      record { begin = rest.begin; end = rest.end; prefix = (steps.0, steps.1, rest.prefix); here = rest.here; back = rest.back }
 
 map-append : (ps qs : List Piece) → lines_of (ps ++ qs) ≡ lines_of ps ++ lines_of qs
 map-append [] qs = refl
@@ -178,14 +178,14 @@ place-of true words bytes base begins text data_bytes e p q = omega arith
 place-of false words bytes base begins text data_bytes e p q = omega arith
 
 -- a label stands where its line begins
-label-kept : (scope : Scope) (xs : List Line) (line : Line) (ys : List Line) (l : Layout) (g : Filling) (named : Option Label) (behind : List Token) (label : Label) → all_placed scope.source (xs ++ line ∷ ys) start_layout ≡ Ok l → all_filled scope xs start_filling ≡ Ok g
-    → label_read scope.source line.tokens ≡ Ok (named, behind) → named ≡ Some label → get l.labels (text_at scope.source label.start label.end) ≡ Some (spot_of g.position)
-label-kept scope xs line ys l g named behind label all filled_is read is =
-    let (a, front, onward) = and_then-ok (all_placed scope.source xs start_layout) (λ (x : Layout). all_placed scope.source (line ∷ ys) x) l (sym (all_placed-append scope.source xs (line ∷ ys) start_layout) ∙ all) in
+label-kept : (scope : Scope) (xs : List Line) (line : Line) (ys : List Line) (l : Layout) (g : Filling) (named : Option Label) (stated : List Token) (label : Label) → all_placed scope.source (xs ++ line ∷ ys) start_layout ≡ Ok l → all_filled scope xs start_filling ≡ Ok g
+    → label_read scope.source line.tokens ≡ Ok (named, stated) → named ≡ Some label → get l.labels (text_at scope.source label.start label.end) ≡ Some (spot_of g.position)
+label-kept scope xs line ys l g named stated label all filled_is read is =
+    let (a, prefix, onward) = and_then-ok (all_placed scope.source xs start_layout) (λ (x : Layout). all_placed scope.source (line ∷ ys) x) l (sym (all_placed-append scope.source xs (line ∷ ys) start_layout) ∙ all) in
     let (b, here, rest) = and_then-ok (placed scope.source line a) (λ (x : Layout). all_placed scope.source ys x) l onward in
-    let at : a.position ≡ g.position = same_positions scope xs start_layout a start_filling g refl front filled_is in
+    let at : a.position ≡ g.position = same_positions scope xs start_layout a start_filling g refl prefix filled_is in
     let step : IsPlaced scope.source line a b = placed-is scope.source line a b here in
-    let split : step.split ≡ (named, behind) = same_split scope.source line step.split (named, behind) step.front read in
+    let split : step.split ≡ (named, stated) = same_split scope.source line step.split (named, stated) step.prefix read in
     let found : get b.labels (text_at scope.source label.start label.end) ≡ Some (spot_of a.position) = label-found scope.source line label a b step (ap (λ (r : Option Label × List Token). r.0) split ∙ is) in
     subst (λ (q : Position). get l.labels (text_at scope.source label.start label.end) ≡ Some (spot_of q)) at
     (all-stay scope.source ys b l rest (text_at scope.source label.start label.end) (spot_of a.position) found)
@@ -210,13 +210,13 @@ module _ (scope : Scope) (pieces : List Piece) (l : Layout) (f : Filling) (whole
   between = steps-between scope start_filling before p after f (subst (λ (ps : List Piece). Leads (IsStep scope) start_filling ps f) parted whole.steps)
 
   begin_measured : IsMeasured between.begin.position between.begin.contents
-  begin_measured = steps-measured scope start_filling before between.begin (record { words = refl; bytes = refl }) between.front
+  begin_measured = steps-measured scope start_filling before between.begin (record { words = refl; bytes = refl }) between.prefix
 
   begin_text : text_bytes between.begin.contents ≡ text_of before
-  begin_text = steps-text scope start_filling before between.begin between.front
+  begin_text = steps-text scope start_filling before between.begin between.prefix
 
   begin_data : between.begin.contents.bytes ≡ data_of before
-  begin_data = steps-data scope start_filling before between.begin between.front
+  begin_data = steps-data scope start_filling before between.begin between.prefix
 
   -- what is there at the line is no more than at the end
   few_cells : length between.begin.contents.cells ≤ 61440
@@ -229,24 +229,24 @@ module _ (scope : Scope) (pieces : List Piece) (l : Layout) (f : Filling) (whole
       let onward : f.contents.bytes ≡ between.begin.contents.bytes ++ data_of (p ∷ after) = steps-data scope between.begin (p ∷ after) f (between.end, between.here, between.back) in
       omega (arith, whole.small, ap length onward, length-append between.begin.contents.bytes (data_of (p ∷ after)))
 
-  place : address_of scope.data_base (spot_of between.begin.position) ≡ address_behind pieces p.in_data before
+  place : address_of scope.data_base (spot_of between.begin.position) ≡ address_after pieces p.in_data before
   place =
       let words : between.begin.position.words ≡ length between.begin.contents.cells = fitting between.begin.position.words (length between.begin.contents.cells) begin_measured.words (omega (arith, few_cells)) in
       let bytes : between.begin.position.bytes ≡ length between.begin.contents.bytes = fitting between.begin.position.bytes (length between.begin.contents.bytes) begin_measured.bytes few_bytes in
-      subst (λ (b : Bool). address_of scope.data_base (spot_of between.begin.position) ≡ address_behind pieces b before) (sym between.here.section)
+      subst (λ (b : Bool). address_of scope.data_base (spot_of between.begin.position) ≡ address_after pieces b before) (sym between.here.section)
       (place-of between.begin.position.in_data between.begin.position.words between.begin.position.bytes scope.data_base (data_begins pieces) (text_of before) (data_of before) whole.base
       (omega (arith, words, text_length between.begin.contents.cells, ap length begin_text)) (bytes ∙ ap length begin_data))
 
-  piece-holds : HoldsBytes scope p.line (address_behind pieces p.in_data before) p.statement p.bytes
+  piece-holds : HoldsBytes scope p.line (address_after pieces p.in_data before) p.statement p.bytes
   piece-holds = subst (λ (at : ℕ). HoldsBytes scope p.line at p.statement p.bytes) place between.here.holds
 
   -- the labels where the line begins
-  piece-label : (label : Label) → p.label ≡ Some label → address_named (record { source = scope.source; labels = l.labels; data_base = scope.data_base }) label.start label.end ≡ Some (address_behind pieces p.in_data before)
+  piece-label : (label : Label) → p.label ≡ Some label → address_named (record { source = scope.source; labels = l.labels; data_base = scope.data_base }) label.start label.end ≡ Some (address_after pieces p.in_data before)
   piece-label label is =
-      label-address scope.data_base l.labels (text_at scope.source label.start label.end) between.begin.position (address_behind pieces p.in_data before)
-      (label-kept scope (lines_of before) p.line (lines_of after) l between.begin p.label between.here.read.behind label
+      label-address scope.data_base l.labels (text_at scope.source label.start label.end) between.begin.position (address_after pieces p.in_data before)
+      (label-kept scope (lines_of before) p.line (lines_of after) l between.begin p.label between.here.read.rest label
       (subst (λ (ls : List Line). all_placed scope.source ls start_layout ≡ Ok l) (ap lines_of parted ∙ map-append before (p ∷ after)) whole.layout)
-      (steps-filled scope start_filling before between.begin between.front) between.here.read.front is)
+      (steps-filled scope start_filling before between.begin between.prefix) between.here.read.prefix is)
       place
 
 -- ---- the whole
@@ -288,7 +288,7 @@ pub by-lines : (source : List ℕ) (image : Program) (listing : List Row) → As
 by-lines source image listing a =
     let wanted : Assembled = record { image = image; listing = listing } in
     let (l, placed_is, is2) = and_then-ok (all_placed source a.lines start_layout) (assembly_from source a.lines) wanted a.made in
-    let (entry, starts, is3) = and_then-ok (entry_of l) (assembly_behind source a.lines l) wanted is2 in
+    let (entry, starts, is3) = and_then-ok (entry_of l) (assembly_after source a.lines l) wanted is2 in
     let (c, fills, is4) = and_then-ok (contents_filled (scope_of source l) a.lines) (made_of entry) wanted is3 in
     let (f, filled_is, shows) = and_then-ok (all_filled (scope_of source l) a.lines start_filling) contents_shown c fills in
     let fits : pages (4 * l.position.words) + pages l.position.bytes ≤ 60 = entry-fits l entry starts in

@@ -49,26 +49,26 @@ others-stay labels name spot q s absent is =
         no
 
 -- what a declared label shows
-record IsDeclared (source : List ℕ) (label : Label) (p : Position) (before behind : SpotsByName) : Type 0 where
-  found : get behind (text_at source label.start label.end) ≡ Some (spot_of p)
-  stay : (q : List ℕ) (s : Spot) → get before q ≡ Some s → get behind q ≡ Some s
+record IsDeclared (source : List ℕ) (label : Label) (p : Position) (before after : SpotsByName) : Type 0 where
+  found : get after (text_at source label.start label.end) ≡ Some (spot_of p)
+  stay : (q : List ℕ) (s : Spot) → get before q ≡ Some s → get after q ≡ Some s
 
-declared-is : (source : List ℕ) (line : Line) (label : Label) (p : Position) (before behind : SpotsByName) → label_declared source line label p before ≡ Ok behind → IsDeclared source label p before behind
-declared-is source line label p before behind is =
+declared-is : (source : List ℕ) (line : Line) (label : Label) (p : Position) (before after : SpotsByName) → label_declared source line label p before ≡ Ok after → IsDeclared source label p before after
+declared-is source line label p before after is =
     elim (is_some (get before (text_at source label.start label.end))) as (λ b. is_some (get before (text_at source label.start label.end)) ≡ b
-    → ◌≡◌ {A = Result SpotsByName AsmFault} (if b then Err (fault_at source line DoubleLabel label.start) else Ok (insert before (text_at source label.start label.end) (spot_of p))) (Ok behind) → IsDeclared source label p before behind) [
+    → ◌≡◌ {A = Result SpotsByName AsmFault} (if b then Err (fault_at source line DoubleLabel label.start) else Ok (insert before (text_at source label.start label.end) (spot_of p))) (Ok after) → IsDeclared source label p before after) [
       | true ↦ λ _ no. absurd (let none : ⊥ = cc in none)
       | false ↦ λ absent made.
-          let same : insert before (text_at source label.start label.end) (spot_of p) ≡ behind = same_labels _ _ made in
+          let same : insert before (text_at source label.start label.end) (spot_of p) ≡ after = same_labels _ _ made in
           subst (λ (x : SpotsByName). IsDeclared source label p before x) same (record {
             found = found-inserted before (text_at source label.start label.end) (spot_of p);
             stay = λ q s. others-stay before (text_at source label.start label.end) (spot_of p) q s absent;
           })
     ] refl is
 
-labels-stay : (source : List ℕ) (line : Line) (label : Option Label) (p : Position) (before behind : SpotsByName) → labelled source line label p before ≡ Ok behind → (q : List ℕ) (s : Spot) → get before q ≡ Some s → get behind q ≡ Some s
-labels-stay source line None p before behind is q s at = subst (λ (x : SpotsByName). get x q ≡ Some s) (same_labels before behind is) at
-labels-stay source line (Some label) p before behind is q s at = (declared-is source line label p before behind is).stay q s at
+labels-stay : (source : List ℕ) (line : Line) (label : Option Label) (p : Position) (before after : SpotsByName) → labelled source line label p before ≡ Ok after → (q : List ℕ) (s : Spot) → get before q ≡ Some s → get after q ≡ Some s
+labels-stay source line None p before after is q s at = subst (λ (x : SpotsByName). get x q ≡ Some s) (same_labels before after is) at
+labels-stay source line (Some label) p before after is q s at = (declared-is source line label p before after is).stay q s at
 
 -- over lines a label stays where it stands
 pub all-stay : (source : List ℕ) (lines : List Line) (l m : Layout) → all_placed source lines l ≡ Ok m → (q : List ℕ) (s : Spot) → get l.labels q ≡ Some s → get m.labels q ≡ Some s
@@ -78,7 +78,7 @@ all-stay source (line ∷ lines) l m is q s at =
     let step : IsPlaced source line l n = placed-is source line l n first in
     all-stay source lines n m rest q s (labels-stay source line step.split.0 l.position l.labels n.labels step.label q s at)
 
--- behind its line a label stands where the line begins
+-- after its line a label stands where the line begins
 pub label-found : (source : List ℕ) (line : Line) (label : Label) (l m : Layout) (step : IsPlaced source line l m) → step.split.0 ≡ Some label → get m.labels (text_at source label.start label.end) ≡ Some (spot_of l.position)
 label-found source line label l m step is =
     (declared-is source line label l.position l.labels m.labels (subst (λ (x : Option Label). labelled source line x l.position l.labels ≡ Ok m.labels) is step.label)).found

@@ -18,3 +18,5 @@ pub mod StatementBytes
 pub mod LabelPlaces
 pub mod ByLines
 pub mod Loading
+pub mod Loadables
+pub mod WordSizes

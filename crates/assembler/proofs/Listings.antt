@@ -36,9 +36,9 @@ use Rattle.assembler.proofs.Stepping.{and_then-ok, and_then-each, at_line-ok, ok
 use Rattle.assembler.proofs.Registers.{HasRegisters, statement-known}
 use Rattle.assembler.proofs.Expansions.{AreMeant, expansion-meant}
 use Rattle.assembler.proofs.Sizes.{IsMeasured, IsFilled, filled-is, same_split, same_statement, same_position, same_filling, same_layout, measured-all}
-use Rattle.assembler.proofs.Assemblies.{assembly_from, assembly_behind, made_of, contents_shown, same_assembled, same_contents, sized}
+use Rattle.assembler.proofs.Assemblies.{assembly_from, assembly_after, made_of, contents_shown, same_assembled, same_contents, sized}
 
--- ---- what a line adds to text, it adds behind what is there, with its own number
+-- ---- what a line adds to text, it adds after what is there, with its own number
 
 -- a cell is of a line from one number up to another
 abbrev IsOf : ℕ → ℕ → Cell → Type 0
@@ -159,15 +159,15 @@ counted-text source lines t =
 
 -- counted lines that are parted at one
 record IsCountedAt (n : ℕ) (before : List Line) (line : Line) (after : List Line) : Type 0 where
-  front : AreCounted n before
+  prefix : AreCounted n before
   number : line.number ≡ n + length before
   back : AreCounted (line.number + 1) after
 
 counted-parts : (n : ℕ) (before : List Line) (line : Line) (after : List Line) → AreCounted n (before ++ line ∷ after) → IsCountedAt n before line after
-counted-parts n [] line after c = record { front = tt; number = c.0 ∙ omega arith; back = subst (λ (k : ℕ). AreCounted (k + 1) after) (sym c.0) c.1 }
+counted-parts n [] line after c = record { prefix = tt; number = c.0 ∙ omega arith; back = subst (λ (k : ℕ). AreCounted (k + 1) after) (sym c.0) c.1 }
 counted-parts n (x ∷ xs) line after c =
     let rest = counted-parts (n + 1) xs line after c.1 in
-    record { front = (c.0, rest.front); number = rest.number ∙ omega arith; back = rest.back }
+    record { prefix = (c.0, rest.prefix); number = rest.number ∙ omega arith; back = rest.back }
 
 -- ---- the passes over lines that are parted
 
@@ -220,7 +220,7 @@ rows-lines P at (x ∷ xs) all =
     All-cons (λ (r : Row). P r.line) (record { address = at; word = x.word; line = x.line }) (rows_from (at + 4) xs)
     (All-head (λ (x : Cell). P x.line) x xs all) (rows-lines P (at + 4) xs (All-tail (λ (x : Cell). P x.line) x xs all))
 
--- what an instruction in text adds, behind so many words
+-- what an instruction in text adds, after so many words
 record IsAdded (scope : Scope) (line : Line) (words : ℕ) (m : Mnemonic) (o : Operands) (c d : Contents) : Type 0 where
   number : ℤ
   value : distance_of scope (pos (65536 + 4 * words)) o.value ≡ Some number
@@ -246,9 +246,9 @@ added-instruction scope line words bytes m o c d is = added-value scope line wor
 
 -- ---- the whole
 
--- a position in text, behind so many words
+-- a position in text, after so many words
 text_position : (p : Position) (words : ℕ) → p.in_data ≡ false → p.words ≡ words → p ≡ record { in_data = false; words = words; bytes = p.bytes }
-text_position p words in_text behind = λ i. record { in_data = in_text i; words = behind i; bytes = p.bytes }
+text_position p words in_text as_many = λ i. record { in_data = in_text i; words = as_many i; bytes = p.bytes }
 
 counted-small : (w len : ℕ) → w ≡ counted len → len ≤ 61440 → len ≡ w
 counted-small w len e small = omega arith
@@ -256,12 +256,12 @@ counted-small w len e small = omega arith
 -- where the passes are at an instruction, and what it adds
 line-added : (scope : Scope) (before : List Line) (line : Line) (words : ℕ) (m : Mnemonic) (o : Operands) (g h : Filling) → IsInstruction scope.source before line words m o
     → all_filled scope before start_filling ≡ Ok g → filled scope line g ≡ Ok h → IsAdded scope line words m o g.contents h.contents × HasRegisters o × (words ≡ counted (length g.contents.cells))
-line-added scope before line words m o g h is front here =
-    let at : is.layout.position ≡ g.position = same_positions scope before start_layout is.layout start_filling g refl is.placed front in
-    let text : is.layout.position ≡ record { in_data = false; words = words; bytes = is.layout.position.bytes } = text_position is.layout.position words is.in_text is.behind in
+line-added scope before line words m o g h is prefix here =
+    let at : is.layout.position ≡ g.position = same_positions scope before start_layout is.layout start_filling g refl is.placed prefix in
+    let text : is.layout.position ≡ record { in_data = false; words = words; bytes = is.layout.position.bytes } = text_position is.layout.position words is.in_text is.as_many in
     let there : g.position ≡ record { in_data = false; words = words; bytes = is.layout.position.bytes } = sym at ∙ text in
     let step : IsFilled scope line g h = filled-is scope line g h here in
-    let split : step.split ≡ (is.label, is.statement) = same_split scope.source line step.split (is.label, is.statement) step.front is.parted in
+    let split : step.split ≡ (is.label, is.statement) = same_split scope.source line step.split (is.label, is.statement) step.prefix is.parted in
     let body : statement_read scope.source false line.end is.statement ≡ Ok step.made =
     subst (λ (p : Position). statement_read scope.source p.in_data line.end is.statement ≡ Ok step.made) there
     (subst (λ (r : Option Label × List Token). statement_read scope.source g.position.in_data line.end r.1 ≡ Ok step.made) split step.body) in
@@ -269,35 +269,35 @@ line-added scope before line words m o g h is front here =
     let put : statement_filled scope line (record { in_data = false; words = words; bytes = is.layout.position.bytes }) (statement.Instruction m o) g.contents ≡ Ok h.contents =
     subst (λ (p : Position). statement_filled scope line p (statement.Instruction m o) g.contents ≡ Ok h.contents) there
     (subst (λ (s : Statement). statement_filled scope line g.position s g.contents ≡ Ok h.contents) made step.contents) in
-    let measured : IsMeasured is.layout.position g.contents = measured-all scope before start_layout is.layout start_filling g refl (record { words = refl; bytes = refl }) is.placed front in
-    (added-instruction scope line words is.layout.position.bytes m o g.contents h.contents put, statement-known scope.source false line.end is.statement (statement.Instruction m o) is.read, sym is.behind ∙ measured.words)
+    let measured : IsMeasured is.layout.position g.contents = measured-all scope before start_layout is.layout start_filling g refl (record { words = refl; bytes = refl }) is.placed prefix in
+    (added-instruction scope line words is.layout.position.bytes m o g.contents h.contents put, statement-known scope.source false line.end is.statement (statement.Instruction m o) is.read, sym is.as_many ∙ measured.words)
 
-joined : (front here back middle whole : List Cell) → middle ≡ front ++ here → whole ≡ middle ++ back → whole ≡ front ++ (here ++ back)
-joined front here back middle whole p q = q ∙ ap (λ (x : List Cell). x ++ back) p ∙ append_assoc front here back
+joined : (prefix here back middle whole : List Cell) → middle ≡ prefix ++ here → whole ≡ middle ++ back → whole ≡ prefix ++ (here ++ back)
+joined prefix here back middle whole p q = q ∙ ap (λ (x : List Cell). x ++ back) p ∙ append_assoc prefix here back
 
 -- the rows of text that is parted as the lines are
 record IsParted (scope : Scope) (line : Line) (words : ℕ) (m : Mnemonic) (o : Operands) (c : Contents) : Type 0 where
-  front : List Cell
+  prefix : List Cell
   back : List Cell
   number : ℤ
   value : distance_of scope (pos (65536 + 4 * words)) o.value ≡ Some number
   expansion : Expansion
   expands : expansion_of m o number ≡ Some expansion
   meant : AreMeant expansion
-  cells : c.cells ≡ front ++ (cells_of line.number expansion ++ back)
-  behind : words ≡ counted (length front)
-  earlier : All (λ (x : Cell). x.line < line.number) front
+  cells : c.cells ≡ prefix ++ (cells_of line.number expansion ++ back)
+  as_many : words ≡ counted (length prefix)
+  earlier : All (λ (x : Cell). x.line < line.number) prefix
   later : All (λ (x : Cell). line.number < x.line) back
 
 parted-at : (scope : Scope) (before : List Line) (line : Line) (after : List Line) (words : ℕ) (m : Mnemonic) (o : Operands) (f g h : Filling) → IsCountedAt 1 before line after → IsInstruction scope.source before line words m o
     → all_filled scope before start_filling ≡ Ok g → filled scope line g ≡ Ok h → all_filled scope after h ≡ Ok f → IsParted scope line words m o f.contents
-parted-at scope before line after words m o f g h counts instruction front here rest =
-    let (added, registers, at) = line-added scope before line words m o g h instruction front here in
-    let early : Grows 1 (1 + length before) start_filling.contents g.contents = grows-lines scope 1 before start_filling g counts.front front in
+parted-at scope before line after words m o f g h counts instruction prefix here rest =
+    let (added, registers, at) = line-added scope before line words m o g h instruction prefix here in
+    let early : Grows 1 (1 + length before) start_filling.contents g.contents = grows-lines scope 1 before start_filling g counts.prefix prefix in
     let late : Grows (line.number + 1) (line.number + 1 + length after) h.contents f.contents = grows-lines scope (line.number + 1) after h f counts.back rest in
     let number : line.number ≡ 1 + length before = counts.number in
     record {
-      front = g.contents.cells;
+      prefix = g.contents.cells;
       back = late.more;
       number = added.number;
       value = added.value;
@@ -305,7 +305,7 @@ parted-at scope before line after words m o f g h counts instruction front here 
       expands = added.expands;
       meant = expansion-meant m o added.number added.expansion registers added.expands;
       cells = joined g.contents.cells (cells_of line.number added.expansion) late.more h.contents.cells f.contents.cells added.cells late.cells;
-      behind = at;
+      as_many = at;
       earlier = subst (λ (x : List Cell). All (λ (x : Cell). x.line < line.number) x) (sym early.cells)
           (All-weaker (IsOf 1 (1 + length before)) (λ (x : Cell). x.line < line.number) (λ (x : Cell) is. omega (arith, is.1)) early.more early.lines);
       later = All-weaker (IsOf (line.number + 1) (line.number + 1 + length after)) (λ (x : Cell). line.number < x.line) (λ (x : Cell) is. omega (arith, is.0)) late.more late.lines;
@@ -315,10 +315,10 @@ parted-lines : (scope : Scope) (before : List Line) (line : Line) (after : List 
     → contents_filled scope (before ++ line ∷ after) ≡ Ok c → IsParted scope line words m o c
 parted-lines scope before line after words m o c text instruction is =
     let (f, all, shows) = and_then-ok (all_filled scope (before ++ line ∷ after) start_filling) contents_shown c is in
-    let (g, front, behind) = and_then-ok (all_filled scope before start_filling) (λ (x : Filling). all_filled scope (line ∷ after) x) f (sym (all_filled-append scope before (line ∷ after) start_filling) ∙ all) in
-    let (h, here, rest) = and_then-ok (filled scope line g) (λ (x : Filling). all_filled scope after x) f behind in
+    let (g, prefix, later) = and_then-ok (all_filled scope before start_filling) (λ (x : Filling). all_filled scope (line ∷ after) x) f (sym (all_filled-append scope before (line ∷ after) start_filling) ∙ all) in
+    let (h, here, rest) = and_then-ok (filled scope line g) (λ (x : Filling). all_filled scope after x) f later in
     subst (λ (x : Contents). IsParted scope line words m o x) (same_contents f.contents c shows)
-    (parted-at scope before line after words m o f g h (counted-parts 1 before line after (counted-text scope.source (before ++ line ∷ after) text)) instruction front here rest)
+    (parted-at scope before line after words m o f g h (counted-parts 1 before line after (counted-text scope.source (before ++ line ∷ after) text)) instruction prefix here rest)
 
 -- text that fits the image has no more words than its pages hold
 pub entry-fits : (l : Layout) (entry : ℕ) → entry_of l ≡ Ok entry → pages (4 * l.position.words) + pages l.position.bytes ≤ 60
@@ -329,8 +329,8 @@ listed-instruction : (source : List ℕ) (before : List Line) (line : Line) (aft
     → length c.cells ≤ 61440 → rows_from 65536 c.cells ≡ listing → IsParted (scope_of source l) line words m o c → IsListedInstruction source (before ++ line ∷ after) line words m o listing
 listed-instruction source before line after words m o listing l c placed small shows parted =
     let here : List Cell = cells_of line.number parted.expansion in
-    let short : length parted.front ≤ 61440 = omega (arith, ap length parted.cells, length-append parted.front (here ++ parted.back)) in
-    let count : length parted.front ≡ words = counted-small words (length parted.front) parted.behind short in
+    let short : length parted.prefix ≤ 61440 = omega (arith, ap length parted.cells, length-append parted.prefix (here ++ parted.back)) in
+    let count : length parted.prefix ≡ words = counted-small words (length parted.prefix) parted.as_many short in
     record {
       layout = l;
       placed = placed;
@@ -338,16 +338,16 @@ listed-instruction source before line after words m o listing l c placed small s
       value = parted.value;
       expansion = parted.expansion;
       expands = parted.expands;
-      above = rows_from 65536 parted.front;
+      above = rows_from 65536 parted.prefix;
       rows = rows_from (65536 + 4 * words) here;
       below = rows_from (65536 + 4 * words + 4 * length here) parted.back;
-      parted = sym shows ∙ ap (rows_from 65536) parted.cells ∙ rows-append 65536 parted.front (here ++ parted.back)
-          ∙ ap (λ (n : ℕ). rows_from 65536 parted.front ++ rows_from (65536 + 4 * n) (here ++ parted.back)) count
-          ∙ ap (λ (x : List Row). rows_from 65536 parted.front ++ x) (rows-append (65536 + 4 * words) here parted.back)
-          ∙ sym (append_assoc (rows_from 65536 parted.front) (rows_from (65536 + 4 * words) here) (rows_from (65536 + 4 * words + 4 * length here) parted.back));
-      behind = length-rows 65536 parted.front ∙ count;
+      parted = sym shows ∙ ap (rows_from 65536) parted.cells ∙ rows-append 65536 parted.prefix (here ++ parted.back)
+          ∙ ap (λ (n : ℕ). rows_from 65536 parted.prefix ++ rows_from (65536 + 4 * n) (here ++ parted.back)) count
+          ∙ ap (λ (x : List Row). rows_from 65536 parted.prefix ++ x) (rows-append (65536 + 4 * words) here parted.back)
+          ∙ sym (append_assoc (rows_from 65536 parted.prefix) (rows_from (65536 + 4 * words) here) (rows_from (65536 + 4 * words + 4 * length here) parted.back));
+      as_many = length-rows 65536 parted.prefix ∙ count;
       instructions = are_instructions (65536 + 4 * words) line.number parted.expansion parted.meant;
-      earlier = rows-lines (λ (n : ℕ). n < line.number) 65536 parted.front parted.earlier;
+      earlier = rows-lines (λ (n : ℕ). n < line.number) 65536 parted.prefix parted.earlier;
       later = rows-lines (λ (n : ℕ). line.number < n) (65536 + 4 * words + 4 * length here) parted.back parted.later;
     }
 
@@ -357,7 +357,7 @@ made-lists source before line after words m o image listing text instruction is 
     let lines : List Line = before ++ line ∷ after in
     let wanted : Assembled = record { image = image; listing = listing } in
     let (l, placed, is2) = and_then-ok (all_placed source lines start_layout) (assembly_from source lines) wanted is in
-    let (entry, starts, is3) = and_then-ok (entry_of l) (assembly_behind source lines l) wanted is2 in
+    let (entry, starts, is3) = and_then-ok (entry_of l) (assembly_after source lines l) wanted is2 in
     let (c, fills, is4) = and_then-ok (contents_filled (scope_of source l) lines) (made_of entry) wanted is3 in
     let fits : pages (4 * l.position.words) + pages l.position.bytes ≤ 60 = entry-fits l entry starts in
     let size = sized (scope_of source l) lines l c placed fills fits in

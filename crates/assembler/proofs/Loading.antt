@@ -45,11 +45,11 @@ set-again registers rd x value z below is = by_test (rd == 0)
         ∙ ap (λ (n : ℕ). slice_set registers rd (sum n (as_word z))) (get_or-set_same registers rd x 0 below)
         ∙ ap (λ (n : ℕ). slice_set registers rd n) is
 
--- the pc behind two words
+-- the pc after two words
 pc-twice : (pc : ℕ) → ((pc + 4) % 2 ^ 32 + 4) % 2 ^ 32 ≡ (pc + 4 * 2) % 2 ^ 32
 pc-twice pc = omega arith
 
--- an `addi` behind an instruction that set its register
+-- an `addi` after an instruction that set its register
 added : (h : Hart) (rd x value : ℕ) (z : ℤ) → length h.registers ≡ 32 → rd < 32 → sum x (as_word z) ≡ value
     → carried_out (instr.Addi rd rd z ∷ []) (record { registers = put h.registers rd x; pc = (h.pc + 4) % 2 ^ 32; memory = h.memory }) ≡ Some (with_value h rd value 2)
 unfolding effect

@@ -34,7 +34,7 @@ pub contents-stop : (scope : Scope) (lines : List Line) (f : AsmFault) → all_f
 contents-stop scope lines f is = and_then-err (all_filled scope lines start_filling) contents_shown f is
 
 pub line-stops : (scope : Scope) (line : Line) (g : Filling) (r : Option Label × List Token) (s : Statement) (f : AsmFault) → label_read scope.source line.tokens ≡ Ok r → statement_read scope.source g.position.in_data line.end r.1 ≡ Ok s → statement_filled scope line g.position s g.contents ≡ Err f → filled scope line g ≡ Err f
-line-stops scope line g r s f front body fault =
-    and_then-at (at_line scope.source line Syntax (label_read scope.source line.tokens)) (filled_stated scope line g) r (at_line-at scope.source line (label_read scope.source line.tokens) r front)
+line-stops scope line g r s f prefix body fault =
+    and_then-at (at_line scope.source line Syntax (label_read scope.source line.tokens)) (filled_stated scope line g) r (at_line-at scope.source line (label_read scope.source line.tokens) r prefix)
     ∙ and_then-at (at_line scope.source line Syntax (statement_read scope.source g.position.in_data line.end r.1)) (filled_put scope line g) s (at_line-at scope.source line (statement_read scope.source g.position.in_data line.end r.1) s body)
     ∙ and_then-err (statement_filled scope line g.position s g.contents) (filled_made scope line g s) f fault

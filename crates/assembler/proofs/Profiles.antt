@@ -28,9 +28,9 @@ text_length [] = refl
 text_length (c ∷ cells) = omega (arith, length-append (low_bytes 4 c.word) (bytes_of_words (words_of cells)), length-low_bytes 4 c.word, text_length cells)
 
 -- bytes that with those of the words left are those of all, have four for each word so far
-pub text-ends : (front : List ℕ) (cells : List Cell) (i : ℕ) → length cells ≤ i → front ++ bytes_of_words (words_of (drop i cells)) ≡ bytes_of_words (words_of cells) → length front ≡ 4 * length cells
-text-ends front cells i ended is =
-    omega (arith, ap length is, length-append front (bytes_of_words (words_of (drop i cells))), text_length (drop i cells), text_length cells, length-drop i cells)
+pub text-ends : (prefix : List ℕ) (cells : List Cell) (i : ℕ) → length cells ≤ i → prefix ++ bytes_of_words (words_of (drop i cells)) ≡ bytes_of_words (words_of cells) → length prefix ≡ 4 * length cells
+text-ends prefix cells i ended is =
+    omega (arith, ap length is, length-append prefix (bytes_of_words (words_of (drop i cells))), text_length (drop i cells), text_length cells, length-drop i cells)
 
 All-none : {X : Type 0} (P : X → Type 0) → All P []
 All-none P k d lt = absurd (omega (arith, lt))

@@ -5,7 +5,7 @@ use Rattle.std.specs.Option.{ok_or}
 use Rattle.asm_text.specs.declared.token.Token.{Token}
 use Rattle.assembler.specs.Names.{named, registers, mnemonics, directives}
 use Rattle.assembler.specs.Tokens.{text_at, is_word, is_comma, is_open, is_close, number_of, is_string, is_label, register_at}
-use Rattle.assembler.specs.Operands.{slot_read, behind_slot, operands_read, no_operands, with_value, bare_label, target_read, slots_of, chosen}
+use Rattle.assembler.specs.Operands.{slot_read, after_slot, operands_read, no_operands, with_value, bare_label, target_read, slots_of, chosen}
 use Rattle.assembler.specs.Statements.{with_no_more, numbers_read, ascii_read, space_read, directive_read, instruction_read, mnemonic_read, word_read, statement_read}
 use Rattle.assembler.specs.declared.mnemonic.Mnemonic.{Mnemonic}
 use Rattle.assembler.specs.declared.mnemonic.Directive.{Directive}
@@ -70,8 +70,8 @@ operands-registers source end [] [] o p h is = subst (λ (x : Operands). HasRegi
 operands-registers source end [] (t ∷ ts) o p h is = cc
 operands-registers source end (s ∷ slots) [] o p h is = cc
 operands-registers source end (s ∷ slots) (t ∷ ts) o p h is =
-    let (q, read, rest) = and_then-ok (slot_read source end s t ts o) (λ (q : Operands). operands_read source end slots (behind_slot s t ts) q) p is in
-    operands-registers source end slots (behind_slot s t ts) q p (slot-registers source end s t ts o q h read) rest
+    let (q, read, rest) = and_then-ok (slot_read source end s t ts o) (λ (q : Operands). operands_read source end slots (after_slot s t ts) q) p is in
+    operands-registers source end slots (after_slot s t ts) q p (slot-registers source end s t ts o q h read) rest
 
 pub no_operands-registers : HasRegisters no_operands
 no_operands-registers = record { first = omega arith; second = omega arith; third = omega arith }
@@ -96,19 +96,19 @@ numbers-known in_data false end [] s t h is = same_known in_data s t is h
 numbers-known in_data true end (x ∷ xs) s t h is =
     let (_, _, rest) = and_then-ok (ok_or (number_of x.kind) x.start) (λ (n : ℤ). numbers_read false end xs s) t is in
     numbers-known in_data false end xs s t h rest
-numbers-known in_data false end (x ∷ xs) s t h is = behind (is_comma x.kind) (numbers-known in_data true end xs s t h) is
+numbers-known in_data false end (x ∷ xs) s t h is = after (is_comma x.kind) (numbers-known in_data true end xs s t h) is
   where
-    behind : (b : Bool) → (numbers_read true end xs s ≡ Ok t → IsKnown in_data t) → (if b then numbers_read true end xs s else Err x.start) ≡ Ok t → IsKnown in_data t
-    behind true go is = go is
-    behind false go is = absurd (let no : ⊥ = cc in no)
+    after : (b : Bool) → (numbers_read true end xs s ≡ Ok t → IsKnown in_data t) → (if b then numbers_read true end xs s else Err x.start) ≡ Ok t → IsKnown in_data t
+    after true go is = go is
+    after false go is = absurd (let no : ⊥ = cc in no)
 
 ascii-known : (end : ℕ) (ts : List Token) (t : Statement) → ascii_read end ts ≡ Ok t → IsKnown true t
 ascii-known end [] t is = absurd (let no : ⊥ = cc in no)
-ascii-known end (x ∷ xs) t is = behind (is_string x.kind) is
+ascii-known end (x ∷ xs) t is = after (is_string x.kind) is
   where
-    behind : (b : Bool) → (if b then with_no_more xs statement.Ascii else Err x.start) ≡ Ok t → IsKnown true t
-    behind true is = no_more-known true xs statement.Ascii t refl is
-    behind false is = absurd (let no : ⊥ = cc in no)
+    after : (b : Bool) → (if b then with_no_more xs statement.Ascii else Err x.start) ≡ Ok t → IsKnown true t
+    after true is = no_more-known true xs statement.Ascii t refl is
+    after false is = absurd (let no : ⊥ = cc in no)
 
 space-known : (in_data : Bool) (end : ℕ) (ts : List Token) (t : Statement) → space_read end ts ≡ Ok t → IsKnown in_data t
 space-known in_data end [] t is = absurd (let no : ⊥ = cc in no)
@@ -142,8 +142,8 @@ word-known source in_data end at word None ts t is = mnemonic-known source in_da
 -- a statement that was read is known
 pub statement-known : (source : List ℕ) (in_data : Bool) (end : ℕ) (ts : List Token) (t : Statement) → statement_read source in_data end ts ≡ Ok t → IsKnown in_data t
 statement-known source in_data end [] t is = same_known in_data statement.Nothing t is tt
-statement-known source in_data end (x ∷ xs) t is = behind (is_word x.kind) is
+statement-known source in_data end (x ∷ xs) t is = after (is_word x.kind) is
   where
-    behind : (b : Bool) → (if b then word_read source in_data end x.start (text_at source x.start x.end) (named directives (text_at source x.start x.end)) xs else Err x.start) ≡ Ok t → IsKnown in_data t
-    behind true is = word-known source in_data end x.start (text_at source x.start x.end) (named directives (text_at source x.start x.end)) xs t is
-    behind false is = absurd (let no : ⊥ = cc in no)
+    after : (b : Bool) → (if b then word_read source in_data end x.start (text_at source x.start x.end) (named directives (text_at source x.start x.end)) xs else Err x.start) ≡ Ok t → IsKnown in_data t
+    after true is = word-known source in_data end x.start (text_at source x.start x.end) (named directives (text_at source x.start x.end)) xs t is
+    after false is = absurd (let no : ⊥ = cc in no)

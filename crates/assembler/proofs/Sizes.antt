@@ -155,7 +155,7 @@ measured-instruction scope line p mnemonic o c d m is =
     (subst (λ (k : ℕ). IsMeasured (advanced p (counted (units_of k p.in_data))) (put_expansion p.in_data line.number e c)) counts
     (measured-put p (units_of (word_count e) p.in_data) c (put_expansion p.in_data line.number e c) m (longer-expansion p.in_data line.number e c)))
 
--- behind a statement the position counts what the sections hold
+-- after a statement the position counts what the sections hold
 measured-statement : (scope : Scope) (line : Line) (p : Position) (s : Statement) (c d : Contents) → IsMeasured p c → statement_filled scope line p s c ≡ Ok d → IsMeasured (after p s line.tokens) d
 measured-statement scope line p statement.Nothing c d m is = subst (λ (x : Contents). IsMeasured p x) (same_contents c d is) m
 measured-statement scope line p statement.Text c d m is = subst (λ (x : Contents). IsMeasured (within p false) x) (same_contents c d is) (record { words = m.words; bytes = m.bytes })
@@ -180,7 +180,7 @@ measured-statement scope line p (statement.Instruction mnemonic o) c d m is = me
 pub record IsPlaced (source : List ℕ) (line : Line) (l m : Layout) : Type 0 where
   pub split : Option Label × List Token
   pub made : Statement
-  pub front : label_read source line.tokens ≡ Ok split
+  pub prefix : label_read source line.tokens ≡ Ok split
   pub label : labelled source line split.0 l.position l.labels ≡ Ok m.labels
   pub body : statement_read source l.position.in_data line.end split.1 ≡ Ok made
   pub space : space_checked source line l.position.in_data made ≡ Ok tt
@@ -204,7 +204,7 @@ ok_labels r labels given same is = subst (λ (x : SpotsByName). r ≡ Ok x) same
 
 pub placed-is : (source : List ℕ) (line : Line) (l m : Layout) → placed source line l ≡ Ok m → IsPlaced source line l m
 placed-is source line l m is =
-    let (r, front, is2) = and_then-ok (at_line source line Syntax (label_read source line.tokens)) (placed_labelled source line l) m is in
+    let (r, prefix, is2) = and_then-ok (at_line source line Syntax (label_read source line.tokens)) (placed_labelled source line l) m is in
     let (labels, label, is3) = and_then-ok (labelled source line r.0 l.position l.labels) (placed_stated source line l r) m is2 in
     let (s, body, is4) = and_then-ok (at_line source line Syntax (statement_read source l.position.in_data line.end r.1)) (placed_checked source line l labels) m is3 in
     let (_, space, is5) = and_then-ok (space_checked source line l.position.in_data s) (λ (u : Unit {0}). Ok (record { position = after l.position s line.tokens; labels = labels })) m is4 in
@@ -212,7 +212,7 @@ placed-is source line l m is =
     record {
       split = r;
       made = s;
-      front = at_line-ok source line Syntax (label_read source line.tokens) r front;
+      prefix = at_line-ok source line Syntax (label_read source line.tokens) r prefix;
       label = ok_labels (labelled source line r.0 l.position l.labels) labels m.labels (ap (λ (x : Layout). x.labels) same) label;
       body = at_line-ok source line Syntax (statement_read source l.position.in_data line.end r.1) s body;
       space = space;
@@ -223,7 +223,7 @@ placed-is source line l m is =
 pub record IsFilled (scope : Scope) (line : Line) (f g : Filling) : Type 0 where
   pub split : Option Label × List Token
   pub made : Statement
-  pub front : label_read scope.source line.tokens ≡ Ok split
+  pub prefix : label_read scope.source line.tokens ≡ Ok split
   pub body : statement_read scope.source f.position.in_data line.end split.1 ≡ Ok made
   pub position : after f.position made line.tokens ≡ g.position
   pub contents : statement_filled scope line f.position made f.contents ≡ Ok g.contents
@@ -246,14 +246,14 @@ filled_stated scope line f r = and_then (at_line scope.source line Syntax (state
 
 pub filled-is : (scope : Scope) (line : Line) (f g : Filling) → filled scope line f ≡ Ok g → IsFilled scope line f g
 filled-is scope line f g is =
-    let (r, front, is2) = and_then-ok (at_line scope.source line Syntax (label_read scope.source line.tokens)) (filled_stated scope line f) g is in
+    let (r, prefix, is2) = and_then-ok (at_line scope.source line Syntax (label_read scope.source line.tokens)) (filled_stated scope line f) g is in
     let (s, body, is3) = and_then-ok (at_line scope.source line Syntax (statement_read scope.source f.position.in_data line.end r.1)) (filled_put scope line f) g is2 in
     let (c, put, is4) = and_then-ok (statement_filled scope line f.position s f.contents) (filled_made scope line f s) g is3 in
     let same : record { position = after f.position s line.tokens; contents = c } ≡ g = same_filling (record { position = after f.position s line.tokens; contents = c }) g is4 in
     record {
       split = r;
       made = s;
-      front = at_line-ok scope.source line Syntax (label_read scope.source line.tokens) r front;
+      prefix = at_line-ok scope.source line Syntax (label_read scope.source line.tokens) r prefix;
       body = at_line-ok scope.source line Syntax (statement_read scope.source f.position.in_data line.end r.1) s body;
       position = ap (λ (x : Filling). x.position) same;
       contents = put ∙ ok_contents _ g same;
@@ -270,7 +270,7 @@ pub same_position : (scope : Scope) (line : Line) (l m : Layout) (f g : Filling)
 same_position scope line l m f g at is js =
     let first : IsPlaced scope.source line l m = placed-is scope.source line l m is in
     let second : IsFilled scope line f g = filled-is scope line f g js in
-    let split : first.split ≡ second.split = same_split scope.source line first.split second.split first.front second.front in
+    let split : first.split ≡ second.split = same_split scope.source line first.split second.split first.prefix second.prefix in
     let body : statement_read scope.source f.position.in_data line.end second.split.1 ≡ Ok first.made =
     subst (λ (p : Position). statement_read scope.source p.in_data line.end second.split.1 ≡ Ok first.made) at
     (subst (λ (r : Option Label × List Token). statement_read scope.source l.position.in_data line.end r.1 ≡ Ok first.made) split first.body) in
@@ -282,7 +282,7 @@ measured-filled scope line f g m is =
     let step : IsFilled scope line f g = filled-is scope line f g is in
     subst (λ (p : Position). IsMeasured p g.contents) step.position (measured-statement scope line f.position step.made f.contents g.contents m step.contents)
 
--- behind all lines the first pass's position counts what the second one made
+-- after all lines the first pass's position counts what the second one made
 pub measured-all : (scope : Scope) (lines : List Line) (l m : Layout) (f g : Filling) → l.position ≡ f.position → IsMeasured f.position f.contents → all_placed scope.source lines l ≡ Ok m → all_filled scope lines f ≡ Ok g → IsMeasured m.position g.contents
 measured-all scope [] l m f g at measured is js =
     let same : l ≡ m = same_layout l m is in

@@ -98,17 +98,17 @@ space_put false line z c is = record {
 record AreBytes (ns : List (ℤ × ℕ)) (bytes out : List ℕ) : Type 0 where
   more : List ℕ
   each : map (λ (n : ℤ × ℕ). byte_of n.0) ns ≡ map Some more
-  behind : out ≡ bytes ++ more
+  after : out ≡ bytes ++ more
 
 bytes_put : (ns : List (ℤ × ℕ)) (bytes out : List ℕ) → put_bytes ns bytes ≡ Ok out → AreBytes ns bytes out
-bytes_put [] bytes out is = record { more = []; each = refl; behind = (let same : bytes ≡ out = cc in sym same ∙ sym (append-nil bytes)) }
+bytes_put [] bytes out is = record { more = []; each = refl; after = (let same : bytes ≡ out = cc in sym same ∙ sym (append-nil bytes)) }
 bytes_put (n ∷ ns) bytes out is =
     let (b, first, rest) = and_then-ok (ok_or (byte_of n.0) n.1) (λ (x : ℕ). put_bytes ns (bytes ++ x ∷ [])) out is in
     let others : AreBytes ns (bytes ++ b ∷ []) out = bytes_put ns (bytes ++ b ∷ []) out rest in
     record {
       more = b ∷ others.more;
       each = (λ i. ok_or-ok (byte_of n.0) n.1 b first i ∷ others.each i);
-      behind = others.behind ∙ append_assoc bytes (b ∷ []) others.more;
+      after = others.after ∙ append_assoc bytes (b ∷ []) others.more;
     }
 
 -- what a statement adds
@@ -131,7 +131,7 @@ bytes-holding scope line p c d data_is is =
       bytes = b.more;
       holds = b.each;
       put = to-put p.in_data b.more c (record { cells = c.cells; bytes = out }) d made
-          (in-data p.in_data b.more c (record { cells = c.cells; bytes = out }) data_is (record { text = sym (append-nil (text_bytes c)); data_bytes = b.behind }));
+          (in-data p.in_data b.more c (record { cells = c.cells; bytes = out }) data_is (record { text = sym (append-nil (text_bytes c)); data_bytes = b.after }));
     }
 
 value-holding : (scope : Scope) (line : Line) (p : Position) (m : Mnemonic) (o : Operands) (v : Option ℤ) (c d : Contents) → distance_of scope (pos (address_of scope.data_base (spot_of p))) o.value ≡ v

@@ -24,7 +24,7 @@ and_then-at {A} {B} {E} r f x is = ap (λ (s : Result A E). and_then s f) is
 pub and_then-err : {A B E : Type 0} (r : Result A E) (f : A → Result B E) (e : E) → r ≡ Err e → and_then r f ≡ Err e
 and_then-err {A} {B} {E} r f e is = ap (λ (s : Result A E). and_then s f) is
 
--- steps behind two others are steps behind the first
+-- steps after two others are steps after the first
 pub and_then-each : {A B C E : Type 0} (r : Result A E) (f : A → Result B E) (g : B → Result C E) (h : A → Result C E) → ((x : A) → h x ≡ and_then (f x) g) → and_then r h ≡ and_then (and_then r f) g
 and_then-each (Ok x) f g h same = same x
 and_then-each (Err e) f g h same = refl

@@ -20,7 +20,7 @@ use Rattle.assembler.specs.declared.listing.Row.{Row}
 abbrev pub pages : ℕ → ℕ
 pages n = (n + 4095) / 4096
 
--- where data begins behind so many words of text: at the next page
+-- where data begins after so many words of text: at the next page
 abbrev pub data_base : ℕ → ℕ
 data_base words = 65536 + 4096 * pages (4 * words)
 
@@ -71,7 +71,7 @@ pub record Assembled : Type 0 where
 abbrev pub assembled : ℕ → Contents → Assembled
 assembled entry c = record { image = image_of entry c; listing = rows_from 65536 c.cells }
 
--- what the second pass knows behind the first
+-- what the second pass knows after the first
 abbrev pub scope_of : List ℕ → Layout → Scope
 scope_of source l = record { source = source; labels = l.labels; data_base = data_base l.position.words }
 

@@ -5,8 +5,17 @@ use Rattle.asm_text.specs.declared.fault.Cause as text
 use Rattle.asm_text.specs.declared.fault.Cause.TheVariants as text_cause
 use Rattle.asm_text.specs.declared.token.Line.{Line}
 use Rattle.assembler.specs.declared.fault.Cause.{Cause}
-use Rattle.assembler.specs.declared.fault.Cause.TheVariants.{Syntax, OutOfMemory}
+use Rattle.assembler.specs.declared.fault.Cause.TheVariants.{Syntax, UnknownName, DoubleLabel, Range, NoStart, TooLarge, OutOfMemory}
 use Rattle.assembler.specs.declared.fault.AsmFault.{AsmFault}
+
+abbrev pub number_of : Cause → ℕ
+number_of Syntax = 1
+number_of UnknownName = 2
+number_of DoubleLabel = 3
+number_of Range = 4
+number_of NoStart = 5
+number_of TooLarge = 6
+number_of OutOfMemory = 7
 
 -- a fault of the source as a whole stands at 1:1
 abbrev pub whole : Cause → AsmFault

@@ -1,4 +1,4 @@
--- The second pass: each statement's words and bytes behind those before it, labels being replaced by their addresses.
+-- The second pass: each statement's words and bytes after those before it, labels being replaced by their addresses.
 use Rattle.std.specs.Prelude.{ℕ, ℤ, pos, negsuc, ◌+◌, ◌-◌, ◌*◌, ◌/◌, ◌+ℤ◌, ◌-ℤ◌, Bool, true, false, nat_lt, if◌then◌else◌, List, [], ◌∷◌, ◌++◌, replicate, Option, Some, None, Result, Ok, Err}
 use Rattle.std.specs.Option.{option_map, ok_or}
 use Rattle.std.specs.FinMap.{get}
@@ -69,7 +69,7 @@ abbrev pub byte_of : ℤ → Option ℕ
 byte_of (pos n) = if nat_lt n 256 then Some n else None
 byte_of (negsuc n) = if nat_lt n 128 then Some (255 - n) else None
 
--- a word of a line's statement, behind what its section has
+-- a word of a line's statement, after what its section has
 abbrev pub put_word : Bool → ℕ → ℕ → Contents → Contents
 put_word true line word c = record { cells = c.cells; bytes = c.bytes ++ low_bytes 4 word }
 put_word false line word c = record { cells = c.cells ++ (record { word = word; line = line }) ∷ []; bytes = c.bytes }
@@ -127,7 +127,7 @@ statement_filled scope line p statement.Ascii c = Ok (put_string line.tokens c)
 statement_filled scope line p (statement.Space n at) c = Ok (put_space p.in_data line.number (space_bytes n) c)
 statement_filled scope line p (statement.Instruction m o) c = instruction_filled scope line p m o c
 
--- The sections behind a line. Behind a first pass without a fault no Syntax comes here: that pass read each line from the
+-- The sections after a line. After a first pass without a fault no Syntax comes here: that pass read each line from the
 -- same position, with the same outcome.
 abbrev pub filled : Scope → Line → Filling → Result Filling AsmFault
 filled scope line f =
@@ -136,11 +136,11 @@ filled scope line f =
     and_then (statement_filled scope line f.position s f.contents) (λ c.
     Ok (record { position = after f.position s line.tokens; contents = c }))))
 
--- the sections behind all lines, or the first fault
+-- the sections after all lines, or the first fault
 abbrev pub all_filled : Scope → List Line → Filling → Result Filling AsmFault
 all_filled scope [] f = Ok f
 all_filled scope (line ∷ lines) f = and_then (filled scope line f) (λ g. all_filled scope lines g)
 
--- what the sections hold behind all lines, or the first fault
+-- what the sections hold after all lines, or the first fault
 abbrev pub contents_filled : Scope → List Line → Result Contents AsmFault
 contents_filled scope lines = and_then (all_filled scope lines start_filling) (λ f. Ok f.contents)

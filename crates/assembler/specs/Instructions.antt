@@ -19,7 +19,7 @@ use Rattle.assembler.specs.declared.statement.Statement.TheVariants.{Instruction
 use Rattle.assembler.specs.declared.layout.Layout.{Layout}
 use Rattle.assembler.specs.declared.listing.Row.{Row}
 
--- A line's statement is an instruction in text, behind lines that have so many words of text.
+-- A line's statement is an instruction in text, after lines that have so many words of text.
 pub record IsInstruction (source : List ℕ) (before : List Line) (line : Line) (words : ℕ) (m : Mnemonic) (o : Operands) : Type 0 where
   pub label : Option Label
   pub statement : List Token
@@ -28,7 +28,7 @@ pub record IsInstruction (source : List ℕ) (before : List Line) (line : Line) 
   pub layout : Layout
   pub placed : all_placed source before start_layout ≡ Ok layout
   pub in_text : layout.position.in_data ≡ false
-  pub behind : layout.position.words ≡ words
+  pub as_many : layout.position.words ≡ words
 
 -- the instructions of an expansion, in order
 abbrev pub instructions_of : Expansion → List Instr
@@ -42,7 +42,7 @@ AreInstructions at number (i ∷ instructions) [] = ⊥
 AreInstructions at number (i ∷ instructions) (row ∷ rows) =
     (row.address ≡ at) × (row.line ≡ number) × Means row.word i × AreInstructions (at + 4) number instructions rows
 
--- A line's instruction is listed: where the labels stand as all lines place them, it expands to instructions; and behind a
+-- A line's instruction is listed: where the labels stand as all lines place them, it expands to instructions; and after a
 -- row for each word of text before it come rows that are those instructions from the address there on, and the only ones of
 -- the line.
 pub record IsListedInstruction (source : List ℕ) (lines : List Line) (line : Line) (words : ℕ) (m : Mnemonic) (o : Operands) (listing : List Row) : Type 0 where
@@ -56,7 +56,7 @@ pub record IsListedInstruction (source : List ℕ) (lines : List Line) (line : L
   pub rows : List Row
   pub below : List Row
   pub parted : listing ≡ above ++ rows ++ below
-  pub behind : length above ≡ words
+  pub as_many : length above ≡ words
   pub instructions : AreInstructions (65536 + 4 * words) line.number (instructions_of expansion) rows
   pub earlier : All (λ row. row.line < line.number) above
   pub later : All (λ row. line.number < row.line) below

@@ -1,4 +1,4 @@
--- The first pass: each line's statement goes to the section that the last `.text` or `.data` before it names, behind what
+-- The first pass: each line's statement goes to the section that the last `.text` or `.data` before it names, after what
 -- is there, and a label stands where its line begins.
 use Rattle.std.specs.Prelude.{ℕ, ℤ, pos, negsuc, ◌+◌, ◌*◌, ◌/◌, ◌%◌, ◌||◌, ◌==◌, min, Bool, true, false, if◌then◌else◌, List, [], ◌∷◌, Option, Some, None, is_some, Result, Ok, Err, length}
 use Rattle.std.specs.FinMap.{get, insert, empty}
@@ -81,7 +81,7 @@ advanced p n = if p.in_data then with_bytes p n else with_words p n
 abbrev pub within : Position → Bool → Position
 within p in_data = record { in_data = in_data; words = p.words; bytes = p.bytes }
 
--- the position behind a statement of a line with these tokens
+-- the position after a statement of a line with these tokens
 abbrev pub after : Position → Statement → List Token → Position
 after p statement.Nothing tokens = p
 after p statement.Text tokens = within p false
@@ -111,7 +111,7 @@ abbrev pub labelled : List ℕ → Line → Option Label → Position → SpotsB
 labelled source line None p labels = Ok labels
 labelled source line (Some label) p labels = label_declared source line label p labels
 
--- the layout behind a line: first its label, then its statement
+-- the layout after a line: first its label, then its statement
 abbrev pub placed : List ℕ → Line → Layout → Result Layout AsmFault
 placed source line l =
     and_then (at_line source line Syntax (label_read source line.tokens)) (λ r.
@@ -120,7 +120,7 @@ placed source line l =
     and_then (space_checked source line l.position.in_data s) (λ _.
     Ok (record { position = after l.position s line.tokens; labels = labels })))))
 
--- the layout behind all lines, or the first fault
+-- the layout after all lines, or the first fault
 abbrev pub all_placed : List ℕ → List Line → Layout → Result Layout AsmFault
 all_placed source [] l = Ok l
 all_placed source (line ∷ lines) l = and_then (placed source line l) (λ m. all_placed source lines m)

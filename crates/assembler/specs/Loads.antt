@@ -16,7 +16,7 @@ abbrev pub carried_out : List Instr → Hart → Option Hart
 carried_out [] h = Some h
 carried_out (i ∷ instructions) h = option_and_then (λ g. carried_out instructions g) (hart_of (effect i h))
 
--- a value in a register, and the pc behind so many words
+-- a value in a register, and the pc after so many words
 abbrev pub with_value : Hart → ℕ → ℕ → ℕ → Hart
 with_value h rd value words = record { registers = put h.registers rd value; pc = (h.pc + 4 * words) % 2 ^ 32; memory = h.memory }
 

@@ -14,7 +14,7 @@ use Rattle.assembler.specs.declared.operands.Value.{Value}
 use Rattle.assembler.specs.declared.operands.Value.TheVariants as operand
 use Rattle.assembler.specs.declared.operands.Operands.{Operands}
 
--- what stands behind a mnemonic, in order
+-- what stands after a mnemonic, in order
 abbrev pub slots_of : Mnemonic → List Slot
 slots_of (form.Registers op) = slot.First ∷ slot.Comma ∷ slot.Second ∷ slot.Comma ∷ slot.Third ∷ []
 slots_of (form.Immediate op) = slot.First ∷ slot.Comma ∷ slot.Second ∷ slot.Comma ∷ slot.Number ∷ []
@@ -40,7 +40,7 @@ with_comma [] = false
 with_comma (t ∷ []) = false
 with_comma (t ∷ u ∷ ts) = is_comma u.kind
 
--- `jal` and `jalr` with no comma behind their first operand link ra: a jump to a target, and one to a register
+-- `jal` and `jalr` with no comma after their first operand link ra: a jump to a target, and one to a register
 abbrev pub chosen : Mnemonic → List Token → Mnemonic
 chosen form.Jal tokens = if with_comma tokens then form.Jal else form.Jump Ra
 chosen (form.Load Jalr) tokens = if with_comma tokens then form.Load Jalr else form.JumpRegister Ra
@@ -59,7 +59,7 @@ expected false at = Err at
 abbrev pub bare_label : Token → Value
 bare_label t = operand.Above t.start t.end (pos 0)
 
--- A number directly behind a sign, which ends at `sign_end`. What is wrong stands at its place; what is missing, at `end`.
+-- A number directly after a sign, which ends at `sign_end`. What is wrong stands at its place; what is missing, at `end`.
 abbrev pub addend_read : ℕ → ℕ → List Token → Result ℤ ℕ
 addend_read end sign_end [] = Err end
 addend_read end sign_end (t ∷ ts) = and_then (ok_or (number_of t.kind) t.start) (λ n. if t.start == sign_end then Ok n else Err t.start)
@@ -80,20 +80,20 @@ named_target source end None t ts = if is_label source t then sum_read end t ts 
 abbrev pub target_read : List ℕ → ℕ → Token → List Token → Result Value ℕ
 target_read source end t ts = named_target source end (number_of t.kind) t ts
 
--- the tokens behind a label's name and what is added to it or taken from it
-abbrev pub behind_one : List Token → List Token
-behind_one [] = []
-behind_one (t ∷ ts) = ts
+-- the tokens after a label's name and what is added to it or taken from it
+abbrev pub after_one : List Token → List Token
+after_one [] = []
+after_one (t ∷ ts) = ts
 
-abbrev pub behind_label : List Token → List Token
-behind_label [] = []
-behind_label (sign ∷ ts) = if is_plus sign.kind || is_minus sign.kind then behind_one ts else sign ∷ ts
+abbrev pub after_label : List Token → List Token
+after_label [] = []
+after_label (sign ∷ ts) = if is_plus sign.kind || is_minus sign.kind then after_one ts else sign ∷ ts
 
 -- the operands with the value that stands at a place
 abbrev pub with_value : Operands → Value → ℕ → Operands
 with_value o v at = record { first = o.first; second = o.second; third = o.third; value = v; at = at }
 
--- the operands with what a token, or in the place of a target it and those behind it, is to a slot
+-- the operands with what a token, or in the place of a target it and those after it, is to a slot
 abbrev pub slot_read : List ℕ → ℕ → Slot → Token → List Token → Operands → Result Operands ℕ
 slot_read source end slot.First t ts o = and_then (ok_or (register_at source t) t.start) (λ r. Ok (record o { first = r }))
 slot_read source end slot.Second t ts o = and_then (ok_or (register_at source t) t.start) (λ r. Ok (record o { second = r }))
@@ -105,15 +105,15 @@ slot_read source end slot.Number t ts o = and_then (ok_or (number_of t.kind) t.s
 slot_read source end slot.Target t ts o = and_then (target_read source end t ts) (λ v. Ok (with_value o v t.start))
 slot_read source end slot.Label t ts o = if is_label source t then Ok (with_value o (bare_label t) t.start) else Err t.start
 
--- the tokens behind what stands in a slot
-abbrev pub behind_slot : Slot → Token → List Token → List Token
-behind_slot slot.Target t ts = if is_word t.kind then behind_label ts else ts
-behind_slot slot t ts = ts
+-- the tokens after what stands in a slot
+abbrev pub after_slot : Slot → Token → List Token → List Token
+after_slot slot.Target t ts = if is_word t.kind then after_label ts else ts
+after_slot slot t ts = ts
 
--- The operands, read slot by slot from all tokens behind a mnemonic; or the place of the first wrong token, which for one
+-- The operands, read slot by slot from all tokens after a mnemonic; or the place of the first wrong token, which for one
 -- that is missing is `end`.
 abbrev pub operands_read : List ℕ → ℕ → List Slot → List Token → Operands → Result Operands ℕ
 operands_read source end [] [] o = Ok o
 operands_read source end [] (t ∷ ts) o = Err t.start
 operands_read source end (slot ∷ slots) [] o = Err end
-operands_read source end (slot ∷ slots) (t ∷ ts) o = and_then (slot_read source end slot t ts o) (λ p. operands_read source end slots (behind_slot slot t ts) p)
+operands_read source end (slot ∷ slots) (t ∷ ts) o = and_then (slot_read source end slot t ts o) (λ p. operands_read source end slots (after_slot slot t ts) p)

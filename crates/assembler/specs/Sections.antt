@@ -30,20 +30,20 @@ lines_of pieces = map (λ (p : Piece). p.line) pieces
 
 -- the label and the statement are those that the line's tokens make in its section
 pub record IsRead (source : List ℕ) (p : Piece) : Type 0 where
-  pub behind : List Token
-  pub front : label_read source p.line.tokens ≡ Ok (p.label, behind)
-  pub body : statement_read source p.in_data p.line.end behind ≡ Ok p.statement
+  pub rest : List Token
+  pub prefix : label_read source p.line.tokens ≡ Ok (p.label, rest)
+  pub body : statement_read source p.in_data p.line.end rest ≡ Ok p.statement
 
--- the section behind a statement
-abbrev pub section_behind : Bool → Statement → Bool
-section_behind in_data statement.Text = false
-section_behind in_data statement.Data = true
-section_behind in_data s = in_data
+-- the section after a statement
+abbrev pub section_after : Bool → Statement → Bool
+section_after in_data statement.Text = false
+section_after in_data statement.Data = true
+section_after in_data s = in_data
 
 -- each line goes to the section that the last `.text` or `.data` before it names, the first ones to this section
 abbrev pub AreRead : List ℕ → Bool → List Piece → Type 0
 AreRead source in_data [] = Unit {0}
-AreRead source in_data (p ∷ ps) = (p.in_data ≡ in_data) × IsRead source p × AreRead source (section_behind in_data p.statement) ps
+AreRead source in_data (p ∷ ps) = (p.in_data ≡ in_data) × IsRead source p × AreRead source (section_after in_data p.statement) ps
 
 -- the bytes that lines hold in text, and in data
 abbrev pub text_of : List Piece → List ℕ
@@ -54,13 +54,13 @@ abbrev pub data_of : List Piece → List ℕ
 data_of [] = []
 data_of (p ∷ ps) = (if p.in_data then p.bytes else []) ++ data_of ps
 
--- where data begins: at the next page behind text
+-- where data begins: at the next page after text
 abbrev pub data_begins : List Piece → ℕ
 data_begins pieces = 65536 + 4096 * pages (length (text_of pieces))
 
--- the address of what stands behind some lines in a section: its base, and the bytes of that section before it
-abbrev pub address_behind : List Piece → Bool → List Piece → ℕ
-address_behind pieces in_data before = if in_data then data_begins pieces + length (data_of before) else 65536 + length (text_of before)
+-- the address of what stands after some lines in a section: its base, and the bytes of that section before it
+abbrev pub address_after : List Piece → Bool → List Piece → ℕ
+address_after pieces in_data before = if in_data then data_begins pieces + length (data_of before) else 65536 + length (text_of before)
 
 -- the bytes that a line's statement holds at an address
 abbrev pub HoldsBytes : Scope → Line → ℕ → Statement → List ℕ → Type 0
@@ -83,6 +83,6 @@ pub record IsByLines (source : List ℕ) (image : Program) : Type 0 where
   pub layout : Layout
   pub placed : all_placed source (lines_of pieces) start_layout ≡ Ok layout
   pub bytes : (before : List Piece) (p : Piece) (after : List Piece) → pieces ≡ before ++ p ∷ after
-      → HoldsBytes (scope_of source layout) p.line (address_behind pieces p.in_data before) p.statement p.bytes
+      → HoldsBytes (scope_of source layout) p.line (address_after pieces p.in_data before) p.statement p.bytes
   pub labels : (before : List Piece) (p : Piece) (after : List Piece) (label : Label) → pieces ≡ before ++ p ∷ after → p.label ≡ Some label
-      → address_named (scope_of source layout) label.start label.end ≡ Some (address_behind pieces p.in_data before)
+      → address_named (scope_of source layout) label.start label.end ≡ Some (address_after pieces p.in_data before)

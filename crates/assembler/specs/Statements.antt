@@ -13,7 +13,7 @@ use Rattle.assembler.specs.declared.statement.Label.{Label}
 use Rattle.assembler.specs.declared.statement.Statement.{Statement}
 use Rattle.assembler.specs.declared.statement.Statement.TheVariants as statement
 
--- The label at a line's front, a name with a colon directly behind it, and the tokens behind; or the place of what stands
+-- The label with which a line begins, a name with a colon directly after it, and the tokens after it; or the place of what stands
 -- before such a colon and is no label's name.
 abbrev pub label_read : List ℕ → List Token → Result (Option Label × List Token) ℕ
 label_read source [] = Ok (None, [])
@@ -45,7 +45,7 @@ abbrev pub space_read : ℕ → List Token → Result Statement ℕ
 space_read end [] = Err end
 space_read end (t ∷ ts) = and_then (ok_or (number_of t.kind) t.start) (λ n. with_no_more ts (statement.Space n t.start))
 
--- What a directive at a place means, by the tokens behind it. `.byte` and `.ascii` stand in data alone.
+-- What a directive at a place means, by the tokens after it. `.byte` and `.ascii` stand in data alone.
 abbrev pub directive_read : Bool → ℕ → ℕ → Directive → List Token → Result Statement ℕ
 directive_read in_data end at directive.Text ts = with_no_more ts statement.Text
 directive_read in_data end at directive.Data ts = with_no_more ts statement.Data
@@ -54,11 +54,11 @@ directive_read in_data end at directive.Byte ts = if in_data then numbers_read t
 directive_read in_data end at directive.Ascii ts = if in_data then ascii_read end ts else Err at
 directive_read in_data end at directive.Space ts = space_read end ts
 
--- an instruction: its mnemonic, and its operands in all tokens behind it
+-- an instruction: its mnemonic, and its operands in all tokens after it
 abbrev pub instruction_read : List ℕ → ℕ → Mnemonic → List Token → Result Statement ℕ
 instruction_read source end m ts = and_then (operands_read source end (slots_of m) ts no_operands) (λ o. Ok (statement.Instruction m o))
 
--- what a word at a place means, by the tokens behind it
+-- what a word at a place means, by the tokens after it
 abbrev pub mnemonic_read : List ℕ → ℕ → ℕ → Option Mnemonic → List Token → Result Statement ℕ
 mnemonic_read source end at (Some m) ts = instruction_read source end (chosen m ts) ts
 mnemonic_read source end at None ts = Err at

@@ -108,7 +108,7 @@ fn pages(bytes: u64) -> u64
     (bytes + 4095) / 4096
 }
 
-/// Where data begins behind so many words of text.
+/// Where data begins after so many words of text.
 fn data_base(words: u32) -> u32
     requires { words ≤ 61440 }
     ensures { result ≡ data_base words }

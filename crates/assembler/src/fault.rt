@@ -1,6 +1,6 @@
 //! Why a source is refused, and where.
 ghost use Rattle.std.specs.Prelude.{◌≡◌};
-ghost use Rattle.assembler.specs.Faults.{out_of_memory, whole, fault_at, of_text};
+ghost use Rattle.assembler.specs.Faults.{number_of, out_of_memory, whole, fault_at, of_text};
 
 use asm_text::{Line, TextFault};
 use std::alloc::{AllocError, AllocFailed};
@@ -19,7 +19,7 @@ pub enum Cause {
     #[error("DoubleLabel")]
     DoubleLabel = 3,
     /// A number does not fit where it stands. On the first pass: a `.space` of a negative size, or in text of one that is no
-    /// multiple of 4. On the second, behind all faults of the first: a byte outside -128 to 255; an immediate, or the offset
+    /// multiple of 4. On the second, after all faults of the first: a byte outside -128 to 255; an immediate, or the offset
     /// of a load or a store, outside -2048 to 2047; upper bits outside 0 to 0xFFFFF; a shift outside 0 to 31; a target whose
     /// distance is no multiple of 4, or outside -4096 to 4092 of a branch, -1048576 to 1048572 of a jump.
     #[error("Range")]
@@ -33,6 +33,15 @@ pub enum Cause {
     /// Memory ran out.
     #[error("OutOfMemory")]
     OutOfMemory = 7,
+}
+
+impl Cause {
+    /// Its number, 1 to 7.
+    pub fn number(self) -> u8
+        ensures { result ≡ number_of self }
+    {
+        self as u8
+    }
 }
 
 /// Why a source is refused, and where: lines and columns are counted from 1, columns in bytes. What concerns no place

@@ -33,7 +33,7 @@ pub struct Output {
 }
 
 /// Goes over all lines again, where the labels stand as they say and data begins at its base. A fault is the first of
-/// them: a label that is not there, or a number that does not fit. Behind a first pass without a fault no line has one of
+/// them: a label that is not there, or a number that does not fit. After a first pass without a fault no line has one of
 /// its form: that pass read each line at the same position, and would have met it.
 pub fn fill<'a>(
     alloc: Global,
@@ -57,7 +57,7 @@ pub fn fill<'a>(
     Ok(output)
 }
 
-/// Goes over a line, and answers the position behind it.
+/// Goes over a line, and answers the position after it.
 fn fill_line<'a>(
     source: &'a [u8],
     labels: &Labels<'a>,

@@ -1,6 +1,12 @@
 //! What the definitions say of every source.
+ghost use Rattle.std.specs.Prelude.{ℕ, ◌<◌, ◌^◌, List, All};
+ghost use Rattle.elf32.specs.Images.{Program, IsProfile};
+ghost use Rattle.assembler.specs.Assembly.{Assembles};
+ghost use Rattle.assembler.specs.Listed.{IsListedIn};
+ghost use Rattle.assembler.specs.Instructions.{ListsInstructions};
 ghost use Rattle.assembler.specs.Loads.{LoadsAreRight};
 ghost use Rattle.assembler.specs.Laws.{WordsAreOfTable, PartsAddUp, ImagesAreByLines, HasOneOutcome};
+ghost use Rattle.assembler.specs.declared.listing.Row.{Row};
 
 use asm_text::one_reading;
 
@@ -17,7 +23,7 @@ pub fn parts_add_up()
 {}
 
 /// A law: carried out one after the other, the instructions of `li` put a word into their register, and those of `la` the
-/// address of their label; nothing else changes but the pc, which goes on behind them.
+/// address of their label; nothing else changes but the pc, which goes on after them.
 pub fn loads_are_right()
     ensures { LoadsAreRight }
 {}
@@ -32,6 +38,18 @@ pub fn images_are_by_lines()
 /// memory runs out.
 pub fn one_outcome()
     ensures { HasOneOutcome }
+{
+    one_reading();
+}
+
+/// A law: what a source assembles to may be loaded, and is listed. The image keeps the profile of what may be loaded; the
+/// listed words, each below 2^32, stand in it one after the other, each at its address; and each instruction in text is
+/// listed.
+pub fn assembled_is_listed()
+    ensures profile { (source : List ℕ) (image : Program) (listing : List Row) → Assembles source image listing → IsProfile image }
+    ensures listed { (source : List ℕ) (image : Program) (listing : List Row) → Assembles source image listing → IsListedIn image listing }
+    ensures words { (source : List ℕ) (image : Program) (listing : List Row) → Assembles source image listing → All (λ row. row.word < 2 ^ 32) listing }
+    ensures meant { (source : List ℕ) (image : Program) (listing : List Row) → Assembles source image listing → ListsInstructions source listing }
 {
     one_reading();
 }

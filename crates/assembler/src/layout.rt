@@ -87,7 +87,7 @@ impl Position {
         }
     }
 
-    /// Behind a statement of a line with these tokens.
+    /// After a statement of a line with these tokens.
     pub fn after(self, statement: &Statement, tokens: &[Token]) -> Position
         ensures { result ≡ after self statement.now tokens.now }
     {
@@ -127,7 +127,7 @@ pub fn lay_out<'a>(alloc: Global, source: &'a [u8], lines: &[Line]) -> Result<La
     Ok(Layout { position, labels })
 }
 
-/// Goes over a line, and answers the position behind it.
+/// Goes over a line, and answers the position after it.
 fn place<'a>(
     source: &'a [u8],
     line: &Line,

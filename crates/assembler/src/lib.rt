@@ -20,5 +20,8 @@ mod tokens;
 
 pub use assembly::assemble;
 pub use fault::{AsmFault, Cause};
-pub use laws::{images_are_by_lines, loads_are_right, one_outcome, parts_add_up, word_meanings};
+pub use laws::{
+    assembled_is_listed, images_are_by_lines, loads_are_right, one_outcome, parts_add_up,
+    word_meanings,
+};
 pub use listing::{Listing, Row};

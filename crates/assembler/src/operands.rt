@@ -1,6 +1,6 @@
 //! The operands of an instruction, read by the form that its mnemonic has.
 ghost use Rattle.std.specs.Prelude.{◌≡◌};
-ghost use Rattle.assembler.specs.Operands.{no_operands, slots_of, chosen, with_comma, expected, bare_label, slot_read, target_read, sum_read, addend_read, behind_slot, behind_label, behind_one, operands_read};
+ghost use Rattle.assembler.specs.Operands.{no_operands, slots_of, chosen, with_comma, expected, bare_label, slot_read, target_read, sum_read, addend_read, after_slot, after_label, after_one, operands_read};
 
 use crate::literal::Literal;
 use crate::mnemonic::{Link, LoadOp, Mnemonic};
@@ -52,7 +52,7 @@ pub struct Operands {
     pub at: usize,
 }
 
-/// The operands of a mnemonic, read from all tokens behind it; or the place of the first token that its form does not
+/// The operands of a mnemonic, read from all tokens after it; or the place of the first token that its form does not
 /// have there, `end` where one is missing.
 pub fn read_operands(
     source: &[u8],
@@ -67,9 +67,9 @@ pub fn read_operands(
     for slot in slots(mnemonic) {
         match rest {
             [] => return Err(end),
-            [token, behind @ ..] => {
-                operands = slot_operand(source, end, *slot, token, behind, operands)?;
-                rest = behind_slot(*slot, token, behind);
+            [token, after @ ..] => {
+                operands = slot_operand(source, end, *slot, token, after, operands)?;
+                rest = after_slot(*slot, token, after);
             }
         }
     }
@@ -79,7 +79,7 @@ pub fn read_operands(
     }
 }
 
-/// The mnemonic itself, but for `jal` and `jalr` with no comma behind the first operand, which name no register to link.
+/// The mnemonic itself, but for `jal` and `jalr` with no comma after the first operand, which name no register to link.
 pub fn chosen(mnemonic: Mnemonic, tokens: &[Token]) -> Mnemonic
     ensures { result ≡ chosen mnemonic tokens.now }
 {
@@ -112,7 +112,7 @@ fn with_comma(tokens: &[Token]) -> bool
     }
 }
 
-/// What stands behind a mnemonic, in order.
+/// What stands after a mnemonic, in order.
 fn slots(mnemonic: Mnemonic) -> &'static [Slot]
     ensures { result.now ≡ slots_of mnemonic }
 {
@@ -177,10 +177,10 @@ fn slot_operand(
     end: usize,
     slot: Slot,
     token: &Token,
-    behind: &[Token],
+    after: &[Token],
     operands: Operands,
 ) -> Result<Operands, usize>
-    ensures { result ≡ slot_read source.now end slot token.now behind.now operands }
+    ensures { result ≡ slot_read source.now end slot token.now after.now operands }
 {
     let mut operands = operands;
     match slot {
@@ -201,26 +201,26 @@ fn slot_operand(
             operands.at = token.start;
         }
         Slot::Target => {
-            operands.value = target(source, end, token, behind)?;
+            operands.value = target(source, end, token, after)?;
             operands.at = token.start;
         }
     }
     Ok(operands)
 }
 
-/// The tokens behind a slot.
-fn behind_slot<'a>(slot: Slot, token: &Token, behind: &'a [Token]) -> &'a [Token]
-    ensures { result.now ≡ behind_slot slot token.now behind.now }
+/// The tokens after a slot.
+fn after_slot<'a>(slot: Slot, token: &Token, after: &'a [Token]) -> &'a [Token]
+    ensures { result.now ≡ after_slot slot token.now after.now }
 {
     match slot {
         Slot::Target => {
             if is_word(&token.kind) {
-                behind_label(behind)
+                after_label(after)
             } else {
-                behind
+                after
             }
         }
-        _ => behind,
+        _ => after,
     }
 }
 
@@ -243,23 +243,23 @@ fn bare_label(token: &Token) -> Value
 }
 
 /// The target that begins at a token, or the place of the wrong token.
-fn target(source: &[u8], end: usize, token: &Token, behind: &[Token]) -> Result<Value, usize>
-    ensures { result ≡ target_read source.now end token.now behind.now }
+fn target(source: &[u8], end: usize, token: &Token, after: &[Token]) -> Result<Value, usize>
+    ensures { result ≡ target_read source.now end token.now after.now }
 {
     if let Some(number) = number_of(&token.kind) {
         return Ok(Value::Number(number));
     }
     if is_label(source, token) {
-        return sum(end, token, behind);
+        return sum(end, token, after);
     }
     Err(token.start)
 }
 
 /// A label and what is added to it or taken from it, or the place of the wrong token.
-fn sum(end: usize, label: &Token, behind: &[Token]) -> Result<Value, usize>
-    ensures { result ≡ sum_read end label.now behind.now }
+fn sum(end: usize, label: &Token, after: &[Token]) -> Result<Value, usize>
+    ensures { result ≡ sum_read end label.now after.now }
 {
-    let [sign, rest @ ..] = behind else {
+    let [sign, rest @ ..] = after else {
         return Ok(bare_label(label));
     };
     let start = label.start;
@@ -282,11 +282,11 @@ fn sum(end: usize, label: &Token, behind: &[Token]) -> Result<Value, usize>
     Ok(bare_label(label))
 }
 
-/// The number that stands directly behind a sign, whose end is given, or the place of the wrong token.
-fn addend(end: usize, sign_end: usize, behind: &[Token]) -> Result<Literal, usize>
-    ensures { result ≡ addend_read end sign_end behind.now }
+/// The number that stands directly after a sign, whose end is given, or the place of the wrong token.
+fn addend(end: usize, sign_end: usize, after: &[Token]) -> Result<Literal, usize>
+    ensures { result ≡ addend_read end sign_end after.now }
 {
-    match behind {
+    match after {
         [] => Err(end),
         [token, ..] => {
             let number = number_of(&token.kind).ok_or(token.start)?;
@@ -299,15 +299,15 @@ fn addend(end: usize, sign_end: usize, behind: &[Token]) -> Result<Literal, usiz
     }
 }
 
-/// The tokens behind a label's name and what is added to it or taken from it.
-fn behind_label(tokens: &[Token]) -> &[Token]
-    ensures { result.now ≡ behind_label tokens.now }
+/// The tokens after a label's name and what is added to it or taken from it.
+fn after_label(tokens: &[Token]) -> &[Token]
+    ensures { result.now ≡ after_label tokens.now }
 {
     match tokens {
         [] => tokens,
         [sign, rest @ ..] => {
             if is_plus(&sign.kind) || is_minus(&sign.kind) {
-                behind_one(rest)
+                after_one(rest)
             } else {
                 tokens
             }
@@ -316,8 +316,8 @@ fn behind_label(tokens: &[Token]) -> &[Token]
 }
 
 /// All tokens but the first.
-fn behind_one(tokens: &[Token]) -> &[Token]
-    ensures { result.now ≡ behind_one tokens.now }
+fn after_one(tokens: &[Token]) -> &[Token]
+    ensures { result.now ≡ after_one tokens.now }
 {
     match tokens {
         [] => tokens,

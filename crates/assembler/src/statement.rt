@@ -30,7 +30,7 @@ pub enum Statement {
     Instruction(Mnemonic, Operands),
 }
 
-/// The label at a line's front and the tokens behind it; or the place of the wrong token.
+/// The label with which a line begins, and the tokens after it; or the place of the wrong token.
 pub fn split_label<'a>(
     source: &[u8],
     tokens: &'a [Token],
@@ -57,7 +57,7 @@ pub fn split_label<'a>(
     }
 }
 
-/// The statement that the tokens of a line make, behind its label; or the place of the first wrong token, `end` where one
+/// The statement that the tokens of a line make, after its label; or the place of the first wrong token, `end` where one
 /// is missing.
 pub fn read_statement(
     source: &[u8],
@@ -96,7 +96,7 @@ fn instruction(
     Ok(Statement::Instruction(mnemonic, operands))
 }
 
-/// A directive, which stands at a place, with the tokens behind it.
+/// A directive, which stands at a place, with the tokens after it.
 fn directive_statement(
     in_data: bool,
     end: usize,

@@ -53,14 +53,14 @@ pub fn is_close(kind: &TokenKind) -> bool
     matches!(kind, TokenKind::Close)
 }
 
-/// Whether it is a plus behind a word.
+/// Whether it is a plus after a word.
 pub fn is_plus(kind: &TokenKind) -> bool
     ensures { result ≡ is_plus kind.now }
 {
     matches!(kind, TokenKind::Plus)
 }
 
-/// Whether it is a minus behind a word.
+/// Whether it is a minus after a word.
 pub fn is_minus(kind: &TokenKind) -> bool
     ensures { result ≡ is_minus kind.now }
 {

@@ -7,13 +7,13 @@ use kernel::{Done, Loan};
 /// memory.
 pub fn run_loan(loan: Loan) -> Done
     ensures pid { result.pid ≡ loan.pid }
-    ensures turn { result.turn ≡ loan.turn }
+    ensures number { result.number ≡ loan.number }
     ensures quantum { result.quantum ≡ loan.quantum }
     ensures began { result.began ≡ loan.began }
 {
     let Loan {
         pid,
-        turn,
+        number,
         quantum,
         began,
         mut machine,
@@ -21,7 +21,7 @@ pub fn run_loan(loan: Loan) -> Done
     let (count, stop) = machine.run(quantum);
     Done {
         pid,
-        turn,
+        number,
         quantum,
         began,
         machine,

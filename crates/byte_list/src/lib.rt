@@ -1,7 +1,7 @@
 //! Bytes that contracts see as a list.
 #![tactic(auto)]
 
-ghost use Rattle.std.specs.Prelude.{◌≡◌, ◌≤◌, ◌+◌, ◌++◌, [], IfOk, OnOk, OnErr, IsOk, length, take, drop, replicate};
+ghost use Rattle.std.specs.Prelude.{◌≡◌, ◌<◌, ◌≤◌, ◌+◌, ◌^◌, ◌++◌, [], IfOk, OnOk, OnErr, IsOk, length, take, drop, replicate};
 
 use std::alloc::{AllocError, Global};
 use std::marker::Model;
@@ -53,14 +53,15 @@ impl Bytes {
         self.bytes.as_slice()
     }
 
-    /// So many zeros come behind the bytes. Where there is no memory for them nothing changes.
+    /// So many zeros come after the bytes. Where there is no memory for them nothing changes.
     pub fn extend_zeros(&mut self, count: usize) -> Result<(), AllocError>
         ensures ok { OnOk result (self.new ≡ self.old ++ replicate count 0) }
         ensures err { OnErr result (self.new ≡ self.old) }
         ensures no_growth { count ≡ 0 → IsOk result }
+        ensures bound { OnOk result (length self.new < 2 ^ 63) }
     {
-        let len = self.bytes.len();
-        let grown = len.checked_add(count).ok_or(AllocError)?;
+        self.bytes.reserve(count)?;
+        let grown = self.bytes.len() + count;
         self.bytes.resize(grown, 0)
     }
 

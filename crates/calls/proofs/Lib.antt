@@ -4,7 +4,6 @@ pub mod Naming
 pub mod Placing
 pub mod Files
 pub mod Fitting
-pub mod Cases
 pub mod Seeing
 pub mod Stepping
 pub mod Sound

@@ -26,7 +26,7 @@ use Rattle.calls.proofs.Sound.{Kept, IsFine, EditsLittle, EditsWhere, IsSound, r
 -- the effect of which a plan speaks
 abbrev pub effect_of : Plan → Effect
 effect_of plan = record {
-  told = plan.told;
+  verdict = plan.verdict;
   reads = plan.reads.items;
   writes = plan.writes.items;
   change = plan.change;
@@ -40,7 +40,7 @@ effect_of plan = record {
 
 is-effect : (plan : Plan) (e : Effect) → IsPlan plan e → e ≡ effect_of plan
 is-effect plan e is =
-    let e1 : Effect = record e { told = plan.told } in
+    let e1 : Effect = record e { verdict = plan.verdict } in
     let e2 : Effect = record e1 { reads = plan.reads.items } in
     let e3 : Effect = record e2 { writes = plan.writes.items } in
     let e4 : Effect = record e3 { change = plan.change } in
@@ -49,7 +49,7 @@ is-effect plan e is =
     let e7 : Effect = record e6 { pipes = plan.pipes.items } in
     let e8 : Effect = record e7 { slots = plan.slots.items } in
     let e9 : Effect = record e8 { child = plan.child } in
-    ap (λ (x : Verdict). record e { told = x }) (sym is.told)
+    ap (λ (x : Verdict). record e { verdict = x }) (sym is.verdict)
     ∙ ap (λ (x : List Carrier). record e1 { reads = x }) (sym is.reads)
     ∙ ap (λ (x : List Carrier). record e2 { writes = x }) (sym is.writes)
     ∙ ap (λ (x : Option Change). record e3 { change = x }) (sym is.change)
@@ -90,15 +90,15 @@ alone : (plan : Plan) → EditsLittle (effect_of plan) → EditsPipesAlone plan
 alone plan h = record { change = h.change; output = h.output; tape = h.tape; slots = h.slots; child = h.child; collects = h.collects }
 
 -- what a plan edits, by what it tells
-pub edits-as : (plan : Plan) (told : Verdict) → EditsWhere told (effect_of plan) → EditsAs told plan
+pub edits-as : (plan : Plan) (verdict : Verdict) → EditsWhere verdict (effect_of plan) → EditsAs verdict plan
 edits-as plan Waits h = (alone plan h.0, h.1)
 edits-as plan (Replies reply) h = tt
 edits-as plan (Ends status) h = alone plan h
 
 -- a plan that ends its caller, with these ends of pipes
-pub ending-edits : (plan : Plan) (ends : List PipeEnd) (status : ℕ) → IsPlan plan (closing ends (Ends status)) → EditsAs plan.told plan
+pub ending-edits : (plan : Plan) (ends : List PipeEnd) (status : ℕ) → IsPlan plan (closing ends (Ends status)) → EditsAs plan.verdict plan
 ending-edits plan ends status is =
-    subst (λ (told : Verdict). EditsAs told plan) (sym is.told)
+    subst (λ (verdict : Verdict). EditsAs verdict plan) (sym is.verdict)
     (record { change = is.change; output = is.output; tape = is.tape; slots = is.slots; child = is.child; collects = is.collects })
 
 pub ending-steps : (plan : Plan) (ends : List PipeEnd) (status : ℕ) → IsPlan plan (closing ends (Ends status)) → (seen : List Seen) → MayAllStep seen plan.pipes.items

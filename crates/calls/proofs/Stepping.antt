@@ -1,7 +1,7 @@
 -- Steps of pipes that come one after the other.
-use Rattle.std.proofs.Common.{◌≡◌, ℕ, zero, suc, ◌+◌, ◌^◌, ◌<◌, ◌≤◌, List, [], ◌∷◌, length, map, slice_get, Option, Some, None, refl, sym, subst, arith}
+use Rattle.std.proofs.Common.{◌≡◌, ℕ, suc, ◌+◌, ◌^◌, ◌<◌, ◌≤◌, List, [], ◌∷◌, length, map, slice_get, Option, Some, None, refl, sym, subst, arith}
 use Rattle.std.specs.List.{AllByRecursion, cons_option}
-use Rattle.std.specs.Option.{ForSome}
+use Rattle.disk_model.proofs.Lists.{each_get, each_set, each_more}
 use Rattle.kernel_model.specs.Rows.{end_of, ends_of}
 use Rattle.kernel_model.specs.State.{PipeState}
 use Rattle.kernel_model.specs.declared.descriptor.Descriptor.{Descriptor}
@@ -18,40 +18,27 @@ use Rattle.calls.specs.Plans.{MayAllStep, OpensNone}
 abbrev pub HasFew : ℕ → Seen → Type 0
 HasFew n x = (x.readers ≤ n) × (x.writers ≤ n)
 
-further : (x : Seen) (xs : List Seen) (k : ℕ) (f : Seen → Seen) (o : Option Seen) → seen_with (x ∷ xs) (suc k) o f ≡ x ∷ seen_with xs k o f
-further x xs k f None = refl
-further x xs k f (Some y) = refl
-
 few-more : (n : ℕ) (xs : List Seen) → AllByRecursion (HasFew n) xs → AllByRecursion (HasFew (n + 1)) xs
-few-more n [] all = tt
-few-more n (x ∷ xs) all = ((omega (arith, all.0.0), omega (arith, all.0.1)), few-more n xs all.1)
+few-more n xs all = each_more (HasFew n) (HasFew (n + 1)) (λ x h. (omega (arith, h.0), omega (arith, h.1))) xs all
 
-few-with : (n : ℕ) (xs : List Seen) (k : ℕ) (f : Seen → Seen) → ((x : Seen) → HasFew n x → HasFew (n + 1) (f x)) → AllByRecursion (HasFew n) xs
-    → AllByRecursion (HasFew (n + 1)) (seen_with xs k (slice_get xs k) f)
-few-with n [] k f one all = tt
-few-with n (x ∷ xs) zero f one all = (one x all.0, few-more n xs all.1)
-few-with n (x ∷ xs) (suc k) f one all =
-    subst (AllByRecursion (HasFew (n + 1))) (sym (further x xs k f (slice_get xs k)))
-    ((omega (arith, all.0.0), omega (arith, all.0.1)), few-with n xs k f one all.1)
-
-few-at : (n : ℕ) (xs : List Seen) (k : ℕ) → AllByRecursion (HasFew n) xs → ForSome (slice_get xs k) (HasFew n)
-few-at n [] k all x is = absurd (let no : ⊥ = cc in no)
-few-at n (y ∷ ys) zero all x is = let same : y ≡ x = cc in subst (HasFew n) same all.0
-few-at n (y ∷ ys) (suc k) all x is = few-at n ys k all.1 x is
+few-with : (n : ℕ) (xs : List Seen) (k : ℕ) (o : Option Seen) (f : Seen → Seen) → ((x : Seen) → HasFew n x → HasFew (n + 1) (f x)) → slice_get xs k ≡ o
+    → AllByRecursion (HasFew n) xs → AllByRecursion (HasFew (n + 1)) (seen_with xs k o f)
+few-with n xs k None f one e all = few-more n xs all
+few-with n xs k (Some x) f one e all = each_set (HasFew (n + 1)) xs k (f x) (one x (each_get (HasFew n) xs k x all e)) (few-more n xs all)
 
 -- ends of which there are few can be counted, once more for each of these
 pub adds-may : (n : ℕ) (ends : List PipeEnd) (seen : List Seen) → n + length ends < 2 ^ 64 → AllByRecursion (HasFew n) seen
     → MayAllStep seen (map Add ends)
 adds-may n [] seen lt all = tt
 adds-may n (Read k ∷ ends) seen lt all = (
-  λ x is. omega (arith, (few-at n seen k all x is).0),
+  λ x is. omega (arith, (each_get (HasFew n) seen k x all is).0),
   adds-may (n + 1) ends (seen_after seen (Add (Read k))) (omega arith)
-      (few-with n seen k (λ p. record p { readers = p.readers + 1 }) (λ x h. (omega (arith, h.0), omega (arith, h.1))) all),
+      (few-with n seen k (slice_get seen k) (λ p. record p { readers = p.readers + 1 }) (λ x h. (omega (arith, h.0), omega (arith, h.1))) refl all),
 )
 adds-may n (Write k ∷ ends) seen lt all = (
-  λ x is. omega (arith, (few-at n seen k all x is).1),
+  λ x is. omega (arith, (each_get (HasFew n) seen k x all is).1),
   adds-may (n + 1) ends (seen_after seen (Add (Write k))) (omega arith)
-      (few-with n seen k (λ p. record p { writers = p.writers + 1 }) (λ x h. (omega (arith, h.0), omega (arith, h.1))) all),
+      (few-with n seen k (slice_get seen k) (λ p. record p { writers = p.writers + 1 }) (λ x h. (omega (arith, h.0), omega (arith, h.1))) refl all),
 )
 
 -- an end may be given up wherever that comes

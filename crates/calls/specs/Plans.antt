@@ -23,7 +23,7 @@ use Rattle.calls.specs.declared.plan.Plan.{Plan}
 
 -- the plan says the same as this row of the table
 pub record IsPlan (plan : Plan) (effect : Effect) : Type 0 where
-  pub told : plan.told ≡ effect.told
+  pub verdict : plan.verdict ≡ effect.verdict
   pub reads : plan.reads.items ≡ effect.reads
   pub writes : plan.writes.items ≡ effect.writes
   pub change : plan.change ≡ effect.change

@@ -7,7 +7,7 @@ ghost use Rattle.calls.specs.Plans.{IsPlan, EditsAs, OpensAlone, MayAllStep};
 
 use crate::errno::Errno;
 use crate::plan::Plan;
-use crate::told::number;
+use crate::verdict::number;
 use kernel_model::{Carrier, Descriptor, PipeEnd, PipeStep, Slot, Verdict};
 use processes::Descriptors;
 use std::alloc::{AllocError, Global};
@@ -59,10 +59,10 @@ fn drops_of(alloc: Global, ends: &[PipeEnd]) -> Result<Vec<PipeStep>, AllocError
 }
 
 /// The caller is told this, and the descriptors that stand for these ends are closed.
-fn closing(alloc: Global, ends: &[PipeEnd], told: Verdict) -> Result<Plan, AllocError>
-    ensures { IfOk result (λ plan. IsPlan plan (closing ends.now told)) }
+fn closing(alloc: Global, ends: &[PipeEnd], verdict: Verdict) -> Result<Plan, AllocError>
+    ensures { IfOk result (λ plan. IsPlan plan (closing ends.now verdict)) }
 {
-    let mut plan = Plan::only(alloc, told);
+    let mut plan = Plan::only(alloc, verdict);
     plan.reads = carriers_of(alloc, ends)?;
     plan.writes = carriers_of(alloc, ends)?;
     plan.pipes = drops_of(alloc, ends)?;
@@ -73,7 +73,7 @@ fn closing(alloc: Global, ends: &[PipeEnd], told: Verdict) -> Result<Plan, Alloc
 /// descriptor of its stands is given up. Refused for want of memory alone.
 pub fn plan_end(alloc: Global, descriptors: &Descriptors, status: u32) -> Result<Plan, AllocError>
     ensures row { IfOk result (λ plan. IsPlan plan (row_end descriptors.now status)) }
-    ensures edits { IfOk result (λ plan. EditsAs plan.told plan) }
+    ensures edits { IfOk result (λ plan. EditsAs plan.verdict plan) }
     ensures opens { IfOk result (λ plan. OpensAlone plan.pipes.items) }
     ensures few { IfOk result (λ plan. length plan.pipes.items ≤ 16) }
     ensures steps { (seen : List Seen) → IfOk result (λ plan. MayAllStep seen plan.pipes.items) }
@@ -83,12 +83,12 @@ pub fn plan_end(alloc: Global, descriptors: &Descriptors, status: u32) -> Result
 }
 
 /// The caller is told this, and a descriptor is closed that may stand for an end.
-fn closing_one(alloc: Global, end: Option<PipeEnd>, told: Verdict) -> Result<Plan, AllocError>
-    ensures { IfOk result (λ plan. IsPlan plan (closing (option_to_list end) told)) }
+fn closing_one(alloc: Global, end: Option<PipeEnd>, verdict: Verdict) -> Result<Plan, AllocError>
+    ensures { IfOk result (λ plan. IsPlan plan (closing (option_to_list end) verdict)) }
 {
     match end {
-        Some(end) => closing(alloc, &[end], told),
-        None => Ok(Plan::only(alloc, told)),
+        Some(end) => closing(alloc, &[end], verdict),
+        None => Ok(Plan::only(alloc, verdict)),
     }
 }
 
@@ -116,10 +116,10 @@ fn close_there(alloc: Global, descriptor: Descriptor, fd: u32) -> Result<Plan, A
 }
 
 /// The caller of a call on a pipe is told this.
-pub fn on_pipe(alloc: Global, pipe: u32, told: Verdict) -> Result<Plan, AllocError>
-    ensures { IfOk result (λ plan. IsPlan plan (on_pipe pipe told [])) }
+pub fn on_pipe(alloc: Global, pipe: u32, verdict: Verdict) -> Result<Plan, AllocError>
+    ensures { IfOk result (λ plan. IsPlan plan (on_pipe pipe verdict [])) }
 {
-    let mut plan = Plan::only(alloc, told);
+    let mut plan = Plan::only(alloc, verdict);
     plan.reads.push(Carrier::Pipe(pipe))?;
     plan.writes.push(Carrier::Pipe(pipe))?;
     Ok(plan)

@@ -11,7 +11,7 @@ use kernel_model::{Carrier, PipeEnd, PipeStep};
 use processes::{Descriptors, MOST_PROCESSES, ProcTable};
 use std::alloc::{AllocError, Global};
 
-/// These carriers, and behind them the pipes of these ends.
+/// These carriers, and after them the pipes of these ends.
 fn with_pipes(
     alloc: Global,
     first: &[Carrier],

@@ -11,7 +11,7 @@ mod read;
 mod request;
 mod seek;
 mod tapes;
-mod told;
+mod verdict;
 mod wait;
 mod write;
 

@@ -6,16 +6,12 @@ ghost use Rattle.calls.specs.Plans.{IsPlan};
 
 use crate::errno::Errno;
 use crate::plan::Plan;
-use crate::request::LONGEST_NAME;
 use byte_list::Bytes;
-use disk_model::Change;
+use disk_model::{Change, LONGEST_NAME, MOST_FILES};
 use files::FileTable;
 use kernel_model::{Carrier, Descriptor, Slot};
 use processes::Descriptors;
 use std::alloc::{AllocError, Global};
-
-/// The most files.
-const MOST_FILES: usize = 32;
 
 /// Whether a byte may stand in a file's name: 0x21 to 0x7E, and no slash.
 fn is_name_byte(byte: u8) -> bool

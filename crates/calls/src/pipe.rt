@@ -6,7 +6,7 @@ ghost use Rattle.calls.specs.Plans.{IsPlan};
 
 use crate::errno::Errno;
 use crate::plan::Plan;
-use crate::told::with_bytes;
+use crate::verdict::with_bytes;
 use byte_list::Bytes;
 use kernel_model::{Carrier, Descriptor, PipeEnd, PipeStep, Slot};
 use pipes::{MOST_PIPES, PipeTable};
@@ -30,7 +30,7 @@ pub fn pipe(
     let Some(reader) = descriptors.free() else {
         return Ok(Plan::failure(alloc, Errno::TooManyDescriptors));
     };
-    let Some(writer) = descriptors.free_behind(reader) else {
+    let Some(writer) = descriptors.free_after(reader) else {
         return Ok(Plan::failure(alloc, Errno::TooManyDescriptors));
     };
     let count = pipes.len();

@@ -22,7 +22,7 @@ use crate::pipe::pipe;
 use crate::read::{Place, read};
 use crate::seek::seek;
 use crate::tapes::TapeTable;
-use crate::told::number;
+use crate::verdict::number;
 use crate::wait::wait;
 use crate::write::write;
 use disk_model::Change;
@@ -37,7 +37,7 @@ use std::alloc::{AllocError, Global};
 /// made or one that is collected, by its number.
 #[derive(Drop)]
 pub struct Plan {
-    pub told: Verdict,
+    pub verdict: Verdict,
     pub reads: Vec<Carrier>,
     pub writes: Vec<Carrier>,
     pub change: Option<Change>,
@@ -51,11 +51,11 @@ pub struct Plan {
 
 impl Plan {
     /// The caller is told this, and nothing else comes of it.
-    pub(crate) fn only(alloc: Global, told: Verdict) -> Plan
-        ensures { IsPlan result (only told) }
+    pub(crate) fn only(alloc: Global, verdict: Verdict) -> Plan
+        ensures { IsPlan result (only verdict) }
     {
         Plan {
-            told,
+            verdict,
             reads: Vec::new(alloc),
             writes: Vec::new(alloc),
             change: None,
@@ -162,7 +162,7 @@ pub fn plan_call(
     ensures one_entry { IfOk result (λ plan. AtMostOneEntry plan.slots.items plan.child plan.collects) }
     ensures opens { IfOk result (λ plan. OpensAlone plan.pipes.items) }
     ensures few { IfOk result (λ plan. length plan.pipes.items ≤ 16) }
-    ensures edits { IfOk result (λ plan. EditsAs plan.told plan) }
+    ensures edits { IfOk result (λ plan. EditsAs plan.verdict plan) }
     ensures possible { IfOk result (λ plan. IfSome plan.change (IsPossible files.now)) }
     ensures named { IfOk result (λ plan. NamesFiles (length (changed_by files.now plan.change))
         (set_slots (descriptors_in (part_at processes.now.parts pid)) plan.slots.items)) }
@@ -172,7 +172,7 @@ pub fn plan_call(
         → IfOk result (λ plan. MayAllStep pipes.now plan.pipes.items) }
     ensures child { IfOk result (λ plan. IfSome plan.child (IsNext (length processes.now.parts))) }
     ensures place { IfOk result
-        (λ plan. (s : State) → request ≡ request_of s → MayBePlaced s.hart.memory plan.told) }
+        (λ plan. (s : State) → request ≡ request_of s → MayBePlaced s.hart.memory plan.verdict) }
 {
     let descriptors = descriptors_of(processes, pid);
     plan_row(

@@ -12,7 +12,7 @@ use crate::errno::Errno;
 use crate::plan::Plan;
 use crate::request::MOST_BYTES;
 use crate::tapes::TapeTable;
-use crate::told::{number, with_bytes};
+use crate::verdict::{number, with_bytes};
 use byte_list::Bytes;
 use files::FileTable;
 use kernel_model::{Carrier, Descriptor, PipeEnd, PipeStep, Slot, TapeRead, Verdict};
@@ -102,7 +102,7 @@ fn read_tape(alloc: Global, tapes: &TapeTable, tape: u32, place: Place) -> Resul
     Ok(plan)
 }
 
-/// A read of a file from an offset on, which moves behind what is read.
+/// A read of a file from an offset on, which moves past what is read.
 fn read_file(
     alloc: Global,
     files: &FileTable,
@@ -152,7 +152,7 @@ fn read_held(alloc: Global, pipe: u32, from: &Pipe, place: Place) -> Result<Plan
         (λ plan. IsPlan plan (read_pipe pipe place.at place.n (Some (pipe_of from.now)))) }
 {
     if from.held() > 0 {
-        return take_some(alloc, pipe, from.front(alloc, place.n as usize)?, place.at);
+        return take_some(alloc, pipe, from.prefix(alloc, place.n as usize)?, place.at);
     }
     if from.writers() == 0 {
         return on_pipe(alloc, pipe, number(alloc, 0));

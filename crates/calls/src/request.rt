@@ -4,6 +4,7 @@ ghost use Rattle.kernel_model.specs.Requests.{read_bytes, may_be_placed, most_by
 ghost use Rattle.calls.specs.Wholes.{AreWhole, IsWhole, HoldsNone};
 
 use byte_list::Bytes;
+use disk_model::LONGEST_NAME;
 use formats::Reg;
 use kernel_model::Request;
 use machine::Machine;
@@ -18,9 +19,6 @@ const PAIR_SIZE: u32 = 8;
 
 /// The bytes of a word, as which a child's status is written.
 const WORD_SIZE: u32 = 4;
-
-/// The longest name of a file, in bytes.
-pub const LONGEST_NAME: u32 = 32;
 
 /// The bytes that a call names, where they are at most so many and the process may read them. Else no memory is taken.
 fn named_bytes(

@@ -5,7 +5,7 @@ ghost use Rattle.calls.specs.Plans.{IsPlan};
 
 use crate::errno::Errno;
 use crate::plan::Plan;
-use crate::write::LONGEST_FILE;
+use disk_model::LONGEST_FILE;
 use kernel_model::{Descriptor, Slot};
 use processes::Descriptors;
 use std::alloc::{AllocError, Global};

@@ -7,12 +7,9 @@ ghost use Rattle.calls.specs.Places.{bytes_of};
 
 use byte_list::Bytes;
 use files::part_of;
-use kernel_model::TapeRead;
+use kernel_model::{TAPES, TapeRead};
 use std::marker::Model;
 use std::sync::Arc;
-
-/// How many tapes there are.
-const TAPES: usize = 8;
 
 /// The tapes, 0 to 7: the bytes of each, which are shared with whoever gave them, and the place of the next one to be read.
 #[derive(Drop)]

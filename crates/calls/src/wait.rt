@@ -9,7 +9,7 @@ ghost use Rattle.calls.specs.Plans.{IsPlan};
 
 use crate::errno::Errno;
 use crate::plan::Plan;
-use crate::told::{number, with_bytes};
+use crate::verdict::{number, with_bytes};
 use byte_list::Bytes;
 use kernel_model::{Carrier, Verdict};
 use processes::{EndedChild, ProcTable};
@@ -48,7 +48,7 @@ fn procs_of(alloc: Global, processes: &[u32]) -> Result<Vec<Carrier>, AllocError
 
 /// What a wait tells that collects this child.
 fn told_of(alloc: Global, at: u32, ended: EndedChild) -> Result<Verdict, AllocError>
-    ensures { IfOk result (λ told. told ≡ (if at == 0 then number ended.child
+    ensures { IfOk result (λ verdict. verdict ≡ (if at == 0 then number ended.child
         else with_bytes ended.child at (to_le_bytes w32 ended.status))) }
 {
     if at == 0 {

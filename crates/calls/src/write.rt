@@ -11,16 +11,13 @@ use crate::ends::on_pipe;
 use crate::errno::Errno;
 use crate::plan::Plan;
 use crate::request::MOST_BYTES;
-use crate::told::number;
+use crate::verdict::number;
 use byte_list::Bytes;
-use disk_model::Change;
+use disk_model::{Change, LONGEST_FILE};
 use kernel_model::{Carrier, Descriptor, Output, PipeEnd, PipeStep, Slot, Verdict};
 use pipes::{Pipe, PipeTable};
 use processes::Descriptors;
 use std::alloc::{AllocError, Global};
-
-/// The most bytes of a file.
-pub const LONGEST_FILE: u32 = 16384;
 
 /// Whether bytes may be written through a descriptor.
 fn may_write(descriptor: Option<Descriptor>) -> bool

@@ -159,7 +159,7 @@ impl Times {
         plain: Duration::MAX,
     };
 
-    /// The less of each.
+    /// The lesser of each.
     fn least(self, other: Times) -> Times {
         Times {
             measured: self.measured.min(other.measured),
@@ -220,11 +220,11 @@ fn sum_of(bytes: &[u8]) -> u64 {
 }
 
 /// The times of a recovery of a disk and of a reading of its half 0.
-fn time_recovery<R: Clock + AllocGlobal>(rt: &R, disk: &SimDisk) -> Result<Times, Error> {
+fn time_recovery<R: Clock + AllocGlobal>(rt: &R, device: &SimDisk) -> Result<Times, Error> {
     let start = Instant::now(rt)?;
-    let files = journal::recover(rt.alloc(), disk)?;
+    let files = journal::recover(rt.alloc(), device)?;
     let recovered = Instant::now(rt)?;
-    let sum = sum_of(&disk.bytes()[64..1_048_576]);
+    let sum = sum_of(&device.bytes()[64..1_048_576]);
     let end = Instant::now(rt)?;
     ensure!(files.count() == 1 && sum != 0, "the half is empty");
     Ok(Times {
@@ -251,10 +251,10 @@ fn main(rt: HostRuntime) -> Result<(), Error> {
         "{GROUPS} groups of {WRITES} writes: cuts and completions take {} thousandths of the time of plain code",
         commits.ratio()
     )?;
-    let disk = full_disk(rt.alloc(), &group, &files)?;
+    let device = full_disk(rt.alloc(), &group, &files)?;
     let mut recoveries = Times::NONE;
     for _ in 0..ROUNDS {
-        recoveries = recoveries.least(time_recovery(&rt, &disk)?);
+        recoveries = recoveries.least(time_recovery(&rt, &device)?);
     }
     println!(rt;
         "a half that is full: a recovery takes {} thousandths of the time of one reading of its bytes",

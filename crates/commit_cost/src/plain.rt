@@ -20,7 +20,7 @@ pub struct PlainDisk {
     gate: usize,
 }
 
-/// The place of a half's first gate, and that behind the half.
+/// The place of a half's first gate, and that after the half.
 fn bounds_of(second: bool) -> (usize, usize) {
     if second {
         (1_048_576, 2_097_088)
@@ -66,7 +66,7 @@ fn push_change(record: &mut Vec<u8>, change: &Change) -> Result<(), AllocError> 
     }
 }
 
-/// Ends a record, which has room for its body's length in front: the length, and the next gate, closed.
+/// Ends a record, which begins with room for its body's length: the length, and the next gate, closed.
 fn end_record(record: &mut Vec<u8>) -> Result<(), AllocError> {
     let length = record.len().saturating_sub(4);
     for (place, byte) in record.iter_mut().zip(&length.to_le_bytes()[..4]) {
@@ -76,7 +76,7 @@ fn end_record(record: &mut Vec<u8>) -> Result<(), AllocError> {
     Ok(())
 }
 
-/// The record of these changes behind its gate.
+/// The record of these changes, without its gate.
 fn record_of(alloc: Global, changes: &[Change]) -> Result<Vec<u8>, AllocError> {
     let mut record = vec![in alloc; 0; 4]?;
     for change in changes {
@@ -86,7 +86,7 @@ fn record_of(alloc: Global, changes: &[Change]) -> Result<Vec<u8>, AllocError> {
     Ok(record)
 }
 
-/// The record of a checkpoint behind its gate.
+/// The record of a checkpoint, without its gate.
 fn checkpoint_of(alloc: Global, files: &FileTable) -> Result<Vec<u8>, AllocError> {
     let mut record = vec![in alloc; 0; 4]?;
     let mut number = 0u16;
@@ -126,7 +126,7 @@ impl PlainDisk {
         }
     }
 
-    /// Writes a record behind its gate, in pieces, and opens the gate.
+    /// Writes a record from the place after its gate on, in pieces, and then opens the gate.
     fn put_record(&mut self, gate: usize, record: &[u8]) {
         let mut at = gate.saturating_add(1);
         for piece in record.chunks(PIECE) {

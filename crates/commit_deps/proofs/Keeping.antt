@@ -7,18 +7,19 @@ use Rattle.std.proofs.lemmas.List.{take_more}
 use Rattle.std.proofs.lemmas.List.Quantifiers.{position-Some}
 use Rattle.std.proofs.lemmas.List.Folds.{list_any-append}
 use Rattle.std.proofs.lemmas.List.Sums.{count_by-le-length, sum_by-cons, sum_by-drop_more}
+use Rattle.std.proofs.Math.Bool.{and-true, and_assoc, and_comm, or-true, or-false}
 use Rattle.kernel_model.specs.declared.carrier.Carrier.{Carrier}
 use Rattle.kernel_model.specs.declared.carrier.Carrier.TheVariants.{Proc, File, Names, Pipe, Pipes, Tasks, Tape}
 use Rattle.kernel_model.specs.Entries.{Entry, is_same, is_among, meets}
-use Rattle.kernel_model.specs.Paths.{is_settled, change_count, changes_of, with_change}
+use Rattle.kernel_model.specs.Paths.{is_durable, change_count, changes_in_log, with_change}
 use Rattle.kernel_model.proofs.Paths.{count_of}
 use Rattle.disk_model.specs.declared.change.Change.{Change}
 use Rattle.commit_deps.specs.declared.dependencies.Marked.{Marked}
 use Rattle.commit_deps.specs.Marks.{IsMarkOf, reader, change_number}
 use Rattle.commit_deps.specs.Kept.{Kept}
 use Rattle.commit_deps.specs.Keeps.{mark_at, mark_or_none, is_written, Keeps, mark_of_change, greatest_mark, noted, noted_all, unwritten_count}
-use Rattle.commit_deps.proofs.Answering.{and_true, and_assoc, and_swap, or_true, or_false, both_pass}
-use Rattle.commit_deps.proofs.Readers.{settled-reader, settled-union, settled-event, settled-nothing}
+use Rattle.commit_deps.proofs.Answering.{both_pass}
+use Rattle.commit_deps.proofs.Readers.{durable-reader, durable-union, durable-event, durable-nothing}
 
 -- ---- two carriers are one
 same-true : (a b : Carrier) → is_same a b ≡ true → a ≡ b
@@ -121,7 +122,7 @@ noted_all-more xs i d m ks marks h e =
 -- a list meets one carrier where that is among it
 meets-one : (ws : List Carrier) (y : Carrier) → meets ws (y ∷ []) ≡ is_among y ws
 meets-one [] y = refl
-meets-one (w ∷ ws) y = ap (λ (b : Bool). b || meets ws (y ∷ [])) (or_false (is_same w y) ∙ same-sym w y) ∙ ap (λ (b : Bool). is_same y w || b) (meets-one ws y)
+meets-one (w ∷ ws) y = ap (λ (b : Bool). b || meets ws (y ∷ [])) (or-false (is_same w y) ∙ same-sym w y) ∙ ap (λ (b : Bool). is_same y w || b) (meets-one ws y)
 
 -- the greater of two marks is below where both are
 le-max : (a b c : ℕ) → nat_le (max a b) c ≡ (nat_le a c && nat_le b c)
@@ -144,11 +145,11 @@ le-zero c = le-leb 0 c (omega arith)
 mark-joined : (b : Bool) (o : Option ℕ) (m c : ℕ) (old new : Bool) → nat_le (unwrap_or o 0) c ≡ old → nat_le m c ≡ new
     → nat_le (unwrap_or (joined_at b o m) 0) c ≡ (old && (not b || new))
 mark-joined true o m c old new h g = le-max (unwrap_or o 0) m c ∙ ap (λ (x : Bool). x && nat_le m c) h ∙ ap (λ (x : Bool). old && x) g
-mark-joined false o m c old new h g = h ∙ sym (and_true old)
+mark-joined false o m c old new h g = h ∙ sym (and-true old)
 
 some-joined : (b : Bool) (o : Option ℕ) (m : ℕ) → is_some (joined_at b o m) ≡ (is_some o || b)
-some-joined true o m = sym (or_true (is_some o))
-some-joined false o m = sym (or_false (is_some o))
+some-joined true o m = sym (or-true (is_some o))
+some-joined false o m = sym (or-false (is_some o))
 
 -- one more event is noted
 pub keeps-more : (log : List Entry) (marks : List Marked) (e : Entry) (m : ℕ) → Keeps log marks → IsMarkOf m log e
@@ -158,36 +159,36 @@ keeps-more log marks e m keeps is_mark = record {
       ap (λ (o : Option ℕ). is_some o) (mark_at-noted_all e.writes x m marks)
       ∙ some-joined (is_among x e.writes) (mark_at x marks) m
       ∙ ap (λ (b : Bool). b || is_among x e.writes) (keeps.written x)
-      ∙ ap (λ (b : Bool). is_written x log || b) (sym (or_false (is_among x e.writes)))
+      ∙ ap (λ (b : Bool). is_written x log || b) (sym (or-false (is_among x e.writes)))
       ∙ sym (list_any-append (λ (d : Entry). is_among x d.writes) log (e ∷ []));
   marked = λ x. record {
     says = λ c.
         ap (λ (o : Option ℕ). nat_le (unwrap_or o 0) c) (mark_at-noted_all e.writes x m marks)
-        ∙ mark-joined (is_among x e.writes) (mark_at x marks) m c (is_settled c log (reader (x ∷ []))) (is_settled c log e) ((keeps.marked x).says c) (is_mark.says c)
-        ∙ ap (λ (b : Bool). is_settled c log (reader (x ∷ [])) && (not b || is_settled c log e)) (sym (meets-one e.writes x))
-        ∙ sym (settled-reader c log e (x ∷ []));
+        ∙ mark-joined (is_among x e.writes) (mark_at x marks) m c (is_durable c log (reader (x ∷ []))) (is_durable c log e) ((keeps.marked x).says c) (is_mark.says c)
+        ∙ ap (λ (b : Bool). is_durable c log (reader (x ∷ [])) && (not b || is_durable c log e)) (sym (meets-one e.writes x))
+        ∙ sym (durable-reader c log e (x ∷ []));
   };
 }
 
 -- ---- the mark of the next event
 -- the greatest mark is below where all are
 greatest-says : (log : List Entry) (marks : List Marked) → Keeps log marks → (c own : ℕ) (rs : List Carrier)
-    → nat_le (greatest_mark own rs marks) c ≡ (nat_le own c && is_settled c log (reader rs))
-greatest-says log marks keeps c own [] = sym (and_true (nat_le own c)) ∙ ap (λ (b : Bool). nat_le own c && b) (sym (settled-nothing c 0 log))
+    → nat_le (greatest_mark own rs marks) c ≡ (nat_le own c && is_durable c log (reader rs))
+greatest-says log marks keeps c own [] = sym (and-true (nat_le own c)) ∙ ap (λ (b : Bool). nat_le own c && b) (sym (durable-nothing c 0 log))
 greatest-says log marks keeps c own (x ∷ xs) =
     greatest-says log marks keeps c (max own (mark_or_none x marks)) xs
-    ∙ ap (λ (b : Bool). b && is_settled c log (reader xs)) (le-max own (mark_or_none x marks) c)
-    ∙ and_assoc (nat_le own c) (nat_le (mark_or_none x marks) c) (is_settled c log (reader xs))
-    ∙ ap (λ (b : Bool). nat_le own c && (b && is_settled c log (reader xs))) ((keeps.marked x).says c)
-    ∙ ap (λ (b : Bool). nat_le own c && b) (sym (settled-union c 0 log (x ∷ []) xs))
+    ∙ ap (λ (b : Bool). b && is_durable c log (reader xs)) (le-max own (mark_or_none x marks) c)
+    ∙ and_assoc (nat_le own c) (nat_le (mark_or_none x marks) c) (is_durable c log (reader xs))
+    ∙ ap (λ (b : Bool). nat_le own c && (b && is_durable c log (reader xs))) ((keeps.marked x).says c)
+    ∙ ap (λ (b : Bool). nat_le own c && b) (sym (durable-union c 0 log (x ∷ []) xs))
 
 count-with : (o : Option Change) (cs : List Change) → (if is_some o then 1 else 0) + length cs ≡ length (with_change o cs)
 count-with None cs = omega arith
 count-with (Some c) cs = omega arith
 
-count-changes : (log : List Entry) → count_of log ≡ length (changes_of log)
+count-changes : (log : List Entry) → count_of log ≡ length (changes_in_log log)
 count-changes [] = refl
-count-changes (d ∷ ds) = ap (λ n. change_count d + n) (count-changes ds) ∙ count-with d.change (changes_of ds)
+count-changes (d ∷ ds) = ap (λ n. change_count d + n) (count-changes ds) ∙ count-with d.change (changes_in_log ds)
 
 -- the mark of its own change says whether that is committed
 own-says : (c n : ℕ) (makes : Bool) → nat_le (mark_of_change (if makes then Some n else None)) c ≡ (not makes || nat_lt n c)
@@ -202,10 +203,10 @@ mark-says log marks e reads change keeps reads_it makes = record {
       ap (λ (rs : List Carrier). nat_le (greatest_mark (mark_of_change change) rs marks) c) (sym reads_it)
       ∙ ap (λ (o : Option ℕ). nat_le (greatest_mark (mark_of_change o) e.reads marks) c) makes
       ∙ greatest-says log marks keeps c (mark_of_change (change_number log e)) e.reads
-      ∙ ap (λ (b : Bool). b && is_settled c log (reader e.reads)) (own-says c (length (changes_of log)) (is_some e.change))
-      ∙ ap (λ (n : ℕ). (not (is_some e.change) || nat_lt n c) && is_settled c log (reader e.reads)) (omega (arith, count-changes log))
-      ∙ and_swap (not (is_some e.change) || nat_lt (0 + count_of log) c) (is_settled c log (reader e.reads))
-      ∙ sym (settled-event c 0 log e);
+      ∙ ap (λ (b : Bool). b && is_durable c log (reader e.reads)) (own-says c (length (changes_in_log log)) (is_some e.change))
+      ∙ ap (λ (n : ℕ). (not (is_some e.change) || nat_lt n c) && is_durable c log (reader e.reads)) (omega (arith, count-changes log))
+      ∙ and_comm (not (is_some e.change) || nat_lt (0 + count_of log) c) (is_durable c log (reader e.reads))
+      ∙ sym (durable-event c 0 log e);
 }
 
 -- an event that writes nothing leaves the marks right, whatever it rests on
@@ -213,15 +214,15 @@ pub keeps-silent : (log : List Entry) (marks : List Marked) (e : Entry) → e.wr
 keeps-silent log marks e silent keeps = record {
   written = λ x.
       keeps.written x
-      ∙ sym (or_false (is_written x log))
+      ∙ sym (or-false (is_written x log))
       ∙ ap (λ (ws : List Carrier). is_written x log || (is_among x ws || false)) (sym silent)
       ∙ sym (list_any-append (λ (d : Entry). is_among x d.writes) log (e ∷ []));
   marked = λ x. record {
     says = λ c.
         (keeps.marked x).says c
-        ∙ sym (and_true (is_settled c log (reader (x ∷ []))))
-        ∙ ap (λ (ws : List Carrier). is_settled c log (reader (x ∷ [])) && (not (meets ws (x ∷ [])) || is_settled c log e)) (sym silent)
-        ∙ sym (settled-reader c log e (x ∷ []));
+        ∙ sym (and-true (is_durable c log (reader (x ∷ []))))
+        ∙ ap (λ (ws : List Carrier). is_durable c log (reader (x ∷ [])) && (not (meets ws (x ∷ [])) || is_durable c log e)) (sym silent)
+        ∙ sym (durable-reader c log e (x ∷ []));
   };
 }
 
@@ -333,10 +334,6 @@ all-written (x ∷ xs) ks h =
     let rest = all-written xs ks h.1 in
     omega (arith, none, split, rest)
 
--- at most as many as there are
-pub unwritten-within : (xs : List Carrier) (ks : List Marked) → unwritten_count xs ks ≤ length xs
-unwritten-within xs ks = count_by-le-length (λ (y : Carrier). not (is_some (mark_at y ks))) xs
-
 -- the first i of these carriers are noted, and there is room for those of the others that no event wrote
 pub record Noting (writes : List Carrier) (mark : ℕ) (old : Kept) (i : ℕ) (now : Kept) : Type 0 where
   pub noted : now.marks ≡ noted_all (take i writes) mark old.marks
@@ -370,7 +367,3 @@ pub found-says : (log : List Entry) (marks : List Marked) (x : Carrier) → Keep
     → IfSome found (λ m. IsMarkOf m log (reader (x ∷ [])))
 found-says log marks x keeps None e = tt
 found-says log marks x keeps (Some m) e = record { says = λ c. ap (λ (o : Option ℕ). nat_le (unwrap_or o 0) c) e ∙ (keeps.marked x).says c }
-
--- no event was there
-pub keeps-none : Keeps [] []
-keeps-none = record { written = λ x. refl; marked = λ x. record { says = λ c. le-zero c } }

@@ -24,7 +24,7 @@ Appends-none None b p = tt
 Appends-none (Some x) None p = absurd p
 Appends-none (Some x) (Some y) p = p ∙ append-nil x
 
--- a part of a text, and the part behind it
+-- a part of a text, and the part after it
 slice_range-more : (text : List ℕ) (from upto count : ℕ) → from ≤ upto
     → slice_range text from upto ++ take count (drop upto text) ≡ slice_range text from (upto + count)
 slice_range-more text from upto count begun =

@@ -6,4 +6,5 @@ mod sink;
 #[cfg(test)]
 mod tests;
 
-pub use pumping::{PumpFault, pump};
+pub use pumping::{PumpFault, pump, pump_into};
+pub use sink::Sink;

@@ -6,7 +6,7 @@ ghost use Rattle.console.specs.Writers.{writer_answers};
 
 use std::io::{self, Write};
 
-/// What takes bytes. A contract names each of its answers, as it cannot at a writer.
+/// What takes bytes; each writer is one. A contract names each of its answers, as it cannot at a writer.
 pub trait Sink {
     // What it may answer to bytes, and what it is then.
     ghost answers: { Self → List ℕ → Result ℕ Error → Self → Type 0 };

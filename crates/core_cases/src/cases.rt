@@ -151,14 +151,14 @@ fn look_or_run(
     }
 }
 
-/// A quiet disk of zeros, but for byte 0 and for these bytes, from this place on.
+/// A quiet device with a disk of zeros, but for byte 0 and for these bytes, from this place on.
 fn disk_with(alloc: Global, selector: u8, at: u32, bytes: &[u8]) -> Result<SimDisk, DiskRefusal> {
-    let mut disk = SimDisk::zero(alloc)?;
-    disk.submit(0, &[selector])?;
-    disk.submit(at, bytes)?;
-    disk.complete(0)?;
-    disk.complete(at)?;
-    Ok(disk)
+    let mut device = SimDisk::zero(alloc)?;
+    device.submit(0, &[selector])?;
+    device.submit(at, bytes)?;
+    device.complete(0)?;
+    device.complete(at)?;
+    Ok(device)
 }
 
 /// The result of a loan, and its name.
@@ -174,7 +174,7 @@ pub struct Case {
     alloc: Global,
     sources: Vec<Source>,
     tapes: Vec<Vec<u8>>,
-    disk: SimDisk,
+    device: SimDisk,
     core: Option<TestCore>,
     other: Option<TestCore>,
     results: Vec<Kept>,
@@ -187,7 +187,7 @@ impl Case {
             alloc,
             sources: Vec::new(alloc),
             tapes: Vec::new(alloc),
-            disk: SimDisk::zero(alloc)?,
+            device: SimDisk::zero(alloc)?,
             core: None,
             other: None,
             results: Vec::new(alloc),
@@ -218,7 +218,7 @@ impl Case {
     /// Sets up a disk.
     fn set_disk(&mut self, selector: u32, at: u32, digits: &str) -> Result<(), Error> {
         let bytes = hex::decode(self.alloc, digits)?;
-        self.disk = disk_with(self.alloc, u8::try_from(selector)?, at, &bytes)?;
+        self.device = disk_with(self.alloc, u8::try_from(selector)?, at, &bytes)?;
         Ok(())
     }
 
@@ -231,7 +231,7 @@ impl Case {
     /// The core, which is booted where there is none.
     fn core(&mut self) -> Result<&mut TestCore, Error> {
         if self.core.is_none() {
-            let core = TestCore::boot(self.alloc, &self.sources, &self.tapes, &self.disk)?;
+            let core = TestCore::boot(self.alloc, &self.sources, &self.tapes, &self.device)?;
             self.core = Some(core);
         }
         match &mut self.core {
@@ -244,7 +244,7 @@ impl Case {
     fn halt(&mut self, digits: &str) -> Result<(), Error> {
         let fill = hex::decode(self.alloc, digits)?;
         if let Some(core) = self.core.take() {
-            self.disk = core.halt(&fill);
+            self.device = core.halt(&fill);
         }
         Ok(())
     }
@@ -278,14 +278,14 @@ impl Case {
             Ok(answer) => text(alloc, answer),
             Err(rejected) => {
                 let done = &rejected.done;
-                text(alloc, (rejected.why, done.pid, done.turn, done.count))
+                text(alloc, (rejected.why, done.pid, done.number, done.count))
             }
         }
     }
 
     /// How many files the disk holds, or its fault.
     fn recovered(&self) -> Result<String, Error> {
-        match recover(self.alloc, &self.disk) {
+        match recover(self.alloc, &self.device) {
             Ok(files) => text(self.alloc, files.count()),
             Err(fault) => text(self.alloc, fault),
         }
@@ -293,7 +293,7 @@ impl Case {
 
     /// How many files a core finds that is booted on the disk, or why it is refused.
     fn booted(&self) -> Result<String, Error> {
-        match TestCore::try_boot(self.alloc, &self.sources, &self.tapes, &self.disk)? {
+        match TestCore::try_boot(self.alloc, &self.sources, &self.tapes, &self.device)? {
             Ok(core) => text(self.alloc, core.boot_files().count()),
             Err(fault) => text(self.alloc, fault),
         }
@@ -303,14 +303,14 @@ impl Case {
     /// them.
     fn holds(&self, name: &str, changes: u32) -> Result<bool, Error> {
         let files = Changer::of(name).files_after(self.alloc, changes)?;
-        let found = recover(self.alloc, &self.disk)?;
-        let next = TestCore::boot(self.alloc, &self.sources, &self.tapes, &self.disk)?;
+        let found = recover(self.alloc, &self.device)?;
+        let next = TestCore::boot(self.alloc, &self.sources, &self.tapes, &self.device)?;
         Ok(has(&found, &files) && has(next.boot_files(), &files))
     }
 
     /// So many bytes of the disk, from this place on.
     fn part(&self, at: u32, count: u32) -> &[u8] {
-        part_of(self.disk.bytes(), at as usize, count as usize)
+        part_of(self.device.bytes(), at as usize, count as usize)
     }
 
     /// What a line comes to that is about the disk or about results of loans; another one is about the core.

@@ -44,8 +44,8 @@ fn tapes_of(alloc: Global, tapes: &[Vec<u8>]) -> Result<Vec<Bytes>, AllocError>
 }
 
 /// The files that a disk holds, as `journal::recover` finds them.
-pub fn recover(alloc: Global, disk: &SimDisk) -> Result<FileTable, DiskFault> {
-    journal::recover(alloc, disk)
+pub fn recover(alloc: Global, device: &SimDisk) -> Result<FileTable, DiskFault> {
+    journal::recover(alloc, device)
 }
 
 /// A core whose calls are looked at by running them: they are the core's own, but for their contracts, which would make
@@ -58,7 +58,7 @@ impl Drop for TestCore {
     /// A core that is let go is halted. So that is done in one place, and not again wherever a case may end.
     fn drop(self) {
         let TestCore { core } = self;
-        let _disk = core.halt(b"");
+        let _device = core.halt(b"");
     }
 }
 
@@ -68,14 +68,14 @@ impl TestCore {
         alloc: Global,
         sources: &[Source],
         tapes: &[Vec<u8>],
-        disk: &SimDisk,
+        device: &SimDisk,
     ) -> Result<Result<TestCore, BootFault>, Error> {
         if sources.is_empty() || sources.len() > 8 || tapes.len() > 8 {
             bail!("a core has one to eight programs, and at most eight tapes");
         }
-        let disk = SimDisk::open(alloc, disk.bytes())?;
+        let device = SimDisk::open(alloc, device.bytes())?;
         let programs = programs_of(alloc, sources)?;
-        let booted = Core::boot(alloc, disk, programs, tapes_of(alloc, tapes)?);
+        let booted = Core::boot(alloc, device, programs, tapes_of(alloc, tapes)?);
         Ok(booted.map(|core| TestCore { core }))
     }
 
@@ -84,9 +84,9 @@ impl TestCore {
         alloc: Global,
         sources: &[Source],
         tapes: &[Vec<u8>],
-        disk: &SimDisk,
+        device: &SimDisk,
     ) -> Result<TestCore, Error> {
-        Ok(TestCore::try_boot(alloc, sources, tapes, disk)??)
+        Ok(TestCore::try_boot(alloc, sources, tapes, device)??)
     }
 
     pub fn apply(&mut self, event: Event) -> Result<Answer, Refused> {

@@ -27,14 +27,14 @@ fn size_of(group: u32) -> u64 {
 struct Origin<'a> {
     sources: &'a [Source],
     tapes: &'a [Vec<u8>],
-    disk: &'a SimDisk,
+    device: &'a SimDisk,
     group: u32,
 }
 
 impl Origin<'_> {
     /// A core that has committed all groups before this one and has cut it, and how many writes commit it.
     fn cut(&self, alloc: Global, group: u32) -> Result<(TestCore, u64), Error> {
-        let mut core = TestCore::boot(alloc, self.sources, self.tapes, self.disk)?;
+        let mut core = TestCore::boot(alloc, self.sources, self.tapes, self.device)?;
         for before in self.group..group {
             core.round(size_of(before))?;
         }
@@ -88,17 +88,17 @@ fn one_tape(alloc: Global, bytes: &[u8]) -> Result<Vec<Vec<u8>>, Error> {
 /// Crashes with this fill throughout the making of the file and the first 33 groups, two checkpoints among them: each group
 /// in runs on the disk that the one before it left.
 fn crash_groups(alloc: Global, sources: &[Source], fill: &[u8]) -> Result<(), Error> {
-    let mut disk = SimDisk::zero(alloc)?;
+    let mut device = SimDisk::zero(alloc)?;
     for group in 0..=33u32 {
         let written = group.saturating_sub(1).saturating_mul(64);
         let tapes = one_tape(alloc, &written.to_le_bytes())?;
         let origin = Origin {
             sources,
             tapes: &tapes,
-            disk: &disk,
+            device: &device,
             group,
         };
-        disk = crash_group(alloc, origin, group, fill)?;
+        device = crash_group(alloc, origin, group, fill)?;
     }
     Ok(())
 }
@@ -106,12 +106,12 @@ fn crash_groups(alloc: Global, sources: &[Source], fill: &[u8]) -> Result<(), Er
 /// Crashes with this fill throughout groups of one run: the making of the file, a group, the first checkpoint, and the first
 /// group after it.
 fn crash_one_run(alloc: Global, sources: &[Source], fill: &[u8]) -> Result<(), Error> {
-    let disk = SimDisk::zero(alloc)?;
+    let device = SimDisk::zero(alloc)?;
     let tapes = one_tape(alloc, b"")?;
     let origin = Origin {
         sources,
         tapes: &tapes,
-        disk: &disk,
+        device: &device,
         group: 0,
     };
     for group in [0, 1, 16, 17] {

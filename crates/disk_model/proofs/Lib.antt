@@ -1,4 +1,5 @@
 -- The lemmas, lowest first.
+pub mod Lists
 pub mod Tidy
 pub mod Places
 pub mod Reading

@@ -9,26 +9,26 @@ use Rattle.disk_model.specs.declared.change.Change.{Change}
 use Rattle.disk_model.specs.declared.change.Change.TheVariants.{Create, Write, Empty}
 use Rattle.disk_model.specs.declared.change.NamedFile.{NamedFile}
 use Rattle.disk_model.specs.Files.{IsFormed, Follow, changed, files_after}
-use Rattle.disk_model.specs.Spelling.{spelling, body_of, sized_body, gate_behind}
+use Rattle.disk_model.specs.Spelling.{spelling, body_of, sized_body, gate_after}
 use Rattle.disk_model.specs.Held.{Stands, IsRecord, Records, joined, IsHeldTo, selected_half, start_of, end_of}
 
 -- ---- texts
 
--- two fronts of one length, in the same text
-fronts_same : (a b x y : List ℕ) → length a ≡ length b → a ++ x ≡ b ++ y → (a ≡ b) × (x ≡ y)
-fronts_same a b x y size same = (
+-- two prefixes of one length, of the same text
+prefixes_same : (a b x y : List ℕ) → length a ≡ length b → a ++ x ≡ b ++ y → (a ≡ b) × (x ≡ y)
+prefixes_same a b x y size same = (
   sym (take_at a x (length b) size) ∙ ap (take (length b)) same ∙ take_at b y (length b) refl,
   sym (drop_at a x (length b) size) ∙ ap (drop (length b)) same ∙ drop_at b y (length b) refl,
 )
 
 two_same : (m n : ℕ) (x y : List ℕ) → m < 2 ^ 16 → n < 2 ^ 16 → to_le_bytes w16 m ++ x ≡ to_le_bytes w16 n ++ y → (m ≡ n) × (x ≡ y)
 two_same m n x y mlt nlt same =
-    let p = fronts_same (to_le_bytes w16 m) (to_le_bytes w16 n) x y refl same in
+    let p = prefixes_same (to_le_bytes w16 m) (to_le_bytes w16 n) x y refl same in
     (sym (from_le_bytes-to_le_bytes_2 m mlt) ∙ ap (from_le_bytes w16) p.0 ∙ from_le_bytes-to_le_bytes_2 n nlt, p.1)
 
 four_same : (m n : ℕ) (x y : List ℕ) → m < 2 ^ 32 → n < 2 ^ 32 → to_le_bytes w32 m ++ x ≡ to_le_bytes w32 n ++ y → (m ≡ n) × (x ≡ y)
 four_same m n x y mlt nlt same =
-    let p = fronts_same (to_le_bytes w32 m) (to_le_bytes w32 n) x y refl same in
+    let p = prefixes_same (to_le_bytes w32 m) (to_le_bytes w32 n) x y refl same in
     (sym (from_le_bytes-to_le_bytes_4 m mlt) ∙ ap (from_le_bytes w32) p.0 ∙ from_le_bytes-to_le_bytes_4 n nlt, p.1)
 
 -- ---- changes
@@ -37,7 +37,7 @@ create_same : (name other x y : List ℕ) → length name ∷ (name ++ x) ≡ le
 create_same name other x y same =
     let size : length name ≡ length other = cc in
     let rest : name ++ x ≡ other ++ y = cc in
-    let p = fronts_same name other x y size rest in
+    let p = prefixes_same name other x y size rest in
     (ap Create p.0, p.1)
 
 write_same : (m n i j : ℕ) (bytes others x y : List ℕ) → IsFormed (Write m i bytes) → IsFormed (Write n j others)
@@ -49,7 +49,7 @@ write_same m n i j bytes others x y f g same =
     let a = two_same m n (to_le_bytes w32 i ++ (to_le_bytes w16 (length bytes) ++ (bytes ++ x))) (to_le_bytes w32 j ++ (to_le_bytes w16 (length others) ++ (others ++ y))) f.0 g.0 same in
     let b = four_same i j (to_le_bytes w16 (length bytes) ++ (bytes ++ x)) (to_le_bytes w16 (length others) ++ (others ++ y)) f.1 g.1 a.1 in
     let c = two_same (length bytes) (length others) (bytes ++ x) (others ++ y) short small b.1 in
-    let d = fronts_same bytes others x y c.0 c.1 in
+    let d = prefixes_same bytes others x y c.0 c.1 in
     (ap (λ (k : ℕ). Write k i bytes) a.0 ∙ ap (λ (k : ℕ). Write n k bytes) b.0 ∙ ap (Write n j) d.0, d.1)
 
 empty_same : (m n : ℕ) (x y : List ℕ) → m < 2 ^ 16 → n < 2 ^ 16 → to_le_bytes w16 m ++ x ≡ to_le_bytes w16 n ++ y → (Empty m ≡ Empty n) × (x ≡ y)
@@ -92,10 +92,10 @@ body_once (c ∷ cs) (e ∷ es) f g same =
 stands_once : (d : List ℕ) (at : ℕ) (a b : List ℕ) → length a ≡ length b → Stands d at a → Stands d at b → a ≡ b
 stands_once d at a b size h g = ext_get_or 0 a b size (λ i lt. sym (h i lt) ∙ g i (omega arith))
 
-stands_front : (d : List ℕ) (at : ℕ) (a b : List ℕ) → Stands d at (a ++ b) → Stands d at a
-stands_front d at a b h i lt = h i (omega (arith, length-append a b)) ∙ get_or_append_left a b 0 i lt
+stands_prefix : (d : List ℕ) (at : ℕ) (a b : List ℕ) → Stands d at (a ++ b) → Stands d at a
+stands_prefix d at a b h i lt = h i (omega (arith, length-append a b)) ∙ get_or_append_left a b 0 i lt
 
--- at most one record stands behind a gate
+-- at most one record stands after a gate
 record_once : (d : List ℕ) (last gate : ℕ) (cs es : List Change) → last < 2 ^ 32 → IsRecord d last gate cs → IsRecord d last gate es
     → AllByRecursion IsFormed cs → AllByRecursion IsFormed es → cs ≡ es
 record_once d last gate cs es small h g f k =
@@ -103,13 +103,13 @@ record_once d last gate cs es small h g f k =
     let n = length (body_of es) in
     let mlt : m < 2 ^ 32 = (let within = h.within in omega arith) in
     let nlt : n < 2 ^ 32 = (let within = g.within in omega arith) in
-    let front : to_le_bytes w32 m ≡ to_le_bytes w32 n = stands_once d (gate + 1) (to_le_bytes w32 m) (to_le_bytes w32 n) refl (stands_front d (gate + 1) (to_le_bytes w32 m) (body_of cs) h.stands) (stands_front d (gate + 1) (to_le_bytes w32 n) (body_of es) g.stands) in
-    let size : m ≡ n = sym (from_le_bytes-to_le_bytes_4 m mlt) ∙ ap (from_le_bytes w32) front ∙ from_le_bytes-to_le_bytes_4 n nlt in
+    let prefix : to_le_bytes w32 m ≡ to_le_bytes w32 n = stands_once d (gate + 1) (to_le_bytes w32 m) (to_le_bytes w32 n) refl (stands_prefix d (gate + 1) (to_le_bytes w32 m) (body_of cs) h.stands) (stands_prefix d (gate + 1) (to_le_bytes w32 n) (body_of es) g.stands) in
+    let size : m ≡ n = sym (from_le_bytes-to_le_bytes_4 m mlt) ∙ ap (from_le_bytes w32) prefix ∙ from_le_bytes-to_le_bytes_4 n nlt in
     let whole : length (sized_body cs) ≡ length (sized_body es) = omega (arith, length-append (to_le_bytes w32 m) (body_of cs), length-append (to_le_bytes w32 n) (body_of es)) in
     let same = stands_once d (gate + 1) (sized_body cs) (sized_body es) whole h.stands g.stands in
-    body_once cs es f k (fronts_same (to_le_bytes w32 m) (to_le_bytes w32 n) (body_of cs) (body_of es) refl same).1
+    body_once cs es f k (prefixes_same (to_le_bytes w32 m) (to_le_bytes w32 n) (body_of cs) (body_of es) refl same).1
 
-formed_all : (files : List NamedFile) (cs : List Change) → Follow files cs → AllByRecursion IsFormed cs
+pub formed_all : (files : List NamedFile) (cs : List Change) → Follow files cs → AllByRecursion IsFormed cs
 formed_all files [] f = tt
 formed_all files (c ∷ cs) f = (f.0, formed_all (changed files c) cs f.2)
 
@@ -128,7 +128,7 @@ records_once d last gate upto other (cs ∷ css) (es ∷ ess) small h g shut clo
     let a = formed_split cs (joined css) f in
     let b = formed_split es (joined ess) k in
     let one : cs ≡ es = record_once d last gate cs es small h.0 g.0 a.0 b.0 in
-    let r = records_once d last (gate_behind gate cs) upto other css ess small h.1 (subst (λ (l : List Change). Records d last (gate_behind gate l) ess other) (sym one) g.1) shut closed a.1 b.1 in
+    let r = records_once d last (gate_after gate cs) upto other css ess small h.1 (subst (λ (l : List Change). Records d last (gate_after gate l) ess other) (sym one) g.1) shut closed a.1 b.1 in
     (ap (λ (l : List Change). l ∷ css) one ∙ ap (λ (l : List (List Change)). es ∷ l) r.0, r.1)
 
 end_small : (half : Bool) → end_of half < 2 ^ 32

@@ -11,29 +11,29 @@ use Rattle.disk_model.specs.Crash.{InRange, IsSameBut}
 
 -- ---- a write
 
-front_length : (d : List ℕ) (at : ℕ) (bs : List ℕ) → at ≤ length d → length (take at d ++ bs) ≡ at + length bs
-front_length d at bs le = omega (arith, length-append (take at d) bs, length-take at d)
+prefix_length : (d : List ℕ) (at : ℕ) (bs : List ℕ) → at ≤ length d → length (take at d ++ bs) ≡ at + length bs
+prefix_length d at bs le = omega (arith, length-append (take at d) bs, length-take at d)
 
 pub over_below : (d : List ℕ) (at : ℕ) (bs : List ℕ) (i : ℕ) → at ≤ length d → i < at → get_or (overwritten d at bs) i 0 ≡ get_or d i 0
 over_below d at bs i le lt =
-    get_or_append_left (take at d ++ bs) (drop (at + length bs) d) 0 i (omega (arith, front_length d at bs le))
+    get_or_append_left (take at d ++ bs) (drop (at + length bs) d) 0 i (omega (arith, prefix_length d at bs le))
     ∙ get_or_append_left (take at d) bs 0 i (omega (arith, length-take at d))
     ∙ get_or-take at d i 0 lt
 
 pub over_above : (d : List ℕ) (at : ℕ) (bs : List ℕ) (i : ℕ) → at ≤ length d → at + length bs ≤ i → get_or (overwritten d at bs) i 0 ≡ get_or d i 0
 over_above d at bs i le ge =
-    get_or-append_right (take at d ++ bs) (drop (at + length bs) d) (at + length bs) i 0 (front_length d at bs le) ge
+    get_or-append_right (take at d ++ bs) (drop (at + length bs) d) (at + length bs) i 0 (prefix_length d at bs le) ge
     ∙ get_or-drop (at + length bs) d (i - (at + length bs)) 0
     ∙ ap (λ (k : ℕ). get_or d k 0) (omega arith)
 
 pub over_in : (d : List ℕ) (at : ℕ) (bs : List ℕ) → at ≤ length d → Stands (overwritten d at bs) at bs
 over_in d at bs le i lt =
-    get_or_append_left (take at d ++ bs) (drop (at + length bs) d) 0 (at + i) (omega (arith, front_length d at bs le))
+    get_or_append_left (take at d ++ bs) (drop (at + length bs) d) 0 (at + i) (omega (arith, prefix_length d at bs le))
     ∙ get_or-append_right (take at d) bs at (at + i) 0 (omega (arith, length-take at d)) (omega arith)
     ∙ ap (λ (k : ℕ). get_or bs k 0) (omega arith)
 
 pub over_length : (d : List ℕ) (at : ℕ) (bs : List ℕ) → at + length bs ≤ length d → length (overwritten d at bs) ≡ length d
-over_length d at bs le = omega (arith, front_length d at bs (omega arith), length-append (take at d ++ bs) (drop (at + length bs) d), length-drop (at + length bs) d)
+over_length d at bs le = omega (arith, prefix_length d at bs (omega arith), length-append (take at d ++ bs) (drop (at + length bs) d), length-drop (at + length bs) d)
 
 -- ---- ranges
 
@@ -84,9 +84,6 @@ taken_all P (q ∷ ps) at p h all = go (q.at == at) h (taken_all P ps at p)
     go false e rec = let r = rec e all.1 in (r.0, (all.0, r.1))
 
 -- ---- the same outside ranges
-
-pub same_refl : (ps : List Piece) (d : List ℕ) → IsSameBut ps d d
-same_refl ps d = record { size = refl; same = λ i h. refl }
 
 pub same_less : (ps qs : List Piece) (a b : List ℕ) → IsSameBut ps a b → ((i : ℕ) → InRange ps i → InRange qs i) → IsSameBut qs a b
 same_less ps qs a b h sub = record { size = h.size; same = λ i out. h.same i (λ inside. out (sub i inside)) }

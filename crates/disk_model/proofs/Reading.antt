@@ -5,7 +5,7 @@ use Rattle.std.specs.Int.{w32, to_le_bytes}
 use Rattle.disk_model.specs.declared.change.Change.{Change}
 use Rattle.disk_model.specs.declared.change.NamedFile.{NamedFile}
 use Rattle.disk_model.specs.Files.{Follow, IsFormed, IsMade, MayCome, files_after, changed}
-use Rattle.disk_model.specs.Spelling.{body_of, sized_body, record_of, gate_behind}
+use Rattle.disk_model.specs.Spelling.{body_of, sized_body, record_of, gate_after}
 use Rattle.disk_model.specs.Held.{Stands, start_of, end_of, IsRecord, Records, joined, Reads}
 
 -- ---- files
@@ -42,28 +42,28 @@ record_length cs = omega (arith, sized_length cs, length-append (sized_body cs) 
 
 pub records_le : (d : List ℕ) (last gate : ℕ) (css : List (List Change)) (upto : ℕ) → Records d last gate css upto → gate ≤ upto
 records_le d last gate [] upto r = omega arith
-records_le d last gate (cs ∷ css) upto r = omega (arith, records_le d last (gate_behind gate cs) css upto r.1)
+records_le d last gate (cs ∷ css) upto r = omega (arith, records_le d last (gate_after gate cs) css upto r.1)
 
 pub records_last : (d : List ℕ) (last gate : ℕ) (css : List (List Change)) (upto : ℕ) → gate < last → Records d last gate css upto → upto < last
 records_last d last gate [] upto lt r = omega arith
-records_last d last gate (cs ∷ css) upto lt r = records_last d last (gate_behind gate cs) css upto r.0.within r.1
+records_last d last gate (cs ∷ css) upto lt r = records_last d last (gate_after gate cs) css upto r.0.within r.1
 
 pub records_frame : (d e : List ℕ) (last gate : ℕ) (css : List (List Change)) (upto : ℕ)
     → ((i : ℕ) → gate ≤ i → i < upto → get_or e i 0 ≡ get_or d i 0) → Records d last gate css upto → Records e last gate css upto
 records_frame d e last gate [] upto same r = r
 records_frame d e last gate (cs ∷ css) upto same r =
-    let le = records_le d last (gate_behind gate cs) css upto r.1 in (
+    let le = records_le d last (gate_after gate cs) css upto r.1 in (
       record {
         opened = same gate (omega arith) (omega arith) ∙ r.0.opened;
         within = r.0.within;
         stands = λ i lt. same (gate + 1 + i) (omega arith) (omega (arith, sized_length cs)) ∙ r.0.stands i lt;
       },
-      records_frame d e last (gate_behind gate cs) css upto (λ i ge lt. same i (omega arith) lt) r.1,
+      records_frame d e last (gate_after gate cs) css upto (λ i ge lt. same i (omega arith) lt) r.1,
     )
 
-pub records_more : (d : List ℕ) (last gate : ℕ) (css : List (List Change)) (upto : ℕ) (cs : List Change) → Records d last gate css upto → IsRecord d last upto cs → Records d last gate (css ++ cs ∷ []) (gate_behind upto cs)
-records_more d last gate [] upto cs r one = (subst (λ (k : ℕ). IsRecord d last k cs) r one, ap (λ (k : ℕ). gate_behind k cs) r)
-records_more d last gate (ds ∷ css) upto cs r one = (r.0, records_more d last (gate_behind gate ds) css upto cs r.1 one)
+pub records_more : (d : List ℕ) (last gate : ℕ) (css : List (List Change)) (upto : ℕ) (cs : List Change) → Records d last gate css upto → IsRecord d last upto cs → Records d last gate (css ++ cs ∷ []) (gate_after upto cs)
+records_more d last gate [] upto cs r one = (subst (λ (k : ℕ). IsRecord d last k cs) r one, ap (λ (k : ℕ). gate_after k cs) r)
+records_more d last gate (ds ∷ css) upto cs r one = (r.0, records_more d last (gate_after gate ds) css upto cs r.1 one)
 
 joined_more : (css : List (List Change)) (cs : List Change) → joined (css ++ cs ∷ []) ≡ joined css ++ cs
 joined_more [] cs = append-nil cs
@@ -88,10 +88,10 @@ reads_frame d e half gate files same r = record {
 pub reads_none : (d : List ℕ) (half : Bool) → Reads d half (start_of half) []
 reads_none d half = record { groups = []; records = refl; possible = tt; makes = refl }
 
--- one more record, behind a gate that is open
+-- one more record, after a gate that is open
 pub reads_more : (e : List ℕ) (half : Bool) (gate : ℕ) (files : List NamedFile) (cs : List Change)
-    → Reads e half gate files → Follow files cs → get_or e gate 0 ≡ 1 → gate_behind gate cs < end_of half → Stands e (gate + 1) (record_of cs)
-    → Reads e half (gate_behind gate cs) (files_after files cs)
+    → Reads e half gate files → Follow files cs → get_or e gate 0 ≡ 1 → gate_after gate cs < end_of half → Stands e (gate + 1) (record_of cs)
+    → Reads e half (gate_after gate cs) (files_after files cs)
 reads_more e half gate files cs r follow opened within stands = record {
   groups = r.groups ++ cs ∷ [];
   records = records_more e (end_of half) (start_of half) r.groups gate cs r.records (record {
@@ -103,11 +103,11 @@ reads_more e half gate files cs r follow opened within stands = record {
   makes = ap (λ (fs : List NamedFile). files_after fs cs) r.makes ∙ sym (files_after-append [] (joined r.groups) cs) ∙ ap (files_after []) (sym (joined_more r.groups cs));
 }
 
--- and the gate behind it is closed
-pub closed_behind : (e : List ℕ) (gate : ℕ) (cs : List Change) → Stands e (gate + 1) (record_of cs) → get_or e (gate_behind gate cs) 0 ≡ 0
-closed_behind e gate cs stands =
+-- and the gate after it is closed
+pub closed_after : (e : List ℕ) (gate : ℕ) (cs : List Change) → Stands e (gate + 1) (record_of cs) → get_or e (gate_after gate cs) 0 ≡ 0
+closed_after e gate cs stands =
     let l = sized_length cs in
-    ap (λ (k : ℕ). get_or e k 0) (let same : gate_behind gate cs ≡ gate + 1 + length (sized_body cs) = omega arith in same)
+    ap (λ (k : ℕ). get_or e k 0) (let same : gate_after gate cs ≡ gate + 1 + length (sized_body cs) = omega arith in same)
     ∙ stands (length (sized_body cs)) (omega (arith, length-append (sized_body cs) (0 ∷ [])))
     ∙ ap (λ (k : ℕ). get_or (record_of cs) k 0) (let same : length (sized_body cs) ≡ length (sized_body cs) + 0 = omega arith in same)
     ∙ get_or-append-add (sized_body cs) (0 ∷ []) 0 0

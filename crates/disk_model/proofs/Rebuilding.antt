@@ -8,11 +8,12 @@ use Rattle.disk_model.specs.declared.change.Change.{Change}
 use Rattle.disk_model.specs.declared.change.Change.TheVariants.{Write}
 use Rattle.disk_model.specs.declared.change.NamedFile.{NamedFile}
 use Rattle.disk_model.specs.Files.{Follow, IsMade, changed, files_after, with_bytes, patched}
-use Rattle.disk_model.specs.Spelling.{body_of, spelling, gate_behind}
+use Rattle.disk_model.specs.Spelling.{body_of, spelling, gate_after}
 use Rattle.disk_model.specs.Held.{start_of, end_of}
 use Rattle.disk_model.specs.Rebuild.{rebuild, rebuild_from, changes_making, writes_from, CanBeRebuilt}
 use Rattle.disk_model.proofs.Reading.{files_after-append, follow_both}
-use Rattle.disk_model.proofs.Tidy.{IsTidy, IsTidyFile, tidy_after, Distinct, names, IsByte, all_take, all_drop}
+use Rattle.disk_model.proofs.Tidy.{IsTidy, IsTidyFile, tidy_after, Distinct, names, IsByte}
+use Rattle.disk_model.proofs.Lists.{each_take, each_drop}
 
 body_append : (xs ys : List Change) → length (body_of (xs ++ ys)) ≡ length (body_of xs) + length (body_of ys)
 unfolding body_of
@@ -61,10 +62,10 @@ writes_made (suc k) size fs name old (b ∷ bytes) n offset enough some most her
     let is_at : offset ≡ length old = at (omega arith) in
     let t = length-take size whole in let d = length-drop size whole in
     let step : changed (fs ++ named name old ∷ []) (Write n offset chunk) ≡ fs ++ named name (old ++ chunk) ∷ [] = changed_last fs name old chunk n offset here is_at in
-    let r = writes_made k size fs name (old ++ chunk) rest n (offset + size) (omega arith) some most here few (λ more. omega (arith, length-append old chunk)) (omega (arith, length-append old chunk)) (all_drop IsByte size whole fine) in
+    let r = writes_made k size fs name (old ++ chunk) rest n (offset + size) (omega arith) some most here few (λ more. omega (arith, length-append old chunk)) (omega (arith, length-append old chunk)) (each_drop IsByte size whole fine) in
     record {
       follow = (
-        (omega arith, omega arith, omega arith, omega arith, all_take IsByte size whole fine),
+        (omega arith, omega arith, omega arith, omega arith, each_take IsByte size whole fine),
         (omega (arith, length-append fs (named name old ∷ [])), omega arith),
         subst (λ (l : List NamedFile). Follow l (writes_from k size n (offset + size) rest)) (sym step) r.follow,
       );
@@ -154,7 +155,7 @@ each_short : (fs : List NamedFile) → AllByRecursion IsTidyFile fs → AllByRec
 each_short [] each = tt
 each_short (f ∷ fs) each = (each.0.short, each_short fs each.1)
 
-half_room : (half : Bool) (cs : List Change) → length (body_of cs) < 1048507 → gate_behind (start_of half) cs < end_of half
+half_room : (half : Bool) (cs : List Change) → length (body_of cs) < 1048507 → gate_after (start_of half) cs < end_of half
 half_room false cs lt = omega arith
 half_room true cs lt = omega arith
 

@@ -5,15 +5,15 @@ use Rattle.std.specs.List.{AllByRecursion}
 use Rattle.disk_model.specs.declared.change.Change.{Change}
 use Rattle.disk_model.specs.declared.change.NamedFile.{NamedFile}
 use Rattle.disk_model.specs.Files.{Follow, files_after}
-use Rattle.disk_model.specs.Spelling.{record_of, gate_behind}
+use Rattle.disk_model.specs.Spelling.{record_of, gate_after}
 use Rattle.disk_model.specs.Held.{Stands, start_of, end_of, Reads, selected_half, IsHeldTo, IsHeld}
 use Rattle.disk_model.specs.declared.change.Piece.{Piece}
 use Rattle.disk_model.specs.Storage.{overwritten, pieces, one_byte, is_empty, selector}
 use Rattle.disk_model.specs.Crash.{InRange, IsSameBut}
 use Rattle.disk_model.proofs.Places.{over_below, over_above, over_in, over_length, over_same, Carried, pieces_carried, pieces_cover, pieces_within, pieces_some}
-use Rattle.disk_model.proofs.Reading.{record_length, reads_bounds, reads_frame, reads_none, reads_more, closed_behind}
+use Rattle.disk_model.proofs.Reading.{record_length, reads_bounds, reads_frame, reads_none, reads_more, closed_after}
 
--- the disk holds the files, and this is the place behind them
+-- the disk holds the files, and this is the place after them
 pub record AtRest (disk : List ℕ) (half : Bool) (gate : ℕ) (files : List NamedFile) : Type 0 where
   pub held : IsHeldTo disk gate files
   pub selects : selected_half (get_or disk 0 0) ≡ half
@@ -67,26 +67,26 @@ still d e half gate old rest long zero-is same closed = record {
 pub rest_bounds : (d : List ℕ) (half : Bool) (gate : ℕ) (old : List NamedFile) → AtRest d half gate old → (start_of half ≤ gate) × (gate < end_of half)
 rest_bounds d half gate old rest = reads_bounds d half gate old (subst (λ (b : Bool). Reads d b gate old) rest.selects rest.held.reads)
 
--- a record behind the gate, and the gate is open: the new files
-grown : (d e : List ℕ) (half : Bool) (gate : ℕ) (old : List NamedFile) (cs : List Change) → AtRest d half gate old → IsSize e → Follow old cs → gate_behind gate cs < end_of half
+-- a record after the gate, and the gate is open: the new files
+grown : (d e : List ℕ) (half : Bool) (gate : ℕ) (old : List NamedFile) (cs : List Change) → AtRest d half gate old → IsSize e → Follow old cs → gate_after gate cs < end_of half
     → get_or e 0 0 ≡ get_or d 0 0 → ((i : ℕ) → start_of half ≤ i → i < gate → get_or e i 0 ≡ get_or d i 0) → Stands e (gate + 1) (record_of cs) → get_or e gate 0 ≡ 1
-    → AtRest e half (gate_behind gate cs) (files_after old cs)
+    → AtRest e half (gate_after gate cs) (files_after old cs)
 grown d e half gate old cs rest long follow within zero-is same stands opened =
     let selects : selected_half (get_or e 0 0) ≡ half = ap selected_half zero-is ∙ rest.selects in
-    let reads : Reads e half (gate_behind gate cs) (files_after old cs) =
+    let reads : Reads e half (gate_after gate cs) (files_after old cs) =
     reads_more e half gate old cs (reads_frame d e half gate old same (subst (λ (b : Bool). Reads d b gate old) rest.selects rest.held.reads)) follow opened within stands in
     record {
       held = record {
         size = long;
-        reads = subst (λ (b : Bool). Reads e b (gate_behind gate cs) (files_after old cs)) (sym selects) reads;
-        closed = λ open_gate. let shut = closed_behind e gate cs stands in omega arith;
+        reads = subst (λ (b : Bool). Reads e b (gate_after gate cs) (files_after old cs)) (sym selects) reads;
+        closed = λ open_gate. let shut = closed_after e gate cs stands in omega arith;
       };
       selects = selects;
     }
 
 module _ (d : List ℕ) (half : Bool) (gate : ℕ) (old : List NamedFile) (cs : List Change) (rest : AtRest d half gate old) (follow : Follow old cs) where
   -- ---- a group
-  module _ (within : gate_behind gate cs < end_of half) where
+  module _ (within : gate_after gate cs < end_of half) where
     new : List NamedFile
     new = files_after old cs
 
@@ -144,7 +144,7 @@ module _ (d : List ℕ) (half : Bool) (gate : ℕ) (old : List NamedFile) (cs : 
     -- the record is there, and the gate may be open or not
     either : (e : List ℕ) → IsSameBut (one_byte gate 1) g2 e → (get_or e gate 0 ≡ 1) ⊎ (get_or e gate 0 ≡ 1 → ⊥) → Either old (files_after old cs) e
     either e s (inl opened) = inr (
-      gate_behind gate cs,
+      gate_after gate cs,
       (grown d e half gate old cs rest (s.size ∙ long2) follow within
           (let r = room in s.same 0 (out2 0 (λ q. omega arith)) ∙ low2 0 (omega arith))
           (λ i ge lt. s.same i (out2 i (λ q. omega arith)) ∙ low2 i lt)
@@ -173,11 +173,11 @@ module _ (d : List ℕ) (half : Bool) (gate : ℕ) (old : List NamedFile) (cs : 
       safe = λ e s. either e s (cases_eq (get_or e gate 0) 1);
     }
 
-    pub group_ready : Ready (pieces (gate + 1) (record_of cs) ∷ one_byte gate 1 ∷ []) d half (gate_behind gate cs) old (files_after old cs)
+    pub group_ready : Ready (pieces (gate + 1) (record_of cs) ∷ one_byte gate 1 ∷ []) d half (gate_after gate cs) old (files_after old cs)
     group_ready = (g1, leads1, (g2, leads2, grown d g2 half gate old cs rest long2 follow within (let r = room in low2 0 (omega arith)) (λ i ge lt. low2 i lt) stands2 gate2))
 
 -- ---- a checkpoint
-module _ (d : List ℕ) (half : Bool) (gate : ℕ) (old : List NamedFile) (cs : List Change) (rest : AtRest d half gate old) (follow : Follow [] cs) (within : gate_behind (start_of (not half)) cs < end_of (not half)) where
+module _ (d : List ℕ) (half : Bool) (gate : ℕ) (old : List NamedFile) (cs : List Change) (rest : AtRest d half gate old) (follow : Follow [] cs) (within : gate_after (start_of (not half)) cs < end_of (not half)) where
   abbrev there : ℕ
   there = start_of (not half)
 
@@ -273,9 +273,9 @@ module _ (d : List ℕ) (half : Bool) (gate : ℕ) (old : List NamedFile) (cs : 
   third : Leads (one_byte there 1) c2 c3 old (files_after [] cs) × Alike c3
   third = aside (one_byte there 1) (spot_far 1) refl c2 there (1 ∷ []) next.1 (omega arith) (spot_cover there 1) (spot_carried c2 there 1 (fits_in c2 next.1).0)
 
-  -- the record stands in the other half, behind an open gate
+  -- the record stands in the other half, after an open gate
   written : (e : List ℕ) → ((i : ℕ) → 1 ≤ i → get_or e i 0 ≡ get_or c3 i 0)
-      → Reads e (not half) (gate_behind there cs) (files_after [] cs) × (get_or e (gate_behind there cs) 0 ≡ 1 → ⊥)
+      → Reads e (not half) (gate_after there cs) (files_after [] cs) × (get_or e (gate_after there cs) 0 ≡ 1 → ⊥)
   written e same =
       let b = bounds (not half) in
       let f2 = fits_in c2 next.1 in let f1 = fits_in c1 first.1 in
@@ -285,7 +285,7 @@ module _ (d : List ℕ) (half : Bool) (gate : ℕ) (old : List NamedFile) (cs : 
       ∙ over_in c1 (there + 1) (record_of cs) (omega arith) i lt in
       let opened : get_or e there 0 ≡ 1 =
       same there (omega arith) ∙ ap (λ (k : ℕ). get_or c3 k 0) (let q : there ≡ there + 0 = omega arith in q) ∙ over_in c2 there (1 ∷ []) (omega arith) 0 (omega arith) in
-      (reads_more e (not half) there [] cs (reads_none e (not half)) follow opened within stands, λ one. let shut = closed_behind e there cs stands in omega arith)
+      (reads_more e (not half) there [] cs (reads_none e (not half)) follow opened within stands, λ one. let shut = closed_after e there cs stands in omega arith)
 
   alike4 : IsSameBut (one_byte 0 (selector (not half))) c3 c4
   alike4 = over_same c3 0 (selector (not half) ∷ []) (one_byte 0 (selector (not half))) (let l = third.1.long in omega arith) (spot_cover 0 (selector (not half)))
@@ -297,11 +297,11 @@ module _ (d : List ℕ) (half : Bool) (gate : ℕ) (old : List NamedFile) (cs : 
   late : (e : List ℕ) → IsSameBut (one_byte 0 (selector (not half))) c4 e → (i : ℕ) → 1 ≤ i → get_or e i 0 ≡ get_or c3 i 0
   late e s i ge = s.same i (not_zero (selector (not half)) i ge) ∙ alike4.same i (not_zero (selector (not half)) i ge)
 
-  new_at : (e : List ℕ) → IsSize e → ((i : ℕ) → 1 ≤ i → get_or e i 0 ≡ get_or c3 i 0) → selected_half (get_or e 0 0) ≡ not half → AtRest e (not half) (gate_behind there cs) (files_after [] cs)
+  new_at : (e : List ℕ) → IsSize e → ((i : ℕ) → 1 ≤ i → get_or e i 0 ≡ get_or c3 i 0) → selected_half (get_or e 0 0) ≡ not half → AtRest e (not half) (gate_after there cs) (files_after [] cs)
   new_at e long same selects = let w = written e same in record {
     held = record {
       size = long;
-      reads = subst (λ (b : Bool). Reads e b (gate_behind there cs) (files_after [] cs)) (sym selects) w.0;
+      reads = subst (λ (b : Bool). Reads e b (gate_after there cs) (files_after [] cs)) (sym selects) w.0;
       closed = w.1;
     };
     selects = selects;
@@ -321,7 +321,7 @@ module _ (d : List ℕ) (half : Bool) (gate : ℕ) (old : List NamedFile) (cs : 
 
   whichever : (e : List ℕ) → IsSize e → ((i : ℕ) → 1 ≤ i → get_or e i 0 ≡ get_or c3 i 0) → (selected_half (get_or e 0 0) ≡ half) ⊎ (selected_half (get_or e 0 0) ≡ not half) → Either old (files_after [] cs) e
   whichever e long same (inl is) = inl (old_at e long same is)
-  whichever e long same (inr is) = inr (gate_behind there cs, (new_at e long same is).held)
+  whichever e long same (inr is) = inr (gate_after there cs, (new_at e long same is).held)
 
   two : (b c : Bool) → (b ≡ c) ⊎ (b ≡ not c)
   two true true = inl refl
@@ -347,5 +347,5 @@ module _ (d : List ℕ) (half : Bool) (gate : ℕ) (old : List NamedFile) (cs : 
     safe = λ e s. whichever e (s.size ∙ long4) (late e s) (two (selected_half (get_or e 0 0)) half);
   }
 
-  pub checkpoint_ready : Ready (one_byte there 0 ∷ pieces (there + 1) (record_of cs) ∷ one_byte there 1 ∷ one_byte 0 (selector (not half)) ∷ []) d (not half) (gate_behind there cs) old (files_after [] cs)
+  pub checkpoint_ready : Ready (one_byte there 0 ∷ pieces (there + 1) (record_of cs) ∷ one_byte there 1 ∷ one_byte 0 (selector (not half)) ∷ []) d (not half) (gate_after there cs) old (files_after [] cs)
   checkpoint_ready = (c1, first.0, (c2, next.0, (c3, third.0, (c4, last, new_at c4 long4 (λ i ge. alike4.same i (not_zero (selector (not half)) i ge)) zero4))))

@@ -3,7 +3,7 @@ use Rattle.std.specs.Prelude.{◌≡◌, ℕ, ◌+◌, ◌%◌, ◌<◌, ◌==�
 use Rattle.disk_model.specs.declared.change.Change.{Change}
 use Rattle.disk_model.specs.declared.change.NamedFile.{NamedFile}
 use Rattle.disk_model.specs.Files.{Follow, files_after}
-use Rattle.disk_model.specs.Spelling.{sized_body, gate_behind}
+use Rattle.disk_model.specs.Spelling.{sized_body, gate_after}
 
 -- these bytes stand on the disk from this place on
 abbrev pub Stands : List ℕ → ℕ → List ℕ → Type 0
@@ -18,21 +18,21 @@ abbrev pub start_of : Bool → ℕ
 start_of false = 64
 start_of true = 1048576
 
--- the place behind a half; each half has 1,048,512 bytes
+-- the place after a half; each half has 1,048,512 bytes
 abbrev pub end_of : Bool → ℕ
 end_of false = 1048576
 end_of true = 2097088
 
--- a record of these changes stands behind an open gate at this place, and the next gate lies before `last`
+-- a record of these changes stands after an open gate at this place, and the next gate lies before `last`
 pub record IsRecord (disk : List ℕ) (last gate : ℕ) (cs : List Change) : Type 0 where
   pub opened : slice_index disk gate ≡ 1
-  pub within : gate_behind gate cs < last
+  pub within : gate_after gate cs < last
   pub stands : Stands disk (gate + 1) (sized_body cs)
 
 -- records of these groups of changes stand one after the other, from this gate up to that one
 abbrev pub Records : List ℕ → ℕ → ℕ → List (List Change) → ℕ → Type 0
 Records disk last gate [] upto = upto ≡ gate
-Records disk last gate (cs ∷ css) upto = IsRecord disk last gate cs × Records disk last (gate_behind gate cs) css upto
+Records disk last gate (cs ∷ css) upto = IsRecord disk last gate cs × Records disk last (gate_after gate cs) css upto
 
 -- the changes of all groups, in order
 abbrev pub joined : List (List Change) → List Change

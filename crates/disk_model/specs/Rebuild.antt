@@ -5,7 +5,7 @@ use Rattle.disk_model.specs.declared.change.Change.{Change}
 use Rattle.disk_model.specs.declared.change.Change.TheVariants.{Create, Write}
 use Rattle.disk_model.specs.declared.change.NamedFile.{NamedFile}
 use Rattle.disk_model.specs.Files.{Follow, files_after}
-use Rattle.disk_model.specs.Spelling.{gate_behind}
+use Rattle.disk_model.specs.Spelling.{gate_after}
 use Rattle.disk_model.specs.Held.{start_of, end_of}
 
 -- writes of `size` bytes, the last shorter, of the file at this place from an offset on; the first argument is at least the length
@@ -33,4 +33,4 @@ pub record CanBeRebuilt (files : List NamedFile) : Type 0 where
   pub short : AllByRecursion (λ (f : NamedFile). length f.bytes ≤ 16384) files
   pub possible : Follow [] (rebuild files)
   pub makes : files_after [] (rebuild files) ≡ files
-  pub fits : (half : Bool) → gate_behind (start_of half) (rebuild files) < end_of half
+  pub fits : (half : Bool) → gate_after (start_of half) (rebuild files) < end_of half

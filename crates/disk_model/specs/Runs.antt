@@ -6,7 +6,7 @@ use Rattle.disk_model.specs.declared.change.NamedFile.{NamedFile}
 use Rattle.disk_model.specs.Files.{files_after}
 use Rattle.disk_model.specs.Held.{selected_half}
 use Rattle.disk_model.specs.declared.change.Piece.{Piece}
-use Rattle.disk_model.specs.Storage.{Drive, Storage, is_empty, is_quiet, cut, completed, failed}
+use Rattle.disk_model.specs.Storage.{Device, Storage, is_empty, is_quiet, cut, completed, failed}
 
 -- A run goes on by these: a change comes; a group is cut; the write that begins there is complete, or has failed.
 pub data Move : Type 0 where
@@ -15,19 +15,19 @@ pub data Move : Type 0 where
   Completes : (at : ℕ) → Move
   Fails : (at : ℕ) → Move
 
--- all changes so far, and the disk
+-- all changes so far, and the storage
 pub record Run : Type 0 where
   pub changes : List Change
   pub storage : Storage
 
--- a disk with nothing in flight and nothing failed
-abbrev pub quiet : List ℕ → Drive
+-- the device with this disk, nothing in flight and nothing failed
+abbrev pub quiet : List ℕ → Device
 quiet disk = record { disk = disk; in_flight = []; failed = [] }
 
 -- the storage of a run from this disk, whose first gate that is not open is there
-abbrev pub begun : List ℕ → ℕ → Storage
-begun disk gate = record {
-  drive = quiet disk;
+abbrev pub first_storage : List ℕ → ℕ → Storage
+first_storage disk gate = record {
+  device = quiet disk;
   stages = [];
   half = selected_half (slice_index disk 0);
   gate = gate;
@@ -39,7 +39,7 @@ begun disk gate = record {
 
 -- a run from this disk, before any change
 abbrev pub first_run : List ℕ → ℕ → Run
-first_run disk gate = record { changes = []; storage = begun disk gate }
+first_run disk gate = record { changes = []; storage = first_storage disk gate }
 
 -- the run after a move; the files are those that the run began with
 abbrev pub moved : List NamedFile → Run → Move → Run
@@ -49,24 +49,24 @@ moved files r (Completes at) = record r { storage = completed r.storage at }
 moved files r (Fails at) = record r { storage = failed r.storage at }
 
 -- the run after these moves, the first of them first
-abbrev pub ran : List NamedFile → Run → List Move → Run
-ran files r [] = r
-ran files r (m ∷ ms) = ran files (moved files r m) ms
+abbrev pub run_after : List NamedFile → Run → List Move → Run
+run_after files r [] = r
+run_after files r (m ∷ ms) = run_after files (moved files r m) ms
 
 -- the changes that come in these moves
-abbrev pub changes_of : List Move → List Change
-changes_of [] = []
-changes_of (Comes c ∷ ms) = c ∷ changes_of ms
-changes_of (Cuts ∷ ms) = changes_of ms
-changes_of (Completes at ∷ ms) = changes_of ms
-changes_of (Fails at ∷ ms) = changes_of ms
+abbrev pub changes_in_moves : List Move → List Change
+changes_in_moves [] = []
+changes_in_moves (Comes c ∷ ms) = c ∷ changes_in_moves ms
+changes_in_moves (Cuts ∷ ms) = changes_in_moves ms
+changes_in_moves (Completes at ∷ ms) = changes_in_moves ms
+changes_in_moves (Fails at ∷ ms) = changes_in_moves ms
 
--- How the disk of a run stands, whatever is on it. At most all changes are committed, and no stage is without a piece. With
--- nothing in flight and nothing failed no stage is left to be submitted; else there is a group on its way, with which more
+-- How the storage of a run stands, whatever its disk holds. At most all changes are committed, and no stage is without a piece.
+-- With nothing in flight and nothing failed no stage is left to be submitted; else there is a group on its way, with which more
 -- changes are committed, at most all.
 pub record IsOrderly (r : Run) : Type 0 where
   pub among : r.storage.committed ≤ length r.changes
   pub pieces : AllByRecursion (λ (stage : List Piece). is_empty stage ≡ false) r.storage.stages
-  pub none : is_quiet r.storage.drive ≡ true → r.storage.stages ≡ []
-  pub more : is_quiet r.storage.drive ≡ false → r.storage.committed < r.storage.next_committed
-  pub most : is_quiet r.storage.drive ≡ false → r.storage.next_committed ≤ length r.changes
+  pub none : is_quiet r.storage.device ≡ true → r.storage.stages ≡ []
+  pub more : is_quiet r.storage.device ≡ false → r.storage.committed < r.storage.next_committed
+  pub most : is_quiet r.storage.device ≡ false → r.storage.next_committed ≤ length r.changes

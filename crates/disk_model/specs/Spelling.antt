@@ -15,7 +15,7 @@ unfoldable pub body_of : List Change → List ℕ
 body_of [] = []
 body_of (c ∷ cs) = spelling c ++ body_of cs
 
--- what stands behind a record's gate: the length of the body, and the body
+-- what stands after a record's gate: the length of the body, and the body
 abbrev pub sized_body : List Change → List ℕ
 sized_body cs = to_le_bytes w32 (length (body_of cs)) ++ body_of cs
 
@@ -23,6 +23,6 @@ sized_body cs = to_le_bytes w32 (length (body_of cs)) ++ body_of cs
 abbrev pub record_of : List Change → List ℕ
 record_of cs = sized_body cs ++ 0 ∷ []
 
--- the place of the next gate, behind a record whose gate is here
-abbrev pub gate_behind : ℕ → List Change → ℕ
-gate_behind gate cs = gate + 5 + length (body_of cs)
+-- the place of the next gate, after a record whose gate is here
+abbrev pub gate_after : ℕ → List Change → ℕ
+gate_after gate cs = gate + 5 + length (body_of cs)

@@ -6,26 +6,26 @@ ghost use Rattle.disk_model.specs.declared.change.Piece.{Piece};
 ghost use Rattle.disk_model.specs.Files.{FilesHoldBytes, Follow, IsFormed, IsMade, MayCome, changed, files_after};
 ghost use Rattle.disk_model.specs.Held.{IsHeldTo, IsHeld, selected_half, start_of, end_of};
 ghost use Rattle.disk_model.specs.Rebuild.{CanBeRebuilt};
-ghost use Rattle.disk_model.specs.Storage.{Drive, Storage, completed, piece_at, sent, with_completion};
-ghost use Rattle.disk_model.specs.Runs.{Move, IsOrderly, changes_of, ran, first_run};
+ghost use Rattle.disk_model.specs.Storage.{Device, Storage, completed, piece_at, sent, with_completion};
+ghost use Rattle.disk_model.specs.Runs.{Move, IsOrderly, changes_in_moves, run_after, first_run};
 ghost use Rattle.disk_model.specs.Crash.{IsCrashOf};
 
 /// A law: any crash, at any moment of any run from a disk that holds files, with changes that are possible where they come,
-/// leaves a disk that holds the files after a front of the changes that came, with each committed change in it.
+/// leaves a disk that holds the files after a prefix of the changes that came, with each committed change in it.
 pub fn crashes()
     ensures { (disk : List ℕ) (gate : ℕ) (files : List NamedFile) → IsHeldTo disk gate files
-        → (moves : List Move) → Follow files (changes_of moves)
-        → (left : List ℕ) → IsCrashOf (ran files (first_run disk gate) moves).storage.drive left
-        → (k : ℕ) × ((ran files (first_run disk gate) moves).storage.committed ≤ k) × (k ≤ length (changes_of moves))
-        × IsHeld left (files_after files (take k (changes_of moves))) }
+        → (moves : List Move) → Follow files (changes_in_moves moves)
+        → (left : List ℕ) → IsCrashOf (run_after files (first_run disk gate) moves).storage.device left
+        → (k : ℕ) × ((run_after files (first_run disk gate) moves).storage.committed ≤ k) × (k ≤ length (changes_in_moves moves))
+        × IsHeld left (files_after files (take k (changes_in_moves moves))) }
 {}
 
-/// A law: each disk that a crash may leave in the middle of a move, behind its completion or while the pieces of a stage are
-/// submitted one by one, is one that a crash behind the move may leave.
+/// A law: each disk that a crash may leave in the middle of a move, after its completion or while the pieces of a stage are
+/// submitted one by one, is one that a crash after the move may leave.
 pub fn moves_leave_no_other_disks()
-    ensures completion { (st : Storage) (at : ℕ) (p : Piece) (left : List ℕ) → piece_at st.drive.in_flight at ≡ Some p
-        → IsCrashOf (with_completion st.drive at p) left → IsCrashOf (completed st at).drive left }
-    ensures submission { (v : Drive) (first others : List Piece) (left : List ℕ)
+    ensures completion { (st : Storage) (at : ℕ) (p : Piece) (left : List ℕ) → piece_at st.device.in_flight at ≡ Some p
+        → IsCrashOf (with_completion st.device at p) left → IsCrashOf (completed st at).device left }
+    ensures submission { (v : Device) (first others : List Piece) (left : List ℕ)
         → IsCrashOf (sent v first) left → IsCrashOf (sent v (first ++ others)) left }
 {}
 
@@ -33,7 +33,7 @@ pub fn moves_leave_no_other_disks()
 /// while a write is in flight or has failed a group is on its way, with which more are committed, at most all.
 pub fn runs_are_orderly()
     ensures { (disk : List ℕ) (gate : ℕ) (files : List NamedFile) (moves : List Move)
-        → IsOrderly (ran files (first_run disk gate) moves) }
+        → IsOrderly (run_after files (first_run disk gate) moves) }
 {}
 
 /// A law: a disk of zeros holds no files.
@@ -57,14 +57,14 @@ pub fn made_files_hold_bytes()
 {}
 
 /// A law: some changes and then others make what all of them make, and all are possible exactly where the first are, and the
-/// others behind them. So files that possible changes made are such files still after more possible changes.
+/// others after them. So files that possible changes made are such files still after more possible changes.
 pub fn changes_come_in_turn()
-    ensures files { (files : List NamedFile) (first behind : List Change)
-        → files_after files (first ++ behind) ≡ files_after (files_after files first) behind }
-    ensures possible { (files : List NamedFile) (first behind : List Change)
-        → Follow files (first ++ behind) ↔ (Follow files first × Follow (files_after files first) behind) }
-    ensures made { (files : List NamedFile) (behind : List Change) → IsMade files → Follow files behind
-        → IsMade (files_after files behind) }
+    ensures files { (files : List NamedFile) (first later : List Change)
+        → files_after files (first ++ later) ≡ files_after (files_after files first) later }
+    ensures possible { (files : List NamedFile) (first later : List Change)
+        → Follow files (first ++ later) ↔ (Follow files first × Follow (files_after files first) later) }
+    ensures made { (files : List NamedFile) (later : List Change) → IsMade files → Follow files later
+        → IsMade (files_after files later) }
 {}
 
 /// A law: possible changes made the files that a disk holds.

@@ -77,7 +77,7 @@ program_header_back offset s rest near load =
     ∙ ap (λ (n : ℕ). made offset s.vaddr (length s.bytes) n (as_read (flags_of s.rights))) (word_back s.memsz (omega (arith, load.below)))
     ∙ ap (λ (n : ℕ). made offset s.vaddr (length s.bytes) s.memsz n) (word_back (flags_of s.rights) (flags_small s.rights))
 
--- the program headers of segments behind bytes that end here
+-- the program headers of segments after bytes that end here
 abbrev pub headers_for : ℕ → List Segment → List ProgramHeader
 headers_for end [] = []
 headers_for end (s ∷ ss) = program_header_for (offset_after end s) s ∷ headers_for (end_after end s) ss

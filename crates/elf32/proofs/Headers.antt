@@ -1,4 +1,4 @@
--- Program headers, one behind the other.
+-- Program headers, one after the other.
 use Rattle.std.proofs.Common.{◌≡◌, ℕ, zero, suc, ◌+◌, ◌*◌, ◌<◌, List, [], ◌∷◌, ◌++◌, length, take, drop, set, refl, ap, sym, ◌∙◌, arith}
 use Rattle.std.proofs.lemmas.List.{drop-drop, take_more_set}
 use Rattle.elf32.specs.declared.header.ProgramHeader.{ProgramHeader}
@@ -18,7 +18,7 @@ pub headers_in-more : (k : ℕ) (bytes : List ℕ) (headers : List ProgramHeader
 headers_in-more k bytes headers h small so_far is =
     let one : suc k ≡ k + 1 = omega arith in
     take_more_set headers k h small
-    ∙ ap (λ (front : List ProgramHeader). front ++ h ∷ []) so_far
+    ∙ ap (λ (prefix : List ProgramHeader). prefix ++ h ∷ []) so_far
     ∙ ap (λ (x : ProgramHeader). headers_in k bytes ++ x ∷ []) is
     ∙ headers_in-suc k bytes
     ∙ ap (λ (n : ℕ). headers_in n bytes) one

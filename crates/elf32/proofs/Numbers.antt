@@ -4,7 +4,7 @@ use Rattle.std.proofs.lemmas.List.{get_or-drop}
 use Rattle.byteorder.specs.Endian.{little_from}
 use Rattle.elf32.specs.Fields.{number_at}
 
--- the number behind the bytes before a place
+-- the number after the bytes before a place
 pub little_from-drop : (n i at : ℕ) (bytes : List ℕ) → little_from i n (drop at bytes) ≡ number_at bytes (at + i) n
 little_from-drop zero i at bytes = refl
 little_from-drop (suc n) i at bytes =

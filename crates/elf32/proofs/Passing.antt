@@ -19,7 +19,7 @@ none_at p [] k d e small = absurd (omega arith)
 none_at p (x ∷ xs) zero d e small = (or_parts (p x) (list_any p xs) e).0
 none_at p (x ∷ xs) (suc k) d e small = none_at p xs k d (or_parts (p x) (list_any p xs) e).1 (omega arith)
 
--- the first check passes, and so do those behind it
+-- the first check passes, and so do those after it
 pub peel : (b : Bool) (w : ElfFault) (rest : List Check) → first_of ((b ⇒ w) ∷ rest) ≡ None → (b ≡ false) × (first_of rest ≡ None)
 peel true w rest e = absurd cc
 peel false w rest e = (refl, e)
@@ -37,7 +37,7 @@ pub first_of-some : (xs ys : List Check) (w : ElfFault) → first_of xs ≡ Some
 first_of-some [] ys w e = absurd cc
 first_of-some (x ∷ xs) ys w e = some_step x.fails (Some x.fault) (first_of xs) (first_of (xs ++ ys)) w (first_of-some xs ys w) e
 
--- behind checks that pass it is that of the others
+-- after checks that pass it is that of the others
 pub first_of-none : (xs ys : List Check) → first_of xs ≡ None → first_of (xs ++ ys) ≡ first_of ys
 first_of-none [] ys e = refl
 first_of-none (x ∷ xs) ys e = none_step x.fails x.fault (first_of xs) (first_of (xs ++ ys)) (first_of ys) (first_of-none xs ys) e

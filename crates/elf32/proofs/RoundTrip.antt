@@ -19,9 +19,9 @@ use Rattle.elf32.proofs.FieldsBack.{header_for, file_header_back, headers_for, t
 use Rattle.elf32.proofs.SegmentsBack.{segments_back}
 use Rattle.elf32.proofs.ChecksPass.{segments_pass, sizes_pass, ends_pass, range_passes, overlap_passes, entry_passes}
 
--- the bytes behind the headers
-abbrev behind : Program → List ℕ
-behind p = replicate (4096 - length (headers_of p)) 0 ++ contents_after 4096 p.segments
+-- the bytes after the headers
+abbrev after : Program → List ℕ
+after p = replicate (4096 - length (headers_of p)) 0 ++ contents_after 4096 p.segments
 
 loadables : (p : Program) → IsProfile p → AllByRecursion IsLoadable p.segments
 loadables p profile = recursion_from_All IsLoadable p.segments profile.loadable
@@ -39,24 +39,24 @@ entry_small p profile = let found = profile.in_code in code_small p.entry p.segm
 header_back : (p : Program) → IsProfile p → file_header (file_of p) ≡ header_for p.entry (length p.segments)
 unfolding file_of
 header_back p profile =
-    ap file_header (append_assoc (file_header_of p.entry (length p.segments)) (table_after 4096 p.segments) (behind p))
-    ∙ file_header_back p.entry (length p.segments) (table_after 4096 p.segments ++ behind p) (entry_small p profile) (omega (arith, profile.few))
+    ap file_header (append_assoc (file_header_of p.entry (length p.segments)) (table_after 4096 p.segments) (after p))
+    ∙ file_header_back p.entry (length p.segments) (table_after 4096 p.segments ++ after p) (entry_small p profile) (omega (arith, profile.few))
 
 headers_back : (p : Program) → IsProfile p → program_headers (file_of p) ≡ headers_for 4096 p.segments
 unfolding program_headers file_of file_header_of
 headers_back p profile =
-    ap (λ (h : FileHeader). headers_in h.e_phnum (table_after 4096 p.segments ++ behind p)) (header_back p profile)
-    ∙ table_back 4096 p.segments (behind p) (near p profile) (loadables p profile)
+    ap (λ (h : FileHeader). headers_in h.e_phnum (table_after 4096 p.segments ++ after p)) (header_back p profile)
+    ∙ table_back 4096 p.segments (after p) (near p profile) (loadables p profile)
 
-front_size : (p : Program) → IsProfile p → length (headers_of p ++ replicate (4096 - length (headers_of p)) 0) ≡ 4096
-front_size p profile = omega (arith, length-headers p, profile.few, length-append (headers_of p) (replicate (4096 - length (headers_of p)) (zero)), length-replicate (4096 - length (headers_of p)) (zero))
+prefix_size : (p : Program) → IsProfile p → length (headers_of p ++ replicate (4096 - length (headers_of p)) 0) ≡ 4096
+prefix_size p profile = omega (arith, length-headers p, profile.few, length-append (headers_of p) (replicate (4096 - length (headers_of p)) (zero)), length-replicate (4096 - length (headers_of p)) (zero))
 
 in_parts : (p : Program) → file_of p ≡ (headers_of p ++ replicate (4096 - length (headers_of p)) 0) ++ contents_after 4096 p.segments
 unfolding file_of
 in_parts p = sym (append_assoc (headers_of p) (replicate (4096 - length (headers_of p)) 0) (contents_after 4096 p.segments))
 
 size_of : (p : Program) → IsProfile p → length (file_of p) ≡ 4096 + length (contents_after 4096 p.segments)
-size_of p profile = ap length (in_parts p) ∙ length-append (headers_of p ++ replicate (4096 - length (headers_of p)) 0) (contents_after 4096 p.segments) ∙ ap (λ (n : ℕ). n + length (contents_after 4096 p.segments)) (front_size p profile)
+size_of p profile = ap length (in_parts p) ∙ length-append (headers_of p ++ replicate (4096 - length (headers_of p)) 0) (contents_after 4096 p.segments) ∙ ap (λ (n : ℕ). n + length (contents_after 4096 p.segments)) (prefix_size p profile)
 
 same_program : (p : Program) → IsProfile p → program_in (file_of p) ≡ p
 unfolding program_in
@@ -65,7 +65,7 @@ same_program p profile =
     ∙ ap (λ (ss : List Segment). record { entry = p.entry; segments = ss })
     (ap (map (segment_in (file_of p))) (headers_back p profile)
     ∙ ap (λ (bytes : List ℕ). map (segment_in bytes) (headers_for 4096 p.segments)) (in_parts p)
-    ∙ segments_back (headers_of p ++ replicate (4096 - length (headers_of p)) 0) 4096 p.segments (front_size p profile))
+    ∙ segments_back (headers_of p ++ replicate (4096 - length (headers_of p)) 0) 4096 p.segments (prefix_size p profile))
 
 magic_passes : (p : Program) → lacks_magic (file_of p) ≡ false
 unfolding lacks_magic file_of file_header_of

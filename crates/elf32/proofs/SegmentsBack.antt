@@ -38,12 +38,12 @@ segment_back file offset s rest at =
     ap (λ (r : Rights). segment_of s.vaddr s.memsz r (take (length s.bytes) (drop offset file))) (flags_back s.rights.read s.rights.write s.rights.execute)
     ∙ ap (λ (bytes : List ℕ). segment_of s.vaddr s.memsz s.rights bytes) (ap (take (length s.bytes)) at ∙ take_at s.bytes rest (length s.bytes) refl)
 
-pub segments_back : (front : List ℕ) (end : ℕ) (ss : List Segment) → length front ≡ end → map (segment_in (front ++ contents_after end ss)) (headers_for end ss) ≡ ss
-segments_back front end [] at = refl
-segments_back front end (s ∷ ss) at =
-    ap (λ (first : Segment). first ∷ map (segment_in file) (headers_for (end_after end s) ss)) (segment_back file (offset_after end s) s rest behind)
+pub segments_back : (prefix : List ℕ) (end : ℕ) (ss : List Segment) → length prefix ≡ end → map (segment_in (prefix ++ contents_after end ss)) (headers_for end ss) ≡ ss
+segments_back prefix end [] at = refl
+segments_back prefix end (s ∷ ss) at =
+    ap (λ (first : Segment). first ∷ map (segment_in file) (headers_for (end_after end s) ss)) (segment_back file (offset_after end s) s rest after)
     ∙ ap (λ (others : List Segment). s ∷ others)
-    (ap (λ (bytes : List ℕ). map (segment_in bytes) (headers_for (end_after end s) ss)) again ∙ segments_back ((front ++ zeros) ++ s.bytes) (end_after end s) ss ends)
+    (ap (λ (bytes : List ℕ). map (segment_in bytes) (headers_for (end_after end s) ss)) again ∙ segments_back ((prefix ++ zeros) ++ s.bytes) (end_after end s) ss ends)
   where
     zeros : List ℕ
     zeros = replicate (offset_after end s - end) 0
@@ -52,19 +52,19 @@ segments_back front end (s ∷ ss) at =
     rest = contents_after (end_after end s) ss
 
     file : List ℕ
-    file = front ++ (zeros ++ (s.bytes ++ rest))
+    file = prefix ++ (zeros ++ (s.bytes ++ rest))
 
-    begins : length (front ++ zeros) ≡ offset_after end s
-    begins = omega (arith, at, offset_above end s, length-append front zeros, length-replicate (offset_after end s - end) (zero))
+    begins : length (prefix ++ zeros) ≡ offset_after end s
+    begins = omega (arith, at, offset_above end s, length-append prefix zeros, length-replicate (offset_after end s - end) (zero))
 
-    ends : length ((front ++ zeros) ++ s.bytes) ≡ end_after end s
-    ends = omega (arith, begins, length-append (front ++ zeros) s.bytes)
+    ends : length ((prefix ++ zeros) ++ s.bytes) ≡ end_after end s
+    ends = omega (arith, begins, length-append (prefix ++ zeros) s.bytes)
 
-    parted : file ≡ (front ++ zeros) ++ (s.bytes ++ rest)
-    parted = sym (append_assoc front zeros (s.bytes ++ rest))
+    parted : file ≡ (prefix ++ zeros) ++ (s.bytes ++ rest)
+    parted = sym (append_assoc prefix zeros (s.bytes ++ rest))
 
-    again : file ≡ ((front ++ zeros) ++ s.bytes) ++ rest
-    again = parted ∙ sym (append_assoc (front ++ zeros) s.bytes rest)
+    again : file ≡ ((prefix ++ zeros) ++ s.bytes) ++ rest
+    again = parted ∙ sym (append_assoc (prefix ++ zeros) s.bytes rest)
 
-    behind : drop (offset_after end s) file ≡ s.bytes ++ rest
-    behind = ap (drop (offset_after end s)) parted ∙ drop_at (front ++ zeros) (s.bytes ++ rest) (offset_after end s) begins
+    after : drop (offset_after end s) file ≡ s.bytes ++ rest
+    after = ap (drop (offset_after end s)) parted ∙ drop_at (prefix ++ zeros) (s.bytes ++ rest) (offset_after end s) begins

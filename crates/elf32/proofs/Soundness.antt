@@ -21,17 +21,17 @@ use Rattle.elf32.proofs.Profile.{BeginsAbove, begins_above}
 
 -- ---- the checks' order
 
-front_none : (xs ys : List Check) → first_of (xs ++ ys) ≡ None → first_of xs ≡ None
-front_none [] ys e = refl
-front_none (x ∷ xs) ys e = none_step x.fails x.fault (first_of (xs ++ ys)) (first_of xs) None (front_none xs ys) e
+prefix_none : (xs ys : List Check) → first_of (xs ++ ys) ≡ None → first_of xs ≡ None
+prefix_none [] ys e = refl
+prefix_none (x ∷ xs) ys e = none_step x.fails x.fault (first_of (xs ++ ys)) (first_of xs) None (prefix_none xs ys) e
 
 -- ---- identification
 
 decides_start : (file start : List ℕ) → Decides (starts_with nat_eq file start) (file ≡ start ++ drop (length start) file)
 decides_start file start = let is = starts_is Decides-eqb file start (starts_with nat_eq file start) refl in (is.0, is.1 (drop (length start) file))
 
-identification_front : (rest : List ℕ) → take 16 (identification ++ rest) ≡ identification
-identification_front rest = refl
+identification_prefix : (rest : List ℕ) → take 16 (identification ++ rest) ≡ identification
+identification_prefix rest = refl
 
 identified : (file : List ℕ) → lacks_magic file ≡ false → lacks_ident file ≡ false → take 16 file ≡ identification
 unfolding lacks_magic lacks_ident
@@ -39,7 +39,7 @@ identified file magic ident =
     let first = (decides_start file (0x7F ∷ 0x45 ∷ 0x4C ∷ 0x46 ∷ [])).0 (not-false _ magic) in
     let second = (decides_start (drop 4 file) (1 ∷ 1 ∷ 1 ∷ 0 ∷ 0 ∷ 0 ∷ 0 ∷ 0 ∷ 0 ∷ 0 ∷ 0 ∷ 0 ∷ [])).0 (not-false _ ident) in
     let all : file ≡ identification ++ drop 12 (drop 4 file) = first ∙ ap (λ (xs : List ℕ). (0x7F ∷ 0x45 ∷ 0x4C ∷ 0x46 ∷ []) ++ xs) second in
-    ap (take 16) all ∙ identification_front (drop 12 (drop 4 file))
+    ap (take 16) all ∙ identification_prefix (drop 12 (drop 4 file))
 
 begins : (file : List ℕ) → take 16 file ≡ identification → file ≡ identification ++ drop 16 file
 begins file id = sym (take-append-drop 16 file) ∙ ap (λ (xs : List ℕ). xs ++ drop 16 file) id
@@ -271,9 +271,9 @@ unfolding first_fault is_short has_short_table
 sound file e =
     let h = file_header file in
     let later = segment_checks (length file) h.e_entry (program_headers file) in
-    let front = front_none (header_checks file) later e in
-    let rest = headers_sound (length file) h.e_entry (program_headers file) (sym (first_of-none (header_checks file) later front) ∙ e) in
-    let c = six_pass (is_short file) (lacks_magic file) (lacks_ident file) (has_bad_kind h) (has_bad_layout h) (has_short_table file) Short BadMagic BadIdent BadKind BadHeader ShortTable front in
+    let prefix = prefix_none (header_checks file) later e in
+    let rest = headers_sound (length file) h.e_entry (program_headers file) (sym (first_of-none (header_checks file) later prefix) ∙ e) in
+    let c = six_pass (is_short file) (lacks_magic file) (lacks_ident file) (has_bad_kind h) (has_bad_layout h) (has_short_table file) Short BadMagic BadIdent BadKind BadHeader ShortTable prefix in
     record {
       whole_header = ltb-false (length file) 52 c.0;
       identified = identified file c.1 c.2;
@@ -291,7 +291,7 @@ unfolding first_fault is_short has_short_table
 faultless file s =
     let h = file_header file in
     let later = segment_checks (length file) h.e_entry (program_headers file) in
-    let front = none_of_six (is_short file) (lacks_magic file) (lacks_ident file) (has_bad_kind h) (has_bad_layout h) (has_short_table file) Short BadMagic BadIdent BadKind BadHeader ShortTable (
+    let prefix = none_of_six (is_short file) (lacks_magic file) (lacks_ident file) (has_bad_kind h) (has_bad_layout h) (has_short_table file) Short BadMagic BadIdent BadKind BadHeader ShortTable (
       le-ltb (length file) 52 s.whole_header,
       has_magic file s.identified,
       has_ident file s.identified,
@@ -300,7 +300,7 @@ faultless file s =
       le-ltb (length file) (52 + 32 * h.e_phnum) s.whole_table,
     ) in
     let rest : AreSound (length file) h.e_entry (program_headers file) = record { segments = s.segments; small = s.small; pages = s.apart; aligned = s.aligned; in_code = s.in_code } in
-    first_of-none (header_checks file) later front ∙ headers_pass (length file) h.e_entry (program_headers file) rest
+    first_of-none (header_checks file) later prefix ∙ headers_pass (length file) h.e_entry (program_headers file) rest
 
 pub sound_files : SoundFiles
 sound_files file = (sound file, faultless file)

@@ -25,7 +25,7 @@ near_after end (s ∷ ss) load few =
 pub near : (p : Program) → IsProfile p → AreNear 4096 p.segments
 near p profile = near_after 4096 p.segments (recursion_from_All IsLoadable p.segments profile.loadable) (omega (arith, profile.small))
 
--- a segment's bytes do not begin before those behind which they stand end
+-- a segment's bytes do not begin before the end of those that come before them
 pub offset_above : (end : ℕ) (s : Segment) → end ≤ offset_after end s
 unfolding offset_after
 offset_above end s = omega arith
@@ -74,12 +74,12 @@ first_and_rest (x ∷ ss) s some is =
     let less : suc (length ss) - 1 ≡ length ss = omega arith in
     ap (λ (y : Segment). y ∷ take (suc (length ss) - 1) ss) is ∙ ap (λ (rest : List Segment). x ∷ rest) (take_all (suc (length ss) - 1) ss (omega arith))
 
--- the parts, one behind the other
-pub written : (p : Program) (segments : List Segment) (entry count size end : ℕ) (none header table front whole : List ℕ) → IsProfile p → segments ≡ p.segments → entry ≡ p.entry → count ≡ length segments
-    → none ≡ [] → header ≡ none ++ file_header_of entry count → table ≡ header ++ table_after 4096 segments → size ≡ length table → front ≡ take 4096 table ++ replicate (4096 - size) 0 → end ≡ 4096
-    → whole ≡ front ++ contents_after end segments → whole ≡ file_of p
+-- the parts, one after the other
+pub written : (p : Program) (segments : List Segment) (entry count size end : ℕ) (none header table prefix whole : List ℕ) → IsProfile p → segments ≡ p.segments → entry ≡ p.entry → count ≡ length segments
+    → none ≡ [] → header ≡ none ++ file_header_of entry count → table ≡ header ++ table_after 4096 segments → size ≡ length table → prefix ≡ take 4096 table ++ replicate (4096 - size) 0 → end ≡ 4096
+    → whole ≡ prefix ++ contents_after end segments → whole ≡ file_of p
 unfolding file_of
-written p segments entry count size end none header table front whole profile segments-are entry-is count-is none-is header-is table-is size-is front-is end-is whole-is =
+written p segments entry count size end none header table prefix whole profile segments-are entry-is count-is none-is header-is table-is size-is prefix-is end-is whole-is =
     whole-is ∙ ap (λ (bytes : List ℕ). bytes ++ contents_after end segments) padded
     ∙ append_assoc (headers_of p) zeros (contents_after end segments)
     ∙ ap (λ (n : ℕ). headers_of p ++ (zeros ++ contents_after n segments)) end-is
@@ -101,9 +101,9 @@ written p segments entry count size end none header table front whole profile se
         table-is ∙ ap (λ (bytes : List ℕ). bytes ++ table_after 4096 segments) headed
         ∙ ap (λ (ss : List Segment). file_header_of p.entry (length p.segments) ++ table_after 4096 ss) segments-are
 
-    padded : front ≡ headers_of p ++ zeros
+    padded : prefix ≡ headers_of p ++ zeros
     padded =
-        front-is ∙ ap (λ (bytes : List ℕ). take 4096 bytes ++ replicate (4096 - size) 0) headers
+        prefix-is ∙ ap (λ (bytes : List ℕ). take 4096 bytes ++ replicate (4096 - size) 0) headers
         ∙ ap (λ (n : ℕ). take 4096 (headers_of p) ++ replicate (4096 - n) 0) (size-is ∙ ap length headers)
         ∙ ap (λ (bytes : List ℕ). bytes ++ zeros) (take_all 4096 (headers_of p) (omega (arith, length-headers p, profile.few)))
 

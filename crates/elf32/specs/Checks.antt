@@ -15,7 +15,7 @@ is_short file = nat_lt (length file) 52
 unfoldable pub lacks_magic : List ℕ → Bool
 lacks_magic file = not (starts_with nat_eq file (0x7F ∷ 0x45 ∷ 0x4C ∷ 0x46 ∷ []))
 
--- 3: the next three are not 1 (32 bits, little-endian, this version), or the nine behind them are not 0
+-- 3: the next three are not 1 (32 bits, little-endian, this version), or the nine after them are not 0
 unfoldable pub lacks_ident : List ℕ → Bool
 lacks_ident file = not (starts_with nat_eq (drop 4 file) (1 ∷ 1 ∷ 1 ∷ 0 ∷ 0 ∷ 0 ∷ 0 ∷ 0 ∷ 0 ∷ 0 ∷ 0 ∷ 0 ∷ []))
 

@@ -16,7 +16,7 @@ half_at bytes at = number_at bytes at 2
 unfoldable pub word_at : List ℕ → ℕ → ℕ
 word_at bytes at = number_at bytes at 4
 
--- The file header: behind 16 bytes of identification two halves, five words and six halves, 52 bytes in all.
+-- The file header: after 16 bytes of identification two halves, five words and six halves, 52 bytes in all.
 unfoldable pub file_header : List ℕ → FileHeader
 file_header file = record {
   e_type = half_at file 16;
@@ -47,11 +47,11 @@ program_header bytes = record {
   p_align = word_at bytes 28;
 }
 
--- so many program headers, one behind the other
+-- so many program headers, one after the other
 abbrev pub headers_in : ℕ → List ℕ → List ProgramHeader
 headers_in zero bytes = []
 headers_in (suc n) bytes = program_header bytes ∷ headers_in n (drop 32 bytes)
 
--- the program headers of a file, as many as its header says, behind the file header
+-- the program headers of a file, as many as its header says, after the file header
 unfoldable pub program_headers : List ℕ → List ProgramHeader
 program_headers file = headers_in (file_header file).e_phnum (drop 52 file)

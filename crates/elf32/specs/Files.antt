@@ -32,25 +32,25 @@ flags_of r = (if r.read then 4 else 0) + (if r.write then 2 else 0) + (if r.exec
 unfoldable pub program_header_of : ℕ → Segment → List ℕ
 program_header_of offset s = bytes_of_words (1 ∷ offset ∷ s.vaddr ∷ s.vaddr ∷ length s.bytes ∷ s.memsz ∷ flags_of s.rights ∷ 4096 ∷ [])
 
--- a segment's offset behind bytes that end here: the least multiple of 4096 that is not below, and the address modulo 4096
+-- a segment's offset after bytes that end here: the least multiple of 4096 that is not below, and the address modulo 4096
 unfoldable pub offset_after : ℕ → Segment → ℕ
 offset_after end s = (end + 4095) / 4096 * 4096 + s.vaddr % 4096
 
--- where the bytes of a segment end, behind bytes that end here
+-- where the bytes of a segment end, after bytes that end here
 abbrev pub end_after : ℕ → Segment → ℕ
 end_after end s = offset_after end s + length s.bytes
 
--- the program headers of segments behind bytes that end here
+-- the program headers of segments after bytes that end here
 abbrev pub table_after : ℕ → List Segment → List ℕ
 table_after end [] = []
 table_after end (s ∷ ss) = program_header_of (offset_after end s) s ++ table_after (end_after end s) ss
 
--- the bytes of segments behind bytes that end here, each behind zeros up to its offset
+-- the bytes of segments after bytes that end here, each after zeros up to its offset
 abbrev pub contents_after : ℕ → List Segment → List ℕ
 contents_after end [] = []
 contents_after end (s ∷ ss) = replicate (offset_after end s - end) 0 ++ (s.bytes ++ contents_after (end_after end s) ss)
 
--- the bytes of segments behind bytes that end here lie within a mebibyte
+-- the bytes of segments after bytes that end here lie within a mebibyte
 abbrev pub AreNear : ℕ → List Segment → Type 0
 AreNear end [] = end < 2 ^ 20
 AreNear end (s ∷ ss) = (end < 2 ^ 20) × (end_after end s < 2 ^ 20) × AreNear (end_after end s) ss

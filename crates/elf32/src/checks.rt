@@ -139,7 +139,7 @@ fn any_past_end(end: usize, headers: &[ProgramHeader]) -> bool
     headers.iter().any(|h| is_past_end(end, h))
 }
 
-/// The address behind its last byte.
+/// The address after its last byte.
 fn end_of(h: &ProgramHeader) -> u64
     ensures value { result ≡ h.now.p_vaddr + h.now.p_memsz }
     ensures fits { result < 2 ^ 33 }

@@ -10,7 +10,7 @@ use byteorder::{ByteOrder, LittleEndian};
 /// The first four bytes of a file, `EI_MAG0` to `EI_MAG3`: 7F and the letters ELF (gABI, chapter 4, "ELF Identification").
 pub const MAGIC: [u8; 4] = [0x7f, 0x45, 0x4c, 0x46];
 
-/// The twelve bytes behind them (gABI, chapter 4, "ELF Identification"): 32 bits (`ELFCLASS32`, 1), little-endian
+/// The twelve bytes after them (gABI, chapter 4, "ELF Identification"): 32 bits (`ELFCLASS32`, 1), little-endian
 /// (`ELFDATA2LSB`, 1), version 1 (`EV_CURRENT`), no extensions of an operating system (`ELFOSABI_NONE`, 0, version 0),
 /// and seven zeros.
 pub const IDENT: [u8; 12] = [1, 1, 1, 0, 0, 0, 0, 0, 0, 0, 0, 0];
@@ -48,7 +48,7 @@ pub const PF_W: u32 = 2;
 /// The bit in `p_flags` of a segment that may be read (gABI, chapter 5, "Segment Permissions").
 pub const PF_R: u32 = 4;
 
-/// The fields of a file header behind its identification (`Elf32_Ehdr`; gABI, chapter 4, "ELF Header"). What the bits of
+/// The fields of a file header after its identification (`Elf32_Ehdr`; gABI, chapter 4, "ELF Header"). What the bits of
 /// `e_flags` say for RISC-V stands in the psABI ("ELF Object Files", "File Header"): 0 is for no compressed instructions,
 /// and floating-point numbers passed in integer registers.
 #[derive(Clone, Copy, Debug)]

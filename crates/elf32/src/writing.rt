@@ -55,7 +55,7 @@ fn flags_of(rights: Rights) -> u32
     read + write + execute
 }
 
-/// Where a segment's bytes begin, behind bytes that end here.
+/// Where a segment's bytes begin, after bytes that end here.
 #[tactic(auto, unfolding(crate::specs::Files::offset_after))]
 fn offset_after(end: u32, segment: &Segment) -> u32
     requires { end < 2 ^ 20 }
@@ -88,7 +88,7 @@ fn put_program_header(file: &mut Vec<u8>, offset: u32, segment: &Segment) -> Res
     )
 }
 
-/// Writes the program headers of segments at the end, whose bytes lie behind bytes that end here.
+/// Writes the program headers of segments at the end, whose bytes lie after bytes that end here.
 fn put_table(file: &mut Vec<u8>, end: u32, segments: &[Segment]) -> Result<(), AllocError>
     requires { AreNear end segments.now }
     ensures { OnOk result (file.new.items ≡ file.old.items ++ table_after end segments.now) }
@@ -103,7 +103,7 @@ fn put_table(file: &mut Vec<u8>, end: u32, segments: &[Segment]) -> Result<(), A
     }
 }
 
-/// Writes the bytes of segments at the end, each behind zeros up to its offset.
+/// Writes the bytes of segments at the end, each after zeros up to its offset.
 fn put_contents(file: &mut Vec<u8>, segments: &[Segment]) -> Result<(), AllocError>
     requires { AreNear (vec_len file.old) segments.now }
     ensures { OnOk result (file.new.items ≡ file.old.items ++ contents_after (vec_len file.old) segments.now) }

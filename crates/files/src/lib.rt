@@ -38,7 +38,7 @@ fn patch(file: &mut Bytes, offset: usize, bytes: &[u8]) -> Result<(), AllocError
     ensures inside { offset + length bytes.now ≤ length file.old → IsOk result }
 {
     let len = file.as_slice().len();
-    let end = offset.checked_add(bytes.len()).ok_or(AllocError)?;
+    let end = offset.saturating_add(bytes.len());
     file.extend_zeros(end.saturating_sub(len))?;
     file.overwrite(offset, bytes);
     Ok(())
@@ -114,7 +114,7 @@ impl FileTable {
         Some(part_of(file.bytes.as_slice(), offset, n))
     }
 
-    /// A new and empty file of this name, behind the others. Where memory runs out nothing has changed.
+    /// A new and empty file of this name, after the others. Where memory runs out nothing has changed.
     pub fn create(&mut self, name: Bytes) -> Result<(), AllocError>
         ensures ok { OnOk result (self.new ≡ changed self.old (Create name)) }
         ensures err { OnErr result (self.new ≡ self.old) }
@@ -233,10 +233,11 @@ mod tests {
         assert_eq!(rt; files.length(1), 0);
         files.create(Bytes::empty(alloc))?;
         assert_eq!(rt; files.count(), 3);
+        assert_eq!(rt; files.try_clone()?.count(), 3);
         Ok(())
     }
 
-    // A write in the middle, one over the end, one behind a gap, and empty ones inside and behind the end.
+    // A write in the middle, one over the end, one after a gap, and empty ones inside and past the end.
     #[test]
     fn writes_keep_the_bytes_around_them(rt: HostRuntime) -> Result<(), Fail> {
         let mut files = FileTable::new(rt.alloc());

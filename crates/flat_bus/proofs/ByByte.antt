@@ -60,7 +60,7 @@ range-none right bytes at zero r h k = refl
 range-none right bytes at (suc n) r h k =
     rw (get-here bytes at (omega arith) (omega arith), r) (range-none right bytes (at + 1) n r (omega arith) k)
 
--- behind it the first byte is not there
+-- past its end the first byte is not there
 range-past : (right : Rights → Bool) (bytes : List ℕ) (at n : ℕ) → length bytes ≤ at → range_fault right (memory_of_bytes bytes) at (suc n) ≡ Some Unmapped
 range-past right bytes at n h = rw (get-past bytes at h) refl
 
@@ -84,7 +84,7 @@ room at width.Byte e h = omega arith
 room at width.Half e h = let f : at % 2 ≡ 0 = grind (arith, nat_tests) in omega arith
 room at width.Word e h = let f : at % 4 ≡ 0 = grind (arith, nat_tests) in omega arith
 
--- so an aligned access is refused exactly where it begins behind the list
+-- so an aligned access is refused exactly where it begins past the end of the list
 pub fault-here : (right : Rights → Bool) (bytes : List ℕ) (at : ℕ) (width : Width) → right (record { read = true; write = true; execute = true }) ≡ true → length bytes ≡ 64 → at < 64 → (at % size width == 0) ≡ true → access_fault right (memory_of_bytes bytes) at width ≡ None
 fault-here right bytes at width r len h e = let fits : at + size width ≤ 64 = room at width e h in rw e (range-none right bytes at (size width) r (omega arith) (omega arith))
 

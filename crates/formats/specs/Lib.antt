@@ -4,3 +4,4 @@ pub mod Meaning
 pub mod Table
 pub mod Text
 pub mod Operands
+pub mod Faults

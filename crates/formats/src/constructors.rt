@@ -1,5 +1,6 @@
 //! Instructions from numbers that may not fit their fields.
-ghost use Rattle.std.specs.Prelude.{OkIff, unsigned_abs};
+ghost use Rattle.std.specs.Prelude.{◌≡◌, OkIff, unsigned_abs};
+ghost use Rattle.formats.specs.Faults.{number_of};
 ghost use Rattle.formats.specs.Fields.{IsImmediate, IsBranchOffset, IsJumpOffset, IsUpper, IsShiftAmount};
 
 use crate::fields::{BranchOffset, Immediate, JumpOffset, Reg, ShiftAmount, Upper};
@@ -12,6 +13,15 @@ pub enum FieldFault {
     /// The field cannot hold the number: it is too small or too large, or it is an offset and odd.
     #[error("the number does not fit its field")]
     Range = 1,
+}
+
+impl FieldFault {
+    /// Its number, 1.
+    pub fn number(self) -> u8
+        ensures { result ≡ number_of self }
+    {
+        self as u8
+    }
 }
 
 /// The kinds with an immediate, from a number that may not fit: `FieldFault::Range` where it does not. An offset is in

@@ -1,4 +1,4 @@
 -- The lemmas.
 pub mod Parts
 pub mod Formed
-pub mod Begun
+pub mod Planning

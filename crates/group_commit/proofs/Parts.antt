@@ -1,10 +1,11 @@
 -- Bytes in pieces, piece by piece.
-use Rattle.std.proofs.Common.{◌≡◌, ℕ, zero, suc, ◌+◌, ◌<◌, ◌≤◌, min, Bool, true, false, List, [], ◌∷◌, ◌++◌, length, take, drop, refl, sym, ap, ◌∙◌, append_assoc, arith, inl, inr}
-use Rattle.std.specs.Prelude.{◌==◌, ◌||◌, ◌&&◌, nat_le}
-use Rattle.std.proofs.lemmas.Bool.{cases_lt, false≢true, le-leb}
-use Rattle.std.proofs.lemmas.List.{take_all, drop_all, length-drop, length-take}
+use Rattle.std.proofs.Common.{◌≡◌, ℕ, zero, suc, ◌+◌, ◌<◌, ◌≤◌, min, Bool, true, List, [], ◌∷◌, ◌++◌, length, take, drop, refl, sym, ap, ◌∙◌, append_assoc, arith}
+use Rattle.std.specs.Prelude.{◌||◌, ◌&&◌, nat_le}
+use Rattle.std.proofs.lemmas.Bool.{le-leb}
+use Rattle.std.proofs.lemmas.List.{length-drop, length-take}
 use Rattle.disk_model.specs.declared.change.Piece.{Piece}
 use Rattle.disk_model.specs.Storage.{pieces, pieces_from}
+use Rattle.disk_model.proofs.Lists.{least_of}
 use Rattle.simdisk.specs.Room.{is_apart, AreSpaced}
 
 abbrev pub part : ℕ → List ℕ → Piece
@@ -30,12 +31,6 @@ first_piece size at (x ∷ rest) some one =
     ∙ ap (λ (l : List Piece). part at (take size (x ∷ rest)) ∷ l)
     (enough (length rest) (length (drop size (x ∷ rest))) size (at + size) (drop size (x ∷ rest)) (omega (arith, length-drop size (x ∷ rest))) (omega arith) one)
 
-least_of : (n size : ℕ) (rest : List ℕ) → n ≡ min (length rest) size → (take n rest ≡ take size rest) × (drop n rest ≡ drop size rest)
-least_of n size rest e = elim (cases_lt size (length rest)) as (λ _. (take n rest ≡ take size rest) × (drop n rest ≡ drop size rest)) [
-  | inl lt ↦ (let k : n ≡ size = omega arith in (ap (λ (j : ℕ). take j rest) k, ap (λ (j : ℕ). drop j rest) k))
-  | inr le ↦ (take_all n rest (omega arith) ∙ sym (take_all size rest le), drop_all n rest (omega arith) ∙ sym (drop_all size rest le))
-]
-
 pub pieces_first : (at : ℕ) (bytes : List ℕ) → [] ++ pieces_from (length bytes) 4096 at bytes ≡ pieces at bytes
 unfolding pieces
 pieces_first at bytes = refl
@@ -49,11 +44,6 @@ pieces_more size out at n rest total some one e so_far =
     ∙ ap (λ (l : List ℕ). out ++ (part at l ∷ pieces_from (length (drop n rest)) size (at + size) (drop n rest))) m.0
     ∙ ap (λ (l : List ℕ). out ++ (part at (take size rest) ∷ pieces_from (length l) size (at + size) l)) m.1
     ∙ ap (λ (l : List Piece). out ++ l) (sym (first_piece size at rest some one)) ∙ so_far
-
--- a test for 0 that failed
-pub some_of : (b : Bool) (n : ℕ) → b ≡ (n == 0) → b ≡ false → 0 < n
-some_of b zero e f = absurd (false≢true (sym f ∙ e))
-some_of b (suc n) e f = omega arith
 
 -- ---- pieces lie on the disk, and apart
 

@@ -1,4 +1,4 @@
--- What a plan makes of the disk of a run.
+-- What a plan makes of the storage of a run.
 use Rattle.std.specs.Prelude.{◌≡◌, ◌+◌, ◌<◌, length}
 use Rattle.disk_model.specs.Held.{end_of}
 use Rattle.disk_model.specs.Storage.{Storage, sent}
@@ -9,7 +9,7 @@ use Rattle.group_commit.specs.Stages.{items_of, AllSpaced, length_all}
 -- the storage once the plan's first stage is submitted
 abbrev pub planned : Storage → Plan → Storage
 planned st p = record st {
-  drive = sent st.drive p.first.items;
+  device = sent st.device p.first.items;
   stages = items_of p.later.items;
   next_half = p.half;
   next_gate = p.gate;
@@ -26,5 +26,5 @@ pub record HasRoom (p : Plan) : Type 0 where
 pub record Begins (old new : Storage) (p : Plan) : Type 0 where
   pub leads : planned old p ≡ new
   pub count : new.next_committed ≡ old.committed + p.count
-  pub writes : p.writes ≡ length new.drive.in_flight + length_all new.stages
+  pub writes : p.writes ≡ length new.device.in_flight + length_all new.stages
   pub room : HasRoom p

@@ -1,14 +1,14 @@
-//! The committer, which owns the disk.
-ghost use Rattle.std.specs.Prelude.{◌≡◌, is_some, ◌<◌, ◌≤◌, ◌+◌, ◌↔◌, ◌⊎◌, ◌&&◌, not, nat_lt, true, None, IfOk, IfErr, OnOk, OnErr, IsErrOf, MatchOption, MatchResult, slice_index, length, List, Ok, Err};
+//! The committer, which owns the device.
+ghost use Rattle.std.specs.Prelude.{◌≡◌, is_some, ◌<◌, ◌≤◌, ◌+◌, ◌^◌, ◌↔◌, ◌⊎◌, ◌&&◌, not, nat_lt, true, None, IfOk, IfErr, OnOk, OnErr, IsErrOf, MatchOption, MatchResult, slice_index, length, List, Ok, Err};
 ghost use Rattle.std.specs.List.{AllByRecursion};
 ghost use Rattle.disk_model.specs.Files.{IsFormed, IsMade};
-ghost use Rattle.disk_model.specs.Spelling.{body_of as body, gate_behind};
+ghost use Rattle.disk_model.specs.Spelling.{body_of as body, gate_after};
 ghost use Rattle.disk_model.specs.Held.{selected_half, start_of, end_of};
 ghost use Rattle.disk_model.specs.Storage.{Storage, piece_at, completed, failed, cut, group, checkpoint, group_of, group_or_checkpoint, is_empty, is_quiet, least_start};
-ghost use Rattle.disk_model.specs.Runs.{begun, quiet};
+ghost use Rattle.disk_model.specs.Runs.{first_storage, quiet};
 ghost use Rattle.simdisk.specs.Room.{crashed};
 ghost use Rattle.group_commit.specs.Stages.{length_all};
-ghost use Rattle.group_commit.specs.Refusals.{cut_test};
+ghost use Rattle.group_commit.specs.Refusals.{cut_test, last_refusal};
 ghost use Rattle.group_commit.specs.Plans.{planned, HasRoom, Begins};
 ghost use Rattle.group_commit.specs.declared.refusal.CommitRefusal.TheVariants.{NoSuchWrite, OutOfMemory};
 
@@ -25,12 +25,12 @@ use std::marker::Model;
 /// The most changes of a group.
 const GROUP: usize = 64;
 
-/// Commits changes to a disk. A group is written in stages: the pieces of its record go together, and once all are complete
+/// Commits changes to a device. A group is written in stages: the pieces of its record go together, and once all are complete
 /// its gate, alone. Where the record would not fit into the half, a checkpoint of all files goes to the other half: a 0 to
-/// its first gate, the pieces, the gate, and then byte 0, which selects the half. Behind the last stage the group is committed.
+/// its first gate, the pieces, the gate, and then byte 0, which selects the half. After the last stage the group is committed.
 #[derive(Drop)]
 pub struct Committer {
-    drive: SimDisk,
+    device: SimDisk,
     stages: Vec<Vec<Piece>>,
     half: bool,
     gate: u32,
@@ -49,7 +49,7 @@ impl Model for Committer {
     ghost Value = { Storage };
 
     ghost view = { λ c. record {
-      drive = c.drive;
+      device = c.device;
       stages = items_of c.stages.items;
       half = c.half;
       gate = c.gate;
@@ -65,15 +65,15 @@ impl Model for Committer {
 impl Committer {
     /// The committer of a run that begins on a disk that holds files, where `gate` is the place of the first gate in the
     /// selected half that is not open: 64 on a disk of zeros. Takes no memory.
-    pub fn new(alloc: Global, disk: SimDisk, gate: u32) -> Committer
-        requires quiet { is_quiet disk ≡ true }
-        requires half { start_of (selected_half (slice_index disk.disk 0)) ≤ gate }
-        requires within { gate < end_of (selected_half (slice_index disk.disk 0)) }
-        ensures { result ≡ begun disk.disk gate }
+    pub fn new(alloc: Global, device: SimDisk, gate: u32) -> Committer
+        requires quiet { is_quiet device ≡ true }
+        requires half { start_of (selected_half (slice_index device.disk 0)) ≤ gate }
+        requires within { gate < end_of (selected_half (slice_index device.disk 0)) }
+        ensures { result ≡ first_storage device.disk gate }
     {
-        let half = half_of(disk.bytes()[0]);
+        let half = half_of(device.bytes()[0]);
         Committer {
-            drive: disk,
+            device,
             stages: Vec::new(alloc),
             half,
             gate,
@@ -93,40 +93,40 @@ impl Committer {
 
     /// The least place at which a write in flight begins.
     pub fn in_flight(&self) -> Option<u32>
-        ensures { result ≡ least_start self.now.drive.in_flight }
+        ensures { result ≡ least_start self.now.device.in_flight }
     {
-        self.drive.in_flight()
+        self.device.in_flight()
     }
 
     /// Whether a write in flight begins there, so that `completed` is not refused, and `failed` for memory alone.
     pub fn is_in_flight(&self, at: u32) -> bool
-        ensures { result ≡ is_some (piece_at self.now.drive.in_flight at) }
+        ensures { result ≡ is_some (piece_at self.now.device.in_flight at) }
     {
-        self.drive.is_in_flight(at)
+        self.device.is_in_flight(at)
     }
 
     /// Whether a cut is wanted: some output is held back, as `held` tells, no group is in flight, and no write has failed.
     pub fn wants_cut(&self, held: bool) -> bool
-        ensures { result ≡ (held && is_quiet self.now.drive) }
+        ensures { result ≡ (held && is_quiet self.now.device) }
     {
-        held && self.drive.quiet()
+        held && self.device.quiet()
     }
 
     /// Whether a write has failed, so that nothing is submitted or committed any more.
     pub fn has_failed(&self) -> bool
-        ensures { result ≡ not (is_empty self.now.drive.failed) }
+        ensures { result ≡ not (is_empty self.now.device.failed) }
     {
-        self.drive.has_failed()
+        self.device.has_failed()
     }
 
     /// Refused where `cut` would be refused for another reason than memory. The changes are all uncommitted ones, in order.
     pub fn may_cut(&self, changes: &[Change]) -> Result<(), CommitRefusal>
         ensures { result ≡ cut_test self.now changes.now }
     {
-        if self.drive.has_failed() {
+        if self.device.has_failed() {
             return Err(CommitRefusal::DiskFailed);
         }
-        if !self.drive.quiet() {
+        if !self.device.quiet() {
             return Err(CommitRefusal::GroupInFlight);
         }
         if changes.is_empty() {
@@ -135,23 +135,23 @@ impl Committer {
         Ok(())
     }
 
-    /// The write that begins there is complete. Once all of a stage are, the next stage is submitted, and behind the last
+    /// The write that begins there is complete. Once all of a stage are, the next stage is submitted, and after the last
     /// stage the group is committed. Answers how many changes are committed then. Takes no memory.
     pub fn completed(&mut self, at: u32) -> Result<u64, CommitRefusal>
-        ensures { MatchOption (piece_at self.old.drive.in_flight at) ((result ≡ Err NoSuchWrite) × (self.new ≡ self.old))
+        ensures { MatchOption (piece_at self.old.device.in_flight at) ((result ≡ Err NoSuchWrite) × (self.new ≡ self.old))
             (λ p. (result ≡ Ok self.new.committed) × (self.new ≡ completed self.old at)) }
     {
-        if self.drive.complete(at).is_err() {
+        if self.device.complete(at).is_err() {
             return Err(CommitRefusal::NoSuchWrite);
         }
-        if self.drive.quiet() {
+        if self.device.quiet() {
             if self.stages.is_empty() {
                 self.half = self.next_half;
                 self.gate = self.next_gate;
                 self.committed = self.next_committed;
             } else {
                 let stage = self.stages.remove(0);
-                self.drive.send(stage);
+                self.device.send(stage);
             }
         }
         Ok(self.committed)
@@ -162,10 +162,10 @@ impl Committer {
     pub fn failed(&mut self, at: u32) -> Result<(), CommitRefusal>
         ensures ok { OnOk result (self.new ≡ failed self.old at) }
         ensures err { OnErr result (self.new ≡ self.old) }
-        ensures refused { IsErrOf result NoSuchWrite ↔ (piece_at self.old.drive.in_flight at ≡ None) }
+        ensures refused { IsErrOf result NoSuchWrite ↔ (piece_at self.old.device.in_flight at ≡ None) }
         ensures cause { IfErr result (λ e. (e ≡ NoSuchWrite) ⊎ (e ≡ OutOfMemory)) }
     {
-        match self.drive.fail(at) {
+        match self.device.fail(at) {
             Ok(()) => Ok(()),
             Err(DiskRefusal::NoSuchWrite) => Err(CommitRefusal::NoSuchWrite),
             Err(_) => Err(CommitRefusal::OutOfMemory),
@@ -175,16 +175,16 @@ impl Committer {
     /// The disk that a crash leaves where the ranges in flight or failed take these bytes, by rising place, again and again
     /// from the start; an empty fill leaves the completed bytes. Takes no memory.
     pub fn crash(self, fill: &[u8]) -> SimDisk
-        ensures { result ≡ quiet (crashed self.drive fill.now) }
+        ensures { result ≡ quiet (crashed self.device fill.now) }
     {
-        self.drive.crash(fill)
+        self.device.crash(fill)
     }
 
     /// Begins a group of the first 64 of these changes, or of all where there are fewer, and answers how many changes it
     /// will commit and how many writes it takes. Where its record does not fit into the half, a checkpoint of all files
     /// begins, which commits all changes. The changes are all uncommitted ones, in order, and the files those that all
     /// changes made. All memory of the group's writes is taken here. Refused first DiskFailed, then GroupInFlight, then
-    /// NothingToCut, and last OutOfMemory.
+    /// NothingToCut, then Budget, where a u64 does not count the changes, and last OutOfMemory.
     pub fn cut(
         &mut self,
         alloc: Global,
@@ -195,15 +195,26 @@ impl Committer {
         requires formed { AllByRecursion IsFormed changes.now }
         ensures ok { OnOk result (self.new ≡ cut self.old changes.now files.now) }
         ensures changes { IfOk result (λ r. self.new.next_committed ≡ self.old.committed + r.0) }
-        ensures writes { IfOk result (λ r. r.1 ≡ length self.new.drive.in_flight + length_all self.new.stages) }
+        ensures writes { IfOk result (λ r. r.1 ≡ length self.new.device.in_flight + length_all self.new.stages) }
         ensures err { OnErr result (self.new ≡ self.old) }
-        ensures refused { MatchResult (cut_test self.old changes.now) (λ _. IfErr result (λ e. e ≡ OutOfMemory)) (λ e. result ≡ Err e) }
+        ensures refused { MatchResult (cut_test self.old changes.now) (λ _. IfErr result (λ e. e ≡ last_refusal self.old changes.now)) (λ e. result ≡ Err e) }
+        ensures counted { OnOk result (self.old.committed + length changes.now < 2 ^ 64) }
     {
         self.may_cut(changes)?;
+        if !self.can_count(changes) {
+            return Err(CommitRefusal::Budget);
+        }
         let plan = self.plan(alloc, changes, files)?;
         let counts = (plan.count, plan.writes);
         self.start(plan);
         Ok(counts)
+    }
+
+    /// Whether a u64 counts the changes that are committed with these.
+    fn can_count(&self, changes: &[Change]) -> bool
+        ensures { result ≡ nat_lt (self.now.committed + length changes.now) (2 ^ 64) }
+    {
+        self.committed.checked_add(changes.len() as u64).is_some()
     }
 
     /// What a cut of these changes does: a group where its record fits, else a checkpoint.
@@ -215,6 +226,7 @@ impl Committer {
     ) -> Result<Plan, CommitRefusal>
         requires possible { IsMade files.now }
         requires formed { AllByRecursion IsFormed changes.now }
+        requires counted { self.now.committed + length changes.now < 2 ^ 64 }
         ensures ok { IfOk result (Begins self.now (group_or_checkpoint self.now changes.now files.now)) }
         ensures cause { IfErr result (λ e. e ≡ OutOfMemory) }
     {
@@ -228,22 +240,19 @@ impl Committer {
         self.checkpoint_plan(alloc, changes.len(), &all)
     }
 
-    /// Whether a record of this body, and the gate behind it, fit into the half in use.
+    /// Whether a record of this body, and the gate after it, fit into the half in use.
     fn fits(&self, body: &[u8]) -> bool
         ensures { result ≡ nat_lt (self.now.gate + 5 + length body.now) (end_of self.now.half) }
     {
         self.gate as usize + 5 + body.len() < half_end(self.half) as usize
     }
 
-    /// How many changes are committed with so many more. More than a u64 holds count as no memory: no run reaches them.
-    fn raised(&self, count: usize) -> Result<u64, CommitRefusal>
-        ensures ok { IfOk result (λ n. n ≡ self.now.committed + count) }
-        ensures cause { IfErr result (λ e. e ≡ OutOfMemory) }
+    /// How many changes are committed with so many more.
+    fn raised(&self, count: usize) -> u64
+        requires { self.now.committed + count < 2 ^ 64 }
+        ensures { result ≡ self.now.committed + count }
     {
-        match self.committed.checked_add(count as u64) {
-            Some(committed) => Ok(committed),
-            None => Err(CommitRefusal::OutOfMemory),
-        }
+        self.committed + count as u64
     }
 
     /// A group of these changes, which have this body.
@@ -254,11 +263,12 @@ impl Committer {
         bytes: &[u8],
     ) -> Result<Plan, CommitRefusal>
         requires body { bytes.now ≡ body changes.now }
-        requires room { gate_behind self.now.gate changes.now < end_of self.now.half }
+        requires counted { self.now.committed + length changes.now < 2 ^ 64 }
+        requires room { gate_after self.now.gate changes.now < end_of self.now.half }
         ensures ok { IfOk result (Begins self.now (group self.now changes.now)) }
         ensures cause { IfErr result (λ e. e ≡ OutOfMemory) }
     {
-        let committed = self.raised(changes.len())?;
+        let committed = self.raised(changes.len());
         let record = record_of(alloc, bytes)?;
         let first = pieces_of(alloc, self.gate + 1, &record)?;
         let writes = first.len() as u64 + 1;
@@ -283,13 +293,14 @@ impl Committer {
         all: &[Change],
     ) -> Result<Plan, CommitRefusal>
         requires formed { AllByRecursion IsFormed all.now }
-        requires room { gate_behind (start_of (not self.now.half)) all.now < end_of (not self.now.half) }
+        requires counted { self.now.committed + count < 2 ^ 64 }
+        requires room { gate_after (start_of (not self.now.half)) all.now < end_of (not self.now.half) }
         ensures ok { IfOk result (Begins self.now (checkpoint self.now count all.now)) }
         ensures cause { IfErr result (λ e. e ≡ OutOfMemory) }
     {
         let half = !self.half;
         let gate = first_gate(half);
-        let committed = self.raised(count)?;
+        let committed = self.raised(count);
         let bytes = body_of(alloc, all)?;
         let record = record_of(alloc, &bytes)?;
         let pieces = pieces_of(alloc, gate + 1, &record)?;
@@ -312,11 +323,11 @@ impl Committer {
 
     /// Submits the plan's first stage, and keeps the others.
     fn start(&mut self, plan: Plan)
-        requires idle { is_quiet self.old.drive ≡ true }
+        requires idle { is_quiet self.old.device ≡ true }
         requires room { HasRoom plan }
         ensures { self.new ≡ planned self.old plan }
     {
-        self.drive.send(plan.first);
+        self.device.send(plan.first);
         self.stages = plan.later;
         self.next_half = plan.half;
         self.next_gate = plan.gate;

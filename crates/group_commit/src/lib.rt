@@ -1,4 +1,4 @@
-//! Groups and checkpoints: changes are committed to the disk, many at once, so that a crash keeps a front of them.
+//! Groups and checkpoints: changes are committed to the disk, many at once, so that a crash keeps a prefix of them.
 #![tactic(auto)]
 
 mod committer;

@@ -10,7 +10,7 @@ use std::alloc::{AllocError, Global};
 /// How many bytes each piece has but the last of a stage.
 const PIECE: usize = 4096;
 
-/// A record behind its gate: the length of its body, little-endian, the body, and the next gate, closed.
+/// What stands of a record after its gate: the length of its body, little-endian, the body, and the next gate, closed.
 pub fn record_of(alloc: Global, body: &[u8]) -> Result<Vec<u8>, AllocError>
     requires { length body.now < 2 ^ 32 }
     ensures { IfOk result (λ v. v.items ≡ to_le_bytes w32 (length body.now) ++ body.now ++ 0 ∷ []) }
@@ -31,11 +31,11 @@ pub fn pieces_of(alloc: Global, at: u32, bytes: &[u8]) -> Result<Vec<Piece>, All
     let mut from = at;
     let mut rest = bytes;
     while !rest.is_empty() {
-        let (front, behind) = rest.split_at(rest.len().min(PIECE));
-        let bytes = Bytes::copy_of(alloc, front)?;
+        let (prefix, after) = rest.split_at(rest.len().min(PIECE));
+        let bytes = Bytes::copy_of(alloc, prefix)?;
         pieces.push(Piece { at: from, bytes })?;
         from += PIECE as u32;
-        rest = behind;
+        rest = after;
     }
     Ok(pieces)
 }

@@ -6,7 +6,7 @@ use disk_model::Piece;
 pub struct Plan {
     /// The pieces that are submitted at once.
     pub first: Vec<Piece>,
-    /// The stages to be submitted behind them.
+    /// The stages to be submitted after them.
     pub later: Vec<Vec<Piece>>,
     /// How many pieces these are.
     pub writes: u64,

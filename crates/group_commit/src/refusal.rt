@@ -1,5 +1,6 @@
 //! Why a call of a committer is refused.
 ghost use Rattle.std.specs.Prelude.{◌≡◌};
+ghost use Rattle.group_commit.specs.Refusals.{number_of};
 ghost use Rattle.group_commit.specs.declared.refusal.CommitRefusal.TheVariants.{OutOfMemory};
 
 use std::alloc::{AllocError, AllocFailed};
@@ -23,6 +24,18 @@ pub enum CommitRefusal {
     /// Memory ran out.
     #[error("out of memory")]
     OutOfMemory = 9,
+    /// With these changes there would be more than a u64 counts.
+    #[error("there are more changes than are counted")]
+    Budget = 11,
+}
+
+impl CommitRefusal {
+    /// Its number, 5 to 9, or 11.
+    pub fn number(self) -> u8
+        ensures { result ≡ number_of self }
+    {
+        self as u8
+    }
 }
 
 impl From<AllocError> for CommitRefusal {

@@ -1,13 +1,12 @@
 -- The changes of a checkpoint, write by write and file by file.
-use Rattle.std.proofs.Common.{◌≡◌, ℕ, zero, suc, ◌+◌, ◌<◌, ◌≤◌, min, List, [], ◌∷◌, ◌++◌, length, get_or, take, drop, refl, sym, ap, ◌∙◌, append_assoc, arith, inl, inr}
-use Rattle.std.specs.Prelude.{◌==◌, Bool, false}
+use Rattle.std.proofs.Common.{◌≡◌, ℕ, zero, suc, ◌+◌, ◌<◌, ◌≤◌, min, List, [], ◌∷◌, ◌++◌, length, get_or, take, drop, refl, sym, ap, ◌∙◌, append_assoc, arith}
 use Rattle.std.specs.List.{AllByRecursion}
-use Rattle.std.proofs.lemmas.Bool.{cases_lt, false≢true}
-use Rattle.std.proofs.lemmas.List.{take_all, drop_all, drop_more, length-drop}
+use Rattle.std.proofs.lemmas.List.{drop_more, length-drop}
 use Rattle.disk_model.specs.declared.change.Change.{Change}
 use Rattle.disk_model.specs.declared.change.Change.TheVariants.{Create, Write}
 use Rattle.disk_model.specs.declared.change.NamedFile.{NamedFile}
 use Rattle.disk_model.specs.Rebuild.{writes_from, changes_making, rebuild_from, rebuild}
+use Rattle.disk_model.proofs.Lists.{least_of}
 
 -- the first argument of writes_from may be any number that is at least the length
 enough : (n m size file offset : ℕ) (bytes : List ℕ) → length bytes ≤ n → length bytes ≤ m → 1 ≤ size → writes_from n size file offset bytes ≡ writes_from m size file offset bytes
@@ -28,12 +27,6 @@ first_write size file offset (x ∷ rest) some one =
     ap (λ (k : ℕ). writes_from k size file offset (x ∷ rest)) (let e : length (x ∷ rest) ≡ suc (length rest) = omega arith in e)
     ∙ ap (λ (l : List Change). Write file offset (take size (x ∷ rest)) ∷ l)
     (enough (length rest) (length (drop size (x ∷ rest))) size file (offset + size) (drop size (x ∷ rest)) (omega (arith, length-drop size (x ∷ rest))) (omega arith) one)
-
-least_of : (n size : ℕ) (rest : List ℕ) → n ≡ min (length rest) size → (take n rest ≡ take size rest) × (drop n rest ≡ drop size rest)
-least_of n size rest e = elim (cases_lt size (length rest)) as (λ _. (take n rest ≡ take size rest) × (drop n rest ≡ drop size rest)) [
-  | inl lt ↦ (let k : n ≡ size = omega arith in (ap (λ (j : ℕ). take j rest) k, ap (λ (j : ℕ). drop j rest) k))
-  | inr le ↦ (take_all n rest (omega arith) ∙ sym (take_all size rest le), drop_all n rest (omega arith) ∙ sym (drop_all size rest le))
-]
 
 -- one more write
 pub writes_more : (size : ℕ) (out : List Change) (file offset n : ℕ) (rest : List ℕ) (total : List Change) → 0 < length rest → 1 ≤ size → n ≡ min (length rest) size
@@ -64,8 +57,3 @@ pub short_at : (files : List NamedFile) (i : ℕ) (d : NamedFile) → AllByRecur
 short_at [] i d all lt = absurd (omega arith)
 short_at (f ∷ files) zero d all lt = all.0
 short_at (f ∷ files) (suc i) d all lt = short_at files i d all.1 (omega arith)
-
--- a test for 0 that failed
-pub some_of : (b : Bool) (n : ℕ) → b ≡ (n == 0) → b ≡ false → 0 < n
-some_of b zero e f = absurd (false≢true (sym f ∙ e))
-some_of b (suc n) e f = omega arith

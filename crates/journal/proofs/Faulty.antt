@@ -8,7 +8,7 @@ use Rattle.disk_model.specs.declared.change.Change.{Change}
 use Rattle.disk_model.specs.declared.change.Change.TheVariants.{Create, Write}
 use Rattle.disk_model.specs.declared.change.NamedFile.{NamedFile}
 use Rattle.disk_model.specs.Files.{Follow, changed, files_after}
-use Rattle.disk_model.specs.Spelling.{body_of, sized_body, gate_behind}
+use Rattle.disk_model.specs.Spelling.{body_of, sized_body, gate_after}
 use Rattle.disk_model.specs.Held.{Stands, IsRecord, Records, joined, selected_half, start_of, end_of}
 use Rattle.journal.specs.declared.fault.DiskFault.{DiskFault}
 use Rattle.journal.specs.declared.fault.DiskFault.TheVariants.{BadRecord, BadChange, PastHalf, OutOfMemory}
@@ -17,7 +17,7 @@ use Rattle.journal.proofs.Found.{IsBytes}
 use Rattle.journal.proofs.Again.{changes_again, changed_again}
 use Rattle.std.proofs.lemmas.List.{length-append, get_or_append_left, get_or-append-add}
 use Rattle.std.proofs.lemmas.Nat.{from_le_bytes-to_le_bytes_4}
-use Rattle.journal.specs.Faults.{size_behind, FaultBehind, IsFault, TellsFault}
+use Rattle.journal.specs.Faults.{size_after, FaultAfter, IsFault, TellsFault}
 use Rattle.journal.specs.Reading.{selected, recovered, Fails}
 use Rattle.journal.proofs.Found.{changes_takes}
 use Rattle.journal.proofs.Whole.{tail, tail_cons, half_facts}
@@ -115,16 +115,16 @@ pub record Faulty (d : List ℕ) (last at : ℕ) (files : List NamedFile) (fault
   pub records : Records d last at groups gate
   pub follow : Follow files (joined groups)
   pub opened_is : get_or d gate 0 ≡ 1
-  pub behind : FaultBehind d last gate (files_after files (joined groups)) fault
+  pub after : FaultAfter d last gate (files_after files (joined groups)) fault
 
--- the four bytes behind the gate, where they lie in the half
-front_is : (d : List ℕ) (last at : ℕ) → last ≤ length d → at + 5 ≤ last → take 4 (tail d last (at + 1)) ≡ take 4 (drop (at + 1) d)
-front_is d last at le room =
+-- the four bytes after the gate, where they lie in the half
+prefix_is : (d : List ℕ) (last at : ℕ) → last ≤ length d → at + 5 ≤ last → take 4 (tail d last (at + 1)) ≡ take 4 (drop (at + 1) d)
+prefix_is d last at le room =
     let l1 = length-take 4 (tail d last (at + 1)) in let l2 = tail_length d last (at + 1) le in let l3 = length-take 4 (drop (at + 1) d) in let l4 = length-drop (at + 1) d in
     ext_get_or 0 (take 4 (tail d last (at + 1))) (take 4 (drop (at + 1) d)) (omega arith) (λ i lt.
     get_or-take 4 (tail d last (at + 1)) i 0 (omega arith) ∙ tail_get d last (at + 1) i (omega arith) ∙ sym (get_or-take 4 (drop (at + 1) d) i 0 (omega arith) ∙ get_or-drop (at + 1) d i 0))
 
-past : (d : List ℕ) (last at : ℕ) (x : List ℕ × List ℕ) (fault : DiskFault) → last ≤ length d → at < last → body_at (tail d last (at + 1)) ≡ Err fault → (PastHalf ≡ fault) × (last ≤ at + 5 + size_behind d at)
+past : (d : List ℕ) (last at : ℕ) (x : List ℕ × List ℕ) (fault : DiskFault) → last ≤ length d → at < last → body_at (tail d last (at + 1)) ≡ Err fault → (PastHalf ≡ fault) × (last ≤ at + 5 + size_after d at)
 unfolding body_at
 past d last at x fault le lt e =
     let text = tail d last (at + 1) in let tl = tail_length d last (at + 1) le in
@@ -133,19 +133,19 @@ past d last at x fault le lt e =
       | inr (enough, g) ↦ (
           let k = ltb-false (length text) 4 enough in
           elim (guard_err (nat_le (length text) (4 + from_le_bytes w32 (take 4 text))) PastHalf (Ok (take (from_le_bytes w32 (take 4 text)) (drop 4 text), drop (from_le_bytes w32 (take 4 text)) (drop 4 text))) fault g) [
-            | inl (long, is) ↦ (is, (let m = leb-true (length text) (4 + from_le_bytes w32 (take 4 text)) long in let same : from_le_bytes w32 (take 4 text) ≡ size_behind d at = ap (from_le_bytes w32) (front_is d last at le (omega arith)) in omega arith))
+            | inl (long, is) ↦ (is, (let m = leb-true (length text) (4 + from_le_bytes w32 (take 4 text)) long in let same : from_le_bytes w32 (take 4 text) ≡ size_after d at = ap (from_le_bytes w32) (prefix_is d last at le (omega arith)) in omega arith))
             | inr (fits, h) ↦ absurd (ok_err _ fault h)
           ]
           )
     ]
 
 record_faulty : (d : List ℕ) (last at : ℕ) (files : List NamedFile) (fault : DiskFault) → IsBytes d → last ≤ length d → last ≤ 2097152 → at < last → get_or d at 0 ≡ 1
-    → record_at files (tail d last (at + 1)) ≡ Err fault → FaultBehind d last at files fault
+    → record_at files (tail d last (at + 1)) ≡ Err fault → FaultAfter d last at files fault
 unfolding record_at
 record_faulty d last at files fault fits le small lt one e =
     let text = tail d last (at + 1) in let tl = tail_length d last (at + 1) le in
     elim (bind_err (body_at text) _ fault e) [
-      | inl h ↦ (let p = past d last at (text, text) fault le lt h in subst (λ (f : DiskFault). FaultBehind d last at files f) p.0 p.1)
+      | inl h ↦ (let p = past d last at (text, text) fault le lt h in subst (λ (f : DiskFault). FaultAfter d last at files f) p.0 p.1)
       | inr (x, h, g) ↦ (
           let i = body_is text x (tail_bytes d last (at + 1) fits) h in
           let body = x.0 in let next = x.1 in let some = i.some in
@@ -154,10 +154,10 @@ record_faulty d last at files fault fits le small lt one e =
           let stands : Stands d (at + 5) body = λ k lk.
           ap (λ (j : ℕ). get_or d j 0) (let q : at + 5 + k ≡ at + 1 + (4 + k) = omega arith in q) ∙ sym (tail_get d last (at + 1) (4 + k) (omega arith)) ∙ ap (λ (l : List ℕ). get_or l (4 + k) 0) i.parts
           ∙ get_or-append-add (to_le_bytes w32 (length body)) (body ++ next) k 0 ∙ get_or_append_left body next 0 k lk in
-          let sized_is : size_behind d at ≡ length body =
-          ap (from_le_bytes w32) (sym (front_is d last at le (omega arith)) ∙ ap (take 4) i.parts ∙ take_at (to_le_bytes w32 (length body)) (body ++ next) 4 refl) ∙ from_le_bytes-to_le_bytes_4 (length body) (omega arith) in
+          let sized_is : size_after d at ≡ length body =
+          ap (from_le_bytes w32) (sym (prefix_is d last at le (omega arith)) ∙ ap (take 4) i.parts ∙ take_at (to_le_bytes w32 (length body)) (body ++ next) 4 refl) ∙ from_le_bytes-to_le_bytes_4 (length body) (omega arith) in
           elim (bind_err (changes_at (length body) body) _ fault g) [
-            | inl bad ↦ subst (λ (f : DiskFault). FaultBehind d last at files f) (changes_err (length body) body fault bad) (
+            | inl bad ↦ subst (λ (f : DiskFault). FaultAfter d last at files f) (changes_err (length body) body fault bad) (
               omega arith,
               λ cs formed len st.
                   let same : body ≡ body_of cs = ext_get_or 0 body (body_of cs) (omega arith) (λ k lk. sym (stands k lk) ∙ st k (omega arith)) in
@@ -166,7 +166,7 @@ record_faulty d last at files fault fits le small lt one e =
             | inr (cs, k, g2) ↦ (
                 let c = changes_takes (length body) body cs i.fine k in
                 elim (bind_err (all_changed files cs) _ fault g2) [
-                  | inl wrong ↦ subst (λ (f : DiskFault). FaultBehind d last at files f) (all_err files cs fault wrong) (
+                  | inl wrong ↦ subst (λ (f : DiskFault). FaultAfter d last at files f) (all_err files cs fault wrong) (
                     cs,
                     is_record cs next (i.parts ∙ ap (λ (l : List ℕ). to_le_bytes w32 (length l) ++ (l ++ next)) c.0 ∙ sym (append_assoc (to_le_bytes w32 (length (body_of cs))) (body_of cs) next)) some,
                     c.1,
@@ -198,11 +198,11 @@ records_faulty (suc n) d last at files fault fits le small lt enough e =
     let s = on_err (opened (tail d last at)) (λ bytes. record_at files bytes >>= λ y. records_at n y.0 y.1) (files, tail d last at) fault e in
     let o = is_open (get_or d at 0) (tail d last (at + 1)) s.0 (ap opened (sym (tail_cons d last at lt le)) ∙ s.1) in
     elim (bind_err (record_at files s.0) _ fault s.2) [
-      | inl h ↦ record { gate = at; groups = []; records = refl; follow = tt; opened_is = o.0; behind = record_faulty d last at files fault fits le small lt o.0 (ap (record_at files) o.1 ∙ h) }
+      | inl h ↦ record { gate = at; groups = []; records = refl; follow = tt; opened_is = o.0; after = record_faulty d last at files fault fits le small lt o.0 (ap (record_at files) o.1 ∙ h) }
       | inr (y, h, g) ↦ (
           let one = record_found d last at files y fits le lt o.0 (ap (record_at files) o.1 ∙ h) in
           let within = one.is.within in
-          let r = records_faulty n d last (gate_behind at one.cs) y.0 fault fits le small within (omega (arith, tail_length d last at le, tail_length d last (gate_behind at one.cs) le)) (ap (records_at n y.0) (sym one.left) ∙ g) in
+          let r = records_faulty n d last (gate_after at one.cs) y.0 fault fits le small within (omega (arith, tail_length d last at le, tail_length d last (gate_after at one.cs) le)) (ap (records_at n y.0) (sym one.left) ∙ g) in
           let j = follow_join files one.cs (joined r.groups) one.follow (subst (λ (fs : List NamedFile). Follow fs (joined r.groups)) one.makes r.follow) in
           record {
             gate = r.gate;
@@ -210,7 +210,7 @@ records_faulty (suc n) d last at files fault fits le small lt enough e =
             records = (one.is, r.records);
             follow = j.0;
             opened_is = r.opened_is;
-            behind = subst (λ (fs : List NamedFile). FaultBehind d last r.gate fs fault) (ap (λ (fs : List NamedFile). files_after fs (joined r.groups)) one.makes ∙ sym j.1) r.behind;
+            after = subst (λ (fs : List NamedFile). FaultAfter d last r.gate fs fault) (ap (λ (fs : List NamedFile). files_after fs (joined r.groups)) one.makes ∙ sym j.1) r.after;
           }
           )
     ]
@@ -220,7 +220,7 @@ told_fault d fault fits size e =
     let second = selected_half (slice_index d 0) in
     let f = half_facts second in
     let r = records_faulty (length (selected d)) d (end_of second) (start_of second) [] fault fits (omega arith) f.0 f.1 (omega arith) e in
-    record { size = size; gate = r.gate; files = files_after [] (joined r.groups); before = record { groups = r.groups; records = r.records; possible = r.follow; makes = refl }; opened = r.opened_is; behind = r.behind }
+    record { size = size; gate = r.gate; files = files_after [] (joined r.groups); before = record { groups = r.groups; records = r.records; possible = r.follow; makes = refl }; opened = r.opened_is; after = r.after }
 
 pub tells : (d : List ℕ) (e : DiskFault) → IsBytes d → length d ≡ 2097152 → Fails e (recovered d) → TellsFault d e
 tells d BadRecord fits size h = told_fault d BadRecord fits size h

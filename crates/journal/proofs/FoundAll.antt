@@ -1,16 +1,16 @@
 -- The records that are read stand on the disk.
 use Rattle.std.proofs.Common.{◌≡◌, ℕ, zero, suc, ◌+◌, ◌-◌, ◌<◌, ◌≤◌, Bool, true, false, cond, List, [], ◌∷◌, ◌++◌, length, get_or, take, drop, Option, Some, None, Result, Ok, refl, sym, ap, subst, ◌∙◌, append_assoc, arith, inl, inr, ◌⊎◌}
-use Rattle.std.specs.Prelude.{is_none, nat_le, nat_lt, ◌==◌, slice_index}
+use Rattle.std.specs.Prelude.{nat_le, nat_lt, ◌==◌, slice_index}
 use Rattle.std.specs.List.{AllByRecursion}
 use Rattle.std.specs.Int.{w32, from_le_bytes, to_le_bytes}
-use Rattle.std.proofs.lemmas.Bool.{ltb-false, leb-true, leb-false, ltb-true, eqb-true, eq-eqb, ne_eqb, false≢true, and_parts}
+use Rattle.std.proofs.lemmas.Bool.{ltb-false, leb-true, leb-false, ltb-true, eqb-true, eq-eqb, ne_eqb, and_parts}
 use Rattle.std.proofs.lemmas.List.{drop_at, take-append-drop, length-append, length-take, length-drop, get_or-drop, get_or-take, get_or_append_left, drop-drop}
 use Rattle.std.proofs.lemmas.Nat.{le_bytes_4}
 use Rattle.disk_model.specs.declared.change.Change.{Change}
 use Rattle.disk_model.specs.declared.change.Change.TheVariants.{Create, Write, Empty}
 use Rattle.disk_model.specs.declared.change.NamedFile.{NamedFile}
 use Rattle.disk_model.specs.Files.{IsFormed, MayCome, Follow, changed, files_after}
-use Rattle.disk_model.specs.Spelling.{body_of, sized_body, gate_behind}
+use Rattle.disk_model.specs.Spelling.{body_of, sized_body, gate_after}
 use Rattle.disk_model.specs.Held.{IsRecord, Records, joined, Reads, IsHeldTo, selected_half, start_of, end_of}
 use Rattle.journal.specs.declared.fault.DiskFault.{DiskFault}
 use Rattle.journal.specs.declared.fault.DiskFault.TheVariants.{BadRecord, BadChange, PastHalf, OutOfMemory}
@@ -18,9 +18,6 @@ use Rattle.journal.specs.Reading.{◌>>=◌, body_at, changes_at, all_changed, i
 use Rattle.journal.proofs.Names.{none_has}
 use Rattle.journal.proofs.Found.{IsBytes, bytes_drop, bytes_take, bind_ok, guard_ok, test_ok, ok_is, changes_takes}
 use Rattle.journal.proofs.Whole.{tail, tail_cons, half_facts, held_read}
-
-abbrev pub done : {A : Type 0} → A → Result A DiskFault
-done x = Ok x
 
 may_is : (files : List NamedFile) (c : Change) → may_come files c ≡ true → MayCome files c
 may_is files (Create name) h =
@@ -52,9 +49,9 @@ body_is bytes x fits e =
     let long = ltb-false (length bytes) 4 g1.0 in
     let room = leb-false (length bytes) (4 + n) g2.0 in
     let len : length (take n (drop 4 bytes)) ≡ n = omega (arith, length-take n (drop 4 bytes), length-drop 4 bytes) in
-    let front : to_le_bytes w32 n ≡ take 4 bytes = le_bytes_4 (take 4 bytes) n (omega (arith, length-take 4 bytes)) (bytes_take 4 bytes fits) refl in
+    let prefix : to_le_bytes w32 n ≡ take 4 bytes = le_bytes_4 (take 4 bytes) n (omega (arith, length-take 4 bytes)) (bytes_take 4 bytes fits) refl in
     subst (λ (y : List ℕ × List ℕ). IsBody bytes y.0 y.1) (ok_is _ _ g2.1) (record {
-      parts = sym (take-append-drop 4 bytes) ∙ ap (λ (l : List ℕ). l ++ drop 4 bytes) (sym front ∙ ap (to_le_bytes w32) (sym len)) ∙ ap (λ (l : List ℕ). to_le_bytes w32 (length (take n (drop 4 bytes))) ++ l) (sym (take-append-drop n (drop 4 bytes)));
+      parts = sym (take-append-drop 4 bytes) ∙ ap (λ (l : List ℕ). l ++ drop 4 bytes) (sym prefix ∙ ap (to_le_bytes w32) (sym len)) ∙ ap (λ (l : List ℕ). to_le_bytes w32 (length (take n (drop 4 bytes))) ++ l) (sym (take-append-drop n (drop 4 bytes)));
       some = omega (arith, length-drop n (drop 4 bytes), length-drop 4 bytes);
       fine = bytes_take n (drop 4 bytes) (bytes_drop 4 bytes fits);
     })
@@ -73,7 +70,7 @@ pub record FoundOne (d : List ℕ) (last at : ℕ) (files later : List NamedFile
   pub is : IsRecord d last at cs
   pub follow : Follow files cs
   pub makes : later ≡ files_after files cs
-  pub left : rest ≡ tail d last (gate_behind at cs)
+  pub left : rest ≡ tail d last (gate_after at cs)
 
 pub record_found : (d : List ℕ) (last at : ℕ) (files : List NamedFile) (x : List NamedFile × List ℕ) → IsBytes d → last ≤ length d → at < last → get_or d at 0 ≡ 1
     → record_at files (tail d last (at + 1)) ≡ Ok x → FoundOne d last at files x.0 x.1
@@ -104,7 +101,7 @@ record_found d last at files x fits le lt one e =
       follow = f.0;
       makes = f.1;
       left = sym (drop_at (sized_body cs) next (length (sized_body cs)) refl) ∙ ap (drop (length (sized_body cs))) (sym split) ∙ drop-drop (length (sized_body cs)) (at + 1) (take last d)
-          ∙ ap (λ (k : ℕ). tail d last k) (let q : at + 1 + length (sized_body cs) ≡ gate_behind at cs = omega arith in q);
+          ∙ ap (λ (k : ℕ). tail d last k) (let q : at + 1 + length (sized_body cs) ≡ gate_after at cs = omega arith in q);
     })
 
 pub record FoundAll (d : List ℕ) (last at : ℕ) (files later : List NamedFile) (rest : List ℕ) : Type 0 where
@@ -158,7 +155,7 @@ records_found (suc n) d last at files x fits le lt enough e =
           let y = bind_ok (record_at files b) (λ y. records_at n y.0 y.1) x h in
           let one = record_found d last at files y.0 fits le lt o.0 (ap (record_at files) o.1 ∙ y.1) in
           let within = one.is.within in
-          let r = records_found n d last (gate_behind at one.cs) y.0.0 x fits le within (omega (arith, tail_length d last at le, tail_length d last (gate_behind at one.cs) le)) (ap (records_at n y.0.0) (sym one.left) ∙ y.2) in
+          let r = records_found n d last (gate_after at one.cs) y.0.0 x fits le within (omega (arith, tail_length d last at le, tail_length d last (gate_after at one.cs) le)) (ap (records_at n y.0.0) (sym one.left) ∙ y.2) in
           let from = r.from in
           let j = follow_join files one.cs (joined r.groups) one.follow (subst (λ (fs : List NamedFile). Follow fs (joined r.groups)) one.makes r.follow) in
           record {
@@ -206,7 +203,7 @@ only_memory BadChange r x ok h = absurd cc
 only_memory PastHalf r x ok h = absurd cc
 only_memory OutOfMemory r x ok h = refl
 
--- a first gate that is not open has nothing behind it
+-- a first gate that is not open has nothing after it
 pub half_shut : (d : List ℕ) → length d ≡ 2097152 → (slice_index d (start_of (selected_half (slice_index d 0))) ≡ 1 → ⊥) → opened (selected d) ≡ None
 half_shut d size shut =
     let second = selected_half (slice_index d 0) in

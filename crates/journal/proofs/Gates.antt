@@ -33,7 +33,7 @@ ends BadChange count i files rest bytes total lt open_gate h so_far = fault_ends
 ends PastHalf count i files rest bytes total lt open_gate h so_far = fault_ends PastHalf count i files rest bytes total lt open_gate h so_far
 ends OutOfMemory count i files rest bytes total lt open_gate h so_far = tt
 
--- behind a gate that is not open nothing is read
+-- after a gate that is not open nothing is read
 pub still_shut : (half rest bytes : List ℕ) → (opened half ≡ None → rest ≡ half) → opened rest ≡ Some bytes → opened half ≡ None → ⊥
 still_shut half rest bytes so_far some none = let e : None ≡ Some bytes = sym none ∙ ap opened (sym (so_far none)) ∙ some in cc
 

@@ -29,11 +29,11 @@ abbrev pub Gives : {X Y : Type 0} → (X → Y) → Result X DiskFault → Resul
 Gives view (Ok x) read = read ≡ Ok (view x)
 Gives view (Err e) read = Fails e read
 
--- a number of this width, and the bytes behind it
+-- a number of this width, and the bytes after it
 abbrev pub number_at : Width → List ℕ → Result (ℕ × List ℕ) DiskFault
 number_at w bytes = if nat_lt (length bytes) (byte_len w) then Err BadRecord else Ok (from_le_bytes w (take (byte_len w) bytes), drop (byte_len w) bytes)
 
--- so many bytes, and those behind them
+-- so many bytes, and those after them
 abbrev pub text_at : ℕ → List ℕ → Result (List ℕ × List ℕ) DiskFault
 text_at n bytes = if nat_lt (length bytes) n then Err BadRecord else Ok (take n bytes, drop n bytes)
 
@@ -46,14 +46,14 @@ abbrev pub all_name_bytes : List ℕ → Bool
 all_name_bytes [] = true
 all_name_bytes (b ∷ bytes) = is_name_byte b && all_name_bytes bytes
 
--- a creation behind its kind, and the bytes behind it
+-- a creation, from the bytes after its kind, and the bytes after it
 unfoldable pub create_at : List ℕ → Result (Change × List ℕ) DiskFault
 create_at [] = Err BadRecord
 create_at (n ∷ rest) = do
   name ← text_at n rest
   if nat_le 1 n && nat_le n 32 && all_name_bytes name.0 then Ok (Create name.0, name.1) else Err BadRecord
 
--- a write behind its kind, and the bytes behind it
+-- a write, from the bytes after its kind, and the bytes after it
 unfoldable pub write_at : List ℕ → Result (Change × List ℕ) DiskFault
 write_at bytes = do
   file ← number_at w16 bytes
@@ -62,13 +62,13 @@ write_at bytes = do
   text ← text_at n.0 n.1
   if nat_le 1 n.0 && nat_le n.0 1024 then Ok (Write file.0 offset.0 text.0, text.1) else Err BadRecord
 
--- an emptying behind its kind, and the bytes behind it
+-- an emptying, from the bytes after its kind, and the bytes after it
 unfoldable pub empty_at : List ℕ → Result (Change × List ℕ) DiskFault
 empty_at bytes = do
   file ← number_at w16 bytes
   Ok (Empty file.0, file.1)
 
--- a change, and the bytes behind it
+-- a change, and the bytes after it
 unfoldable pub change_at : List ℕ → Result (Change × List ℕ) DiskFault
 change_at [] = Err BadRecord
 change_at (zero ∷ rest) = Err BadRecord
@@ -105,7 +105,7 @@ unfoldable pub all_changed : List NamedFile → List Change → Result (List Nam
 all_changed files [] = Ok files
 all_changed files (c ∷ cs) = step_at files c >>= λ later. all_changed later cs
 
--- what lies behind an open gate: the body, and what begins with the next gate
+-- what lies after an open gate: the body, and what begins with the next gate
 unfoldable pub body_at : List ℕ → Result (List ℕ × List ℕ) DiskFault
 body_at bytes =
     if nat_lt (length bytes) 4 then Err PastHalf
@@ -120,7 +120,7 @@ record_at files bytes = do
   later ← all_changed files cs
   Ok (later, body.1)
 
--- what lies behind the gate, where it is open
+-- what lies after the gate, where it is open
 abbrev pub opened : List ℕ → Option (List ℕ)
 opened [] = None
 opened (gate ∷ bytes) = if gate == 1 then Some bytes else None
@@ -136,7 +136,7 @@ unfoldable pub records_at : ℕ → List NamedFile → List ℕ → Result (List
 records_at zero files rest = Ok (files, rest)
 records_at (suc n) files rest = on_some (opened rest) (λ bytes. record_at files bytes >>= λ x. records_at n x.0 x.1) (Ok (files, rest))
 
--- what a function left behind is what reading gives, unless memory ran out
+-- what a function left is what reading gives, unless memory ran out
 abbrev pub GivesNew : {X Y : Type 0} → Result X DiskFault → Y → Result Y DiskFault → Type 0
 GivesNew (Ok x) new read = read ≡ Ok new
 GivesNew (Err e) new read = Fails e read

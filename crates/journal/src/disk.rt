@@ -18,8 +18,8 @@ fn part(bytes: &[u8], from: usize, to: usize) -> &[u8]
     requires order { from ≤ to }
     ensures { result.now ≡ drop from (take to bytes.now) }
 {
-    let (front, _) = bytes.split_at(to);
-    let (_, back) = front.split_at(from);
+    let (prefix, _) = bytes.split_at(to);
+    let (_, back) = prefix.split_at(from);
     back
 }
 
@@ -39,31 +39,31 @@ fn read(alloc: Global, bytes: &[u8]) -> Result<(FileTable, u32), DiskFault>
 }
 
 /// The files that a disk holds, and the place of the first gate in the selected half that is not open.
-pub fn open(alloc: Global, disk: &SimDisk) -> Result<(FileTable, u32), DiskFault>
+pub fn open(alloc: Global, device: &SimDisk) -> Result<(FileTable, u32), DiskFault>
     // What is found is held.
-    ensures found { IfOk result (λ x. IsHeldTo disk.now.disk x.1 x.0) }
-    ensures gate { let h = selected_half (slice_index disk.now.disk 0) in IfOk result (λ x. (start_of h ≤ x.1) × (x.1 < end_of h)) }
+    ensures found { IfOk result (λ x. IsHeldTo device.now.disk x.1 x.0) }
+    ensures gate { let h = selected_half (slice_index device.now.disk 0) in IfOk result (λ x. (start_of h ≤ x.1) × (x.1 < end_of h)) }
     // Where files are held, only want of memory is a refusal.
-    ensures only { (gate : ℕ) (files : List NamedFile) → IsHeldTo disk.now.disk gate files → IfErr result (λ e. e ≡ OutOfMemory) }
+    ensures only { (gate : ℕ) (files : List NamedFile) → IsHeldTo device.now.disk gate files → IfErr result (λ e. e ≡ OutOfMemory) }
     // A fault is the first one.
-    ensures fault { IfErr result (TellsFault disk.now.disk) }
+    ensures fault { IfErr result (TellsFault device.now.disk) }
     // Where the first gate is not open, no memory is taken.
-    ensures closed { (slice_index disk.now.disk (start_of (selected_half (slice_index disk.now.disk 0))) ≡ 1 → ⊥) → IsOk result }
+    ensures closed { (slice_index device.now.disk (start_of (selected_half (slice_index device.now.disk 0))) ≡ 1 → ⊥) → IsOk result }
 {
-    read(alloc, disk.bytes())
+    read(alloc, device.bytes())
 }
 
 /// The files that a disk holds, by its completed bytes: writes in flight are not looked at.
-pub fn recover(alloc: Global, disk: &SimDisk) -> Result<FileTable, DiskFault>
+pub fn recover(alloc: Global, device: &SimDisk) -> Result<FileTable, DiskFault>
     // What is found is held.
-    ensures found { IfOk result (IsHeld disk.now.disk) }
+    ensures found { IfOk result (IsHeld device.now.disk) }
     // Where files are held, only want of memory is a refusal.
-    ensures only { (files : List NamedFile) → IsHeld disk.now.disk files → IfErr result (λ e. e ≡ OutOfMemory) }
+    ensures only { (files : List NamedFile) → IsHeld device.now.disk files → IfErr result (λ e. e ≡ OutOfMemory) }
     // A fault is the first one.
-    ensures fault { IfErr result (TellsFault disk.now.disk) }
+    ensures fault { IfErr result (TellsFault device.now.disk) }
     // Where the first gate is not open, no memory is taken.
-    ensures closed { (slice_index disk.now.disk (start_of (selected_half (slice_index disk.now.disk 0))) ≡ 1 → ⊥) → IsOk result }
+    ensures closed { (slice_index device.now.disk (start_of (selected_half (slice_index device.now.disk 0))) ≡ 1 → ⊥) → IsOk result }
 {
-    let (files, _) = open(alloc, disk)?;
+    let (files, _) = open(alloc, device)?;
     Ok(files)
 }

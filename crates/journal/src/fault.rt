@@ -1,5 +1,6 @@
 //! Why a disk cannot be read.
 ghost use Rattle.std.specs.Prelude.{◌≡◌};
+ghost use Rattle.journal.specs.Faults.{number_of};
 ghost use Rattle.journal.specs.declared.fault.DiskFault.TheVariants.{OutOfMemory};
 
 use std::alloc::{AllocError, AllocFailed};
@@ -16,12 +17,21 @@ pub enum DiskFault {
     /// write that ends past 16,384 bytes.
     #[error("a record has a change that is not possible")]
     BadChange = 2,
-    /// The gate behind a record would lie outside the half.
+    /// The gate after a record would lie outside the half.
     #[error("a record ends past its half")]
     PastHalf = 3,
     /// Memory ran out. It tells nothing about the disk.
     #[error("out of memory")]
     OutOfMemory = 4,
+}
+
+impl DiskFault {
+    /// Its number, 1 to 4.
+    pub fn number(self) -> u8
+        ensures { result ≡ number_of self }
+    {
+        self as u8
+    }
 }
 
 impl From<AllocError> for DiskFault {

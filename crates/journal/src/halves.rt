@@ -24,7 +24,7 @@ pub fn first_gate(half: bool) -> u32
     if half { 1048576 } else { 64 }
 }
 
-/// The place behind a half's last byte, in bytes from the disk's start. Each half has 1,048,512 bytes.
+/// The place after a half's last byte, in bytes from the disk's start. Each half has 1,048,512 bytes.
 pub fn half_end(half: bool) -> u32
     ensures { result ≡ end_of half }
 {

@@ -14,6 +14,7 @@ mod tests;
 mod writing;
 
 pub use disk::{open, recover};
+pub use disk_model::Change;
 pub use fault::DiskFault;
 pub use halves::{first_gate, half_end, half_of, selector_of};
 pub use laws::one_outcome;

@@ -8,31 +8,31 @@ use byte_list::Bytes;
 use disk_model::Change;
 use std::alloc::Global;
 
-/// A number of two bytes, and the bytes behind it.
+/// A number of two bytes, and the bytes after it.
 fn u16_at(bytes: &[u8]) -> Result<(u16, &[u8]), DiskFault>
     ensures { Gives (λ x. (x.0, x.1.now)) result (number_at w16 bytes.now) }
 {
     if bytes.len() < 2 {
         return Err(DiskFault::BadRecord);
     }
-    let (front, rest) = bytes.split_at(2);
-    let number = u16::from_le_bytes([front[0], front[1]]);
+    let (prefix, rest) = bytes.split_at(2);
+    let number = u16::from_le_bytes([prefix[0], prefix[1]]);
     Ok((number, rest))
 }
 
-/// A number of four bytes, and the bytes behind it.
+/// A number of four bytes, and the bytes after it.
 fn u32_at(bytes: &[u8]) -> Result<(u32, &[u8]), DiskFault>
     ensures { Gives (λ x. (x.0, x.1.now)) result (number_at w32 bytes.now) }
 {
     if bytes.len() < 4 {
         return Err(DiskFault::BadRecord);
     }
-    let (front, rest) = bytes.split_at(4);
-    let number = u32::from_le_bytes([front[0], front[1], front[2], front[3]]);
+    let (prefix, rest) = bytes.split_at(4);
+    let number = u32::from_le_bytes([prefix[0], prefix[1], prefix[2], prefix[3]]);
     Ok((number, rest))
 }
 
-/// A copy of the first n bytes, and the bytes behind them.
+/// A copy of the first n bytes, and the bytes after them.
 fn text_of(alloc: Global, n: usize, bytes: &[u8]) -> Result<(Bytes, &[u8]), DiskFault>
     ensures { Gives (λ x. (x.0, x.1.now)) result (text_at n bytes.now) }
 {
@@ -55,7 +55,7 @@ fn are_name_bytes(bytes: &[u8]) -> bool
     true
 }
 
-/// A creation behind its kind.
+/// A creation, from the bytes after its kind.
 #[tactic(auto, unfolding(crate::specs::Reading::create_at))]
 fn create_of(alloc: Global, bytes: &[u8]) -> Result<(Change, &[u8]), DiskFault>
     ensures { Gives (λ x. (x.0, x.1.now)) result (create_at bytes.now) }
@@ -73,7 +73,7 @@ fn create_of(alloc: Global, bytes: &[u8]) -> Result<(Change, &[u8]), DiskFault>
     }
 }
 
-/// A write behind its kind.
+/// A write, from the bytes after its kind.
 #[tactic(auto, unfolding(crate::specs::Reading::write_at))]
 fn write_of(alloc: Global, bytes: &[u8]) -> Result<(Change, &[u8]), DiskFault>
     ensures { Gives (λ x. (x.0, x.1.now)) result (write_at bytes.now) }
@@ -93,7 +93,7 @@ fn write_of(alloc: Global, bytes: &[u8]) -> Result<(Change, &[u8]), DiskFault>
     Ok((change, rest))
 }
 
-/// An emptying behind its kind.
+/// An emptying, from the bytes after its kind.
 #[tactic(auto, unfolding(crate::specs::Reading::empty_at))]
 fn empty_of(bytes: &[u8]) -> Result<(Change, &[u8]), DiskFault>
     ensures { Gives (λ x. (x.0, x.1.now)) result (empty_at bytes.now) }
@@ -102,7 +102,7 @@ fn empty_of(bytes: &[u8]) -> Result<(Change, &[u8]), DiskFault>
     Ok((Change::Empty(file), rest))
 }
 
-/// A change, and the bytes behind it.
+/// A change, and the bytes after it.
 #[tactic(auto, unfolding(crate::specs::Reading::change_at))]
 fn change_of(alloc: Global, bytes: &[u8]) -> Result<(Change, &[u8]), DiskFault>
     ensures { Gives (λ x. (x.0, x.1.now)) result (change_at bytes.now) }
@@ -123,8 +123,8 @@ pub fn body_in(bytes: &[u8]) -> Result<(&[u8], &[u8]), DiskFault>
     if bytes.len() < 4 {
         return Err(DiskFault::PastHalf);
     }
-    let (front, rest) = bytes.split_at(4);
-    let n = u32::from_le_bytes([front[0], front[1], front[2], front[3]]) as usize;
+    let (prefix, rest) = bytes.split_at(4);
+    let n = u32::from_le_bytes([prefix[0], prefix[1], prefix[2], prefix[3]]) as usize;
     if rest.len() <= n {
         return Err(DiskFault::PastHalf);
     }
@@ -132,7 +132,7 @@ pub fn body_in(bytes: &[u8]) -> Result<(&[u8], &[u8]), DiskFault>
 }
 
 /// The changes of a body: all of its bytes.
-pub fn changes_of(alloc: Global, bytes: &[u8]) -> Result<Vec<Change>, DiskFault>
+pub fn read_changes(alloc: Global, bytes: &[u8]) -> Result<Vec<Change>, DiskFault>
     ensures { Gives (λ v. v.items) result (changes_at (length bytes.now) bytes.now) }
 {
     let mut changes = Vec::new(alloc);

@@ -2,7 +2,7 @@
 ghost use Rattle.std.specs.Prelude.{◌≡◌, ◌≤◌, ◌++◌, List, length, IfOk, OnOk};
 ghost use Rattle.std.specs.List.{AllByRecursion};
 ghost use Rattle.disk_model.specs.declared.change.NamedFile.{NamedFile};
-ghost use Rattle.disk_model.specs.Rebuild.{rebuild as changes_of, writes_from};
+ghost use Rattle.disk_model.specs.Rebuild.{rebuild as checkpoint_changes, writes_from};
 
 use byte_list::Bytes;
 use disk_model::Change;
@@ -25,15 +25,15 @@ fn push_writes(
     let mut offset = 0u32;
     let mut rest = bytes;
     while !rest.is_empty() {
-        let (front, behind) = rest.split_at(rest.len().min(WRITE));
-        let bytes = Bytes::copy_of(alloc, front)?;
+        let (prefix, after) = rest.split_at(rest.len().min(WRITE));
+        let bytes = Bytes::copy_of(alloc, prefix)?;
         changes.push(Change::Write {
             file,
             offset,
             bytes,
         })?;
         offset += WRITE as u32;
-        rest = behind;
+        rest = after;
     }
     Ok(())
 }
@@ -43,7 +43,7 @@ fn push_writes(
 pub fn rebuild(alloc: Global, files: &FileTable) -> Result<Vec<Change>, AllocError>
     requires few { length files.now ≤ 32 }
     requires short { AllByRecursion (λ (f : NamedFile). length f.bytes ≤ 16384) files.now }
-    ensures { IfOk result (λ v. v.items ≡ changes_of files.now) }
+    ensures { IfOk result (λ v. v.items ≡ checkpoint_changes files.now) }
 {
     let mut changes = Vec::new(alloc);
     for place in 0..files.count() {

@@ -3,16 +3,10 @@ ghost use Rattle.std.specs.Prelude.{◌≡◌, [], length, option_map, None, IsO
 ghost use Rattle.journal.specs.Reading.{is_unnamed, Gives, GivesNew, GivesBoth, step_at, all_changed, record_at, records_at, opened};
 
 use crate::fault::DiskFault;
-use crate::reading::{body_in, changes_of};
-use disk_model::Change;
+use crate::reading::{body_in, read_changes};
+use disk_model::{Change, LONGEST_FILE, MOST_FILES};
 use files::FileTable;
 use std::alloc::Global;
-
-/// How many files there may be.
-const MOST_FILES: usize = 32;
-
-/// How many bytes a file may have.
-const LONGEST_FILE: usize = 16384;
 
 /// Whether no file has this name.
 #[tactic(auto, unfolding(crate::specs::Reading::is_unnamed))]
@@ -41,7 +35,7 @@ fn apply(alloc: Global, files: &mut FileTable, change: &Change) -> Result<(), Di
             let place = *file as usize;
             let offset = *offset as usize;
             let bytes = bytes.as_slice();
-            if place >= files.count() || offset + bytes.len() > LONGEST_FILE {
+            if place >= files.count() || offset + bytes.len() > LONGEST_FILE as usize {
                 return Err(DiskFault::BadChange);
             }
             Ok(files.write(place, offset, bytes)?)
@@ -78,13 +72,13 @@ fn record_of<'a>(
     ensures { GivesBoth (λ x. x.now) result files.new (record_at files.old bytes.now) }
 {
     let (body, after) = body_in(bytes)?;
-    let changes = changes_of(alloc, body)?;
+    let changes = read_changes(alloc, body)?;
     apply_all(alloc, files, &changes)?;
     Ok(after)
 }
 
-/// What lies behind the gate, where it is open.
-fn behind_open_gate(rest: &[u8]) -> Option<&[u8]>
+/// What lies after the gate, where it is open.
+fn after_open_gate(rest: &[u8]) -> Option<&[u8]>
     ensures { option_map (λ x. x.now) result ≡ opened rest.now }
 {
     match rest {
@@ -101,7 +95,7 @@ pub fn records_of(alloc: Global, half: &[u8]) -> Result<(FileTable, &[u8]), Disk
     let mut files = FileTable::new(alloc);
     let mut rest = half;
     for _ in 0..half.len() {
-        let Some(bytes) = behind_open_gate(rest) else {
+        let Some(bytes) = after_open_gate(rest) else {
             return Ok((files, rest));
         };
         rest = record_of(alloc, &mut files, bytes)?;

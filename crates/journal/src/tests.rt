@@ -6,7 +6,7 @@ use std::alloc::{AllocError, Global};
 use std::test::Fail;
 
 /// A disk of zeros but for these bytes, each from its place on.
-fn disk_of(alloc: Global, parts: &[(usize, &[u8])]) -> Result<SimDisk, DiskRefusal> {
+fn device_of(alloc: Global, parts: &[(usize, &[u8])]) -> Result<SimDisk, DiskRefusal> {
     let mut bytes = Vec::new(alloc);
     for (at, part) in parts {
         bytes.resize(*at, 0)?;
@@ -18,8 +18,8 @@ fn disk_of(alloc: Global, parts: &[(usize, &[u8])]) -> Result<SimDisk, DiskRefus
 
 /// The fault of a disk, if it has one.
 fn fault_of(alloc: Global, parts: &[(usize, &[u8])]) -> Result<Option<DiskFault>, DiskRefusal> {
-    let disk = disk_of(alloc, parts)?;
-    match recover(alloc, &disk) {
+    let device = device_of(alloc, parts)?;
+    match recover(alloc, &device) {
         Ok(_) => Ok(None),
         Err(fault) => Ok(Some(fault)),
     }
@@ -38,10 +38,10 @@ fn record_of(alloc: Global, body: &[u8]) -> Result<Vec<u8>, AllocError> {
 #[test]
 fn a_disk_of_zeros_holds_no_files(rt: HostRuntime) -> Result<(), Fail> {
     let alloc = rt.alloc();
-    let disk = SimDisk::zero(alloc)?;
-    let (files, gate) = open(alloc, &disk)?;
+    let device = SimDisk::zero(alloc)?;
+    let (files, gate) = open(alloc, &device)?;
     assert_eq!(rt; (files.count(), gate), (0, 64));
-    assert_eq!(rt; recover(alloc, &disk)?.count(), 0);
+    assert_eq!(rt; recover(alloc, &device)?.count(), 0);
     Ok(())
 }
 
@@ -63,10 +63,10 @@ fn damaged_disks(rt: HostRuntime) -> Result<(), Fail> {
     ] {
         assert_eq!(rt; fault_of(alloc, &[(64, bytes)])?, fault);
     }
-    assert_eq!(rt; DiskFault::BadRecord as u8, 1);
-    assert_eq!(rt; DiskFault::BadChange as u8, 2);
-    assert_eq!(rt; DiskFault::PastHalf as u8, 3);
-    assert_eq!(rt; DiskFault::OutOfMemory as u8, 4);
+    assert_eq!(rt; DiskFault::BadRecord.number(), 1);
+    assert_eq!(rt; DiskFault::BadChange.number(), 2);
+    assert_eq!(rt; DiskFault::PastHalf.number(), 3);
+    assert_eq!(rt; DiskFault::OutOfMemory.number(), 4);
     Ok(())
 }
 
@@ -102,8 +102,8 @@ fn bad_bodies(rt: HostRuntime) -> Result<(), Fail> {
 fn a_file_of_the_first_record(rt: HostRuntime) -> Result<(), Fail> {
     let alloc = rt.alloc();
     let record = b"\x01\x0f\0\0\0\x01\x01f\x02\0\0\0\0\0\0\x03\0A\0\0\0";
-    let disk = disk_of(alloc, &[(64, record.as_slice())])?;
-    let (files, gate) = open(alloc, &disk)?;
+    let device = device_of(alloc, &[(64, record.as_slice())])?;
+    let (files, gate) = open(alloc, &device)?;
     assert_eq!(rt; (files.count(), gate), (1, 84));
     assert_eq!(rt; files.find(b"f"), Some(0));
     assert_eq!(rt; files.read(0, 0, 9), Some(b"A\0\0".as_slice()));
@@ -111,15 +111,15 @@ fn a_file_of_the_first_record(rt: HostRuntime) -> Result<(), Fail> {
 }
 
 #[test]
-fn one_record_behind_the_other(rt: HostRuntime) -> Result<(), Fail> {
+fn one_record_after_the_other(rt: HostRuntime) -> Result<(), Fail> {
     let alloc = rt.alloc();
     let first = b"\x01\x06\0\0\0\x01\x01f\x01\x01g".as_slice();
     let second = b"\x01\x0d\0\0\0\x02\x01\0\x02\0\0\0\x01\0A\x03\0\0\x02".as_slice();
     let leftovers = b"\x01\x01".as_slice();
     let parts = [(64, first), (75, second), (94, leftovers)];
-    let disk = disk_of(alloc, &parts)?;
-    // The second gate is open, and the third, of 2, is not; what lies behind it is not read.
-    let (files, gate) = open(alloc, &disk)?;
+    let device = device_of(alloc, &parts)?;
+    // The second gate is open, and the third, of 2, is not; what lies after it is not read.
+    let (files, gate) = open(alloc, &device)?;
     assert_eq!(rt; (files.count(), gate), (2, 93));
     assert_eq!(rt; files.bytes(0), b"".as_slice());
     assert_eq!(rt; files.bytes(1), b"\0\0A".as_slice());
@@ -127,12 +127,12 @@ fn one_record_behind_the_other(rt: HostRuntime) -> Result<(), Fail> {
 }
 
 #[test]
-fn leftovers_behind_a_closed_gate(rt: HostRuntime) -> Result<(), Fail> {
+fn leftovers_after_a_closed_gate(rt: HostRuntime) -> Result<(), Fail> {
     let alloc = rt.alloc();
     for gate in [0, 2, 255] {
         let bytes = [gate, 0xff, 0xff, 0xff, 0xff, 1, 9];
-        let disk = disk_of(alloc, &[(64, bytes.as_slice())])?;
-        let (files, place) = open(alloc, &disk)?;
+        let device = device_of(alloc, &[(64, bytes.as_slice())])?;
+        let (files, place) = open(alloc, &device)?;
         assert_eq!(rt; (files.count(), place), (0, 64), "gate {gate}");
     }
     Ok(())
@@ -146,8 +146,8 @@ fn byte_0_selects_the_half(rt: HostRuntime) -> Result<(), Fail> {
     for (byte, first, second, place) in [(3, damaged, file, 1048584), (2, file, damaged, 72)] {
         let selector = [byte];
         let parts = [(0, selector.as_slice()), (64, first), (1048576, second)];
-        let disk = disk_of(alloc, &parts)?;
-        let (files, gate) = open(alloc, &disk)?;
+        let device = device_of(alloc, &parts)?;
+        let (files, gate) = open(alloc, &device)?;
         assert_eq!(rt; (files.count(), gate), (1, place));
         assert_eq!(rt; files.name(0), b"g".as_slice());
     }
@@ -172,10 +172,10 @@ fn too_few_bytes_for_a_length(rt: HostRuntime) -> Result<(), Fail> {
     let record = record_of(alloc, &long_body(alloc)?)?;
     for (start, byte) in [(64, 0), (1048576, 1)] {
         let selector = [byte];
-        let disk = disk_of(alloc, &[(0, selector.as_slice()), (start, &record)])?;
-        let (files, gate) = open(alloc, &disk)?;
+        let device = device_of(alloc, &[(0, selector.as_slice()), (start, &record)])?;
+        let (files, gate) = open(alloc, &device)?;
         assert_eq!(rt; (files.count(), gate as usize), (1, start + 1048509));
-        // The next gate is open, and two bytes are left behind it.
+        // The next gate is open, and two bytes are left after it.
         let parts = [
             (0, selector.as_slice()),
             (start, &record),
@@ -199,7 +199,7 @@ fn creations(alloc: Global, files: u8) -> Result<Vec<u8>, AllocError> {
 fn as_many_files_as_there_may_be(rt: HostRuntime) -> Result<(), Fail> {
     let alloc = rt.alloc();
     let record = record_of(alloc, &creations(alloc, 32)?)?;
-    let files = recover(alloc, &disk_of(alloc, &[(64, &record)])?)?;
+    let files = recover(alloc, &device_of(alloc, &[(64, &record)])?)?;
     assert_eq!(rt; files.count(), 32);
     assert_eq!(rt; files.find(b"`"), Some(31));
     let record = record_of(alloc, &creations(alloc, 33)?)?;
@@ -230,7 +230,7 @@ fn long_file(alloc: Global, last: u32) -> Result<Vec<u8>, AllocError> {
 fn a_file_as_long_as_it_may_be(rt: HostRuntime) -> Result<(), Fail> {
     let alloc = rt.alloc();
     let record = record_of(alloc, &long_file(alloc, 16383)?)?;
-    let files = recover(alloc, &disk_of(alloc, &[(64, &record)])?)?;
+    let files = recover(alloc, &device_of(alloc, &[(64, &record)])?)?;
     assert_eq!(rt; files.count(), 1);
     assert_eq!(rt; files.length(0), 16384);
     assert_eq!(rt; files.read(0, 16382, 9), Some([15, 99].as_slice()));
@@ -246,7 +246,7 @@ fn a_file_as_long_as_it_may_be(rt: HostRuntime) -> Result<(), Fail> {
 #[test]
 fn a_write_longer_than_it_may_be(rt: HostRuntime) -> Result<(), Fail> {
     let alloc = rt.alloc();
-    for (front, len, fault) in [
+    for (prefix, len, fault) in [
         (b"\x01\x01f\x02\0\0\0\0\0\0\0\x04".as_slice(), 1024, None),
         (
             b"\x01\x01f\x02\0\0\0\0\0\0\x01\x04",
@@ -254,7 +254,7 @@ fn a_write_longer_than_it_may_be(rt: HostRuntime) -> Result<(), Fail> {
             Some(DiskFault::BadRecord),
         ),
     ] {
-        let mut body = Vec::from_slice(alloc, front)?;
+        let mut body = Vec::from_slice(alloc, prefix)?;
         body.extend_from_slice(&vec![in alloc; 7; len]?)?;
         let record = record_of(alloc, &body)?;
         assert_eq!(rt; fault_of(alloc, &[(64, &record)])?, fault);
@@ -268,7 +268,7 @@ fn impossible_changes(rt: HostRuntime) -> Result<(), Fail> {
     for body in [
         // A file that is not there is emptied.
         b"\x01\x01f\x03\x01\0".as_slice(),
-        // Writes of one byte at the greatest offset, and behind the longest file.
+        // Writes of one byte at the greatest offset, and past the longest file.
         b"\x01\x01f\x02\0\0\xff\xff\xff\xff\x01\0a",
         b"\x01\x01f\x02\0\0\0\x40\0\0\x01\0a",
     ] {
@@ -281,7 +281,7 @@ fn impossible_changes(rt: HostRuntime) -> Result<(), Fail> {
     Ok(())
 }
 
-/// The fault of a disk with these records behind one another, from the first gate on.
+/// The fault of a disk with these records one after the other, from the first gate on.
 fn fault_of_two(alloc: Global, first: &[u8], second: &[u8]) -> Result<Option<DiskFault>, Fail> {
     let mut records = Vec::from_slice(alloc, first)?;
     records.extend_from_slice(second)?;

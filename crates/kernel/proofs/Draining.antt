@@ -8,10 +8,10 @@ use Rattle.disk_model.specs.declared.change.NamedFile.{NamedFile}
 use Rattle.disk_model.specs.declared.change.Piece.{Piece}
 use Rattle.kernel_model.specs.Answers.{Kernel, Applies, Refuses, ◌⇒◌, first_of, refusal, is_full, now, committed, changes, uncommitted, in_flight, with_event}
 use Rattle.kernel_model.specs.Drains.{IsAllCommitted, HasNoFailure, completion_or_cut, Drains, drain_refusal, IsDrained}
-use Rattle.kernel_model.specs.Paths.{changes_of}
+use Rattle.kernel_model.specs.Paths.{changes_in_log}
 use Rattle.kernel_model.specs.Steps.{step}
-use Rattle.kernel_model.specs.World.{World, begun, happens, after, stored}
-use Rattle.kernel_model.proofs.Runs.{changes_of-entry, now-with_event}
+use Rattle.kernel_model.specs.World.{World, first_world, happens, after, stored}
+use Rattle.kernel_model.proofs.Runs.{changes_in_log-entry, now-with_event}
 use Rattle.kernel_model.specs.declared.answer.Answer.{Answer}
 use Rattle.kernel_model.specs.declared.answer.Refused.{Refused}
 use Rattle.kernel_model.specs.declared.answer.Refused.TheVariants as refused
@@ -35,7 +35,7 @@ group-short cs = let size = length-take 64 cs in omega (arith, size)
 
 cut-within : (n : ℕ) (st : Storage) (cs : List Change) (files : List NamedFile) → st.committed + length cs ≤ n → IsWithin n st → IsWithin n (cut st cs files)
 cut-within n st [] files room h = h
-cut-within n st (c ∷ cs) files room h = by (is_quiet st.drive) (fits st (group_of (c ∷ cs)))
+cut-within n st (c ∷ cs) files room h = by (is_quiet st.device) (fits st (group_of (c ∷ cs)))
   where
     by : (quiet fit : Bool) → IsWithin n (if quiet then (if fit then group st (group_of (c ∷ cs)) else checkpoint st (length (c ∷ cs)) (rebuild files)) else st)
     by true true = let short = group-short (c ∷ cs) in record { committed = h.committed; next = omega (arith, short, room) }
@@ -47,7 +47,7 @@ next-within n st [] h = record { committed = h.next; next = h.next }
 next-within n st (stage ∷ stages) h = record { committed = h.committed; next = h.next }
 
 advanced-within : (n : ℕ) (st : Storage) → IsWithin n st → IsWithin n (advanced st)
-advanced-within n st h = by (is_quiet st.drive)
+advanced-within n st h = by (is_quiet st.device)
   where
     by : (b : Bool) → IsWithin n (if b then next_stage st st.stages else st)
     by true = next-within n st st.stages h
@@ -56,7 +56,7 @@ advanced-within n st h = by (is_quiet st.drive)
 completed-within : (n : ℕ) (st : Storage) (at : ℕ) (o : Option Piece) → IsWithin n st → IsWithin n (completed_by st at o)
 completed-within n st at None h = h
 completed-within n st at (Some p) h =
-    advanced-within n (record st { drive = with_completion st.drive at p }) (record { committed = h.committed; next = h.next })
+    advanced-within n (record st { device = with_completion st.device at p }) (record { committed = h.committed; next = h.next })
 
 failed-within : (n : ℕ) (st : Storage) (at : ℕ) (o : Option Piece) → IsWithin n st → IsWithin n (failed_by st at o)
 failed-within n st at None h = h
@@ -70,55 +70,55 @@ stored-within n st cs files Cut size h =
     let rest = length-drop st.committed cs in
     let is = h.committed in
     cut-within n st (drop st.committed cs) files (omega (arith, rest, size, is)) h
-stored-within n st cs files (Complete at) size h = completed-within n st at (piece_at st.drive.in_flight at) h
-stored-within n st cs files (Fail at) size h = failed-within n st at (piece_at st.drive.in_flight at) h
+stored-within n st cs files (Complete at) size h = completed-within n st at (piece_at st.device.in_flight at) h
+stored-within n st cs files (Fail at) size h = failed-within n st at (piece_at st.device.in_flight at) h
 
 happens-within : (w : World) (e : Event) → IsWithin (changes w) w.storage → IsWithin (changes (happens w e)) (happens w e).storage
 happens-within w e h =
-    let more : length (changes_of (happens w e).log) ≡ length (changes_of w.log) + length _ =
-    ap (λ (cs : List Change). length cs) (changes_of-entry w.log (step w.sync e).entry) ∙ length-append (changes_of w.log) _ in
+    let more : length (changes_in_log (happens w e).log) ≡ length (changes_in_log w.log) + length _ =
+    ap (λ (cs : List Change). length cs) (changes_in_log-entry w.log (step w.sync e).entry) ∙ length-append (changes_in_log w.log) _ in
     within-more (changes w) (changes (happens w e)) (happens w e).storage (omega (arith, more))
-    (stored-within (changes w) w.storage (changes_of w.log) w.sync.files e refl h)
+    (stored-within (changes w) w.storage (changes_in_log w.log) w.sync.files e refl h)
 
 after-within : (w : World) (es : List Event) → IsWithin (changes w) w.storage → IsWithin (changes (after w es)) (after w es).storage
 after-within w [] h = h
 after-within w (e ∷ es) h = after-within (happens w e) es (happens-within w e h)
 
 committed-within : (k : Kernel) → committed (now k) ≤ changes (now k)
-committed-within k = (after-within (begun k.boot) k.history (record { committed = omega arith; next = omega arith })).committed
+committed-within k = (after-within (first_world k.boot) k.history (record { committed = omega arith; next = omega arith })).committed
 
 -- ---- a Cut and a completion fail no write
-cut-sound : (st : Storage) (cs : List Change) (files : List NamedFile) → (cut st cs files).drive.failed ≡ st.drive.failed
+cut-sound : (st : Storage) (cs : List Change) (files : List NamedFile) → (cut st cs files).device.failed ≡ st.device.failed
 cut-sound st [] files = refl
-cut-sound st (c ∷ cs) files = by (is_quiet st.drive) (fits st (group_of (c ∷ cs)))
+cut-sound st (c ∷ cs) files = by (is_quiet st.device) (fits st (group_of (c ∷ cs)))
   where
     by : (quiet fit : Bool)
-        → (if quiet then (if fit then group st (group_of (c ∷ cs)) else checkpoint st (length (c ∷ cs)) (rebuild files)) else st).drive.failed ≡ st.drive.failed
+        → (if quiet then (if fit then group st (group_of (c ∷ cs)) else checkpoint st (length (c ∷ cs)) (rebuild files)) else st).device.failed ≡ st.device.failed
     by true true = refl
     by true false = refl
     by false fit = refl
 
-next-sound : (st : Storage) (stages : List (List Piece)) → (next_stage st stages).drive.failed ≡ st.drive.failed
+next-sound : (st : Storage) (stages : List (List Piece)) → (next_stage st stages).device.failed ≡ st.device.failed
 next-sound st [] = refl
 next-sound st (stage ∷ stages) = refl
 
-advanced-sound : (st : Storage) → (advanced st).drive.failed ≡ st.drive.failed
-advanced-sound st = by (is_quiet st.drive)
+advanced-sound : (st : Storage) → (advanced st).device.failed ≡ st.device.failed
+advanced-sound st = by (is_quiet st.device)
   where
-    by : (b : Bool) → (if b then next_stage st st.stages else st).drive.failed ≡ st.drive.failed
+    by : (b : Bool) → (if b then next_stage st st.stages else st).device.failed ≡ st.device.failed
     by true = next-sound st st.stages
     by false = refl
 
-completed-sound : (st : Storage) (at : ℕ) (o : Option Piece) → (completed_by st at o).drive.failed ≡ st.drive.failed
+completed-sound : (st : Storage) (at : ℕ) (o : Option Piece) → (completed_by st at o).device.failed ≡ st.device.failed
 completed-sound st at None = refl
-completed-sound st at (Some p) = advanced-sound (record st { drive = with_completion st.drive at p })
+completed-sound st at (Some p) = advanced-sound (record st { device = with_completion st.device at p })
 
-stays-sound : (k : Kernel) (o : Option ℕ) → (now (with_event k (completion_or_cut o))).storage.drive.failed ≡ (now k).storage.drive.failed
+stays-sound : (k : Kernel) (o : Option ℕ) → (now (with_event k (completion_or_cut o))).storage.device.failed ≡ (now k).storage.device.failed
 stays-sound k None =
-    ap (λ (w : World). w.storage.drive.failed) (now-with_event k Cut) ∙ cut-sound (now k).storage (uncommitted (now k)) (now k).sync.files
+    ap (λ (w : World). w.storage.device.failed) (now-with_event k Cut) ∙ cut-sound (now k).storage (uncommitted (now k)) (now k).sync.files
 stays-sound k (Some at) =
-    ap (λ (w : World). w.storage.drive.failed) (now-with_event k (Complete at))
-    ∙ completed-sound (now k).storage at (piece_at (now k).storage.drive.in_flight at)
+    ap (λ (w : World). w.storage.device.failed) (now-with_event k (Complete at))
+    ∙ completed-sound (now k).storage at (piece_at (now k).storage.device.in_flight at)
 
 -- ---- the write that begins first is in flight
 lesser-some : (a : ℕ) (o : Option ℕ) → lesser (Some a) o ≡ None → ⊥
@@ -130,11 +130,11 @@ least-none [] e = refl
 least-none (p ∷ ps) e = absurd (lesser-some p.at (least_start ps) e)
 
 -- where the first piece does not begin there, the others' least place is there
-least-behind : (a at : ℕ) (o : Option ℕ) → lesser (Some a) o ≡ Some at → (a == at) ≡ false → o ≡ Some at
-least-behind a at None e other =
+least-after : (a at : ℕ) (o : Option ℕ) → lesser (Some a) o ≡ Some at → (a == at) ≡ false → o ≡ Some at
+least-after a at None e other =
     let same : a ≡ at = cc in
     absurd (eqb-false a at other same)
-least-behind a at (Some b) e other =
+least-after a at (Some b) e other =
     let least : min a b ≡ at = cc in
     let differs : a ≡ at → ⊥ = eqb-false a at other in
     let same : b ≡ at = omega (arith, least, differs) in
@@ -144,7 +144,7 @@ least-there : (ps : List Piece) (at : ℕ) → least_start ps ≡ Some at → is
 least-there [] at e = cc
 least-there (p ∷ ps) at e = elim (p.at == at) as (λ (b : Bool). (p.at == at) ≡ b → is_none (if b then Some p else piece_at ps at) ≡ false) [
   | true ↦ λ h. refl
-  | false ↦ λ h. least-there ps at (least-behind p.at at (least_start ps) e h)
+  | false ↦ λ h. least-there ps at (least-after p.at at (least_start ps) e h)
 ] refl
 
 -- ---- what refuses the next event of a drain
@@ -174,11 +174,11 @@ write-refused true true full x z = cc
 next-refused : (k : Kernel) (o : Option ℕ) → in_flight (now k) ≡ o → HasNoFailure (now k) → committed (now k) < changes (now k)
     → refusal k (completion_or_cut o) ≡ drain_refusal k
 next-refused k None none sound some =
-    cut-refused (is_empty (now k).storage.drive.failed) (is_empty (now k).storage.drive.in_flight) (is_empty (uncommitted (now k))) (is_full k)
-    sound (least-none (now k).storage.drive.in_flight none) (drop-some (committed (now k)) (changes_of (now k).log) some)
+    cut-refused (is_empty (now k).storage.device.failed) (is_empty (now k).storage.device.in_flight) (is_empty (uncommitted (now k))) (is_full k)
+    sound (least-none (now k).storage.device.in_flight none) (drop-some (committed (now k)) (changes_in_log (now k).log) some)
 next-refused k (Some at) there sound some =
-    write-refused (is_empty (now k).storage.drive.failed) (is_none (piece_at (now k).storage.drive.in_flight at)) (is_full k)
-    sound (least-there (now k).storage.drive.in_flight at there)
+    write-refused (is_empty (now k).storage.device.failed) (is_none (piece_at (now k).storage.device.in_flight at)) (is_full k)
+    sound (least-there (now k).storage.device.in_flight at there)
 
 -- ---- the drain so far
 pub record IsDraining (first k : Kernel) : Type 0 where
@@ -206,7 +206,7 @@ draining-more first k new e a is some h done =
       events = h.events ++ e ∷ [];
       drains = drains-more first k h.events e h.drains (record { sound = h.sound; some = λ all. omega (arith, some, all); is = is; fine = done.0 });
       sound =
-          ap (λ (x : Event). is_empty (now (with_event k x)).storage.drive.failed) is
+          ap (λ (x : Event). is_empty (now (with_event k x)).storage.device.failed) is
           ∙ ap (λ (ps : List Piece). is_empty ps) (stays-sound k (in_flight (now k)))
           ∙ h.sound;
     })
@@ -238,12 +238,12 @@ failed-first : (a full : Bool) → not a ≡ true → Refuses (first_of ((not a 
 failed-first false full h = refl
 failed-first true full h = cc
 
-pub drain-failed : (k : Kernel) → not (is_empty (now k).storage.drive.failed) ≡ true → IsDrained k k (Err refused.DiskFailed)
+pub drain-failed : (k : Kernel) → not (is_empty (now k).storage.device.failed) ≡ true → IsDrained k k (Err refused.DiskFailed)
 drain-failed k h = record {
   events = [];
   drains = refl;
   outcome = (
-    (λ end. sound-or-failed (is_empty (now k).storage.drive.failed) h end.0),
-    failed-first (is_empty (now k).storage.drive.failed) (is_full k) h,
+    (λ end. sound-or-failed (is_empty (now k).storage.device.failed) h end.0),
+    failed-first (is_empty (now k).storage.device.failed) (is_full k) h,
   );
 }

@@ -1,5 +1,5 @@
 -- Events applied in turn.
-use Rattle.std.proofs.Common.{◌≡◌, ℕ, zero, suc, ◌+◌, true, false, List, [], ◌∷◌, ◌++◌, take, slice_get, Some, None, Result, Ok, Err, is_err, refl, sym, ap, subst, ◌∙◌, arith}
+use Rattle.std.proofs.Common.{◌≡◌, ℕ, zero, suc, ◌+◌, ◌<◌, true, false, List, [], ◌∷◌, ◌++◌, length, take, slice_get, slice_index_or, Some, None, Result, Ok, Err, is_err, refl, sym, ap, subst, ◌∙◌, arith}
 use Rattle.kernel_model.specs.Answers.{Kernel, Applies, AllAccepted, refusal, with_event, with_events}
 use Rattle.kernel_model.specs.declared.answer.Answer.{Answer}
 use Rattle.kernel_model.specs.declared.answer.Refused.{Refused}
@@ -9,6 +9,12 @@ use Rattle.kernel_model.specs.declared.event.Event.{Event}
 pub record Scripted (first now : Kernel) (events : List Event) (i : ℕ) : Type 0 where
   pub grown : now ≡ with_events first (take i events)
   pub accepted : AllAccepted first (take i events)
+
+-- an element at a place within
+pub get-index : {A : Type 0} (xs : List A) (i : ℕ) (d : A) → i < length xs → slice_get xs i ≡ Some (slice_index_or xs i d)
+get-index [] i d h = absurd (omega arith)
+get-index (y ∷ ys) zero d h = refl
+get-index (y ∷ ys) (suc i) d h = get-index ys i d (omega arith)
 
 take-snoc : {A : Type 0} (xs : List A) (i : ℕ) (x : A) → slice_get xs i ≡ Some x → take (i + 1) xs ≡ take i xs ++ x ∷ []
 take-snoc [] i x e = cc

@@ -5,7 +5,7 @@ ghost use Rattle.kernel_model.specs.Drains.{IsDrained, completion_or_cut};
 ghost use Rattle.kernel_model.specs.Shown.{printed, told, shown, handed};
 ghost use Rattle.kernel_model.specs.Views.{contents};
 
-use crate::boot::Core;
+use crate::cores::Core;
 use kernel_laws::all_is_shown;
 use kernel_model::{Event, Refused};
 
@@ -29,7 +29,7 @@ impl Core {
         ensures shown { OnOk result ((t : ℕ) → shown (now self.new) t ≡ contents (printed t (now self.new).log)) }
         ensures handed { OnOk result ((p : ℕ) → handed (now self.new) p ≡ contents (told p (now self.new).log)) }
     {
-        if self.shared.disk.has_failed() {
+        if self.running.has_failed() {
             return Err(Refused::DiskFailed);
         }
         while self.committed() < self.changes() {

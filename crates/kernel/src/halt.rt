@@ -3,29 +3,29 @@ ghost use Rattle.std.specs.Prelude.{◌≡◌, true};
 ghost use Rattle.disk_model.specs.Runs.{quiet};
 ghost use Rattle.disk_model.specs.Storage.{is_quiet};
 ghost use Rattle.simdisk.specs.Room.{crashed};
-ghost use Rattle.kernel_laws.specs.Crashes.{HoldsFront};
+ghost use Rattle.kernel_laws.specs.Crashes.{HoldsPrefix};
 ghost use Rattle.kernel_laws.specs.Resuming.{IsSound, MayLeave};
 ghost use Rattle.kernel_model.specs.Answers.{now};
 
-use crate::boot::Core;
+use crate::cores::Core;
 use kernel_laws::crashes_keep_the_committed;
 use simdisk::{SimDisk, fills_are_crashes};
 
 impl Core {
     /// The disk that a crash leaves now, where the ranges of writes in flight or failed take these bytes, by rising place,
-    /// again and again from the start; an empty fill leaves the completed bytes. It holds the files after a front of the
+    /// again and again from the start; an empty fill leaves the completed bytes. It holds the files after a prefix of the
     /// run's changes, with every committed one in it, so that a core can be booted on it: `runs_go_on` says with which files.
     /// Takes no memory.
     pub fn halt(self, fill: &[u8]) -> SimDisk
-        ensures disk { result ≡ quiet (crashed (now self).storage.drive fill.now) }
+        ensures device { result ≡ quiet (crashed (now self).storage.device fill.now) }
         ensures quiet { is_quiet result ≡ true }
         ensures sound { IsSound self.boot }
         ensures left { MayLeave (now self) result.disk }
-        ensures holds { HoldsFront self.boot (now self) result.disk }
+        ensures holds { HoldsPrefix self.boot (now self) result.disk }
     {
         crashes_keep_the_committed();
         fills_are_crashes();
-        let shared = self.shared;
-        shared.disk.crash(fill)
+        let running = self.running;
+        running.crash(fill)
     }
 }

@@ -1,51 +1,33 @@
 //! What may be seen of a run.
 ghost use Rattle.std.specs.Prelude.{◌≡◌, ◌<◌, None, true, is_some, IfOk, OnOk, IfErr};
-ghost use Rattle.std.specs.List.{list_any};
 ghost use Rattle.kernel_model.specs.Answers.{now, process_of, committed as committed_in, changes as changes_in, in_flight as least_in_flight, wants_cut as is_cut_wanted};
 ghost use Rattle.kernel_model.specs.Ran.{ran_by_turns};
 ghost use Rattle.kernel_model.specs.Shown.{shown as shown_of, handed, replies_in, end_in};
 ghost use Rattle.kernel_model.specs.declared.answer.Refused.TheVariants.{NoProcess};
-ghost use Rattle.kernel.specs.Seen.{holds_back};
 
-use crate::boot::Core;
-use crate::screen::Screen;
-use crate::tasks::place_of;
+use crate::cores::Core;
 use files::FileTable;
 use kernel_model::{Event, Refused};
 use machine_model::Reply;
 
-/// Whether some screen holds a byte back.
-fn is_any_held_back(screens: &[Screen]) -> bool
-    ensures { result ≡ list_any holds_back screens.now }
-{
-    screens.iter().any(|screen| screen.holds_back())
-}
-
 impl Core {
-    /// The bytes that a terminal, 0 to 7, shows: the longest front of those written to it that rests on committed changes
+    /// The bytes that a terminal, 0 to 7, shows: the longest prefix of those written to it that rests on committed changes
     /// alone.
     pub fn shown(&self, terminal: u32) -> &[u8]
         requires { terminal < 8 }
         ensures { result.now ≡ shown_of (now self.now) terminal }
     {
-        let screen = &self.shared.screens[terminal as usize];
-        screen.shown()
+        self.running.shown(terminal)
     }
 
-    /// The replies to a process's calls that are handed out: the longest front that rests on committed changes alone.
+    /// The replies to a process's calls that are handed out: the longest prefix that rests on committed changes alone.
     /// Refused: NoProcess.
     pub fn trace(&self, pid: u32) -> Result<&[Reply], Refused>
         ensures replies { IfOk result (λ rs. rs.now ≡ replies_in (handed (now self.now) pid)) }
         ensures there { OnOk result (is_some (process_of self.now pid) ≡ true) }
         ensures none { IfErr result (λ why. (why ≡ NoProcess) × (process_of self.now pid ≡ None)) }
     {
-        match place_of(&self.tasks, pid) {
-            Some(place) => {
-                let task = &self.tasks[place];
-                Ok(task.trace.handed())
-            }
-            None => Err(Refused::NoProcess),
-        }
+        self.running.trace(pid)
     }
 
     /// The status with which a process ended, where all its replies are handed out and its end rests on committed changes
@@ -55,49 +37,42 @@ impl Core {
         ensures there { OnOk result (is_some (process_of self.now pid) ≡ true) }
         ensures none { IfErr result (λ why. (why ≡ NoProcess) × (process_of self.now pid ≡ None)) }
     {
-        match place_of(&self.tasks, pid) {
-            Some(place) => {
-                let task = &self.tasks[place];
-                Ok(task.trace.handed_end(self.shared.disk.committed()))
-            }
-            None => Err(Refused::NoProcess),
-        }
+        self.running.ended(pid)
     }
 
     /// The accepted events, in order.
     pub fn history(&self) -> &[Event]
         ensures { result.now ≡ self.now.history }
     {
-        &self.history
+        self.running.history()
     }
 
     /// How many changes are committed.
     pub fn committed(&self) -> u64
         ensures { result ≡ committed_in (now self.now) }
     {
-        self.shared.disk.committed()
+        self.running.committed()
     }
 
     /// How many changes of files there are, committed or not.
     pub fn changes(&self) -> u64
         ensures { result ≡ changes_in (now self.now) }
     {
-        self.shared.changes.len() as u64
+        self.running.changes()
     }
 
     /// How many instructions the history's Turns ran, those of loans' results among them.
     pub fn ran(&self) -> u64
         ensures { result ≡ ran_by_turns self.now }
     {
-        self.ran
+        self.running.ran()
     }
 
     /// Whether a Cut is wanted: a byte of some terminal is held back, no group is in flight, and no write has failed.
     pub fn wants_cut(&self) -> bool
         ensures { result ≡ is_cut_wanted (now self.now) }
     {
-        let held = is_any_held_back(&self.shared.screens);
-        self.shared.disk.wants_cut(held)
+        self.running.wants_cut()
     }
 
     /// The files that the disk held at boot.
@@ -111,6 +86,6 @@ impl Core {
     pub fn in_flight(&self) -> Option<u32>
         ensures { result ≡ least_in_flight (now self.now) }
     {
-        self.shared.disk.in_flight()
+        self.running.in_flight()
     }
 }

@@ -1,18 +1,18 @@
--- Where all changes are committed, everything is settled, and so all is released.
+-- Where all changes are committed, everything is durable, and so all is released.
 use Rattle.std.proofs.Common.{◌≡◌, ℕ, ◌+◌, ◌<◌, ◌≤◌, inl, inr, Bool, true, false, if◌then◌else◌, List, [], ◌∷◌, ◌++◌, length, Option, Some, None, is_some, refl, ap, ◌∙◌, arith}
 use Rattle.std.specs.List.{AllByRecursion}
 use Rattle.disk_model.specs.declared.change.Change.{Change}
 use Rattle.kernel_model.specs.Entries.{Entry, Item, Got}
-use Rattle.kernel_model.specs.Paths.{RestsOn, IsSettled, change_count, is_settled, changes_of, with_change}
-use Rattle.kernel_model.specs.Shown.{Given, given_by, each_from, printed, told, told_from, told_with, is_made, items_for, bytes_for, front, released}
+use Rattle.kernel_model.specs.Paths.{RestsOn, IsDurable, change_count, is_durable, changes_in_log, with_change}
+use Rattle.kernel_model.specs.Shown.{Given, given_by, each_from, printed, told, told_from, told_with, is_made, items_for, bytes_for, prefix, released}
 use Rattle.kernel_model.specs.Steps.{zero_reply}
 use Rattle.kernel_model.specs.Views.{contents}
-use Rattle.kernel_model.proofs.Paths.{settled_to}
-use Rattle.kernel_laws.proofs.Each.{each_append}
+use Rattle.kernel_model.proofs.Paths.{durable_to}
+use Rattle.disk_model.proofs.Lists.{each_append}
 
 -- how many changes these events made
 abbrev pub count : List Entry → ℕ
-count log = length (changes_of log)
+count log = length (changes_in_log log)
 
 count-with : (o : Option Change) (cs : List Change) → length (with_change o cs) ≡ (if is_some o then 1 else 0) + length cs
 count-with None cs = omega arith
@@ -20,7 +20,7 @@ count-with (Some c) cs = omega arith
 
 count-append : (xs ys : List Entry) → count (xs ++ ys) ≡ count xs + count ys
 count-append [] ys = omega arith
-count-append (x ∷ xs) ys = omega (arith, count-with x.change (changes_of (xs ++ ys)), count-with x.change (changes_of xs), count-append xs ys)
+count-append (x ∷ xs) ys = omega (arith, count-with x.change (changes_in_log (xs ++ ys)), count-with x.change (changes_in_log xs), count-append xs ys)
 
 -- an event rests on changes of its past, and on its own
 rests_below : (n : ℕ) (past : List Entry) (e : Entry) (k : ℕ) → RestsOn n past e k → k < n + (count past + count (e ∷ []))
@@ -29,15 +29,15 @@ rests_below n [] e k h =
     let same : k ≡ n = h.1 in omega (arith, count-with e.change [])
 rests_below n (x ∷ xs) e k (inl h) =
     let own : change_count x ≡ 1 = ap (λ (b : Bool). if b then 1 else 0) h.0 in
-    let same : k ≡ n = h.1 in omega (arith, count-with x.change (changes_of xs))
-rests_below n (x ∷ xs) e k (inr h) = omega (arith, rests_below (n + change_count x) xs e k h, count-with x.change (changes_of xs))
+    let same : k ≡ n = h.1 in omega (arith, count-with x.change (changes_in_log xs))
+rests_below n (x ∷ xs) e k (inr h) = omega (arith, rests_below (n + change_count x) xs e k h, count-with x.change (changes_in_log xs))
 
--- so it is settled where they are among the first c
+-- so it is durable where they are among the first c
 abbrev IsEarly : {A : Type 0} → ℕ → Given A → Type 0
 IsEarly c x = count (x.past ++ x.entry ∷ []) ≤ c
 
-early_settled : {A : Type 0} (c : ℕ) (x : Given A) → IsEarly c x → IsSettled c x.past x.entry
-early_settled c x early k rests = omega (arith, rests_below 0 x.past x.entry k rests, count-append x.past (x.entry ∷ []))
+early_durable : {A : Type 0} (c : ℕ) (x : Given A) → IsEarly c x → IsDurable c x.past x.entry
+early_durable c x early k rests = omega (arith, rests_below 0 x.past x.entry k rests, count-append x.past (x.entry ∷ []))
 
 -- ---- what events give
 
@@ -45,7 +45,7 @@ given_early : {A : Type 0} (c : ℕ) (past : List Entry) (e : Entry) (xs : List 
 given_early c past e [] early = tt
 given_early c past e (x ∷ xs) early = (early, given_early c past e xs early)
 
--- the first of these events, behind their past
+-- the first of these events, after their past
 first_early : (c : ℕ) (past : List Entry) (e : Entry) (es : List Entry) → count past + count (e ∷ es) ≤ c → count (past ++ e ∷ []) + count es ≤ c
 first_early c past e es all = omega (arith, count-append past (e ∷ []), count-append (e ∷ []) es)
 
@@ -76,7 +76,7 @@ told_early c before past (e ∷ es) h all p =
 all_released : {A : Type 0} (c : ℕ) (xs : List (Given A)) → AllByRecursion (IsEarly c) xs → released c xs ≡ contents xs
 all_released c [] h = refl
 all_released c (x ∷ xs) h =
-    ap (λ (b : Bool). contents (if b then x ∷ front (λ y. is_settled c y.past y.entry) xs else [])) (settled_to c 0 x.past x.entry (early_settled c x h.0))
+    ap (λ (b : Bool). contents (if b then x ∷ prefix (λ y. is_durable c y.past y.entry) xs else [])) (durable_to c 0 x.past x.entry (early_durable c x h.0))
     ∙ ap (λ ys. x.what ∷ ys) (all_released c xs h.1)
 
 -- of this log all is released once c changes are committed, where it has as many

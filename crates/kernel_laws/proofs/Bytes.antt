@@ -7,7 +7,7 @@ use Rattle.formats.specs.Table.{instr_of}
 use Rattle.formats.specs.declared.instr.Instr.{Instr}
 use Rattle.formats.specs.declared.instr.Instr.TheVariants as instr
 use Rattle.machine_model.specs.Memory.{Memory, Cell}
-use Rattle.machine_model.specs.Access.{HoldsBytes, byte_of, bytes_at, fetched, low_bytes, put_bytes, size, stored, to_write, access_fault, with_byte}
+use Rattle.machine_model.specs.Access.{HoldsBytes, byte_of, fetched, low_bytes, put_bytes, size, stored, to_write, access_fault, with_byte}
 use Rattle.machine_model.specs.Effects.{Hart, Effect, Becomes, Stands, effect, jumps, load_effect, store_effect, stores, reg}
 use Rattle.machine_model.specs.States.{State, Stepped, Goes, Halts, Ran, counted, by_instr, by_fetch, next, run, replied}
 use Rattle.machine_model.specs.declared.access.BusFault.{BusFault}
@@ -17,7 +17,7 @@ use Rattle.machine_model.specs.declared.reply.Reply.{Reply}
 use Rattle.machine_model.specs.declared.stop.Cause.TheVariants as cause
 use Rattle.machine_model.specs.declared.stop.Stop.TheVariants.{Trap}
 use Rattle.machine_model.proofs.Memories.{get-insert}
-use Rattle.kernel_laws.proofs.Machines.{run_none, run_stands, run_on}
+use Rattle.machine_model.proofs.Running.{run-zero, run-goes, run-halts}
 
 abbrev pub AreBytes : List ℕ → Type 0
 AreBytes bytes = AllByRecursion (λ b. b < 256) bytes
@@ -43,10 +43,6 @@ low_bytes-small (suc n) value = (omega arith, low_bytes-small n (value / 2 ^ 8))
 
 stored-holds : (m : Memory) (at : ℕ) (width : Width) (value : ℕ) → HoldsBytes m → HoldsBytes (stored m at width value)
 stored-holds m at width value h = put_bytes-holds (low_bytes (size width) value) m at (low_bytes-small (size width) value) h
-
-pub bytes_at-small : (m : Memory) (at n : ℕ) → HoldsBytes m → AreBytes (bytes_at m at n)
-bytes_at-small m at zero h = tt
-bytes_at-small m at (suc n) h = (h at, bytes_at-small m (at + 1) n h)
 
 -- the memory of the hart that an instruction makes, if it makes one, holds bytes
 abbrev MakesBytes : Effect → Type 0
@@ -145,10 +141,10 @@ next_goes s m = fetch_goes s (fetched s.hart.memory s.hart.pc) m
 
 -- and of each that a run comes to
 pub run_holds : (n : ℕ) (s : State) → HoldsBytes s.hart.memory → HoldsBytes (run n s).state.hart.memory
-run_holds zero s m = subst (λ (r : Ran). HoldsBytes r.state.hart.memory) (sym (run_none s)) m
+run_holds zero s m = subst (λ (r : Ran). HoldsBytes r.state.hart.memory) (sym (run-zero s)) m
 run_holds (suc n) s m = elim (next s) as (λ o. next s ≡ o → GoesToBytes o → HoldsBytes (run (suc n) s).state.hart.memory) [
-  | Goes t ↦ λ e k. subst (λ (r : Ran). HoldsBytes r.state.hart.memory) (sym (run_on n s t e)) (run_holds n t k)
-  | Halts stop ↦ λ e k. subst (λ (r : Ran). HoldsBytes r.state.hart.memory) (sym (run_stands n s stop e)) m
+  | Goes t ↦ λ e k. subst (λ (r : Ran). HoldsBytes r.state.hart.memory) (sym (run-goes n s t e)) (run_holds n t k)
+  | Halts stop ↦ λ e k. subst (λ (r : Ran). HoldsBytes r.state.hart.memory) (sym (run-halts n s stop e)) m
 ] refl (next_goes s m)
 
 pub replied_holds : (s : State) (r : Reply) → AreBytes r.bytes → HoldsBytes s.hart.memory → HoldsBytes (replied s r).hart.memory

@@ -1,26 +1,24 @@
 -- Each process comes from one of the boot's, by the replies that it was told.
-use Rattle.std.proofs.Common.{◌≡◌, ℕ, ◌+◌, Bool, true, false, if◌then◌else◌, List, [], ◌∷◌, ◌++◌, length, Option, Some, None, is_some, refl, sym, ap, subst, ◌∙◌, arith}
+use Rattle.std.proofs.Common.{append-nil, ◌≡◌, ℕ, ◌+◌, Bool, true, false, if◌then◌else◌, List, [], ◌∷◌, ◌++◌, length, Option, Some, None, refl, sym, ap, subst, ◌∙◌, arith}
 use Rattle.std.proofs.lemmas.Bool.{eq-eqb}
 use Rattle.machine_model.specs.declared.reply.Reply.{Reply}
-use Rattle.machine_model.specs.declared.stop.Stop.{Stop}
-use Rattle.machine_model.specs.declared.stop.Stop.TheVariants.{Limit, Call, Trap}
+use Rattle.machine_model.specs.declared.stop.Stop.TheVariants.{Call}
 use Rattle.machine_model.specs.States.{State, stands_at, replied}
 use Rattle.kernel_model.specs.Entries.{Entry}
-use Rattle.kernel_model.specs.State.{SyncState, shared, Process, process_at, put_process, with_process}
-use Rattle.kernel_model.specs.Requests.{request_of}
-use Rattle.kernel_model.specs.Rows.{Effect, row, row_end, cause_number}
-use Rattle.kernel_model.specs.Steps.{Transition, own_entry, impossible, after_run, after_reply, zero_reply, forked, after_end, after_turn, effect_at, after_effect, after_effect_if, after_enter, step}
+use Rattle.kernel_model.specs.State.{SyncState, Process, process_at, put_process}
+use Rattle.kernel_model.specs.Rows.{Effect, cause_number}
+use Rattle.kernel_model.specs.Steps.{unchanged, Transition, impossible, after_run, after_reply, zero_reply, forked, after_end, after_effect, step}
 use Rattle.kernel_model.specs.Shown.{is_made}
-use Rattle.kernel_model.specs.World.{World, Boot, begun, happens, after}
+use Rattle.kernel_model.specs.World.{World, Boot, first_world, happens, after}
 use Rattle.kernel_model.specs.declared.event.Event.{Event}
-use Rattle.kernel_model.specs.declared.event.Event.TheVariants.{Turn, Enter, Cut, Complete, Fail}
 use Rattle.kernel_model.specs.declared.request.Verdict.{Verdict}
 use Rattle.kernel_model.specs.declared.request.Verdict.TheVariants.{Waits, Replies, Ends}
+use Rattle.kernel_model.proofs.Transitions.{turned, call_of, trap_of, of_step}
 use Rattle.kernel_model.proofs.ChildRows.{IsNoneOrNextProcess, call_next}
-use Rattle.kernel_model.proofs.Runs.{append-nil}
 use Rattle.kernel_laws.specs.Promises.{ComesTo, IsDescended, ancestor, ancestor_from, ancestor_with}
+use Rattle.kernel_model.proofs.Limits.{put_length}
 use Rattle.kernel_laws.proofs.Machines.{comes_at_once, comes_replied}
-use Rattle.kernel_laws.proofs.Processes.{at_last, put_none, length_put}
+use Rattle.kernel_laws.proofs.Processes.{at_last, put_none}
 use Rattle.kernel_laws.proofs.Children.{step_not_made}
 use Rattle.kernel_laws.proofs.Replies.{replies_of, replies_of-made, goes_on}
 
@@ -45,14 +43,6 @@ put_new s p q x new t same none there =
     let no : None ≡ Some new = sym (put_none s.processes p q x none) ∙ ap (λ (ps : List Process). process_at ps p) (sym same) ∙ there in
     absurd (let never : ⊥ = cc in never)
 
-turn_new : (s : SyncState) (p q n : ℕ) (new : Process) (o : Option Process) → MakesNew s p new (after_turn s q n o)
-turn_new s p q n new None = same_new s p new (impossible q s) refl
-turn_new s p q n new (Some y) = elim (is_some y.status) as (λ b.
-    MakesNew s p new (if b then impossible q s else record { state = with_process s q (after_run n y); entry = own_entry q })) [
-      | true ↦ same_new s p new (impossible q s) refl
-      | false ↦ put_new s p q (after_run n y) new (record { state = with_process s q (after_run n y); entry = own_entry q }) refl
-    ]
-
 -- the process that is made, if one is, is the only one that is new
 forked_new : (s : SyncState) (p q : ℕ) (x y new : Process) (o : Option ℕ) → IsNoneOrNextProcess (length s.processes) o → process_at s.processes p ≡ None
     → process_at (put_process s.processes q x ++ forked y o) p ≡ Some new → (is_made o p ≡ true) × (new.state ≡ replied y.state zero_reply)
@@ -62,7 +52,7 @@ forked_new s p q x y new None next none there =
 forked_new s p q x y new (Some child) next none there =
     let made : Process = record { state = replied y.state zero_reply; descriptors = y.descriptors; children = []; status = None } in
     let last = at_last (put_process s.processes q x) p made new (put_none s.processes p q x none) there in
-    let same : child ≡ p = omega (arith, next, last.0, length_put s.processes q x) in
+    let same : child ≡ p = omega (arith, next, last.0, put_length s.processes q x) in
     (eq-eqb child p same, ap (λ (z : Process). z.state) (sym last.1))
 
 effect_new : (s : SyncState) (p q : ℕ) (y new : Process) (e : Effect) (v : Verdict) → process_at s.processes q ≡ Some y → stands_at y.state ≡ Some Call
@@ -73,30 +63,15 @@ effect_new s p q y new e (Replies r) at call next = λ none there.
     record { parent = y; there = at; stands = call; made = is.0; state = is.1 }
 effect_new s p q y new e (Ends status) at call next = put_new s p q (after_end y status) new (after_effect s q y e (Ends status)) refl
 
-stop_new : (s : SyncState) (p q : ℕ) (y new : Process) (stop : Option Stop) → process_at s.processes q ≡ Some y → stands_at y.state ≡ stop
-    → MakesNew s p new (after_effect_if s q y (effect_at (shared s) q y stop))
-stop_new s p q y new None at stands = same_new s p new (impossible q s) refl
-stop_new s p q y new (Some Limit) at stands = same_new s p new (impossible q s) refl
-stop_new s p q y new (Some Call) at stands =
-    let e = row (shared s) q y.descriptors y.children (request_of y.state) in effect_new s p q y new e e.told at stands (call_next s q y)
-stop_new s p q y new (Some (Trap cause)) at stands =
-    let status = 256 + cause_number cause in
-    let e = row_end y.descriptors status in put_new s p q (after_end y status) new (after_effect s q y e (Ends status)) refl
-
-enter_new : (s : SyncState) (p q : ℕ) (new : Process) (o : Option Process) → process_at s.processes q ≡ o → MakesNew s p new (after_enter s q o)
-enter_new s p q new None at = same_new s p new (impossible q s) refl
-enter_new s p q new (Some y) at = elim (is_some y.status) as (λ b.
-    MakesNew s p new (if b then impossible q s else after_effect_if s q y (effect_at (shared s) q y (stands_at y.state)))) [
-      | true ↦ same_new s p new (impossible q s) refl
-      | false ↦ stop_new s p q y new (stands_at y.state) at refl
-    ]
-
 step_new : (s : SyncState) (p : ℕ) (new : Process) (e : Event) → MakesNew s p new (step s e)
-step_new s p new (Turn q n) = turn_new s p q n new (process_at s.processes q)
-step_new s p new (Enter q) = enter_new s p q new (process_at s.processes q) refl
-step_new s p new Cut = same_new s p new (step s Cut) refl
-step_new s p new (Complete at) = same_new s p new (step s (Complete at)) refl
-step_new s p new (Fail at) = same_new s p new (step s (Fail at)) refl
+step_new s p new e = of_step (MakesNew s p new) s (same_new s p new (unchanged s) refl) (λ q. record {
+  cannot = same_new s p new (impossible q s) refl;
+  turns = λ n y at lives. put_new s p q (after_run n y) new (turned s q n y) refl;
+  calls = λ y at lives stands. effect_new s p q y new (call_of s q y) (call_of s q y).verdict at stands (call_next s q y);
+  traps = λ y cause at lives stands.
+      let status = 256 + cause_number cause in
+      put_new s p q (after_end y status) new (after_effect s q y (trap_of y cause) (Ends status)) refl;
+}) e
 
 -- ---- ancestors
 
@@ -123,7 +98,7 @@ old_descends b w e p old new at there d =
     let from = ancestor-entry p w.log (step w.sync e).entry false (step_not_made w.sync p old e at) in
     record {
       first = d.first;
-      booted = ap (λ (q : ℕ). process_at (begun b).sync.processes q) from ∙ d.booted;
+      booted = ap (λ (q : ℕ). process_at (first_world b).sync.processes q) from ∙ d.booted;
       comes = subst (λ (x : Process). ComesTo d.first.state (replies_of p (happens w e).log) x.state) is g.2;
     }
 
@@ -135,7 +110,7 @@ new_descends b w e p new h m =
     let from = ancestor-entry p w.log entry true m.made in
     record {
       first = d.first;
-      booted = ap (λ (q : ℕ). process_at (begun b).sync.processes q) from ∙ d.booted;
+      booted = ap (λ (q : ℕ). process_at (first_world b).sync.processes q) from ∙ d.booted;
       comes = subst (λ (rs : List Reply). ComesTo d.first.state rs new.state) (sym (replies_of-made p w.log entry m.made))
           (subst (λ (u : State). ComesTo d.first.state (replies_of entry.process w.log ++ zero_reply ∷ []) u) (sym m.state)
           (comes_replied d.first.state (replies_of entry.process w.log) m.parent.state zero_reply m.stands d.comes));
@@ -152,5 +127,5 @@ pub after_descends : (b : Boot) (es : List Event) (w : World) → AreDescended b
 after_descends b [] w h = h
 after_descends b (e ∷ es) w h = after_descends b es (happens w e) (happens_descends b w e h)
 
-pub begun_descends : (b : Boot) → AreDescended b (begun b)
-begun_descends b p process there = record { first = process; booted = there; comes = comes_at_once process.state }
+pub first_world_descends : (b : Boot) → AreDescended b (first_world b)
+first_world_descends b p process there = record { first = process; booted = there; comes = comes_at_once process.state }

@@ -1,6 +1,6 @@
 pub mod DiskLaws
 pub mod Machines
-pub mod Fronts
+pub mod Prefixes
 pub mod Processes
 pub mod Others
 pub mod Children
@@ -12,7 +12,6 @@ pub mod Swap
 pub mod Viewing
 pub mod WritingOut
 pub mod Bytes
-pub mod Each
 pub mod Possible
 pub mod Sound
 pub mod DiskRuns

@@ -2,39 +2,21 @@
 use Rattle.std.proofs.Common.{◌≡◌, ℕ, zero, suc, ◌+◌, List, [], ◌∷◌, ◌++◌, Some, refl, sym, ap, ◌∙◌, arith}
 use Rattle.machine_model.specs.declared.reply.Reply.{Reply}
 use Rattle.machine_model.specs.declared.stop.Stop.{Stop}
-use Rattle.machine_model.specs.declared.stop.Stop.TheVariants.{Call, Limit}
-use Rattle.machine_model.specs.States.{State, Stepped, Goes, Halts, Ran, ran, after, by_step, next, run, stands_at, replied}
+use Rattle.machine_model.specs.declared.stop.Stop.TheVariants.{Call}
+use Rattle.machine_model.specs.States.{State, Goes, Halts, Ran, next, run, stands_at, replied}
+use Rattle.machine_model.proofs.Running.{run-zero, run-goes, run-halts}
 use Rattle.kernel_laws.specs.Promises.{ComesTo}
 
--- a run of more instructions, where the first is done or is not
-abbrev on_from : ℕ → State → Stepped → Ran
-on_from n s o = by_step o (λ t. after 1 (run n t)) (λ stop. ran 0 s stop)
-
 pub run_zero : (s : State) → (run zero s).state ≡ s
-unfolding run
-run_zero s = refl
-
-pub run_suc : (n : ℕ) (s : State) → run (suc n) s ≡ on_from n s (next s)
-unfolding run
-run_suc n s = refl
-
-pub run_none : (s : State) → run zero s ≡ ran 0 s Limit
-unfolding run
-run_none s = refl
-
-pub run_stands : (n : ℕ) (s : State) (stop : Stop) → next s ≡ Halts stop → run (suc n) s ≡ ran 0 s stop
-run_stands n s stop h = run_suc n s ∙ ap (on_from n s) h
-
-pub run_on : (n : ℕ) (s t : State) → next s ≡ Goes t → run (suc n) s ≡ after 1 (run n t)
-run_on n s t h = run_suc n s ∙ ap (on_from n s) h
+run_zero s = ap (λ (r : Ran). r.state) (run-zero s)
 
 -- a machine that stands stays
 pub run_halted : (n : ℕ) (s : State) (stop : Stop) → next s ≡ Halts stop → (run n s).state ≡ s
 run_halted zero s stop h = run_zero s
-run_halted (suc n) s stop h = ap (λ (r : Ran). r.state) (run_suc n s ∙ ap (on_from n s) h)
+run_halted (suc n) s stop h = ap (λ (r : Ran). r.state) (run-halts n s stop h)
 
 pub run_goes : (n : ℕ) (s t : State) → next s ≡ Goes t → (run (suc n) s).state ≡ (run n t).state
-run_goes n s t h = ap (λ (r : Ran). r.state) (run_suc n s ∙ ap (on_from n s) h)
+run_goes n s t h = ap (λ (r : Ran). r.state) (run-goes n s t h)
 
 -- the same, one instruction earlier
 run_more : (n m : ℕ) (s t : State) → next s ≡ Goes t → (run (n + m) t).state ≡ (run m (run n t).state).state

@@ -9,7 +9,9 @@ use Rattle.kernel_model.specs.declared.event.Event.{Event}
 use Rattle.kernel_model.specs.declared.event.Event.TheVariants.{Turn, Enter, Cut, Complete, Fail}
 use Rattle.kernel_model.specs.declared.request.Verdict.{Verdict}
 use Rattle.kernel_model.specs.declared.request.Verdict.TheVariants.{Waits, Replies, Ends}
-use Rattle.kernel_laws.proofs.Processes.{put_put, at_put, length_put, put_append, at_append}
+use Rattle.kernel_model.proofs.Limits.{put_length}
+use Rattle.kernel_model.proofs.Transitions.{OfEachEvent, turned, each_event, of_turn, of_enter}
+use Rattle.kernel_laws.proofs.Processes.{put_put, at_put, put_append, at_append}
 
 -- the event is none of process p's
 abbrev pub IsNotOf : ℕ → Event → Type 0
@@ -74,7 +76,7 @@ effect_moves s p q x y z e (Ends status) at ne = ap (with_processes s q z e (End
 effect_if_moves : (s : SyncState) (p q : ℕ) (x y z : Process) (o : Option Effect) → process_at s.processes p ≡ Some y → (p ≡ q → ⊥)
     → after_effect_if (with_process s p x) q z o ≡ moved p x (after_effect_if s q z o)
 effect_if_moves s p q x y z None at ne = refl
-effect_if_moves s p q x y z (Some e) at ne = effect_moves s p q x y z e e.told at ne
+effect_if_moves s p q x y z (Some e) at ne = effect_moves s p q x y z e e.verdict at ne
 
 enter_moves : (s : SyncState) (p q : ℕ) (y : Process) (t : State) (o : Option Process) → process_at s.processes p ≡ Some y → (p ≡ q → ⊥)
     → after_enter (with_process s p (at_state y t)) q o ≡ moved p (at_state y t) (after_enter s q o)
@@ -126,7 +128,7 @@ keeps_all s q t h none = record {
 keeps_others : (s : SyncState) (q : ℕ) (t : Transition) (z : Process) → t.state.processes ≡ put_process s.processes q z → t.entry.child ≡ None → Keeps s q t
 keeps_others s q t z h none = record {
   others = λ p y at ne. ap (λ ps. process_at ps p) h ∙ at_put s.processes q p z (flip ne) ∙ at;
-  as_many = ap (λ (ps : List Process). length ps) h ∙ length_put s.processes q z ∙ none_more (length s.processes) t.entry.child none;
+  as_many = ap (λ (ps : List Process). length ps) h ∙ put_length s.processes q z ∙ none_more (length s.processes) t.entry.child none;
 }
 
 length-forked : (z : Process) (o : Option ℕ) → length (forked z o) ≡ made_count o
@@ -139,45 +141,31 @@ reply_keeps s q z e r =
     record {
       others = λ p y at ne. at_append ps (forked z e.child) p y (at_put s.processes q p (after_reply z e r) (flip ne) ∙ at);
       as_many = length-append ps (forked z e.child)
-          ∙ ap (λ (n : ℕ). n + length (forked z e.child)) (length_put s.processes q (after_reply z e r))
+          ∙ ap (λ (n : ℕ). n + length (forked z e.child)) (put_length s.processes q (after_reply z e r))
           ∙ ap (λ (n : ℕ). length s.processes + n) (length-forked z e.child);
     }
-
-turn_keeps : (s : SyncState) (q n : ℕ) (o : Option Process) → Keeps s q (after_turn s q n o)
-turn_keeps s q n None = keeps_all s q (impossible q s) refl refl
-turn_keeps s q n (Some z) = elim (is_some z.status) as (λ b. Keeps s q (if b then impossible q s else record { state = with_process s q (after_run n z); entry = own_entry q })) [
-  | true ↦ keeps_all s q (impossible q s) refl refl
-  | false ↦ keeps_others s q (record { state = with_process s q (after_run n z); entry = own_entry q }) (after_run n z) refl refl
-]
 
 effect_keeps : (s : SyncState) (q : ℕ) (z : Process) (e : Effect) (v : Verdict) → Keeps s q (after_effect s q z e v)
 effect_keeps s q z e Waits = keeps_all s q (after_effect s q z e Waits) refl refl
 effect_keeps s q z e (Replies r) = reply_keeps s q z e r
 effect_keeps s q z e (Ends status) = keeps_others s q (after_effect s q z e (Ends status)) (after_end z status) refl refl
 
-effect_if_keeps : (s : SyncState) (q : ℕ) (z : Process) (o : Option Effect) → Keeps s q (after_effect_if s q z o)
-effect_if_keeps s q z None = keeps_all s q (impossible q s) refl refl
-effect_if_keeps s q z (Some e) = effect_keeps s q z e e.told
-
-enter_keeps : (s : SyncState) (q : ℕ) (o : Option Process) → Keeps s q (after_enter s q o)
-enter_keeps s q None = keeps_all s q (impossible q s) refl refl
-enter_keeps s q (Some z) = elim (is_some z.status) as (λ b. Keeps s q (if b then impossible q s else after_effect_if s q z (effect_at (shared s) q z (stands_at z.state)))) [
-  | true ↦ keeps_all s q (impossible q s) refl refl
-  | false ↦ effect_if_keeps s q z (effect_at (shared s) q z (stands_at z.state))
-]
+each_keeps : (s : SyncState) (q : ℕ) → OfEachEvent (Keeps s q) s q
+each_keeps s q = each_event (Keeps s q) s q (keeps_all s q (impossible q s) refl refl)
+    (λ n z at lives. keeps_others s q (turned s q n z) (after_run n z) refl refl) (λ z e at lives is. effect_keeps s q z e e.verdict)
 
 -- an event leaves a process that is there, and of which it is not, as it is
 pub step_keeps : (s : SyncState) (p : ℕ) (y : Process) (e : Event) → process_at s.processes p ≡ Some y → IsNotOf p e → process_at (step s e).state.processes p ≡ Some y
-step_keeps s p y (Turn q n) at ne = (turn_keeps s q n (process_at s.processes q)).others p y at ne
-step_keeps s p y (Enter q) at ne = (enter_keeps s q (process_at s.processes q)).others p y at ne
+step_keeps s p y (Turn q n) at ne = (of_turn (Keeps s q) s q (each_keeps s q) n).others p y at ne
+step_keeps s p y (Enter q) at ne = (of_enter (Keeps s q) s q (each_keeps s q)).others p y at ne
 step_keeps s p y Cut at ne = at
 step_keeps s p y (Complete k) at ne = at
 step_keeps s p y (Fail k) at ne = at
 
 -- and there are as many processes as before, and the one that is made
 pub step_length : (s : SyncState) (e : Event) → length (step s e).state.processes ≡ length s.processes + made_count (step s e).entry.child
-step_length s (Turn q n) = (turn_keeps s q n (process_at s.processes q)).as_many
-step_length s (Enter q) = (enter_keeps s q (process_at s.processes q)).as_many
+step_length s (Turn q n) = (of_turn (Keeps s q) s q (each_keeps s q) n).as_many
+step_length s (Enter q) = (of_enter (Keeps s q) s q (each_keeps s q)).as_many
 step_length s Cut = none_more (length s.processes) None refl
 step_length s (Complete k) = none_more (length s.processes) None refl
 step_length s (Fail k) = none_more (length s.processes) None refl

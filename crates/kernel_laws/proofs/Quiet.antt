@@ -1,17 +1,17 @@
 -- A quiet event, as each Turn is, tells nothing: what is seen outside is the same without it.
-use Rattle.std.proofs.Common.{◌≡◌, ℕ, ◌+◌, ◌==◌, ◌⊎◌, inl, inr, ◌||◌, ◌&&◌, not, nat_lt, Bool, true, false, if◌then◌else◌, List, [], ◌∷◌, ◌++◌, map, Option, Some, None, is_some, option_to_list, refl, sym, ap, subst, ◌∙◌, add-zero}
+use Rattle.std.proofs.Common.{append-nil, ◌≡◌, ℕ, ◌+◌, ◌==◌, ◌⊎◌, inl, inr, ◌||◌, ◌&&◌, not, nat_lt, Bool, true, false, if◌then◌else◌, List, [], ◌∷◌, ◌++◌, map, Option, Some, None, is_some, option_to_list, refl, sym, ap, subst, ◌∙◌, add-zero}
 use Rattle.std.specs.List.{list_any}
 use Rattle.std.proofs.lemmas.Bool.{eqb-true, eq-eqb, false≢true, and_parts, or_cases}
+use Rattle.std.proofs.Math.Bool.{or-true, or-false}
 use Rattle.disk_model.specs.declared.change.Change.{Change}
 use Rattle.kernel_model.specs.declared.carrier.Carrier.{Carrier}
 use Rattle.kernel_model.specs.declared.carrier.Carrier.TheVariants.{Proc, File, Names, Pipe, Pipes, Tasks, Tape}
 use Rattle.kernel_model.specs.Entries.{Entry, Item, Got, meets, is_same}
-use Rattle.kernel_model.specs.Paths.{wanted, is_settled_from, is_settled, change_count, changes_of, with_change}
+use Rattle.kernel_model.specs.Paths.{wanted, is_durable_from, is_durable, change_count, changes_in_log, with_change}
 use Rattle.kernel_model.specs.Steps.{own_entry, zero_reply}
-use Rattle.kernel_model.specs.Shown.{Given, given_by, each_from, front, released, printed, bytes_for, told, told_from, told_with, is_made, items_for}
+use Rattle.kernel_model.specs.Shown.{Given, given_by, each_from, prefix, released, printed, bytes_for, told, told_from, told_with, is_made, items_for}
 use Rattle.kernel_model.specs.Views.{contents, SameGiven}
 use Rattle.kernel_model.proofs.Meets.{meets-append}
-use Rattle.kernel_model.proofs.Runs.{append-nil}
 
 -- a process's own carrier was read, and nothing but it written
 abbrev pub only_own : List Carrier → List Carrier → Bool
@@ -29,12 +29,6 @@ telling (d ∷ ds) = if is_quiet d then telling ds else d ∷ telling ds
 
 pub own_quiet : (p : ℕ) → is_quiet (own_entry p) ≡ true
 own_quiet p = eq-eqb p p refl
-
-pub telling_quiet : (d : Entry) (ds : List Entry) → is_quiet d ≡ true → telling (d ∷ ds) ≡ telling ds
-telling_quiet d ds h = rw h refl
-
-pub telling_loud : (d : Entry) (ds : List Entry) → is_quiet d ≡ false → telling (d ∷ ds) ≡ d ∷ telling ds
-telling_loud d ds h = rw h refl
 
 pub if_append : (b : Bool) (d : Entry) (xs ys : List Entry) → (if b then xs ++ ys else d ∷ (xs ++ ys)) ≡ (if b then xs else d ∷ xs) ++ ys
 if_append true d xs ys = refl
@@ -76,10 +70,10 @@ quiet_of d h =
     }
 
 -- the changes are the same
-pub changes_told : (ds : List Entry) → changes_of ds ≡ changes_of (telling ds)
+pub changes_told : (ds : List Entry) → changes_in_log ds ≡ changes_in_log (telling ds)
 changes_told [] = refl
-changes_told (d ∷ ds) = elim (is_quiet d) as (λ b. is_quiet d ≡ b → changes_of (d ∷ ds) ≡ changes_of (if b then telling ds else d ∷ telling ds)) [
-  | true ↦ λ h. ap (λ o. with_change o (changes_of ds)) (quiet_of d h).change ∙ changes_told ds
+changes_told (d ∷ ds) = elim (is_quiet d) as (λ b. is_quiet d ≡ b → changes_in_log (d ∷ ds) ≡ changes_in_log (if b then telling ds else d ∷ telling ds)) [
+  | true ↦ λ h. ap (λ o. with_change o (changes_in_log ds)) (quiet_of d h).change ∙ changes_told ds
   | false ↦ λ h. ap (λ cs. with_change d.change cs) (changes_told ds)
 ] refl
 
@@ -96,21 +90,13 @@ same_proc Pipes p h = absurd (false≢true h)
 same_proc Tasks p h = absurd (false≢true h)
 same_proc (Tape a) p h = absurd (false≢true h)
 
-or_true : (b : Bool) → (b || true) ≡ true
-or_true true = refl
-or_true false = refl
-
-or_false : (b : Bool) → (b || false) ≡ b
-or_false true = refl
-or_false false = refl
-
 -- who meets a process that is wanted meets what is wanted
 met_by : (ws : List Carrier) (p : ℕ) (xs : List Carrier) → meets ws (Proc p ∷ []) ≡ true → list_any (is_same (Proc p)) xs ≡ true → meets ws xs ≡ true
 met_by [] p xs h m = absurd (false≢true h)
 met_by (w ∷ ws) p xs h m = elim (or_cases (list_any (is_same w) (Proc p ∷ [])) (meets ws (Proc p ∷ [])) h) [
-  | inl t ↦ let is : w ≡ Proc p = same_proc w p (sym (or_false (is_same w (Proc p))) ∙ t) in
+  | inl t ↦ let is : w ≡ Proc p = same_proc w p (sym (or-false (is_same w (Proc p))) ∙ t) in
       ap (λ b. b || meets ws xs) (subst (λ (v : Carrier). list_any (is_same v) xs ≡ true) (sym is) m)
-  | inr t ↦ ap (λ b. list_any (is_same w) xs || b) (met_by ws p xs t m) ∙ or_true (list_any (is_same w) xs)
+  | inr t ↦ ap (λ b. list_any (is_same w) xs || b) (met_by ws p xs t m) ∙ or-true (list_any (is_same w) xs)
 ]
 
 absorbed : (b c : Bool) → (c ≡ true → b ≡ true) → (b || c) ≡ b
@@ -121,7 +107,7 @@ absorbed false false f = refl
 -- a quiet event adds nothing that isn't wanted
 quiet_adds : (xs : List Carrier) (p : ℕ) (b : Bool) → meets (Proc p ∷ []) xs ≡ b → SameMeets (if b then xs ++ Proc p ∷ [] else xs) xs
 quiet_adds xs p true h ws = meets-append ws xs (Proc p ∷ [])
-    ∙ absorbed (meets ws xs) (meets ws (Proc p ∷ [])) (λ m. met_by ws p xs m (sym (or_false (list_any (is_same (Proc p)) xs)) ∙ h))
+    ∙ absorbed (meets ws xs) (meets ws (Proc p ∷ [])) (λ m. met_by ws p xs m (sym (or-false (list_any (is_same (Proc p)) xs)) ∙ h))
 quiet_adds xs p false h ws = refl
 
 loud_adds : (xs ys rs : List Carrier) (b : Bool) → SameMeets xs ys → SameMeets (if b then xs ++ rs else xs) (if b then ys ++ rs else ys)
@@ -147,32 +133,32 @@ wanted_told (d ∷ ds) rs ws = elim (is_quiet d) as (λ b. is_quiet d ≡ b → 
       ∙ ap (λ b. meets ws (if b then wanted (telling ds) rs ++ d.reads else wanted (telling ds) rs)) (wanted_told ds rs d.writes)
 ] refl
 
-pub settled_told : (c n : ℕ) (past : List Entry) (d : Entry) → is_settled_from c n past d ≡ is_settled_from c n (telling past) d
-settled_told c n [] d = refl
-settled_told c n (x ∷ xs) d = elim (is_quiet x) as (λ b. is_quiet x ≡ b → is_settled_from c n (x ∷ xs) d ≡ is_settled_from c n (if b then telling xs else x ∷ telling xs) d) [
+pub durable_told : (c n : ℕ) (past : List Entry) (d : Entry) → is_durable_from c n past d ≡ is_durable_from c n (telling past) d
+durable_told c n [] d = refl
+durable_told c n (x ∷ xs) d = elim (is_quiet x) as (λ b. is_quiet x ≡ b → is_durable_from c n (x ∷ xs) d ≡ is_durable_from c n (if b then telling xs else x ∷ telling xs) d) [
   | true ↦ λ h. let none = (quiet_of x h).change in
-      ap (λ (o : Option Change). (not (is_some o) || nat_lt n c || not (meets x.writes (wanted xs d.reads))) && is_settled_from c (n + (if is_some o then 1 else 0)) xs d) none
-      ∙ ap (λ m. is_settled_from c m xs d) (add-zero n)
-      ∙ settled_told c n xs d
+      ap (λ (o : Option Change). (not (is_some o) || nat_lt n c || not (meets x.writes (wanted xs d.reads))) && is_durable_from c (n + (if is_some o then 1 else 0)) xs d) none
+      ∙ ap (λ m. is_durable_from c m xs d) (add-zero n)
+      ∙ durable_told c n xs d
   | false ↦ λ h.
-      ap (λ b. (not (is_some x.change) || nat_lt n c || not b) && is_settled_from c (n + change_count x) xs d) (wanted_told xs d.reads x.writes)
-      ∙ ap (λ b. (not (is_some x.change) || nat_lt n c || not (meets x.writes (wanted (telling xs) d.reads))) && b) (settled_told c (n + change_count x) xs d)
+      ap (λ b. (not (is_some x.change) || nat_lt n c || not b) && is_durable_from c (n + change_count x) xs d) (wanted_told xs d.reads x.writes)
+      ∙ ap (λ b. (not (is_some x.change) || nat_lt n c || not (meets x.writes (wanted (telling xs) d.reads))) && b) (durable_told c (n + change_count x) xs d)
 ] refl
 
 -- each with whether it rests on committed changes
 pub record Mark (A : Type 0) : Type 0 where
   pub what : A
-  pub settled : Bool
+  pub durable : Bool
 
 abbrev pub mark_of : {A : Type 0} → ℕ → Given A → Mark A
-mark_of c x = record { what = x.what; settled = is_settled c x.past x.entry }
+mark_of c x = record { what = x.what; durable = is_durable c x.past x.entry }
 
 abbrev pub marked : {A : Type 0} → ℕ → List (Given A) → List (Mark A)
 marked c xs = map (mark_of c) xs
 
 abbrev pub seen : {A : Type 0} → List (Mark A) → List A
 seen [] = []
-seen (m ∷ ms) = if m.settled then m.what ∷ seen ms else []
+seen (m ∷ ms) = if m.durable then m.what ∷ seen ms else []
 
 released_by : {A : Type 0} (x : A) (b : Bool) (xs : List (Given A)) (g : Given A) (ys : List A) → map (λ (y : Given A). y.what) xs ≡ ys → g.what ≡ x
     → map (λ (y : Given A). y.what) (if b then g ∷ xs else []) ≡ (if b then x ∷ ys else [])
@@ -181,18 +167,18 @@ released_by x false xs g ys e f = refl
 
 pub released_seen : {A : Type 0} (c : ℕ) (xs : List (Given A)) → released c xs ≡ seen (marked c xs)
 released_seen c [] = refl
-released_seen c (x ∷ xs) = released_by x.what (is_settled c x.past x.entry) (front (λ y. is_settled c y.past y.entry) xs) x (seen (marked c xs)) (released_seen c xs) refl
+released_seen c (x ∷ xs) = released_by x.what (is_durable c x.past x.entry) (prefix (λ y. is_durable c y.past y.entry) xs) x (seen (marked c xs)) (released_seen c xs) refl
 
 pub marked-append : {A : Type 0} (c : ℕ) (xs ys : List (Given A)) → marked c (xs ++ ys) ≡ marked c xs ++ marked c ys
 marked-append c [] ys = refl
 marked-append c (x ∷ xs) ys = ap (λ zs. mark_of c x ∷ zs) (marked-append c xs ys)
 
--- what an event gives is settled alike without the quiet ones before it
+-- what an event gives is as durable without the quiet ones before it
 marks_of : {A : Type 0} (c : ℕ) (past : List Entry) (d : Entry) (xs : List A) → marked c (given_by past d xs) ≡ marked c (given_by (telling past) d xs)
 marks_of c past d [] = refl
 marks_of {A} c past d (x ∷ xs) =
-    ap (λ (s : Bool). record { what = x; settled = s } ∷ marked c (given_by past d xs)) (settled_told c 0 past d)
-    ∙ ap (λ (ms : List (Mark A)). record { what = x; settled = is_settled c (telling past) d } ∷ ms) (marks_of c past d xs)
+    ap (λ (s : Bool). record { what = x; durable = s } ∷ marked c (given_by past d xs)) (durable_told c 0 past d)
+    ∙ ap (λ (ms : List (Mark A)). record { what = x; durable = is_durable c (telling past) d } ∷ ms) (marks_of c past d xs)
 
 -- what events give, without the quiet ones
 pub each_told : {A : Type 0} (c : ℕ) (f : Entry → List A) → ((d : Entry) → Quiet d → f d ≡ [])
@@ -219,11 +205,11 @@ contents_marked : {A : Type 0} (c : ℕ) (xs : List (Given A)) → contents xs �
 contents_marked c [] = refl
 contents_marked c (x ∷ xs) = ap (λ ys. x.what ∷ ys) (contents_marked c xs)
 
--- the same was given where it is settled alike
+-- the same was given where it is as durable
 given_same : {A : Type 0} (xs ys : List (Given A)) → ((c : ℕ) → marked c xs ≡ marked c ys) → SameGiven xs ys
 given_same {A} xs ys same = record {
   whole = contents_marked 0 xs ∙ ap (λ (ms : List (Mark A)). map (λ (m : Mark A). m.what) ms) (same 0) ∙ sym (contents_marked 0 ys);
-  fronts = λ c. released_seen c xs ∙ ap seen (same c) ∙ sym (released_seen c ys);
+  prefixes = λ c. released_seen c xs ∙ ap seen (same c) ∙ sym (released_seen c ys);
 }
 
 -- the same is given without the quiet events
@@ -234,7 +220,7 @@ no_items : (b : Bool) (o : Option Item) → o ≡ None → (if b then option_to_
 no_items true o h = ap (λ (x : Option Item). option_to_list x) h
 no_items false o h = refl
 
--- what each process was told is settled alike
+-- what each process was told is as durable
 abbrev SameTold : ℕ → (ℕ → List (Given Item)) → (ℕ → List (Given Item)) → Type 0
 SameTold c before after = (p : ℕ) → marked c (before p) ≡ marked c (after p)
 
@@ -265,7 +251,7 @@ quiet_tells before past d q p =
     ∙ ap (λ (xs : List Item). before p ++ given_by past d xs) (no_items (d.process == p) d.item q.item)
     ∙ append-nil (before p)
 
--- so it stays through the events behind one, where they keep it so
+-- so it stays through the events after one, where they keep it so
 marks_on : (c : ℕ) (ds past : List Entry) (d : Entry) (before after : ℕ → List (Given Item)) (b : Bool) → is_quiet d ≡ b → SameTold c before after
     → ((now : ℕ → List (Given Item)) → SameTold c (told_with before past d) now
     → SameTold c (told_from (told_with before past d) (past ++ d ∷ []) ds) (told_from now (telling (past ++ d ∷ [])) (telling ds)))

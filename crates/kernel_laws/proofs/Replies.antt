@@ -1,5 +1,5 @@
 -- A process comes from its first state to where it stands by the replies that it got.
-use Rattle.std.proofs.Common.{◌≡◌, ℕ, ◌+◌, ◌==◌, Bool, true, false, if◌then◌else◌, List, [], ◌∷◌, ◌++◌, Option, Some, None, is_some, option_to_list, refl, sym, ap, subst, ◌∙◌}
+use Rattle.std.proofs.Common.{append-nil, ◌≡◌, ℕ, ◌+◌, ◌==◌, Bool, true, false, if◌then◌else◌, List, [], ◌∷◌, ◌++◌, Option, Some, None, is_some, option_to_list, refl, sym, ap, subst, ◌∙◌}
 use Rattle.std.proofs.lemmas.Bool.{eqb-true, eqb-false, eq-eqb}
 use Rattle.machine_model.specs.declared.reply.Reply.{Reply}
 use Rattle.machine_model.specs.declared.stop.Stop.{Stop}
@@ -16,7 +16,8 @@ use Rattle.kernel_model.specs.declared.event.Event.{Event}
 use Rattle.kernel_model.specs.declared.event.Event.TheVariants.{Turn, Enter, Cut, Complete, Fail}
 use Rattle.kernel_model.specs.declared.request.Verdict.{Verdict}
 use Rattle.kernel_model.specs.declared.request.Verdict.TheVariants.{Waits, Replies, Ends}
-use Rattle.kernel_model.proofs.Runs.{append-nil, told-entry}
+use Rattle.kernel_model.proofs.Runs.{told-entry}
+use Rattle.kernel_model.proofs.Transitions.{OfEachEvent, each_event, of_turn, of_enter}
 use Rattle.kernel_model.specs.Views.{contents}
 use Rattle.kernel_laws.specs.Promises.{ComesTo, IsRunOn}
 use Rattle.kernel_laws.proofs.Machines.{comes_on, comes_replied}
@@ -143,32 +144,17 @@ enter_goes s p old at = elim (is_some old.status) as (λ b. OwnGoesOn s p old (i
     by_stop : (o : Option Stop) → stands_at old.state ≡ o → OwnGoesOn s p old (after_effect_if s p old (effect_at (shared s) p old o))
     by_stop None h = impossible_goes s p old at
     by_stop (Some Limit) h = impossible_goes s p old at
-    by_stop (Some Call) h = let e = row (shared s) p old.descriptors old.children (request_of old.state) in effect_goes s p old e e.told at h
+    by_stop (Some Call) h = let e = row (shared s) p old.descriptors old.children (request_of old.state) in effect_goes s p old e e.verdict at h
     by_stop (Some (Trap cause)) h = end_goes s p old (row_end old.descriptors (256 + cause_number cause)) (256 + cause_number cause) at
 
 -- an event is of the process that its entry names
-turn_is_of : (s : SyncState) (q n : ℕ) (o : Option Process) → (after_turn s q n o).entry.process ≡ q
-turn_is_of s q n None = refl
-turn_is_of s q n (Some y) = elim (is_some y.status) as (λ b. (if b then impossible q s else record { state = with_process s q (after_run n y); entry = own_entry q }).entry.process ≡ q) [
-  | true ↦ refl
-  | false ↦ refl
-]
-
 effect_is_of : (s : SyncState) (q : ℕ) (y : Process) (e : Effect) (v : Verdict) → (after_effect s q y e v).entry.process ≡ q
 effect_is_of s q y e Waits = refl
 effect_is_of s q y e (Replies r) = refl
 effect_is_of s q y e (Ends status) = refl
 
-effect_if_is_of : (s : SyncState) (q : ℕ) (y : Process) (o : Option Effect) → (after_effect_if s q y o).entry.process ≡ q
-effect_if_is_of s q y None = refl
-effect_if_is_of s q y (Some e) = effect_is_of s q y e e.told
-
-enter_is_of : (s : SyncState) (q : ℕ) (o : Option Process) → (after_enter s q o).entry.process ≡ q
-enter_is_of s q None = refl
-enter_is_of s q (Some y) = elim (is_some y.status) as (λ b. (if b then impossible q s else after_effect_if s q y (effect_at (shared s) q y (stands_at y.state))).entry.process ≡ q) [
-  | true ↦ refl
-  | false ↦ effect_if_is_of s q y (effect_at (shared s) q y (stands_at y.state))
-]
+each_is_of : (s : SyncState) (q : ℕ) → OfEachEvent (λ (t : Transition). t.entry.process ≡ q) s q
+each_is_of s q = each_event (λ (t : Transition). t.entry.process ≡ q) s q refl (λ n y at lives. refl) (λ y e at lives is. effect_is_of s q y e e.verdict)
 
 -- a process goes on through each event
 step_goes : (s : SyncState) (p : ℕ) (old : Process) (e : Event) → process_at s.processes p ≡ Some old → OwnGoesOn s p old (step s e)
@@ -177,14 +163,14 @@ step_goes s p old (Turn q n) at = elim (q == p) as (λ b. (q == p) ≡ b → Own
       (subst (λ (o : Option Process). OwnGoesOn s p old (after_turn s p n o)) (sym at) (turn_goes s p n old at))
   | false ↦ λ h. let ne : (p ≡ q → ⊥) = λ same. eqb-false q p h (sym same) in
       stands_still old old _ _ (step_keeps s p old (Turn q n) at ne)
-      (item_of_other p (step s (Turn q n)).entry (λ same. ne (same ∙ turn_is_of s q n (process_at s.processes q)))) refl
+      (item_of_other p (step s (Turn q n)).entry (λ same. ne (same ∙ of_turn (λ (t : Transition). t.entry.process ≡ q) s q (each_is_of s q) n))) refl
 ] refl
 step_goes s p old (Enter q) at = elim (q == p) as (λ b. (q == p) ≡ b → OwnGoesOn s p old (step s (Enter q))) [
   | true ↦ λ h. subst (λ (r : ℕ). OwnGoesOn s p old (step s (Enter r))) (sym (eqb-true q p h))
       (subst (λ (o : Option Process). OwnGoesOn s p old (after_enter s p o)) (sym at) (enter_goes s p old at))
   | false ↦ λ h. let ne : (p ≡ q → ⊥) = λ same. eqb-false q p h (sym same) in
       stands_still old old _ _ (step_keeps s p old (Enter q) at ne)
-      (item_of_other p (step s (Enter q)).entry (λ same. ne (same ∙ enter_is_of s q (process_at s.processes q)))) refl
+      (item_of_other p (step s (Enter q)).entry (λ same. ne (same ∙ of_enter (λ (t : Transition). t.entry.process ≡ q) s q (each_is_of s q)))) refl
 ] refl
 step_goes s p old Cut at = stands_still old old _ _ at (no_item p (step s Cut).entry refl) refl
 step_goes s p old (Complete k) at = stands_still old old _ _ at (no_item p (step s (Complete k)).entry refl) refl

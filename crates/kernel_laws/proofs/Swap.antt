@@ -1,18 +1,17 @@
--- An instruction moves behind what is neither of its process's instructions nor its Enter.
-use Rattle.std.proofs.Common.{◌≡◌, ℕ, ◌+◌, ◌==◌, Bool, true, false, if◌then◌else◌, List, [], ◌∷◌, ◌++◌, Option, Some, None, is_some, refl, sym, ap, subst, ◌∙◌, arith}
+-- An instruction moves past what is neither of its process's instructions nor its Enter.
+use Rattle.std.proofs.Common.{append-nil, ◌≡◌, ℕ, ◌+◌, ◌==◌, Bool, true, false, if◌then◌else◌, List, [], ◌∷◌, ◌++◌, Option, Some, None, is_some, refl, sym, ap, subst, ◌∙◌, arith}
 use Rattle.std.proofs.lemmas.Bool.{eqb-true, eqb-false, false≢true}
 use Rattle.disk_model.specs.declared.change.Change.{Change}
 use Rattle.disk_model.specs.Storage.{Storage}
 use Rattle.machine_model.specs.States.{State, run, stands_at}
 use Rattle.kernel_model.specs.Entries.{Entry}
-use Rattle.kernel_model.specs.Paths.{changes_of}
+use Rattle.kernel_model.specs.Paths.{changes_in_log}
 use Rattle.kernel_model.specs.State.{SyncState, Process, process_at, with_process}
 use Rattle.kernel_model.specs.Steps.{Transition, own_entry, after_run, step}
 use Rattle.kernel_model.specs.World.{World, stored, happens, after}
 use Rattle.kernel_model.specs.Fine.{Fine, Instruction, Other, delayed, gathered, may_go, IsFine, after_fine}
 use Rattle.kernel_model.specs.declared.event.Event.{Event}
 use Rattle.kernel_model.specs.declared.event.Event.TheVariants.{Turn, Enter, Cut, Complete, Fail}
-use Rattle.kernel_model.proofs.Runs.{append-nil}
 use Rattle.kernel_laws.proofs.Machines.{run-add}
 use Rattle.kernel_laws.proofs.Processes.{at_same, put_twice}
 use Rattle.kernel_laws.proofs.Others.{IsNotOf, moved, step_moves, step_keeps}
@@ -37,8 +36,8 @@ alike_sym h = record { sync = sym h.sync; storage = sym h.storage; log = sym h.l
 pub alike_trans : {a b c : World} → Alike a b → Alike b c → Alike a c
 alike_trans f g = record { sync = f.sync ∙ g.sync; storage = f.storage ∙ g.storage; log = f.log ∙ g.log }
 
-pub changes_alike : (xs ys : List Entry) → telling xs ≡ telling ys → changes_of xs ≡ changes_of ys
-changes_alike xs ys e = changes_told xs ∙ ap changes_of e ∙ sym (changes_told ys)
+pub changes_alike : (xs ys : List Entry) → telling xs ≡ telling ys → changes_in_log xs ≡ changes_in_log ys
+changes_alike xs ys e = changes_told xs ∙ ap changes_in_log e ∙ sym (changes_told ys)
 
 log_alike : (xs ys : List Entry) (d e : Entry) → telling xs ≡ telling ys → d ≡ e → telling (xs ++ d ∷ []) ≡ telling (ys ++ e ∷ [])
 log_alike xs ys d e h same = telling-append xs (d ∷ []) ∙ ap (λ zs. zs ++ telling (d ∷ [])) h ∙ ap (λ (x : Entry). telling ys ++ telling (x ∷ [])) same ∙ sym (telling-append ys (e ∷ []))
@@ -46,9 +45,9 @@ log_alike xs ys d e h same = telling-append xs (d ∷ []) ∙ ap (λ zs. zs ++ t
 pub alike_happens : (a b : World) (e : Event) → Alike a b → Alike (happens a e) (happens b e)
 alike_happens a b e h = record {
   sync = ap (λ (s : SyncState). (step s e).state) h.sync;
-  storage = ap (λ (st : Storage). stored st (changes_of a.log) a.sync.files e) h.storage
+  storage = ap (λ (st : Storage). stored st (changes_in_log a.log) a.sync.files e) h.storage
       ∙ ap (λ (cs : List Change). stored b.storage cs a.sync.files e) (changes_alike a.log b.log h.log)
-      ∙ ap (λ (s : SyncState). stored b.storage (changes_of b.log) s.files e) h.sync;
+      ∙ ap (λ (s : SyncState). stored b.storage (changes_in_log b.log) s.files e) h.sync;
   log = log_alike a.log b.log (step a.sync e).entry (step b.sync e).entry h.log (ap (λ (s : SyncState). (step s e).entry) h.sync);
 }
 
@@ -59,7 +58,7 @@ alike_after (e ∷ es) a b h = alike_after es (happens a e) (happens b e) (alike
 pub own_untold : (xs : List Entry) (p : ℕ) → telling (xs ++ own_entry p ∷ []) ≡ telling xs
 own_untold xs p = telling-append xs (own_entry p ∷ []) ∙ ap (λ (b : Bool). telling xs ++ (if b then [] else own_entry p ∷ [])) (own_quiet p) ∙ append-nil (telling xs)
 
--- the law: an instruction of p moves behind an event that is none of p's
+-- the law: an instruction of p moves past an event that is none of p's
 pub swap : (w : World) (p : ℕ) (y : Process) (e : Event) → process_at w.sync.processes p ≡ Some y → is_some y.status ≡ false → IsNotOf p e
     → Alike (happens (happens w (Turn p 1)) e) (happens (happens w e) (Turn p 1))
 swap w p y e at running ne =
@@ -71,7 +70,7 @@ swap w p y e at running ne =
     let d = (step w.sync e).entry in
     record {
       sync = ap (λ (d : Transition). d.state) next_is ∙ sym (ap (λ (d : Transition). d.state) last);
-      storage = ap (λ (t : Transition). stored w.storage (changes_of (w.log ++ (step w.sync (Turn p 1)).entry ∷ [])) t.state.files e) first
+      storage = ap (λ (t : Transition). stored w.storage (changes_in_log (w.log ++ (step w.sync (Turn p 1)).entry ∷ [])) t.state.files e) first
           ∙ ap (λ (cs : List Change). stored w.storage cs w.sync.files e) (changes_alike (w.log ++ (step w.sync (Turn p 1)).entry ∷ []) w.log
           (ap (λ (d : Transition). telling (w.log ++ d.entry ∷ [])) first ∙ own_untold w.log p));
       log =
@@ -129,9 +128,9 @@ goer w p h = from (process_at w.sync.processes p) refl h
 still : (w : World) (p : ℕ) (e : Event) → IsNotOf p e → may_go (process_at w.sync.processes p) ≡ true → may_go (process_at (happens w e).sync.processes p) ≡ true
 still w p e ne h = let g = goer w p h in ap may_go (step_keeps w.sync p g.process e g.there ne) ∙ sym (ap may_go g.there) ∙ h
 
-behind : (w : World) (p : ℕ) (e : Event) (es fs : List Event) → IsNotOf p e → may_go (process_at w.sync.processes p) ≡ true
+comes_after : (w : World) (p : ℕ) (e : Event) (es fs : List Event) → IsNotOf p e → may_go (process_at w.sync.processes p) ≡ true
     → Alike (after (happens (happens w e) (Turn p 1)) es) (after (happens w e) fs) → Alike (after (happens (happens w (Turn p 1)) e) es) (after (happens w e) fs)
-behind w p e es fs ne h rest =
+comes_after w p e es fs ne h rest =
     let g = goer w p h in
     alike_trans (alike_after es _ _ (swap w p g.process e g.there g.running ne)) rest
 
@@ -143,16 +142,16 @@ delayed_alike (Turn q n ∷ es) w p h = elim (q == p) as (λ b. (q == p) ≡ b �
       subst (λ (r : ℕ). Alike (after (happens w (Turn p 1)) (Turn r n ∷ es)) (after w (Turn r (n + 1) ∷ es))) (sym (eqb-true q p e))
       (alike_after es _ _ (merge w p n g.process g.there g.running))
   | false ↦ λ e. let ne : IsNotOf p (Turn q n) = λ (same : p ≡ q). eqb-false q p e (sym same) in
-      behind w p (Turn q n) es (delayed p es) ne h (delayed_alike es (happens w (Turn q n)) p (still w p (Turn q n) ne h))
+      comes_after w p (Turn q n) es (delayed p es) ne h (delayed_alike es (happens w (Turn q n)) p (still w p (Turn q n) ne h))
 ] refl
 delayed_alike (Enter q ∷ es) w p h = elim (q == p) as (λ b. (q == p) ≡ b → Alike (after (happens w (Turn p 1)) (Enter q ∷ es)) (after w (if b then Turn p 1 ∷ Enter q ∷ es else Enter q ∷ delayed p es))) [
   | true ↦ λ e. alike_same _ _ refl
   | false ↦ λ e. let ne : IsNotOf p (Enter q) = λ (same : p ≡ q). eqb-false q p e (sym same) in
-      behind w p (Enter q) es (delayed p es) ne h (delayed_alike es (happens w (Enter q)) p (still w p (Enter q) ne h))
+      comes_after w p (Enter q) es (delayed p es) ne h (delayed_alike es (happens w (Enter q)) p (still w p (Enter q) ne h))
 ] refl
-delayed_alike (Cut ∷ es) w p h = behind w p Cut es (delayed p es) tt h (delayed_alike es (happens w Cut) p (still w p Cut tt h))
-delayed_alike (Complete k ∷ es) w p h = behind w p (Complete k) es (delayed p es) tt h (delayed_alike es (happens w (Complete k)) p (still w p (Complete k) tt h))
-delayed_alike (Fail k ∷ es) w p h = behind w p (Fail k) es (delayed p es) tt h (delayed_alike es (happens w (Fail k)) p (still w p (Fail k) tt h))
+delayed_alike (Cut ∷ es) w p h = comes_after w p Cut es (delayed p es) tt h (delayed_alike es (happens w Cut) p (still w p Cut tt h))
+delayed_alike (Complete k ∷ es) w p h = comes_after w p (Complete k) es (delayed p es) tt h (delayed_alike es (happens w (Complete k)) p (still w p (Complete k) tt h))
+delayed_alike (Fail k ∷ es) w p h = comes_after w p (Fail k) es (delayed p es) tt h (delayed_alike es (happens w (Fail k)) p (still w p (Fail k) tt h))
 
 -- a fine run is like the run of the events that it becomes
 pub fine_alike : (items : List Fine) (w : World) → IsFine w items → Alike (after_fine w items) (after w (gathered items))

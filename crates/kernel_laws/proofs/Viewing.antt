@@ -14,11 +14,11 @@ given_alike : {A : Type 0} (f : List Entry → List (Given A)) → ((log : List 
 given_alike {A} f quiet xs ys e =
     let rest : SameGiven (f (telling xs)) (f ys) = subst (λ (log : List Entry). SameGiven (f log) (f ys)) (sym e) (record {
       whole = sym (quiet ys).whole;
-      fronts = λ c. sym ((quiet ys).fronts c);
+      prefixes = λ c. sym ((quiet ys).prefixes c);
     }) in
     record {
       whole = (quiet xs).whole ∙ rest.whole;
-      fronts = λ c. (quiet xs).fronts c ∙ rest.fronts c;
+      prefixes = λ c. (quiet xs).prefixes c ∙ rest.prefixes c;
     }
 
 pub same_view : (a b : World) → Alike a b → SameView a b
@@ -30,8 +30,8 @@ same_view a b h = record {
   same_told = λ p. given_alike (told p) (told_told p) a.log b.log h.log;
   same_shown = λ t.
       ap (λ (st : Storage). released st.committed (printed t a.log)) h.storage
-      ∙ (given_alike (printed t) (printed_told t) a.log b.log h.log).fronts b.storage.committed;
+      ∙ (given_alike (printed t) (printed_told t) a.log b.log h.log).prefixes b.storage.committed;
   same_handed = λ p.
       ap (λ (st : Storage). released st.committed (told p a.log)) h.storage
-      ∙ (given_alike (told p) (told_told p) a.log b.log h.log).fronts b.storage.committed;
+      ∙ (given_alike (told p) (told_told p) a.log b.log h.log).prefixes b.storage.committed;
 }

@@ -1,20 +1,19 @@
 -- A whole run is synchronous.
-use Rattle.std.proofs.Common.{◌≡◌, ℕ, ◌+◌, Bool, true, false, if◌then◌else◌, List, [], ◌∷◌, ◌++◌, length, is_some, refl, sym, ap, ◌∙◌, append_assoc, add-zero, arith}
+use Rattle.std.proofs.Common.{append-nil, ◌≡◌, ℕ, ◌+◌, Bool, true, false, if◌then◌else◌, List, [], ◌∷◌, ◌++◌, length, is_some, refl, sym, ap, ◌∙◌, append_assoc, add-zero, arith}
 use Rattle.std.specs.Prelude.{cond}
 use Rattle.std.proofs.lemmas.List.Sums.{sum_by-append, sum_by-cons}
 use Rattle.kernel_model.specs.Entries.{Entry}
 use Rattle.kernel_model.specs.Steps.{step}
-use Rattle.kernel_model.proofs.Runs.{append-nil}
-use Rattle.kernel_model.specs.World.{World, Boot, begun, happens, after}
+use Rattle.kernel_model.specs.World.{World, Boot, first_world, happens, after}
 use Rattle.kernel_model.specs.Shown.{printed, told}
 use Rattle.kernel_model.specs.Answers.{committed}
 use Rattle.kernel_model.specs.declared.event.Event.{Event}
 use Rattle.kernel_laws.specs.Promises.{IsSynchronous, sync_run, sync_log, forks}
 use Rattle.kernel_laws.proofs.Machines.{comes_at_once}
-use Rattle.kernel_laws.proofs.Fronts.{released_is}
+use Rattle.kernel_laws.proofs.Prefixes.{released_is}
 use Rattle.kernel_laws.proofs.Others.{made_count, step_length}
 use Rattle.kernel_laws.proofs.Replies.{after_runs}
-use Rattle.kernel_laws.proofs.Descent.{after_descends, begun_descends}
+use Rattle.kernel_laws.proofs.Descent.{after_descends, first_world_descends}
 
 after_sync : (es : List Event) (w : World) → (after w es).sync ≡ sync_run w.sync es
 after_sync [] w = refl
@@ -46,15 +45,15 @@ after_forked (e ∷ es) count w h =
     let one : HasForked count (happens w e) = omega (arith, h, step_length w.sync e, forks-entry w.log (step w.sync e).entry) in
     after_forked es count (happens w e) one
 
-pub run_is_synchronous : (b : Boot) (es : List Event) → IsSynchronous b (after (begun b) es) es
+pub run_is_synchronous : (b : Boot) (es : List Event) → IsSynchronous b (after (first_world b) es) es
 run_is_synchronous b es =
-    let w = after (begun b) es in
+    let w = after (first_world b) es in
     record {
-      sync = after_sync es (begun b);
-      log = after_log es (begun b);
-      booted = λ p first at. after_runs es (begun b) p first (record { process = first; there = at; comes = comes_at_once first.state });
-      processes = after_descends b es (begun b) (begun_descends b);
-      as_many = after_forked es (length (begun b).sync.processes) (begun b) (sym (add-zero (length (begun b).sync.processes)));
+      sync = after_sync es (first_world b);
+      log = after_log es (first_world b);
+      booted = λ p first at. after_runs es (first_world b) p first (record { process = first; there = at; comes = comes_at_once first.state });
+      processes = after_descends b es (first_world b) (first_world_descends b);
+      as_many = after_forked es (length (first_world b).sync.processes) (first_world b) (sym (add-zero (length (first_world b).sync.processes)));
       terminals = λ t. released_is (committed w) (printed t w.log);
       traces = λ p. released_is (committed w) (told p w.log);
     }

@@ -1,6 +1,6 @@
 -- A Turn is its single instructions, one after the other.
-use Rattle.std.proofs.Common.{◌≡◌, ℕ, zero, suc, ◌+◌, Bool, true, false, if◌then◌else◌, List, [], ◌∷◌, ◌++◌, replicate, Option, Some, None, is_some, refl, sym, ap, subst, ◌∙◌, arith}
-use Rattle.machine_model.specs.States.{State, Stepped, Goes, Halts, Ran, ran, next, by_step, run, stands_at}
+use Rattle.std.proofs.Common.{append-nil, ◌≡◌, ℕ, zero, suc, ◌+◌, Bool, true, false, if◌then◌else◌, List, [], ◌∷◌, ◌++◌, replicate, Option, Some, None, is_some, refl, sym, ap, subst, ◌∙◌, arith}
+use Rattle.machine_model.specs.States.{State, Stepped, Goes, Halts, Ran, reached_at, next, by_step, run, stands_at}
 use Rattle.machine_model.specs.declared.stop.Stop.{Stop}
 use Rattle.kernel_model.specs.Entries.{Entry}
 use Rattle.kernel_model.specs.State.{SyncState, Process, process_at, with_process}
@@ -9,9 +9,10 @@ use Rattle.kernel_model.specs.World.{World, happens, after}
 use Rattle.kernel_model.specs.Fine.{Fine, Instruction, Other, event_of, may_go, IsFine, after_fine, turn_length, written_out, unfolded}
 use Rattle.kernel_model.specs.declared.event.Event.{Event}
 use Rattle.kernel_model.specs.declared.event.Event.TheVariants.{Turn, Enter, Cut, Complete, Fail}
-use Rattle.kernel_model.proofs.Runs.{append-nil}
-use Rattle.kernel_laws.proofs.Machines.{run_none, run_stands, run_on, run_goes, run_zero}
-use Rattle.kernel_laws.proofs.Processes.{at_same, put_same}
+use Rattle.machine_model.proofs.Running.{run-zero, run-goes, run-halts}
+use Rattle.kernel_model.proofs.Limits.{put_same}
+use Rattle.kernel_laws.proofs.Machines.{run_goes, run_zero}
+use Rattle.kernel_laws.proofs.Processes.{at_same}
 use Rattle.kernel_laws.proofs.Quiet.{is_quiet, own_quiet, telling, telling-append}
 use Rattle.kernel_laws.proofs.Swap.{Alike, alike_same, alike_sym, alike_trans, alike_happens, turn_is, merge}
 
@@ -41,7 +42,7 @@ IsWritten w p n count = IsFine w (replicate count (Instruction p)) × Alike (aft
 
 -- no instruction is done
 none_written : (w : World) (p n : ℕ) (y : Process) (stop : Stop) → process_at w.sync.processes p ≡ Some y → is_some y.status ≡ false
-    → run n y.state ≡ ran 0 y.state stop → IsWritten w p n (run n y.state).count
+    → run n y.state ≡ reached_at 0 y.state stop → IsWritten w p n (run n y.state).count
 none_written w p n y stop at running h =
     let stays : after_run n y ≡ y = ap (λ (r : Ran). record y { state = r.state }) h in
     let same : (step w.sync (Turn p n)).state ≡ w.sync =
@@ -65,17 +66,17 @@ one_written w p n count y t at running h rest =
 
 running_written : (n : ℕ) (w : World) (p : ℕ) (y : Process) → process_at w.sync.processes p ≡ Some y → is_some y.status ≡ false
     → IsWritten w p n (run n y.state).count
-running_written zero w p y at running = none_written w p zero y _ at running (run_none y.state)
+running_written zero w p y at running = none_written w p zero y _ at running (run-zero y.state)
 running_written (suc n) w p y at running = elim (next y.state) as (λ o. next y.state ≡ o → IsWritten w p (suc n) (run (suc n) y.state).count) [
   | Goes t ↦ λ h.
       let there : process_at (happens w (Turn p 1)).sync.processes p ≡ Some (after_run 1 y) =
       ap (λ (d : Transition). process_at d.state.processes p) (turn_is w.sync p 1 y at running) ∙ at_same w.sync.processes p (after_run 1 y) y at in
       let one : (run 1 y.state).state ≡ t = run_goes zero y.state t h ∙ run_zero t in
       let counts : suc (run n t).count ≡ 1 + (run n t).count = omega arith in
-      subst (λ (k : ℕ). IsWritten w p (suc n) k) (counts ∙ sym (ap (λ (r : Ran). r.count) (run_on n y.state t h)))
+      subst (λ (k : ℕ). IsWritten w p (suc n) k) (counts ∙ sym (ap (λ (r : Ran). r.count) (run-goes n y.state t h)))
       (one_written w p n (run n t).count y t at running h
       (subst (λ (u : State). IsWritten (happens w (Turn p 1)) p n (run n u).count) one (running_written n (happens w (Turn p 1)) p (after_run 1 y) there running)))
-  | Halts stop ↦ λ h. none_written w p (suc n) y stop at running (run_stands n y.state stop h)
+  | Halts stop ↦ λ h. none_written w p (suc n) y stop at running (run-halts n y.state stop h)
 ] refl
 
 -- a Turn is its instructions

@@ -46,7 +46,7 @@ bursts_from p k [] = burst p k
 bursts_from p k (Instruction q ∷ items) = if q == p then bursts_from p (suc k) items else bursts_from p k items
 bursts_from p k (Other e ∷ items) = if is_of p e then burst p k ++ e ∷ bursts_from p 0 items else bursts_from p k items
 
--- The Enters of process p among the items, in order. Between two of them, before the first and behind the last, p's
+-- The Enters of process p among the items, in order. Between two of them, before the first and after the last, p's
 -- instructions stand as one Turn of as many as there are, or as none where there are none.
 abbrev pub bursts_of : ℕ → List Fine → List Event
 bursts_of p items = bursts_from p 0 items
@@ -62,7 +62,7 @@ are_turns [] = true
 are_turns (Turn p n ∷ es) = are_turns es
 are_turns (e ∷ es) = false
 
--- each Turn has its process's Enter directly behind it, or else nothing but Turns
+-- each Turn has its process's Enter directly after it, or else nothing but Turns
 abbrev pub HasLateTurns : List Event → Type 0
 HasLateTurns [] = Unit {0}
 HasLateTurns (Turn p n ∷ es) = ((enters_first p es || are_turns es) ≡ true) × HasLateTurns es

@@ -6,8 +6,8 @@ use Rattle.machine_model.specs.States.{State, run, stands_at, replied}
 use Rattle.kernel_model.specs.State.{SyncState, Process, process_at}
 use Rattle.kernel_model.specs.Steps.{step}
 use Rattle.kernel_model.specs.Entries.{Entry}
-use Rattle.kernel_model.specs.Paths.{IsSettled}
-use Rattle.kernel_model.specs.World.{World, Boot, begun}
+use Rattle.kernel_model.specs.Paths.{IsDurable}
+use Rattle.kernel_model.specs.World.{World, Boot, first_world}
 use Rattle.kernel_model.specs.Shown.{Given, is_made, printed, told, shown, handed, replies_in}
 use Rattle.kernel_model.specs.Views.{contents}
 use Rattle.kernel_model.specs.Answers.{committed}
@@ -55,32 +55,32 @@ ancestor p log = ancestor_from (λ q. q) log p
 -- process p comes from one of the boot's, from whose first state it came to this one by the replies that it was told
 pub record IsDescended (b : Boot) (w : World) (p : ℕ) (process : Process) : Type 0 where
   pub first : Process
-  pub booted : process_at (begun b).sync.processes (ancestor p w.log) ≡ Some first
+  pub booted : process_at (first_world b).sync.processes (ancestor p w.log) ≡ Some first
   pub comes : ComesTo first.state (replies_to p w) process.state
 
 -- how many of these events made a process
 abbrev pub forks : List Entry → ℕ
 forks log = count_by (λ (e : Entry). is_some e.child) log
 
--- What is seen is a front of all that was given: the event of each of its elements rests on changes among the first c
+-- What is seen is a prefix of all that was given: the event of each of its elements rests on changes among the first c
 -- alone, and the event of the next one, if there is one, does not.
-pub record IsLongestFront {A : Type 0} (c : ℕ) (all : List (Given A)) (seen : List A) : Type 0 where
+pub record IsLongestPrefix {A : Type 0} (c : ℕ) (all : List (Given A)) (seen : List A) : Type 0 where
   pub count : ℕ
-  pub front : seen ≡ take count (contents all)
-  pub settled : (i : ℕ) (x : Given A) → i < count → slice_get all i ≡ Some x → IsSettled c x.past x.entry
-  pub longest : (x : Given A) → slice_get all count ≡ Some x → IsSettled c x.past x.entry → ⊥
+  pub prefix : seen ≡ take count (contents all)
+  pub durable : (i : ℕ) (x : Given A) → i < count → slice_get all i ≡ Some x → IsDurable c x.past x.entry
+  pub longest : (x : Given A) → slice_get all count ≡ Some x → IsDurable c x.past x.entry → ⊥
 
 -- Whatever events come in whatever order: the state is the synchronous one, and so is the log, which has all changes, all
 -- output and all that processes were told. The processes are those of the boot and those that forks made. The registers,
 -- memory and count of each of the boot's are what the instruction table gives from its first state with the replies of a
 -- kernel that stores each change within its call; and so are those of each process, from the first state of the boot's
--- process from which it comes. Each terminal shows, and each process has been handed, exactly the longest front that rests on
+-- process from which it comes. Each terminal shows, and each process has been handed, exactly the longest prefix that rests on
 -- committed changes alone.
 pub record IsSynchronous (b : Boot) (w : World) (es : List Event) : Type 0 where
-  pub sync : w.sync ≡ sync_run (begun b).sync es
-  pub log : w.log ≡ sync_log (begun b).sync es
-  pub booted : (p : ℕ) (first : Process) → process_at (begun b).sync.processes p ≡ Some first → IsRunOn w p first
+  pub sync : w.sync ≡ sync_run (first_world b).sync es
+  pub log : w.log ≡ sync_log (first_world b).sync es
+  pub booted : (p : ℕ) (first : Process) → process_at (first_world b).sync.processes p ≡ Some first → IsRunOn w p first
   pub processes : (p : ℕ) (process : Process) → process_at w.sync.processes p ≡ Some process → IsDescended b w p process
-  pub as_many : length w.sync.processes ≡ length (begun b).sync.processes + forks w.log
-  pub terminals : (t : ℕ) → IsLongestFront (committed w) (printed t w.log) (shown w t)
-  pub traces : (p : ℕ) → IsLongestFront (committed w) (told p w.log) (handed w p)
+  pub as_many : length w.sync.processes ≡ length (first_world b).sync.processes + forks w.log
+  pub terminals : (t : ℕ) → IsLongestPrefix (committed w) (printed t w.log) (shown w t)
+  pub traces : (p : ℕ) → IsLongestPrefix (committed w) (told p w.log) (handed w p)

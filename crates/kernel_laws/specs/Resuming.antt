@@ -5,8 +5,8 @@ use Rattle.disk_model.specs.Files.{files_after}
 use Rattle.disk_model.specs.Crash.{IsCrashOf}
 use Rattle.kernel_model.specs.Answers.{committed}
 use Rattle.kernel_model.specs.Bytes.{ProgramsHoldBytes, TapesHoldBytes}
-use Rattle.kernel_model.specs.Paths.{changes_of}
-use Rattle.kernel_model.specs.World.{World, Boot, HoldsItsFiles, begun, after}
+use Rattle.kernel_model.specs.Paths.{changes_in_log}
+use Rattle.kernel_model.specs.World.{World, Boot, HoldsItsFiles, first_world, after}
 use Rattle.kernel_model.specs.declared.event.Event.{Event}
 
 -- a boot as every core has it: its disk holds the files that it names, and the memory of each program and each tape hold bytes
@@ -17,17 +17,17 @@ pub record IsSound (b : Boot) : Type 0 where
 
 -- a crash of the run that is here may leave this disk
 abbrev pub MayLeave : World → List ℕ → Type 0
-MayLeave w disk = IsCrashOf w.storage.drive disk
+MayLeave w disk = IsCrashOf w.storage.device disk
 
 -- these are the first changes of the run, and each committed change is among them
-pub record IsFront (w : World) (kept : List Change) : Type 0 where
-  pub first : kept ≡ take (length kept) (changes_of w.log)
+pub record IsPrefix (w : World) (kept : List Change) : Type 0 where
+  pub first : kept ≡ take (length kept) (changes_in_log w.log)
   pub every_committed : committed w ≤ length kept
 
--- the next run begins with the files after a front of this run's changes, each committed one among them
+-- the next run begins with the files after a prefix of this run's changes, each committed one among them
 pub record GoesOn (b : Boot) (w : World) (next : Boot) : Type 0 where
   pub kept : List Change
-  pub front : IsFront w kept
+  pub prefix : IsPrefix w kept
   pub files : next.files ≡ files_after b.files kept
 
 -- the events of a run that ended in a crash, and the boot of the run after it
@@ -37,7 +37,7 @@ pub record Crashed : Type 0 where
 
 -- how a run ends that begins with this boot
 abbrev pub end_of : Boot → List Event → World
-end_of b events = after (begun b) events
+end_of b events = after (first_world b) events
 
 -- from this boot on, each of these runs ends in a crash, and the next one is booted on a disk that the crash may leave
 abbrev pub AreRuns : Boot → List Crashed → Type 0
@@ -49,9 +49,9 @@ abbrev pub last_boot : Boot → List Crashed → Boot
 last_boot b [] = b
 last_boot b (r ∷ rs) = last_boot r.next rs
 
--- for each run there is a front of its changes, each committed one among them
-abbrev pub AreFronts : Boot → List Crashed → List (List Change) → Type 0
-AreFronts b [] [] = Unit {0}
-AreFronts b [] (kept ∷ fronts) = ⊥
-AreFronts b (r ∷ rs) [] = ⊥
-AreFronts b (r ∷ rs) (kept ∷ fronts) = IsFront (end_of b r.events) kept × AreFronts r.next rs fronts
+-- for each run there is a prefix of its changes, each committed one among them
+abbrev pub ArePrefixes : Boot → List Crashed → List (List Change) → Type 0
+ArePrefixes b [] [] = Unit {0}
+ArePrefixes b [] (kept ∷ prefixes) = ⊥
+ArePrefixes b (r ∷ rs) [] = ⊥
+ArePrefixes b (r ∷ rs) (kept ∷ prefixes) = IsPrefix (end_of b r.events) kept × ArePrefixes r.next rs prefixes

@@ -11,14 +11,14 @@ ghost use Rattle.kernel_model.specs.Answers.{changes, committed, writes_to_come}
 ghost use Rattle.kernel_model.specs.Shown.{handed, printed, shown, told};
 ghost use Rattle.kernel_model.specs.declared.event.Event.{Event};
 ghost use Rattle.kernel_model.specs.declared.event.Event.TheVariants.{Complete};
-ghost use Rattle.kernel_model.specs.World.{World, Boot, HoldsItsFiles, begun, happens, after};
+ghost use Rattle.kernel_model.specs.World.{World, Boot, HoldsItsFiles, first_world, happens, after};
 ghost use Rattle.kernel_model.specs.Bytes.{ProgramsHoldBytes, TapesHoldBytes};
 ghost use Rattle.kernel_model.specs.Fine.{Fine, IsFine, after_fine, gathered, unfolded};
 ghost use Rattle.kernel_model.specs.Views.{SameView, contents};
 ghost use Rattle.kernel_laws.specs.Promises.{IsSynchronous};
 ghost use Rattle.kernel_laws.specs.Crashes.{SurvivesCrash};
 ghost use Rattle.kernel_laws.specs.Kept.{KeepsWhatWasSeen};
-ghost use Rattle.kernel_laws.specs.Resuming.{IsSound, MayLeave, GoesOn, Crashed, AreRuns, AreFronts, end_of, last_boot};
+ghost use Rattle.kernel_laws.specs.Resuming.{IsSound, MayLeave, GoesOn, Crashed, AreRuns, ArePrefixes, end_of, last_boot};
 ghost use Rattle.kernel_laws.specs.Gathering.{HasNoTurn, IsGathered};
 
 use disk_model::{
@@ -27,8 +27,8 @@ use disk_model::{
 };
 
 /// A law, the whole of what the kernel promises. Whatever events come in whatever order, each process, also one that a fork
-/// made, runs as on a kernel that stores each change within its call; what is shown and handed out is the longest front that
-/// rests on committed changes alone; and a crash at any moment leaves a disk that holds the files after a front of the changes
+/// made, runs as on a kernel that stores each change within its call; what is shown and handed out is the longest prefix that
+/// rests on committed changes alone; and a crash at any moment leaves a disk that holds the files after a prefix of the changes
 /// with every committed one in it.
 ///
 /// The first two parts hold of every boot, whatever its disk. The third is of a disk that holds the files that the boot
@@ -36,20 +36,20 @@ use disk_model::{
 /// core that it boots. What a program reads comes from tapes, files and pipes into its memory, and what it writes to a file or a
 /// pipe comes from there: so all that is ever written to the disk are bytes.
 pub fn headline()
-    ensures synchronous { (b : Boot) (es : List Event) → IsSynchronous b (after (begun b) es) es }
+    ensures synchronous { (b : Boot) (es : List Event) → IsSynchronous b (after (first_world b) es) es }
     ensures crash { (b : Boot) (es : List Event) → HoldsItsFiles b → ProgramsHoldBytes b → TapesHoldBytes b
-        → SurvivesCrash b (after (begun b) es) }
+        → SurvivesCrash b (after (first_world b) es) }
 {
     crashes_keep_the_committed();
 }
 
-/// A law: a crash at any moment of any run leaves a disk that holds the files after a front of the run's changes, with
+/// A law: a crash at any moment of any run leaves a disk that holds the files after a prefix of the run's changes, with
 /// every committed one in it. So a run can go on from that disk, and end in a crash again. The boot's disk must hold the boot's
 /// files, and memories and tapes must hold bytes at the start: then files, pipes and memories hold bytes all along, so that what
 /// is written is what a disk can hold.
 pub fn crashes_keep_the_committed()
     ensures { (b : Boot) (es : List Event) → HoldsItsFiles b → ProgramsHoldBytes b → TapesHoldBytes b
-        → SurvivesCrash b (after (begun b) es) }
+        → SurvivesCrash b (after (first_world b) es) }
 {
     held_files_are_made();
     checkpoints_fit();
@@ -59,27 +59,27 @@ pub fn crashes_keep_the_committed()
     crashes();
 }
 
-/// A law: nothing that was shown is ever lost. Whatever disk a crash leaves holds the files after a front of the run's changes in
+/// A law: nothing that was shown is ever lost. Whatever disk a crash leaves holds the files after a prefix of the run's changes in
 /// which every change stands on which a byte rests that some terminal showed, or an item that some process was handed.
 pub fn shown_is_kept()
     ensures { (b : Boot) (es : List Event) → HoldsItsFiles b → ProgramsHoldBytes b → TapesHoldBytes b
-        → KeepsWhatWasSeen b (after (begun b) es) }
+        → KeepsWhatWasSeen b (after (first_world b) es) }
 {
     crashes_keep_the_committed();
     headline();
 }
 
 /// A law: a run that ends in a crash can go on. Every disk that the crash may leave holds files, so that
-/// `kernel::Core::boot` refuses it for want of memory alone. A core that is booted on it begins with the files after a front of the
-/// run's changes, with each committed change in it. And so it goes on through any number of runs and crashes: the last one's
-/// files are those of the first boot after such a front of each run's changes, one after the other.
+/// `kernel::Core::boot` refuses it for want of memory alone. A core that is booted on it begins with the files after a prefix
+/// of the run's changes, with each committed change in it. And so it goes on through any number of runs and crashes: the last
+/// one's files are those of the first boot after such a prefix of each run's changes, one after the other.
 pub fn runs_go_on()
     ensures held { (b : Boot) (es : List Event) (left : List ℕ) → IsSound b → MayLeave (end_of b es) left
         → (files : List NamedFile) × IsHeld left files }
     ensures next { (b : Boot) (es : List Event) (next : Boot) → IsSound b → HoldsItsFiles next → MayLeave (end_of b es) next.disk
         → GoesOn b (end_of b es) next }
     ensures chain { (runs : List Crashed) (b : Boot) → AreRuns b runs
-        → (fronts : List (List Change)) × AreFronts b runs fronts × ((last_boot b runs).files ≡ files_after b.files (joined fronts)) }
+        → (prefixes : List (List Change)) × ArePrefixes b runs prefixes × ((last_boot b runs).files ≡ files_after b.files (joined prefixes)) }
 {
     crashes_keep_the_committed();
     held_once();
@@ -90,8 +90,8 @@ pub fn runs_go_on()
 /// be possible where it stands: its process is there, has not ended, and stands at no call and no trap. Which whole Turns
 /// these are is said by `gathered_is`.
 pub fn interleavings()
-    ensures { (b : Boot) (items : List Fine) → IsFine (begun b) items
-        → SameView (after_fine (begun b) items) (after (begun b) (gathered items)) }
+    ensures { (b : Boot) (items : List Fine) → IsFine (first_world b) items
+        → SameView (after_fine (first_world b) items) (after (first_world b) (gathered items)) }
 {}
 
 /// A law: what the items of a fine run become, so that `interleavings` says what it seems to say. Whatever is no instruction
@@ -105,46 +105,46 @@ pub fn gathered_is()
 
 /// A law: each Turn is its single instructions one after the other, so that a history is a fine run written shorter.
 pub fn turns_are_instructions()
-    ensures possible { (b : Boot) (es : List Event) → IsFine (begun b) (unfolded (begun b) es) }
+    ensures possible { (b : Boot) (es : List Event) → IsFine (first_world b) (unfolded (first_world b) es) }
     ensures same { (b : Boot) (es : List Event)
-        → SameView (after_fine (begun b) (unfolded (begun b) es)) (after (begun b) es) }
+        → SameView (after_fine (first_world b) (unfolded (first_world b) es)) (after (first_world b) es) }
 {}
 
 /// A law: where all changes are committed, all that was written to terminals is shown, and all that processes were told is
 /// handed out.
 pub fn all_is_shown()
-    ensures terminals { (b : Boot) (es : List Event) → committed (after (begun b) es) ≡ changes (after (begun b) es)
-        → (t : ℕ) → shown (after (begun b) es) t ≡ contents (printed t (after (begun b) es).log) }
-    ensures traces { (b : Boot) (es : List Event) → committed (after (begun b) es) ≡ changes (after (begun b) es)
-        → (p : ℕ) → handed (after (begun b) es) p ≡ contents (told p (after (begun b) es).log) }
+    ensures terminals { (b : Boot) (es : List Event) → committed (after (first_world b) es) ≡ changes (after (first_world b) es)
+        → (t : ℕ) → shown (after (first_world b) es) t ≡ contents (printed t (after (first_world b) es).log) }
+    ensures traces { (b : Boot) (es : List Event) → committed (after (first_world b) es) ≡ changes (after (first_world b) es)
+        → (p : ℕ) → handed (after (first_world b) es) p ≡ contents (told p (after (first_world b) es).log) }
 {}
 
 /// A law: how the disk of any run stands, whatever is on it. At most all changes are committed. With nothing in flight and
 /// nothing failed no stage is left to be submitted; else a group is on its way, with which more changes are committed, at most
 /// all. So where a write has failed, some change is not committed.
 pub fn groups_in_flight()
-    ensures among { (b : Boot) (es : List Event) → committed (after (begun b) es) ≤ changes (after (begun b) es) }
-    ensures none { (b : Boot) (es : List Event) → is_quiet (after (begun b) es).storage.drive ≡ true
-        → (after (begun b) es).storage.stages ≡ [] }
-    ensures more { (b : Boot) (es : List Event) → is_quiet (after (begun b) es).storage.drive ≡ false
-        → committed (after (begun b) es) < (after (begun b) es).storage.next_committed }
-    ensures most { (b : Boot) (es : List Event) → is_quiet (after (begun b) es).storage.drive ≡ false
-        → (after (begun b) es).storage.next_committed ≤ changes (after (begun b) es) }
-    ensures failed { (b : Boot) (es : List Event) → is_empty (after (begun b) es).storage.drive.failed ≡ false
-        → committed (after (begun b) es) < changes (after (begun b) es) }
+    ensures among { (b : Boot) (es : List Event) → committed (after (first_world b) es) ≤ changes (after (first_world b) es) }
+    ensures none { (b : Boot) (es : List Event) → is_quiet (after (first_world b) es).storage.device ≡ true
+        → (after (first_world b) es).storage.stages ≡ [] }
+    ensures more { (b : Boot) (es : List Event) → is_quiet (after (first_world b) es).storage.device ≡ false
+        → committed (after (first_world b) es) < (after (first_world b) es).storage.next_committed }
+    ensures most { (b : Boot) (es : List Event) → is_quiet (after (first_world b) es).storage.device ≡ false
+        → (after (first_world b) es).storage.next_committed ≤ changes (after (first_world b) es) }
+    ensures failed { (b : Boot) (es : List Event) → is_empty (after (first_world b) es).storage.device.failed ≡ false
+        → committed (after (first_world b) es) < changes (after (first_world b) es) }
 {
     runs_are_orderly();
 }
 
-/// A law: with each completion one write less is to come, and the last one of a group commits it, if none has failed.
+/// A law: with each completion one write fewer is to come, and the last one of a group commits it, if none has failed.
 pub fn completions_count_down()
-    ensures one_less { (st : Storage) (at : ℕ) → is_some (piece_at st.drive.in_flight at) ≡ true
+    ensures one_fewer { (st : Storage) (at : ℕ) → is_some (piece_at st.device.in_flight at) ≡ true
         → writes_to_come st ≡ writes_to_come (completed st at) + 1 }
     ensures commits { (b : Boot) (es : List Event) (at : ℕ)
-        → is_some (piece_at (after (begun b) es).storage.drive.in_flight at) ≡ true
-        → committed (happens (after (begun b) es) (Complete at))
-        ≡ (if is_empty (after (begun b) es).storage.drive.failed && writes_to_come (after (begun b) es).storage == 1
-        then (after (begun b) es).storage.next_committed else committed (after (begun b) es)) }
+        → is_some (piece_at (after (first_world b) es).storage.device.in_flight at) ≡ true
+        → committed (happens (after (first_world b) es) (Complete at))
+        ≡ (if is_empty (after (first_world b) es).storage.device.failed && writes_to_come (after (first_world b) es).storage == 1
+        then (after (first_world b) es).storage.next_committed else committed (after (first_world b) es)) }
 {
     runs_are_orderly();
 }

@@ -1,27 +1,26 @@
 -- Through each event the number of each end of a pipe stays the number of descriptors that stand for it.
-use Rattle.std.proofs.Common.{◌≡◌, ℕ, zero, suc, ◌+◌, ◌<◌, ◌≤◌, inl, inr, Bool, true, false, List, [], ◌∷◌, ◌++◌, length, map, slice_get, slice_set, Option, Some, None, is_some, is_none, refl, sym, ap, ◌∙◌, subst, arith}
+use Rattle.std.proofs.Common.{◌≡◌, ℕ, ◌+◌, ◌<◌, ◌≤◌, inl, inr, Bool, true, false, List, [], ◌∷◌, ◌++◌, length, map, slice_get, Option, Some, None, is_some, is_none, refl, sym, ap, ◌∙◌, subst, arith}
 use Rattle.std.specs.Prelude.{if◌then◌else◌}
 use Rattle.std.specs.List.{AllByRecursion, list_all}
 use Rattle.std.proofs.lemmas.Option.{slice_get_within}
+use Rattle.disk_model.proofs.Lists.{each_append}
 use Rattle.machine_model.specs.declared.reply.Reply.{Reply}
-use Rattle.machine_model.specs.declared.stop.Stop.{Stop}
-use Rattle.machine_model.specs.declared.stop.Stop.TheVariants.{Limit, Call, Trap}
-use Rattle.machine_model.specs.States.{stands_at}
 use Rattle.kernel_model.specs.Ends.{count_among, count_of, count_held}
 use Rattle.kernel_model.specs.Requests.{request_of}
-use Rattle.kernel_model.specs.Rows.{Effect, ends_of, row, row_end, cause_number}
+use Rattle.kernel_model.specs.Rows.{Effect, ends_of, row_end, cause_number}
 use Rattle.kernel_model.specs.State.{SyncState, Process, PipeState, process_at, put_process, with_process, shared}
-use Rattle.kernel_model.specs.Steps.{after_run, after_turn, own_entry, impossible, after_reply, forked, after_end, after_effect, after_effect_if, effect_at, after_enter, step}
-use Rattle.kernel_model.specs.World.{World, Boot, BootProgram, first_process, processes_from, begun, happens, after}
+use Rattle.kernel_model.specs.Steps.{Transition, after_run, after_reply, forked, after_end, after_effect, step}
+use Rattle.kernel_model.specs.World.{World, Boot, BootProgram, first_process, processes_from, first_world, happens, after}
 use Rattle.kernel_model.specs.declared.descriptor.Descriptor.{Descriptor}
 use Rattle.kernel_model.specs.declared.descriptor.PipeEnd.{PipeEnd}
 use Rattle.kernel_model.specs.declared.descriptor.PipeEnd.TheVariants.{Read, Write}
 use Rattle.kernel_model.specs.declared.event.Event.{Event}
-use Rattle.kernel_model.specs.declared.event.Event.TheVariants.{Turn, Enter, Cut, Complete, Fail}
 use Rattle.kernel_model.specs.declared.request.Verdict.{Verdict}
 use Rattle.kernel_model.specs.declared.request.Verdict.TheVariants.{Waits, Replies, Ends}
 use Rattle.kernel_model.proofs.Ends.{count_ends_of, held_append, held_put, held_at, of_pipe, number_at, pipe_of, drops_number, steps_length}
 use Rattle.kernel_model.proofs.EndRows.{GoesOn, count_made, InStep, row_fits}
+use Rattle.kernel_model.proofs.Limits.{each_process, each_put}
+use Rattle.kernel_model.proofs.Transitions.{call_of, each_event, of_step}
 use Rattle.kernel_model.proofs.Runs.{after-after}
 
 -- ---- the numbers of ends
@@ -94,39 +93,19 @@ module _ (f : PipeEnd) (s : SyncState) (all : Counted s) (pid : ℕ) (p : Proces
   has_own : (g : PipeEnd) → count_among g p.descriptors ≤ number_at g s.pipes
   has_own g = omega (arith, all g, own_count g p lives, held_at g s.processes pid p at)
 
-  stop_carried : (o : Option Stop) → Carried f s (after_effect_if s pid p (effect_at (shared s) pid p o)).state
-  stop_carried None = same_carried f s all
-  stop_carried (Some Limit) = same_carried f s all
-  stop_carried (Some (Trap cause)) = end_carried (256 + cause_number cause)
-  stop_carried (Some Call) =
-      let e = row (shared s) pid p.descriptors p.children (request_of p.state) in
-      elim (row_fits f (shared s) p.descriptors pid p.children (request_of p.state) has_own) [
-        | inl fits ↦ told_carried e e.told fits.goes_on fits
-        | inr end ↦ subst (λ (x : Effect). Carried f s (after_effect s pid p x x.told).state) (sym end.1) (end_carried end.0)
-      ]
-
-turn_carried : (f : PipeEnd) (s : SyncState) (pid n : ℕ) (o : Option Process) → Counted s → process_at s.processes pid ≡ o → Carried f s (after_turn s pid n o).state
-turn_carried f s pid n None all at = same_carried f s all
-turn_carried f s pid n (Some p) all at = elim (is_some p.status) as (λ b. is_some p.status ≡ b
-    → Carried f s (if b then impossible pid s else record { state = with_process s pid (after_run n p); entry = own_entry pid }).state) [
-      | true ↦ λ t. same_carried f s all
-      | false ↦ λ t. run_carried f s all pid p at t n
-    ] refl
-
-enter_carried : (f : PipeEnd) (s : SyncState) (pid : ℕ) (o : Option Process) → Counted s → process_at s.processes pid ≡ o → Carried f s (after_enter s pid o).state
-enter_carried f s pid None all at = same_carried f s all
-enter_carried f s pid (Some p) all at = elim (is_some p.status) as (λ b. is_some p.status ≡ b
-    → Carried f s (if b then impossible pid s else after_effect_if s pid p (effect_at (shared s) pid p (stands_at p.state))).state) [
-      | true ↦ λ t. same_carried f s all
-      | false ↦ λ t. stop_carried f s all pid p at t (stands_at p.state)
-    ] refl
+  call_carried : Carried f s (after_effect s pid p (call_of s pid p) (call_of s pid p).verdict).state
+  call_carried = elim (row_fits f (shared s) p.descriptors has_own pid p.children (request_of p.state)) [
+    | inl fits ↦ told_carried (call_of s pid p) (call_of s pid p).verdict fits.goes_on fits
+    | inr end ↦ subst (λ (x : Effect). Carried f s (after_effect s pid p x x.verdict).state) (sym end.1) (end_carried end.0)
+  ]
 
 step_carried : (f : PipeEnd) (s : SyncState) (e : Event) → Counted s → Carried f s (step s e).state
-step_carried f s (Turn pid n) all = turn_carried f s pid n (process_at s.processes pid) all refl
-step_carried f s (Enter pid) all = enter_carried f s pid (process_at s.processes pid) all refl
-step_carried f s Cut all = same_carried f s all
-step_carried f s (Complete at) all = same_carried f s all
-step_carried f s (Fail at) all = same_carried f s all
+step_carried f s e all = of_step (λ (t : Transition). Carried f s t.state) s (same_carried f s all) (λ pid. record {
+  cannot = same_carried f s all;
+  turns = λ n p at lives. run_carried f s all pid p at lives n;
+  calls = λ p at lives stands. call_carried f s all pid p at lives;
+  traps = λ p cause at lives stands. end_carried f s all pid p at lives (256 + cause_number cause);
+}) e
 
 -- ---- whole runs
 
@@ -138,12 +117,12 @@ first_counted : (f : PipeEnd) (i : ℕ) (ps : List BootProgram) → count_held f
 first_counted f i [] = refl
 first_counted f i (p ∷ ps) = omega (arith, first_counted f (i + 1) ps)
 
-begun_counted : (b : Boot) → Counted (begun b).sync
-begun_counted b (Read k) = sym (first_counted (Read k) 0 b.programs)
-begun_counted b (Write k) = sym (first_counted (Write k) 0 b.programs)
+first_world_counted : (b : Boot) → Counted (first_world b).sync
+first_world_counted b (Read k) = sym (first_counted (Read k) 0 b.programs)
+first_world_counted b (Write k) = sym (first_counted (Write k) 0 b.programs)
 
-pub run_counted : (b : Boot) (es : List Event) → Counted (after (begun b) es).sync
-run_counted b es = after_counted es (begun b) (begun_counted b)
+pub run_counted : (b : Boot) (es : List Event) → Counted (after (first_world b) es).sync
+run_counted b es = after_counted es (first_world b) (first_world_counted b)
 
 -- there is no such end any more
 record IsGone (f : PipeEnd) (s : SyncState) : Type 0 where
@@ -157,22 +136,22 @@ after_gone f (e ∷ es) w all is =
     after_gone f es (happens w e) (λ g. (step_carried g w.sync e all).counted)
     (record { below = omega (arith, is.below, next.there); none = next.gone is.below is.none })
 
-run_gone : (f : PipeEnd) (b : Boot) (es more : List Event) → IsGone f (after (begun b) es).sync → count_held f (after (begun b) (es ++ more)).sync.processes ≡ 0
+run_gone : (f : PipeEnd) (b : Boot) (es more : List Event) → IsGone f (after (first_world b) es).sync → count_held f (after (first_world b) (es ++ more)).sync.processes ≡ 0
 run_gone f b es more is =
-    subst (λ (w : World). count_held f w.sync.processes ≡ 0) (sym (after-after (begun b) es more))
-    (sym (after_counted more (after (begun b) es) (run_counted b es) f) ∙ after_gone f more (after (begun b) es) (run_counted b es) is)
+    subst (λ (w : World). count_held f w.sync.processes ≡ 0) (sym (after-after (first_world b) es more))
+    (sym (after_counted more (after (first_world b) es) (run_counted b es) f) ∙ after_gone f more (after (first_world b) es) (run_counted b es) is)
 
-pub readers_gone : (b : Boot) (es more : List Event) (k : ℕ) (p : PipeState) → slice_get (after (begun b) es).sync.pipes k ≡ Some p → p.readers ≡ 0
-    → count_held (Read k) (after (begun b) (es ++ more)).sync.processes ≡ 0
+pub readers_gone : (b : Boot) (es more : List Event) (k : ℕ) (p : PipeState) → slice_get (after (first_world b) es).sync.pipes k ≡ Some p → p.readers ≡ 0
+    → count_held (Read k) (after (first_world b) (es ++ more)).sync.processes ≡ 0
 readers_gone b es more k p at none = run_gone (Read k) b es more (record {
-  below = slice_get_within (after (begun b) es).sync.pipes k p at;
+  below = slice_get_within (after (first_world b) es).sync.pipes k p at;
   none = ap (of_pipe (λ q. q.readers)) at ∙ none;
 })
 
-pub writers_gone : (b : Boot) (es more : List Event) (k : ℕ) (p : PipeState) → slice_get (after (begun b) es).sync.pipes k ≡ Some p → p.writers ≡ 0
-    → count_held (Write k) (after (begun b) (es ++ more)).sync.processes ≡ 0
+pub writers_gone : (b : Boot) (es more : List Event) (k : ℕ) (p : PipeState) → slice_get (after (first_world b) es).sync.pipes k ≡ Some p → p.writers ≡ 0
+    → count_held (Write k) (after (first_world b) (es ++ more)).sync.processes ≡ 0
 writers_gone b es more k p at none = run_gone (Write k) b es more (record {
-  below = slice_get_within (after (begun b) es).sync.pipes k p at;
+  below = slice_get_within (after (first_world b) es).sync.pipes k p at;
   none = ap (of_pipe (λ q. q.writers)) at ∙ none;
 })
 
@@ -188,28 +167,6 @@ AreEmptied ps = AllByRecursion IsEmptied ps
 living_emptied : (p : Process) → is_some p.status ≡ false → IsEmptied p
 living_emptied p lives ended = absurd (let no : ⊥ = cc in no)
 
-set_emptied : (ps : List Process) (i : ℕ) (p : Process) → AreEmptied ps → IsEmptied p → AreEmptied (slice_set ps i p)
-set_emptied [] i p all is = all
-set_emptied (x ∷ ps) zero p all is = (is, all.1)
-set_emptied (x ∷ ps) (suc i) p all is = (all.0, set_emptied ps i p all.1 is)
-
-put_emptied : (ps : List Process) (pid : ℕ) (p : Process) → AreEmptied ps → IsEmptied p → AreEmptied (put_process ps pid p)
-put_emptied ps zero p all is = all
-put_emptied ps (suc i) p all is = set_emptied ps i p all is
-
-append_emptied : (ps qs : List Process) → AreEmptied ps → AreEmptied qs → AreEmptied (ps ++ qs)
-append_emptied [] qs all more = more
-append_emptied (p ∷ ps) qs all more = (all.0, append_emptied ps qs all.1 more)
-
-get_emptied : (ps : List Process) (i : ℕ) (p : Process) → AreEmptied ps → slice_get ps i ≡ Some p → IsEmptied p
-get_emptied [] i p all e = absurd (let no : ⊥ = cc in no)
-get_emptied (x ∷ ps) zero p all e = let is : x ≡ p = cc in subst IsEmptied is all.0
-get_emptied (x ∷ ps) (suc i) p all e = get_emptied ps i p all.1 e
-
-at_emptied : (ps : List Process) (pid : ℕ) (p : Process) → AreEmptied ps → process_at ps pid ≡ Some p → IsEmptied p
-at_emptied ps zero p all e = absurd (let no : ⊥ = cc in no)
-at_emptied ps (suc i) p all e = get_emptied ps i p all e
-
 none_left : (ds : List (Option Descriptor)) → list_all (λ (d : Option Descriptor). is_none d) (map (λ (d : Option Descriptor). None) ds) ≡ true
 none_left [] = refl
 none_left (d ∷ ds) = none_left ds
@@ -221,36 +178,15 @@ forked_emptied p (Some child) = (λ ended. absurd (let no : ⊥ = cc in no), tt)
 effect_emptied : (s : SyncState) (pid : ℕ) (p : Process) (e : Effect) (v : Verdict) → AreEmptied s.processes → AreEmptied (after_effect s pid p e v).state.processes
 effect_emptied s pid p e Waits all = all
 effect_emptied s pid p e (Replies r) all =
-    append_emptied (put_process s.processes pid (after_reply p e r)) (forked p e.child)
-    (put_emptied s.processes pid (after_reply p e r) all (living_emptied (after_reply p e r) refl)) (forked_emptied p e.child)
-effect_emptied s pid p e (Ends status) all = put_emptied s.processes pid (after_end p status) all (λ ended. none_left p.descriptors)
-
-effect_if_emptied : (s : SyncState) (pid : ℕ) (p : Process) (o : Option Effect) → AreEmptied s.processes → AreEmptied (after_effect_if s pid p o).state.processes
-effect_if_emptied s pid p None all = all
-effect_if_emptied s pid p (Some e) all = effect_emptied s pid p e e.told all
-
-turn_emptied : (s : SyncState) (pid n : ℕ) (o : Option Process) → AreEmptied s.processes → AreEmptied (after_turn s pid n o).state.processes
-turn_emptied s pid n None all = all
-turn_emptied s pid n (Some p) all = elim (is_some p.status) as (λ b. is_some p.status ≡ b
-    → AreEmptied (if b then impossible pid s else record { state = with_process s pid (after_run n p); entry = own_entry pid }).state.processes) [
-      | true ↦ λ t. all
-      | false ↦ λ t. put_emptied s.processes pid (after_run n p) all (living_emptied (after_run n p) t)
-    ] refl
-
-enter_emptied : (s : SyncState) (pid : ℕ) (o : Option Process) → AreEmptied s.processes → AreEmptied (after_enter s pid o).state.processes
-enter_emptied s pid None all = all
-enter_emptied s pid (Some p) all = elim (is_some p.status) as (λ b.
-    AreEmptied (if b then impossible pid s else after_effect_if s pid p (effect_at (shared s) pid p (stands_at p.state))).state.processes) [
-      | true ↦ all
-      | false ↦ effect_if_emptied s pid p (effect_at (shared s) pid p (stands_at p.state)) all
-    ]
+    each_append IsEmptied (put_process s.processes pid (after_reply p e r)) (forked p e.child)
+    (each_put IsEmptied s.processes pid (after_reply p e r) (living_emptied (after_reply p e r) refl) all) (forked_emptied p e.child)
+effect_emptied s pid p e (Ends status) all = each_put IsEmptied s.processes pid (after_end p status) (λ ended. none_left p.descriptors) all
 
 step_emptied : (s : SyncState) (e : Event) → AreEmptied s.processes → AreEmptied (step s e).state.processes
-step_emptied s (Turn pid n) all = turn_emptied s pid n (process_at s.processes pid) all
-step_emptied s (Enter pid) all = enter_emptied s pid (process_at s.processes pid) all
-step_emptied s Cut all = all
-step_emptied s (Complete at) all = all
-step_emptied s (Fail at) all = all
+step_emptied s e all = of_step (λ (t : Transition). AreEmptied t.state.processes) s all
+    (λ pid. each_event (λ (t : Transition). AreEmptied t.state.processes) s pid all
+    (λ n p at lives. each_put IsEmptied s.processes pid (after_run n p) (living_emptied (after_run n p) lives) all)
+    (λ p f at lives is. effect_emptied s pid p f f.verdict all)) e
 
 after_emptied : (es : List Event) (w : World) → AreEmptied w.sync.processes → AreEmptied (after w es).sync.processes
 after_emptied [] w all = all
@@ -260,6 +196,6 @@ first_emptied : (i : ℕ) (ps : List BootProgram) → AreEmptied (processes_from
 first_emptied i [] = tt
 first_emptied i (p ∷ ps) = (living_emptied (first_process i p) refl, first_emptied (i + 1) ps)
 
-pub run_emptied : (b : Boot) (es : List Event) (pid : ℕ) (p : Process) → process_at (after (begun b) es).sync.processes pid ≡ Some p → is_some p.status ≡ true
+pub run_emptied : (b : Boot) (es : List Event) (pid : ℕ) (p : Process) → process_at (after (first_world b) es).sync.processes pid ≡ Some p → is_some p.status ≡ true
     → list_all is_none p.descriptors ≡ true
-run_emptied b es pid p at = at_emptied (after (begun b) es).sync.processes pid p (after_emptied es (begun b) (first_emptied 0 b.programs)) at
+run_emptied b es pid p at = each_process IsEmptied (after (first_world b) es).sync.processes pid p (after_emptied es (first_world b) (first_emptied 0 b.programs)) at

@@ -6,8 +6,9 @@ use Rattle.std.proofs.lemmas.Bool.{eqb-true, eqb-false, ne_eqb}
 use Rattle.std.proofs.lemmas.Option.{slice_get_within, slice_get_past, slice_get-get_or}
 use Rattle.std.proofs.lemmas.List.{length-append, length-set, length-drop, get_or-drop}
 use Rattle.std.proofs.lemmas.List.Quantifiers.{position-Some}
+use Rattle.disk_model.proofs.Lists.{get_same, get_other}
 use Rattle.kernel_model.specs.Ends.{is_same_end, stands_for, count_among, count_of, count_held}
-use Rattle.kernel_model.specs.Rows.{ends_of, descriptor_at, free_descriptor, free_behind}
+use Rattle.kernel_model.specs.Rows.{ends_of, descriptor_at, free_descriptor, free_after}
 use Rattle.kernel_model.specs.State.{Process, PipeState, process_at, put_process, new_pipe, with_pipe, with_end, without_end, stepped, all_stepped}
 use Rattle.kernel_model.specs.declared.descriptor.Descriptor.{Descriptor}
 use Rattle.kernel_model.specs.declared.descriptor.Descriptor.TheVariants.{Tape, Terminal, File, Pipe}
@@ -71,15 +72,15 @@ free_is ds fd e =
     slice_get-get_or ds fd None found.0 ∙ ap (λ (y : Option Descriptor). Some y) (none_is (get_or ds fd None) found.1)
 
 -- so is the next one
-pub record IsBehind (ds : List (Option Descriptor)) (fd behind : ℕ) : Type 0 where
-  pub later : fd < behind
-  pub free : slice_get ds behind ≡ Some None
+pub record IsAfter (ds : List (Option Descriptor)) (fd after : ℕ) : Type 0 where
+  pub later : fd < after
+  pub free : slice_get ds after ≡ Some None
 
-behind_from : (ds : List (Option Descriptor)) (fd behind : ℕ) (o : Option ℕ) → position is_none (drop (fd + 1) ds) ≡ o
-    → option_map (λ further. fd + 1 + further) o ≡ Some behind → IsBehind ds fd behind
-behind_from ds fd behind None found e = cc
-behind_from ds fd behind (Some further) found e =
-    let at : fd + 1 + further ≡ behind = cc in
+after_from : (ds : List (Option Descriptor)) (fd after : ℕ) (o : Option ℕ) → position is_none (drop (fd + 1) ds) ≡ o
+    → option_map (λ further. fd + 1 + further) o ≡ Some after → IsAfter ds fd after
+after_from ds fd after None found e = cc
+after_from ds fd after (Some further) found e =
+    let at : fd + 1 + further ≡ after = cc in
     let is = position-Some is_none (drop (fd + 1) ds) further None found in
     let within : fd + 1 + further < length ds = omega (arith, is.0, length-drop (fd + 1) ds) in
     let free : slice_get ds (fd + 1 + further) ≡ Some None =
@@ -87,8 +88,8 @@ behind_from ds fd behind (Some further) found e =
     ∙ ap (λ (y : Option Descriptor). Some y) (sym (get_or-drop (fd + 1) ds further None) ∙ none_is (get_or (drop (fd + 1) ds) further None) is.1) in
     record { later = omega (arith, at); free = subst (λ (j : ℕ). slice_get ds j ≡ Some None) at free }
 
-pub behind_is : (ds : List (Option Descriptor)) (fd behind : ℕ) → free_behind ds (Some fd) ≡ Some behind → IsBehind ds fd behind
-behind_is ds fd behind e = behind_from ds fd behind (position is_none (drop (fd + 1) ds)) refl e
+pub after_is : (ds : List (Option Descriptor)) (fd after : ℕ) → free_after ds (Some fd) ≡ Some after → IsAfter ds fd after
+after_is ds fd after e = after_from ds fd after (position is_none (drop (fd + 1) ds)) refl e
 
 -- ---- processes
 
@@ -144,21 +145,9 @@ pub number_below : (f : PipeEnd) (pipes : List PipeState) → 1 ≤ number_at f 
 number_below (Read k) pipes h = of_pipe_below (λ p. p.readers) pipes k (slice_get pipes k) refl h
 number_below (Write k) pipes h = of_pipe_below (λ p. p.writers) pipes k (slice_get pipes k) refl h
 
-get_set : {A : Type 0} (xs : List A) (i j : ℕ) (x : A) → (j ≡ i → ⊥) → slice_get (slice_set xs i x) j ≡ slice_get xs j
-get_set [] i j x n = refl
-get_set (z ∷ zs) zero zero x n = absurd (n refl)
-get_set (z ∷ zs) zero (suc j) x n = refl
-get_set (z ∷ zs) (suc i) zero x n = refl
-get_set (z ∷ zs) (suc i) (suc j) x n = get_set zs i j x (λ e. n (ap suc e))
-
-get_same : {A : Type 0} (xs : List A) (i : ℕ) (x y : A) → slice_get xs i ≡ Some y → slice_get (slice_set xs i x) i ≡ Some x
-get_same [] i x y e = cc
-get_same (z ∷ zs) zero x y e = refl
-get_same (z ∷ zs) (suc i) x y e = get_same zs i x y e
-
 -- another descriptor stays as it was
-pub free_still : (ds : List (Option Descriptor)) (fd behind : ℕ) (new : Option Descriptor) → IsBehind ds fd behind → slice_get (slice_set ds fd new) behind ≡ Some None
-free_still ds fd behind new is = get_set ds fd behind new (λ (e : behind ≡ fd). omega (arith, is.later, e)) ∙ is.free
+pub free_still : (ds : List (Option Descriptor)) (fd after : ℕ) (new : Option Descriptor) → IsAfter ds fd after → slice_get (slice_set ds fd new) after ≡ Some None
+free_still ds fd after new is = get_other ds fd after new (λ (e : after ≡ fd). omega (arith, is.later, e)) ∙ is.free
 
 -- a number of the pipe at place j, once pipe k is what g makes of it, where g makes h of the number
 with_number : (c : PipeState → ℕ) (g : PipeState → PipeState) (h : ℕ → ℕ) → ((p : PipeState) → c (g p) ≡ h (c p))
@@ -177,7 +166,7 @@ with_number c g h makes pipes k j (Some p) e none =
           let here : slice_get pipes j ≡ Some p = ap (slice_get pipes) (eqb-true j k t) ∙ e in
           let made : slice_get (slice_set pipes k (g p)) j ≡ Some (g p) = ap (slice_get (slice_set pipes k (g p))) (eqb-true j k t) ∙ get_same pipes k (g p) p e in
           ap (of_pipe c) made ∙ makes p ∙ ap (λ (o : Option PipeState). h (of_pipe c o)) (sym here)
-      | false ↦ λ t. ap (of_pipe c) (get_set pipes k j (g p) (eqb-false j k t))
+      | false ↦ λ t. ap (of_pipe c) (get_other pipes k j (g p) (eqb-false j k t))
     ] refl
 
 if_both : (b : Bool) (n : ℕ) → (if b then n else n) ≡ n
@@ -274,7 +263,7 @@ below_new (Write j) k h = record { reads = refl; writes = ap (λ (b : Bool). if 
 
 -- ---- steps one after the other
 
-with_length : (pipes : List PipeState) (k : ℕ) (o : Option PipeState) (g : PipeState → PipeState) → length (with_pipe pipes k o g) ≡ length pipes
+pub with_length : (pipes : List PipeState) (k : ℕ) (o : Option PipeState) (g : PipeState → PipeState) → length (with_pipe pipes k o g) ≡ length pipes
 with_length pipes k None g = refl
 with_length pipes k (Some p) g = length-set pipes k (g p)
 

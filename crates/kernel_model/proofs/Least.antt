@@ -16,11 +16,11 @@ of_all : (P : ℕ → Type 0) (m : ℕ) (ns : List ℕ) → P m → ((n : ℕ) �
 of_all P m ns first others n zero lt is = subst P is first
 of_all P m ns first others n (suc k) lt is = others n (k, omega (arith, lt), is)
 
--- what is found behind a child that has not ended
-found_behind : (statuses : List (Option ℕ)) (m : ℕ) (ns : List ℕ) → status_in statuses m ≡ None → (found : Option EndedChild)
+-- what is found after a child that has not ended
+found_after : (statuses : List (Option ℕ)) (m : ℕ) (ns : List ℕ) → status_in statuses m ≡ None → (found : Option EndedChild)
     → FindsLeast statuses ns found → FindsLeast statuses (m ∷ ns) found
-found_behind statuses m ns lives None none = λ n has. of_all (λ (i : ℕ). status_in statuses i ≡ None) m ns lives none n has.0 has.1 has.2
-found_behind statuses m ns lives (Some e) is = record {
+found_after statuses m ns lives None none = λ n has. of_all (λ (i : ℕ). status_in statuses i ≡ None) m ns lives none n has.0 has.1 has.2
+found_after statuses m ns lives (Some e) is = record {
   among = (suc is.among.0, omega (arith, is.among.1), is.among.2);
   ended = is.ended;
   least = λ n has. of_all (λ (i : ℕ). is_some (status_in statuses i) ≡ true → e.child ≤ i) m ns
@@ -28,10 +28,10 @@ found_behind statuses m ns lives (Some e) is = record {
       is.least n has.0 has.1 has.2;
 }
 
--- what is found of a child and those behind it
+-- what is found of a child and those after it
 found_first : (statuses : List (Option ℕ)) (low high m : ℕ) (ns : List ℕ) (found : Option EndedChild) → RiseWithin low high (m ∷ ns) → FindsLeast statuses ns found
     → (o : Option ℕ) → status_in statuses m ≡ o → FindsLeast statuses (m ∷ ns) (ended_or m o found)
-found_first statuses low high m ns found h is None e = found_behind statuses m ns e found is
+found_first statuses low high m ns found h is None e = found_after statuses m ns e found is
 found_first statuses low high m ns found h is (Some status) e = record {
   among = (0, omega arith, refl);
   ended = e;

@@ -1,6 +1,10 @@
 pub mod Meets
 pub mod Paths
+pub mod Transitions
 pub mod Folding
+pub mod Asked
+pub mod Names
+pub mod Cases
 pub mod Runs
 pub mod Ends
 pub mod EndRows

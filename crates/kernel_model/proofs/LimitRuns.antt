@@ -1,43 +1,43 @@
 -- Through each event the tables of a state keep their limits.
-use Rattle.std.proofs.Common.{◌≡◌, ℕ, zero, suc, ◌+◌, ◌<◌, ◌≤◌, inl, inr, Bool, true, false, not, List, [], ◌∷◌, ◌++◌, length, slice_get, Option, Some, None, is_some, IfSome, refl, sym, ap, ◌∙◌, subst, arith, length-append}
-use Rattle.std.specs.Prelude.{if◌then◌else◌, option_to_list, filter}
-use Rattle.std.specs.List.{AllByRecursion}
+use Rattle.std.proofs.Common.{append-nil, ◌≡◌, ℕ, zero, suc, ◌+◌, ◌<◌, ◌≤◌, inl, inr, Bool, not, List, [], ◌∷◌, ◌++◌, length, slice_get, Option, Some, None, IfSome, refl, sym, ap, ◌∙◌, subst, arith, length-append}
+use Rattle.std.specs.Prelude.{option_to_list, filter}
 use Rattle.std.proofs.lemmas.List.{length-map, length-set, length-drop}
 use Rattle.disk_model.specs.Held.{joined}
 use Rattle.disk_model.specs.declared.change.Change.{Change}
 use Rattle.disk_model.specs.declared.change.NamedFile.{NamedFile}
+use Rattle.disk_model.proofs.Lists.{each_get, each_more}
 use Rattle.disk_model.proofs.Tidy.{IsTidyFile, tidy_after}
 use Rattle.machine_model.specs.declared.reply.Reply.{Reply}
 use Rattle.machine_model.specs.States.{stands_at, replied}
 use Rattle.kernel_model.specs.Limits.{KeepLimits, TapesAreThere, AreFewAndShort, RiseWithin, descriptor_count}
 use Rattle.kernel_model.specs.Rows.{Effect, most_processes}
 use Rattle.kernel_model.specs.State.{SyncState, Process, TapeState, process_at, put_process, with_process, shared, changed_by, read_by, with_place}
-use Rattle.kernel_model.specs.Steps.{after_run, after_turn, own_entry, impossible, is_collected, after_reply, forked, after_end, after_effect, after_effect_if, effect_at, after_enter, step, zero_reply}
-use Rattle.kernel_model.specs.World.{World, Boot, BootProgram, HoldsItsFiles, first_process, processes_from, tapes_of, tape_count, begun, happens, after}
+use Rattle.kernel_model.specs.Steps.{Transition, after_run, is_collected, after_reply, forked, after_end, after_effect, step, zero_reply}
+use Rattle.kernel_model.specs.World.{World, Boot, BootProgram, HoldsItsFiles, first_process, processes_from, tapes_of, tape_count, first_world, happens, after}
 use Rattle.kernel_model.specs.declared.descriptor.Descriptor.{Descriptor}
 use Rattle.kernel_model.specs.declared.effect.TapeRead.{TapeRead}
 use Rattle.kernel_model.specs.declared.event.Event.{Event}
-use Rattle.kernel_model.specs.declared.event.Event.TheVariants.{Turn, Enter, Cut, Complete, Fail}
 use Rattle.kernel_model.specs.declared.request.Verdict.{Verdict}
 use Rattle.kernel_model.specs.declared.request.Verdict.TheVariants.{Waits, Replies, Ends}
-use Rattle.kernel_model.proofs.Limits.{each_get, put_length, at_put, at_append, at_below, rise_higher, rise_filter, rise_more, IsThere, AreThere, are_there_more, free_there, closed_there, there_at, set_there, slots_length, IsHeld, IsBrief, FilesStand, LeavesFew, changed_grows, changed_stand}
-use Rattle.kernel_model.proofs.Runs.{append-nil}
-use Rattle.kernel_model.proofs.LimitRows.{IsNext, PipesFit, Keeps, effect_keeps}
+use Rattle.kernel_model.proofs.Limits.{put_length, at_put, at_append, at_below, rise_higher, rise_filter, rise_more, IsThere, AreThere, are_there_more, free_there, closed_there, there_at, set_there, slots_length, IsHeld, IsBrief, FilesStand, LeavesFew, changed_by_grows, changed_stand}
+use Rattle.kernel_model.proofs.ChildRows.{IsNoneOrNextProcess}
+use Rattle.kernel_model.proofs.Transitions.{each_event, of_step}
+use Rattle.kernel_model.proofs.LimitRows.{PipesFit, Keeps, effect_keeps}
 
 -- process pid, which is p, of so many files, tapes and processes
-record Stands (files tapes processes pid : ℕ) (p : Process) : Type 0 where
+pub record Stands (files tapes processes pid : ℕ) (p : Process) : Type 0 where
   pub count : length p.descriptors ≡ descriptor_count
   pub there : AreThere files tapes p.descriptors
   pub children : RiseWithin pid processes p.children
 
 -- all processes, the pipes and how many tapes there are, where descriptors stand for tapes of numbers below `named`
-record AllStand (named : ℕ) (s : SyncState) : Type 0 where
+pub record AllStand (named : ℕ) (s : SyncState) : Type 0 where
   pub each : (pid : ℕ) (p : Process) → process_at s.processes pid ≡ Some p → Stands (length s.files) named (length s.processes) pid p
   pub pipes : PipesFit s.pipes
   pub tapes : length s.tapes ≡ tape_count
 
 -- what an event keeps
-record Kept (tapes : ℕ) (s t : SyncState) : Type 0 where
+pub record Kept (tapes : ℕ) (s t : SyncState) : Type 0 where
   pub stand : AllStand tapes t
   pub few : length s.processes ≤ most_processes → length t.processes ≤ most_processes
   pub files : FilesStand s.files → FilesStand t.files
@@ -54,10 +54,6 @@ stands_more files more tapes processes top pid p le below h = record {
 }
 
 -- ---- an effect
-
-by_grows : (files : List NamedFile) (o : Option Change) → length files ≤ length (changed_by files o)
-by_grows files None = omega arith
-by_grows files (Some c) = changed_grows files c
 
 place_length : (tapes : List TapeState) (t count : ℕ) (o : Option TapeState) → length (with_place tapes t count o) ≡ length tapes
 place_length tapes t count None = refl
@@ -80,12 +76,12 @@ forked_length : (p : Process) (o : Option ℕ) → length (forked p o) ≡ made 
 forked_length p None = refl
 forked_length p (Some child) = refl
 
-few_made : (count : ℕ) (o : Option ℕ) → IsNext count o → count ≤ most_processes → count + made o ≤ most_processes
+few_made : (count : ℕ) (o : Option ℕ) → IsNoneOrNextProcess count o → count ≤ most_processes → count + made o ≤ most_processes
 few_made count None next le = omega (arith, le)
 few_made count (Some child) next le = omega (arith, next.1)
 
 -- the children left, with the one that is made
-children_stand : (children : List ℕ) (collects : ℕ → Bool) (o : Option ℕ) (pid count : ℕ) → pid ≤ count → IsNext count o → RiseWithin pid count children
+children_stand : (children : List ℕ) (collects : ℕ → Bool) (o : Option ℕ) (pid count : ℕ) → pid ≤ count → IsNoneOrNextProcess count o → RiseWithin pid count children
     → RiseWithin pid (count + made o) (filter collects children ++ option_to_list o)
 children_stand children collects None pid count le next h =
     subst (λ (ns : List ℕ). RiseWithin pid (count + 0) ns) (sym (append-nil (filter collects children)))
@@ -143,11 +139,11 @@ module _ (tapes : ℕ) (s : SyncState) (all : AllStand tapes s) (pid : ℕ) (p :
 
   -- Below, an effect that keeps the limits, and a reply.
   module _ (e : Effect) (r : Reply) (keeps : Keeps (shared s) tapes all.pipes e) where
-    next : IsNext (length s.processes) e.child
-    next = subst (λ (n : ℕ). IsNext n e.child) (length-map s.processes (λ (q : Process). q.status)) keeps.child
+    next : IsNoneOrNextProcess (length s.processes) e.child
+    next = subst (λ (n : ℕ). IsNoneOrNextProcess n e.child) (length-map s.processes (λ (q : Process). q.status)) keeps.child
 
     grows : length s.files ≤ length (changed_by s.files e.change)
-    grows = by_grows s.files e.change
+    grows = changed_by_grows s.files e.change
 
     abbrev Then : ℕ → Process → Type 0
     Then j x = Stands (length (changed_by s.files e.change)) tapes (length s.processes + made e.child) j x
@@ -205,34 +201,14 @@ module _ (tapes : ℕ) (s : SyncState) (all : AllStand tapes s) (pid : ℕ) (p :
   told_kept e (Replies r) keeps = reply_kept e r keeps
   told_kept e (Ends status) keeps = end_kept e status keeps
 
-  effect_if_kept : (o : Option Effect) → IfSome o (Keeps (shared s) tapes all.pipes) → Kept tapes s (after_effect_if s pid p o).state
-  effect_if_kept None keeps = same_kept tapes s all
-  effect_if_kept (Some e) keeps = told_kept e e.told keeps
-
-  turn_kept : (n : ℕ) (b : Bool) → Kept tapes s (if b then impossible pid s else record { state = with_process s pid (after_run n p); entry = own_entry pid }).state
-  turn_kept n true = same_kept tapes s all
-  turn_kept n false = run_kept n
-
-  enter_kept : (b : Bool) → Kept tapes s (if b then impossible pid s else after_effect_if s pid p (effect_at (shared s) pid p (stands_at p.state))).state
-  enter_kept true = same_kept tapes s all
-  enter_kept false = effect_if_kept (effect_at (shared s) pid p (stands_at p.state)) (effect_keeps (shared s) tapes all.pipes pid p (stands_at p.state) own.there)
-
 -- ---- events
 
-after_turn_kept : (tapes : ℕ) (s : SyncState) (pid n : ℕ) (o : Option Process) → AllStand tapes s → process_at s.processes pid ≡ o → Kept tapes s (after_turn s pid n o).state
-after_turn_kept tapes s pid n None all at = same_kept tapes s all
-after_turn_kept tapes s pid n (Some p) all at = turn_kept tapes s all pid p at n (is_some p.status)
-
-after_enter_kept : (tapes : ℕ) (s : SyncState) (pid : ℕ) (o : Option Process) → AllStand tapes s → process_at s.processes pid ≡ o → Kept tapes s (after_enter s pid o).state
-after_enter_kept tapes s pid None all at = same_kept tapes s all
-after_enter_kept tapes s pid (Some p) all at = enter_kept tapes s all pid p at (is_some p.status)
-
-step_kept : (tapes : ℕ) (s : SyncState) (e : Event) → AllStand tapes s → Kept tapes s (step s e).state
-step_kept tapes s (Turn pid n) all = after_turn_kept tapes s pid n (process_at s.processes pid) all refl
-step_kept tapes s (Enter pid) all = after_enter_kept tapes s pid (process_at s.processes pid) all refl
-step_kept tapes s Cut all = same_kept tapes s all
-step_kept tapes s (Complete at) all = same_kept tapes s all
-step_kept tapes s (Fail at) all = same_kept tapes s all
+pub step_kept : (tapes : ℕ) (s : SyncState) (e : Event) → AllStand tapes s → Kept tapes s (step s e).state
+step_kept tapes s e all = of_step (λ (t : Transition). Kept tapes s t.state) s (same_kept tapes s all)
+    (λ pid. each_event (λ (t : Transition). Kept tapes s t.state) s pid (same_kept tapes s all)
+    (λ n p at lives. run_kept tapes s all pid p at n)
+    (λ p f at lives is. told_kept tapes s all pid p at f f.verdict (subst (λ (o : Option Effect). IfSome o (Keeps (shared s) tapes all.pipes)) is
+    (effect_keeps (shared s) tapes all.pipes pid p (stands_at p.state) (all.each pid p at).there)))) e
 
 -- ---- runs
 
@@ -264,65 +240,62 @@ tapes_length zero tapes = refl
 tapes_length (suc n) [] = ap suc (tapes_length n [])
 tapes_length (suc n) (tape ∷ tapes) = ap suc (tapes_length n tapes)
 
-begun_stand : (b : Boot) → AllStand (length b.programs) (begun b).sync
-begun_stand b = record {
+pub first_world_stand : (b : Boot) → AllStand (length b.programs) (first_world b).sync
+first_world_stand b = record {
   each = λ pid p is. first_at (length b.files) (length b.programs) (length (processes_from 0 b.programs)) pid b.programs p (omega arith) is;
   pipes = record { few = omega arith; held = tt };
   tapes = tapes_length tape_count b.tapes;
 }
 
-run_kept_all : (b : Boot) (es : List Event) → Kept (length b.programs) (begun b).sync (after (begun b) es).sync
-run_kept_all b es = after_kept (length b.programs) es (begun b) (begun_stand b)
+run_kept_all : (b : Boot) (es : List Event) → Kept (length b.programs) (first_world b).sync (after (first_world b) es).sync
+run_kept_all b es = after_kept (length b.programs) es (first_world b) (first_world_stand b)
 
 -- ---- the laws
 
-pub run_processes : (b : Boot) (es : List Event) → length b.programs ≤ most_processes → length (after (begun b) es).sync.processes ≤ most_processes
+pub run_processes : (b : Boot) (es : List Event) → length b.programs ≤ most_processes → length (after (first_world b) es).sync.processes ≤ most_processes
 run_processes b es le = (run_kept_all b es).few (omega (arith, first_length 0 b.programs, le))
 
-pub run_limits : (b : Boot) (es : List Event) → KeepLimits (after (begun b) es).sync
-run_limits b es =
-    let all = (run_kept_all b es).stand in
-    record {
-      processes = λ pid p at.
-          let own = all.each pid p at in
-          record {
-            descriptors = own.count;
-            named = λ fd file offset writes is. subst (IsThere (length (after (begun b) es).sync.files) (length b.programs)) is
-                (there_at (length (after (begun b) es).sync.files) (length b.programs) p.descriptors fd own.there);
-            children = own.children;
-          };
-      pipes = all.pipes.few;
-      held = λ k p at.
-          let own = each_get IsHeld (after (begun b) es).sync.pipes k p all.pipes.held at in
-          record { taken = own.taken; held = omega (arith, own.taken, own.most, length-drop p.taken p.written) };
-    }
+-- a state that stands keeps the limits
+pub stand_limits : (tapes : ℕ) (s : SyncState) → AllStand tapes s → KeepLimits s
+stand_limits tapes s all = record {
+  processes = λ pid p at.
+      let own = all.each pid p at in
+      record {
+        descriptors = own.count;
+        named = λ fd file offset writes is. subst (IsThere (length s.files) tapes) is (there_at (length s.files) tapes p.descriptors fd own.there);
+        children = own.children;
+      };
+  pipes = all.pipes.few;
+  held = λ k p at.
+      let own = each_get IsHeld s.pipes k p all.pipes.held at in
+      record { taken = own.taken; held = omega (arith, own.taken, own.most, length-drop p.taken p.written) };
+}
 
-pub run_tapes : (b : Boot) (es : List Event) → length b.programs ≤ tape_count → TapesAreThere (after (begun b) es).sync
+pub run_limits : (b : Boot) (es : List Event) → KeepLimits (after (first_world b) es).sync
+run_limits b es = stand_limits (length b.programs) (after (first_world b) es).sync (run_kept_all b es).stand
+
+pub run_tapes : (b : Boot) (es : List Event) → length b.programs ≤ tape_count → TapesAreThere (after (first_world b) es).sync
 run_tapes b es le pid fd t p at is =
     let all = (run_kept_all b es).stand in
-    let below : t < length b.programs = subst (IsThere (length (after (begun b) es).sync.files) (length b.programs)) is
-    (there_at (length (after (begun b) es).sync.files) (length b.programs) p.descriptors fd (all.each pid p at).there) in
+    let below : t < length b.programs = subst (IsThere (length (after (first_world b) es).sync.files) (length b.programs)) is
+    (there_at (length (after (first_world b) es).sync.files) (length b.programs) p.descriptors fd (all.each pid p at).there) in
     omega (arith, below, le, all.tapes)
 
 -- files that a disk holds are few and short
-brief_tidy : (files : List NamedFile) → AllByRecursion IsTidyFile files → AllByRecursion IsBrief files
-brief_tidy [] h = tt
-brief_tidy (f ∷ files) h = (record { some = h.0.name.0; name = h.0.name.1; bytes = h.0.short }, brief_tidy files h.1)
-
 booted_files : (b : Boot) → HoldsItsFiles b → FilesStand b.files
 booted_files b held = subst FilesStand (sym held.reads.makes) (
-    let tidy = tidy_after (joined held.reads.groups) held.reads.possible in record { few = tidy.few; each = brief_tidy _ tidy.each })
+    let tidy = tidy_after (joined held.reads.groups) held.reads.possible in record { few = tidy.few; each = each_more IsTidyFile IsBrief (λ f h. record { some = h.name.0; name = h.name.1; bytes = h.short }) _ tidy.each })
 
-pub run_files : (b : Boot) (es : List Event) → HoldsItsFiles b → AreFewAndShort (after (begun b) es).sync.files
+pub run_files : (b : Boot) (es : List Event) → HoldsItsFiles b → AreFewAndShort (after (first_world b) es).sync.files
 run_files b es held =
     let files = (run_kept_all b es).files (booted_files b held) in
     record {
       few = files.few;
       short = λ place f at.
-          let own = each_get IsBrief (after (begun b) es).sync.files place f files.each at in
+          let own = each_get IsBrief (after (first_world b) es).sync.files place f files.each at in
           record { some = own.some; name = own.name; bytes = own.bytes };
     }
 
-pub run_children : (b : Boot) (es : List Event) (pid : ℕ) (p : Process) → process_at (after (begun b) es).sync.processes pid ≡ Some p
-    → RiseWithin pid (length (after (begun b) es).sync.processes) p.children
+pub run_children : (b : Boot) (es : List Event) (pid : ℕ) (p : Process) → process_at (after (first_world b) es).sync.processes pid ≡ Some p
+    → RiseWithin pid (length (after (first_world b) es).sync.processes) p.children
 run_children b es pid p at = ((run_kept_all b es).stand.each pid p at).children

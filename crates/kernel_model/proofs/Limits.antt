@@ -1,14 +1,19 @@
 -- Lists of which each element keeps a limit: descriptors, children, pipes, files and processes.
 use Rattle.std.proofs.Common.{◌≡◌, ℕ, zero, suc, ◌+◌, ◌-◌, ◌<◌, ◌≤◌, ◌⊎◌, inl, inr, Bool, true, false, cond, List, [], ◌∷◌, ◌++◌, length, map, filter, drop, take, replicate, slice_get, slice_set, Option, Some, None, refl, sym, ap, ◌∙◌, subst, arith, length-append}
 use Rattle.std.specs.List.{AllByRecursion}
-use Rattle.std.proofs.lemmas.List.{length-take, length-drop, length-set, length-replicate}
+use Rattle.std.proofs.lemmas.Option.{slice_get_within}
+use Rattle.std.proofs.lemmas.List.{length-take, length-drop, length-set}
 use Rattle.disk_model.specs.Files.{changed, patched, with_bytes}
 use Rattle.disk_model.specs.declared.change.Change.{Change}
 use Rattle.disk_model.specs.declared.change.Change.TheVariants as change
 use Rattle.disk_model.specs.declared.change.NamedFile.{NamedFile}
+pub use Rattle.disk_model.proofs.Lists.{each_get, each_more, each_append}
+use Rattle.disk_model.proofs.Lists.{set_same, each_set}
+use Rattle.disk_model.proofs.Tidy.{changed_grows, patched_short}
+use Rattle.kernel_model.proofs.Ends.{with_length}
 use Rattle.kernel_model.specs.Limits.{RiseWithin}
 use Rattle.kernel_model.specs.Rows.{descriptor_at}
-use Rattle.kernel_model.specs.State.{Process, PipeState, process_at, put_process, new_pipe, with_pipe, with_end, without_end, stepped, all_stepped}
+use Rattle.kernel_model.specs.State.{Process, PipeState, process_at, put_process, changed_by, new_pipe, with_pipe, with_end, without_end, stepped, all_stepped}
 use Rattle.kernel_model.specs.Steps.{set_slots}
 use Rattle.kernel_model.specs.declared.descriptor.Descriptor.{Descriptor}
 use Rattle.kernel_model.specs.declared.descriptor.Descriptor.TheVariants.{Tape, Terminal, File, Pipe}
@@ -18,24 +23,6 @@ use Rattle.kernel_model.specs.declared.effect.PipeStep.TheVariants as pipe_step
 use Rattle.kernel_model.specs.declared.effect.Slot.{Slot}
 
 -- ---- lists
-
-pub each_set : {A : Type 0} (P : A → Type 0) (xs : List A) (i : ℕ) (x : A) → P x → AllByRecursion P xs → AllByRecursion P (slice_set xs i x)
-each_set P [] i x p h = tt
-each_set P (y ∷ ys) zero x p h = (p, h.1)
-each_set P (y ∷ ys) (suc i) x p h = (h.0, each_set P ys i x p h.1)
-
-pub each_append : {A : Type 0} (P : A → Type 0) (xs ys : List A) → AllByRecursion P xs → AllByRecursion P ys → AllByRecursion P (xs ++ ys)
-each_append P [] ys f g = g
-each_append P (x ∷ xs) ys f g = (f.0, each_append P xs ys f.1 g)
-
-pub each_more : {A : Type 0} (P Q : A → Type 0) → ((x : A) → P x → Q x) → (xs : List A) → AllByRecursion P xs → AllByRecursion Q xs
-each_more P Q f [] h = tt
-each_more P Q f (x ∷ xs) h = (f x h.0, each_more P Q f xs h.1)
-
-pub each_get : {A : Type 0} (P : A → Type 0) (xs : List A) (i : ℕ) (x : A) → AllByRecursion P xs → slice_get xs i ≡ Some x → P x
-each_get P [] i x h e = absurd (let no : ⊥ = cc in no)
-each_get P (y ∷ ys) zero x h e = let is : y ≡ x = cc in subst P is h.0
-each_get P (y ∷ ys) (suc i) x h e = each_get P ys i x h.1 e
 
 -- an element of a list of which one was set is that one, or was there before
 get_set : {A : Type 0} (xs : List A) (i j : ℕ) (x y : A) → slice_get (slice_set xs i x) j ≡ Some y → ((j ≡ i) × (x ≡ y)) ⊎ (slice_get xs j ≡ Some y)
@@ -57,6 +44,11 @@ pub put_length : (ps : List Process) (pid : ℕ) (p : Process) → length (put_p
 put_length ps zero p = refl
 put_length ps (suc k) p = length-set ps k p
 
+-- a process that is put where it stands changes nothing
+pub put_same : (ps : List Process) (p : ℕ) (x : Process) → process_at ps p ≡ Some x → put_process ps p x ≡ ps
+put_same ps zero x e = refl
+put_same ps (suc i) x e = set_same ps i x e
+
 pub at_put : (ps : List Process) (pid j : ℕ) (p q : Process) → process_at (put_process ps pid p) j ≡ Some q → ((j ≡ pid) × (p ≡ q)) ⊎ (process_at ps j ≡ Some q)
 at_put ps zero j p q e = inr e
 at_put ps (suc k) zero p q e = inr e
@@ -66,15 +58,19 @@ pub at_append : (ps qs : List Process) (j : ℕ) (q : Process) → process_at (p
 at_append ps qs zero q e = inl e
 at_append ps qs (suc j) q e = get_append ps qs j q e
 
-get_below : {A : Type 0} (xs : List A) (i : ℕ) (x : A) → slice_get xs i ≡ Some x → suc i ≤ length xs
-get_below [] i x e = absurd (let no : ⊥ = cc in no)
-get_below (y ∷ ys) zero x e = omega arith
-get_below (y ∷ ys) (suc i) x e = omega (arith, get_below ys i x e)
-
 -- the number of a process that is there is at most the number of processes
 pub at_below : (ps : List Process) (pid : ℕ) (p : Process) → process_at ps pid ≡ Some p → pid ≤ length ps
 at_below ps zero p e = omega arith
-at_below ps (suc k) p e = get_below ps k p e
+at_below ps (suc k) p e = slice_get_within ps k p e
+
+-- what holds of each process holds of the one of a number, and of each where one becomes another
+pub each_process : (P : Process → Type 0) (ps : List Process) (pid : ℕ) (p : Process) → AllByRecursion P ps → process_at ps pid ≡ Some p → P p
+each_process P ps zero p h e = absurd (let no : ⊥ = cc in no)
+each_process P ps (suc k) p h e = each_get P ps k p h e
+
+pub each_put : (P : Process → Type 0) (ps : List Process) (pid : ℕ) (p : Process) → P p → AllByRecursion P ps → AllByRecursion P (put_process ps pid p)
+each_put P ps zero p is h = h
+each_put P ps (suc k) p is h = each_set P ps k p is h
 
 -- ---- children
 
@@ -133,19 +129,27 @@ pub closed_there : (files tapes : ℕ) (ds : List (Option Descriptor)) → AreTh
 closed_there files tapes [] = tt
 closed_there files tapes (d ∷ ds) = (tt, closed_there files tapes ds)
 
+-- what holds of each descriptor, and of none, holds of what is found by number
+pub each_at : (P : Option Descriptor → Type 0) → P None → (ds : List (Option Descriptor)) (fd : ℕ) → AllByRecursion P ds → P (descriptor_at ds fd)
+each_at P none [] fd h = none
+each_at P none (d ∷ ds) zero h = h.0
+each_at P none (d ∷ ds) (suc fd) h = each_at P none ds fd h.1
+
 pub there_at : (files tapes : ℕ) (ds : List (Option Descriptor)) (fd : ℕ) → AreThere files tapes ds → IsThere files tapes (descriptor_at ds fd)
-there_at files tapes [] fd h = tt
-there_at files tapes (d ∷ ds) zero h = h.0
-there_at files tapes (d ∷ ds) (suc fd) h = there_at files tapes ds fd h.1
+there_at files tapes ds fd h = each_at (IsThere files tapes) tt ds fd h
+
+-- what holds of each descriptor, and of each that is set, holds of each then
+pub each_slot : (P : Option Descriptor → Type 0) (slots : List Slot) (ds : List (Option Descriptor)) → AllByRecursion (λ (slot : Slot). P slot.holds) slots
+    → AllByRecursion P ds → AllByRecursion P (set_slots ds slots)
+each_slot P [] ds h hs = hs
+each_slot P (slot ∷ slots) ds h hs = each_slot P slots (slice_set ds slot.fd slot.holds) h.1 (each_set P ds slot.fd slot.holds h.0 hs)
 
 abbrev pub SetThere : ℕ → ℕ → List Slot → Type 0
 SetThere files tapes slots = AllByRecursion (λ (slot : Slot). IsThere files tapes slot.holds) slots
 
 pub set_there : (files tapes : ℕ) (slots : List Slot) (ds : List (Option Descriptor)) → SetThere files tapes slots → AreThere files tapes ds
     → AreThere files tapes (set_slots ds slots)
-set_there files tapes [] ds h hs = hs
-set_there files tapes (slot ∷ slots) ds h hs =
-    set_there files tapes slots (slice_set ds slot.fd slot.holds) h.1 (each_set (IsThere files tapes) ds slot.fd slot.holds h.0 hs)
+set_there files tapes slots ds h hs = each_slot (IsThere files tapes) slots ds h hs
 
 pub slots_length : (slots : List Slot) (ds : List (Option Descriptor)) → length (set_slots ds slots) ≡ length ds
 slots_length [] ds = refl
@@ -161,15 +165,15 @@ pub record IsHeld (p : PipeState) : Type 0 where
 abbrev pub AreHeld : List PipeState → Type 0
 AreHeld pipes = AllByRecursion IsHeld pipes
 
--- one pipe, if it is there, becomes another that holds no more than it may
-pub with_held : (pipes : List PipeState) (k : ℕ) (o : Option PipeState) (f : PipeState → PipeState)
-    → ((p : PipeState) → o ≡ Some p → IsHeld p → IsHeld (f p)) → slice_get pipes k ≡ o → AreHeld pipes → AreHeld (with_pipe pipes k o f)
-with_held pipes k None f keeps e h = h
-with_held pipes k (Some p) f keeps e h = each_set IsHeld pipes k (f p) (keeps p refl (each_get IsHeld pipes k p h e)) h
+-- one pipe, if it is there, becomes another
+pub with_each : (P Q : PipeState → Type 0) (pipes : List PipeState) (k : ℕ) (o : Option PipeState) (f : PipeState → PipeState) → ((p : PipeState) → P p → Q p)
+    → ((p : PipeState) → o ≡ Some p → P p → Q (f p)) → slice_get pipes k ≡ o → AllByRecursion P pipes → AllByRecursion Q (with_pipe pipes k o f)
+with_each P Q pipes k None f others one e h = each_more P Q others pipes h
+with_each P Q pipes k (Some p) f others one e h = each_set Q pipes k (f p) (one p refl (each_get P pipes k p h e)) (each_more P Q others pipes h)
 
-pub with_length : (pipes : List PipeState) (k : ℕ) (o : Option PipeState) (f : PipeState → PipeState) → length (with_pipe pipes k o f) ≡ length pipes
-with_length pipes k None f = refl
-with_length pipes k (Some p) f = length-set pipes k (f p)
+with_held : (pipes : List PipeState) (k : ℕ) (f : PipeState → PipeState) → ((p : PipeState) → slice_get pipes k ≡ Some p → IsHeld p → IsHeld (f p))
+    → AreHeld pipes → AreHeld (with_pipe pipes k (slice_get pipes k) f)
+with_held pipes k f keeps h = with_each IsHeld IsHeld pipes k (slice_get pipes k) f (λ p q. q) keeps refl h
 
 -- how the pipes stand: so many, and each holds no more than it may
 pub record PipesStand (number : ℕ) (pipes : List PipeState) : Type 0 where
@@ -180,7 +184,7 @@ with_stand : (count : ℕ) (pipes : List PipeState) (k : ℕ) (f : PipeState →
     → PipesStand count pipes → PipesStand count (with_pipe pipes k (slice_get pipes k) f)
 with_stand count pipes k f keeps h = record {
   count = with_length pipes k (slice_get pipes k) f ∙ h.count;
-  held = with_held pipes k (slice_get pipes k) f (λ p e q. keeps p q) refl h.held;
+  held = with_held pipes k f (λ p e q. keeps p q) h.held;
 }
 
 add_stands : (count : ℕ) (pipes : List PipeState) (end : PipeEnd) → PipesStand count pipes → PipesStand count (with_end pipes end)
@@ -213,13 +217,13 @@ put_stands count pipes k bytes p e h =
     let taken = take (4096 - length (drop p.taken p.written)) bytes in
     record {
       count = with_length pipes k (slice_get pipes k) (λ p. record p { written = p.written ++ taken }) ∙ h.count;
-      held = with_held pipes k (slice_get pipes k) (λ p. record p { written = p.written ++ taken })
+      held = with_held pipes k (λ p. record p { written = p.written ++ taken })
           (λ q at held. let is : q ≡ p = cc in subst (λ (r : PipeState). IsHeld (record r { written = r.written ++ taken })) (sym is)
           (let own = subst IsHeld is held in
           record {
             taken = omega (arith, own.taken, length-append p.written taken);
             most = omega (arith, own.taken, own.most, length-append p.written taken, length-drop p.taken p.written, length-take (4096 - length (drop p.taken p.written)) bytes);
-          })) refl h.held;
+          })) h.held;
     }
 
 -- bytes are taken that it holds
@@ -229,26 +233,21 @@ take_stands count pipes k n p e h =
     let some = length (take n (drop p.taken p.written)) in
     record {
       count = with_length pipes k (slice_get pipes k) (λ p. record p { taken = p.taken + some }) ∙ h.count;
-      held = with_held pipes k (slice_get pipes k) (λ p. record p { taken = p.taken + some })
+      held = with_held pipes k (λ p. record p { taken = p.taken + some })
           (λ q at held. let is : q ≡ p = cc in subst (λ (r : PipeState). IsHeld (record r { taken = r.taken + some })) (sym is)
           (let own = subst IsHeld is held in
           record {
             taken = omega (arith, own.taken, length-drop p.taken p.written, length-take n (drop p.taken p.written));
             most = omega (arith, own.most);
-          })) refl h.held;
+          })) h.held;
     }
 
 -- ---- files
 
-pub with_bytes-length : (files : List NamedFile) (place : ℕ) (o : Option NamedFile) (f : List ℕ → List ℕ) → length (with_bytes files place o f) ≡ length files
-with_bytes-length files place None f = refl
-with_bytes-length files place (Some file) f = length-set files place (record { name = file.name; bytes = f file.bytes })
-
 -- no change takes a file away
-pub changed_grows : (files : List NamedFile) (c : Change) → length files ≤ length (changed files c)
-changed_grows files (change.Create name) = omega (arith, length-append files (record { name = name; bytes = [] } ∷ []))
-changed_grows files (change.Write place offset bytes) = omega (arith, with_bytes-length files place (slice_get files place) (λ old. patched old offset bytes))
-changed_grows files (change.Empty place) = omega (arith, with_bytes-length files place (slice_get files place) (λ old. []))
+pub changed_by_grows : (files : List NamedFile) (o : Option Change) → length files ≤ length (changed_by files o)
+changed_by_grows files None = omega arith
+changed_by_grows files (Some c) = changed_grows files c
 
 pub record IsBrief (f : NamedFile) : Type 0 where
   pub some : 1 ≤ length f.name
@@ -265,17 +264,6 @@ abbrev pub LeavesFew : List NamedFile → Change → Type 0
 LeavesFew files (change.Create name) = (1 ≤ length name) × (length name ≤ 32) × (length files < 32)
 LeavesFew files (change.Write place offset bytes) = offset + length bytes ≤ 16384
 LeavesFew files (change.Empty place) = Unit {0}
-
-patched_short : (old : List ℕ) (offset : ℕ) (bytes : List ℕ) → offset + length bytes ≤ 16384 → length old ≤ 16384 → length (patched old offset bytes) ≤ 16384
-patched_short old offset bytes a b = omega (
-  arith,
-  length-append (take offset old ++ replicate (offset - length old) 0 ++ bytes) (drop (offset + length bytes) old),
-  length-append (take offset old ++ replicate (offset - length old) 0) bytes,
-  length-append (take offset old) (replicate (offset - length old) 0),
-  length-take offset old,
-  length-drop (offset + length bytes) old,
-  length-replicate {A = ℕ} (offset - length old) 0,
-)
 
 with_brief : (files : List NamedFile) (place : ℕ) (o : Option NamedFile) (f : List ℕ → List ℕ) → slice_get files place ≡ o
     → ((old : List ℕ) → length old ≤ 16384 → length (f old) ≤ 16384) → FilesStand files → FilesStand (with_bytes files place o f)

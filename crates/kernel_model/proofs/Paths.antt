@@ -1,10 +1,10 @@
 -- Paths by their last hop, and the test of what an event rests on.
-use Rattle.std.proofs.Common.{◌≡◌, ℕ, zero, suc, ◌+◌, ◌<◌, ◌⊎◌, inl, inr, Bool, true, false, if◌then◌else◌, IsTrue, List, [], ◌∷◌, ◌++◌, take, Some, is_some, not, nat_lt, ◌||◌, refl, sym, subst, ◌∙◌, add_assoc, add-zero, slice_get}
+use Rattle.std.proofs.Common.{◌≡◌, ℕ, suc, ◌+◌, ◌<◌, ◌⊎◌, inl, inr, Bool, true, false, if◌then◌else◌, IsTrue, List, [], ◌∷◌, ◌++◌, take, Some, is_some, not, nat_lt, ◌||◌, refl, sym, subst, ◌∙◌, add_assoc, add-zero, slice_get}
 use Rattle.kernel_model.specs.declared.carrier.Carrier.{Carrier}
 use Rattle.kernel_model.specs.Entries.{Entry, meets}
-use Rattle.std.proofs.lemmas.Bool.{false≢true, ltb-true, lt-ltb, both_ways, not-true, and_parts, and_from}
-use Rattle.kernel_model.specs.Paths.{Leads, RestsOn, change_count, wanted, is_settled_from}
-use Rattle.kernel_model.proofs.Meets.{meets-append, or_split, or_first, or_second}
+use Rattle.std.proofs.lemmas.Bool.{false≢true, ltb-true, lt-ltb, both_ways, not-true, and_parts, and_from, or_cases, or_left, or_right}
+use Rattle.kernel_model.specs.Paths.{Leads, RestsOn, change_count, wanted, is_durable_from}
+use Rattle.kernel_model.proofs.Meets.{meets-append}
 
 -- a hop from the event at place i to a reader of rs
 pub record Hop (ws : List Carrier) (ds : List Entry) (rs : List Carrier) : Type 0 where
@@ -25,20 +25,6 @@ last_hop ws (d ∷ ds) rs (inr h) = elim (last_hop d.writes ds rs h.1) [
   | inl m ↦ inr (record { place = 0; entry = d; there = refl; leads = h.0; hops = m })
   | inr p ↦ inr (record { place = suc p.place; entry = p.entry; there = p.there; leads = inr (h.0, p.leads); hops = p.hops })
 ]
-
-pub straight : (ws : List Carrier) (ds : List Entry) (rs : List Carrier) → IsTrue (meets ws rs) → Leads ws ds rs
-straight ws [] rs h = h
-straight ws (d ∷ ds) rs h = inl (straight ws ds rs h)
-
--- and a path goes on by a hop
-pub and_hop : (ws : List Carrier) (ds : List Entry) (rs : List Carrier) (i : ℕ) (x : Entry)
-    → slice_get ds i ≡ Some x → Leads ws (take i ds) x.reads → IsTrue (meets x.writes rs) → Leads ws ds rs
-and_hop ws [] rs i x e h m = cc
-and_hop ws (d ∷ ds) rs zero x e h m =
-    let same : d ≡ x = cc in
-    inr (subst (λ (y : Entry). IsTrue (meets ws y.reads)) (sym same) h, straight d.writes ds rs (subst (λ (y : Entry). IsTrue (meets y.writes rs)) (sym same) m))
-and_hop ws (d ∷ ds) rs (suc i) x e (inl h) m = inl (and_hop ws ds rs i x e h m)
-and_hop ws (d ∷ ds) rs (suc i) x e (inr h) m = inr (h.0, and_hop d.writes ds rs i x e h.1 m)
 
 -- how many changes these events made
 abbrev pub count_of : List Entry → ℕ
@@ -67,28 +53,15 @@ rests_by n (x ∷ xs) d k (inr h) = elim (rests_by (n + change_count x) xs d k h
   | inr p ↦ inr (record { place = suc p.place; entry = p.entry; there = p.there; rests = inr p.rests; hops = p.hops })
 ]
 
-pub rests_own : (n : ℕ) (ds : List Entry) (d : Entry) (k : ℕ) → Own n ds d k → RestsOn n ds d k
-rests_own n [] d k h = (h.0, h.1 ∙ add-zero n)
-rests_own n (x ∷ xs) d k h = inr (rests_own (n + change_count x) xs d k (h.0, h.1 ∙ sym (add_assoc n (change_count x) (count_of xs))))
-
-pub rests_on_by : (n : ℕ) (ds : List Entry) (d : Entry) (k : ℕ) (i : ℕ) (x : Entry)
-    → slice_get ds i ≡ Some x → RestsOn n (take i ds) x k → IsTrue (meets x.writes d.reads) → RestsOn n ds d k
-rests_on_by n [] d k i x e h m = cc
-rests_on_by n (y ∷ ys) d k zero x e h m =
-    let same : y ≡ x = cc in
-    inl (subst (λ (z : Entry). IsTrue (is_some z.change)) (sym same) h.0, h.1, straight y.writes ys d.reads (subst (λ (z : Entry). IsTrue (meets z.writes d.reads)) (sym same) m))
-rests_on_by n (y ∷ ys) d k (suc i) x e (inl h) m = inl (h.0, h.1, and_hop y.writes ys d.reads i x e h.2 m)
-rests_on_by n (y ∷ ys) d k (suc i) x e (inr h) m = inr (rests_on_by (n + change_count y) ys d k i x e h m)
-
 -- the tests are what they say
 
 meets_if : (ws xs rs : List Carrier) (b : Bool) → meets ws (if b then xs ++ rs else xs) ≡ true → (meets ws xs ≡ true) ⊎ ((meets ws rs ≡ true) × (b ≡ true))
-meets_if ws xs rs true h = elim (or_split (meets ws xs) (meets ws rs) (sym (meets-append ws xs rs) ∙ h)) [ inl t ↦ inl t | inr t ↦ inr (t, refl) ]
+meets_if ws xs rs true h = elim (or_cases (meets ws xs) (meets ws rs) (sym (meets-append ws xs rs) ∙ h)) [ inl t ↦ inl t | inr t ↦ inr (t, refl) ]
 meets_if ws xs rs false h = inl h
 
 if_meets : (ws xs rs : List Carrier) (b : Bool) → (meets ws xs ≡ true) ⊎ ((meets ws rs ≡ true) × (b ≡ true)) → meets ws (if b then xs ++ rs else xs) ≡ true
-if_meets ws xs rs true (inl t) = meets-append ws xs rs ∙ or_first (meets ws xs) (meets ws rs) t
-if_meets ws xs rs true (inr t) = meets-append ws xs rs ∙ or_second (meets ws xs) (meets ws rs) t.0
+if_meets ws xs rs true (inl t) = meets-append ws xs rs ∙ or_left (meets ws xs) (meets ws rs) t
+if_meets ws xs rs true (inr t) = meets-append ws xs rs ∙ or_right (meets ws xs) (meets ws rs) t.0
 if_meets ws xs rs false (inl t) = t
 if_meets ws xs rs false (inr t) = absurd (false≢true t.1)
 
@@ -104,30 +77,30 @@ leads_to ws [] rs h = h
 leads_to ws (d ∷ ds) rs (inl h) = if_meets ws (wanted ds rs) d.reads (meets d.writes (wanted ds rs)) (inl (leads_to ws ds rs h))
 leads_to ws (d ∷ ds) rs (inr h) = if_meets ws (wanted ds rs) d.reads (meets d.writes (wanted ds rs)) (inr (h.0, leads_to d.writes ds rs h.1))
 
--- one test of a settled event
+-- one test of a durable event
 fine_from : (m l : Bool) (n c k : ℕ) → (not m || nat_lt n c || not l) ≡ true → m ≡ true → k ≡ n → l ≡ true → k < c
-fine_from true true n c k h a e b = elim (or_split (nat_lt n c) false h) [ inl t ↦ subst (λ (j : ℕ). j < c) (sym e) (ltb-true n c t) | inr t ↦ absurd (false≢true t) ]
+fine_from true true n c k h a e b = elim (or_cases (nat_lt n c) false h) [ inl t ↦ subst (λ (j : ℕ). j < c) (sym e) (ltb-true n c t) | inr t ↦ absurd (false≢true t) ]
 fine_from true false n c k h a e b = absurd (false≢true b)
 fine_from false l n c k h a e b = absurd (false≢true a)
 
 fine_to : (m l : Bool) (n c : ℕ) → (m ≡ true → l ≡ true → n < c) → (not m || nat_lt n c || not l) ≡ true
-fine_to true true n c f = or_first (nat_lt n c) false (lt-ltb n c (f refl refl))
-fine_to true false n c f = or_second (nat_lt n c) true refl
+fine_to true true n c f = or_left (nat_lt n c) false (lt-ltb n c (f refl refl))
+fine_to true false n c f = or_right (nat_lt n c) true refl
 fine_to false l n c f = refl
 
-pub settled_from : (c n : ℕ) (past : List Entry) (d : Entry) → IsTrue (is_settled_from c n past d) → (k : ℕ) → RestsOn n past d k → k < c
-settled_from c n [] d h k r = elim (or_split (not (is_some d.change)) (nat_lt n c) h) [
+pub durable_from : (c n : ℕ) (past : List Entry) (d : Entry) → IsTrue (is_durable_from c n past d) → (k : ℕ) → RestsOn n past d k → k < c
+durable_from c n [] d h k r = elim (or_cases (not (is_some d.change)) (nat_lt n c) h) [
   | inl t ↦ absurd (both_ways (is_some d.change) (not-true (is_some d.change) t) r.0)
   | inr t ↦ subst (λ (j : ℕ). j < c) (sym r.1) (ltb-true n c t)
 ]
-settled_from c n (x ∷ xs) d h k (inl r) = fine_from (is_some x.change) (meets x.writes (wanted xs d.reads)) n c k (and_parts _ _ h).0 r.0 r.1 (leads_to x.writes xs d.reads r.2)
-settled_from c n (x ∷ xs) d h k (inr r) = settled_from c (n + change_count x) xs d (and_parts _ _ h).1 k r
+durable_from c n (x ∷ xs) d h k (inl r) = fine_from (is_some x.change) (meets x.writes (wanted xs d.reads)) n c k (and_parts _ _ h).0 r.0 r.1 (leads_to x.writes xs d.reads r.2)
+durable_from c n (x ∷ xs) d h k (inr r) = durable_from c (n + change_count x) xs d (and_parts _ _ h).1 k r
 
-pub settled_to : (c n : ℕ) (past : List Entry) (d : Entry) → ((k : ℕ) → RestsOn n past d k → k < c) → IsTrue (is_settled_from c n past d)
-settled_to c n [] d f = elim (is_some d.change) as (λ b. is_some d.change ≡ b → (not b || nat_lt n c) ≡ true) [
+pub durable_to : (c n : ℕ) (past : List Entry) (d : Entry) → ((k : ℕ) → RestsOn n past d k → k < c) → IsTrue (is_durable_from c n past d)
+durable_to c n [] d f = elim (is_some d.change) as (λ b. is_some d.change ≡ b → (not b || nat_lt n c) ≡ true) [
   | true ↦ λ e. lt-ltb n c (f n (e, refl))
   | false ↦ λ e. refl
 ] refl
-settled_to c n (x ∷ xs) d f = and_from _ _
+durable_to c n (x ∷ xs) d f = and_from _ _
     (fine_to (is_some x.change) (meets x.writes (wanted xs d.reads)) n c (λ a b. f n (inl (a, refl, leads_from x.writes xs d.reads b))))
-    (settled_to c (n + change_count x) xs d (λ k r. f k (inr r)))
+    (durable_to c (n + change_count x) xs d (λ k r. f k (inr r)))

@@ -1,10 +1,11 @@
 -- One more event of a run.
+pub use Rattle.std.proofs.Common.{append-nil}
 use Rattle.std.proofs.Common.{◌≡◌, ℕ, Option, Some, None, option_to_list, List, [], ◌∷◌, ◌++◌, refl, sym, ap, ◌∙◌, append_assoc}
 use Rattle.disk_model.specs.declared.change.Change.{Change}
 use Rattle.kernel_model.specs.Entries.{Entry, Item}
-use Rattle.kernel_model.specs.Paths.{changes_of, with_change}
+use Rattle.kernel_model.specs.Paths.{changes_in_log, with_change}
 use Rattle.kernel_model.specs.Answers.{Kernel, now, with_event}
-use Rattle.kernel_model.specs.World.{World, begun, happens, after}
+use Rattle.kernel_model.specs.World.{World, first_world, happens, after}
 use Rattle.kernel_model.specs.Shown.{Given, given_by, each_from, printed, bytes_for, told, told_from, told_with}
 use Rattle.kernel_model.specs.declared.event.Event.{Event}
 
@@ -17,10 +18,6 @@ after-append w (x ∷ es) e = after-append (happens w x) es e
 pub after-after : (w : World) (es fs : List Event) → after w (es ++ fs) ≡ after (after w es) fs
 after-after w [] fs = refl
 after-after w (x ∷ es) fs = after-after (happens w x) es fs
-
-pub append-nil : {A : Type 0} (xs : List A) → xs ++ [] ≡ xs
-append-nil [] = refl
-append-nil (x ∷ xs) = ap (λ ys. x ∷ ys) (append-nil xs)
 
 -- what one more entry gives comes last
 pub each_from-append : {A : Type 0} (f : Entry → List A) (past log : List Entry) (e : Entry)
@@ -53,11 +50,11 @@ with_change-nil : (o : Option Change) → with_change o [] ≡ option_to_list o
 with_change-nil None = refl
 with_change-nil (Some c) = refl
 
-pub changes_of-entry : (log : List Entry) (e : Entry) → changes_of (log ++ e ∷ []) ≡ changes_of log ++ option_to_list e.change
-changes_of-entry [] e = with_change-nil e.change
-changes_of-entry (x ∷ log) e =
-    ap (with_change x.change) (changes_of-entry log e) ∙ with_change-append x.change (changes_of log) (option_to_list e.change)
+pub changes_in_log-entry : (log : List Entry) (e : Entry) → changes_in_log (log ++ e ∷ []) ≡ changes_in_log log ++ option_to_list e.change
+changes_in_log-entry [] e = with_change-nil e.change
+changes_in_log-entry (x ∷ log) e =
+    ap (with_change x.change) (changes_in_log-entry log e) ∙ with_change-append x.change (changes_in_log log) (option_to_list e.change)
 
 -- the run of a core after one more event
 pub now-with_event : (k : Kernel) (e : Event) → now (with_event k e) ≡ happens (now k) e
-now-with_event k e = after-append (begun k.boot) k.history e
+now-with_event k e = after-append (first_world k.boot) k.history e

@@ -6,10 +6,10 @@ use Rattle.disk_model.specs.declared.change.Piece.{Piece}
 use Rattle.disk_model.specs.Storage.{Storage, piece_at, is_empty, is_quiet, least_start}
 use Rattle.machine_model.specs.States.{run, stands_at}
 use Rattle.kernel_model.specs.Entries.{Item, Got, End}
-use Rattle.kernel_model.specs.Paths.{changes_of}
+use Rattle.kernel_model.specs.Paths.{changes_in_log}
 use Rattle.kernel_model.specs.State.{Process, process_at}
 use Rattle.kernel_model.specs.Steps.{step}
-use Rattle.kernel_model.specs.World.{World, Boot, begun, after, happens}
+use Rattle.kernel_model.specs.World.{World, Boot, first_world, after, happens}
 use Rattle.kernel_model.specs.Shown.{printed, shown}
 use Rattle.kernel_model.specs.declared.answer.Answer.{Answer}
 use Rattle.kernel_model.specs.declared.answer.Answer.TheVariants as answer_of
@@ -35,7 +35,7 @@ pub record Kernel : Type 0 where
 
 -- the run so far
 abbrev pub now : Kernel → World
-now k = after (begun k.boot) k.history
+now k = after (first_world k.boot) k.history
 
 -- how many changes are committed
 abbrev pub committed : World → ℕ
@@ -43,11 +43,11 @@ committed w = w.storage.committed
 
 -- how many changes there are
 abbrev pub changes : World → ℕ
-changes w = length (changes_of w.log)
+changes w = length (changes_in_log w.log)
 
 -- the changes that are not committed, in order
 abbrev pub uncommitted : World → List Change
-uncommitted w = drop w.storage.committed (changes_of w.log)
+uncommitted w = drop w.storage.committed (changes_in_log w.log)
 
 -- some byte that was written to the terminal is not shown
 abbrev pub is_held_back : World → ℕ → Bool
@@ -59,11 +59,11 @@ terminals = 0 ∷ 1 ∷ 2 ∷ 3 ∷ 4 ∷ 5 ∷ 6 ∷ 7 ∷ []
 
 -- a Cut is wanted: a byte of some terminal is held back, no group is in flight, and no write has failed
 abbrev pub wants_cut : World → Bool
-wants_cut w = list_any (is_held_back w) terminals && is_quiet w.storage.drive
+wants_cut w = list_any (is_held_back w) terminals && is_quiet w.storage.device
 
 -- the least place of the disk at which a write in flight begins
 abbrev pub in_flight : World → Option ℕ
-in_flight w = least_start w.storage.drive.in_flight
+in_flight w = least_start w.storage.device.in_flight
 
 -- process pid, if there is one
 abbrev pub process_of : Kernel → ℕ → Option Process
@@ -148,8 +148,8 @@ enter_refusal p lent full = first_of (
 abbrev pub cut_refusal : Storage → List Change → Bool → Option Refused
 cut_refusal st cs full = first_of (
     (full ⇒ refused.Budget)
-    ∷ (not (is_empty st.drive.failed) ⇒ refused.DiskFailed)
-    ∷ (not (is_empty st.drive.in_flight) ⇒ refused.GroupInFlight)
+    ∷ (not (is_empty st.device.failed) ⇒ refused.DiskFailed)
+    ∷ (not (is_empty st.device.in_flight) ⇒ refused.GroupInFlight)
     ∷ (is_empty cs ⇒ refused.NothingToCut)
     ∷ [])
 
@@ -157,7 +157,7 @@ cut_refusal st cs full = first_of (
 abbrev pub write_refusal : Storage → ℕ → Bool → Option Refused
 write_refusal st at full = first_of (
     (full ⇒ refused.Budget)
-    ∷ (is_none (piece_at st.drive.in_flight at) ⇒ refused.NoSuchWrite)
+    ∷ (is_none (piece_at st.device.in_flight at) ⇒ refused.NoSuchWrite)
     ∷ [])
 
 -- why an event is refused, memory aside; the tests in their order
@@ -179,7 +179,7 @@ changes_to_commit st = st.next_committed - st.committed
 
 -- how many writes the group in flight still has, those in flight included
 abbrev pub writes_to_come : Storage → ℕ
-writes_to_come st = length st.drive.in_flight + piece_count st.stages
+writes_to_come st = length st.device.in_flight + piece_count st.stages
 
 -- the answer to a Turn of n instructions, which a process runs; that of None is never reached: such a Turn is refused NoProcess
 abbrev pub ran_by : Option Process → ℕ → Answer

@@ -14,7 +14,7 @@ IsAllCommitted w = committed w ≡ changes w
 
 -- no write has failed
 abbrev pub HasNoFailure : World → Type 0
-HasNoFailure w = is_empty w.storage.drive.failed ≡ true
+HasNoFailure w = is_empty w.storage.device.failed ≡ true
 
 -- nothing is left for a drain to do: no write has failed, and every change is committed
 abbrev pub IsFinished : World → Type 0
@@ -39,7 +39,7 @@ Drains k (e ∷ es) new =
 -- why a drain goes no further, memory aside: a write has failed, or the history is full
 abbrev pub drain_refusal : Kernel → Option Refused
 drain_refusal k = first_of (
-    (not (is_empty (now k).storage.drive.failed) ⇒ refused.DiskFailed)
+    (not (is_empty (now k).storage.device.failed) ⇒ refused.DiskFailed)
     ∷ (is_full k ⇒ refused.Budget)
     ∷ [])
 

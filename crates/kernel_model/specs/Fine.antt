@@ -28,7 +28,7 @@ delayed p (Fail at ∷ es) = Fail at ∷ delayed p es
 
 -- The events that a fine run becomes. Its items that are no instructions stay, in order. Before each Enter stands one Turn of
 -- all instructions of its process since the process's last Enter, where there are any; and what is left of each process
--- becomes one Turn behind all other items.
+-- becomes one Turn after all other items.
 abbrev pub gathered : List Fine → List Event
 gathered [] = []
 gathered (Instruction p ∷ items) = delayed p (gathered items)

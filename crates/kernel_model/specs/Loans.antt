@@ -60,10 +60,10 @@ abbrev pub put_lending : List Lending → ℕ → Lending → List Lending
 put_lending lendings zero lending = lendings
 put_lending lendings (suc n) lending = slice_set lendings n lending
 
--- a loan as it is handed out: `turn` is its number among the loans of the process, from 1
+-- a loan as it is handed out: `number` is its number among the loans of the process, from 1
 pub record LoanOut : Type 0 where
   pub process : ℕ
-  pub turn : ℕ
+  pub number : ℕ
   pub quantum : ℕ
   pub began : State  -- the state from which it runs
   pub machine : State  -- the machine to be run
@@ -78,7 +78,7 @@ with_loan k p quantum = record k {
 -- the loan is the next one: of the process picked, of its state as it now stands
 pub record IsNextLoan (old new : Kernel) (quantum : ℕ) (loan : LoanOut) : Type 0 where
   pub picked : pick old quantum ≡ Some loan.process
-  pub turn : loan.turn ≡ loan_count old loan.process + 1
+  pub number : loan.number ≡ loan_count old loan.process + 1
   pub asked : loan.quantum ≡ quantum
   pub began : option_map (λ (p : Process). p.state) (process_of old loan.process) ≡ Some loan.began
   pub machine : loan.machine ≡ loan.began
@@ -97,7 +97,7 @@ Lends old quantum new result = MatchResult result
 -- a loan's result as it is handed in: how far the run of its quantum came, from the state it began from
 pub record LoanResult : Type 0 where
   pub process : ℕ
-  pub turn : ℕ
+  pub number : ℕ
   pub quantum : ℕ
   pub began : State
   pub reached : Ran
@@ -105,7 +105,7 @@ pub record LoanResult : Type 0 where
 -- the result is of the loan that its process is out on
 pub record IsOfLoan (k : Kernel) (r : LoanResult) : Type 0 where
   pub lent : quantum_out (lending_at k.lendings r.process) ≡ Some r.quantum
-  pub turn : r.turn ≡ loan_count k r.process
+  pub number : r.number ≡ loan_count k r.process
   pub began : option_map (λ (p : Process). p.state) (process_of k r.process) ≡ Some r.began
 
 -- the core once process p is back

@@ -21,23 +21,23 @@ RestsOn n [] e k = IsTrue (is_some e.change) × (k ≡ n)
 RestsOn n (x ∷ xs) e k = (IsTrue (is_some x.change) × (k ≡ n) × Leads x.writes xs e.reads) ⊎ RestsOn (n + change_count x) xs e k
 
 -- all changes on which an event rests are among the first c
-abbrev pub IsSettled : ℕ → List Entry → Entry → Type 0
-IsSettled c past e = (k : ℕ) → RestsOn 0 past e k → k < c
+abbrev pub IsDurable : ℕ → List Entry → Entry → Type 0
+IsDurable c past e = (k : ℕ) → RestsOn 0 past e k → k < c
 
--- the carriers whose content before these entries matters to a reader of `rs` behind them
+-- the carriers whose content before these entries matters to a reader of `rs` after them
 abbrev pub wanted : List Entry → List Carrier → List Carrier
 wanted [] rs = rs
 wanted (e ∷ es) rs = let later = wanted es rs in if meets e.writes later then later ++ e.reads else later
 
--- the test of IsSettled, where n is the number of the first change that `past` makes
-abbrev pub is_settled_from : ℕ → ℕ → List Entry → Entry → Bool
-is_settled_from c n [] e = not (is_some e.change) || nat_lt n c
-is_settled_from c n (x ∷ xs) e =
-    (not (is_some x.change) || nat_lt n c || not (meets x.writes (wanted xs e.reads))) && is_settled_from c (n + change_count x) xs e
+-- the test of IsDurable, where n is the number of the first change that `past` makes
+abbrev pub is_durable_from : ℕ → ℕ → List Entry → Entry → Bool
+is_durable_from c n [] e = not (is_some e.change) || nat_lt n c
+is_durable_from c n (x ∷ xs) e =
+    (not (is_some x.change) || nat_lt n c || not (meets x.writes (wanted xs e.reads))) && is_durable_from c (n + change_count x) xs e
 
--- the test of IsSettled
-abbrev pub is_settled : ℕ → List Entry → Entry → Bool
-is_settled c past e = is_settled_from c 0 past e
+-- the test of IsDurable
+abbrev pub is_durable : ℕ → List Entry → Entry → Bool
+is_durable c past e = is_durable_from c 0 past e
 
 -- a change, if there is one, before others
 abbrev pub with_change : Option Change → List Change → List Change
@@ -45,6 +45,6 @@ with_change None cs = cs
 with_change (Some c) cs = c ∷ cs
 
 -- the changes that these events made, in order
-abbrev pub changes_of : List Entry → List Change
-changes_of [] = []
-changes_of (e ∷ es) = with_change e.change (changes_of es)
+abbrev pub changes_in_log : List Entry → List Change
+changes_in_log [] = []
+changes_in_log (e ∷ es) = with_change e.change (changes_in_log es)

@@ -2,7 +2,7 @@
 use Rattle.std.specs.Prelude.{ℕ, ◌+◌, List, [], ◌∷◌, Option, Some, None}
 use Rattle.machine_model.specs.States.{run}
 use Rattle.kernel_model.specs.State.{Process, process_at}
-use Rattle.kernel_model.specs.World.{World, begun, happens}
+use Rattle.kernel_model.specs.World.{World, first_world, happens}
 use Rattle.kernel_model.specs.Answers.{Kernel}
 use Rattle.kernel_model.specs.declared.event.Event.{Event}
 use Rattle.kernel_model.specs.declared.event.Event.TheVariants.{Turn, Enter, Cut, Complete, Fail}
@@ -27,4 +27,4 @@ instructions_from w (e ∷ es) = instructions_in w e + instructions_from (happen
 
 -- how many instructions the Turns of a core's history ran
 abbrev pub ran_by_turns : Kernel → ℕ
-ran_by_turns k = instructions_from (begun k.boot) k.history
+ran_by_turns k = instructions_from (first_world k.boot) k.history

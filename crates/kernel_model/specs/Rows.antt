@@ -31,7 +31,7 @@ use Rattle.kernel_model.specs.declared.request.Verdict.TheVariants.{Waits, Repli
 -- edits that it makes: a change of the files, bytes for a terminal, bytes read from a tape, steps of pipes, descriptors of the
 -- caller, and of its children one that is made or one that is collected, by its number.
 pub record Effect : Type 0 where
-  pub told : Verdict
+  pub verdict : Verdict
   pub reads : List Carrier
   pub writes : List Carrier
   pub change : Option Change
@@ -44,7 +44,7 @@ pub record Effect : Type 0 where
 
 -- the caller is told this, and nothing else comes of it
 abbrev pub only : Verdict → Effect
-only told = record { told = told; reads = []; writes = []; change = None; output = None; tape = None; pipes = []; slots = []; child = None; collects = None }
+only verdict = record { verdict = verdict; reads = []; writes = []; change = None; output = None; tape = None; pipes = []; slots = []; child = None; collects = None }
 
 -- a reply of a number, without bytes
 abbrev pub number : ℕ → Verdict
@@ -136,7 +136,7 @@ carrier_of (pipe_end.Write k) = carrier.Pipe k
 
 -- what the caller is told, where the descriptors that stand for these ends are closed
 abbrev pub closing : List PipeEnd → Verdict → Effect
-closing ends told = record (only told) {
+closing ends verdict = record (only verdict) {
   reads = map carrier_of ends;
   writes = map carrier_of ends;
   pipes = map pipe_step.Drop ends;
@@ -144,7 +144,7 @@ closing ends told = record (only told) {
 
 -- what the caller is told, and steps of a pipe
 abbrev pub on_pipe : ℕ → Verdict → List PipeStep → Effect
-on_pipe k told steps = record (only told) { reads = carrier.Pipe k ∷ []; writes = carrier.Pipe k ∷ []; pipes = steps }
+on_pipe k verdict steps = record (only verdict) { reads = carrier.Pipe k ∷ []; writes = carrier.Pipe k ∷ []; pipes = steps }
 
 -- ---- exit
 
@@ -368,10 +368,10 @@ row_open names ds n mode name =
     else if (n == 0) || nat_lt longest_name n then failure bad_argument
     else open_named names ds mode name
 
--- the least free descriptor behind one that may be there
-abbrev pub free_behind : List (Option Descriptor) → Option ℕ → Option ℕ
-free_behind ds None = None
-free_behind ds (Some fd) = option_map (λ further. fd + 1 + further) (position is_none (drop (fd + 1) ds))
+-- the least free descriptor after one that may be there
+abbrev pub free_after : List (Option Descriptor) → Option ℕ → Option ℕ
+free_after ds None = None
+free_after ds (Some fd) = option_map (λ further. fd + 1 + further) (position is_none (drop (fd + 1) ds))
 
 -- a new pipe, the next by number, whose ends two descriptors stand for, which are written to a place as two words
 abbrev pub pipe_made : ℕ → ℕ → ℕ → ℕ → Effect
@@ -395,7 +395,7 @@ pipe_free count at None writer = failure too_many_descriptors
 abbrev pub row_pipe : ℕ → List (Option Descriptor) → ℕ → Bool → Effect
 row_pipe count ds at fits =
     if not fits then failure bad_address
-    else pipe_free count at (free_descriptor ds) (free_behind ds (free_descriptor ds))
+    else pipe_free count at (free_descriptor ds) (free_after ds (free_descriptor ds))
 
 -- fork, where there are so many processes, by a caller with these descriptors: the next process by number, which has the
 -- caller's descriptors, and so one more for each end of a pipe
@@ -422,10 +422,10 @@ abbrev pub status_in : List (Option ℕ) → ℕ → Option ℕ
 status_in statuses zero = None
 status_in statuses (suc n) = unwrap_or (slice_get statuses n) None
 
--- this child, if it has ended, or else one of those behind it
+-- this child, if it has ended, or else one of those after it
 abbrev pub ended_or : ℕ → Option ℕ → Option EndedChild → Option EndedChild
-ended_or child (Some status) behind = Some (record { child = child; status = status })
-ended_or child None behind = behind
+ended_or child (Some status) after = Some (record { child = child; status = status })
+ended_or child None after = after
 
 -- the first of these children that has ended; in a run the least by number that has, `kernel_model::first_ended_is_least`
 abbrev pub first_ended : List (Option ℕ) → List ℕ → Option EndedChild

@@ -2,7 +2,7 @@
 use Rattle.std.specs.Prelude.{ℕ, ◌==◌, Bool, false, if◌then◌else◌, List, [], ◌∷◌, ◌++◌, map, Option, Some, None, option_to_list}
 use Rattle.machine_model.specs.declared.reply.Reply.{Reply}
 use Rattle.kernel_model.specs.Entries.{Entry, Item, Got, End}
-use Rattle.kernel_model.specs.Paths.{is_settled}
+use Rattle.kernel_model.specs.Paths.{is_durable}
 use Rattle.kernel_model.specs.Steps.{zero_reply}
 use Rattle.kernel_model.specs.World.{World}
 use Rattle.kernel_model.specs.declared.effect.Output.{Output}
@@ -56,14 +56,14 @@ told_from before past (e ∷ es) = told_from (told_with before past e) (past ++ 
 abbrev pub told : ℕ → List Entry → List (Given Item)
 told p log = told_from (λ q. []) [] log p
 
--- the longest front whose elements pass
-abbrev pub front : {A : Type 0} → (A → Bool) → List A → List A
-front test [] = []
-front test (x ∷ xs) = if test x then x ∷ front test xs else []
+-- the longest prefix whose elements pass
+abbrev pub prefix : {A : Type 0} → (A → Bool) → List A → List A
+prefix test [] = []
+prefix test (x ∷ xs) = if test x then x ∷ prefix test xs else []
 
--- What may be seen of this where c changes are committed: the longest front whose events rest on those alone.
+-- What may be seen of this where c changes are committed: the longest prefix whose events rest on those alone.
 abbrev pub released : {A : Type 0} → ℕ → List (Given A) → List A
-released c xs = map (λ x. x.what) (front (λ x. is_settled c x.past x.entry) xs)
+released c xs = map (λ x. x.what) (prefix (λ x. is_durable c x.past x.entry) xs)
 
 -- the bytes that terminal t shows
 abbrev pub shown : World → ℕ → List ℕ

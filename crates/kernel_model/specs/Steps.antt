@@ -130,7 +130,7 @@ after_effect s pid p e (Ends status) = record {
 -- the same of an effect, if there is one
 abbrev pub after_effect_if : SyncState → ℕ → Process → Option Effect → Transition
 after_effect_if s pid p None = impossible pid s
-after_effect_if s pid p (Some e) = after_effect s pid p e e.told
+after_effect_if s pid p (Some e) = after_effect s pid p e e.verdict
 
 -- an Enter of process pid, if there is one
 abbrev pub after_enter : SyncState → ℕ → Option Process → Transition

@@ -1,13 +1,13 @@
--- A whole run: the synchronous state, the log, and the disk.
+-- A whole run: the synchronous state, the log, and the storage.
 use Rattle.std.specs.Prelude.{ℕ, zero, suc, ◌+◌, List, [], ◌∷◌, ◌++◌, drop, replicate, Some, None}
 use Rattle.disk_model.specs.declared.change.Change.{Change}
 use Rattle.disk_model.specs.declared.change.NamedFile.{NamedFile}
 use Rattle.disk_model.specs.Held.{IsHeldTo}
 use Rattle.disk_model.specs.Storage.{Storage, cut, completed, failed}
-use Rattle.disk_model.specs.Runs.{begun as storage_at}
+use Rattle.disk_model.specs.Runs.{first_storage}
 use Rattle.machine_model.specs.States.{State}
 use Rattle.kernel_model.specs.Entries.{Entry}
-use Rattle.kernel_model.specs.Paths.{changes_of}
+use Rattle.kernel_model.specs.Paths.{changes_in_log}
 use Rattle.kernel_model.specs.State.{SyncState, Process, TapeState}
 use Rattle.kernel_model.specs.Steps.{step}
 use Rattle.kernel_model.specs.declared.descriptor.Descriptor.TheVariants.{Tape, Terminal}
@@ -34,7 +34,7 @@ abbrev pub happens : World → Event → World
 happens w e = record {
   sync = (step w.sync e).state;
   log = w.log ++ (step w.sync e).entry ∷ [];
-  storage = stored w.storage (changes_of w.log) w.sync.files e;
+  storage = stored w.storage (changes_in_log w.log) w.sync.files e;
 }
 
 -- the run after these events, the first of them first
@@ -88,9 +88,9 @@ abbrev pub tape_count : ℕ
 tape_count = 8
 
 -- the run before any event
-abbrev pub begun : Boot → World
-begun b = record {
+abbrev pub first_world : Boot → World
+first_world b = record {
   sync = record { processes = processes_from 0 b.programs; files = b.files; pipes = []; tapes = tapes_of tape_count b.tapes };
   log = [];
-  storage = storage_at b.disk b.gate;
+  storage = first_storage b.disk b.gate;
 }

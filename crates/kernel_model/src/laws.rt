@@ -4,23 +4,23 @@ ghost use Rattle.std.specs.List.{list_all};
 ghost use Rattle.disk_model.specs.Files.{files_after};
 ghost use Rattle.kernel_model.specs.declared.event.Event.{Event};
 ghost use Rattle.kernel_model.specs.Entries.{Entry};
-ghost use Rattle.kernel_model.specs.Paths.{IsSettled, is_settled, changes_of};
+ghost use Rattle.kernel_model.specs.Paths.{IsDurable, is_durable, changes_in_log};
 ghost use Rattle.kernel_model.specs.State.{Process, PipeState, process_at, shared};
 ghost use Rattle.kernel_model.specs.Ends.{count_held};
 ghost use Rattle.kernel_model.specs.Rows.{first_ended, most_processes};
 ghost use Rattle.kernel_model.specs.Limits.{AreFewAndShort, FindsLeast, KeepLimits, TapesAreThere};
-ghost use Rattle.kernel_model.specs.World.{Boot, HoldsItsFiles, begun, after, tape_count};
+ghost use Rattle.kernel_model.specs.World.{Boot, HoldsItsFiles, first_world, after, tape_count};
 ghost use Rattle.kernel_model.specs.declared.descriptor.PipeEnd.TheVariants.{Read, Write};
 
 /// A law: the test says exactly whether all changes on which an event rests are among the first c.
-pub fn settled_is()
-    ensures { (c : ℕ) (past : List Entry) (e : Entry) → IsTrue (is_settled c past e) ↔ IsSettled c past e }
+pub fn durable_is()
+    ensures { (c : ℕ) (past : List Entry) (e : Entry) → IsTrue (is_durable c past e) ↔ IsDurable c past e }
 {}
 
 /// A law: the files of the synchronous state are those of the boot after all changes of the log.
 pub fn files_are_folded()
     ensures { (b : Boot) (es : List Event)
-        → (after (begun b) es).sync.files ≡ files_after b.files (changes_of (after (begun b) es).log) }
+        → (after (first_world b) es).sync.files ≡ files_after b.files (changes_in_log (after (first_world b) es).log) }
 {}
 
 /// A law: what the numbers of a pipe's ends are. Whatever events come, the number of ends to read that a pipe has is exactly
@@ -28,32 +28,32 @@ pub fn files_are_folded()
 /// No descriptor stands for an end of a pipe that is not there.
 pub fn ends_are_counted()
     ensures readers { (b : Boot) (es : List Event) (k : ℕ) (p : PipeState)
-        → slice_get (after (begun b) es).sync.pipes k ≡ Some p
-        → p.readers ≡ count_held (Read k) (after (begun b) es).sync.processes }
+        → slice_get (after (first_world b) es).sync.pipes k ≡ Some p
+        → p.readers ≡ count_held (Read k) (after (first_world b) es).sync.processes }
     ensures writers { (b : Boot) (es : List Event) (k : ℕ) (p : PipeState)
-        → slice_get (after (begun b) es).sync.pipes k ≡ Some p
-        → p.writers ≡ count_held (Write k) (after (begun b) es).sync.processes }
+        → slice_get (after (first_world b) es).sync.pipes k ≡ Some p
+        → p.writers ≡ count_held (Write k) (after (first_world b) es).sync.processes }
     ensures others { (b : Boot) (es : List Event) (k : ℕ)
-        → slice_get (after (begun b) es).sync.pipes k ≡ None
-        → (count_held (Read k) (after (begun b) es).sync.processes ≡ 0)
-        × (count_held (Write k) (after (begun b) es).sync.processes ≡ 0) }
+        → slice_get (after (first_world b) es).sync.pipes k ≡ None
+        → (count_held (Read k) (after (first_world b) es).sync.processes ≡ 0)
+        × (count_held (Write k) (after (first_world b) es).sync.processes ≡ 0) }
 {}
 
 /// A law: an end of a pipe that is closed stays so. Once a pipe has no ends to read, no descriptor stands for its end to read,
 /// whatever events come after; and so it is for writing. So a pipe without ends is never named again.
 pub fn ends_stay_closed()
     ensures readers { (b : Boot) (es more : List Event) (k : ℕ) (p : PipeState)
-        → slice_get (after (begun b) es).sync.pipes k ≡ Some p → p.readers ≡ 0
-        → count_held (Read k) (after (begun b) (es ++ more)).sync.processes ≡ 0 }
+        → slice_get (after (first_world b) es).sync.pipes k ≡ Some p → p.readers ≡ 0
+        → count_held (Read k) (after (first_world b) (es ++ more)).sync.processes ≡ 0 }
     ensures writers { (b : Boot) (es more : List Event) (k : ℕ) (p : PipeState)
-        → slice_get (after (begun b) es).sync.pipes k ≡ Some p → p.writers ≡ 0
-        → count_held (Write k) (after (begun b) (es ++ more)).sync.processes ≡ 0 }
+        → slice_get (after (first_world b) es).sync.pipes k ≡ Some p → p.writers ≡ 0
+        → count_held (Write k) (after (first_world b) (es ++ more)).sync.processes ≡ 0 }
 {}
 
 /// A law: each descriptor of a process that has ended is free.
 pub fn ended_hold_nothing()
     ensures { (b : Boot) (es : List Event) (pid : ℕ) (p : Process)
-        → process_at (after (begun b) es).sync.processes pid ≡ Some p → IsTrue (is_some p.status)
+        → process_at (after (first_world b) es).sync.processes pid ≡ Some p → IsTrue (is_some p.status)
         → IsTrue (list_all is_none p.descriptors) }
 {}
 
@@ -63,18 +63,18 @@ pub fn ended_hold_nothing()
 /// at most 8, no descriptor stands for a tape that is not there; and where its disk holds its files, there are at most 32
 /// files, each of at most 16,384 bytes. (Of pipes `ends_are_counted` says that each end that is named is there.)
 pub fn tables_keep_their_limits()
-    ensures tables { (b : Boot) (es : List Event) → KeepLimits (after (begun b) es).sync }
+    ensures tables { (b : Boot) (es : List Event) → KeepLimits (after (first_world b) es).sync }
     ensures processes { (b : Boot) (es : List Event) → length b.programs ≤ most_processes
-        → length (after (begun b) es).sync.processes ≤ most_processes }
-    ensures tapes { (b : Boot) (es : List Event) → length b.programs ≤ tape_count → TapesAreThere (after (begun b) es).sync }
-    ensures files { (b : Boot) (es : List Event) → HoldsItsFiles b → AreFewAndShort (after (begun b) es).sync.files }
+        → length (after (first_world b) es).sync.processes ≤ most_processes }
+    ensures tapes { (b : Boot) (es : List Event) → length b.programs ≤ tape_count → TapesAreThere (after (first_world b) es).sync }
+    ensures files { (b : Boot) (es : List Event) → HoldsItsFiles b → AreFewAndShort (after (first_world b) es).sync.files }
 {}
 
 /// A law: of a process's children, the first that has ended is the least by number that has. So that is the one that a wait
 /// collects; and where it finds none, none has ended.
 pub fn first_ended_is_least()
     ensures { (b : Boot) (es : List Event) (pid : ℕ) (p : Process)
-        → process_at (after (begun b) es).sync.processes pid ≡ Some p
-        → let statuses = (shared (after (begun b) es).sync).statuses in
+        → process_at (after (first_world b) es).sync.processes pid ≡ Some p
+        → let statuses = (shared (after (first_world b) es).sync).statuses in
         FindsLeast statuses p.children (first_ended statuses p.children) }
 {}

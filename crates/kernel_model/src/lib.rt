@@ -3,6 +3,7 @@
 
 mod answer;
 mod carrier;
+mod counts;
 mod descriptor;
 mod effect;
 mod event;
@@ -11,11 +12,12 @@ mod request;
 
 pub use answer::{Answer, Outcome, Refused};
 pub use carrier::Carrier;
+pub use counts::{TAPES, TERMINALS};
 pub use descriptor::{Descriptor, PipeEnd};
 pub use effect::{Output, PipeStep, Slot, TapeRead};
 pub use event::Event;
 pub use laws::{
-    ended_hold_nothing, ends_are_counted, ends_stay_closed, files_are_folded, first_ended_is_least,
-    settled_is, tables_keep_their_limits,
+    durable_is, ended_hold_nothing, ends_are_counted, ends_stay_closed, files_are_folded,
+    first_ended_is_least, tables_keep_their_limits,
 };
 pub use request::{Request, Verdict};

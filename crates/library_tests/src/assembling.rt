@@ -406,6 +406,35 @@ fn faults(rt: HostRuntime) {
 }
 
 #[test]
+fn thousands_of_lines(rt: HostRuntime) -> Result<(), Fail> {
+    let alloc = rt.alloc();
+    let mut source = String::from_str(alloc, "_start: nop\n")?;
+    for number in 0..3000u32 {
+        write!(source, "label_{number}: beqz a0,label_{number}\n")?;
+    }
+    source.push_str(".data\n")?;
+    for _ in 0..3000 {
+        source.push_str(".byte 1,2\n")?;
+    }
+    let (image, listing) = assemble(alloc, source.as_str())?;
+    assert_eq!(rt; listing.rows().len(), 3001);
+    if let Some(row) = listing.rows().last() {
+        assert_eq!(rt;
+            (row.address, row.word, row.line),
+            (0x12EE0, 0x00050063, 3001)
+        );
+    }
+    assert_eq!(rt;
+        image
+            .segments()
+            .last()
+            .map(|data| data.bytes.as_slice().len()),
+        Some(6000)
+    );
+    Ok(())
+}
+
+#[test]
 fn long_sources(rt: HostRuntime) -> Result<(), Fail> {
     let alloc = rt.alloc();
     let mut source = String::from_str(alloc, "_start: ecall\n#")?;

@@ -60,8 +60,8 @@ fn a_group_is_a_record_and_then_its_gate(rt: HostRuntime) -> Result<(), Fail> {
     committer.failed(85)?;
     assert!(rt; committer.has_failed());
     assert_eq!(rt; committer.may_cut(&changes), Err(CommitRefusal::DiskFailed));
-    let disk = committer.crash(b"");
+    let device = committer.crash(b"");
     let record = b"\x01\x0f\0\0\0\x01\x01f\x02\0\0\0\0\0\0\x03\0A\0\0\0";
-    assert_eq!(rt; &disk.bytes()[64..85], record.as_slice());
+    assert_eq!(rt; &device.bytes()[64..85], record.as_slice());
     Ok(())
 }

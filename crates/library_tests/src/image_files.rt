@@ -217,7 +217,7 @@ fn a_last_segment_of_no_bytes_is_kept(rt: HostRuntime) -> Result<(), Fail> {
     let file = two_segments(rt.alloc(), 0x1800, &bytes)?;
     let image = parse(rt.alloc(), &file)?;
     let written = write(rt.alloc(), &image)?;
-    // The next page behind the first segment's bytes, and 0x800 further.
+    // The next page after the first segment's bytes, and 0x800 further.
     assert_eq!(rt; written.len(), 0x2800);
     assert_eq!(rt; &written[84..92], [1, 0, 0, 0, 0, 0x28, 0, 0].as_slice());
     let again = parse(rt.alloc(), &written)?;
@@ -232,8 +232,38 @@ fn a_last_segment_of_no_bytes_is_kept(rt: HostRuntime) -> Result<(), Fail> {
     Ok(())
 }
 
+/// A file of four segments, each of a word on a page of its own, which counts so many of them.
+fn four_segments(alloc: Global, count: u8) -> Result<Vec<u8>, AllocError> {
+    let mut file = changed(alloc, 0x4004, &[(44, count)])?;
+    for place in 0..4usize {
+        let header = 52 + 32 * place;
+        for (k, byte) in HEADERS[52..].iter().enumerate() {
+            set(&mut file, header + k, *byte);
+        }
+        // Its offset and its address, a page further each time.
+        let page = 16 * place as u8;
+        set(&mut file, header + 5, page + 16);
+        set(&mut file, header + 9, page);
+    }
+    Ok(file)
+}
+
+#[test]
+fn one_to_four_segments(rt: HostRuntime) -> Result<(), Fail> {
+    for (count, len) in [(1, 0x1004), (2, 0x2004), (3, 0x3004), (4, 0x4004)] {
+        let file = four_segments(rt.alloc(), count)?;
+        let image = parse(rt.alloc(), &file)?;
+        assert_eq!(rt; image.segments().len(), usize::from(count));
+        let written = write(rt.alloc(), &image)?;
+        assert_eq!(rt; written.len(), len);
+        let again = parse(rt.alloc(), &written)?;
+        assert_eq!(rt; again.segments().len(), usize::from(count));
+    }
+    Ok(())
+}
+
 /// This word so many times.
-fn repeated(alloc: Global, word: u32, count: usize) -> Result<Vec<u32>, AllocError>
+pub fn repeated(alloc: Global, word: u32, count: usize) -> Result<Vec<u32>, AllocError>
     ensures { IfOk result (λ words. length words.items ≡ count) }
 {
     vec![in alloc; word; count]

@@ -1,4 +1,5 @@
-//! Small programs, loaded and run.
+//! Programs, loaded and run.
+use crate::image_files::repeated;
 use byte_list::Bytes;
 use elf32::Image;
 use formats::Reg;
@@ -77,6 +78,18 @@ fn runs_stop_where_they_should(rt: HostRuntime) -> Result<(), Fail> {
         assert_eq!(rt; machine.count(), u64::from(done));
         assert_eq!(rt; machine.run(0), (0, Stop::Limit));
     }
+    Ok(())
+}
+
+#[test]
+fn runs_the_longest_text(rt: HostRuntime) -> Result<(), Fail> {
+    let words = repeated(rt.alloc(), ADDI_T0_T0_1, 61_440)?;
+    let image = Image::from_text(rt.alloc(), &words)?;
+    let machine = Machine::load(rt.alloc(), &image)?;
+    let mut copy = machine.try_clone(rt.alloc())?;
+    assert_eq!(rt; copy.count(), 0);
+    assert_eq!(rt; copy.run(100_000), (61_440, Stop::Trap(Cause::FetchFault)));
+    assert_eq!(rt; machine.pc(), 0x0001_0000);
     Ok(())
 }
 

@@ -150,7 +150,7 @@ fn plan_of(alloc: Global, request: Request) -> Result<Plan, Fail>
 
 /// The number that a plan replies.
 fn number_of(plan: &Plan) -> Option<u32> {
-    match &plan.told {
+    match &plan.verdict {
         Verdict::Replies(reply) => Some(reply.a0),
         Verdict::Waits | Verdict::Ends(_) => None,
     }
@@ -182,7 +182,7 @@ fn programs_call(rt: HostRuntime) -> Result<(), Fail> {
 fn a_program_ends(rt: HostRuntime) -> Result<(), Fail> {
     let request = request_by(rt.alloc(), &[EXIT, A0_IS_300, A1_IS_TEXT, A2_IS_4, ECALL])?;
     let plan = plan_of(rt.alloc(), request)?;
-    assert!(rt; matches!(&plan.told, Verdict::Ends(44)));
+    assert!(rt; matches!(&plan.verdict, Verdict::Ends(44)));
     Ok(())
 }
 
@@ -235,7 +235,7 @@ fn a_tape_goes_on(rt: HostRuntime) -> Result<(), Fail> {
 #[test]
 fn ends_are_given_up(rt: HostRuntime) -> Result<(), Fail> {
     let plan = plan_end(rt.alloc(), &descriptors_of_pipes(), 300)?;
-    assert!(rt; matches!(&plan.told, Verdict::Ends(300)));
+    assert!(rt; matches!(&plan.verdict, Verdict::Ends(300)));
     assert!(rt;
         matches!(
             plan.pipes.as_slice(),

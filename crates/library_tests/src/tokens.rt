@@ -1,6 +1,6 @@
 //! Sources with their tokens, and sources with a fault.
 use asm_text::{Cause, TextFault, TokenKind, lines};
-use std::alloc::Global;
+use std::alloc::{AllocError, Global};
 use std::test::Fail;
 
 /// Each line with its number and place, and each of its tokens with its kind and place.
@@ -109,9 +109,48 @@ fn texts(rt: HostRuntime) -> Result<(), Fail> {
     Ok(())
 }
 
+/// A source of a text so many times, between two others.
+fn source_of(
+    alloc: Global,
+    prefix: &str,
+    text: &str,
+    count: usize,
+    end: &str,
+) -> Result<String, AllocError> {
+    let mut source = String::from_str(alloc, prefix)?;
+    for _ in 0..count {
+        source.push_str(text)?;
+    }
+    source.push_str(end)?;
+    Ok(source)
+}
+
+#[test]
+fn long_sources(rt: HostRuntime) -> Result<(), Fail> {
+    for (prefix, text, count, end, line_count, token_count) in [
+        ("", "here: lw a0,-4(sp) # a word\n", 5000, "", 5001, 45_000),
+        ("", "\n", 20_000, "", 20_001, 0),
+        ("", "12,", 20_000, "", 1, 40_000),
+        (".ascii \"", "a\\n", 20_000, "\"", 1, 2),
+    ] {
+        let source = source_of(rt.alloc(), prefix, text, count, end)?;
+        let found = lines(rt.alloc(), source.as_str())?;
+        assert_eq!(rt; found.len(), line_count);
+        let mut tokens = 0usize;
+        for line in &found {
+            tokens = tokens.saturating_add(line.tokens.as_slice().len());
+        }
+        assert_eq!(rt; tokens, token_count);
+    }
+    Ok(())
+}
+
 #[test]
 fn numbers_of_causes(rt: HostRuntime) -> Result<(), Fail> {
-    assert_eq!(rt; (Cause::Syntax as u8, Cause::OutOfMemory as u8), (1, 2));
+    assert_eq!(rt;
+        (Cause::Syntax.number(), Cause::OutOfMemory.number()),
+        (1, 2)
+    );
     let fault = TextFault {
         why: Cause::Syntax,
         line: 2,

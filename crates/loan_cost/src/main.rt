@@ -77,8 +77,8 @@ fn boot(alloc: Global, pages: u32) -> Result<Core, Error>
         image: elf32::parse(alloc, &file_of(alloc, pages)?)?,
         terminal: 0,
     };
-    let disk = SimDisk::zero(alloc)?;
-    Ok(Core::boot(alloc, disk, vec![in alloc; program]?, Vec::new(alloc))?)
+    let device = SimDisk::zero(alloc)?;
+    Ok(Core::boot(alloc, device, vec![in alloc; program]?, Vec::new(alloc))?)
 }
 
 /// Times that were measured: of lends and settles, and of runs.

@@ -5,3 +5,4 @@ pub mod Steps
 pub mod Limits
 pub mod Decoding
 pub mod Pages
+pub mod Loaded

@@ -23,7 +23,7 @@ zeros-at n k =
 pub padded-at : (zeros : ℕ) (bytes : List ℕ) (rest k : ℕ) → slice_index ((replicate zeros 0 ++ bytes) ++ replicate rest 0) k ≡ cond (leb zeros k) (get_or bytes (k - zeros) 0) 0
 padded-at zeros bytes rest k =
     elim (leb_tells (suc k) (zeros + length bytes)) [
-      | inl f ↦ get_or_append_left (replicate zeros 0 ++ bytes) (replicate rest 0) 0 k (omega (arith, f.1, size)) ∙ front
+      | inl f ↦ get_or_append_left (replicate zeros 0 ++ bytes) (replicate rest 0) 0 k (omega (arith, f.1, size)) ∙ prefix
       | inr f ↦
           get_or-append_right (replicate zeros 0 ++ bytes) (replicate rest 0) (zeros + length bytes) k 0 size (omega (arith, f.1)) ∙ zeros-at rest (k - (zeros + length bytes))
           ∙ sym (beyond (omega (arith, f.1)))
@@ -32,8 +32,8 @@ padded-at zeros bytes rest k =
     size : length (replicate zeros 0 ++ bytes) ≡ zeros + length bytes
     size = omega (arith, length-append (replicate zeros 0) bytes, length-replicate zeros (zero))
 
-    front : get_or (replicate zeros 0 ++ bytes) k 0 ≡ cond (leb zeros k) (get_or bytes (k - zeros) 0) 0
-    front =
+    prefix : get_or (replicate zeros 0 ++ bytes) k 0 ≡ cond (leb zeros k) (get_or bytes (k - zeros) 0) 0
+    prefix =
         elim (leb_tells zeros k) [
           | inl f ↦ get_or-append_right (replicate zeros 0) bytes zeros k 0 (length-replicate zeros (zero)) f.1 ∙ sym (ap (λ (b : Bool). cond b (get_or bytes (k - zeros) 0) 0) f.0)
           | inr f ↦ get_or_append_left (replicate zeros 0) bytes 0 k (omega (arith, f.1, length-replicate zeros (zero))) ∙ zeros-at zeros k ∙ sym (ap (λ (b : Bool). cond b (get_or bytes (k - zeros) 0) 0) f.0)
@@ -52,11 +52,11 @@ pub padded : (zeros size n0 n1 : ℕ) (bytes none first second all : List ℕ) �
 padded zeros size n0 n1 bytes none first second all empty n0-is first-is second-is all-is fits k =
     ap (λ (items : List ℕ). slice_index items k) (all-is ∙ ap (λ (items : List ℕ). items ++ replicate (size - n1) 0) (take_all size second short ∙ whole)) ∙ padded-at zeros bytes (size - n1) k
   where
-    front : first ≡ replicate zeros 0
-    front = first-is ∙ ap (λ (items : List ℕ). take zeros items ++ replicate (zeros - n0) 0) empty ∙ ap (λ (items : List ℕ). items ++ replicate (zeros - n0) 0) (take_all zeros [] (omega arith)) ∙ ap (λ (n : ℕ). replicate n 0) (omega (arith, n0-is))
+    prefix : first ≡ replicate zeros 0
+    prefix = first-is ∙ ap (λ (items : List ℕ). take zeros items ++ replicate (zeros - n0) 0) empty ∙ ap (λ (items : List ℕ). items ++ replicate (zeros - n0) 0) (take_all zeros [] (omega arith)) ∙ ap (λ (n : ℕ). replicate n 0) (omega (arith, n0-is))
 
     whole : second ≡ replicate zeros 0 ++ bytes
-    whole = second-is ∙ ap (λ (items : List ℕ). items ++ bytes) front
+    whole = second-is ∙ ap (λ (items : List ℕ). items ++ bytes) prefix
 
     short : length second ≤ size
     short = omega (arith, ap length whole, length-append (replicate zeros 0) bytes, length-replicate zeros (zero), fits)

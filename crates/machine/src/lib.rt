@@ -4,11 +4,13 @@
 mod decoded;
 mod fast;
 mod instruction;
+mod laws;
 mod loading;
 mod machine;
 mod stopped;
 mod table;
 
 pub use elf32::{Image, Segment};
+pub use laws::segments_are_loaded;
 pub use machine::Machine;
 pub use machine_model::{Cause, Reply, Stop};

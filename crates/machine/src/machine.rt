@@ -2,7 +2,7 @@
 ghost use Rattle.std.specs.Prelude.{◌≡◌, ◌≢◌, ◌↔◌, ℕ, ◌+◌, ◌%◌, ◌<◌, ◌≤◌, ◌^◌, true, length, Some, IfOk, IsTrue};
 ghost use Rattle.machine_model.specs.Access.{HoldsBytes, is_writable, put_bytes};
 ghost use Rattle.machine_model.specs.Effects.{reg as register};
-ghost use Rattle.machine_model.specs.States.{run as run_from, ran, stands_at, replied};
+ghost use Rattle.machine_model.specs.States.{run as run_from, reached_at, stands_at, replied};
 ghost use Rattle.machine.specs.First.{first_state, first_registers};
 ghost use Rattle.machine.specs.Kept.{Kept};
 
@@ -64,7 +64,7 @@ impl Machine {
     /// stands at a call or a trap.
     pub fn run(&mut self, max: u32) -> (u32, Stop)
         requires { self.old.count + max ≤ 2 ^ 40 }
-        ensures run { run_from max self.old ≡ ran result.0 self.new result.1 }
+        ensures run { run_from max self.old ≡ reached_at result.0 self.new result.1 }
         ensures within { result.0 ≤ max }
         ensures count { self.new.count ≡ self.old.count + result.0 }
         ensures limit { (result.1 ≡ Stop.Limit) ↔ (result.0 ≡ max) }

@@ -6,7 +6,7 @@ use Rattle.formats.specs.Meaning.{Means}
 use Rattle.formats.specs.Table.{instr_of}
 use Rattle.machine_model.specs.Access.{fetched}
 use Rattle.machine_model.specs.Effects.{Effect, Becomes, Stands, effect}
-use Rattle.machine_model.specs.States.{State, state, Stepped, Goes, Halts, Ran, ran, counted, by_instr, by_fetch, next, after, by_step, run, stands_at}
+use Rattle.machine_model.specs.States.{State, state, Stepped, Goes, Halts, Ran, reached_at, counted, by_instr, by_fetch, next, after, by_step, run, stands_at}
 use Rattle.machine_model.specs.Steps.{Step, StandsAt, ByFetch, ByWord, ByInstruction, Runs, NextIsStep, RunIsSteps}
 use Rattle.machine_model.specs.declared.access.BusFault.{BusFault}
 use Rattle.machine_model.specs.declared.stop.Cause.{Cause}
@@ -123,7 +123,7 @@ stands_limit s stop (ByInstruction own) e = effect_not own.instruction s.hart (o
 stands-here : (s : State) (stop : Stop) → next s ≡ Halts stop → stands_at s ≡ Some stop
 stands-here s stop e = ap (λ (x : Stepped). by_step {A = Option Stop} x (λ t. None) (λ stop. Some stop)) e
 
-halted : (n : ℕ) (s : State) (stop : Stop) → (stop ≡ Limit → ⊥) → next s ≡ Halts stop → IsRun (suc n) s (ran 0 s stop)
+halted : (n : ℕ) (s : State) (stop : Stop) → (stop ≡ Limit → ⊥) → next s ≡ Halts stop → IsRun (suc n) s (reached_at 0 s stop)
 halted n s stop apart e =
     (refl, ((λ limit. absurd (apart limit)), (λ all. let none : 0 ≡ suc n = all in absurd (omega arith))), λ other. (omega arith, stands-here s stop e))
 

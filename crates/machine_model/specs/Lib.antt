@@ -4,3 +4,4 @@ pub mod Arithmetic
 pub mod Effects
 pub mod States
 pub mod Steps
+pub mod Numbers

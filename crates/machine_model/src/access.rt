@@ -1,4 +1,7 @@
 //! Accesses of a memory.
+ghost use Rattle.std.specs.Prelude.{◌≡◌};
+ghost use Rattle.machine_model.specs.Numbers.{fault_number};
+
 use thiserror::Error;
 
 /// What may be done with the bytes of a page.
@@ -29,4 +32,13 @@ pub enum BusFault {
     /// The address is no multiple of the width.
     #[error("the address is no multiple of the width")]
     Misaligned = 3,
+}
+
+impl BusFault {
+    /// Its number, 1 to 3.
+    pub fn number(self) -> u8
+        ensures { result ≡ fault_number self }
+    {
+        self as u8
+    }
 }

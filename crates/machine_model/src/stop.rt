@@ -1,4 +1,6 @@
 //! Where a run stops.
+ghost use Rattle.std.specs.Prelude.{◌≡◌};
+ghost use Rattle.machine_model.specs.Numbers.{cause_number};
 
 /// Why an instruction traps. The numbers are those that an ended process tells.
 #[derive(Clone, Copy, Debug, PartialEq, Eq)]
@@ -15,6 +17,15 @@ pub enum Cause {
     FetchFault = 5,
     /// EBREAK.
     Breakpoint = 6,
+}
+
+impl Cause {
+    /// Its number, 1 to 6.
+    pub fn number(self) -> u8
+        ensures { result ≡ cause_number self }
+    {
+        self as u8
+    }
 }
 
 /// Where a run stops.

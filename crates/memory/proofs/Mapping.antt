@@ -21,18 +21,18 @@ free-step : (b : Bool) (w : Word) (a c y : Option Word) → (a ≡ None → c �
 free-step true w a c y f e = absurd (no_some e)
 free-step false w a c y f e = f e
 
--- where no run has a word, what stands behind them counts
+-- where no run has a word, what stands after them counts
 among-free : (write : Bool) (parts : List Pages) (x y : Option Word) (n : ℕ) → word_among write parts x n ≡ None → word_among write parts y n ≡ y
 among-free write [] x y n e = refl
 among-free write (q ∷ qs) x y n e = free-step (has_word q n) (word_in write q n) (word_among write qs x n) (word_among write qs y n) y (among-free write qs x y n) e
 
-behind-free : (write : Bool) (parts : List Pages) (x : Option Word) (n : ℕ) → word_among write parts x n ≡ None → x ≡ None
-behind-free write [] x n e = e
-behind-free write (q ∷ qs) x n e = behind-step (has_word q n) (word_in write q n) (word_among write qs x n) (behind-free write qs x n) e
+after-free : (write : Bool) (parts : List Pages) (x : Option Word) (n : ℕ) → word_among write parts x n ≡ None → x ≡ None
+after-free write [] x n e = e
+after-free write (q ∷ qs) x n e = after-step (has_word q n) (word_in write q n) (word_among write qs x n) (after-free write qs x n) e
   where
-    behind-step : (b : Bool) (w : Word) (a : Option Word) → (a ≡ None → x ≡ None) → cond b (Some w) a ≡ None → x ≡ None
-    behind-step true w a f e = absurd (no_some e)
-    behind-step false w a f e = f e
+    after-step : (b : Bool) (w : Word) (a : Option Word) → (a ≡ None → x ≡ None) → cond b (Some w) a ≡ None → x ≡ None
+    after-step true w a f e = absurd (no_some e)
+    after-step false w a f e = f e
 
 -- a run that may be written is added
 pub own-push : (own shared : List Pages) (p : Pages) (n : ℕ) → (has_word p n ≡ true → words_of own shared n ≡ None) → words_of (own ++ p ∷ []) shared n ≡ cond (has_word p n) (Some (word_in true p n)) (words_of own shared n)
@@ -48,7 +48,7 @@ shared-push own shared p n free = ap (λ r. word_among true own r n) (among-push
   where
     by : (b : Bool) → has_word p n ≡ b → word_among true own (word_among false shared (cond b (Some (word_in false p n)) None) n) n ≡ cond b (Some (word_in false p n)) (words_of own shared n)
     by true e =
-        ap (λ r. word_among true own r n) (among-free false shared None (Some (word_in false p n)) n (behind-free true own (word_among false shared None n) n (free e)))
+        ap (λ r. word_among true own r n) (among-free false shared None (Some (word_in false p n)) n (after-free true own (word_among false shared None n) n (free e)))
         ∙ among-free true own (word_among false shared None n) (Some (word_in false p n)) n (free e)
     by false e = refl
 

@@ -55,7 +55,7 @@ among-none write (q ∷ qs) rest n k e = none-step (has_word q n) k _ (Some (wor
 pub among-missing : (write : Bool) (parts : List Pages) (rest : Option Word) (n : ℕ) → position (λ p. has_word p n) parts ≡ None → word_among write parts rest n ≡ rest
 among-missing write parts rest n e = among-none write parts rest n 0 (sym (position_from-zero (λ p. has_word p n) parts) ∙ e)
 
--- the same of parts behind a view
+-- the same of parts after a view
 shared-none : {X : Type 0} (v : X → Pages) (write : Bool) (xs : List X) (rest : Option Word) (n k : ℕ) → position_from (λ x. has_word (v x) n) k xs ≡ None → word_among write (map v xs) rest n ≡ rest
 shared-none v write [] rest n k e = refl
 shared-none v write (q ∷ qs) rest n k e = none-step (has_word (v q) n) k _ (Some (word_in write (v q) n)) _ rest (shared-none v write qs rest n (k + 1)) e

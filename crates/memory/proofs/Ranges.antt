@@ -38,7 +38,7 @@ pub range_fault-put_bytes : (right : Rights → Bool) (bytes : List ℕ) (m : Me
 range_fault-put_bytes right [] m q p n = refl
 range_fault-put_bytes right (b ∷ bytes) m q p n = range_fault-put_bytes right bytes (with_byte m q b (get m q)) (q + 1) p n ∙ range_fault-with_byte right m q b p n
 
--- what is allowed at a byte and behind it is allowed behind it
+-- what is allowed at a byte and after it is allowed after it
 pub fault_at-None : (right : Rights → Bool) (c : Option Cell) (rest : Option BusFault) → fault_at right c rest ≡ None → rest ≡ None
 fault_at-None right None rest e = absurd cc
 fault_at-None right (Some cell) rest e = by (right cell.rights) e

@@ -24,26 +24,38 @@ fn argument<'a>(alloc: Global, name: &'a str, help: &'a str) -> Arg<'a> {
         .action(ArgAction::Set)
 }
 
-/// The commands and their arguments.
+/// The command `asm`, under its whole name.
+fn assembling<'a>(alloc: Global) -> Result<Command<'a>, Error> {
+    let asm = Command::new(alloc, "asm")
+        .bin_name("bench asm")?
+        .about("Assemble a source, and write its image")
+        .arg(argument(alloc, "SOURCE", "the source's file"))?
+        .arg(argument(
+            alloc,
+            "IMAGE",
+            "the image's file, which is written anew; another than the source's",
+        ))?;
+    Ok(asm)
+}
+
+/// The commands and their arguments. Their usage begins with the program's name, so that it can be pasted.
 fn commands<'a>(alloc: Global) -> Result<Command<'a>, Error> {
     let replay = Command::new(alloc, "replay")
         .about("Run a script, and print what each of its lines gives")
         .arg(argument(alloc, "SCRIPT", "the script's file"))?;
-    let asm = Command::new(alloc, "asm")
-        .about("Assemble a source, and write its image")
-        .arg(argument(alloc, "SOURCE", "the source's file"))?
-        .arg(argument(alloc, "IMAGE", "the image's file, which is written anew"))?;
     let list = Command::new(alloc, "list")
         .about("Print the words of an image that may be executed")
         .arg(argument(alloc, "IMAGE", "the image's file"))?;
     let bench = Command::new(alloc, "bench")
+        .bin_name("bench")?
         .about(
             "A RISC-V bench on an externally synchronous kernel; without a command, the script on standard input is replayed",
         )
+        .override_usage("bench < SCRIPT\n       bench <COMMAND>")
         .no_binary_name(true)
         .subcommand_required(true)
         .subcommand(replay)?
-        .subcommand(asm)?
+        .subcommand(assembling(alloc)?)?
         .subcommand(list)?;
     Ok(bench)
 }
@@ -61,6 +73,20 @@ fn task_of<'a>(name: &str, matches: &ArgMatches<'a>) -> Option<Task<'a>> {
     }
 }
 
+/// Refuses an image that would be written over its own source.
+fn checked<'a>(alloc: Global, task: Task<'a>) -> Result<Task<'a>, Error> {
+    match task {
+        Task::Assemble { source, image } if source == image => {
+            let mut asm = assembling(alloc)?;
+            Err(asm.error(
+                ErrorKind::ArgumentConflict,
+                "<SOURCE> and <IMAGE> are the same path",
+            )?)
+        }
+        task => Ok(task),
+    }
+}
+
 /// What the words, the program's name aside, ask for.
 pub fn parse<'a>(alloc: Global, words: &'a [String]) -> Result<Task<'a>, Error> {
     if words.is_empty() {
@@ -73,7 +99,7 @@ pub fn parse<'a>(alloc: Global, words: &'a [String]) -> Result<Task<'a>, Error> 
         None => None,
     };
     match asked {
-        Some(task) => Ok(task),
+        Some(task) => checked(alloc, task),
         None => Err(commands.error(ErrorKind::InvalidSubcommand, "no such command")?),
     }
 }

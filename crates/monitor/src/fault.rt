@@ -10,6 +10,9 @@ use thiserror::Error;
 /// Why the program ends before its end. It prints as the line on standard error.
 #[derive(Debug, Drop, Error)]
 pub enum Fault {
+    /// An argument of the command line that is no text.
+    #[error("bench: an argument is not UTF-8")]
+    Argument,
     /// The first line of the script that has no form, or that may not stand where it stands.
     #[error("bench: script refused at line {line}")]
     Script { line: usize },
@@ -33,6 +36,7 @@ impl Fault {
     /// The exit status.
     pub fn status(&self) -> u8 {
         match self {
+            Fault::Argument => 1,
             Fault::Script { .. } | Fault::Source { .. } | Fault::Image { .. } => 2,
             Fault::Disk { .. } => 3,
             Fault::OutOfMemory => 5,

@@ -11,4 +11,4 @@ mod setup;
 mod source;
 
 pub use fault::Fault;
-pub use program::bench;
+pub use program::{bench, end_without_arguments};

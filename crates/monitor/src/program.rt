@@ -85,6 +85,15 @@ fn end_usage<O: Write, E: Write>(error: &Error, out: &mut O, err: &mut E) -> u8 
     }
 }
 
+/// The end where the host did not give the arguments: memory ran out, or one of them is no text.
+pub fn end_without_arguments<E: Write>(error: &io::Error, err: &mut E) -> u8 {
+    let fault = match error.kind() {
+        io::ErrorKind::OutOfMemory => Fault::OutOfMemory,
+        _ => Fault::Argument,
+    };
+    end(fault, err)
+}
+
 /// The whole program: does what the words, the program's name aside, ask for, and answers the exit status. No words:
 /// replays the script on the input. What it prints goes to `out`, through a buffer that has gone out before anything is
 /// written to `err` and before the status is answered; one line on `err` says why it ended early.
@@ -106,7 +115,7 @@ pub fn bench<R: Files + AllocGlobal, I: Read, O: Write, E: Write>(
             Err(fault) => end(fault, err),
         },
     };
-    // What could not go out is not tried again behind the line that says so.
+    // What could not go out is not tried again after the line that says so.
     let _ = out.into_parts();
     status
 }

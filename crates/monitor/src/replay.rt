@@ -73,7 +73,7 @@ fn bytes_text(alloc: Global, bytes: &[u8]) -> Result<String, Fault> {
     Ok(hex::encode(alloc, bytes)?)
 }
 
-/// Prints a reply: a0, and its bytes behind their place.
+/// Prints a reply: a0, and its bytes after the place where they go.
 fn print_reply<O: Write>(alloc: Global, reply: &Reply, out: &mut O) -> Result<(), Fault> {
     let a0 = reply.a0;
     let at = reply.at;
@@ -163,7 +163,7 @@ fn crash<O: Write>(
     Ok(next)
 }
 
-/// Does a step, and prints what it gives. The core that comes back is another one behind a crash.
+/// Does a step, and prints what it gives. After a crash the core that comes back is another one.
 fn play<O: Write>(
     alloc: Global,
     setup: &Setup,

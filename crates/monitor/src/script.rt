@@ -5,19 +5,14 @@ use crate::fault::Fault;
 use byte_list::Bytes;
 use hex::{FromHex, FromHexError};
 use kernel::Event;
+use kernel_model::{TAPES, TERMINALS};
 use std::alloc::{AllocError, Global};
 
 /// The most programs of a script.
 const MOST_PROGRAMS: usize = 8;
 
-/// How many terminals there are.
-const TERMINALS: u32 = 8;
-
 /// The most words of a program: 60 pages.
 const MOST_WORDS: usize = 61440;
-
-/// How many tapes there are.
-pub const TAPES: u32 = 8;
 
 /// The most bytes of a tape.
 const MOST_TAPE_BYTES: usize = 65536;
@@ -126,7 +121,7 @@ fn hexadecimal(word: &str) -> Option<u32> {
 /// A terminal's number, in decimal.
 fn terminal_of(word: &str) -> Option<Terminal> {
     let number = decimal(word)?;
-    if number < TERMINALS {
+    if number < TERMINALS as u32 {
         Some(Terminal { number })
     } else {
         None
@@ -216,7 +211,7 @@ fn tape_of(alloc: Global, words: &[&str]) -> Result<Option<ScriptTape>, AllocErr
     let Some(bytes) = bytes_of(alloc, text)? else {
         return Ok(None);
     };
-    if number < TAPES && bytes.as_slice().len() <= MOST_TAPE_BYTES {
+    if number < TAPES as u32 && bytes.as_slice().len() <= MOST_TAPE_BYTES {
         Ok(Some(ScriptTape { number, bytes }))
     } else {
         Ok(None)
@@ -283,7 +278,7 @@ fn push_tape(tapes: &mut Vec<ScriptTape>, tape: ScriptTape) -> Result<bool, Allo
 
 impl Script {
     /// Reads a script whole. Refused is the first line that has no form, is a set-up line (`program`, `image` or `tape`)
-    /// behind a line that is none, is a ninth `program` or `image` line, or is a second line for one tape; and where
+    /// after a line that is none, is a ninth `program` or `image` line, or is a second line for one tape; and where
     /// there is no such line, line 1 of a script without a `program` and an `image` line. Lines are counted from 1 and
     /// end at a line feed; empty ones and those that begin with `#` are skipped.
     pub fn parse(alloc: Global, text: &str) -> Result<Script, Fault>

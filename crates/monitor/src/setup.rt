@@ -4,10 +4,11 @@ ghost use Rattle.std.specs.List.{AllByRecursion};
 ghost use Rattle.disk_model.specs.Storage.{is_quiet};
 
 use crate::fault::Fault;
-use crate::script::{ScriptProgram, ScriptTape, Source, TAPES, Terminal, Words};
+use crate::script::{ScriptProgram, ScriptTape, Source, Terminal, Words};
 use byte_list::Bytes;
 use elf32::Image;
 use kernel::{Core, Program, SimDisk};
+use kernel_model::TAPES;
 use std::alloc::Global;
 use std::fs;
 use std::rt::Files;
@@ -88,12 +89,12 @@ impl Setup {
     }
 
     /// Boots the same once more, on this disk.
-    pub fn boot_again(&self, alloc: Global, disk: SimDisk) -> Result<Core, Fault>
-        requires { is_quiet disk ≡ true }
+    pub fn boot_again(&self, alloc: Global, device: SimDisk) -> Result<Core, Fault>
+        requires { is_quiet device ≡ true }
     {
         let programs = programs_of(alloc, self.programs.as_slice())?;
         let tapes = tapes_of(alloc, self.tapes.as_slice())?;
-        Ok(Core::boot(alloc, disk, programs, tapes)?)
+        Ok(Core::boot(alloc, device, programs, tapes)?)
     }
 }
 
@@ -136,7 +137,7 @@ fn tapes_of(alloc: Global, tapes: &[ScriptTape]) -> Result<Vec<Bytes>, Fault>
     ensures { IfOk result (λ booted. length booted.items ≡ 8) }
 {
     let mut booted = Vec::new(alloc);
-    for number in 0..TAPES {
+    for number in 0..TAPES as u32 {
         let given = tapes.iter().find(|tape| tape.number == number);
         booted.push(match given {
             Some(tape) => tape.bytes.try_clone(alloc)?,

@@ -9,10 +9,11 @@ use Rattle.kernel_model.specs.State.{PipeState, new_pipe, with_pipe, stepped}
 use Rattle.kernel_model.specs.declared.descriptor.PipeEnd.TheVariants.{Read, Write}
 use Rattle.kernel_model.specs.declared.effect.PipeStep.{PipeStep}
 use Rattle.kernel_model.specs.declared.effect.PipeStep.TheVariants.{Open, Put, Take, Add, Drop}
+use Rattle.kernel_model.proofs.Limits.{each_get, each_more, each_append, with_each}
 use Rattle.pipes.specs.Seen.{Seen, seen_of, IsWithin, Shows}
 use Rattle.pipes.specs.Stepping.{seen_with, seen_after, MayStep, HasAtMost}
 
--- one behind the first is another
+-- one after the first is another
 pipe-further : (p : PipeState) (ps : List PipeState) (k : ℕ) (f : PipeState → PipeState) (o : Option PipeState) → with_pipe (p ∷ ps) (suc k) o f ≡ p ∷ with_pipe ps k o f
 pipe-further p ps k f None = refl
 pipe-further p ps k f (Some q) = refl
@@ -32,31 +33,6 @@ shown-with (p ∷ ps) (suc k) f g same =
     ∙ ap (λ (ss : List Seen). seen_of p ∷ ss) (shown-with ps k f g same)
     ∙ ap (map seen_of) (sym (pipe-further p ps k f (slice_get ps k)))
 
--- what holds of all, if something stronger does
-all-others : (P Q : PipeState → Type 0) → ((p : PipeState) → P p → Q p) → (pipes : List PipeState) → AllByRecursion P pipes → AllByRecursion Q pipes
-all-others P Q others [] all = all
-all-others P Q others (p ∷ ps) all = (others p all.0, all-others P Q others ps all.1)
-
--- what holds of all pipes, where one is another
-all-with : (P Q : PipeState → Type 0) (pipes : List PipeState) (k : ℕ) (f : PipeState → PipeState) → ((p : PipeState) → P p → Q p)
-    → ForSome (slice_get pipes k) (λ p. P p → Q (f p))
-    → AllByRecursion P pipes → AllByRecursion Q (with_pipe pipes k (slice_get pipes k) f)
-all-with P Q [] k f others one all = all
-all-with P Q (p ∷ ps) zero f others one all = (one p refl all.0, all-others P Q others ps all.1)
-all-with P Q (p ∷ ps) (suc k) f others one all =
-    subst (AllByRecursion Q) (sym (pipe-further p ps k f (slice_get ps k))) (others p all.0, all-with P Q ps k f others one all.1)
-
--- a pipe that is there is within, if all are
-within-at : (pipes : List PipeState) (k : ℕ) → AllByRecursion IsWithin pipes → ForSome (slice_get pipes k) IsWithin
-within-at [] k all p is = absurd cc
-within-at (q ∷ qs) zero all p is = let same : q ≡ p = cc in subst IsWithin same all.0
-within-at (q ∷ qs) (suc k) all p is = within-at qs k all.1 p is
-
--- what holds of all and of one more
-all-append : (P : PipeState → Type 0) (pipes : List PipeState) (p : PipeState) → AllByRecursion P pipes → P p → AllByRecursion P (pipes ++ p ∷ [])
-all-append P [] p all is = (is, tt)
-all-append P (q ∷ qs) p all is = (all.0, all-append P qs p all.1 is)
-
 -- what holds of what is seen of a pipe
 seen-at : (pipes : List PipeState) (k : ℕ) (P : Seen → Type 0) → ForSome (slice_get (map seen_of pipes) k) P → ForSome (slice_get pipes k) (λ p. P (seen_of p))
 seen-at pipes k P holds p is = holds (seen_of p) (slice_get-map seen_of pipes k ∙ ap (option_map seen_of) is)
@@ -66,14 +42,14 @@ with-shown : (pipes : List PipeState) (k : ℕ) (f : PipeState → PipeState) (g
     → ForSome (slice_get pipes k) (λ p. IsWithin p → (seen_of (f p) ≡ g (seen_of p)) × IsWithin (f p))
     → Shows (with_pipe pipes k (slice_get pipes k) f) (seen_with (map seen_of pipes) k (slice_get (map seen_of pipes) k) g)
 with-shown pipes k f g all at = record {
-  shown = shown-with pipes k f g (λ p is. (at p is (within-at pipes k all p is)).0);
-  within = all-with IsWithin IsWithin pipes k f (λ p h. h) (λ p is within. (at p is within).1) all;
+  shown = shown-with pipes k f g (λ p is. (at p is (each_get IsWithin pipes k p all is)).0);
+  within = with_each IsWithin IsWithin pipes k (slice_get pipes k) f (λ p h. h) (λ p is within. (at p is within).1) refl all;
 }
 
 next : (pipes : List PipeState) (step : PipeStep) → AllByRecursion IsWithin pipes → MayStep (map seen_of pipes) step → Shows (stepped pipes step) (seen_after (map seen_of pipes) step)
 next pipes Open all may = record {
   shown = sym (map-append seen_of pipes (new_pipe ∷ []));
-  within = all-append IsWithin pipes new_pipe all (omega arith);
+  within = each_append IsWithin pipes (new_pipe ∷ []) all (omega arith, tt);
 }
 next pipes (Put k bytes) all may = with-shown pipes k (λ p. record p { written = p.written ++ bytes }) _ all (λ p is within. (
   ap (λ (bs : List ℕ). record { held = bs; readers = p.readers; writers = p.writers }) (drop-append-le p.taken p.written bytes within),
@@ -101,10 +77,10 @@ has-more n p has = (omega arith, omega arith)
 -- the ends of one pipe are counted anew
 more-with : (n : ℕ) (pipes : List PipeState) (k : ℕ) (f : PipeState → PipeState) → AllByRecursion (HasAtMost n) pipes
     → ((p : PipeState) → HasAtMost n p → HasAtMost (n + 1) (f p)) → AllByRecursion (HasAtMost (n + 1)) (with_pipe pipes k (slice_get pipes k) f)
-more-with n pipes k f all one = all-with (HasAtMost n) (HasAtMost (n + 1)) pipes k f (has-more n) (λ p is has. one p has) all
+more-with n pipes k f all one = with_each (HasAtMost n) (HasAtMost (n + 1)) pipes k (slice_get pipes k) f (has-more n) (λ p is has. one p has) refl all
 
 pub grow-by-one : (n : ℕ) (pipes : List PipeState) (step : PipeStep) → AllByRecursion (HasAtMost n) pipes → AllByRecursion (HasAtMost (n + 1)) (stepped pipes step)
-grow-by-one n pipes Open all = all-append (HasAtMost (n + 1)) pipes new_pipe (all-others (HasAtMost n) (HasAtMost (n + 1)) (has-more n) pipes all) (omega arith, omega arith)
+grow-by-one n pipes Open all = each_append (HasAtMost (n + 1)) pipes (new_pipe ∷ []) (each_more (HasAtMost n) (HasAtMost (n + 1)) (has-more n) pipes all) ((omega arith, omega arith), tt)
 grow-by-one n pipes (Put k bytes) all = more-with n pipes k _ all (has-more n)
 grow-by-one n pipes (Take k count) all = more-with n pipes k _ all (has-more n)
 grow-by-one n pipes (Add (Read k)) all = more-with n pipes k _ all (λ p has. (omega arith, omega arith))

@@ -75,19 +75,19 @@ impl Pipe {
     }
 
     /// A copy of the first n bytes that the pipe holds, or of all where it holds fewer. The pipe keeps them.
-    pub fn front(&self, alloc: Global, n: usize) -> Result<Bytes, AllocError>
+    pub fn prefix(&self, alloc: Global, n: usize) -> Result<Bytes, AllocError>
         ensures { IfOk result (λ bytes. bytes ≡ take n self.now.held) }
     {
-        let (front, back) = self.ring.as_slices();
-        let from_front = n.min(front.len());
-        let from_back = (n - from_front).min(back.len());
+        let (first, second) = self.ring.as_slices();
+        let from_first = n.min(first.len());
+        let from_second = (n - from_first).min(second.len());
         let mut bytes = Vec::with_capacity(alloc, n.min(self.held()))?;
-        bytes.extend_from_slice(&front[..from_front])?;
-        bytes.extend_from_slice(&back[..from_back])?;
+        bytes.extend_from_slice(&first[..from_first])?;
+        bytes.extend_from_slice(&second[..from_second])?;
         Ok(Bytes::new(bytes))
     }
 
-    /// These bytes are written behind those that the pipe holds.
+    /// These bytes are written after those that the pipe holds.
     pub(crate) fn put(&mut self, bytes: &[u8])
         requires { length self.old.held + length bytes.now ≤ pipe_size }
         ensures { self.new ≡ record self.old { held = self.old.held ++ bytes.now } }

@@ -24,7 +24,7 @@ fn write(rt: &impl Abort, pipes: &mut PipeTable, pipe: u32, bytes: &[u8]) {
 
 /// Reads at most n bytes.
 fn read(alloc: Global, pipes: &mut PipeTable, pipe: u32, n: usize) -> Result<Bytes, Fail> {
-    let bytes = pipes.get(pipe).ok_or("no such pipe")?.front(alloc, n)?;
+    let bytes = pipes.get(pipe).ok_or("no such pipe")?.prefix(alloc, n)?;
     pipes.take(pipe, bytes.as_slice().len());
     Ok(bytes)
 }

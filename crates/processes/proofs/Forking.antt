@@ -48,9 +48,9 @@ parts_of-fork (suc k) j es parts e new child kept from_1 placed there read made 
     let within : j < length parts = omega arith in
     let place : j ≡ k = same_place k j placed in
     let here : slice_get parts k ≡ Some e.part = rw (← place) (slice_get-parts j es parts e kept within read) in
-    let front : parts_of (slice_set es j new) ≡ slice_set parts k (with_child (length parts + 1) e.part) =
+    let prefix : parts_of (slice_set es j new) ≡ slice_set parts k (with_child (length parts + 1) e.part) =
     rw (← place) (parts_of-set j es parts new (with_child (length parts + 1) e.part) kept made) in
     map-append (λ (x : Entry). x.part) (slice_set es j new) (child ∷ [])
-    ∙ ap (λ (ps : List Part). ps ++ child.part ∷ []) front
+    ∙ ap (λ (ps : List Part). ps ++ child.part ∷ []) prefix
     ∙ ap (λ (q : Part). slice_set parts k (with_child (length parts + 1) e.part) ++ q ∷ []) born
     ∙ rw here refl

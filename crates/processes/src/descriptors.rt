@@ -1,6 +1,6 @@
 //! The descriptors of a process.
 ghost use Rattle.std.specs.Prelude.{◌≡◌, ◌+◌, ◌<◌, ◌∷◌, length, map, replicate, slice_set, IfSome};
-ghost use Rattle.kernel_model.specs.Rows.{descriptor_at, free_behind, free_descriptor};
+ghost use Rattle.kernel_model.specs.Rows.{descriptor_at, free_after, free_descriptor};
 ghost use Rattle.kernel_model.specs.declared.descriptor.Descriptor.TheVariants.{Tape, Terminal};
 
 use kernel_model::{Descriptor, Slot};
@@ -68,15 +68,15 @@ impl Descriptors {
         first_free(&self.slots)
     }
 
-    /// The least free descriptor behind this one.
-    pub fn free_behind(&self, fd: usize) -> Option<usize>
+    /// The least free descriptor after this one.
+    pub fn free_after(&self, fd: usize) -> Option<usize>
         requires { fd < 16 }
-        ensures least { result ≡ free_behind self.now (Some fd) }
+        ensures least { result ≡ free_after self.now (Some fd) }
         ensures below { IfSome result (λ other. other < 16) }
     {
-        let behind = fd + 1;
-        let further = first_free(&self.slots[behind..])?;
-        Some(behind + further)
+        let after = fd + 1;
+        let further = first_free(&self.slots[after..])?;
+        Some(after + further)
     }
 
     /// A descriptor stands for something else from now on; nothing changes where there is none of the number.

@@ -10,6 +10,7 @@ mod damaged_disk;
 mod faulty_output;
 mod hex_parts;
 mod kernel_calls;
+mod lost_arguments;
 mod notation;
 mod running;
 mod sessions;
@@ -51,5 +52,7 @@ fn main(rt: HostRuntime) -> Result<(), Error> {
     println!(rt; "outputs that take one write or none")?;
     damaged_disk::check(rt.alloc())?;
     println!(rt; "a disk that cannot be read")?;
+    lost_arguments::check(rt.alloc())?;
+    println!(rt; "arguments that cannot be read")?;
     Ok(())
 }

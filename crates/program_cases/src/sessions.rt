@@ -3,8 +3,8 @@
 //! A line begins with its mark:
 //! - `$ WORDS`: the program is run with these words. After it, on lines of their own: `< TEXT`, a line of its input;
 //!   `<< N TEXT`, this text N times, without a line's end; `> TEXT`, a line that it prints; `>*`, whatever it prints;
-//!   `! STATUS TEXT`, its status, and its line on standard error; `! STATUS`, its status, and something there. A run
-//!   without `!` ends with status 0 and says nothing on standard error.
+//!   `! STATUS TEXT`, its status, and its line on standard error, with `!! TEXT` for each line after it; `! STATUS`, its
+//!   status, and something there. A run without `!` ends with status 0 and says nothing on standard error.
 //! - `file NAME`, and lines `| TEXT` after it: a file of these lines is written; `bytes NAME PARTS`: one of these bytes,
 //!   in hexadecimal, as `41+00*3`, or of none for `-`; `remove NAME`: it is removed;
 //! - `holds NAME PARTS`: the file has these bytes; `missing NAME`: there is no such file.
@@ -111,6 +111,15 @@ impl Run {
         Ok(())
     }
 
+    /// One more line is to be on standard error.
+    fn want_said(&mut self, text: &str) -> Result<(), Error> {
+        if let Some(err) = &mut self.err {
+            err.push_str(text)?;
+            err.push_str("\n")?;
+        }
+        Ok(())
+    }
+
     /// Reads a line that says more of the run, by its mark; answers whether it does.
     fn read(&mut self, alloc: Global, mark: &str, text: &str) -> Result<bool, Error> {
         match mark {
@@ -119,6 +128,7 @@ impl Run {
             ">" => self.want_line(text)?,
             ">*" => self.out = None,
             "!" => self.want_end(alloc, text)?,
+            "!!" => self.want_said(text)?,
             _ => return Ok(false),
         }
         Ok(true)

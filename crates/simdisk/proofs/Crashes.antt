@@ -2,12 +2,13 @@
 use Rattle.std.proofs.Common.{◌≡◌, ℕ, zero, suc, ◌+◌, ◌<◌, ◌≤◌, ◌%◌, Bool, true, false, List, [], ◌∷◌, ◌++◌, length, get_or, refl, sym, ap, subst, ◌∙◌, append_assoc, arith, inl, inr}
 use Rattle.std.specs.Prelude.{◌||◌, ◌&&◌, nat_le, nat_lt, if◌then◌else◌}
 use Rattle.std.specs.List.{AllByRecursion}
-use Rattle.std.proofs.lemmas.Bool.{leb-true, le-leb, ltb-true, lt-ltb}
+use Rattle.std.proofs.lemmas.Bool.{and_parts, leb-true, le-leb, ltb-true, lt-ltb}
 use Rattle.std.proofs.lemmas.List.{length-append}
+use Rattle.std.proofs.Math.Bool.{or-true}
 use Rattle.std.proofs.Math.Nat.{mod-eq_of_lt}
 use Rattle.std.proofs.Math.Seq.{get_or-append_seam}
 use Rattle.disk_model.specs.declared.change.Piece.{Piece}
-use Rattle.disk_model.specs.Storage.{Drive, is_empty}
+use Rattle.disk_model.specs.Storage.{Device, is_empty}
 use Rattle.disk_model.specs.Crash.{InRange, IsCrashOf}
 use Rattle.simdisk.specs.Room.{in_range, filled, crashed}
 
@@ -16,12 +17,8 @@ use Rattle.simdisk.specs.Room.{in_range, filled, crashed}
 abbrev is_within : Piece → ℕ → Bool
 is_within p i = nat_le p.at i && nat_lt i (p.at + length p.bytes)
 
-both_true : (a b : Bool) → (a && b) ≡ true → (a ≡ true) × (b ≡ true)
-both_true true b e = (refl, e)
-both_true false b e = absurd cc
-
 within_of : (p : Piece) (i : ℕ) → is_within p i ≡ true → (p.at ≤ i) × (i < p.at + length p.bytes)
-within_of p i e = let both = both_true (nat_le p.at i) (nat_lt i (p.at + length p.bytes)) e in (leb-true p.at i both.0, ltb-true i (p.at + length p.bytes) both.1)
+within_of p i e = let both = and_parts (nat_le p.at i) (nat_lt i (p.at + length p.bytes)) e in (leb-true p.at i both.0, ltb-true i (p.at + length p.bytes) both.1)
 
 within_true : (p : Piece) (i : ℕ) → (p.at ≤ i) × (i < p.at + length p.bytes) → is_within p i ≡ true
 within_true p i h =
@@ -35,14 +32,10 @@ in_of (p ∷ ps) i e = go (is_within p i) refl e (in_of ps i)
     go true w h rest = inl (within_of p i w)
     go false w h rest = inr (rest h)
 
-or_true : (b : Bool) → (b || true) ≡ true
-or_true true = refl
-or_true false = refl
-
 in_true : (ps : List Piece) (i : ℕ) → InRange ps i → in_range ps i ≡ true
 in_true [] i h = absurd h
 in_true (p ∷ ps) i (inl h) = ap (λ (b : Bool). b || in_range ps i) (within_true p i h)
-in_true (p ∷ ps) i (inr h) = ap (λ (b : Bool). is_within p i || b) (in_true ps i h) ∙ or_true (is_within p i)
+in_true (p ∷ ps) i (inr h) = ap (λ (b : Bool). is_within p i || b) (in_true ps i h) ∙ or-true (is_within p i)
 
 out_of : (ps : List Piece) (i : ℕ) → (InRange ps i → ⊥) → in_range ps i ≡ false
 out_of ps i out = go (in_range ps i) refl
@@ -76,14 +69,14 @@ filled_same ps fill i k (b ∷ bytes) (suc n) out =
       | false ↦ filled_same ps fill (i + 1) k bytes n further
     ]
 
-crash_by : (v : Drive) (fill : List ℕ) (b : Bool) → IsCrashOf v (if b then v.disk else filled (v.in_flight ++ v.failed) fill 0 0 v.disk)
+crash_by : (v : Device) (fill : List ℕ) (b : Bool) → IsCrashOf v (if b then v.disk else filled (v.in_flight ++ v.failed) fill 0 0 v.disk)
 crash_by v fill true = record { size = refl; same = λ i out. refl }
 crash_by v fill false = record {
   size = filled_length (v.in_flight ++ v.failed) fill 0 0 v.disk;
   same = λ i out. filled_same (v.in_flight ++ v.failed) fill 0 0 v.disk i (λ h. out (subst (InRange (v.in_flight ++ v.failed)) (let e : 0 + i ≡ i = omega arith in e) h));
 }
 
-pub crash_of : (v : Drive) (fill : List ℕ) → IsCrashOf v (crashed v fill)
+pub crash_of : (v : Device) (fill : List ℕ) → IsCrashOf v (crashed v fill)
 crash_of v fill = crash_by v fill (is_empty fill)
 
 -- ---- a fill that leaves it
@@ -150,7 +143,7 @@ none_picked ps i (b ∷ bytes) (x ∷ left) none long agree =
     go true e f rest = absurd cc
     go false e f rest = ap (λ (y : ℕ). y ∷ bytes) (sym (agree_first ps i b x bytes left agree e)) ∙ ap (λ (l : List ℕ). x ∷ l) (rest f)
 
-pub fill_of : (v : Drive) (left : List ℕ) → IsCrashOf v left → AllByRecursion (λ b. b < 256) left → (fill : List ℕ) × AllByRecursion (λ b. b < 256) fill × (crashed v fill ≡ left)
+pub fill_of : (v : Device) (left : List ℕ) → IsCrashOf v left → AllByRecursion (λ b. b < 256) left → (fill : List ℕ) × AllByRecursion (λ b. b < 256) fill × (crashed v fill ≡ left)
 fill_of v left crash all =
     let ps = v.in_flight ++ v.failed in (picked ps 0 left, picked_bytes ps 0 left all, go (picked ps 0 left) refl)
   where

@@ -43,15 +43,15 @@ filled_on ps fill i k m bytes next total e f h =
     ap (λ (l : List ℕ). take (i + 1) l ++ filled ps fill (i + 1) m (drop (i + 1) l)) e
     ∙ ap (λ (n : ℕ). take (i + 1) bytes ++ filled ps fill (i + 1) n (drop (i + 1) bytes)) f ∙ h
 
--- ---- places before and behind all ranges
+-- ---- places before and after all ranges
 
 -- no place before the n-th is in a range
-pub filled_front : (ps : List Piece) (fill : List ℕ) (i n : ℕ) (bytes : List ℕ) → ((m : ℕ) → m < n → in_range ps (i + m) ≡ false)
+pub filled_prefix : (ps : List Piece) (fill : List ℕ) (i n : ℕ) (bytes : List ℕ) → ((m : ℕ) → m < n → in_range ps (i + m) ≡ false)
     → take n bytes ++ filled ps fill (i + n) 0 (drop n bytes) ≡ filled ps fill i 0 bytes
-filled_front ps fill i zero bytes outside = ap (λ (j : ℕ). filled ps fill j 0 bytes) (let e : i + 0 ≡ i = omega arith in e)
-filled_front ps fill i (suc n) [] outside = refl
-filled_front ps fill i (suc n) (b ∷ bytes) outside =
-    let rest = filled_front ps fill (i + 1) n bytes (λ m lt. ap (in_range ps) (let e : i + 1 + m ≡ i + suc m = omega arith in e) ∙ outside (suc m) (omega arith)) in
+filled_prefix ps fill i zero bytes outside = ap (λ (j : ℕ). filled ps fill j 0 bytes) (let e : i + 0 ≡ i = omega arith in e)
+filled_prefix ps fill i (suc n) [] outside = refl
+filled_prefix ps fill i (suc n) (b ∷ bytes) outside =
+    let rest = filled_prefix ps fill (i + 1) n bytes (λ m lt. ap (in_range ps) (let e : i + 1 + m ≡ i + suc m = omega arith in e) ∙ outside (suc m) (omega arith)) in
     let here : in_range ps i ≡ false = ap (in_range ps) (let e : i ≡ i + 0 = omega arith in e) ∙ outside 0 (omega arith) in
     ap (λ (j : ℕ). b ∷ (take n bytes ++ filled ps fill j 0 (drop n bytes))) (let e : i + suc n ≡ i + 1 + n = omega arith in e)
     ∙ ap (λ (l : List ℕ). b ∷ l) rest

@@ -1,2 +1,3 @@
 -- The definitions.
 pub mod Room
+pub mod Refusals

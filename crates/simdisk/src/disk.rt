@@ -1,6 +1,6 @@
-//! The disk and its writes.
+//! The device: a disk, and the writes to it.
 ghost use Rattle.std.specs.Prelude.{◌≡◌, is_some, ◌≤◌, ◌+◌, ◌==◌, ◌↔◌, ◌⊎◌, None, not, false, true, ℕ, IfOk, IfErr, OnOk, OnErr, slice_index, Ok, Err, IsErrOf, MatchOption, length, [], ◌∷◌, ◌++◌};
-ghost use Rattle.disk_model.specs.Storage.{Drive, piece_at, sent, with_completion, with_failure, is_quiet, is_empty, least_start};
+ghost use Rattle.disk_model.specs.Storage.{Device, piece_at, sent, with_completion, with_failure, is_quiet, is_empty, least_start};
 ghost use Rattle.disk_model.specs.Runs.{quiet};
 ghost use Rattle.simdisk.specs.Room.{has_room, crashed, AreSpaced};
 ghost use Rattle.simdisk.specs.declared.refusal.DiskRefusal.TheVariants.{NoSuchWrite, OutOfRange, OutOfMemory, BadLength};
@@ -31,10 +31,10 @@ pub struct SimDisk {
 
 impl Model for SimDisk {
     ghost use Rattle.std.specs.Prelude.{◌≡◌, length};
-    ghost use Rattle.disk_model.specs.Storage.{Drive};
+    ghost use Rattle.disk_model.specs.Storage.{Device};
     ghost use Rattle.simdisk.specs.Room.{LieOn};
 
-    ghost Value = { Drive };
+    ghost Value = { Device };
 
     ghost view = { λ s. record { disk = s.bytes.items; in_flight = s.in_flight.items; failed = s.failed.items } };
 
@@ -207,25 +207,25 @@ mod tests {
     #[test]
     fn writes_of_a_disk(rt: HostRuntime) -> Result<(), Fail> {
         let alloc = rt.alloc();
-        let mut disk = SimDisk::zero(alloc)?;
-        disk.submit(70, b"abc")?;
-        disk.submit(64, b"de")?;
+        let mut device = SimDisk::zero(alloc)?;
+        device.submit(70, b"abc")?;
+        device.submit(64, b"de")?;
         for (at, bytes) in [(65, b"x".as_slice()), (70, b""), (2097151, b"xy")] {
             assert_eq!(rt;
-                disk.submit(at, bytes),
+                device.submit(at, bytes),
                 Err(DiskRefusal::OutOfRange),
                 "at {at}"
             );
         }
-        assert_eq!(rt; disk.in_flight(), Some(64));
-        assert!(rt; disk.is_in_flight(70) && !disk.is_in_flight(71));
-        disk.complete(64)?;
-        assert_eq!(rt; disk.complete(64), Err(DiskRefusal::NoSuchWrite));
-        disk.fail(70)?;
-        assert_eq!(rt; disk.fail(70), Err(DiskRefusal::NoSuchWrite));
-        assert!(rt; disk.has_failed());
-        disk.submit(60, b"fg")?;
-        let crashed = disk.crash(b"123");
+        assert_eq!(rt; device.in_flight(), Some(64));
+        assert!(rt; device.is_in_flight(70) && !device.is_in_flight(71));
+        device.complete(64)?;
+        assert_eq!(rt; device.complete(64), Err(DiskRefusal::NoSuchWrite));
+        device.fail(70)?;
+        assert_eq!(rt; device.fail(70), Err(DiskRefusal::NoSuchWrite));
+        assert!(rt; device.has_failed());
+        device.submit(60, b"fg")?;
+        let crashed = device.crash(b"123");
         assert!(rt; crashed.quiet());
         assert_eq!(rt;
             &crashed.bytes()[59..74],
@@ -237,7 +237,7 @@ mod tests {
         assert_eq!(rt; kept.bytes()[64], b'd');
         match SimDisk::open(alloc, b"short") {
             Ok(_) => assert!(rt; false, "a short disk was opened"),
-            Err(refusal) => assert_eq!(rt; refusal as u8, 4),
+            Err(refusal) => assert_eq!(rt; refusal.number(), 4),
         }
         Ok(())
     }

@@ -1,4 +1,4 @@
-//! A disk of events: what is submitted, what is complete, what has failed, and what a crash leaves.
+//! The simulated disk: what is submitted, what is complete, what has failed, and what a crash leaves.
 #![tactic(auto)]
 
 mod disk;

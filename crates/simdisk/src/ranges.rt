@@ -97,7 +97,7 @@ fn range_end(pieces: &[Piece]) -> usize
     end
 }
 
-/// Gives each byte in the range of a piece, by rising place, the next byte of the fill, which begins again behind its end.
+/// Gives each byte in the range of a piece, by rising place, the next byte of the fill, which begins again after its last.
 pub fn fill_ranges(disk: &mut [u8], in_flight: &[Piece], failed: &[Piece], fill: &[u8])
     requires { 1 ≤ length fill.now }
     ensures { disk.new ≡ filled (in_flight.now ++ failed.now) fill.now 0 0 disk.old }

@@ -1,5 +1,6 @@
-//! Why a call of a disk is refused.
+//! Why a call of a device is refused.
 ghost use Rattle.std.specs.Prelude.{◌≡◌};
+ghost use Rattle.simdisk.specs.Refusals.{number_of};
 ghost use Rattle.simdisk.specs.declared.refusal.DiskRefusal.TheVariants.{OutOfMemory};
 
 use std::alloc::{AllocError, AllocFailed};
@@ -20,6 +21,15 @@ pub enum DiskRefusal {
     /// A disk of other than 2,097,152 bytes.
     #[error("a disk has 2,097,152 bytes")]
     BadLength = 4,
+}
+
+impl DiskRefusal {
+    /// Its number, 1 to 4.
+    pub fn number(self) -> u8
+        ensures { result ≡ number_of self }
+    {
+        self as u8
+    }
 }
 
 impl From<AllocError> for DiskRefusal {

@@ -11,6 +11,6 @@ returns c b es held programs tapes =
       change = c.made_files_change.ensures;
       rebuilt = c.checkpoints_fit.ensures;
       bytes = c.made_files_hold_bytes.ensures;
-      possible = λ files first behind f g. (c.changes_come_in_turn.ensures.possible files first behind).1 (f, g);
+      possible = λ files first after f g. (c.changes_come_in_turn.ensures.possible files first after).1 (f, g);
     } in
     crash_keeps laws b es held programs tapes

@@ -1,5 +1,5 @@
 -- The disk's law, at the moves that the events are.
-use Rattle.kernel_model.specs.World.{begun, after}
+use Rattle.kernel_model.specs.World.{first_world, after}
 use Rattle.kernel_laws.proofs.Groups.{run_orderly, failed_uncommitted}
 use Rattle.kernel_laws.proofs.groups_in_flight.Goals as goal
 
@@ -9,5 +9,5 @@ returns c = record {
   none = λ b es. (run_orderly c.runs_are_orderly.ensures b es).none;
   more = λ b es. (run_orderly c.runs_are_orderly.ensures b es).more;
   most = λ b es. (run_orderly c.runs_are_orderly.ensures b es).most;
-  failed = λ b es. failed_uncommitted (after (begun b) es) (run_orderly c.runs_are_orderly.ensures b es);
+  failed = λ b es. failed_uncommitted (after (first_world b) es) (run_orderly c.runs_are_orderly.ensures b es);
 }

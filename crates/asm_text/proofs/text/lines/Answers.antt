@@ -29,6 +29,6 @@ pub loop-lines-preserved : goal.loop-lines-preserved
 loop-lines-preserved c =
     let count : c.len.result ≡ length c.loop-lines.lines.items = search (rules, c.len.ensures) in
     let line = subst (λ (n : ℕ). IsLine (n + 1) c.loop-lines.start c.split_at.result.0.now c.in_ok-read.read) count c.in_ok-read.ensures in
-    let behind = c.split_at.result.1.now in
-    lines_further c.loop-lines.invariant _ _ _ c.line_len.ensures.value c.split_at.ensures.front c.split_at.ensures.back _ _ (get_or behind 0 0) _ _ line c.in_ok-push.ensures.items
-    (with_first behind c.in-len1-up.len_at_least ∙ ap (λ (l : List ℕ). get_or behind 0 0 ∷ l) (sym (all_but_first behind))) refl
+    let after = c.split_at.result.1.now in
+    lines_further c.loop-lines.invariant _ _ _ c.line_len.ensures.value c.split_at.ensures.front c.split_at.ensures.back _ _ (get_or after 0 0) _ _ line c.in_ok-push.ensures.items
+    (with_first after c.in-len1-up.len_at_least ∙ ap (λ (l : List ℕ). get_or after 0 0 ∷ l) (sym (all_but_first after))) refl

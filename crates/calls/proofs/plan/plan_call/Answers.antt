@@ -3,6 +3,7 @@ use Rattle.std.proofs.Common.{◌≡◌, ℕ, List, Option, IfOk, IfSome, subst,
 use Rattle.std.proofs.lemmas.List.{length-map}
 use Rattle.kernel_model.specs.Rows.{Effect, row}
 use Rattle.kernel_model.specs.declared.descriptor.Descriptor.{Descriptor}
+use Rattle.kernel_model.proofs.Asked.{IsAsked, asked_by}
 use Rattle.processes.specs.Parts.{Part, part_at, descriptors_in, children_in, statuses_of}
 use Rattle.calls.specs.declared.plan.Plan.{Plan}
 use Rattle.calls.specs.Plans.{IsPlan, IsNext}
@@ -10,7 +11,6 @@ use Rattle.calls.specs.Shares.{shared_of}
 use Rattle.calls.proofs.Sound.{Kept, IsSound, named-after}
 use Rattle.calls.proofs.Seeing.{row-kept}
 use Rattle.calls.proofs.Stepping.{few-shown}
-use Rattle.calls.proofs.Fitting.{FitsIn, request-fits}
 use Rattle.calls.proofs.Planned.{effect_of, planned, if_planned, carried, edits-as}
 use Rattle.calls.proofs.plan.plan_call.Goals as goal
 
@@ -58,7 +58,7 @@ returns-clause-few c =
     if_planned c.plan_row.result _ _ (λ (plan : Plan) sound. sound.few (omega (arith, size, c.descriptors_of-descriptors.ensures.few))) (sound-of c)
 
 pub returns-clause-edits : goal.returns-clause-edits
-returns-clause-edits c = if_planned c.plan_row.result _ _ (λ (plan : Plan) sound. edits-as plan plan.told sound.edits) (sound-of c)
+returns-clause-edits c = if_planned c.plan_row.result _ _ (λ (plan : Plan) sound. edits-as plan plan.verdict sound.edits) (sound-of c)
 
 pub returns-clause-possible : goal.returns-clause-possible
 unfolding kept-of
@@ -91,4 +91,4 @@ pub returns-clause-place : goal.returns-clause-place
 unfolding kept-of
 returns-clause-place c =
     if_planned c.plan_row.result _ _
-    (λ (plan : Plan) sound. λ s asked. sound.placed s.hart.memory (subst (FitsIn s.hart.memory) (sym asked) (request-fits s))) (sound-of c)
+    (λ (plan : Plan) sound. λ s asked. sound.placed s.hart.memory (subst (IsAsked s.hart.memory) (sym asked) (asked_by s))) (sound-of c)

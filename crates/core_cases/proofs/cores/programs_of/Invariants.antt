@@ -1,7 +1,7 @@
 -- A program for each of the sources so far, with its terminal.
 use Rattle.std.proofs.Common.{◌≡◌, ◌<◌, length}
 use Rattle.std.specs.List.{AllByRecursion}
-use Rattle.kernel.specs.declared.boot.Program.{Program}
+use Rattle.kernel_step.specs.declared.booting.Program.{Program}
 use Rattle.core_cases.proofs.cores.programs_of.Given as goal
 
 abbrev pub invariant-loop-source : goal.invariant-loop-source

@@ -5,6 +5,6 @@ use Rattle.disk_model.proofs.laws.changes_come_in_turn.Goals as goal
 pub returns : goal.returns
 returns c = record {
   files = files_after-append;
-  possible = λ files first behind. (follow_split files first behind, λ h. follow_both files first behind h.0 h.1);
+  possible = λ files first later. (follow_split files first later, λ h. follow_both files first later h.0 h.1);
   made = made_after;
 }

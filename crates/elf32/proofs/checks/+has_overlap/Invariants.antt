@@ -1,4 +1,4 @@
--- Each call has one segment less.
+-- Each call has one segment fewer.
 use Rattle.std.proofs.Common.{length}
 use Rattle.elf32.proofs.checks.+has_overlap.Given as goal
 

@@ -1,4 +1,4 @@
--- The number is read behind the bytes before it.
+-- The number is read after the bytes before it.
 use Rattle.std.proofs.lemmas.List.{take_rest}
 use Rattle.elf32.specs.Fields.{half_at}
 use Rattle.elf32.proofs.Numbers.{number_at-drop}

@@ -3,7 +3,8 @@ use Rattle.std.proofs.Common.{◌++◌, ◌∷◌, [], ◌+◌, List, ℕ, lengt
 use Rattle.std.proofs.lemmas.List.{length-drop}
 use Rattle.disk_model.specs.declared.change.Piece.{Piece}
 use Rattle.disk_model.specs.Storage.{pieces, pieces_from}
-use Rattle.group_commit.proofs.Parts.{part, pieces_first, pieces_more, some_of}
+use Rattle.disk_model.proofs.Lists.{some_of}
+use Rattle.group_commit.proofs.Parts.{part, pieces_first, pieces_more}
 use Rattle.group_commit.proofs.pieces.pieces_of.Goals as goal
 
 pub loop-rest-init : goal.loop-rest-init

@@ -4,7 +4,8 @@ use Rattle.std.proofs.lemmas.List.{length-drop}
 use Rattle.disk_model.specs.declared.change.Change.{Change}
 use Rattle.disk_model.specs.declared.change.Change.TheVariants.{Write}
 use Rattle.disk_model.specs.Rebuild.{writes_from}
-use Rattle.journal.proofs.Checkpoints.{writes_more, some_of}
+use Rattle.disk_model.proofs.Lists.{some_of}
+use Rattle.journal.proofs.Checkpoints.{writes_more}
 use Rattle.journal.proofs.rebuilding.push_writes.Goals as goal
 
 pub loop-rest-preserved : goal.loop-rest-preserved

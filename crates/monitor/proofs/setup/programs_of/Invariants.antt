@@ -1,7 +1,7 @@
 -- A program for each of the kept ones so far, with its terminal.
 use Rattle.std.proofs.Common.{◌≡◌, ◌<◌, length}
 use Rattle.std.specs.List.{AllByRecursion}
-use Rattle.kernel.specs.declared.boot.Program.{Program}
+use Rattle.kernel_step.specs.declared.booting.Program.{Program}
 use Rattle.monitor.proofs.setup.programs_of.Given as goal
 
 abbrev pub invariant-loop-program : goal.invariant-loop-program

@@ -1,7 +1,7 @@
 -- What is kept and what is booted have one program for each of the script's so far, with its terminal.
 use Rattle.std.proofs.Common.{◌≡◌, ◌<◌, length}
 use Rattle.std.specs.List.{AllByRecursion}
-use Rattle.kernel.specs.declared.boot.Program.{Program}
+use Rattle.kernel_step.specs.declared.booting.Program.{Program}
 use Rattle.monitor.proofs.setup.read_programs.Given as goal
 
 abbrev pub invariant-loop-program : goal.invariant-loop-program

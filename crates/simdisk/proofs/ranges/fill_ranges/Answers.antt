@@ -1,7 +1,7 @@
--- The bytes before all ranges, one more byte, in a range or not, and the bytes behind all ranges.
+-- The bytes before all ranges, one more byte, in a range or not, and the bytes after all ranges.
 use Rattle.std.proofs.Common.{◌≡◌, ℕ, refl, sym, ap, ◌∙◌, arith, length, take, drop, false, ◌+◌, ◌<◌, ◌++◌}
 use Rattle.simdisk.specs.Room.{in_range, filled}
-use Rattle.simdisk.proofs.Filling.{fill_byte, keep_byte, filled_on, filled_front, filled_end, in_neither}
+use Rattle.simdisk.proofs.Filling.{fill_byte, keep_byte, filled_on, filled_prefix, filled_end, in_neither}
 use Rattle.simdisk.proofs.ranges.fill_ranges.Goals as goal
 use Rattle.simdisk.proofs.ranges.fill_ranges.Goals.{then-is_in_either, else-is_in_either}
 
@@ -31,7 +31,7 @@ loop-place-init c =
       few = omega arith;
       whole =
           ap (λ (k : ℕ). take start c.args.disk.now ++ filled ps c.args.fill.now k 0 (drop start c.args.disk.now)) (let e : start ≡ 0 + start = omega arith in e)
-          ∙ filled_front ps c.args.fill.now 0 start c.args.disk.now outside;
+          ∙ filled_prefix ps c.args.fill.now 0 start c.args.disk.now outside;
     }
 
 pub returns : goal.returns

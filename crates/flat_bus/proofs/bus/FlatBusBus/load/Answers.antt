@@ -1,4 +1,4 @@
--- What a load answers: that the address is behind the bytes, or what they spell.
+-- What a load answers: that the address is past the bytes, or what they spell.
 use Rattle.std.proofs.Common.{rules, ◌≡◌, ◌<◌, ◌≤◌, ◌%◌, ◌==◌, length, true, sym, ap, ◌∙◌, arith}
 use Rattle.machine_model.specs.Access.{size, or_fault, value_at, to_read}
 use Rattle.flat_bus.specs.Bytes.{memory_of_bytes}

@@ -7,7 +7,7 @@ use Rattle.disk_model.specs.Held.{start_of}
 use Rattle.disk_model.specs.Spelling.{body_of, record_of}
 use Rattle.disk_model.specs.Storage.{Storage, pieces, one_byte, selector}
 use Rattle.group_commit.specs.Stages.{items_of}
-use Rattle.group_commit.proofs.Begun.{checkpoint_begins}
+use Rattle.group_commit.proofs.Planning.{checkpoint_begins}
 use Rattle.group_commit.proofs.committer.Committer.checkpoint_plan.Goals as goal
 
 pub returns-clause-ok : goal.returns-clause-ok
@@ -35,5 +35,5 @@ returns-clause-ok c =
     (ap (λ (h : Bool). not h) half_is)
     (ap (λ (k : ℕ). k + 5 + c.len-2.result) gate_is ∙ ap (λ (k : ℕ). start_of (not c.args.self.now.half) + 5 + k) (c.len-2.ensures ∙ bytes_size ∙ ap (λ (l : List ℕ). length l) c.in_ok-bytes.ensures))
     refl
-    c.in_ok-committed.ensures.ok
+    c.raised-committed.ensures
     c.requires.room

@@ -6,7 +6,7 @@ use Rattle.disk_model.specs.declared.change.Piece.{Piece}
 use Rattle.disk_model.specs.Spelling.{record_of}
 use Rattle.disk_model.specs.Storage.{Storage, pieces, one_byte}
 use Rattle.group_commit.specs.Stages.{items_of}
-use Rattle.group_commit.proofs.Begun.{group_begins}
+use Rattle.group_commit.proofs.Planning.{group_begins}
 use Rattle.group_commit.proofs.committer.Committer.group_plan.Goals as goal
 
 pub returns-clause-ok : goal.returns-clause-ok
@@ -23,5 +23,5 @@ returns-clause-ok c =
     (ap (λ (st : Storage). st.half) c.self.view_is)
     (ap (λ (k : ℕ). k + 5 + length c.args.bytes.now) gate_is ∙ ap (λ (l : List ℕ). c.args.self.now.gate + 5 + length l) c.requires.body)
     refl
-    c.in_ok-committed.ensures.ok
+    c.raised-committed.ensures
     c.requires.room

@@ -4,7 +4,7 @@ use Rattle.machine_model.specs.States.{state, hart, stands_at}
 use Rattle.machine.specs.Tables.{AllMatch}
 use Rattle.machine.specs.declared.table.Table.{Table}
 use Rattle.machine.proofs.Keeping.{matches-kept}
-use Rattle.machine.proofs.Limits.{ran-is_run}
+use Rattle.machine.proofs.Limits.{reached_at-is_run}
 use Rattle.machine.proofs.machine.Machine.run.Goals as goal
 
 pub run_tables-done-requires : goal.run_tables-done-requires
@@ -16,9 +16,9 @@ pub invariant_of-self : goal.invariant_of-self
 invariant_of-self c = λ i table is. matches-kept table.first table.slots.items c.self.inside.space c.run_tables-done.new.space c.run_tables-done.ensures.kept (c.self.invariant i table is)
 
 pub returns-clause-limit : goal.returns-clause-limit
-returns-clause-limit c = (ran-is_run c.args.max _ _ (c.run_tables-done.ensures.run c.self.inside.count)).limit
+returns-clause-limit c = (reached_at-is_run c.args.max _ _ (c.run_tables-done.ensures.run c.self.inside.count)).limit
 
 pub returns-clause-standing : goal.returns-clause-standing
 returns-clause-standing c =
     λ stopped. subst (λ (n : ℕ). stands_at (state (hart c.run_tables-done.new.regs.x c.run_tables-done.new.regs.pc c.run_tables-done.new.space) (c.self.inside.count + n)) ≡ Some c.run_tables-done.result.1) (sym c.from.ensures)
-    ((ran-is_run c.args.max _ _ (c.run_tables-done.ensures.run c.self.inside.count)).standing stopped)
+    ((reached_at-is_run c.args.max _ _ (c.run_tables-done.ensures.run c.self.inside.count)).standing stopped)

@@ -1,7 +1,7 @@
 -- The completed write lay on the disk, whose size stays.
 use Rattle.std.proofs.Common.{arith, subst, sym, ap, length, ◌∙◌, length-append, ◌++◌, drop, List}
 use Rattle.disk_model.specs.declared.change.Piece.{Piece}
-use Rattle.disk_model.specs.Storage.{Drive}
+use Rattle.disk_model.specs.Storage.{Device}
 use Rattle.std.proofs.lemmas.List.{length-take, length-drop}
 use Rattle.simdisk.specs.Room.{LieOn}
 use Rattle.simdisk.proofs.Lists.{lie_without, lie_found, without_none}
@@ -25,6 +25,6 @@ invariant_of-self-in-Some c = (
 
 pub returns-in-None-clause-err : goal.returns-in-None-clause-err
 returns-in-None-clause-err c =
-    ap (λ (ps : List Piece). let v : Drive = record { disk = c.self.inside.bytes.items; in_flight = ps; failed = c.self.inside.failed.items } in v)
+    ap (λ (ps : List Piece). let v : Device = record { disk = c.self.inside.bytes.items; in_flight = ps; failed = c.self.inside.failed.items } in v)
     (c.take_out.ensures.rest ∙ without_none c.self.inside.in_flight.items c.args.at (sym c.take_out.ensures.found ∙ c.in-None.is))
     ∙ c.self.view_is

@@ -3,7 +3,7 @@ use Rattle.std.proofs.Common.{◌≡◌, arith, subst, sym, ap, length, ◌≤�
 use Rattle.std.specs.Prelude.{is_ok, if◌then◌else◌}
 use Rattle.std.specs.List.{remove}
 use Rattle.disk_model.specs.declared.change.Piece.{Piece}
-use Rattle.disk_model.specs.Storage.{Drive, piece_at, without}
+use Rattle.disk_model.specs.Storage.{Device, piece_at, without}
 use Rattle.simdisk.specs.Room.{LieOn}
 use Rattle.simdisk.proofs.Lists.{lie_more, lie_without, lie_get}
 use Rattle.simdisk.proofs.disk.SimDisk.fail.Goals as goal
@@ -15,7 +15,7 @@ pub returns-then-is_err-clause-refused : goal.returns-then-is_err-clause-refused
 returns-then-is_err-clause-refused c = (
   (λ h. absurd cc),
   (λ none. absurd (none_some (piece_at c.args.self.now.in_flight c.args.at) _ (
-      ap (λ (ps : List Piece). piece_at ps c.args.at) (sym (ap (λ (v : Drive). v.in_flight) c.self.view_is) ∙ sym c.deref.ensures.value) ∙ c.in-Some.ensures.found.1 (record { at = 0; bytes = [] })) none)),
+      ap (λ (ps : List Piece). piece_at ps c.args.at) (sym (ap (λ (v : Device). v.in_flight) c.self.view_is) ∙ sym c.deref.ensures.value) ∙ c.in-Some.ensures.found.1 (record { at = 0; bytes = [] })) none)),
 )
 
 pub invariant_of-self-2 : goal.invariant_of-self-2

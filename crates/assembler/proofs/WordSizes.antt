@@ -1,0 +1,284 @@
+-- Each word of text is a number below 2^32.
+use Rattle.std.proofs.Common.{ℕ, ℤ, pos, negsuc, ◌≡◌, ◌+◌, ◌*◌, ◌/◌, ◌%◌, ◌^◌, ◌<◌, Bool, true, false, List, [], ◌∷◌, ◌++◌, replicate, Result, Ok, Option, Some, None, refl, sym, ap, ◌∙◌, subst, arith, lit<}
+use Rattle.std.specs.Prelude.{All}
+use Rattle.std.specs.Option.{ok_or}
+use Rattle.std.proofs.lemmas.List.Elements.{All-nil, All-cons, All-head, All-tail, All-append, All-push, All-replicate}
+use Rattle.formats.specs.Fields.{field, rd_of, rs1_of, rs2_of, immediate_u, immediate_j}
+use Rattle.formats.specs.Meaning.{Means, IsU, IsI, IsS, IsB, IsShift, IsR}
+use Rattle.formats.specs.declared.instr.Instr.{Instr}
+use Rattle.formats.specs.declared.instr.Instr.TheVariants as instr
+use Rattle.elf32.specs.Images.{Program}
+use Rattle.asm_text.specs.declared.token.Line.{Line}
+use Rattle.assembler.specs.Encoding.{fields_word, complement, r_word, shift_word, i_word, s_word, b_word, u_word, j_word, word_of}
+use Rattle.assembler.specs.Expansion.{expansion_of, modulo_word}
+use Rattle.assembler.specs.Faults.{at_line}
+use Rattle.assembler.specs.Layout.{start_layout, all_placed, numbers_in, string_in, space_bytes, spot_of}
+use Rattle.assembler.specs.Filling.{Contents, Filling, Scope, start_filling, put_word, put_numbers, put_bytes, put_space, put_expansion, address_of, distance_of, instruction_of, instruction_filled, bytes_filled, statement_filled, filled, all_filled, contents_filled}
+use Rattle.assembler.specs.Assembly.{scope_of, entry_of, Assembled, assembled, assembly, rows_from}
+use Rattle.assembler.specs.declared.fault.AsmFault.{AsmFault}
+use Rattle.assembler.specs.declared.fault.Cause.TheVariants.{Range}
+use Rattle.assembler.specs.declared.layout.Position.{Position}
+use Rattle.assembler.specs.declared.mnemonic.Mnemonic.{Mnemonic}
+use Rattle.assembler.specs.declared.operands.Operands.{Operands}
+use Rattle.assembler.specs.declared.expansion.Expansion.{Expansion}
+use Rattle.assembler.specs.declared.expansion.Expansion.TheVariants.{One, Two}
+use Rattle.assembler.specs.declared.statement.Statement.{Statement}
+use Rattle.assembler.specs.declared.statement.Statement.TheVariants as statement
+use Rattle.assembler.specs.declared.filling.Cell.{Cell}
+use Rattle.assembler.specs.declared.listing.Row.{Row}
+use Rattle.assembler.proofs.Encodings.{complement-signed}
+use Rattle.assembler.proofs.Stepping.{and_then-ok, at_line-ok, ok_or-ok}
+use Rattle.assembler.proofs.Registers.{HasRegisters, IsKnown, statement-known}
+use Rattle.assembler.proofs.Expansions.{AreMeant, expansion-meant}
+use Rattle.assembler.proofs.Sizes.{IsFilled, filled-is, same_filling}
+use Rattle.assembler.proofs.Assemblies.{assembly_from, assembly_after, made_of, contents_shown, same_assembled, same_contents}
+
+-- ---- the word of an instruction that it means
+
+rd-below : (rd w : ℕ) → rd ≡ rd_of w → rd < 32
+rd-below rd w is = omega arith
+
+rs1-below : (rs1 w : ℕ) → rs1 ≡ rs1_of w → rs1 < 32
+rs1-below rs1 w is = omega arith
+
+rs2-below : (rs2 w : ℕ) → rs2 ≡ rs2_of w → rs2 < 32
+rs2-below rs2 w is = omega arith
+
+fields-below : (high rs1 f low o : ℕ) → high < 2 ^ 12 → rs1 < 32 → f < 8 → low < 32 → o < 128 → fields_word high rs1 f low o < 2 ^ 32
+fields-below high rs1 f low o a b c d e = omega arith
+
+-- seven bits or more above a register's five
+above-register : (g rs2 : ℕ) → g < 128 → rs2 < 32 → g * 2 ^ 5 + rs2 < 2 ^ 12
+above-register g rs2 a b = omega arith
+
+above-five : (n rs2 : ℕ) → n < 2 ^ 12 → rs2 < 32 → n / 2 ^ 5 * 2 ^ 5 + rs2 < 2 ^ 12
+above-five n rs2 a b = omega arith
+
+five-low : (n : ℕ) → n % 2 ^ 5 < 32
+five-low n = omega arith
+
+branch-high : (n rs2 : ℕ) → n < 2 ^ 13 → rs2 < 32 → n / 2 ^ 12 * 2 ^ 11 + n / 2 ^ 5 % 2 ^ 6 * 2 ^ 5 + rs2 < 2 ^ 12
+branch-high n rs2 a b = omega arith
+
+branch-low : (n : ℕ) → n / 2 % 2 ^ 4 * 2 + n / 2 ^ 11 % 2 < 32
+branch-low n = omega arith
+
+jump-high : (n : ℕ) → n < 2 ^ 21 → n / 2 ^ 20 * 2 ^ 19 + n / 2 % 2 ^ 10 * 2 ^ 9 + n / 2 ^ 11 % 2 * 2 ^ 8 + n / 2 ^ 12 % 2 ^ 8 < 2 ^ 20
+jump-high n a = omega arith
+
+-- the bits of each immediate
+i-bits : (w : ℕ) → field w 31 20 < 2 ^ 12
+i-bits w = omega arith
+
+s-bits : (w : ℕ) → field w 31 25 * 2 ^ 5 + field w 11 7 < 2 ^ 12
+s-bits w = omega arith
+
+b-bits : (w : ℕ) → field w 31 31 * 2 ^ 12 + field w 7 7 * 2 ^ 11 + field w 30 25 * 2 ^ 5 + field w 11 8 * 2 < 2 ^ 13
+b-bits w = omega arith
+
+u-bits : (imm w : ℕ) → imm ≡ immediate_u w → imm < 2 ^ 20
+u-bits imm w is = omega arith
+
+j-bits : (w : ℕ) → field w 31 31 * 2 ^ 20 + field w 19 12 * 2 ^ 12 + field w 20 20 * 2 ^ 11 + field w 30 21 * 2 < 2 ^ 21
+j-bits w = omega arith
+
+r-below : (f g rd rs1 rs2 : ℕ) → f < 8 → g < 128 → IsR (r_word f g rd rs1 rs2) f g rd rs1 rs2 → r_word f g rd rs1 rs2 < 2 ^ 32
+r-below f g rd rs1 rs2 third seventh m =
+    let w : ℕ = r_word f g rd rs1 rs2 in
+    fields-below (g * 2 ^ 5 + rs2) rs1 f rd 0b0110011 (above-register g rs2 seventh (rs2-below rs2 w m.5)) (rs1-below rs1 w m.4) third (rd-below rd w m.3) (lit< tt)
+
+shift-below : (f g rd rs1 amount : ℕ) → f < 8 → g < 128 → IsShift (shift_word f g rd rs1 amount) f g rd rs1 amount → shift_word f g rd rs1 amount < 2 ^ 32
+shift-below f g rd rs1 amount third seventh m =
+    let w : ℕ = shift_word f g rd rs1 amount in
+    fields-below (g * 2 ^ 5 + amount) rs1 f rd 0b0010011 (above-register g amount seventh (rs2-below amount w m.5)) (rs1-below rs1 w m.4) third (rd-below rd w m.3) (lit< tt)
+
+i-below : (o f rd rs1 : ℕ) (imm : ℤ) → o < 128 → f < 8 → IsI (i_word o f rd rs1 imm) o f rd rs1 imm → i_word o f rd rs1 imm < 2 ^ 32
+i-below o f rd rs1 imm sort third m =
+    let w : ℕ = i_word o f rd rs1 imm in
+    let bits : complement (2 ^ 12) imm ≡ field w 31 20 = ap (complement (2 ^ 12)) m.4 ∙ complement-signed (2 ^ 11) (2 ^ 12) (field w 31 20) refl (i-bits w) in
+    fields-below (complement (2 ^ 12) imm) rs1 f rd o (subst (λ (n : ℕ). n < 2 ^ 12) (sym bits) (i-bits w)) (rs1-below rs1 w m.3) third (rd-below rd w m.2) sort
+
+s-below : (f rs1 rs2 : ℕ) (imm : ℤ) → f < 8 → IsS (s_word f rs1 rs2 imm) f rs1 rs2 imm → s_word f rs1 rs2 imm < 2 ^ 32
+s-below f rs1 rs2 imm third m =
+    let w : ℕ = s_word f rs1 rs2 imm in
+    let n : ℕ = complement (2 ^ 12) imm in
+    let raw : ℕ = field w 31 25 * 2 ^ 5 + field w 11 7 in
+    let bits : n ≡ raw = ap (complement (2 ^ 12)) m.4 ∙ complement-signed (2 ^ 11) (2 ^ 12) raw refl (s-bits w) in
+    let small : n < 2 ^ 12 = subst (λ (k : ℕ). k < 2 ^ 12) (sym bits) (s-bits w) in
+    fields-below (n / 2 ^ 5 * 2 ^ 5 + rs2) rs1 f (n % 2 ^ 5) 0b0100011 (above-five n rs2 small (rs2-below rs2 w m.3)) (rs1-below rs1 w m.2) third (five-low n) (lit< tt)
+
+b-below : (f rs1 rs2 : ℕ) (offset : ℤ) → f < 8 → IsB (b_word f rs1 rs2 offset) f rs1 rs2 offset → b_word f rs1 rs2 offset < 2 ^ 32
+b-below f rs1 rs2 offset third m =
+    let w : ℕ = b_word f rs1 rs2 offset in
+    let n : ℕ = complement (2 ^ 13) offset in
+    let raw : ℕ = field w 31 31 * 2 ^ 12 + field w 7 7 * 2 ^ 11 + field w 30 25 * 2 ^ 5 + field w 11 8 * 2 in
+    let bits : n ≡ raw = ap (complement (2 ^ 13)) m.4 ∙ complement-signed (2 ^ 12) (2 ^ 13) raw refl (b-bits w) in
+    let small : n < 2 ^ 13 = subst (λ (k : ℕ). k < 2 ^ 13) (sym bits) (b-bits w) in
+    fields-below (n / 2 ^ 12 * 2 ^ 11 + n / 2 ^ 5 % 2 ^ 6 * 2 ^ 5 + rs2) rs1 f (n / 2 % 2 ^ 4 * 2 + n / 2 ^ 11 % 2) 0b1100011
+    (branch-high n rs2 small (rs2-below rs2 w m.3)) (rs1-below rs1 w m.2) third (branch-low n) (lit< tt)
+
+upper-below : (o rd imm : ℕ) → o < 128 → rd < 32 → imm < 2 ^ 20 → u_word o rd imm < 2 ^ 32
+upper-below o rd imm a b c = omega arith
+
+u-below : (o rd imm : ℕ) → o < 128 → IsU (u_word o rd imm) o rd imm → u_word o rd imm < 2 ^ 32
+u-below o rd imm sort m =
+    let w : ℕ = u_word o rd imm in
+    upper-below o rd imm sort (rd-below rd w m.1) (u-bits imm w m.2)
+
+j-below : (rd : ℕ) (offset : ℤ) → rd ≡ rd_of (j_word rd offset) → offset ≡ immediate_j (j_word rd offset) → j_word rd offset < 2 ^ 32
+j-below rd offset target is =
+    let w : ℕ = j_word rd offset in
+    let n : ℕ = complement (2 ^ 21) offset in
+    let raw : ℕ = field w 31 31 * 2 ^ 20 + field w 19 12 * 2 ^ 12 + field w 20 20 * 2 ^ 11 + field w 30 21 * 2 in
+    let bits : n ≡ raw = ap (complement (2 ^ 21)) is ∙ complement-signed (2 ^ 20) (2 ^ 21) raw refl (j-bits w) in
+    let small : n < 2 ^ 21 = subst (λ (k : ℕ). k < 2 ^ 21) (sym bits) (j-bits w) in
+    upper-below 0b1101111 rd (n / 2 ^ 20 * 2 ^ 19 + n / 2 % 2 ^ 10 * 2 ^ 9 + n / 2 ^ 11 % 2 * 2 ^ 8 + n / 2 ^ 12 % 2 ^ 8) (lit< tt) (rd-below rd w target) (jump-high n small)
+
+-- a word that means its instruction is below 2^32
+word-below : (i : Instr) → Means (word_of i) i → word_of i < 2 ^ 32
+unfolding word_of
+word-below (instr.Lui rd imm) m = u-below 0b0110111 rd imm (lit< tt) m
+word-below (instr.Auipc rd imm) m = u-below 0b0010111 rd imm (lit< tt) m
+word-below (instr.Jal rd offset) m = j-below rd offset m.1 m.2
+word-below (instr.Jalr rd rs1 imm) m = i-below 0b1100111 0b000 rd rs1 imm (lit< tt) (lit< tt) m
+word-below (instr.Beq rs1 rs2 offset) m = b-below 0b000 rs1 rs2 offset (lit< tt) m
+word-below (instr.Bne rs1 rs2 offset) m = b-below 0b001 rs1 rs2 offset (lit< tt) m
+word-below (instr.Blt rs1 rs2 offset) m = b-below 0b100 rs1 rs2 offset (lit< tt) m
+word-below (instr.Bge rs1 rs2 offset) m = b-below 0b101 rs1 rs2 offset (lit< tt) m
+word-below (instr.Bltu rs1 rs2 offset) m = b-below 0b110 rs1 rs2 offset (lit< tt) m
+word-below (instr.Bgeu rs1 rs2 offset) m = b-below 0b111 rs1 rs2 offset (lit< tt) m
+word-below (instr.Lb rd rs1 imm) m = i-below 0b0000011 0b000 rd rs1 imm (lit< tt) (lit< tt) m
+word-below (instr.Lh rd rs1 imm) m = i-below 0b0000011 0b001 rd rs1 imm (lit< tt) (lit< tt) m
+word-below (instr.Lw rd rs1 imm) m = i-below 0b0000011 0b010 rd rs1 imm (lit< tt) (lit< tt) m
+word-below (instr.Lbu rd rs1 imm) m = i-below 0b0000011 0b100 rd rs1 imm (lit< tt) (lit< tt) m
+word-below (instr.Lhu rd rs1 imm) m = i-below 0b0000011 0b101 rd rs1 imm (lit< tt) (lit< tt) m
+word-below (instr.Sb rs1 rs2 imm) m = s-below 0b000 rs1 rs2 imm (lit< tt) m
+word-below (instr.Sh rs1 rs2 imm) m = s-below 0b001 rs1 rs2 imm (lit< tt) m
+word-below (instr.Sw rs1 rs2 imm) m = s-below 0b010 rs1 rs2 imm (lit< tt) m
+word-below (instr.Addi rd rs1 imm) m = i-below 0b0010011 0b000 rd rs1 imm (lit< tt) (lit< tt) m
+word-below (instr.Slti rd rs1 imm) m = i-below 0b0010011 0b010 rd rs1 imm (lit< tt) (lit< tt) m
+word-below (instr.Sltiu rd rs1 imm) m = i-below 0b0010011 0b011 rd rs1 imm (lit< tt) (lit< tt) m
+word-below (instr.Xori rd rs1 imm) m = i-below 0b0010011 0b100 rd rs1 imm (lit< tt) (lit< tt) m
+word-below (instr.Ori rd rs1 imm) m = i-below 0b0010011 0b110 rd rs1 imm (lit< tt) (lit< tt) m
+word-below (instr.Andi rd rs1 imm) m = i-below 0b0010011 0b111 rd rs1 imm (lit< tt) (lit< tt) m
+word-below (instr.Slli rd rs1 amount) m = shift-below 0b001 0b0000000 rd rs1 amount (lit< tt) (lit< tt) m
+word-below (instr.Srli rd rs1 amount) m = shift-below 0b101 0b0000000 rd rs1 amount (lit< tt) (lit< tt) m
+word-below (instr.Srai rd rs1 amount) m = shift-below 0b101 0b0100000 rd rs1 amount (lit< tt) (lit< tt) m
+word-below (instr.Add rd rs1 rs2) m = r-below 0b000 0b0000000 rd rs1 rs2 (lit< tt) (lit< tt) m
+word-below (instr.Sub rd rs1 rs2) m = r-below 0b000 0b0100000 rd rs1 rs2 (lit< tt) (lit< tt) m
+word-below (instr.Sll rd rs1 rs2) m = r-below 0b001 0b0000000 rd rs1 rs2 (lit< tt) (lit< tt) m
+word-below (instr.Slt rd rs1 rs2) m = r-below 0b010 0b0000000 rd rs1 rs2 (lit< tt) (lit< tt) m
+word-below (instr.Sltu rd rs1 rs2) m = r-below 0b011 0b0000000 rd rs1 rs2 (lit< tt) (lit< tt) m
+word-below (instr.Xor rd rs1 rs2) m = r-below 0b100 0b0000000 rd rs1 rs2 (lit< tt) (lit< tt) m
+word-below (instr.Srl rd rs1 rs2) m = r-below 0b101 0b0000000 rd rs1 rs2 (lit< tt) (lit< tt) m
+word-below (instr.Sra rd rs1 rs2) m = r-below 0b101 0b0100000 rd rs1 rs2 (lit< tt) (lit< tt) m
+word-below (instr.Or rd rs1 rs2) m = r-below 0b110 0b0000000 rd rs1 rs2 (lit< tt) (lit< tt) m
+word-below (instr.And rd rs1 rs2) m = r-below 0b111 0b0000000 rd rs1 rs2 (lit< tt) (lit< tt) m
+word-below (instr.Mul rd rs1 rs2) m = r-below 0b000 0b0000001 rd rs1 rs2 (lit< tt) (lit< tt) m
+word-below (instr.Mulh rd rs1 rs2) m = r-below 0b001 0b0000001 rd rs1 rs2 (lit< tt) (lit< tt) m
+word-below (instr.Mulhsu rd rs1 rs2) m = r-below 0b010 0b0000001 rd rs1 rs2 (lit< tt) (lit< tt) m
+word-below (instr.Mulhu rd rs1 rs2) m = r-below 0b011 0b0000001 rd rs1 rs2 (lit< tt) (lit< tt) m
+word-below (instr.Div rd rs1 rs2) m = r-below 0b100 0b0000001 rd rs1 rs2 (lit< tt) (lit< tt) m
+word-below (instr.Divu rd rs1 rs2) m = r-below 0b101 0b0000001 rd rs1 rs2 (lit< tt) (lit< tt) m
+word-below (instr.Rem rd rs1 rs2) m = r-below 0b110 0b0000001 rd rs1 rs2 (lit< tt) (lit< tt) m
+word-below (instr.Remu rd rs1 rs2) m = r-below 0b111 0b0000001 rd rs1 rs2 (lit< tt) (lit< tt) m
+word-below instr.Fence m = lit< tt
+word-below instr.Ecall m = lit< tt
+word-below instr.Ebreak m = lit< tt
+
+-- ---- the words that statements make
+
+modulo-below : (z : ℤ) → modulo_word z < 2 ^ 32
+unfolding modulo_word
+modulo-below (pos n) = omega arith
+modulo-below (negsuc n) = omega arith
+
+abbrev IsWord : Cell → Type 0
+IsWord cell = cell.word < 2 ^ 32
+
+-- each word of text is below 2^32
+abbrev AreWords : Contents → Type 0
+AreWords c = All IsWord c.cells
+
+words-same : (c d : Contents) → ◌≡◌ {A = Result Contents AsmFault} (Ok c) (Ok d) → AreWords c → AreWords d
+words-same c d is all = subst (λ (x : Contents). AreWords x) (same_contents c d is) all
+
+words-word : (in_data : Bool) (line word : ℕ) (c : Contents) → word < 2 ^ 32 → AreWords c → AreWords (put_word in_data line word c)
+words-word true line word c small all = all
+words-word false line word c small all = All-push IsWord c.cells (record { word = word; line = line }) all small
+
+words-numbers : (in_data : Bool) (line : ℕ) (ns : List (ℤ × ℕ)) (c : Contents) → AreWords c → AreWords (put_numbers in_data line ns c)
+words-numbers in_data line [] c all = all
+words-numbers in_data line (n ∷ ns) c all =
+    words-numbers in_data line ns (put_word in_data line (modulo_word n.0) c) (words-word in_data line (modulo_word n.0) c (modulo-below n.0) all)
+
+words-expansion : (in_data : Bool) (line : ℕ) (e : Expansion) (c : Contents) → AreMeant e → AreWords c → AreWords (put_expansion in_data line e c)
+words-expansion in_data line (One i) c m all = words-word in_data line (word_of i) c (word-below i m) all
+words-expansion in_data line (Two i j) c m all =
+    words-word in_data line (word_of j) (put_word in_data line (word_of i) c) (word-below j m.1) (words-word in_data line (word_of i) c (word-below i m.0) all)
+
+words-space : (in_data : Bool) (line n : ℕ) (c : Contents) → AreWords c → AreWords (put_space in_data line n c)
+words-space true line n c all = all
+words-space false line n c all =
+    let zeros : Cell = record { word = 0; line = line } in
+    All-append IsWord c.cells (replicate (n / 4) zeros) all (All-replicate IsWord (n / 4) zeros (omega arith))
+
+words-byte_list : (source : List ℕ) (line : Line) (c d : Contents) → bytes_filled source line c ≡ Ok d → AreWords c → AreWords d
+words-byte_list source line c d is all =
+    let (bytes, _, made) = and_then-ok (at_line source line Range (put_bytes (numbers_in line.tokens) c.bytes)) (λ (x : List ℕ). Ok (record { cells = c.cells; bytes = x })) d is in
+    words-same (record { cells = c.cells; bytes = bytes }) d made all
+
+meant-value : (source : List ℕ) (line : Line) (m : Mnemonic) (o : Operands) (v : Option ℤ) (e : Expansion) → HasRegisters o → instruction_of source line m o v ≡ Ok e → AreMeant e
+meant-value source line m o (Some n) e h is =
+    expansion-meant m o n e h (ok_or-ok (expansion_of m o n) o.at e (at_line-ok source line Range (ok_or (expansion_of m o n) o.at) e is))
+meant-value source line m o None e h is = absurd (let no : ⊥ = cc in no)
+
+words-instruction : (scope : Scope) (line : Line) (p : Position) (m : Mnemonic) (o : Operands) (c d : Contents) → HasRegisters o → instruction_filled scope line p m o c ≡ Ok d → AreWords c → AreWords d
+words-instruction scope line p m o c d h is all =
+    let v : Option ℤ = distance_of scope (pos (address_of scope.data_base (spot_of p))) o.value in
+    let (e, made, put) = and_then-ok (instruction_of scope.source line m o v) (λ (x : Expansion). Ok (put_expansion p.in_data line.number x c)) d is in
+    words-same (put_expansion p.in_data line.number e c) d put (words-expansion p.in_data line.number e c (meant-value scope.source line m o v e h made) all)
+
+words-statement : (scope : Scope) (line : Line) (p : Position) (s : Statement) (c d : Contents) → IsKnown p.in_data s → statement_filled scope line p s c ≡ Ok d → AreWords c → AreWords d
+words-statement scope line p statement.Nothing c d k is all = words-same c d is all
+words-statement scope line p statement.Text c d k is all = words-same c d is all
+words-statement scope line p statement.Data c d k is all = words-same c d is all
+words-statement scope line p statement.Words c d k is all =
+    words-same (put_numbers p.in_data line.number (numbers_in line.tokens) c) d is (words-numbers p.in_data line.number (numbers_in line.tokens) c all)
+words-statement scope line p statement.Bytes c d k is all = words-byte_list scope.source line c d is all
+words-statement scope line p statement.Ascii c d k is all = words-same (record { cells = c.cells; bytes = c.bytes ++ string_in line.tokens }) d is all
+words-statement scope line p (statement.Space n at) c d k is all =
+    words-same (put_space p.in_data line.number (space_bytes n) c) d is (words-space p.in_data line.number (space_bytes n) c all)
+words-statement scope line p (statement.Instruction m o) c d k is all = words-instruction scope line p m o c d k is all
+
+words-filled : (scope : Scope) (line : Line) (f g : Filling) → filled scope line f ≡ Ok g → AreWords f.contents → AreWords g.contents
+words-filled scope line f g is all =
+    let step : IsFilled scope line f g = filled-is scope line f g is in
+    words-statement scope line f.position step.made f.contents g.contents (statement-known scope.source f.position.in_data line.end step.split.1 step.made step.body) step.contents all
+
+words-lines : (scope : Scope) (lines : List Line) (f g : Filling) → all_filled scope lines f ≡ Ok g → AreWords f.contents → AreWords g.contents
+words-lines scope [] f g is all = subst (λ (x : Filling). AreWords x.contents) (same_filling f g is) all
+words-lines scope (line ∷ lines) f g is all =
+    let (h, here, rest) = and_then-ok (filled scope line f) (λ (x : Filling). all_filled scope lines x) g is in
+    words-lines scope lines h g rest (words-filled scope line f h here all)
+
+words-contents : (scope : Scope) (lines : List Line) (c : Contents) → contents_filled scope lines ≡ Ok c → AreWords c
+words-contents scope lines c is =
+    let (f, made, shows) = and_then-ok (all_filled scope lines start_filling) contents_shown c is in
+    words-same f.contents c shows (words-lines scope lines start_filling f made (All-nil IsWord))
+
+words-rows : (at : ℕ) (cells : List Cell) → All IsWord cells → All (λ (row : Row). row.word < 2 ^ 32) (rows_from at cells)
+words-rows at [] all = All-nil (λ (row : Row). row.word < 2 ^ 32)
+words-rows at (c ∷ cells) all =
+    All-cons (λ (row : Row). row.word < 2 ^ 32) (record { address = at; word = c.word; line = c.line }) (rows_from (at + 4) cells)
+    (All-head IsWord c cells all) (words-rows (at + 4) cells (All-tail IsWord c cells all))
+
+-- each listed word is below 2^32
+pub words-made : (source : List ℕ) (lines : List Line) (image : Program) (listing : List Row) → assembly source lines ≡ Ok (record { image = image; listing = listing }) → All (λ (row : Row). row.word < 2 ^ 32) listing
+words-made source lines image listing is =
+    let wanted : Assembled = record { image = image; listing = listing } in
+    let (l, _, is2) = and_then-ok (all_placed source lines start_layout) (assembly_from source lines) wanted is in
+    let (entry, _, is3) = and_then-ok (entry_of l) (assembly_after source lines l) wanted is2 in
+    let (c, fills, is4) = and_then-ok (contents_filled (scope_of source l) lines) (made_of entry) wanted is3 in
+    subst (λ (a : Assembled). All (λ (row : Row). row.word < 2 ^ 32) a.listing) (same_assembled (assembled entry c) wanted is4)
+    (words-rows 65536 c.cells (words-contents (scope_of source l) lines c fills))

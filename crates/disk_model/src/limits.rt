@@ -1,0 +1,10 @@
+//! Limits of files.
+
+/// The most files that there may be.
+pub const MOST_FILES: usize = 32;
+
+/// The most bytes of a name.
+pub const LONGEST_NAME: u32 = 32;
+
+/// The most bytes of a file.
+pub const LONGEST_FILE: u32 = 16_384;

@@ -1,6 +1,0 @@
--- The screens so far are empty.
-use Rattle.kernel.specs.First.{AreEmpty}
-use Rattle.kernel.proofs.boot.empty_screens.Given as goal
-
-abbrev pub invariant-loop-terminal : goal.invariant-loop-terminal
-invariant-loop-terminal l = AreEmpty l._terminal l.screens.items

@@ -1,7 +1,0 @@
--- The parts of the programs so far.
-use Rattle.std.proofs.Common.{◌≡◌, take}
-use Rattle.kernel.specs.First.{parts_from}
-use Rattle.kernel.proofs.boot.first_processes.Given as goal
-
-abbrev pub invariant-loop-place : goal.invariant-loop-place
-invariant-loop-place l = l.processes.parts ≡ parts_from 0 (take l.place l.programs)

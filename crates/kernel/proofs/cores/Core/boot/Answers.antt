@@ -1,0 +1,60 @@
+-- A core at boot.
+use Rattle.std.proofs.Common.{◌≡◌, map, ap, sym, subst, ◌∙◌, List, Vec, ℕ, rules}
+use Rattle.disk_model.specs.declared.change.NamedFile.{NamedFile}
+use Rattle.disk_model.specs.Held.{IsHeldTo}
+use Rattle.kernel_model.specs.Bytes.{ProgramsHoldBytes, TapesHoldBytes}
+use Rattle.kernel_model.specs.World.{Boot, HoldsItsFiles}
+use Rattle.kernel_step.specs.Booting.{boot_with, nothing_lent}
+use Rattle.kernel_step.specs.Stands.{Stands}
+use Rattle.kernel_step.specs.declared.booting.Program.{Program}
+use Rattle.kernel.specs.Booting.{boot_of}
+use Rattle.kernel.specs.declared.cores.Booted.{Booted}
+use Rattle.kernel.proofs.cores.Core.boot.Goals as goal
+use Rattle.kernel.proofs.cores.Core.boot.Goals.{In_ok-running}
+
+-- what it was booted from
+abbrev booted : (c : In_ok-running) → Booted
+booted c = record { programs = c.args.programs; tapes = c.in_ok-tapes.tapes; files = c.in_ok-held.held; disk = c.in_ok-disk.disk; gate = c.in_ok-files.gate }
+
+disk-is : (c : In_ok-running) → c.in_ok-disk.disk ≡ c.args.device.disk
+disk-is c = c.in_ok-disk.ensures ∙ c.bytes.ensures.bytes
+
+held-is : (c : In_ok-running) → HoldsItsFiles (boot_of (booted c))
+held-is c =
+    subst (λ (fs : List NamedFile). IsHeldTo c.in_ok-disk.disk c.in_ok-files.gate fs) (sym c.in_ok-held.ensures)
+    (subst (λ (d : List ℕ). IsHeldTo d c.in_ok-files.gate c.in_ok-files.files) (sym (disk-is c)) c.in_ok-files.ensures.found)
+
+-- the boot of the parts is that of the core
+boot-is : (c : In_ok-running) → boot_with c.deref.result.now c.in_ok-shared.shared.value.items c.in_ok-files.files c.args.device.disk c.in_ok-files.gate ≡ boot_of (booted c)
+boot-is c =
+    ap (λ (ps : List Program). boot_with ps c.in_ok-shared.shared.value.items c.in_ok-files.files c.args.device.disk c.in_ok-files.gate) c.deref.ensures.value
+    ∙ ap (λ (v : Vec _ _). boot_with c.args.programs.items v.items c.in_ok-files.files c.args.device.disk c.in_ok-files.gate) c.in_ok-shared.ensures
+    ∙ ap (λ (fs : List NamedFile). boot_with c.args.programs.items c.in_ok-tapes.tapes.value.items fs c.args.device.disk c.in_ok-files.gate) (sym c.in_ok-held.ensures)
+    ∙ ap (λ (d : List ℕ). boot_with c.args.programs.items c.in_ok-tapes.tapes.value.items c.in_ok-held.held d c.in_ok-files.gate) (sym (disk-is c))
+
+programs-hold : (c : In_ok-running) → ProgramsHoldBytes (boot_of (booted c))
+programs-hold c = subst (λ (b : Boot). ProgramsHoldBytes b) (boot-is c) (c.in_ok-running.ensures.bytes c.args.device.disk c.in_ok-files.gate)
+
+tapes-hold : (c : In_ok-running) → TapesHoldBytes (boot_of (booted c))
+tapes-hold c = subst (λ (b : Boot). TapesHoldBytes b) (boot-is c) (c.in_ok-running.ensures.tapes c.args.device.disk c.in_ok-files.gate)
+
+pub invariant_of-result : goal.invariant_of-result
+invariant_of-result c = (
+  record { held = held-is c; programs = programs-hold c; tapes = tapes-hold c },
+  subst (λ (b : Boot). Stands b c.in_ok-running.running) (boot-is c) (c.in_ok-running.ensures.stands c.args.device.disk c.in_ok-files.gate c.new-committer.ensures),
+)
+
+pub returns-clause-history : goal.returns-clause-history
+returns-clause-history c = c.in_ok-running.ensures.history (boot_of (booted c))
+
+pub returns-clause-lendings : goal.returns-clause-lendings
+returns-clause-lendings c = c.in_ok-running.ensures.lendings (boot_of (booted c)) ∙ ap (λ (ps : List Program). map nothing_lent ps) c.deref.ensures.value
+
+pub returns-clause-bytes : goal.returns-clause-bytes
+returns-clause-bytes c = programs-hold c
+
+pub returns-clause-tapes : goal.returns-clause-tapes
+returns-clause-tapes c = tapes-hold c
+
+pub returns-in_err-files-clause-only : goal.returns-in_err-files-clause-only
+returns-in_err-files-clause-only c = λ files held. let one = c.in_err-files.ensures.only held.0 files held.1 in search rules

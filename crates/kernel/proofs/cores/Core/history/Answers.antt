@@ -1,0 +1,8 @@
+-- What the parts say, the run says.
+use Rattle.std.proofs.Common.{◌≡◌, ap, ◌∙◌}
+use Rattle.kernel_model.specs.Answers.{Kernel, now}
+use Rattle.kernel.specs.Booting.{boot_of}
+use Rattle.kernel.proofs.cores.Core.history.Goals as goal
+
+pub returns : goal.returns
+returns c = c.history.ensures (boot_of c.self.inside.booted) ∙ ap (λ (k : Kernel). k.history) c.self.view_is

@@ -1,7 +1,0 @@
--- The tasks before the index have moved on.
-use Rattle.kernel.specs.Advanced.{IsMoved}
-use Rattle.kernel.proofs.Moving.{Moved}
-use Rattle.kernel.proofs.tasks.hand_all.Given as goal
-
-abbrev pub invariant-loop-task : goal.invariant-loop-task
-invariant-loop-task l = Moved (IsMoved l.committed) l.initial.tasks l.tasks l.task-index

@@ -1,0 +1,102 @@
+//! The core, and its events.
+ghost use Rattle.std.specs.Prelude.{◌≡◌, ◌≢◌, ◌≤◌, length, take, IfOk, IfErr, OnOk, OnErr};
+ghost use Rattle.kernel_model.specs.Answers.{Applies, AllAccepted, with_events};
+ghost use Rattle.kernel_model.specs.Loans.{Lends, IsOfLoan, returned, events_of, settled, settled_answer};
+ghost use Rattle.kernel_model.specs.declared.answer.Refused.TheVariants.{Stranger, OutOfMemory};
+ghost use Rattle.kernel_step.specs.Loaned.{lent_out, loan_result};
+
+use byte_list::Bytes;
+use files::FileTable;
+use kernel_model::{Answer, Event, Refused};
+use kernel_step::{Done, Loan, Program, Rejected, Running};
+use std::marker::Model;
+use std::sync::Arc;
+
+/// What a core was booted from.
+#[derive(Drop)]
+pub(crate) struct Booted {
+    pub programs: Vec<Program>,
+    /// Shared with the table of what is read of them.
+    pub tapes: Arc<Vec<Bytes>>,
+    /// The files that the disk held.
+    pub files: FileTable,
+    pub disk: Bytes,
+    /// The place on the disk of the first gate that was not open.
+    pub gate: u32,
+}
+
+/// The core: processes, which run on as on a kernel that commits inside each call, the history of the events that it accepted,
+/// and the disk to which the changes of files are still on their way.
+#[derive(Drop)]
+pub struct Core {
+    pub(crate) booted: Booted,
+    pub(crate) running: Running,
+}
+
+impl Model for Core {
+    ghost use Rattle.kernel_model.specs.Answers.{Kernel};
+    ghost use Rattle.kernel_model.specs.Codes.{kernel_code};
+
+    ghost Value = { Kernel };
+
+    ghost coded = { kernel_code };
+
+    ghost use Rattle.kernel_laws.specs.Resuming.{IsSound};
+    ghost use Rattle.kernel_step.specs.Stands.{Stands, kernel_in};
+    ghost use Rattle.kernel.specs.Booting.{boot_of};
+
+    ghost view = { λ c. kernel_in (boot_of c.booted) c.running };
+
+    ghost invariant = { λ c. IsSound (boot_of c.booted) × Stands (boot_of c.booted) c.running };
+}
+
+impl Core {
+    /// Applies an event. An accepted one joins the history; a refused one changes nothing. The tests, in their order:
+    /// Turn: NoProcess, Ended, Lent, Budget; Enter: NoProcess, Ended, Lent, NotStopped, Budget; Cut: Budget, DiskFailed,
+    /// GroupInFlight, NothingToCut; Complete and Fail: Budget, NoSuchWrite; and want of memory last.
+    pub fn apply(&mut self, event: Event) -> Result<Answer, Refused>
+        ensures { Applies self.old event self.new result }
+    {
+        self.running.apply(event)
+    }
+
+    /// Applies each event in turn up to the first that is refused, and answers how many were applied.
+    pub fn run_script(&mut self, events: &[Event]) -> usize
+        ensures within { result ≤ length events.now }
+        ensures grown { self.new ≡ with_events self.old (take result events.now) }
+        ensures accepted { AllAccepted self.old (take result events.now) }
+    {
+        for (count, event) in events.iter().enumerate() {
+            if self.apply(*event).is_err() {
+                return count;
+            }
+        }
+        events.len()
+    }
+
+    /// Lends the first lendable process after the one last lent, by rising number and round again, to run at most a
+    /// quantum of instructions. A process is lendable where it has not ended, is not lent, does not wait, and has room for
+    /// quantum + 1 more instructions. None where there is none. Refused: Budget, where the history has no room for the two
+    /// events of one more loan; OutOfMemory. Nothing joins the history.
+    pub fn lend(&mut self, quantum: u32) -> Result<Option<Loan>, Refused>
+        ensures { Lends self.old quantum self.new (lent_out result) }
+    {
+        self.running.lend(quantum)
+    }
+
+    /// Takes a loan's result back: it becomes a Turn of its instructions and, where the state reached stands at a call or
+    /// a trap, an Enter. Refused, with the result: Stranger, exactly where it is not of the loan that its process is out
+    /// on (the process is not lent, or the number, the quantum or the state from which it began differs); OutOfMemory.
+    pub fn settle(&mut self, done: Done) -> Result<Answer, Rejected>
+        ensures own { OnOk result (IsOfLoan self.old (loan_result done)) }
+        ensures fine { OnOk result (AllAccepted (returned self.old done.pid) (events_of (loan_result done))) }
+        ensures events { OnOk result (self.new ≡ settled self.old (loan_result done)) }
+        ensures answer { IfOk result (λ a. a ≡ settled_answer self.old (loan_result done)) }
+        ensures stranger { IfErr result (λ r. r.why ≡ Stranger → ¬ (IsOfLoan self.old (loan_result done))) }
+        ensures own_only { IfErr result (λ r. r.why ≢ Stranger → (r.why ≡ OutOfMemory) × IsOfLoan self.old (loan_result done)) }
+        ensures back { IfErr result (λ r. r.done ≡ done) }
+        ensures err { OnErr result (self.new ≡ self.old) }
+    {
+        self.running.settle(done)
+    }
+}

@@ -1,0 +1,346 @@
+-- What a plan says comes of an Enter.
+use Rattle.std.proofs.Common.{◌≡◌, ℕ, zero, suc, ◌+◌, ◌^◌, ◌<◌, ◌≤◌, inl, not, if◌then◌else◌, List, [], ◌∷◌, ◌++◌, length, map, filter, slice_get, slice_set, Option, Some, None, is_some, option_to_list, IfSome, IfOk, Result, Ok, Err, refl, sym, ap, subst, ◌∙◌}
+use Rattle.std.specs.List.{AllByRecursion}
+use Rattle.disk_model.specs.declared.change.Change.{Change}
+use Rattle.machine_model.specs.States.{State, stands_at, next, by_step, Stepped, Goes, Halts, replied}
+use Rattle.machine_model.specs.declared.stop.Stop.{Stop}
+use Rattle.machine_model.specs.declared.stop.Stop.TheVariants.{Limit, Call, Trap}
+use Rattle.machine_model.specs.declared.stop.Cause.{Cause}
+use Rattle.machine_model.proofs.Halting.{next-not_limit}
+use Rattle.calls.specs.Plans.{IsPlan, IsPossible, NamesFiles, AreLeft, AtMostOneEntry, OpensAlone, MayBePlaced, EditsAs, EditsPipesAlone, IsNext, MayAllStep}
+use Rattle.calls.specs.Shares.{IsKept}
+use Rattle.calls.specs.declared.plan.Plan.{Plan}
+use Rattle.pipes.specs.Stepping.{HasAtMost}
+use Rattle.processes.specs.Parts.{Part, part_of, part_at, descriptors_in, children_in, statuses_of}
+use Rattle.kernel_model.specs.State.{SyncState, Shared as Seen, PipeState, Process, shared, process_at, put_process, changed_by, read_by, all_stepped}
+use Rattle.kernel_model.specs.Requests.{request_of}
+use Rattle.kernel_model.specs.Rows.{Effect, row, row_end, cause_number, number}
+use Rattle.kernel_model.specs.Steps.{Transition, step, after_enter, impossible, effect_at, set_slots, children_after, is_collected, forked, after_effect, after_effect_if}
+use Rattle.kernel_model.specs.declared.carrier.Carrier.{Carrier}
+use Rattle.kernel_model.specs.declared.carrier.Carrier.TheVariants.{Proc}
+use Rattle.kernel_model.specs.declared.descriptor.Descriptor.{Descriptor}
+use Rattle.kernel_model.specs.declared.effect.Output.{Output}
+use Rattle.kernel_model.specs.declared.effect.PipeStep.{PipeStep}
+use Rattle.kernel_model.specs.declared.effect.Slot.{Slot}
+use Rattle.kernel_model.specs.declared.effect.TapeRead.{TapeRead}
+use Rattle.kernel_model.specs.declared.event.Event.TheVariants.{Enter}
+use Rattle.kernel_model.specs.declared.request.Request.{Request}
+use Rattle.kernel_model.specs.declared.request.Verdict.{Verdict}
+use Rattle.kernel_model.specs.declared.request.Verdict.TheVariants.{Waits, Replies, Ends}
+use Rattle.kernel_step.specs.Entering.{Sight, IsSightOf, HaveRoom, item_of, machine_after, descriptors_after, status_after, writes_of, MayBeTold, effect_of, planned, PlansEnter}
+use Rattle.kernel_step.proofs.Lists.{append-none}
+
+-- ---- what comes of an effect is what the plan says
+abbrev planned_told : SyncState → ℕ → Process → Plan → Verdict → Transition
+planned_told s pid p plan verdict = record {
+  state = record {
+    processes = put_process s.processes pid (record {
+      state = machine_after p.state verdict;
+      descriptors = descriptors_after p.descriptors verdict plan.slots.items;
+      children = children_after p.children (effect_of plan);
+      status = status_after verdict p.status;
+    }) ++ forked p plan.child;
+    files = changed_by s.files plan.change;
+    pipes = all_stepped s.pipes plan.pipes.items;
+    tapes = read_by s.tapes plan.tape;
+  };
+  entry = record {
+    process = pid;
+    reads = Proc pid ∷ plan.reads.items;
+    writes = writes_of pid verdict plan.writes.items;
+    change = plan.change;
+    output = plan.output;
+    item = item_of verdict;
+    child = plan.child;
+  };
+}
+
+put-same : (ps : List Process) (pid : ℕ) (p : Process) → process_at ps pid ≡ Some p → put_process ps pid p ≡ ps
+put-same ps zero p e = refl
+put-same ps (suc k) p e = by ps k e
+  where
+    by : (xs : List Process) (i : ℕ) → slice_get xs i ≡ Some p → slice_set xs i p ≡ xs
+    by [] i e = refl
+    by (x ∷ xs) zero e = let same : p ≡ x = cc in ap (λ (y : Process). y ∷ xs) same
+    by (x ∷ xs) (suc i) e = ap (λ (ys : List Process). x ∷ ys) (by xs i e)
+
+pub all-kept : (cs : List ℕ) → filter (λ child. not (is_collected None child)) cs ≡ cs
+all-kept [] = refl
+all-kept (c ∷ cs) = ap (λ xs. c ∷ xs) (all-kept cs)
+
+children-kept : (cs : List ℕ) → filter (λ child. not (is_collected None child)) cs ++ [] ≡ cs
+children-kept cs = append-none (filter (λ child. not (is_collected None child)) cs) ∙ all-kept cs
+
+-- the edits are these
+abbrev edited : SyncState → ℕ → Process → Plan → Verdict → Option Change → Option Output → Option TapeRead → List PipeStep → Option ℕ → Option ℕ → Transition
+edited s pid p plan verdict change output tape pipes child collects = record {
+  state = record {
+    processes = put_process s.processes pid (record {
+      state = machine_after p.state verdict;
+      descriptors = descriptors_after p.descriptors verdict plan.slots.items;
+      children = filter (λ other. not (is_collected collects other)) p.children ++ option_to_list child;
+      status = status_after verdict p.status;
+    }) ++ forked p child;
+    files = changed_by s.files change;
+    pipes = all_stepped s.pipes pipes;
+    tapes = read_by s.tapes tape;
+  };
+  entry = record {
+    process = pid;
+    reads = Proc pid ∷ plan.reads.items;
+    writes = writes_of pid verdict plan.writes.items;
+    change = change;
+    output = output;
+    item = item_of verdict;
+    child = child;
+  };
+}
+
+pipes-alone : (s : SyncState) (pid : ℕ) (p : Process) (plan : Plan) (verdict : Verdict) (pipes : List PipeStep) → EditsPipesAlone plan → plan.pipes.items ≡ pipes
+    → edited s pid p plan verdict None None None pipes None None ≡ planned_told s pid p plan verdict
+pipes-alone s pid p plan verdict pipes h steps =
+    ap (λ c. edited s pid p plan verdict c None None pipes None None) (sym h.change)
+    ∙ ap (λ o. edited s pid p plan verdict plan.change o None pipes None None) (sym h.output)
+    ∙ ap (λ t. edited s pid p plan verdict plan.change plan.output t pipes None None) (sym h.tape)
+    ∙ ap (λ x. edited s pid p plan verdict plan.change plan.output plan.tape x None None) (sym steps)
+    ∙ ap (λ c. edited s pid p plan verdict plan.change plan.output plan.tape plan.pipes.items c None) (sym h.child)
+    ∙ ap (λ c. edited s pid p plan verdict plan.change plan.output plan.tape plan.pipes.items plan.child c) (sym h.collects)
+
+told-planned : (s : SyncState) (pid : ℕ) (p : Process) (plan : Plan) (verdict : Verdict) → EditsAs verdict plan → process_at s.processes pid ≡ Some p → p.status ≡ None
+    → after_effect s pid p (effect_of plan) verdict ≡ planned_told s pid p plan verdict
+told-planned s pid p plan Waits edits there running =
+    let same : put_process s.processes pid (record p { children = filter (λ other. not (is_collected None other)) p.children ++ [] }) ++ [] ≡ s.processes =
+    append-none (put_process s.processes pid (record p { children = filter (λ other. not (is_collected None other)) p.children ++ [] }))
+    ∙ ap (λ (cs : List ℕ). put_process s.processes pid (record p { children = cs })) (children-kept p.children)
+    ∙ put-same s.processes pid p there in
+    ap (λ (ps : List Process). record {
+      state = record { processes = ps; files = s.files; pipes = s.pipes; tapes = s.tapes };
+      entry = record { process = pid; reads = Proc pid ∷ plan.reads.items; writes = []; change = None; output = None; item = None; child = None };
+    }) (sym same)
+    ∙ pipes-alone s pid p plan Waits [] edits.0 edits.1
+told-planned s pid p plan (Replies r) edits there running =
+    ap (λ (o : Option ℕ). record {
+      state = record {
+        processes = put_process s.processes pid (record {
+          state = replied p.state r;
+          descriptors = set_slots p.descriptors plan.slots.items;
+          children = children_after p.children (effect_of plan);
+          status = o;
+        }) ++ forked p plan.child;
+        files = changed_by s.files plan.change;
+        pipes = all_stepped s.pipes plan.pipes.items;
+        tapes = read_by s.tapes plan.tape;
+      };
+      entry = record {
+        process = pid;
+        reads = Proc pid ∷ plan.reads.items;
+        writes = Proc pid ∷ plan.writes.items;
+        change = plan.change;
+        output = plan.output;
+        item = item_of (Replies r);
+        child = plan.child;
+      };
+    }) (sym running)
+told-planned s pid p plan (Ends status) edits there running =
+    let ended : List ℕ → Process = λ cs. record { state = p.state; descriptors = map (λ d. None) p.descriptors; children = cs; status = Some status } in
+    let same : put_process s.processes pid (ended (filter (λ other. not (is_collected None other)) p.children ++ [])) ++ [] ≡ put_process s.processes pid (ended p.children) =
+    append-none (put_process s.processes pid (ended (filter (λ other. not (is_collected None other)) p.children ++ [])))
+    ∙ ap (λ (cs : List ℕ). put_process s.processes pid (ended cs)) (children-kept p.children) in
+    ap (λ (ps : List Process). record {
+      state = record { processes = ps; files = s.files; pipes = all_stepped s.pipes plan.pipes.items; tapes = s.tapes };
+      entry = record {
+        process = pid;
+        reads = Proc pid ∷ plan.reads.items;
+        writes = Proc pid ∷ plan.writes.items;
+        change = None;
+        output = None;
+        item = item_of (Ends status);
+        child = None;
+      };
+    }) (sym same)
+    ∙ pipes-alone s pid p plan (Ends status) plan.pipes.items edits refl
+
+plan-effect : (plan : Plan) (e : Effect) → IsPlan plan e → e ≡ effect_of plan
+plan-effect plan e is =
+    ap (λ (v : Verdict). record e { verdict = v }) (sym is.verdict)
+    ∙ ap (λ (v : List Carrier). record e { verdict = plan.verdict; reads = v }) (sym is.reads)
+    ∙ ap (λ (v : List Carrier). record e { verdict = plan.verdict; reads = plan.reads.items; writes = v }) (sym is.writes)
+    ∙ ap (λ (v : Option Change). record (effect_of plan) { change = v; output = e.output; tape = e.tape; pipes = e.pipes; slots = e.slots; child = e.child; collects = e.collects }) (sym is.change)
+    ∙ ap (λ (v : Option Output). record (effect_of plan) { output = v; tape = e.tape; pipes = e.pipes; slots = e.slots; child = e.child; collects = e.collects }) (sym is.output)
+    ∙ ap (λ (v : Option TapeRead). record (effect_of plan) { tape = v; pipes = e.pipes; slots = e.slots; child = e.child; collects = e.collects }) (sym is.tape)
+    ∙ ap (λ (v : List PipeStep). record (effect_of plan) { pipes = v; slots = e.slots; child = e.child; collects = e.collects }) (sym is.pipes)
+    ∙ ap (λ (v : List Slot). record (effect_of plan) { slots = v; child = e.child; collects = e.collects }) (sym is.slots)
+    ∙ ap (λ (v : Option ℕ). record (effect_of plan) { child = v; collects = e.collects }) (sym is.child)
+    ∙ ap (λ (v : Option ℕ). record (effect_of plan) { collects = v }) (sym is.collects)
+
+-- the step of a process that is there and has not ended
+step-by : (s : SyncState) (pid : ℕ) (p : Process) (plan : Plan) (e : Effect) → IsPlan plan e → EditsAs plan.verdict plan
+    → process_at s.processes pid ≡ Some p → p.status ≡ None → effect_at (shared s) pid p (stands_at p.state) ≡ Some e
+    → step s (Enter pid) ≡ planned s pid p plan
+step-by s pid p plan e is edits there running at =
+    ap (λ (o : Option Process). after_enter s pid o) there
+    ∙ ap (λ (o : Option ℕ). if is_some o then impossible pid s else after_effect_if s pid p (effect_at (shared s) pid p (stands_at p.state))) running
+    ∙ ap (λ (o : Option Effect). after_effect_if s pid p o) (at ∙ ap (λ (x : Effect). Some x) (plan-effect plan e is))
+    ∙ told-planned s pid p plan plan.verdict edits there running
+
+-- ---- what is seen of the process
+pub part-seen : (ps : List Process) (pid : ℕ) (p : Process) → process_at ps pid ≡ Some p → part_at (map part_of ps) pid ≡ Some (part_of p)
+part-seen ps zero p e = cc
+part-seen ps (suc k) p e = by ps k e
+  where
+    by : (xs : List Process) (i : ℕ) → slice_get xs i ≡ Some p → slice_get (map part_of xs) i ≡ Some (part_of p)
+    by [] i e = cc
+    by (x ∷ xs) zero e = let same : x ≡ p = cc in ap (λ (y : Process). Some (part_of y)) same
+    by (x ∷ xs) (suc i) e = by xs i e
+
+pub part-at : (state : SyncState) (seen : Sight) (pid : ℕ) (p : Process) → IsSightOf state seen → process_at state.processes pid ≡ Some p
+    → part_at seen.parts pid ≡ Some (part_of p)
+part-at state seen pid p sight there = ap (λ (parts : List Part). part_at parts pid) sight.parts ∙ part-seen state.processes pid p there
+
+statuses : (ps : List Process) → map (λ (p : Process). p.status) ps ≡ statuses_of (map part_of ps)
+statuses [] = refl
+statuses (p ∷ ps) = ap (λ (xs : List (Option ℕ)). p.status ∷ xs) (statuses ps)
+
+kept : (state : SyncState) (seen : Sight) → IsSightOf state seen → IsKept (shared state) (statuses_of seen.parts) seen.files seen.pipes seen.tapes
+kept state seen sight = record {
+  statuses = statuses state.processes ∙ ap (λ (parts : List Part). statuses_of parts) (sym sight.parts);
+  files = sym sight.files;
+  pipes = sight.pipes;
+  tapes = sym sight.tapes;
+}
+
+-- ---- at a call
+told-row : (s : State) (verdict : Verdict) → stands_at s ≡ Some Call → MayBePlaced s.hart.memory verdict → MayBeTold s verdict
+told-row s Waits stands place = tt
+told-row s (Replies r) stands place = (stands, place)
+told-row s (Ends status) stands place = tt
+
+pub closed-names : (n : ℕ) (ds : List (Option Descriptor)) → NamesFiles n (map (λ d. None) ds)
+closed-names n [] = tt
+closed-names n (d ∷ ds) = (tt, closed-names n ds)
+
+names-after : (n m : ℕ) (ds : List (Option Descriptor)) (verdict : Verdict) (slots : List Slot) → NamesFiles n (set_slots ds slots)
+    → ((r : Verdict) → verdict ≡ Waits → slots ≡ []) → NamesFiles n (descriptors_after ds verdict slots)
+names-after n m ds Waits slots h none = subst (λ (xs : List Slot). NamesFiles n (set_slots ds xs)) (none Waits refl) h
+names-after n m ds (Replies r) slots h none = h
+names-after n m ds (Ends status) slots h none = closed-names n ds
+
+waits-nothing : (plan : Plan) (verdict : Verdict) → EditsAs verdict plan → verdict ≡ Waits → plan.slots.items ≡ []
+waits-nothing plan Waits edits e = edits.0.slots
+waits-nothing plan (Replies r) edits e = cc
+waits-nothing plan (Ends status) edits e = cc
+
+-- what is seen, as a state that may be looked at
+abbrev sight_shared : Sight → List PipeState → Seen
+sight_shared seen pipes = record { statuses = statuses_of seen.parts; files = seen.files; pipes = pipes; tapes = seen.tapes }
+
+pub call-plans : (seen : Sight) (pid : ℕ) (s : State) (plan : Plan) → stands_at s ≡ Some Call
+    → HaveRoom seen.pipes
+    → ((x : Seen) → IsKept x (statuses_of seen.parts) seen.files seen.pipes seen.tapes
+    → IsPlan plan (row x pid (descriptors_in (part_at seen.parts pid)) (children_in (part_at seen.parts pid)) (request_of s)))
+    → AtMostOneEntry plan.slots.items plan.child plan.collects
+    → OpensAlone plan.pipes.items
+    → length plan.pipes.items ≤ 16
+    → EditsAs plan.verdict plan
+    → IfSome plan.change (IsPossible seen.files)
+    → NamesFiles (length (changed_by seen.files plan.change)) (set_slots (descriptors_in (part_at seen.parts pid)) plan.slots.items)
+    → IfSome plan.tape (AreLeft seen.tapes)
+    → ((x : Seen) (n : ℕ) → IsKept x (statuses_of seen.parts) seen.files seen.pipes seen.tapes → AllByRecursion (HasAtMost n) x.pipes → n + 16 < 2 ^ 64
+    → MayAllStep seen.pipes plan.pipes.items)
+    → IfSome plan.child (IsNext (length seen.parts))
+    → MayBePlaced s.hart.memory plan.verdict
+    → PlansEnter seen pid s plan
+call-plans seen pid s plan stands ends is entry opens few edits possible named left may child place =
+    let ds : List (Option Descriptor) = descriptors_in (part_at seen.parts pid) in
+    let x : Seen = sight_shared seen ends.pipes in
+    let look : IsKept x (statuses_of seen.parts) seen.files seen.pipes seen.tapes = record { statuses = refl; files = refl; pipes = ends.shown; tapes = refl } in
+    record {
+      goes = λ state p sight there state_is running.
+          let part : part_at seen.parts pid ≡ Some (part_of p) = part-at state seen pid p sight there in
+          step-by state pid p plan (row (shared state) pid ds (children_in (part_at seen.parts pid)) (request_of s)) (is (shared state) (kept state seen sight)) edits there running
+          (ap (λ (o : Option Stop). effect_at (shared state) pid p o) (ap stands_at state_is ∙ stands)
+          ∙ ap (λ (o : Option Part). Some (row (shared state) pid (descriptors_in o) (children_in o) (request_of p.state))) (sym part)
+          ∙ ap (λ (t : State). Some (row (shared state) pid ds (children_in (part_at seen.parts pid)) (request_of t))) state_is);
+      verdict = told-row s plan.verdict stands place;
+      edits = edits;
+      one_child = entry.child_or_collects;
+      possible = possible;
+      left = left;
+      named = names-after (length (changed_by seen.files plan.change)) 0 ds plan.verdict plan.slots.items named (λ r waits. waits-nothing plan plan.verdict edits waits);
+      steps = record { kind = opens; few = few };
+      may = may x ends.most look ends.few ends.room;
+      child = child;
+    }
+
+-- ---- at a trap
+pub trap-plans : (seen : Sight) (pid : ℕ) (s : State) (plan : Plan) (cause : Cause) (status : ℕ)
+    → stands_at s ≡ Some (Trap cause) → status ≡ 256 + cause_number cause
+    → IsPlan plan (row_end (descriptors_in (part_at seen.parts pid)) status)
+    → EditsAs plan.verdict plan → OpensAlone plan.pipes.items → length plan.pipes.items ≤ 16 → MayAllStep seen.pipes plan.pipes.items
+    → PlansEnter seen pid s plan
+trap-plans seen pid s plan cause status stands number is edits opens few may =
+    let ds : List (Option Descriptor) = descriptors_in (part_at seen.parts pid) in
+    record {
+      goes = λ state p sight there state_is running.
+          let part : part_at seen.parts pid ≡ Some (part_of p) = part-at state seen pid p sight there in
+          step-by state pid p plan (row_end ds status) is edits there running
+          (ap (λ (o : Option Stop). effect_at (shared state) pid p o) (ap stands_at state_is ∙ stands)
+          ∙ ap (λ (o : Option Part). Some (row_end (descriptors_in o) (256 + cause_number cause))) (sym part)
+          ∙ ap (λ n. Some (row_end ds n)) (sym number));
+      verdict = subst (λ (v : Verdict). MayBeTold s v) (sym is.verdict) tt;
+      edits = edits;
+      one_child = inl is.child;
+      possible = subst (λ (o : Option Change). IfSome o (IsPossible seen.files)) (sym is.change) tt;
+      left = subst (λ (o : Option TapeRead). IfSome o (AreLeft seen.tapes)) (sym is.tape) tt;
+      named =
+          subst (λ (v : Verdict). NamesFiles (length (changed_by seen.files plan.change)) (descriptors_after ds v plan.slots.items)) (sym is.verdict)
+          (closed-names (length (changed_by seen.files plan.change)) ds);
+      steps = record { kind = opens; few = few };
+      may = may;
+      child = subst (λ (o : Option ℕ). IfSome o (IsNext (length seen.parts))) (sym is.child) tt;
+    }
+
+pub trap-result : {E : Type 0} (seen : Sight) (pid : ℕ) (s : State) (r : Result Plan E) (cause : Cause) (status : ℕ)
+    → stands_at s ≡ Some (Trap cause) → status ≡ 256 + cause_number cause
+    → IfOk r (λ plan. IsPlan plan (row_end (descriptors_in (part_at seen.parts pid)) status))
+    → IfOk r (λ plan. EditsAs plan.verdict plan)
+    → IfOk r (λ plan. OpensAlone plan.pipes.items)
+    → IfOk r (λ plan. length plan.pipes.items ≤ 16)
+    → IfOk r (λ plan. MayAllStep seen.pipes plan.pipes.items)
+    → IfOk r (λ plan. PlansEnter seen pid s plan)
+trap-result seen pid s (Ok plan) cause status stands number is edits opens few may = trap-plans seen pid s plan cause status stands number is edits opens few may
+trap-result seen pid s (Err e) cause status stands number is edits opens few may = tt
+
+-- a state that stands somewhere, and at no trap, stands at a call
+pub stands-call : (s : State) (stop : Stop) → stands_at s ≡ Some stop → ((c : Cause) → stop ≡ Trap c → ⊥) → stop ≡ Call
+stands-call s Call h none = refl
+stands-call s (Trap c) h none = absurd (none c refl)
+stands-call s Limit h none = by (next s) refl h
+  where
+    by : (n : Stepped) → next s ≡ n → by_step n (λ t. None) (λ stop. Some stop) ≡ Some Limit → Limit ≡ Call
+    by (Goes t) is at = cc
+    by (Halts stop) is at = absurd (next-not_limit s (is ∙ (let same : stop ≡ Limit = cc in ap (λ (x : Stop). Halts x) same)))
+
+-- the same of a result
+pub result-plans : {E : Type 0} (seen : Sight) (pid : ℕ) (s : State) (r : Result Plan E) (request : Request)
+    → stands_at s ≡ Some Call → request ≡ request_of s
+    → HaveRoom seen.pipes
+    → ((x : Seen) → IsKept x (statuses_of seen.parts) seen.files seen.pipes seen.tapes
+    → IfOk r (λ plan. IsPlan plan (row x pid (descriptors_in (part_at seen.parts pid)) (children_in (part_at seen.parts pid)) request)))
+    → IfOk r (λ plan. AtMostOneEntry plan.slots.items plan.child plan.collects)
+    → IfOk r (λ plan. OpensAlone plan.pipes.items)
+    → IfOk r (λ plan. length plan.pipes.items ≤ 16)
+    → IfOk r (λ plan. EditsAs plan.verdict plan)
+    → IfOk r (λ plan. IfSome plan.change (IsPossible seen.files))
+    → IfOk r (λ plan. NamesFiles (length (changed_by seen.files plan.change)) (set_slots (descriptors_in (part_at seen.parts pid)) plan.slots.items))
+    → IfOk r (λ plan. IfSome plan.tape (AreLeft seen.tapes))
+    → ((x : Seen) (n : ℕ) → IsKept x (statuses_of seen.parts) seen.files seen.pipes seen.tapes → AllByRecursion (HasAtMost n) x.pipes → n + 16 < 2 ^ 64
+    → IfOk r (λ plan. MayAllStep seen.pipes plan.pipes.items))
+    → IfOk r (λ plan. IfSome plan.child (IsNext (length seen.parts)))
+    → IfOk r (λ plan. (t : State) → request ≡ request_of t → MayBePlaced t.hart.memory plan.verdict)
+    → IfOk r (λ plan. PlansEnter seen pid s plan)
+result-plans seen pid s (Ok plan) request stands asks ends is entry opens few edits possible named left may child place =
+    call-plans seen pid s plan stands ends
+    (λ x look. subst (λ (q : Request). IsPlan plan (row x pid (descriptors_in (part_at seen.parts pid)) (children_in (part_at seen.parts pid)) q)) asks (is x look))
+    entry opens few edits possible named left may child (place s asks)
+result-plans seen pid s (Err e) request stands asks ends is entry opens few edits possible named left may child place = tt

@@ -1,0 +1,264 @@
+-- A core whose next process is lent.
+use Rattle.std.proofs.Common.{◌≡◌, ℕ, zero, suc, ◌+◌, ◌-◌, ◌*◌, ◌^◌, ◌<◌, ◌≤◌, ◌⊎◌, inl, inr, Bool, true, false, ◌&&◌, not, nat_lt, nat_le, cond, List, [], ◌∷◌, ◌++◌, length, take, drop, map, slice_get, slice_set, slice_index_or, Option, Some, None, is_some, IfSome, option_map, refl, sym, ap, subst, ◌∙◌, arith}
+use Rattle.std.specs.Prelude.{find, fold, if◌then◌else◌}
+use Rattle.std.proofs.lemmas.Bool.{ltb-false, leb-true}
+use Rattle.std.proofs.lemmas.List.{map-set}
+use Rattle.std.proofs.lemmas.List.Sums.{sum_by-set}
+use Rattle.std.proofs.lemmas.Option.{slice_get_within, slice_get-get_or, slice_get-map}
+use Rattle.std.proofs.Math.Seq.{map-set_same}
+use Rattle.machine_model.specs.States.{State}
+use Rattle.kernel_model.specs.Answers.{Kernel, Lending, lending_at, quantum_out, process_of as process_in, is_lent, loans_out, now, limit, has_ended, count_at}
+use Rattle.kernel_model.specs.Loans.{is_waiting, is_lendable, pick, is_full_for_loan, loan_count, loans_in, loan_refusal, put_lending, with_loan, numbers_to, IsNextLoan}
+use Rattle.kernel_model.specs.State.{Process}
+use Rattle.kernel_model.specs.World.{Boot, World}
+use Rattle.kernel_model.specs.declared.answer.Refused.TheVariants as refused
+use Rattle.kernel_model.specs.declared.event.Event.{Event}
+use Rattle.kernel_step.specs.Stands.{run_of, kernel_of, KeepsRun}
+use Rattle.kernel_step.specs.Lending.{full_for_loan_of, is_fit, next_fit, IsLent, Lent}
+use Rattle.kernel_step.specs.Loaned.{loan_out}
+use Rattle.kernel_step.specs.Mirrors.{IsTask, AreTasks}
+use Rattle.kernel_step.specs.Seen.{Withholds}
+use Rattle.kernel_step.specs.Tasks.{machine_of, out_of, status_of, process_of, bare, lending_of, count_out, needed, unsettled}
+use Rattle.kernel_step.specs.Waiting.{is_asleep}
+use Rattle.kernel_step.specs.declared.loan.Loan.{Loan}
+use Rattle.kernel_step.specs.declared.system.System.{System}
+use Rattle.withheld.specs.Withheld.{Withheld, whats}
+use Rattle.kernel_model.specs.Shown.{told, end_in}
+use Rattle.kernel_model.specs.Entries.{Item}
+use Rattle.kernel_step.specs.declared.task.Task.{Task}
+use Rattle.kernel_step.proofs.FewLoans.{few-put, few-here}
+use Rattle.kernel_step.proofs.LendPick.{find-round}
+use Rattle.kernel_step.proofs.Lists.{length-map}
+use Rattle.kernel_step.proofs.Turning.{IsProcessOf, process-there}
+
+-- what stands in a list where x was set
+get-set : {A : Type 0} (xs : List A) (i j : ℕ) (x y : A) → slice_get (slice_set xs i x) j ≡ Some y
+    → ((j ≡ i) × (y ≡ x)) ⊎ (slice_get xs j ≡ Some y)
+get-set [] i j x y e = inr e
+get-set (z ∷ zs) zero zero x y e = inl (refl, cc)
+get-set (z ∷ zs) zero (suc j) x y e = inr e
+get-set (z ∷ zs) (suc i) zero x y e = inr e
+get-set (z ∷ zs) (suc i) (suc j) x y e = elim (get-set zs i j x y e) [
+  | inl h ↦ inl (ap (λ k. suc k) h.0, h.1)
+  | inr h ↦ inr h
+]
+
+sum_from-map : {A B : Type 0} (f : A → B) (w : B → ℕ) (n : ℕ) (xs : List A) → fold (λ a y. a + w y) n (map f xs) ≡ fold (λ a x. a + w (f x)) n xs
+sum_from-map f w n [] = refl
+sum_from-map f w n (x ∷ xs) = sum_from-map f w (n + w (f x)) xs
+
+-- one more is out
+count_out-lent : (quantum : ℕ) (tasks : List Task) (place : ℕ) (t u : Task) → slice_get tasks place ≡ Some t → is_some (out_of t) ≡ false
+    → out_of u ≡ Some quantum → count_out (slice_set tasks place u) ≡ count_out tasks + 1
+count_out-lent quantum tasks place t u there here out =
+    let weight : Task → ℕ = λ u. cond (is_some (out_of u)) 1 0 in
+    let within : place < length tasks = slice_get_within tasks place t there in
+    let at : slice_get tasks place ≡ Some (slice_index_or tasks place t) = slice_get-get_or tasks place t within in
+    let same : slice_index_or tasks place t ≡ t = cc in
+    let none : weight (slice_index_or tasks place t) ≡ 0 = ap weight same ∙ ap (λ b. cond b 1 0) here in
+    let one : weight u ≡ 1 = ap (λ (o : Option ℕ). cond (is_some o) 1 0) out in
+    let sums : count_out (slice_set tasks place u) + weight (slice_index_or tasks place t) ≡ count_out tasks + weight u =
+    sum_by-set weight tasks place u t within in
+    omega arith
+
+loans_out-is : (b : Boot) (history : List Event) (tasks : List Task) (last : ℕ) → loans_out (kernel_of b history tasks last) ≡ count_out tasks
+loans_out-is b history tasks last = sum_from-map lending_of (λ (l : Lending). cond (is_some l.out) 1 0) 0 tasks
+
+-- the refusal is that of the tasks
+pub full-is : (b : Boot) (history : List Event) (tasks : List Task) (last : ℕ)
+    → is_full_for_loan (kernel_of b history tasks last) ≡ full_for_loan_of (length history) tasks
+full-is b history tasks last = ap (λ n. nat_lt (2 ^ 40 - 2) (length history + 2 * n)) (loans_out-is b history tasks last)
+
+-- ---- what a task that fits is
+pub record IsFit (quantum : ℕ) (t : Task) : Type 0 where
+  pub here : is_some (out_of t) ≡ false
+  pub few : (machine_of t).count + (quantum + 1) ≤ 2 ^ 40
+  pub runs : status_of t ≡ None
+
+both : (a b : Bool) → (a && b) ≡ true → (a ≡ true) × (b ≡ true)
+both true b h = (refl, h)
+both false b h = cc
+
+unless : (a : Bool) → not a ≡ true → a ≡ false
+unless true h = cc
+unless false h = refl
+
+no-end : (o : Option ℕ) → is_some o ≡ false → o ≡ None
+no-end None h = refl
+no-end (Some e) h = cc
+
+pub fits : (quantum served : ℕ) (t : Task) → is_fit quantum served t ≡ true → IsFit quantum t
+fits quantum served t h =
+    let ended : Bool = not (is_some (status_of t)) in
+    let here : Bool = not (is_some (out_of t)) in
+    let room : Bool = nat_le ((machine_of t).count + quantum + 1) (2 ^ 40) in
+    let z = both (ended && here && room) (not (is_asleep served t.waited)) h in
+    let a = both (ended && here) room z.0 in
+    let b = both ended here a.0 in
+    let few : (machine_of t).count + quantum + 1 ≤ 2 ^ 40 = leb-true ((machine_of t).count + quantum + 1) (2 ^ 40) a.1 in
+    record { here = unless (is_some (out_of t)) b.1; few = omega arith; runs = no-end (status_of t) (unless (is_some (status_of t)) b.0) }
+
+-- ---- the invariant
+lent-task : (w : World) (served place quantum : ℕ) (t u : Task) → IsTask w served place t → is_fit quantum served t ≡ true → IsLent quantum t u → IsTask w served place u
+lent-task w served place quantum t u h fit lent = record {
+  number = lent.pid ∙ h.number;
+  trace = subst (λ (r : Withheld Item). Withholds w.storage.committed (told (place + 1) w.log) r) (sym lent.trace) h.trace;
+  budget =
+      let count : (machine_of u).count ≡ (machine_of t).count = ap (λ (s : State). s.count) lent.machine in
+      let more : needed (out_of u) ≡ quantum + 1 = ap needed lent.out in
+      let few = (fits quantum served t fit).few in
+      omega (arith, count, more, few);
+  waits = h.waits ∙ ap (λ (o : Option ℕ). is_asleep served o) (sym lent.waited);
+  since = subst (λ (o : Option ℕ). IfSome o (λ before. before ≤ served)) (sym lent.waited) h.since;
+  running = λ e. ap (λ (r : Withheld Item). end_in (whats r.items)) lent.trace ∙ (fits quantum served t fit).runs;
+}
+
+process-lent : (quantum : ℕ) (t u : Task) → IsLent quantum t u → process_of u ≡ process_of t
+process-lent quantum t u lent =
+    ap (λ (s : State). record { state = s; descriptors = []; children = []; status = status_of u }) lent.machine
+    ∙ ap (λ (r : Withheld Item). record { state = machine_of t; descriptors = []; children = []; status = end_in (whats r.items) }) lent.trace
+
+lent-tasks : (w : World) (served : ℕ) (tasks : List Task) (place quantum : ℕ) (t u : Task) → AreTasks w served tasks → slice_get tasks place ≡ Some t → is_fit quantum served t ≡ true
+    → IsLent quantum t u → AreTasks w served (slice_set tasks place u)
+lent-tasks w served tasks place quantum t u h there fit lent =
+    let within : place < length tasks = slice_get_within tasks place t there in
+    let at : slice_get tasks place ≡ Some (slice_index_or tasks place t) = slice_get-get_or tasks place t within in
+    let same : slice_index_or tasks place t ≡ t = cc in
+    record {
+      processes = map-set_same process_of tasks place u t (process-lent quantum t u lent ∙ ap process_of (sym same)) ∙ h.processes;
+      each = λ i x found. elim (get-set tasks place i u x found) [
+        | inl s ↦ subst (λ (k : ℕ). IsTask w served k x) (sym s.0)
+            (subst (λ (v : Task). IsTask w served place v) (sym s.1) (lent-task w served place quantum t u (h.each place t there) fit lent))
+        | inr s ↦ h.each i x s
+      ];
+    }
+
+pub lent-core : (b : Boot) (history : List Event) (old new : List Task) (system : System) (quantum from : ℕ) (loan : Loan)
+    → KeepsRun b history old system → full_for_loan_of (length history) old ≡ false → Lent quantum system.served from old new loan → KeepsRun b history new system
+lent-core b history old new system quantum from loan h room lent =
+    let t : Task = lent.task in
+    let u : Task = lent.later in
+    let few : length history + 2 * count_out old ≤ 2 ^ 40 - 2 = ltb-false (2 ^ 40 - 2) (length history + 2 * count_out old) room in
+    let more : count_out (slice_set old lent.place u) ≡ count_out old + 1 =
+    count_out-lent quantum old lent.place t u lent.there (fits quantum system.served t lent.fit).here lent.lent.out in
+    let had : t.loans ≤ length history = few-here (length history) old lent.place t h.loans lent.there (fits quantum system.served t lent.fit).here in
+    let loans : u.loans ≡ t.loans + 1 = lent.lent.loans in
+    let one : unsettled (out_of u) ≡ 1 = ap unsettled lent.lent.out in
+    subst (λ (ts : List Task). KeepsRun b history ts system) (sym lent.after) (record {
+      mirrors = record {
+        each = lent-tasks (run_of b history) system.served old lent.place quantum t u h.mirrors.each lent.there lent.fit lent.lent;
+        changes = h.mirrors.changes;
+        tapes = h.mirrors.tapes;
+        parts = h.mirrors.parts;
+        pipes = h.mirrors.pipes;
+        counted = h.mirrors.counted;
+        kept = h.mirrors.kept;
+        screens = h.mirrors.screens;
+        committer = h.mirrors.committer;
+      };
+      room = omega arith;
+      loans = few-put (length history) old lent.place u (omega (arith, had, loans, one)) h.loans;
+    })
+
+-- ---- the process that is picked
+abbrev pub lendable_by : Option Process → Bool → Bool → ℕ → Bool
+lendable_by p lent waiting quantum =
+    is_some p && not (has_ended p) && not lent && nat_le (count_at p + quantum + 1) limit && not waiting
+
+process-at : (b : Boot) (history : List Event) (tasks : List Task) (system : System) (place : ℕ) (t : Task)
+    → KeepsRun b history tasks system → slice_get tasks place ≡ Some t → IsProcessOf (run_of b history).sync.processes (suc place) t
+process-at b history tasks system place t h there = process-there (run_of b history) system.served tasks (suc place) place t h.mirrors.each (omega arith) there
+
+lending-there : (tasks : List Task) (place : ℕ) (t : Task) → slice_get tasks place ≡ Some t → lending_at (map lending_of tasks) (suc place) ≡ Some (lending_of t)
+lending-there tasks place t there = slice_get-map lending_of tasks place ∙ ap (λ o. option_map lending_of o) there
+
+lendable-is : (b : Boot) (history : List Event) (tasks : List Task) (system : System) (last quantum place : ℕ) (t : Task)
+    → KeepsRun b history tasks system → slice_get tasks place ≡ Some t
+    → is_lendable (kernel_of b history tasks last) quantum (suc place) ≡ is_fit quantum system.served t
+lendable-is b history tasks system last quantum place t h there =
+    let k : Kernel = kernel_of b history tasks last in
+    let of : IsProcessOf (run_of b history).sync.processes (suc place) t = process-at b history tasks system place t h there in
+    let next : place + 1 ≡ suc place = omega arith in
+    let waits : is_waiting (suc place) (now k).log ≡ is_asleep system.served t.waited =
+    ap (λ p. is_waiting p (run_of b history).log) (sym next) ∙ (h.mirrors.each.each place t there).waits in
+    let lent : is_lent k (suc place) ≡ is_some (out_of t) = ap (λ (o : Option Lending). is_some (quantum_out o)) (lending-there tasks place t there) in
+    ap (λ (o : Option Process). lendable_by o (is_lent k (suc place)) (is_waiting (suc place) (now k).log) quantum) of.there
+    ∙ ap (λ (o : Option ℕ). not (is_some o) && not (is_lent k (suc place)) && nat_le (of.process.state.count + quantum + 1) limit && not (is_waiting (suc place) (now k).log)) of.status
+    ∙ ap (λ (s : State). not (is_some (status_of t)) && not (is_lent k (suc place)) && nat_le (s.count + quantum + 1) limit && not (is_waiting (suc place) (now k).log)) of.state
+    ∙ ap (λ v. lendable_by (Some (process_of t)) v (is_waiting (suc place) (now k).log) quantum) lent
+    ∙ ap (λ v. lendable_by (Some (process_of t)) (is_some (out_of t)) v quantum) waits
+
+pub pick-is : (b : Boot) (history : List Event) (tasks : List Task) (system : System) (last quantum : ℕ) → KeepsRun b history tasks system
+    → pick (kernel_of b history tasks last) quantum ≡ option_map (λ i. suc i) (next_fit quantum system.served last tasks)
+pick-is b history tasks system last quantum h =
+    let k : Kernel = kernel_of b history tasks last in
+    let count : length (now k).sync.processes ≡ length tasks =
+    sym (length-map bare (now k).sync.processes) ∙ ap (λ (ps : List Process). length ps) (sym h.mirrors.each.processes) ∙ length-map process_of tasks in
+    ap (λ n. find (is_lendable k quantum) (drop last (numbers_to n) ++ take last (numbers_to n))) count
+    ∙ find-round (is_lendable k quantum) (is_fit quantum system.served) last tasks (λ i t there. lendable-is b history tasks system last quantum i t h there)
+
+-- ---- the loan
+lending-lent : (quantum : ℕ) (tasks : List Task) (place : ℕ) (t u : Task) → IsLent quantum t u
+    → map lending_of (slice_set tasks place u) ≡ put_lending (map lending_of tasks) (suc place) (record { loans = t.loans + 1; out = Some quantum })
+lending-lent quantum tasks place t u lent =
+    map-set lending_of tasks place u
+    ∙ ap (λ (n : ℕ). slice_set (map lending_of tasks) place (record { loans = n; out = out_of u })) lent.loans
+    ∙ ap (λ (o : Option ℕ). slice_set (map lending_of tasks) place (record { loans = t.loans + 1; out = o })) lent.out
+
+pub loan-is : (b : Boot) (history : List Event) (old new : List Task) (system : System) (last quantum : ℕ) (loan : Loan)
+    → KeepsRun b history old system → Lent quantum system.served last old new loan
+    → IsNextLoan (kernel_of b history old last) (kernel_of b history new loan.pid) quantum (loan_out loan)
+loan-is b history old new system last quantum loan h lent =
+    let k : Kernel = kernel_of b history old last in
+    let t : Task = lent.task in
+    let of : IsProcessOf (run_of b history).sync.processes (suc lent.place) t = process-at b history old system lent.place t h lent.there in
+    let number : loan.pid ≡ suc lent.place = let n : t.pid ≡ lent.place + 1 = (h.mirrors.each.each lent.place t lent.there).number in
+    let p : loan.pid ≡ t.pid = lent.given.process in omega arith in
+    let loans : loan_count k (suc lent.place) ≡ t.loans = ap (λ (o : Option Lending). loans_in o) (lending-there old lent.place t lent.there) in
+    let put : ℕ → Kernel = λ n. record {
+      boot = k.boot;
+      history = history;
+      last_lent = suc lent.place;
+      lendings = put_lending k.lendings (suc lent.place) (record { loans = n + 1; out = Some quantum });
+    } in
+    let lends : List Lending → ℕ → Kernel = λ ls p. record { boot = k.boot; history = history; lendings = ls; last_lent = p } in
+    record {
+      picked = pick-is b history old system last quantum h ∙ ap (λ o. option_map (λ i. suc i) o) lent.next ∙ ap (λ p. Some p) (sym number);
+      number = lent.given.number ∙ ap (λ n. n + 1) (sym loans) ∙ ap (λ p. loan_count k p + 1) (sym number);
+      asked = lent.given.quantum;
+      began = ap (λ p. option_map (λ (q : Process). q.state) (process_in k p)) number
+          ∙ ap (λ o. option_map (λ (q : Process). q.state) o) of.there
+          ∙ ap (λ (s : State). Some s) of.state
+          ∙ ap (λ s. Some s) (sym lent.given.began);
+      machine = loan.same;
+      noted = ap (λ ts. lends (map lending_of ts) loan.pid) lent.after
+          ∙ ap (λ ls. lends ls loan.pid) (lending-lent quantum old lent.place t lent.later lent.lent)
+          ∙ ap (λ p. lends (put_lending k.lendings (suc lent.place) (record { loans = t.loans + 1; out = Some quantum })) p) number
+          ∙ ap put (sym loans)
+          ∙ ap (λ p. with_loan k p quantum) (sym number);
+    }
+
+-- ---- what a loan comes to, at the core k
+unrefused : (b : Boot) (history : List Event) (old : List Task) (last : ℕ) → full_for_loan_of (length history) old ≡ false
+    → loan_refusal (kernel_of b history old last) ≡ None
+unrefused b history old last room = ap (λ v. if v then Some refused.Budget else None) (full-is b history old last ∙ room)
+
+pub lends-one : (b : Boot) (history : List Event) (old new : List Task) (system : System) (last quantum : ℕ) (loan : Loan) (k : Kernel)
+    → kernel_of b history old last ≡ k → KeepsRun b history old system → full_for_loan_of (length history) old ≡ false → Lent quantum system.served last old new loan
+    → (loan_refusal k ≡ None) × IsNextLoan k (kernel_of b history new loan.pid) quantum (loan_out loan)
+lends-one b history old new system last quantum loan k e h room lent =
+    subst (λ (v : Kernel). (loan_refusal v ≡ None) × IsNextLoan v (kernel_of b history new loan.pid) quantum (loan_out loan)) e
+    (unrefused b history old last room, loan-is b history old new system last quantum loan h lent)
+
+pub lends-none : (b : Boot) (history : List Event) (old new : List Task) (system : System) (last quantum : ℕ) (k : Kernel)
+    → kernel_of b history old last ≡ k → KeepsRun b history old system → full_for_loan_of (length history) old ≡ false
+    → next_fit quantum system.served last old ≡ None → new ≡ old
+    → (loan_refusal k ≡ None) × ((pick k quantum ≡ None) × (kernel_of b history new last ≡ k))
+lends-none b history old new system last quantum k e h room none same =
+    subst (λ (v : Kernel). (loan_refusal v ≡ None) × ((pick v quantum ≡ None) × (kernel_of b history new last ≡ v))) e (
+      unrefused b history old last room,
+      (
+        pick-is b history old system last quantum h ∙ ap (λ o. option_map (λ i. suc i) o) none,
+        ap (λ ts. kernel_of b history ts last) same,
+      ),
+    )

@@ -1,0 +1,52 @@
+-- What a core shows and hands out is what the run releases.
+use Rattle.std.proofs.Common.{◌≡◌, ℕ, ◌+◌, Bool, true, false, nat_le, if◌then◌else◌, List, [], ◌∷◌, slice_get, length, map, suc, Option, Some, None, is_some, refl, sym, ap, ◌∙◌}
+use Rattle.kernel_model.specs.Paths.{is_durable}
+use Rattle.kernel_model.specs.Shown.{Given, prefix, released}
+use Rattle.kernel_model.specs.State.{Process, process_at}
+use Rattle.kernel_model.specs.World.{Boot}
+use Rattle.withheld.specs.Withheld.{Withheld, Held, whats, released as released_of}
+use Rattle.kernel_step.specs.Stands.{run_of, KeepsRun}
+use Rattle.kernel_step.specs.Seen.{AreMarked, Withholds}
+use Rattle.kernel_step.specs.Tasks.{process_of}
+use Rattle.kernel_step.specs.Tests.{IsPlaceOf}
+use Rattle.kernel_step.specs.declared.system.System.{System}
+use Rattle.kernel_step.specs.declared.task.Task.{Task}
+use Rattle.kernel_model.specs.declared.event.Event.{Event}
+use Rattle.kernel_step.proofs.Turning.{IsProcessOf, process-there, none-bare}
+
+-- ---- what is released
+released-step : {A : Type 0} (s t : Bool) (g : Given A) (h : Held A) (gs : List (Given A)) (hs : List (Held A)) → t ≡ s → h.what ≡ g.what
+    → whats hs ≡ map (λ (x : Given A). x.what) gs → whats (if t then h ∷ hs else []) ≡ map (λ (x : Given A). x.what) (if s then g ∷ gs else [])
+released-step {A} s true g h gs hs e what rest =
+    ap (λ (x : A). x ∷ whats hs) what ∙ ap (λ (xs : List A). g.what ∷ xs) rest ∙ ap (λ (b : Bool). map (λ (x : Given A). x.what) (if b then g ∷ gs else [])) e
+released-step {A} s false g h gs hs e what rest = ap (λ (b : Bool). map (λ (x : Given A). x.what) (if b then g ∷ gs else [])) e
+
+released-so : {A : Type 0} (c : ℕ) (gs : List (Given A)) (hs : List (Held A)) → AreMarked gs hs → whats (prefix (λ h. nat_le h.mark c) hs) ≡ released c gs
+released-so c [] [] m = refl
+released-so c [] (h ∷ hs) m = absurd m
+released-so c (g ∷ gs) [] m = absurd m
+released-so {A} c (g ∷ gs) (h ∷ hs) m =
+    released-step (is_durable c g.past g.entry) (nat_le h.mark c) g h (prefix (λ (x : Given A). is_durable c x.past x.entry) gs)
+    (prefix (λ (x : Held A). nat_le x.mark c) hs) (m.1.says c) m.0 (released-so c gs hs m.2)
+
+-- what is withheld releases what the run does
+pub released-is : {A : Type 0} (c : ℕ) (gs : List (Given A)) (w : Withheld A) → Withholds c gs w → released_of w ≡ released c gs
+released-is {A} c gs w h = ap (λ (n : ℕ). whats (prefix (λ (x : Held A). nat_le x.mark n) w.items)) h.committed ∙ released-so c gs w.items h.marked
+
+pub marked-length : {A : Type 0} (gs : List (Given A)) (hs : List (Held A)) → AreMarked gs hs → length hs ≡ length gs
+marked-length [] [] m = refl
+marked-length [] (h ∷ hs) m = absurd m
+marked-length (g ∷ gs) [] m = absurd m
+marked-length (g ∷ gs) (h ∷ hs) m = ap (λ n. suc n) (marked-length gs hs m.2)
+
+-- ---- whether there is such a process
+pub there-is : (b : Boot) (history : List Event) (tasks : List Task) (s : System) (pid place : ℕ) (t : Task) → KeepsRun b history tasks s
+    → IsPlaceOf tasks pid place → slice_get tasks place ≡ Some t → is_some (process_at (run_of b history).sync.processes pid) ≡ true
+there-is b history tasks s pid place t h placed there =
+    let of : IsProcessOf (run_of b history).sync.processes pid t = process-there (run_of b history) s.served tasks pid place t h.mirrors.each placed.number there in
+    ap (λ (o : Option Process). is_some o) of.there
+
+pub none-is : (b : Boot) (history : List Event) (tasks : List Task) (s : System) (pid : ℕ) → KeepsRun b history tasks s
+    → process_at (map process_of tasks) pid ≡ None → process_at (run_of b history).sync.processes pid ≡ None
+none-is b history tasks s pid h none =
+    none-bare (run_of b history).sync.processes pid (ap (λ (ps : List Process). process_at ps pid) (sym h.mirrors.each.processes) ∙ none)

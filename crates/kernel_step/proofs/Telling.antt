@@ -1,0 +1,44 @@
+-- A task that is told something, from its parts.
+use Rattle.std.proofs.Common.{◌≡◌, ◌∙◌, ◌++◌, ℕ, List, Option, None, IfSome, Some, option_to_list, refl, sym, ap}
+use Rattle.machine_model.specs.States.{State}
+use Rattle.kernel_model.specs.Entries.{Item}
+use Rattle.kernel_model.specs.Shown.{end_in}
+use Rattle.kernel_model.specs.declared.request.Verdict.{Verdict}
+use Rattle.withheld.specs.Withheld.{Withheld, Held, IsSame, all_held, whats}
+use Rattle.kernel_step.specs.Entering.{item_of, machine_after, IsTold, IsChild}
+use Rattle.kernel_step.specs.Settling.{IsBack}
+use Rattle.kernel_step.specs.Waiting.{waited_after}
+use Rattle.kernel_step.specs.declared.task.Task.{Task}
+use Rattle.kernel_step.specs.declared.whereabouts.Whereabouts.TheVariants.{Here}
+
+-- room in its trace is no matter
+pub told-then : (verdict : Verdict) (mark before : ℕ) (t u : Task) (r : Withheld Item) → IsSame t.trace r → IsTold verdict mark before (record t { trace = r }) u
+    → IsTold verdict mark before t u
+told-then verdict mark before t u r same h = record {
+  pid = h.pid;
+  machine = h.machine;
+  items = h.items ∙ ap (λ (hs : List (Held Item)). hs ++ all_held mark (option_to_list (item_of verdict))) same.items;
+  committed = h.committed ∙ same.committed;
+  waited = h.waited;
+  loans = h.loans;
+  out = h.out;
+}
+
+-- its machine came back, and then it was told this
+pub told-back : (verdict : Verdict) (mark before : ℕ) (t u v : Task) (m : State) (r : Withheld Item) → IsSame t.trace r → IsBack m (record t { trace = r }) u
+    → IsTold verdict mark before u v → IsTold verdict mark before (record t { whereabouts = Here m }) v
+told-back verdict mark before t u v m r same back h = record {
+  pid = h.pid ∙ back.pid;
+  machine = h.machine ∙ ap (λ (s : State). machine_after s verdict) back.machine;
+  items = h.items ∙ ap (λ (hs : List (Held Item)). hs ++ all_held mark (option_to_list (item_of verdict))) (back.trace.items ∙ same.items);
+  committed = h.committed ∙ back.trace.committed ∙ same.committed;
+  waited = h.waited ∙ ap (λ (o : Option ℕ). waited_after verdict before o) back.waited;
+  loans = h.loans ∙ back.loans;
+  out = h.out ∙ back.out;
+}
+
+-- a process that is made has not ended, where its parent has not
+pub child-runs : (number : Option ℕ) (s : State) (parent : Withheld Item) (o : Option Task) → IsChild number s parent o → end_in (whats parent.items) ≡ None
+    → IfSome o (λ (u : Task). end_in (whats u.trace.items) ≡ None)
+child-runs number s parent None made running = tt
+child-runs number s parent (Some u) made running = ap (λ (hs : List (Held Item)). end_in (whats hs)) made.1.items ∙ running

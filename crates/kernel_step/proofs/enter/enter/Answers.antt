@@ -1,0 +1,102 @@
+-- The parts do what the run says.
+use Rattle.std.proofs.Common.{◌≡◌, ◌∙◌, ℕ, ap, sym, subst, ◌++◌, List, Option, None, Some, slice_get, slice_set, map, option_to_list}
+use Rattle.kernel_model.specs.Answers.{with_child}
+use Rattle.kernel_model.specs.Answers.{entered as answer_to}
+use Rattle.kernel_model.specs.World.{World, happens}
+use Rattle.kernel_model.specs.declared.answer.Outcome.{Outcome}
+use Rattle.kernel_model.specs.declared.event.Event.TheVariants.{Enter}
+use Rattle.kernel_step.specs.Entering.{IsDone}
+use Rattle.kernel_step.specs.Mirrors.{Mirrors}
+use Rattle.kernel_step.specs.Tests.{IsPlaceOf, enter_refusal_of}
+use Rattle.kernel_step.specs.Tasks.{lending_of}
+use Rattle.kernel_step.specs.declared.system.System.{System}
+use Rattle.kernel_step.specs.declared.task.Task.{Task}
+use Rattle.kernel_step.proofs.EnterFine.{IsFineTask, fine-task}
+use Rattle.kernel_step.proofs.EnterResults.{on-err-any}
+use Rattle.kernel_step.proofs.EnterWorld.{IsRun, may-plan, done-runs, same-mirrors, same-lendings}
+use Rattle.kernel_step.proofs.Lists.{get-reserved}
+use Rattle.kernel_step.proofs.enter.enter.Goals as goal
+use Rattle.kernel_step.proofs.enter.enter.Goals.{After-index_mut-task}
+
+-- ---- the task
+placed : (c : After-index_mut-task) → IsPlaceOf c.args.tasks.now.items c.args.pid c.in_ok-place.place
+placed c = subst (λ (ts : List Task). IsPlaceOf ts c.args.pid c.in_ok-place.place) c.deref-2.ensures.value c.in_ok-place.ensures.place
+
+there : (c : After-index_mut-task) → slice_get c.args.tasks.now.items c.in_ok-place.place ≡ Some c.index_mut-task.result.now
+there c =
+    get-reserved c.args.tasks.now.items c.reserve.new.self.items c.in_ok-place.place c.index_mut-task.result.now
+    c.in_ok-reserve.ensures.items (placed c).there c.index_mut-task.ensures.value
+
+fine : (c : After-index_mut-task) → IsFineTask c.index_mut-task.result.now c.is_full-full.result
+fine c =
+    fine-task c.args.tasks.now.items c.is_full-full.result c.args.pid c.in_ok-place.place c.index_mut-task.result.now (placed c).number (there c)
+    (subst (λ (ts : List Task). enter_refusal_of ts c.is_full-full.result c.args.pid ≡ None) c.deref-2.ensures.value c.in_ok-place.ensures.fine)
+
+-- ---- the Enter
+pub enter_task-requires-clause-here : goal.enter_task-requires-clause-here
+enter_task-requires-clause-here c = (fine (goal.at.enter_task-requires-clause-here c).After-index_mut-task).here
+
+pub enter_task-requires-clause-stands : goal.enter_task-requires-clause-stands
+enter_task-requires-clause-stands c = (fine (goal.at.enter_task-requires-clause-stands c).After-index_mut-task).stopped
+
+pub enter_task-requires-clause-budget : goal.enter_task-requires-clause-budget
+enter_task-requires-clause-budget c = (fine (goal.at.enter_task-requires-clause-budget c).After-index_mut-task).few
+
+pub enter_task-requires-clause-running : goal.enter_task-requires-clause-running
+enter_task-requires-clause-running c = (fine (goal.at.enter_task-requires-clause-running c).After-index_mut-task).running
+
+pub enter_task-requires-clause-fine : goal.enter_task-requires-clause-fine
+enter_task-requires-clause-fine c =
+    let t = (goal.at.enter_task-requires-clause-fine c).After-index_mut-task in
+    may-plan c.checkpoints_fit.ensures c.requires.mirrors.0 c.args.tasks.now.items c.args.system.now c.args.pid c.in_ok-place.place c.index_mut-task.result.now
+    c.requires.mirrors.1 c.requires.mirrors.2 (placed t).number (there t)
+
+-- the run after it
+runs : (c : After-index_mut-task) (u : Task) (s' : System) (outcome : Outcome) (child : Option Task)
+    → IsDone c.args.pid c.index_mut-task.result.now u c.args.system.now s' outcome child
+    → (w : World) → Mirrors w c.args.tasks.now.items c.args.system.now
+    → IsRun w c.args.pid c.args.tasks.now.items (slice_set c.args.tasks.now.items c.in_ok-place.place u ++ option_to_list child) s' outcome
+runs c u s' outcome child done w h =
+    done-runs (record { changes = c.made_files_change.ensures; pipes = record { shown = c.steps_are_shown.ensures.next; grown = c.ends_grow_by_one.ensures } }) w c.args.tasks.now.items c.args.system.now s' c.args.pid c.in_ok-place.place c.is_full-full.result c.index_mut-task.result.now u outcome child
+    h (placed c).number (there c) (fine c) done
+
+pub returns-clause-answer : goal.returns-clause-answer
+returns-clause-answer c = λ w h.
+    let run = runs (goal.at.returns-clause-answer c).After-index_mut-task c.enter_task.new.task c.enter_task.new.system c.in_ok-outcome.outcome c.in_ok-outcome.child c.in_ok-outcome.ensures.done w h in
+    c.entered.ensures ∙ ap (λ (o : Outcome). answer_to o) run.outcome_is
+
+pub returns-clause-mirrors : goal.returns-clause-mirrors
+returns-clause-mirrors c = λ w h.
+    let run = runs (goal.at.returns-clause-mirrors c).After-index_mut-task c.enter_task.new.task c.enter_task.new.system c.in_ok-outcome.outcome c.in_ok-outcome.child c.in_ok-outcome.ensures.done w h in
+    subst (λ (ts : List Task). Mirrors (happens w (Enter c.args.pid)) ts c.enter_task.new.system)
+    (sym (c.join.ensures
+    ∙ ap (λ (ts : List Task). slice_set ts c.in_ok-place.place c.enter_task.new.task ++ option_to_list c.in_ok-outcome.child) c.in_ok-reserve.ensures.items))
+    run.mirrors
+
+pub returns-clause-lendings : goal.returns-clause-lendings
+returns-clause-lendings c = λ w h.
+    let run = runs (goal.at.returns-clause-lendings c).After-index_mut-task c.enter_task.new.task c.enter_task.new.system c.in_ok-outcome.outcome c.in_ok-outcome.child c.in_ok-outcome.ensures.done w h in
+    ap (λ (ts : List Task). map lending_of ts)
+    (c.join.ensures
+    ∙ ap (λ (ts : List Task). slice_set ts c.in_ok-place.place c.enter_task.new.task ++ option_to_list c.in_ok-outcome.child) c.in_ok-reserve.ensures.items)
+    ∙ run.lendings
+    ∙ ap (λ (o : Option ℕ). with_child (map lending_of c.args.tasks.now.items) o) run.child_is
+
+pub returns-in_err-outcome-clause-same : goal.returns-in_err-outcome-clause-same
+returns-in_err-outcome-clause-same c =
+    let tasks : List Task = c.args.tasks.now.items in
+    let u : Task = c.enter_task.new.task in
+    on-err-any c.from_residual-in_err-outcome.result (λ w h.
+    subst (λ (ts : List Task). Mirrors w (slice_set ts c.in_ok-place.place u) c.enter_task.new.system) (sym c.in_ok-reserve.ensures.items)
+    (same-mirrors w tasks c.args.system.now c.enter_task.new.system c.in_ok-place.place c.index_mut-task.result.now u
+    (there (goal.at.returns-in_err-outcome-clause-same c).After-index_mut-task)
+    c.in_err-outcome.ensures.same_task c.in_err-outcome.ensures.same_system h))
+
+pub returns-in_err-outcome-clause-same_lendings : goal.returns-in_err-outcome-clause-same_lendings
+returns-in_err-outcome-clause-same_lendings c =
+    let tasks : List Task = c.args.tasks.now.items in
+    let u : Task = c.enter_task.new.task in
+    on-err-any c.from_residual-in_err-outcome.result
+    (ap (λ (ts : List Task). map lending_of (slice_set ts c.in_ok-place.place u)) c.in_ok-reserve.ensures.items
+    ∙ same-lendings tasks c.in_ok-place.place c.index_mut-task.result.now u (there (goal.at.returns-in_err-outcome-clause-same_lendings c).After-index_mut-task)
+    c.in_err-outcome.ensures.same_task.loans c.in_err-outcome.ensures.same_task.out)

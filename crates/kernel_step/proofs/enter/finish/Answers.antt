@@ -1,0 +1,23 @@
+-- Each part has changed as its function says.
+use Rattle.std.proofs.Common.{◌≡◌, ◌++◌, ◌∙◌, ℕ, List, option_to_list, ap, sym, subst}
+use Rattle.withheld.specs.Withheld.{Withheld}
+use Rattle.kernel_step.specs.Entering.{ArePrinted}
+use Rattle.kernel_step.specs.declared.system.System.{System}
+use Rattle.kernel_step.proofs.enter.finish.Goals as goal
+
+pub returns-clause-system : goal.returns-clause-system
+returns-clause-system c =
+    let same = c.change_system.ensures.system in
+    record {
+      marks = ap (λ (s : System). s.dependencies) same;
+      changes = c.keep.ensures ∙ ap (λ (s : System). s.changes.items ++ option_to_list c.args.entering.plan.change) same;
+      files = ap (λ (s : System). s.files) same;
+      tapes = ap (λ (s : System). s.tapes) same;
+      pipes = ap (λ (s : System). s.pipes) same;
+      parts = c.change_system.ensures.parts;
+      served = ap (λ (s : System). s.served) same;
+      committer = ap (λ (s : System). s.committer) same;
+      screens =
+          subst (λ (ss : List (Withheld ℕ)). ArePrinted c.args.entering.plan.output c.args.mark c.args.system.now.screens.items ss)
+          (sym (ap (λ (s : System). s.screens.items) same)) c.print.ensures;
+    }

@@ -1,0 +1,40 @@
+-- A plan, at a trap and at a call.
+use Rattle.std.proofs.Common.{◌≡◌, ◌∙◌, ap, Some, ◌+◌, subst, List, Option, IfOk}
+use Rattle.calls.specs.Plans.{IsPlan}
+use Rattle.kernel_model.specs.Rows.{row_end}
+use Rattle.kernel_model.specs.declared.descriptor.Descriptor.{Descriptor}
+use Rattle.machine_model.specs.declared.stop.Stop.{Stop}
+use Rattle.machine_model.specs.declared.stop.Stop.TheVariants.{Call}
+use Rattle.kernel_step.specs.Entering.{seen_of}
+use Rattle.kernel_step.proofs.EnterPlans.{trap-result, result-plans, stands-call}
+use Rattle.kernel_step.proofs.plan.plan_enter.Goals as goal
+
+pub returns-in-Trap : goal.returns-in-Trap
+returns-in-Trap c =
+    trap-result (seen_of c.args.system.now) c.args.pid c.args.machine.now c.plan_end.result c.in-Trap.cause (256 + c.number_of.result)
+    (c.requires.stands ∙ ap (λ (s : Stop). Some s) c.in-Trap.is)
+    (ap (λ n. 256 + n) c.number_of.ensures)
+    (subst (λ (ds : List (Option Descriptor)). IfOk c.plan_end.result (λ plan. IsPlan plan (row_end ds (256 + c.number_of.result)))) c.descriptors_of-descriptors.ensures c.plan_end.ensures.row)
+    c.plan_end.ensures.edits
+    c.plan_end.ensures.opens
+    c.plan_end.ensures.few
+    (c.plan_end.ensures.steps c.args.system.now.pipes)
+
+pub returns-in_ok-request-in_default : goal.returns-in_ok-request-in_default
+returns-in_ok-request-in_default c =
+    let call : c.args.stop ≡ Call = stands-call c.args.machine.now c.args.stop c.requires.stands (λ cause is. c.in_default.not-Trap cause is) in
+    result-plans (seen_of c.args.system.now) c.args.pid c.args.machine.now c.plan_call.result c.in_ok-request-in_default.request
+    (c.requires.stands ∙ ap (λ (s : Stop). Some s) call)
+    (c.in_ok-request-in_default.ensures.request)
+    c.requires.fine.ends
+    c.plan_call.ensures.row
+    c.plan_call.ensures.one_entry
+    c.plan_call.ensures.opens
+    c.plan_call.ensures.few
+    c.plan_call.ensures.edits
+    c.plan_call.ensures.possible
+    c.plan_call.ensures.named
+    c.plan_call.ensures.left
+    c.plan_call.ensures.steps
+    c.plan_call.ensures.child
+    c.plan_call.ensures.place

@@ -1,0 +1,31 @@
+-- A Turn that is not refused has its machine here.
+use Rattle.std.proofs.Common.{◌≡◌, ◌∙◌, ℕ, zero, suc, ◌<◌, Bool, true, List, [], ◌∷◌, length, slice_get, Some, None, is_some, refl, sym, subst, arith}
+use Rattle.std.proofs.lemmas.Bool.{false≢true}
+use Rattle.kernel_step.specs.Tasks.{out_of, process_of}
+use Rattle.kernel_step.specs.Tests.{turn_refusal_of, IsPlaceOf}
+use Rattle.kernel_step.specs.declared.task.Task.{Task}
+use Rattle.kernel_step.proofs.Refusing.{turn-fine}
+use Rattle.kernel_step.proofs.Turning.{turn-place}
+use Rattle.kernel_step.proofs.turn.turn.Goals as goal
+
+-- what stands at a place
+there-is : {A : Type 0} (xs : List A) (i : ℕ) → i < length xs → (x : A) × (slice_get xs i ≡ Some x)
+there-is [] i h = absurd (omega arith)
+there-is (x ∷ xs) zero h = (x, refl)
+there-is (x ∷ xs) (suc i) h = there-is xs i (omega arith)
+
+fine-here : (tasks : List Task) (full : Bool) (pid place n : ℕ) → IsPlaceOf tasks pid place → turn_refusal_of tasks full pid n ≡ None
+    → ((t : Task) → slice_get tasks place ≡ Some t → is_some (out_of t) ≡ true) → ⊥
+fine-here tasks full pid place n placed accepted lent =
+    let one = there-is tasks place placed.there in
+    let fine = turn-fine (process_of one.0) (is_some (out_of one.0)) full n
+    (sym (turn-place tasks full pid place n one.0 placed one.1) ∙ accepted) in
+    false≢true (sym fine.here ∙ lent one.0 one.1)
+
+pub returns-in_err-count-clause-refused : goal.returns-in_err-count-clause-refused
+returns-in_err-count-clause-refused c =
+    let same : c.deref-2.result.now ≡ c.deref_mut.result.now = cc in
+    absurd (fine-here c.deref_mut.result.now c.is_full-full.result c.args.pid c.in_ok-place.place c.args.n
+    (subst (λ (ts : List Task). IsPlaceOf ts c.args.pid c.in_ok-place.place) same c.in_ok-place.ensures.place)
+    (subst (λ (ts : List Task). turn_refusal_of ts c.is_full-full.result c.args.pid c.args.n ≡ None) same c.in_ok-place.ensures.fine)
+    c.in_err-count.ensures.lent)

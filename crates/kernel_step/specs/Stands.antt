@@ -1,0 +1,60 @@
+-- What the parts of a running kernel stand for.
+use Rattle.std.specs.Prelude.{ℕ, ◌+◌, ◌*◌, ◌^◌, ◌≤◌, ◌≡◌, ◌≢◌, List, length, map, Result, IfOk, IfErr, OnOk, OnErr}
+use Rattle.kernel_model.specs.World.{Boot, World, first_world, after}
+use Rattle.kernel_model.specs.Answers.{Kernel, Applies, AllAccepted}
+use Rattle.kernel_model.specs.Loans.{IsOfLoan, returned, events_of, settled, settled_answer}
+use Rattle.kernel_model.specs.declared.answer.Answer.{Answer}
+use Rattle.kernel_model.specs.declared.answer.Refused.{Refused}
+use Rattle.kernel_model.specs.declared.answer.Refused.TheVariants.{Stranger, OutOfMemory}
+use Rattle.kernel_model.specs.declared.event.Event.{Event}
+use Rattle.kernel_step.specs.Counted.{IsCounted}
+use Rattle.kernel_step.specs.Loaned.{loan_result}
+use Rattle.kernel_step.specs.Mirrors.{Mirrors}
+use Rattle.kernel_step.specs.Tasks.{lending_of, count_out, AreFewLoans}
+use Rattle.kernel_step.specs.declared.loan.Done.{Done}
+use Rattle.kernel_step.specs.declared.loan.Rejected.{Rejected}
+use Rattle.kernel_step.specs.declared.running.Running.{Running}
+use Rattle.kernel_step.specs.declared.system.System.{System}
+use Rattle.kernel_step.specs.declared.task.Task.{Task}
+
+-- the run of a history
+abbrev pub run_of : Boot → List Event → World
+run_of b history = after (first_world b) history
+
+-- what a kernel with this history and these tasks is to its callers
+abbrev pub kernel_of : Boot → List Event → List Task → ℕ → Kernel
+kernel_of b history tasks last_lent = record { boot = b; history = history; lendings = map lending_of tasks; last_lent = last_lent }
+
+-- the same of its parts
+abbrev pub kernel_in : Boot → Running → Kernel
+kernel_in b r = kernel_of b r.history.items r.tasks.items r.last_lent
+
+-- the parts keep what the run says, the history has room for two events of each loan that is out, and each loan that is back has
+-- come to an event
+pub record KeepsRun (b : Boot) (history : List Event) (tasks : List Task) (system : System) : Type 0 where
+  pub mirrors : Mirrors (run_of b history) tasks system
+  pub room : length history + 2 * count_out tasks ≤ 2 ^ 40
+  pub loans : AreFewLoans (length history) (map lending_of tasks)
+
+-- the parts are those of the run that was booted from this, and count its instructions
+pub record Stands (b : Boot) (r : Running) : Type 0 where
+  pub parts : KeepsRun b r.history.items r.tasks.items r.system
+  pub counted : IsCounted b r.history.items r.ran
+
+-- After an event the parts stand for the run with it, and the answer is its own; where it is refused, nothing has changed.
+pub record Steps (b : Boot) (e : Event) (old new : Running) (result : Result Answer Refused) : Type 0 where
+  pub stands : Stands b new
+  pub applies : Applies (kernel_in b old) e (kernel_in b new) result
+
+-- A loan's result is taken back where it is of the loan that its process is out on, and becomes its events; where it is refused,
+-- nothing has changed, and it is handed back.
+pub record Settles (b : Boot) (done : Done) (old new : Running) (result : Result Answer Rejected) : Type 0 where
+  pub stands : Stands b new
+  pub own : OnOk result (IsOfLoan (kernel_in b old) (loan_result done))
+  pub fine : OnOk result (AllAccepted (returned (kernel_in b old) done.pid) (events_of (loan_result done)))
+  pub events : OnOk result (kernel_in b new ≡ settled (kernel_in b old) (loan_result done))
+  pub answer : IfOk result (λ a. a ≡ settled_answer (kernel_in b old) (loan_result done))
+  pub stranger : IfErr result (λ r. r.why ≡ Stranger → ¬ (IsOfLoan (kernel_in b old) (loan_result done)))
+  pub own_only : IfErr result (λ r. r.why ≢ Stranger → (r.why ≡ OutOfMemory) × IsOfLoan (kernel_in b old) (loan_result done))
+  pub back : IfErr result (λ r. r.done ≡ done)
+  pub err : OnErr result (kernel_in b new ≡ kernel_in b old)

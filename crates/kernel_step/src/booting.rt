@@ -1,0 +1,131 @@
+//! The parts of a kernel before any event.
+ghost use Rattle.std.specs.Prelude.{ℕ, List, ◌≡◌, ◌<◌, ◌≤◌, [], length, map, IfOk};
+ghost use Rattle.std.specs.List.{AllByRecursion};
+ghost use Rattle.disk_model.specs.Files.{IsMade};
+ghost use Rattle.disk_model.specs.Runs.{first_storage};
+ghost use Rattle.kernel_model.specs.World.{Boot};
+ghost use Rattle.kernel_model.specs.Bytes.{ProgramsHoldBytes, TapesHoldBytes};
+ghost use Rattle.kernel_step.specs.Booting.{boot_with, nothing_lent};
+ghost use Rattle.kernel_step.specs.First.{AreFirst, AreEmpty, parts_from};
+ghost use Rattle.kernel_step.specs.Stands.{Stands, kernel_in};
+
+use crate::running::Running;
+use crate::system::System;
+use crate::task::Task;
+use byte_list::Bytes;
+use calls::TapeTable;
+use commit_deps::Dependencies;
+use files::FileTable;
+use group_commit::Committer;
+use kernel_model::TERMINALS;
+use machine::{Image, Machine};
+use pipes::PipeTable;
+use processes::ProcTable;
+use std::alloc::{AllocError, Global};
+use std::sync::Arc;
+use withheld::Withheld;
+
+/// A program to be booted, and the terminal, 0 to 7, for which its descriptor 1 stands.
+#[derive(Drop)]
+pub struct Program {
+    pub image: Image,
+    pub terminal: u32,
+}
+
+impl Running {
+    /// The parts of a kernel of these programs, which are processes 1 and up, of the tapes that they read (the first has tape 0), of
+    /// these files, and of a committer that begins on the disk that holds them.
+    pub fn new(
+        alloc: Global,
+        programs: &[Program],
+        tapes: Arc<Vec<Bytes>>,
+        files: FileTable,
+        committer: Committer,
+    ) -> Result<Running, AllocError>
+        requires few { length programs.now ≤ 8 }
+        requires made { IsMade files }
+        ensures stands { IfOk result (λ r. (disk : List ℕ) (gate : ℕ) → committer ≡ first_storage disk gate
+            → Stands (boot_with programs.now tapes.value.items files disk gate) r) }
+        ensures history { IfOk result (λ r. (b : Boot) → (kernel_in b r).history ≡ []) }
+        ensures lendings { IfOk result (λ r. (b : Boot) → (kernel_in b r).lendings ≡ map nothing_lent programs.now) }
+        ensures last_lent { IfOk result (λ r. (b : Boot) → (kernel_in b r).last_lent ≡ 0) }
+        ensures bytes { IfOk result (λ r. (disk : List ℕ) (gate : ℕ) → ProgramsHoldBytes (boot_with programs.now tapes.value.items files disk gate)) }
+        ensures tapes { IfOk result (λ r. (disk : List ℕ) (gate : ℕ) → TapesHoldBytes (boot_with programs.now tapes.value.items files disk gate)) }
+    {
+        hold_bytes(&tapes);
+        let tasks = first_tasks(alloc, programs)?;
+        let processes = first_processes(alloc, programs)?;
+        let screens = empty_screens(alloc)?;
+        let pipes = PipeTable::new(alloc)?;
+        let system = System {
+            dependencies: Dependencies::new(alloc),
+            changes: Vec::new(alloc),
+            files,
+            tapes: TapeTable::new(tapes),
+            pipes,
+            processes,
+            served: 0,
+            screens,
+            committer,
+        };
+        Ok(Running {
+            alloc,
+            history: Vec::new(alloc),
+            ran: 0,
+            tasks,
+            system,
+            last_lent: 0,
+        })
+    }
+}
+
+/// The tapes hold bytes. Going over them changes nothing, and is for this alone: a contract sees a tape as a list of numbers.
+fn hold_bytes(tapes: &[Bytes])
+    ensures { AllByRecursion (λ (tape : List ℕ). AllByRecursion (λ (byte : ℕ). byte < 256) tape) tapes.now }
+{
+    for tape in tapes {
+        are_bytes(tape.as_slice());
+    }
+}
+
+/// The items of a slice of bytes are bytes.
+fn are_bytes(bytes: &[u8])
+    ensures { AllByRecursion (λ (byte : ℕ). byte < 256) bytes.now }
+{}
+
+/// The tasks of these programs, processes 1 and up.
+fn first_tasks(alloc: Global, programs: &[Program]) -> Result<Vec<Task>, AllocError>
+    requires { length programs.now ≤ 8 }
+    ensures { IfOk result (λ tasks. AreFirst programs.now tasks.items) }
+{
+    let mut tasks = Vec::new(alloc);
+    for (place, program) in programs.iter().enumerate() {
+        let machine = Machine::load(alloc, &program.image)?;
+        let task = Task::new(alloc, place as u32 + 1, machine);
+        tasks.push(task)?;
+    }
+    Ok(tasks)
+}
+
+/// What is kept of the processes of these programs beside their machines: program i reads tape i.
+fn first_processes(alloc: Global, programs: &[Program]) -> Result<ProcTable, AllocError>
+    requires { length programs.now ≤ 8 }
+    ensures { IfOk result (λ processes. processes.parts ≡ parts_from 0 programs.now) }
+{
+    let mut processes = ProcTable::new(alloc);
+    for (place, program) in programs.iter().enumerate() {
+        processes.boot(place as u32, program.terminal)?;
+    }
+    Ok(processes)
+}
+
+/// The screens of terminals 0 to 7, with no bytes.
+fn empty_screens(alloc: Global) -> Result<Vec<Withheld<u8>>, AllocError>
+    ensures { IfOk result (λ screens. AreEmpty 8 screens.items) }
+{
+    let mut screens = Vec::new(alloc);
+    for _terminal in 0..TERMINALS {
+        screens.push(Withheld::new(alloc))?;
+    }
+    Ok(screens)
+}

@@ -1,0 +1,144 @@
+//! Machines lent out.
+ghost use Rattle.std.specs.Prelude.{◌≡◌, ◌+◌, ◌*◌, ◌^◌, ◌<◌, ◌≤◌, None, map, take, drop, position, IfOk, IfErr, OnOk, OnErr};
+ghost use Rattle.kernel_model.specs.Loans.{Lends};
+ghost use Rattle.kernel_model.specs.World.{Boot};
+ghost use Rattle.kernel_step.specs.Stands.{Stands, kernel_in};
+ghost use Rattle.kernel_model.specs.declared.answer.Refused.TheVariants.{OutOfMemory};
+ghost use Rattle.kernel_step.specs.Lending.{full_for_loan_of, is_fit, next_fit, IsLent, IsLoanOf, LendsNext};
+ghost use Rattle.kernel_step.specs.Loaned.{lent_out};
+ghost use Rattle.kernel_step.specs.Tasks.{machine_of, out_of, count_out, lending_of, AreFewLoans};
+
+use crate::loan::Loan;
+use crate::running::Running;
+use crate::task::{LIMIT, Task};
+use crate::tasks::count_out;
+use crate::whereabouts::Whereabouts;
+use kernel_model::Refused;
+use std::alloc::{AllocError, Global};
+use std::mem;
+use std::sync::Arc;
+
+/// Whether a history of so many events has no room for the two events of one more loan.
+fn is_full_for_loan(events: usize, tasks: &[Task]) -> bool
+    requires { events + 2 * count_out tasks.now ≤ 2 ^ 40 }
+    ensures { result ≡ full_for_loan_of events tasks.now }
+{
+    events as u64 + 2 * count_out(tasks) as u64 > LIMIT - 2
+}
+
+/// Whether a process may be lent for a quantum of instructions, and one more, where so many Enters were served.
+fn is_lendable(task: &Task, served: u64, quantum: u32) -> bool
+    ensures { result ≡ is_fit quantum served task.now }
+{
+    let count = task.machine().count();
+    !task.trace.has_end()
+        && !task.is_out()
+        && count < LIMIT
+        && count + u64::from(quantum) < LIMIT
+        && !task.is_asleep(served)
+}
+
+/// The first process after the first so many that may be lent, by its distance from them.
+fn first_lendable_from(tasks: &[Task], from: usize, served: u64, quantum: u32) -> Option<usize>
+    ensures { result ≡ position (is_fit quantum served) (drop from tasks.now) }
+{
+    tasks
+        .iter()
+        .skip(from)
+        .position(|task| is_lendable(task, served, quantum))
+}
+
+/// The place of the first process that may be lent among the first so many.
+fn first_lendable_of(tasks: &[Task], count: usize, served: u64, quantum: u32) -> Option<usize>
+    ensures { result ≡ position (is_fit quantum served) (take count tasks.now) }
+{
+    tasks
+        .iter()
+        .take(count)
+        .position(|task| is_lendable(task, served, quantum))
+}
+
+/// The place of the next process after the first so many that may be lent, by rising place and round again.
+fn next_lendable(tasks: &[Task], from: usize, served: u64, quantum: u32) -> Option<usize>
+    ensures { result ≡ next_fit quantum served from tasks.now }
+{
+    match first_lendable_from(tasks, from, served, quantum) {
+        Some(further) => Some(from + further),
+        None => first_lendable_of(tasks, from, served, quantum),
+    }
+}
+
+/// Lends a process: its machine leaves, and a copy stays, which tells from which state it ran and is shared with the loan.
+/// Where memory runs out nothing has changed.
+fn lend_task(alloc: Global, task: &mut Task, quantum: u32) -> Result<Loan, Refused>
+    requires here { out_of task.old ≡ None }
+    requires room { (machine_of task.old).count + quantum < 2 ^ 40 }
+    requires few { task.old.loans ≤ 2 ^ 40 }
+    ensures loan { IfOk result (λ loan. IsLoanOf quantum task.old loan) }
+    ensures task { OnOk result (IsLent quantum task.old task.new) }
+    ensures cause { IfErr result (λ why. why ≡ OutOfMemory) }
+    ensures same { OnErr result (task.new ≡ task.old) }
+{
+    let number = task.loans + 1;
+    let copy = task.machine().try_clone(alloc)?;
+    let began = Arc::new(alloc, copy).map_err(AllocError::from)?;
+    let out = Whereabouts::Out {
+        began: Arc::try_clone(&began)?,
+        quantum,
+    };
+    let Whereabouts::Here(machine) = mem::replace(&mut task.whereabouts, out) else {
+        unreachable!()
+    };
+    task.loans = number;
+    Ok(Loan {
+        pid: task.pid,
+        number,
+        quantum,
+        began,
+        machine,
+    })
+}
+
+/// Lends the next process after the first so many that may be lent, if there is one. Where memory runs out nothing has
+/// changed.
+fn lend_next(
+    alloc: Global,
+    tasks: &mut [Task],
+    from: usize,
+    served: u64,
+    quantum: u32,
+) -> Result<Option<Loan>, Refused>
+    requires { AreFewLoans (2 ^ 40) (map lending_of tasks.old) }
+    ensures done { IfOk result (λ given. LendsNext quantum served from tasks.old tasks.new given) }
+    ensures cause { IfErr result (λ why. why ≡ OutOfMemory) }
+    ensures same { OnErr result (tasks.new ≡ tasks.old) }
+{
+    let Some(place) = next_lendable(tasks, from, served, quantum) else {
+        return Ok(None);
+    };
+    let loan = lend_task(alloc, &mut tasks[place], quantum)?;
+    Ok(Some(loan))
+}
+
+impl Running {
+    /// Lends the first lendable process after the one last lent, by rising number and round again, to run at most a
+    /// quantum of instructions. A process is lendable where it has not ended, is not lent, does not wait, and has room for
+    /// quantum + 1 more instructions. None where there is none. Refused: Budget, where the history has no room for the two
+    /// events of one more loan; OutOfMemory. Nothing joins the history.
+    pub fn lend(&mut self, quantum: u32) -> Result<Option<Loan>, Refused>
+        requires { (b : Boot) × Stands b self.old }
+        ensures stands { (b : Boot) → Stands b self.old → Stands b self.new }
+        ensures lends { (b : Boot) → Stands b self.old → Lends (kernel_in b self.old) quantum (kernel_in b self.new) (lent_out result) }
+    {
+        if is_full_for_loan(self.history.len(), &self.tasks) {
+            return Err(Refused::Budget);
+        }
+        let from = self.last_lent as usize;
+        let served = self.system.served;
+        let Some(loan) = lend_next(self.alloc, &mut self.tasks, from, served, quantum)? else {
+            return Ok(None);
+        };
+        self.last_lent = loan.pid;
+        Ok(Some(loan))
+    }
+}

@@ -1,0 +1,177 @@
+//! What an Enter comes to, found with all its memory before anything changes.
+ghost use Rattle.std.specs.Prelude.{◌≡◌, ◌+◌, ◌<◌, ◌≤◌, ◌^◌, ◌∷◌, length, IfOk, Some, None, true, is_some};
+ghost use Rattle.machine_model.specs.States.{stands_at, replied};
+ghost use Rattle.processes.specs.Parts.{descriptors_in, part_at};
+ghost use Rattle.kernel_model.specs.Rows.{cause_number};
+ghost use Rattle.kernel_model.specs.Shown.{end_in};
+ghost use Rattle.kernel_model.specs.Steps.{zero_reply};
+ghost use Rattle.withheld.specs.Withheld.{whats};
+ghost use Rattle.kernel_model.specs.declared.carrier.Carrier.TheVariants.{Proc};
+ghost use Rattle.kernel_step.specs.Entering.{seen_of, writes_of, MayPlan, AreSteps, IsSpare, PlansEnter, IsEntering, IsChild};
+
+use crate::system::System;
+use crate::task::Task;
+use calls::{PipeStep, Plan, Verdict, plan_call, plan_end, request_of};
+use commit_deps::Carrier;
+use machine::Machine;
+use machine_model::{Cause, Stop};
+use pipes::Pipe;
+use processes::{Descriptors, ProcTable};
+use std::alloc::{AllocError, Global};
+use withheld::{Trace, zero_reply};
+
+/// What an Enter of a process comes to: its plan, all carriers that its event reads and writes, and the pipe and the process
+/// that it makes, if it makes one. The process is not told anything yet.
+#[derive(Drop)]
+pub struct Entering {
+    pub pid: u32,
+    pub plan: Plan,
+    pub reads: Vec<Carrier>,
+    pub writes: Vec<Carrier>,
+    pub spare: Option<Pipe>,
+    pub child: Option<Task>,
+}
+
+/// The number that a trap of this cause tells.
+fn number_of(cause: Cause) -> u32
+    ensures { result ≡ cause_number cause }
+{
+    cause as u32
+}
+
+/// The descriptors of a process that is there.
+fn descriptors_of(processes: &ProcTable, pid: u32) -> &Descriptors
+    requires from_1 { 0 < pid }
+    requires there { pid ≤ length processes.now.parts }
+    ensures { result.now ≡ descriptors_in (part_at processes.now.parts pid) }
+{
+    processes.descriptors(pid).unwrap()
+}
+
+/// The plan of the Enter of a process whose machine stands here, at a call or at a trap.
+fn plan_enter(
+    alloc: Global,
+    pid: u32,
+    stop: Stop,
+    machine: &Machine,
+    system: &System,
+) -> Result<Plan, AllocError>
+    requires stands { stands_at machine.now ≡ Some stop }
+    requires fine { MayPlan (seen_of system.now) pid }
+    ensures { IfOk result (λ plan. PlansEnter (seen_of system.now) pid machine.now plan) }
+{
+    match stop {
+        Stop::Trap(cause) => {
+            let descriptors = descriptors_of(&system.processes, pid);
+            plan_end(alloc, descriptors, 256 + number_of(cause))
+        }
+        _ => {
+            let request = request_of(alloc, machine)?;
+            plan_call(
+                alloc,
+                &system.files,
+                &system.pipes,
+                &system.tapes,
+                &system.processes,
+                pid,
+                request,
+            )
+        }
+    }
+}
+
+/// The carriers of an event of a process: its own, and these.
+fn with_own(alloc: Global, pid: u32, carriers: &[Carrier]) -> Result<Vec<Carrier>, AllocError>
+    ensures { IfOk result (λ all. all.items ≡ Proc pid ∷ carriers.now) }
+{
+    let mut all = Vec::new(alloc);
+    all.push(Carrier::Proc(pid))?;
+    all.extend_from_slice(carriers)?;
+    Ok(all)
+}
+
+/// The carriers that the event of a plan writes: none where the process has to wait.
+fn all_writes(alloc: Global, pid: u32, plan: &Plan) -> Result<Vec<Carrier>, AllocError>
+    ensures { IfOk result (λ all. all.items ≡ writes_of pid plan.now.verdict plan.now.writes.items) }
+{
+    match &plan.verdict {
+        Verdict::Waits => Ok(Vec::new(alloc)),
+        Verdict::Replies(_) => with_own(alloc, pid, &plan.writes),
+        Verdict::Ends(_) => with_own(alloc, pid, &plan.writes),
+    }
+}
+
+/// The pipe that these steps make, if they make one.
+fn spare_pipe(alloc: Global, steps: &[PipeStep]) -> Result<Option<Pipe>, AllocError>
+    requires { AreSteps steps.now }
+    ensures { IfOk result (λ spare. IsSpare steps.now spare) }
+{
+    match steps.first() {
+        Some(PipeStep::Open) => {
+            let pipe = Pipe::new(alloc)?;
+            Ok(Some(pipe))
+        }
+        _ => Ok(None),
+    }
+}
+
+/// The machine of a process that a fork makes: its parent's, told 0.
+fn forked_machine(alloc: Global, machine: &Machine) -> Result<Machine, AllocError>
+    requires stands { stands_at machine.now ≡ Some Stop.Call }
+    requires budget { machine.now.count < 2 ^ 40 }
+    ensures { IfOk result (λ m. m ≡ replied machine.now zero_reply) }
+{
+    let mut child = machine.try_clone(alloc)?;
+    child.reply(&zero_reply(alloc));
+    Ok(child)
+}
+
+/// The process of this number, if an Enter makes one, where its parent's machine and trace are these.
+fn prepare_child(
+    alloc: Global,
+    number: Option<u32>,
+    machine: &Machine,
+    trace: &Trace,
+) -> Result<Option<Task>, AllocError>
+    requires stands { is_some number ≡ true → stands_at machine.now ≡ Some Stop.Call }
+    requires budget { machine.now.count < 2 ^ 40 }
+    requires running { end_in (whats trace.now.items) ≡ None }
+    ensures { IfOk result (λ child. IsChild number machine.now trace.now child) }
+{
+    let Some(pid) = number else {
+        return Ok(None);
+    };
+    let machine = forked_machine(alloc, machine)?;
+    let trace = trace.forked(alloc)?;
+    Ok(Some(Task::made(pid, machine, trace)))
+}
+
+/// What an Enter of a process comes to whose machine and trace are these, and stands here.
+pub fn prepare(
+    alloc: Global,
+    pid: u32,
+    stop: Stop,
+    machine: &Machine,
+    trace: &Trace,
+    system: &System,
+) -> Result<Entering, AllocError>
+    requires stands { stands_at machine.now ≡ Some stop }
+    requires budget { machine.now.count < 2 ^ 40 }
+    requires running { end_in (whats trace.now.items) ≡ None }
+    requires fine { MayPlan (seen_of system.now) pid }
+    ensures { IfOk result (λ e. IsEntering (seen_of system.now) pid machine.now trace.now e) }
+{
+    let plan = plan_enter(alloc, pid, stop, machine, system)?;
+    let reads = with_own(alloc, pid, &plan.reads)?;
+    let writes = all_writes(alloc, pid, &plan)?;
+    let spare = spare_pipe(alloc, &plan.pipes)?;
+    let child = prepare_child(alloc, plan.child, machine, trace)?;
+    Ok(Entering {
+        pid,
+        plan,
+        reads,
+        writes,
+        spare,
+        child,
+    })
+}

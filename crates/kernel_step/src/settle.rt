@@ -1,0 +1,234 @@
+//! Loans' results taken back.
+ghost use Rattle.std.specs.Prelude.{◌≡◌, ◌+◌, ◌<◌, ◌^◌, ◌++◌, ◌∷◌, [], ◌↔◌, IsTrue, length, slice_get, Some, None, IfOk, IfErr, OnOk, OnErr};
+ghost use Rattle.machine_model.specs.States.{stands_at};
+ghost use Rattle.kernel_model.specs.World.{Boot};
+ghost use Rattle.kernel_step.specs.Stands.{Stands, Settles};
+ghost use Rattle.kernel_model.specs.Shown.{end_in};
+ghost use Rattle.withheld.specs.Withheld.{whats};
+ghost use Rattle.kernel_step.specs.declared.task.Task.{Task};
+ghost use Rattle.kernel_model.specs.declared.answer.Refused.TheVariants.{OutOfMemory};
+ghost use Rattle.kernel_model.specs.declared.answer.Outcome.{Outcome};
+ghost use Rattle.kernel_step.specs.Entering.{seen_of, MayPlan, IsSameTask, IsSameSystem};
+ghost use Rattle.kernel_step.specs.Settling.{IsLoanOf, IsBack, IsTurnNoted, IsTurnEntered, IsCallSettled, IsUnsettled};
+
+use crate::enter::{finish, join, note_enter, prepare_enter};
+use crate::loan::{Done, Rejected};
+use crate::running::Running;
+use crate::system::System;
+use crate::task::Task;
+use crate::tasks::place_of;
+use crate::turn::{note_own, reserve};
+use crate::whereabouts::Whereabouts;
+use disk_model::{checkpoints_fit, made_files_change};
+use kernel_model::{Answer, Event, Refused};
+use machine::Machine;
+use machine_model::Stop;
+use pipes::{ends_grow_by_one, steps_are_shown};
+use std::alloc::Global;
+
+/// Whether a result is of the loan that the process is out on.
+fn is_of_loan(task: &Task, done: &Done) -> bool
+    ensures { IsTrue result ↔ IsLoanOf task.now done.now }
+{
+    match &task.whereabouts {
+        Whereabouts::Here(_) => false,
+        Whereabouts::Out { began, quantum } => {
+            *quantum == done.quantum && task.loans == done.number && began.is_same(&done.began)
+        }
+    }
+}
+
+/// The process is back, with the machine that it was lent by.
+fn come_back(task: &mut Task, machine: Machine)
+    ensures back { IsBack machine task.old task.new }
+    ensures trace { task.new.trace ≡ task.old.trace }
+{
+    task.whereabouts = Whereabouts::Here(machine);
+}
+
+/// Takes a result back whose machine stands nowhere: it becomes a Turn, whose instructions are counted with those that ran
+/// before.
+fn settle_turn(
+    history: &mut Vec<Event>,
+    ran: &mut u64,
+    task: &mut Task,
+    system: &mut System,
+    done: Done,
+) -> Result<Answer, Rejected>
+    requires { ran.old < 2 ^ 63 }
+    ensures task { OnOk result (IsBack done.machine task.old task.new) }
+    ensures system { OnOk result (IsTurnNoted done.pid system.old system.new) }
+    ensures history { OnOk result (history.new.items ≡ history.old.items ++ Event.Turn done.pid done.count ∷ []) }
+    ensures ran { OnOk result (ran.new ≡ ran.old + done.count) }
+    ensures answer { IfOk result (λ a. a ≡ Answer.Settled done.count done.stop None) }
+    ensures same_task { OnErr result (task.new ≡ task.old) }
+    ensures same_system { OnErr result (IsSameSystem system.old system.new) }
+    ensures same_history { OnErr result (history.new.items ≡ history.old.items) }
+    ensures same_ran { OnErr result (ran.new ≡ ran.old) }
+    ensures cause { IfErr result (λ r. r.why ≡ OutOfMemory) }
+    ensures back { IfErr result (λ r. r.done ≡ done) }
+{
+    if reserve(history, &mut system.dependencies, 1, 1).is_err() {
+        return Err(Rejected {
+            why: Refused::OutOfMemory,
+            done,
+        });
+    }
+    let Done {
+        pid,
+        machine,
+        count,
+        stop,
+        ..
+    } = done;
+    note_own(&mut system.dependencies, pid);
+    come_back(task, machine);
+    history.push(Event::Turn { pid, n: count }).unwrap();
+    *ran += u64::from(count);
+    Ok(Answer::Settled {
+        count,
+        stop,
+        outcome: None,
+    })
+}
+
+/// Takes a result back whose machine stands here: it becomes a Turn and an Enter. Answers what the Enter came to, and the
+/// process that it made.
+fn settle_enter(
+    alloc: Global,
+    history: &mut Vec<Event>,
+    task: &mut Task,
+    system: &mut System,
+    done: Done,
+    at: Stop,
+) -> Result<(Answer, Option<Task>), Rejected>
+    requires stands { stands_at done.machine ≡ Some at }
+    requires running { end_in (whats task.old.trace.items) ≡ None }
+    requires fine { MayPlan (seen_of system.old) done.pid }
+    requires few { system.old.served < 2 ^ 63 }
+    ensures done { IfOk result (λ r. (o : Outcome) × (r.0 ≡ Answer.Settled done.count done.stop (Some o))
+        × IsTurnEntered done.pid done.machine task.old task.new system.old system.new o r.1) }
+    ensures history { OnOk result (history.new.items ≡ history.old.items ++ Event.Turn done.pid done.count ∷ Event.Enter done.pid ∷ []) }
+    ensures same_task { OnErr result (IsSameTask task.old task.new) }
+    ensures same_system { OnErr result (IsSameSystem system.old system.new) }
+    ensures same_history { OnErr result (history.new.items ≡ history.old.items) }
+    ensures cause { IfErr result (λ r. r.why ≡ OutOfMemory) }
+    ensures back { IfErr result (λ r. r.done ≡ done) }
+{
+    let pid = done.pid;
+    let trace = &mut task.trace;
+    let Ok(entering) = prepare_enter(alloc, history, pid, at, &done.machine, trace, system, 1)
+    else {
+        return Err(Rejected {
+            why: Refused::OutOfMemory,
+            done,
+        });
+    };
+    let Done {
+        machine,
+        count,
+        stop,
+        ..
+    } = done;
+    note_own(&mut system.dependencies, pid);
+    let mark = note_enter(&mut system.dependencies, &entering, system.changes.len());
+    come_back(task, machine);
+    let (outcome, child) = finish(alloc, task, system, entering, mark);
+    history.push(Event::Turn { pid, n: count }).unwrap();
+    history.push(Event::Enter { pid }).unwrap();
+    let answer = Answer::Settled {
+        count,
+        stop,
+        outcome: Some(outcome),
+    };
+    Ok((answer, child))
+}
+
+/// Takes a result back of the process at this place, whose machine stands here: it becomes a Turn, whose instructions are
+/// counted with those that ran before, and an Enter.
+fn settle_call(
+    alloc: Global,
+    history: &mut Vec<Event>,
+    ran: &mut u64,
+    tasks: &mut Vec<Task>,
+    system: &mut System,
+    done: Done,
+    place: usize,
+    at: Stop,
+) -> Result<Answer, Rejected>
+    requires there { place < length tasks.old.items }
+    requires stands { stands_at done.machine ≡ Some at }
+    requires running { (t : Task) → slice_get tasks.old.items place ≡ Some t → end_in (whats t.trace.items) ≡ None }
+    requires fine { MayPlan (seen_of system.old) done.pid }
+    requires few { system.old.served < 2 ^ 63 }
+    requires few_ran { ran.old < 2 ^ 63 }
+    ensures done { IfOk result (λ a. IsCallSettled done place tasks.old.items tasks.new.items system.old system.new a) }
+    ensures history { OnOk result (history.new.items ≡ history.old.items ++ Event.Turn done.pid done.count ∷ Event.Enter done.pid ∷ []) }
+    ensures ran { OnOk result (ran.new ≡ ran.old + done.count) }
+    ensures same { OnErr result (IsUnsettled place tasks.old.items tasks.new.items) }
+    ensures same_system { OnErr result (IsSameSystem system.old system.new) }
+    ensures same_history { OnErr result (history.new.items ≡ history.old.items) }
+    ensures same_ran { OnErr result (ran.new ≡ ran.old) }
+    ensures cause { IfErr result (λ r. r.why ≡ OutOfMemory) }
+    ensures back { IfErr result (λ r. r.done ≡ done) }
+{
+    if tasks.reserve(1).is_err() {
+        return Err(Rejected {
+            why: Refused::OutOfMemory,
+            done,
+        });
+    }
+    let task = &mut tasks[place];
+    let count = u64::from(done.count);
+    let (answer, child) = settle_enter(alloc, history, task, system, done, at)?;
+    join(tasks, child);
+    *ran += count;
+    Ok(answer)
+}
+
+impl Running {
+    /// Takes a loan's result back: it becomes a Turn of its instructions and, where the state reached stands at a call or
+    /// a trap, an Enter. Refused, with the result: Stranger, exactly where it is not of the loan that its process is out
+    /// on (the process is not lent, or the number, the quantum or the state from which it began differs); OutOfMemory.
+    pub fn settle(&mut self, done: Done) -> Result<Answer, Rejected>
+        requires { (b : Boot) × Stands b self.old }
+        ensures { (b : Boot) → Stands b self.old → Settles b done self.old self.new result }
+    {
+        checkpoints_fit();
+        made_files_change();
+        steps_are_shown();
+        ends_grow_by_one();
+        let Some(place) = place_of(&self.tasks, done.pid) else {
+            return Err(Rejected {
+                why: Refused::Stranger,
+                done,
+            });
+        };
+        let task = &mut self.tasks[place];
+        if !is_of_loan(task, &done) {
+            return Err(Rejected {
+                why: Refused::Stranger,
+                done,
+            });
+        }
+        match done.machine.stopped() {
+            None => settle_turn(
+                &mut self.history,
+                &mut self.ran,
+                task,
+                &mut self.system,
+                done,
+            ),
+            Some(at) => settle_call(
+                self.alloc,
+                &mut self.history,
+                &mut self.ran,
+                &mut self.tasks,
+                &mut self.system,
+                done,
+                place,
+                at,
+            ),
+        }
+    }
+}

@@ -1,0 +1,155 @@
+//! The disk's events: a group is cut, and a write is complete or has failed.
+ghost use Rattle.std.specs.Prelude.{◌≡◌, ◌++◌, ◌∷◌, [], length, drop, IfOk, IfErr, OnOk, OnErr, true};
+ghost use Rattle.std.specs.List.{AllByRecursion};
+ghost use Rattle.disk_model.specs.Files.{IsFormed, IsMade};
+ghost use Rattle.kernel_model.specs.Answers.{Refuses, cut_refusal, write_refusal};
+ghost use Rattle.kernel_step.specs.Advanced.{AreAdvanced, AreMoved};
+ghost use Rattle.kernel_step.specs.Storing.{WasCut, IsCompleted, HasFailed};
+
+use crate::task::Task;
+use crate::tasks::hand_all;
+use disk_model::Change;
+use files::FileTable;
+use group_commit::{CommitRefusal, Committer};
+use kernel_model::{Answer, Event, Refused};
+use std::alloc::Global;
+use withheld::Withheld;
+
+/// The changes that are not committed, of all changes.
+fn uncommitted(changes: &[Change], committed: u64) -> &[Change]
+    ensures { result.now ≡ drop committed changes.now }
+{
+    &changes[changes.len().min(committed as usize)..]
+}
+
+/// Why a cut of these uncommitted changes is refused, memory aside.
+fn cut_refused(committer: &Committer, changes: &[Change], full: bool) -> Option<Refused>
+    ensures { result ≡ cut_refusal committer.now changes.now full }
+{
+    if full {
+        return Some(Refused::Budget);
+    }
+    match committer.may_cut(changes) {
+        Ok(()) => None,
+        Err(CommitRefusal::DiskFailed) => Some(Refused::DiskFailed),
+        Err(CommitRefusal::GroupInFlight) => Some(Refused::GroupInFlight),
+        Err(_) => Some(Refused::NothingToCut),
+    }
+}
+
+/// A group of the first uncommitted changes, or a checkpoint, is submitted to the disk. Refused, with nothing changed:
+/// Budget, where the history is full; DiskFailed; GroupInFlight; NothingToCut; OutOfMemory.
+pub fn cut(
+    alloc: Global,
+    history: &mut Vec<Event>,
+    full: bool,
+    committer: &mut Committer,
+    changes: &[Change],
+    files: &FileTable,
+) -> Result<Answer, Refused>
+    requires possible { IsMade files.now }
+    requires formed { AllByRecursion IsFormed (drop committer.old.committed changes.now) }
+    ensures done { IfOk result (WasCut committer.old committer.new changes.now files.now full) }
+    ensures history { OnOk result (history.new.items ≡ history.old.items ++ Event.Cut ∷ []) }
+    ensures refused { IfErr result (Refuses (cut_refusal committer.old (drop committer.old.committed changes.now) full)) }
+    ensures same_history { OnErr result (history.new.items ≡ history.old.items) }
+    ensures same_committer { OnErr result (committer.new ≡ committer.old) }
+{
+    let rest = uncommitted(changes, committer.committed());
+    if let Some(why) = cut_refused(committer, rest, full) {
+        return Err(why);
+    }
+    history.reserve(1)?;
+    match committer.cut(alloc, rest, files) {
+        Err(_) => Err(Refused::OutOfMemory),
+        Ok((changes, writes)) => {
+            history.push(Event::Cut).unwrap();
+            Ok(Answer::Cut { changes, writes })
+        }
+    }
+}
+
+/// Why a Complete or a Fail of the write in flight that begins there is refused, memory aside.
+fn write_refused(committer: &Committer, at: u32, full: bool) -> Option<Refused>
+    ensures { result ≡ write_refusal committer.now at full }
+{
+    if full {
+        return Some(Refused::Budget);
+    }
+    if !committer.is_in_flight(at) {
+        return Some(Refused::NoSuchWrite);
+    }
+    None
+}
+
+/// The write in flight that begins there is complete. Answers how many changes are committed then. Refused, with nothing
+/// changed: Budget, where the history is full; NoSuchWrite; OutOfMemory.
+pub fn complete(
+    history: &mut Vec<Event>,
+    full: bool,
+    committer: &mut Committer,
+    at: u32,
+) -> Result<u64, Refused>
+    ensures done { IfOk result (IsCompleted committer.old committer.new at full) }
+    ensures history { OnOk result (history.new.items ≡ history.old.items ++ Event.Complete at ∷ []) }
+    ensures refused { IfErr result (Refuses (write_refusal committer.old at full)) }
+    ensures same_history { OnErr result (history.new.items ≡ history.old.items) }
+    ensures same_committer { OnErr result (committer.new ≡ committer.old) }
+{
+    if let Some(why) = write_refused(committer, at, full) {
+        return Err(why);
+    }
+    history.reserve(1)?;
+    match committer.completed(at) {
+        Err(_) => Err(Refused::OutOfMemory),
+        Ok(committed) => {
+            history.push(Event::Complete { at }).unwrap();
+            Ok(committed)
+        }
+    }
+}
+
+/// The write in flight that begins there has failed. Refused, with nothing changed: Budget, where the history is full;
+/// NoSuchWrite; OutOfMemory.
+pub fn fail(
+    history: &mut Vec<Event>,
+    full: bool,
+    committer: &mut Committer,
+    at: u32,
+) -> Result<Answer, Refused>
+    ensures done { IfOk result (HasFailed committer.old committer.new at full) }
+    ensures history { OnOk result (history.new.items ≡ history.old.items ++ Event.Fail at ∷ []) }
+    ensures refused { IfErr result (Refuses (write_refusal committer.old at full)) }
+    ensures same_history { OnErr result (history.new.items ≡ history.old.items) }
+    ensures same_committer { OnErr result (committer.new ≡ committer.old) }
+{
+    if let Some(why) = write_refused(committer, at, full) {
+        return Err(why);
+    }
+    history.reserve(1)?;
+    match committer.failed(at) {
+        Err(_) => Err(Refused::OutOfMemory),
+        Ok(()) => {
+            history.push(Event::Fail { at }).unwrap();
+            Ok(Answer::Failed)
+        }
+    }
+}
+
+/// More of all terminals' bytes may be shown, now that so many changes are committed.
+fn show_all(screens: &mut [Withheld<u8>], committed: u64)
+    ensures { AreAdvanced committed screens.old screens.new }
+{
+    for screen in screens.iter_mut() {
+        screen.advance(committed);
+    }
+}
+
+/// More may be shown of all terminals and handed out of what processes were told, now that so many changes are committed.
+pub fn release(tasks: &mut Vec<Task>, screens: &mut Vec<Withheld<u8>>, committed: u64)
+    ensures tasks { AreMoved committed tasks.old.items tasks.new.items }
+    ensures screens { AreAdvanced committed screens.old.items screens.new.items }
+{
+    show_all(screens, committed);
+    hand_all(tasks, committed);
+}

@@ -1,0 +1,27 @@
+//! What all processes share: what events rest on, the changes, the files, the pipes, the tapes, the terminals and the disk,
+//! and what is kept of all processes beside their machines.
+use calls::TapeTable;
+use commit_deps::Dependencies;
+use disk_model::Change;
+use files::FileTable;
+use group_commit::Committer;
+use pipes::PipeTable;
+use processes::ProcTable;
+use withheld::Withheld;
+
+/// What all processes share.
+#[derive(Drop)]
+pub struct System {
+    pub dependencies: Dependencies,
+    /// All changes of files so far.
+    pub changes: Vec<Change>,
+    pub files: FileTable,
+    pub tapes: TapeTable,
+    pub pipes: PipeTable,
+    pub processes: ProcTable,
+    /// How many Enters were served: those that did not have to wait.
+    pub served: u64,
+    /// The bytes of the terminals, 0 to 7.
+    pub screens: Vec<Withheld<u8>>,
+    pub committer: Committer,
+}

@@ -1,0 +1,122 @@
+//! Processes.
+ghost use Rattle.std.specs.Prelude.{◌≡◌, Some, None, is_some};
+ghost use Rattle.withheld.specs.Withheld.{nothing};
+ghost use Rattle.kernel_model.specs.Answers.{turn_refusal, enter_refusal};
+
+use crate::whereabouts::Whereabouts;
+use kernel_model::Refused;
+use machine::Machine;
+use std::alloc::Global;
+use withheld::Trace;
+
+/// The most instructions that a process does, and the most events of a run: 2^40.
+pub const LIMIT: u64 = 1 << 40;
+
+/// A process: where its machine is, what it was told, and how many loans of it there were.
+#[derive(Drop)]
+pub struct Task {
+    /// Its number, from 1.
+    pub pid: u32,
+    pub whereabouts: Whereabouts,
+    /// What it was told.
+    pub trace: Trace,
+    /// Where its last Enter had to wait, how many Enters of all processes did not have to until then.
+    pub waited: Option<u64>,
+    /// How many loans of it there were.
+    pub loans: u64,
+}
+
+impl Task {
+    ghost use Rattle.kernel_step.specs.Tasks.{machine_of, out_of, process_of};
+    ghost use Rattle.kernel_step.specs.Waiting.{is_asleep};
+
+    /// A process as it is booted.
+    pub fn new(alloc: Global, pid: u32, machine: Machine) -> Task
+        ensures pid { result.pid ≡ pid }
+        ensures machine { machine_of result ≡ machine }
+        ensures trace { result.trace ≡ nothing }
+        ensures waited { result.waited ≡ None }
+        ensures loans { result.loans ≡ 0 }
+        ensures out { out_of result ≡ None }
+    {
+        Task::made(pid, machine, Trace::new(alloc))
+    }
+
+    /// A process with this machine and this trace, which was never lent.
+    pub fn made(pid: u32, machine: Machine, trace: Trace) -> Task
+        ensures pid { result.pid ≡ pid }
+        ensures machine { machine_of result ≡ machine }
+        ensures trace { result.trace ≡ trace }
+        ensures waited { result.waited ≡ None }
+        ensures loans { result.loans ≡ 0 }
+        ensures out { out_of result ≡ None }
+    {
+        Task {
+            pid,
+            whereabouts: Whereabouts::Here(machine),
+            trace,
+            waited: None,
+            loans: 0,
+        }
+    }
+
+    /// Its machine, or where that is out on loan, the state with which it was lent.
+    pub fn machine(&self) -> &Machine
+        ensures { result.now ≡ machine_of self.now }
+    {
+        self.whereabouts.machine()
+    }
+
+    /// Whether the process is out on loan.
+    pub fn is_out(&self) -> bool
+        ensures { result ≡ is_some (out_of self.now) }
+    {
+        self.whereabouts.is_out()
+    }
+
+    /// Whether the process still waits, where so many Enters did not have to wait.
+    pub fn is_asleep(&self, served: u64) -> bool
+        ensures { result ≡ is_asleep served self.now.waited }
+    {
+        match self.waited {
+            Some(before) => before == served,
+            None => false,
+        }
+    }
+
+    /// Why a Turn of at most n instructions is refused, memory aside, where the history may be full.
+    pub fn turn_refused(&self, full: bool, n: u32) -> Option<Refused>
+        ensures { result ≡ turn_refusal (Some (process_of self.now)) (is_some (out_of self.now)) full n }
+    {
+        if self.trace.has_end() {
+            return Some(Refused::Ended);
+        }
+        if self.is_out() {
+            return Some(Refused::Lent);
+        }
+        let count = self.machine().count();
+        if full || count > LIMIT || count + u64::from(n) > LIMIT {
+            return Some(Refused::Budget);
+        }
+        None
+    }
+
+    /// Why an Enter is refused, memory aside, where the history may be full.
+    pub fn enter_refused(&self, full: bool) -> Option<Refused>
+        ensures { result ≡ enter_refusal (Some (process_of self.now)) (is_some (out_of self.now)) full }
+    {
+        if self.trace.has_end() {
+            return Some(Refused::Ended);
+        }
+        if self.is_out() {
+            return Some(Refused::Lent);
+        }
+        if self.machine().stopped().is_none() {
+            return Some(Refused::NotStopped);
+        }
+        if full || self.machine().count() >= LIMIT {
+            return Some(Refused::Budget);
+        }
+        None
+    }
+}

@@ -1,0 +1,104 @@
+//! The tasks of all processes.
+ghost use Rattle.std.specs.Prelude.{◌≡◌, ◌+◌, ◌*◌, ◌^◌, ◌≤◌, ◌<◌, None, Some, true, is_some, length, map, slice_get, MatchOption, MatchResult, IfOk, IfErr, OnErr};
+ghost use Rattle.kernel_model.specs.State.{process_at};
+ghost use Rattle.kernel_model.specs.declared.answer.Refused.TheVariants.{Lent};
+ghost use Rattle.kernel_step.specs.Tasks.{machine_of, out_of, process_of, count_out, RanAt};
+ghost use Rattle.kernel_step.specs.Tests.{full_of, turn_refusal_of, enter_refusal_of, IsPlaceOf};
+ghost use Rattle.kernel_step.specs.Advanced.{AreMoved};
+ghost use Rattle.kernel_step.specs.declared.task.Task.{Task};
+
+use crate::task::{LIMIT, Task};
+use crate::whereabouts::Whereabouts;
+use kernel_model::Refused;
+use machine_model::Stop;
+
+/// The place of the process of a number, from 1.
+pub fn place_of(tasks: &[Task], pid: u32) -> Option<usize>
+    ensures { MatchOption result (process_at (map process_of tasks.now) pid ≡ None) (λ place. IsPlaceOf tasks.now pid place) }
+{
+    let place = (pid as usize).checked_sub(1)?;
+    if place < tasks.len() {
+        Some(place)
+    } else {
+        None
+    }
+}
+
+/// How many tasks are out on loan.
+pub fn count_out(tasks: &[Task]) -> usize
+    ensures { result ≡ count_out tasks.now }
+{
+    let mut count = 0;
+    for task in tasks {
+        if task.is_out() {
+            count += 1;
+        }
+    }
+    count
+}
+
+/// Whether a history of so many events has no room for one more, with two kept for each loan that is out.
+pub fn is_full(events: usize, tasks: &[Task]) -> bool
+    requires { events + 2 * count_out tasks.now ≤ 2 ^ 40 }
+    ensures { result ≡ full_of events tasks.now }
+{
+    events as u64 + 2 * count_out(tasks) as u64 >= LIMIT
+}
+
+/// The place of a process's task, or why a Turn of at most n instructions is refused of it, memory aside.
+pub fn turn_place(tasks: &[Task], full: bool, pid: u32, n: u32) -> Result<usize, Refused>
+    ensures fine { IfOk result (λ place. turn_refusal_of tasks.now full pid n ≡ None) }
+    ensures place { IfOk result (λ place. IsPlaceOf tasks.now pid place) }
+    ensures room { IfOk result (λ place. (t : Task) → slice_get tasks.now place ≡ Some t → (machine_of t).count + n ≤ 2 ^ 40) }
+    ensures refused { IfErr result (λ why. turn_refusal_of tasks.now full pid n ≡ Some why) }
+{
+    let Some(place) = place_of(tasks, pid) else {
+        return Err(Refused::NoProcess);
+    };
+    let task = &tasks[place];
+    match task.turn_refused(full, n) {
+        Some(why) => Err(why),
+        None => Ok(place),
+    }
+}
+
+/// The place of a process's task, or why an Enter is refused of it, memory aside.
+pub fn enter_place(tasks: &[Task], full: bool, pid: u32) -> Result<usize, Refused>
+    ensures fine { IfOk result (λ place. enter_refusal_of tasks.now full pid ≡ None) }
+    ensures place { IfOk result (λ place. IsPlaceOf tasks.now pid place) }
+    ensures refused { IfErr result (λ why. enter_refusal_of tasks.now full pid ≡ Some why) }
+{
+    let Some(place) = place_of(tasks, pid) else {
+        return Err(Refused::NoProcess);
+    };
+    let task = &tasks[place];
+    match task.enter_refused(full) {
+        Some(why) => Err(why),
+        None => Ok(place),
+    }
+}
+
+/// The machine of the task at this place runs at most n instructions. Refused, with nothing changed: Lent.
+pub fn run_at(tasks: &mut [Task], place: usize, n: u32) -> Result<(u32, Stop), Refused>
+    requires there { place < length tasks.old }
+    requires room { (t : Task) → slice_get tasks.old place ≡ Some t → (machine_of t).count + n ≤ 2 ^ 40 }
+    ensures ran { IfOk result (λ r. RanAt tasks.old tasks.new place n r.0 r.1) }
+    ensures lent { OnErr result ((t : Task) → slice_get tasks.old place ≡ Some t → is_some (out_of t) ≡ true) }
+    ensures cause { IfErr result (λ why. why ≡ Lent) }
+    ensures same { OnErr result (tasks.new ≡ tasks.old) }
+{
+    let task = &mut tasks[place];
+    match &mut task.whereabouts {
+        Whereabouts::Here(machine) => Ok(machine.run(n)),
+        Whereabouts::Out { .. } => Err(Refused::Lent),
+    }
+}
+
+/// More of what all processes were told may be handed out, now that so many changes are committed.
+pub fn hand_all(tasks: &mut [Task], committed: u64)
+    ensures { AreMoved committed tasks.old tasks.new }
+{
+    for task in tasks.iter_mut() {
+        task.trace.advance(committed);
+    }
+}

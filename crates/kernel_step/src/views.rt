@@ -1,0 +1,131 @@
+//! What may be seen of a run.
+ghost use Rattle.std.specs.Prelude.{◌≡◌, ◌<◌, None, true, not, is_some, IfOk, OnOk, IfErr};
+ghost use Rattle.std.specs.List.{list_any};
+ghost use Rattle.disk_model.specs.Runs.{quiet};
+ghost use Rattle.disk_model.specs.Storage.{is_empty};
+ghost use Rattle.simdisk.specs.Room.{crashed};
+ghost use Rattle.kernel_model.specs.Answers.{now, process_of, committed as committed_in, changes as changes_in, in_flight as least_in_flight, wants_cut as is_cut_wanted};
+ghost use Rattle.kernel_model.specs.Ran.{ran_by_turns};
+ghost use Rattle.kernel_model.specs.Shown.{shown as shown_of, handed, replies_in, end_in};
+ghost use Rattle.kernel_model.specs.World.{Boot};
+ghost use Rattle.kernel_model.specs.declared.answer.Refused.TheVariants.{NoProcess};
+ghost use Rattle.withheld.specs.Withheld.{holds_back};
+ghost use Rattle.kernel_step.specs.Stands.{Stands, kernel_in};
+
+use crate::running::Running;
+use crate::tasks::place_of;
+use kernel_model::{Event, Refused};
+use machine_model::Reply;
+use simdisk::SimDisk;
+use withheld::Withheld;
+
+/// Whether some screen holds a byte back.
+fn is_any_held_back(screens: &[Withheld<u8>]) -> bool
+    ensures { result ≡ list_any holds_back screens.now }
+{
+    screens.iter().any(|screen| screen.holds_back())
+}
+
+impl Running {
+    /// The bytes that a terminal, 0 to 7, shows: the longest prefix of those written to it that rests on committed changes
+    /// alone.
+    pub fn shown(&self, terminal: u32) -> &[u8]
+        requires kept { (b : Boot) × Stands b self.now }
+        requires there { terminal < 8 }
+        ensures { (b : Boot) → Stands b self.now → result.now ≡ shown_of (now (kernel_in b self.now)) terminal }
+    {
+        let screen = &self.system.screens[terminal as usize];
+        screen.released()
+    }
+
+    /// The replies to a process's calls that are handed out: the longest prefix that rests on committed changes alone.
+    /// Refused: NoProcess.
+    pub fn trace(&self, pid: u32) -> Result<&[Reply], Refused>
+        ensures replies { IfOk result (λ rs. (b : Boot) → Stands b self.now → rs.now ≡ replies_in (handed (now (kernel_in b self.now)) pid)) }
+        ensures there { OnOk result ((b : Boot) → Stands b self.now → is_some (process_of (kernel_in b self.now) pid) ≡ true) }
+        ensures none { IfErr result (λ why. (b : Boot) → Stands b self.now → (why ≡ NoProcess) × (process_of (kernel_in b self.now) pid ≡ None)) }
+    {
+        match place_of(&self.tasks, pid) {
+            Some(place) => {
+                let task = &self.tasks[place];
+                Ok(task.trace.replies())
+            }
+            None => Err(Refused::NoProcess),
+        }
+    }
+
+    /// The status with which a process ended, where all its replies are handed out and its end rests on committed changes
+    /// alone. Refused: NoProcess.
+    pub fn ended(&self, pid: u32) -> Result<Option<u32>, Refused>
+        ensures status { IfOk result (λ status. (b : Boot) → Stands b self.now → status ≡ end_in (handed (now (kernel_in b self.now)) pid)) }
+        ensures there { OnOk result ((b : Boot) → Stands b self.now → is_some (process_of (kernel_in b self.now) pid) ≡ true) }
+        ensures none { IfErr result (λ why. (b : Boot) → Stands b self.now → (why ≡ NoProcess) × (process_of (kernel_in b self.now) pid ≡ None)) }
+    {
+        match place_of(&self.tasks, pid) {
+            Some(place) => {
+                let task = &self.tasks[place];
+                Ok(task.trace.ended())
+            }
+            None => Err(Refused::NoProcess),
+        }
+    }
+
+    /// The accepted events, in order.
+    pub fn history(&self) -> &[Event]
+        ensures { (b : Boot) → result.now ≡ (kernel_in b self.now).history }
+    {
+        &self.history
+    }
+
+    /// How many changes are committed.
+    pub fn committed(&self) -> u64
+        ensures { (b : Boot) → Stands b self.now → result ≡ committed_in (now (kernel_in b self.now)) }
+    {
+        self.system.committer.committed()
+    }
+
+    /// How many changes of files there are, committed or not.
+    pub fn changes(&self) -> u64
+        ensures { (b : Boot) → Stands b self.now → result ≡ changes_in (now (kernel_in b self.now)) }
+    {
+        self.system.changes.len() as u64
+    }
+
+    /// How many instructions the history's Turns ran, those of loans' results among them.
+    pub fn ran(&self) -> u64
+        ensures { (b : Boot) → Stands b self.now → result ≡ ran_by_turns (kernel_in b self.now) }
+    {
+        self.ran
+    }
+
+    /// Whether a Cut is wanted: a byte of some terminal is held back, no group is in flight, and no write has failed.
+    pub fn wants_cut(&self) -> bool
+        ensures { (b : Boot) → Stands b self.now → result ≡ is_cut_wanted (now (kernel_in b self.now)) }
+    {
+        let held = is_any_held_back(&self.system.screens);
+        self.system.committer.wants_cut(held)
+    }
+
+    /// The least offset on the disk at which a write in flight begins.
+    pub fn in_flight(&self) -> Option<u32>
+        ensures { (b : Boot) → Stands b self.now → result ≡ least_in_flight (now (kernel_in b self.now)) }
+    {
+        self.system.committer.in_flight()
+    }
+
+    /// Whether a write has failed.
+    pub fn has_failed(&self) -> bool
+        ensures { (b : Boot) → Stands b self.now → result ≡ not (is_empty (now (kernel_in b self.now)).storage.device.failed) }
+    {
+        self.system.committer.has_failed()
+    }
+
+    /// The disk that a crash leaves now, where the ranges of writes in flight or failed take these bytes, by rising place,
+    /// again and again from the start; an empty fill leaves the completed bytes. Takes no memory.
+    pub fn crash(self, fill: &[u8]) -> SimDisk
+        ensures { (b : Boot) → Stands b self → result ≡ quiet (crashed (now (kernel_in b self)).storage.device fill.now) }
+    {
+        let system = self.system;
+        system.committer.crash(fill)
+    }
+}

@@ -1,0 +1,35 @@
+//! Where a process's machine is.
+ghost use Rattle.std.specs.Prelude.{◌≡◌, is_some};
+
+use machine::Machine;
+use std::sync::Arc;
+
+/// Where a process's machine is: in the core, or with its borrower.
+#[derive(Drop)]
+pub enum Whereabouts {
+    /// In the core.
+    Here(Machine),
+    /// Out on loan, to run at most `quantum` instructions. `began` is the state with which it was lent; the loan shares it.
+    Out { began: Arc<Machine>, quantum: u32 },
+}
+
+impl Whereabouts {
+    ghost use Rattle.kernel_step.specs.Whereabouts.{state_in, quantum_in};
+
+    /// The machine, or where it is out, the state with which it was lent.
+    pub fn machine(&self) -> &Machine
+        ensures { result.now ≡ state_in self.now }
+    {
+        match self {
+            Whereabouts::Here(machine) => machine,
+            Whereabouts::Out { began, .. } => began,
+        }
+    }
+
+    /// Whether the machine is out on loan.
+    pub fn is_out(&self) -> bool
+        ensures { result ≡ is_some (quantum_in self.now) }
+    {
+        matches!(self, Whereabouts::Out { .. })
+    }
+}

@@ -1,0 +1,14 @@
+//! What the definitions say of every program that may be loaded.
+ghost use Rattle.std.specs.Prelude.{◌≡◌, ℕ, ◌+◌, ◌<◌, Some, All, slice_index};
+ghost use Rattle.std.specs.FinMap.{get};
+ghost use Rattle.machine_model.specs.Access.{cell_with};
+ghost use Rattle.elf32.specs.declared.image.Segment.{Segment};
+ghost use Rattle.elf32.specs.Images.{Program, IsProfile};
+ghost use Rattle.machine.specs.First.{first_state};
+
+/// A law: in the first state of a program that may be loaded, at each address of each of its segments stands the segment's
+/// byte, which is 0 after those of the file, with the segment's rights.
+pub fn segments_are_loaded()
+    ensures { (p : Program) → IsProfile p → All (λ (s : Segment). (k : ℕ) → k < s.memsz
+        → get (first_state p).hart.memory (s.vaddr + k) ≡ Some (cell_with s.rights (slice_index s.bytes k))) p.segments }
+{}

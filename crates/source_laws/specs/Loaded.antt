@@ -1,0 +1,50 @@
+-- What becomes of a source: the file of its image, and the first state of a machine that is loaded from it.
+use Rattle.std.specs.Prelude.{◌≡◌, ℕ, ◌+◌, ◌*◌, List, [], ◌∷◌, ◌++◌, All, Ok}
+use Rattle.formats.specs.Meaning.{Means}
+use Rattle.formats.specs.declared.instr.Instr.{Instr}
+use Rattle.machine_model.specs.Memory.{Memory}
+use Rattle.machine_model.specs.Access.{fetched}
+use Rattle.elf32.specs.Images.{Program, IsProfile}
+use Rattle.elf32.specs.Files.{file_of}
+use Rattle.elf32.specs.Names.{Names, IsRefused}
+use Rattle.elf32.specs.declared.fault.ElfFault.{ElfFault}
+use Rattle.elf32.specs.declared.fault.ElfFault.TheVariants.{OutOfMemory}
+use Rattle.asm_text.specs.Text.{IsText}
+use Rattle.asm_text.specs.declared.token.Line.{Line}
+use Rattle.assembler.specs.Instructions.{IsInstruction, IsListedInstruction, instructions_of}
+use Rattle.assembler.specs.declared.mnemonic.Mnemonic.{Mnemonic}
+use Rattle.assembler.specs.declared.operands.Operands.{Operands}
+use Rattle.assembler.specs.declared.listing.Row.{Row}
+use Rattle.machine.specs.First.{first_state}
+
+-- a file names this program and no other, and is refused for want of memory alone
+pub record NamesAlone (file : List ℕ) (program : Program) : Type 0 where
+  pub named : Names file program
+  pub alone : (p : Program) → Names file p → p ≡ program
+  pub refused : (why : ElfFault) → IsRefused file why → why ≡ OutOfMemory
+
+-- a row's word is fetched at the row's address
+abbrev pub IsFetched : Memory → Row → Type 0
+IsFetched memory row = fetched memory row.address ≡ Ok row.word
+
+-- the words that are fetched one after the other from an address on mean these instructions, in order
+abbrev pub AreFetched : Memory → ℕ → List Instr → Type 0
+AreFetched memory at [] = Unit {0}
+AreFetched memory at (i ∷ instructions) = (word : ℕ) × (fetched memory at ≡ Ok word) × Means word i × AreFetched memory (at + 4) instructions
+
+-- Each instruction in the text of a source, with so many words of text before it, is listed; and the words that are fetched from
+-- its address on mean the instructions that it stands for.
+abbrev pub FetchesInstructions : List ℕ → List Row → Memory → Type 0
+FetchesInstructions source listing memory =
+    (before : List Line) (line : Line) (after : List Line) (words : ℕ) (m : Mnemonic) (o : Operands)
+    → IsText source (before ++ line ∷ after) → IsInstruction source before line words m o
+    → (listed : IsListedInstruction source (before ++ line ∷ after) line words m o listing)
+    × AreFetched memory (65536 + 4 * words) (instructions_of listed.expansion)
+
+-- What a source assembles to may be loaded; its file names it alone; and in the first state of a machine that is loaded from it
+-- each listed word is fetched at its address, and so is each instruction in text, word by word.
+pub record IsLoadedAsListed (source : List ℕ) (image : Program) (listing : List Row) : Type 0 where
+  pub profile : IsProfile image
+  pub file : NamesAlone (file_of image) image
+  pub rows : All (IsFetched (first_state image).hart.memory) listing
+  pub instructions : FetchesInstructions source listing (first_state image).hart.memory

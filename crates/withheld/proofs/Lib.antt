@@ -1,0 +1,4 @@
+-- The proofs.
+pub mod Prefixes
+pub mod Traces
+pub mod Zipped

@@ -1,0 +1,19 @@
+-- The end comes after all replies.
+use Rattle.std.proofs.Common.{◌≡◌, ℕ, ◌+◌, ◌++◌, ◌∷◌, [], List, Option, Some, None, is_some, length, refl, sym, ap, subst, ◌∙◌, rules}
+use Rattle.kernel_model.specs.Entries.{Item, Got, End}
+use Rattle.kernel_model.specs.Shown.{replies_in, end_in}
+use Rattle.withheld.specs.Withheld.{Withheld, Held, released, all_held, whats}
+use Rattle.withheld.specs.Traces.{ending_items, as_items, told_items}
+use Rattle.withheld.specs.declared.trace.Ending.{Ending}
+use Rattle.withheld.proofs.Traces.{no-end, append-none}
+use Rattle.withheld.proofs.trace.Trace.end.Goals as goal
+
+pub returns-clause-items : goal.returns-clause-items
+returns-clause-items c =
+    let none : c.self.inside.ending ≡ None =
+    no-end c.self.inside.replies.items c.self.inside.ending (ap (λ (w : Withheld Item). end_in (whats w.items)) c.self.view_is ∙ c.requires.running) in
+    let items : as_items c.self.inside.replies.items ≡ c.args.self.now.items =
+    sym (append-none (as_items c.self.inside.replies.items))
+    ∙ ap (λ (o : Option Ending). as_items c.self.inside.replies.items ++ ending_items o) (sym none)
+    ∙ ap (λ (w : Withheld Item). w.items) c.self.view_is in
+    ap (λ (hs : List (Held Item)). hs ++ all_held c.args.mark (End c.args.status ∷ [])) items

@@ -1,0 +1,3 @@
+-- The definitions.
+pub mod Traces
+pub mod Withheld

@@ -1,0 +1,40 @@
+//! How many of the first marks pass, counted on from an earlier count.
+ghost use Rattle.std.specs.Prelude.{◌≡◌, ◌≤◌, length, drop, nat_le, if◌then◌else◌};
+ghost use Rattle.withheld.specs.Withheld.{prefix_of};
+
+use commit_deps::Mark;
+
+/// How many of the first marks are known to pass: those that did before, unless fewer changes are committed now.
+fn known(counted: usize, before: u64, committed: u64) -> usize
+    ensures { result ≡ (if nat_le before committed then counted else 0) }
+{
+    if before <= committed { counted } else { 0 }
+}
+
+/// The marks after the first so many.
+fn rest(marks: &[Mark], count: usize) -> &[Mark]
+    requires { count ≤ length marks.now }
+    ensures { result.now ≡ drop count marks.now }
+{
+    &marks[count..]
+}
+
+/// How many marks stand before the first that is not among the first `committed` changes.
+fn prefix(marks: &[Mark], committed: u64) -> usize
+    ensures { result ≡ prefix_of committed marks.now }
+{
+    marks
+        .iter()
+        .take_while(|mark| mark.below(committed))
+        .count()
+}
+
+/// How many marks stand before the first that is not among the first `committed` changes, where the first `counted` are
+/// among the first `before`. Looks only at the marks after these, unless fewer changes are committed than before.
+pub fn prefix_from(marks: &[Mark], counted: usize, before: u64, committed: u64) -> usize
+    requires { counted ≤ prefix_of before marks.now }
+    ensures { result ≡ prefix_of committed marks.now }
+{
+    let passed = known(counted, before, committed);
+    passed + prefix(rest(marks, passed), committed)
+}

@@ -1,0 +1,54 @@
+//! Replies, and copies of them.
+ghost use Rattle.std.specs.Prelude.{◌≡◌, IfOk};
+ghost use Rattle.kernel_model.specs.Steps.{zero_reply};
+
+use crate::withheld::Withheld;
+use byte_list::Bytes;
+use machine_model::Reply;
+use std::alloc::{AllocError, Global};
+
+/// The reply of 0, without bytes. Takes no memory.
+pub fn zero_reply(alloc: Global) -> Reply
+    ensures { result ≡ zero_reply }
+{
+    Reply {
+        a0: 0,
+        at: 0,
+        bytes: Bytes::empty(alloc),
+    }
+}
+
+/// A copy of a reply.
+fn copy_of_one(alloc: Global, reply: &Reply) -> Result<Reply, AllocError>
+    ensures { IfOk result (λ copy. copy ≡ reply.now) }
+{
+    Ok(Reply {
+        a0: reply.a0,
+        at: reply.at,
+        bytes: reply.bytes.try_clone(alloc)?,
+    })
+}
+
+/// Copies of these replies.
+fn copies_of(alloc: Global, replies: &[Reply]) -> Result<Vec<Reply>, AllocError>
+    ensures { IfOk result (λ copies. copies.items ≡ replies.now) }
+{
+    let mut copies = Vec::new(alloc);
+    for reply in replies {
+        copies.push(copy_of_one(alloc, reply)?)?;
+    }
+    Ok(copies)
+}
+
+/// A copy of replies that are held back.
+pub fn copy_of(alloc: Global, replies: &Withheld<Reply>) -> Result<Withheld<Reply>, AllocError>
+    ensures items { IfOk result (λ copy. copy.items ≡ replies.now.items) }
+    ensures committed { IfOk result (λ copy. copy.committed ≡ replies.now.committed) }
+{
+    Ok(Withheld {
+        items: copies_of(alloc, &replies.items)?,
+        marks: replies.marks.to_vec(alloc)?,
+        count: replies.count,
+        committed: replies.committed,
+    })
+}
