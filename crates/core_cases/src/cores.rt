@@ -4,7 +4,7 @@ ghost use Rattle.std.specs.List.{AllByRecursion};
 
 use anyhow::{Error, bail};
 use assembler::assemble;
-use bursts::{Done, Rejected, run_loan};
+use bursts::{Books, Done, Rejected, books_of, run_loan};
 use byte_list::Bytes;
 use files::FileTable;
 use kernel::{Answer, BootFault, Core, DiskFault, Event, Program, Refused, SimDisk};
@@ -160,6 +160,10 @@ impl TestCore {
 
     pub fn ran(&self) -> u64 {
         self.core.ran()
+    }
+
+    pub fn books(&self) -> Books {
+        books_of(&self.core)
     }
 
     pub fn wants_cut(&self) -> bool {

@@ -1,4 +1,6 @@
 -- Lemmas.
+pub mod Accepting
+pub mod Applying
 pub mod Draining
-pub mod Scripting
+pub mod Parts
 pub mod Seeing

@@ -1,6 +1,6 @@
 -- What a core is booted from.
 use Rattle.std.specs.Prelude.{ℕ, List}
-use Rattle.journal.specs.Faults.{IsFault}
+use Rattle.journal.specs.Faults.{IsFault, number_of as fault_number}
 use Rattle.journal.specs.declared.fault.DiskFault.{DiskFault}
 use Rattle.journal.specs.declared.fault.DiskFault.TheVariants as fault
 use Rattle.kernel_model.specs.World.{Boot}
@@ -24,3 +24,8 @@ boot_fault fault.PastHalf = Disk fault.PastHalf
 abbrev pub TellsBootFault : List ℕ → BootFault → Type 0
 TellsBootFault disk (Disk fault) = IsFault disk fault
 TellsBootFault disk OutOfMemory = Unit {0}
+
+-- its number
+abbrev pub number_of : BootFault → ℕ
+number_of (Disk fault) = fault_number fault
+number_of OutOfMemory = 4

@@ -1,2 +1,6 @@
 -- The definitions.
+pub mod Applying
 pub mod Booting
+pub mod Keeping
+pub mod Parts
+pub mod Sums

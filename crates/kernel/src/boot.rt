@@ -7,10 +7,11 @@ ghost use Rattle.disk_model.specs.Storage.{is_quiet};
 ghost use Rattle.kernel_model.specs.World.{HoldsItsFiles};
 ghost use Rattle.kernel_model.specs.Bytes.{ProgramsHoldBytes, TapesHoldBytes};
 ghost use Rattle.kernel_step.specs.Booting.{program_of, nothing_lent};
-ghost use Rattle.kernel.specs.Booting.{TellsBootFault, boot_fault};
+ghost use Rattle.kernel.specs.Booting.{TellsBootFault, boot_fault, number_of};
 ghost use Rattle.kernel.specs.declared.boot.BootFault.TheVariants.{OutOfMemory};
 
 use crate::cores::{Booted, Core};
+use crate::sums::Sums;
 use byte_list::Bytes;
 use disk_model::held_files_are_made;
 use group_commit::Committer;
@@ -29,6 +30,18 @@ pub enum BootFault {
     Disk(DiskFault),
     #[error("out of memory")]
     OutOfMemory,
+}
+
+impl BootFault {
+    /// Its number, 1 to 4: that of the disk's fault.
+    pub fn number(self) -> u8
+        ensures { result ≡ number_of self }
+    {
+        match self {
+            BootFault::Disk(fault) => fault.number(),
+            BootFault::OutOfMemory => DiskFault::OutOfMemory.number(),
+        }
+    }
 }
 
 impl From<AllocError> for BootFault {
@@ -98,7 +111,15 @@ impl Core {
             disk,
             gate,
         };
-        Ok(Core { booted, running })
+        let sums = Sums {
+            turns: 0,
+            enters: 0,
+        };
+        Ok(Core {
+            booted,
+            running,
+            sums,
+        })
     }
 }
 

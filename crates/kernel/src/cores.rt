@@ -1,10 +1,12 @@
 //! The core, and its events.
-ghost use Rattle.std.specs.Prelude.{◌≡◌, ◌≢◌, ◌≤◌, length, take, IfOk, IfErr, OnOk, OnErr};
-ghost use Rattle.kernel_model.specs.Answers.{Applies, AllAccepted, with_events};
+ghost use Rattle.std.specs.Prelude.{◌≡◌, ◌≢◌, ◌+◌, IfOk, IfErr, OnOk, OnErr};
+ghost use Rattle.kernel_model.specs.Answers.{Applies, AllAccepted};
+ghost use Rattle.kernel_model.specs.Ran.{ran_by_turns, ran_in};
 ghost use Rattle.kernel_model.specs.Loans.{Lends, IsOfLoan, returned, events_of, settled, settled_answer};
 ghost use Rattle.kernel_model.specs.declared.answer.Refused.TheVariants.{Stranger, OutOfMemory};
 ghost use Rattle.kernel_step.specs.Loaned.{lent_out, loan_result};
 
+use crate::sums::Sums;
 use byte_list::Bytes;
 use files::FileTable;
 use kernel_model::{Answer, Event, Refused};
@@ -31,6 +33,7 @@ pub(crate) struct Booted {
 pub struct Core {
     pub(crate) booted: Booted,
     pub(crate) running: Running,
+    pub(crate) sums: Sums,
 }
 
 impl Model for Core {
@@ -41,13 +44,13 @@ impl Model for Core {
 
     ghost coded = { kernel_code };
 
-    ghost use Rattle.kernel_laws.specs.Resuming.{IsSound};
-    ghost use Rattle.kernel_step.specs.Stands.{Stands, kernel_in};
+    ghost use Rattle.kernel_step.specs.Stands.{kernel_in};
     ghost use Rattle.kernel.specs.Booting.{boot_of};
+    ghost use Rattle.kernel.specs.Parts.{IsCore};
 
     ghost view = { λ c. kernel_in (boot_of c.booted) c.running };
 
-    ghost invariant = { λ c. IsSound (boot_of c.booted) × Stands (boot_of c.booted) c.running };
+    ghost invariant = { λ c. IsCore (boot_of c.booted) c.running c.sums };
 }
 
 impl Core {
@@ -55,29 +58,18 @@ impl Core {
     /// Turn: NoProcess, Ended, Lent, Budget; Enter: NoProcess, Ended, Lent, NotStopped, Budget; Cut: Budget, DiskFailed,
     /// GroupInFlight, NothingToCut; Complete and Fail: Budget, NoSuchWrite; and want of memory last.
     pub fn apply(&mut self, event: Event) -> Result<Answer, Refused>
-        ensures { Applies self.old event self.new result }
+        ensures applies { Applies self.old event self.new result }
+        ensures ran { IfOk result (λ a. ran_by_turns self.new ≡ ran_by_turns self.old + ran_in a) }
     {
-        self.running.apply(event)
-    }
-
-    /// Applies each event in turn up to the first that is refused, and answers how many were applied.
-    pub fn run_script(&mut self, events: &[Event]) -> usize
-        ensures within { result ≤ length events.now }
-        ensures grown { self.new ≡ with_events self.old (take result events.now) }
-        ensures accepted { AllAccepted self.old (take result events.now) }
-    {
-        for (count, event) in events.iter().enumerate() {
-            if self.apply(*event).is_err() {
-                return count;
-            }
-        }
-        events.len()
+        let result = self.running.apply(event);
+        self.sums.add_event(event, &result);
+        result
     }
 
     /// Lends the first lendable process after the one last lent, by rising number and round again, to run at most a
     /// quantum of instructions. A process is lendable where it has not ended, is not lent, does not wait, and has room for
     /// quantum + 1 more instructions. None where there is none. Refused: Budget, where the history has no room for the two
-    /// events of one more loan; OutOfMemory. Nothing joins the history.
+    /// events of one more loan; OutOfMemory, only where some process is lendable. Nothing joins the history.
     pub fn lend(&mut self, quantum: u32) -> Result<Option<Loan>, Refused>
         ensures { Lends self.old quantum self.new (lent_out result) }
     {
@@ -92,11 +84,15 @@ impl Core {
         ensures fine { OnOk result (AllAccepted (returned self.old done.pid) (events_of (loan_result done))) }
         ensures events { OnOk result (self.new ≡ settled self.old (loan_result done)) }
         ensures answer { IfOk result (λ a. a ≡ settled_answer self.old (loan_result done)) }
+        ensures ran { OnOk result (ran_by_turns self.new ≡ ran_by_turns self.old + done.count) }
         ensures stranger { IfErr result (λ r. r.why ≡ Stranger → ¬ (IsOfLoan self.old (loan_result done))) }
         ensures own_only { IfErr result (λ r. r.why ≢ Stranger → (r.why ≡ OutOfMemory) × IsOfLoan self.old (loan_result done)) }
         ensures back { IfErr result (λ r. r.done ≡ done) }
         ensures err { OnErr result (self.new ≡ self.old) }
     {
-        self.running.settle(done)
+        let pid = done.pid;
+        let result = self.running.settle(done);
+        self.sums.add_loan(pid, &result);
+        result
     }
 }

@@ -1,16 +1,20 @@
 //! The core of the bench: processes, files and a disk, one event at a time.
 #![tactic(auto)]
 
+mod applier;
 mod boot;
 mod cores;
 mod drain;
 mod halt;
+mod keeping;
+mod sums;
 mod views;
 
+pub use applier::{Applier, apply_each};
 pub use boot::BootFault;
 pub use cores::Core;
 pub use journal::DiskFault;
-pub use kernel_laws::{interleavings, runs_go_on};
+pub use kernel_laws::{counts_never_fall, drains_are_events, interleavings, runs_go_on};
 pub use kernel_model::{Answer, Event, Outcome, Refused};
 pub use kernel_step::{Done, Loan, Program, Rejected};
 pub use simdisk::SimDisk;

@@ -4,6 +4,7 @@ ghost use Rattle.kernel_model.specs.Answers.{now, process_of, committed as commi
 ghost use Rattle.kernel_model.specs.Ran.{ran_by_turns};
 ghost use Rattle.kernel_model.specs.Shown.{shown as shown_of, handed, replies_in, end_in};
 ghost use Rattle.kernel_model.specs.declared.answer.Refused.TheVariants.{NoProcess};
+ghost use Rattle.kernel.specs.Sums.{sum_of_turns, sum_of_enters};
 
 use crate::cores::Core;
 use files::FileTable;
@@ -66,6 +67,20 @@ impl Core {
         ensures { result ≡ ran_by_turns self.now }
     {
         self.running.ran()
+    }
+
+    /// The sum of the process numbers of the history's Turns, those of loans' results among them.
+    pub fn sum_of_turns(&self) -> u64
+        ensures { result ≡ sum_of_turns self.now.history }
+    {
+        self.sums.turns
+    }
+
+    /// The sum of the process numbers of the history's Enters, those of loans' results among them.
+    pub fn sum_of_enters(&self) -> u64
+        ensures { result ≡ sum_of_enters self.now.history }
+    {
+        self.sums.enters
     }
 
     /// Whether a Cut is wanted: a byte of some terminal is held back, no group is in flight, and no write has failed.

@@ -6,7 +6,8 @@ use Rattle.machine_model.specs.declared.stop.Stop.TheVariants.{Call}
 use Rattle.machine_model.specs.States.{State, stands_at, replied}
 use Rattle.kernel_model.specs.Entries.{Entry}
 use Rattle.kernel_model.specs.State.{SyncState, Process, process_at, put_process}
-use Rattle.kernel_model.specs.Rows.{Effect, cause_number}
+use Rattle.machine_model.specs.Numbers.{cause_number}
+use Rattle.kernel_model.specs.Rows.{Effect}
 use Rattle.kernel_model.specs.Steps.{unchanged, Transition, impossible, after_run, after_reply, zero_reply, forked, after_end, after_effect, step}
 use Rattle.kernel_model.specs.Shown.{is_made}
 use Rattle.kernel_model.specs.World.{World, Boot, first_world, happens, after}

@@ -17,6 +17,7 @@ pub mod Sound
 pub mod DiskRuns
 pub mod Crashing
 pub mod Groups
+pub mod Rising
 pub mod AllShown
 pub mod Gathering
 pub mod Keeping

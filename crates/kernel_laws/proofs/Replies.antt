@@ -8,7 +8,8 @@ use Rattle.machine_model.specs.States.{State, stands_at}
 use Rattle.kernel_model.specs.Entries.{Entry, Item, Got, End}
 use Rattle.kernel_model.specs.State.{SyncState, shared, Process, process_at, put_process, with_process}
 use Rattle.kernel_model.specs.Requests.{request_of}
-use Rattle.kernel_model.specs.Rows.{Effect, row, row_end, cause_number}
+use Rattle.machine_model.specs.Numbers.{cause_number}
+use Rattle.kernel_model.specs.Rows.{Effect, row, row_end}
 use Rattle.kernel_model.specs.Steps.{Transition, own_entry, impossible, after_run, after_reply, zero_reply, forked, after_end, after_turn, effect_at, after_effect, after_effect_if, after_enter, step}
 use Rattle.kernel_model.specs.Shown.{Given, given_by, is_made, items_for, told, replies_in}
 use Rattle.kernel_model.specs.World.{World, happens, after}

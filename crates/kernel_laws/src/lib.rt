@@ -7,7 +7,8 @@ ghost use Rattle.disk_model.specs.declared.change.NamedFile.{NamedFile};
 ghost use Rattle.disk_model.specs.Files.{files_after};
 ghost use Rattle.disk_model.specs.Held.{IsHeld, joined};
 ghost use Rattle.disk_model.specs.Storage.{Storage, completed, is_empty, is_quiet, piece_at};
-ghost use Rattle.kernel_model.specs.Answers.{changes, committed, writes_to_come};
+ghost use Rattle.kernel_model.specs.Answers.{Kernel, changes, committed, now, with_events, writes_to_come};
+ghost use Rattle.kernel_model.specs.Drains.{Drains};
 ghost use Rattle.kernel_model.specs.Shown.{handed, printed, shown, told};
 ghost use Rattle.kernel_model.specs.declared.event.Event.{Event};
 ghost use Rattle.kernel_model.specs.declared.event.Event.TheVariants.{Complete};
@@ -148,3 +149,17 @@ pub fn completions_count_down()
 {
     runs_are_orderly();
 }
+
+/// A law: no events lower how many changes of a core there are, or how many of them are committed. So of two readings of the
+/// counts the later is at least the earlier, in both.
+pub fn counts_never_fall()
+    ensures committed { (k : Kernel) (es : List Event) → committed (now k) ≤ committed (now (with_events k es)) }
+    ensures changes { (k : Kernel) (es : List Event) → changes (now k) ≤ changes (now (with_events k es)) }
+{
+    runs_are_orderly();
+}
+
+/// A law: a drain is its events, applied one after the other.
+pub fn drains_are_events()
+    ensures { (k : Kernel) (events : List Event) (new : Kernel) → Drains k events new → new ≡ with_events k events }
+{}

@@ -9,7 +9,8 @@ use Rattle.disk_model.proofs.Lists.{some_of}
 use Rattle.machine_model.specs.declared.stop.Stop.{Stop}
 use Rattle.machine_model.specs.declared.stop.Stop.TheVariants.{Limit, Call, Trap}
 use Rattle.kernel_model.specs.Requests.{most_bytes, longest_name, request_of}
-use Rattle.kernel_model.specs.Rows.{Effect, EndedChild, only, number, failure, bad_address, carrier_of, ends_of, row, row_end, cause_number, row_write, write_read, write_to, write_file, write_pipe, put_some, may_write, row_read, read_from, read_file, read_tape, read_pipe, take_some, may_read, row_close, row_seek, row_open, open_named, open_free, open_file, open_there, open_emptied, open_new, row_pipe, pipe_free, pipe_made, row_fork, row_wait, wait_ended, first_ended, free_descriptor, free_after, file_named, is_name_byte, names_of, descriptor_at, longest_file, most_files, most_pipes, most_processes, pipe_size}
+use Rattle.machine_model.specs.Numbers.{cause_number}
+use Rattle.kernel_model.specs.Rows.{Effect, EndedChild, only, number, failure, bad_address, carrier_of, ends_of, row, row_end, row_write, write_read, write_to, write_file, write_pipe, put_some, may_write, row_read, read_from, read_file, read_tape, read_pipe, take_some, may_read, row_close, row_seek, row_open, open_named, open_free, open_file, open_there, open_emptied, open_new, row_pipe, pipe_free, pipe_made, row_fork, row_wait, wait_ended, first_ended, free_descriptor, free_after, file_named, is_name_byte, names_of, descriptor_at, longest_file, most_files, most_pipes, most_processes, pipe_size}
 use Rattle.kernel_model.specs.State.{Process, Shared, PipeState, TapeState, unread}
 use Rattle.kernel_model.specs.Steps.{effect_at}
 use Rattle.kernel_model.specs.declared.carrier.Carrier.{Carrier}

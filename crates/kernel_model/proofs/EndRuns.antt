@@ -7,7 +7,8 @@ use Rattle.disk_model.proofs.Lists.{each_append}
 use Rattle.machine_model.specs.declared.reply.Reply.{Reply}
 use Rattle.kernel_model.specs.Ends.{count_among, count_of, count_held}
 use Rattle.kernel_model.specs.Requests.{request_of}
-use Rattle.kernel_model.specs.Rows.{Effect, ends_of, row_end, cause_number}
+use Rattle.machine_model.specs.Numbers.{cause_number}
+use Rattle.kernel_model.specs.Rows.{Effect, ends_of, row_end}
 use Rattle.kernel_model.specs.State.{SyncState, Process, PipeState, process_at, put_process, with_process, shared}
 use Rattle.kernel_model.specs.Steps.{Transition, after_run, after_reply, forked, after_end, after_effect, step}
 use Rattle.kernel_model.specs.World.{World, Boot, BootProgram, first_process, processes_from, first_world, happens, after}

@@ -1,13 +1,19 @@
 -- One more event of a run.
 pub use Rattle.std.proofs.Common.{append-nil}
-use Rattle.std.proofs.Common.{◌≡◌, ℕ, Option, Some, None, option_to_list, List, [], ◌∷◌, ◌++◌, refl, sym, ap, ◌∙◌, append_assoc}
+use Rattle.std.proofs.Common.{◌≡◌, ℕ, ◌+◌, Option, Some, None, option_to_list, List, [], ◌∷◌, ◌++◌, refl, sym, ap, ◌∙◌, append_assoc, arith}
 use Rattle.disk_model.specs.declared.change.Change.{Change}
 use Rattle.kernel_model.specs.Entries.{Entry, Item}
 use Rattle.kernel_model.specs.Paths.{changes_in_log, with_change}
-use Rattle.kernel_model.specs.Answers.{Kernel, now, with_event}
+use Rattle.kernel_model.specs.Answers.{Kernel, now, process_of, with_event, ran_by, entered, outcome_of, answer}
+use Rattle.kernel_model.specs.Ran.{instructions_of, instructions_in, instructions_from, ran_by_turns, ran_in}
+use Rattle.kernel_model.specs.State.{Process}
+use Rattle.kernel_model.specs.Steps.{step}
 use Rattle.kernel_model.specs.World.{World, first_world, happens, after}
 use Rattle.kernel_model.specs.Shown.{Given, given_by, each_from, printed, bytes_for, told, told_from, told_with}
+use Rattle.kernel_model.specs.declared.answer.Outcome.{Outcome}
+use Rattle.kernel_model.specs.declared.answer.Outcome.TheVariants as outcome
 use Rattle.kernel_model.specs.declared.event.Event.{Event}
+use Rattle.kernel_model.specs.declared.event.Event.TheVariants.{Turn, Enter, Cut, Complete, Fail}
 
 -- the last event happens to the run of those before it
 pub after-append : (w : World) (es : List Event) (e : Event) → after w (es ++ e ∷ []) ≡ happens (after w es) e
@@ -58,3 +64,29 @@ changes_in_log-entry (x ∷ log) e =
 -- the run of a core after one more event
 pub now-with_event : (k : Kernel) (e : Event) → now (with_event k e) ≡ happens (now k) e
 now-with_event k e = after-append (first_world k.boot) k.history e
+
+-- ---- how many instructions its Turns ran
+pub instructions-append : (w : World) (es : List Event) (e : Event) → instructions_from w (es ++ e ∷ []) ≡ instructions_from w es + instructions_in (after w es) e
+instructions-append w [] e = omega arith
+instructions-append w (x ∷ es) e = let rest = instructions-append (happens w x) es e in omega (arith, rest)
+
+ran-by : (o : Option Process) (n : ℕ) → ran_in (ran_by o n) ≡ instructions_of o n
+ran-by None n = refl
+ran-by (Some p) n = refl
+
+ran-entered : (o : Outcome) → ran_in (entered o) ≡ 0
+ran-entered outcome.Entered = refl
+ran-entered outcome.Waits = refl
+ran-entered outcome.Ended = refl
+
+-- an event ran what its answer says
+pub ran-answer : (k : Kernel) (e : Event) → ran_in (answer k e) ≡ instructions_in (now k) e
+ran-answer k (Turn pid n) = ran-by (process_of k pid) n
+ran-answer k (Enter pid) = ran-entered (outcome_of (step (now k).sync (Enter pid)).entry.item)
+ran-answer k Cut = refl
+ran-answer k (Complete at) = refl
+ran-answer k (Fail at) = refl
+
+pub ran-with_event : (k : Kernel) (e : Event) → ran_by_turns (with_event k e) ≡ ran_by_turns k + ran_in (answer k e)
+ran-with_event k e =
+    instructions-append (first_world k.boot) k.history e ∙ ap (λ n. ran_by_turns k + n) (sym (ran-answer k e))

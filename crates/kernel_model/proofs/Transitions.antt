@@ -6,7 +6,8 @@ use Rattle.machine_model.specs.declared.stop.Cause.{Cause}
 use Rattle.machine_model.specs.declared.stop.Stop.{Stop}
 use Rattle.machine_model.specs.declared.stop.Stop.TheVariants.{Limit, Call, Trap}
 use Rattle.kernel_model.specs.Requests.{request_of}
-use Rattle.kernel_model.specs.Rows.{Effect, row, row_end, cause_number}
+use Rattle.machine_model.specs.Numbers.{cause_number}
+use Rattle.kernel_model.specs.Rows.{Effect, row, row_end}
 use Rattle.kernel_model.specs.State.{SyncState, Process, shared, process_at, with_process}
 use Rattle.kernel_model.specs.Steps.{Transition, unchanged, impossible, own_entry, after_run, after_turn, after_effect, after_effect_if, after_enter, effect_at, step}
 use Rattle.kernel_model.specs.declared.event.Event.{Event}

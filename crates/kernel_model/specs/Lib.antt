@@ -9,6 +9,7 @@ pub mod Ends
 pub mod Limits
 pub mod Bytes
 pub mod Shown
+pub mod Refusals
 pub mod Answers
 pub mod Loans
 pub mod Ran

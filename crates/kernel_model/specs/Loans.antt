@@ -88,11 +88,12 @@ pub record IsNextLoan (old new : Kernel) (quantum : ℕ) (loan : LoanOut) : Type
 abbrev pub loan_refusal : Kernel → Option Refused
 loan_refusal k = if is_full_for_loan k then Some refused.Budget else None
 
--- A loan is given where a process is lendable, and None where there is none; nothing joins the history.
+-- A loan is given where a process is lendable, and None where there is none; nothing joins the history. Memory can be wanting only
+-- where a process is lendable.
 abbrev pub Lends : Kernel → ℕ → Kernel → Result (Option LoanOut) Refused → Type 0
 Lends old quantum new result = MatchResult result
     (λ given. (loan_refusal old ≡ None) × MatchOption given ((pick old quantum ≡ None) × (new ≡ old)) (λ loan. IsNextLoan old new quantum loan))
-    (λ why. Refuses (loan_refusal old) why × (new ≡ old))
+    (λ why. Refuses (loan_refusal old) why × (why ≡ refused.OutOfMemory → is_some (pick old quantum) ≡ true) × (new ≡ old))
 
 -- a loan's result as it is handed in: how far the run of its quantum came, from the state it began from
 pub record LoanResult : Type 0 where

@@ -4,6 +4,8 @@ use Rattle.machine_model.specs.States.{run}
 use Rattle.kernel_model.specs.State.{Process, process_at}
 use Rattle.kernel_model.specs.World.{World, first_world, happens}
 use Rattle.kernel_model.specs.Answers.{Kernel}
+use Rattle.kernel_model.specs.declared.answer.Answer.{Answer}
+use Rattle.kernel_model.specs.declared.answer.Answer.TheVariants.{Ran, Settled}
 use Rattle.kernel_model.specs.declared.event.Event.{Event}
 use Rattle.kernel_model.specs.declared.event.Event.TheVariants.{Turn, Enter, Cut, Complete, Fail}
 
@@ -28,3 +30,9 @@ instructions_from w (e ∷ es) = instructions_in w e + instructions_from (happen
 -- how many instructions the Turns of a core's history ran
 abbrev pub ran_by_turns : Kernel → ℕ
 ran_by_turns k = instructions_from (first_world k.boot) k.history
+
+-- how many instructions an answer says that were run
+abbrev pub ran_in : Answer → ℕ
+ran_in (Ran count stop) = count
+ran_in (Settled count stop outcome) = count
+ran_in _ = 0

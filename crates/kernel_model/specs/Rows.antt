@@ -7,8 +7,6 @@ use Rattle.std.specs.Int.{w32, to_le_bytes}
 use Rattle.disk_model.specs.declared.change.Change.{Change}
 use Rattle.disk_model.specs.declared.change.Change.TheVariants as change
 use Rattle.disk_model.specs.declared.change.NamedFile.{NamedFile}
-use Rattle.machine_model.specs.declared.stop.Cause.{Cause}
-use Rattle.machine_model.specs.declared.stop.Cause.TheVariants as cause
 use Rattle.kernel_model.specs.Requests.{most_bytes, longest_name}
 use Rattle.kernel_model.specs.State.{Shared, TapeState, PipeState, unread}
 use Rattle.kernel_model.specs.declared.carrier.Carrier.{Carrier}
@@ -151,15 +149,6 @@ on_pipe k verdict steps = record (only verdict) { reads = carrier.Pipe k ∷ [];
 -- the end of a process with these descriptors and a status, by a call or a trap: all its descriptors are closed
 abbrev pub row_end : List (Option Descriptor) → ℕ → Effect
 row_end ds status = closing (ends_of ds) (Ends status)
-
--- the number that a trap of this cause tells
-abbrev pub cause_number : Cause → ℕ
-cause_number cause.Illegal = 1
-cause_number cause.MisalignedTarget = 2
-cause_number cause.MisalignedData = 3
-cause_number cause.PageFault = 4
-cause_number cause.FetchFault = 5
-cause_number cause.Breakpoint = 6
 
 -- what a descriptor of the caller stands for; one past the last stands for nothing
 abbrev pub descriptor_at : List (Option Descriptor) → ℕ → Option Descriptor

@@ -1,6 +1,7 @@
 //! What the core answers.
-ghost use Rattle.kernel_model.specs.declared.answer.Refused.TheVariants.{OutOfMemory};
 ghost use Rattle.std.specs.Prelude.{◌≡◌};
+ghost use Rattle.kernel_model.specs.Refusals.{number_of};
+ghost use Rattle.kernel_model.specs.declared.answer.Refused.TheVariants.{OutOfMemory};
 
 use machine_model::Stop;
 use std::alloc::AllocError;
@@ -86,6 +87,15 @@ pub enum Refused {
     /// The process would pass 2^40 instructions, or the run 2^40 events, where two are kept for each loan that is out.
     #[error("the history or the process has no room for it")]
     Budget = 11,
+}
+
+impl Refused {
+    /// Its number, 1 to 11.
+    pub fn number(self) -> u8
+        ensures { result ≡ number_of self }
+    {
+        self as u8
+    }
 }
 
 impl From<AllocError> for Refused {

@@ -7,7 +7,7 @@ use Rattle.processes.specs.Parts.{part_of}
 use Rattle.commit_deps.specs.Kept.{Kept}
 use Rattle.commit_deps.specs.Keeps.{Keeps}
 use Rattle.commit_deps.specs.declared.dependencies.Marked.{Marked}
-use Rattle.kernel_model.specs.Answers.{Refuses, Applies, refusal, turn_refusal, enter_refusal, limit, loans_out, ran_by, with_child, Lending}
+use Rattle.kernel_model.specs.Answers.{Refuses, Applies, refusal, turn_refusal, limit, loans_out, ran_by, with_child, Lending}
 use Rattle.kernel_model.specs.Entries.{Entry}
 use Rattle.kernel_model.specs.State.{Process, process_at}
 use Rattle.kernel_model.specs.Steps.{own_entry, after_run}
@@ -17,13 +17,13 @@ use Rattle.kernel_model.specs.declared.answer.Answer.{Answer}
 use Rattle.kernel_model.specs.declared.answer.Answer.TheVariants as answer_of
 use Rattle.kernel_model.specs.declared.answer.Refused.{Refused}
 use Rattle.kernel_model.specs.declared.event.Event.{Event}
-use Rattle.kernel_model.specs.declared.event.Event.TheVariants.{Turn, Enter}
+use Rattle.kernel_model.specs.declared.event.Event.TheVariants.{Turn}
 use Rattle.kernel_step.specs.Stands.{run_of, kernel_of, KeepsRun}
 use Rattle.kernel_step.specs.Mirrors.{Mirrors}
 use Rattle.kernel_step.specs.Parts.{Turned}
 use Rattle.kernel_step.specs.Seen.{AreScreens}
 use Rattle.kernel_step.specs.Tasks.{machine_of, out_of, process_of, lending_of, count_out}
-use Rattle.kernel_step.specs.Tests.{full_of, lent_of, turn_refusal_of, enter_refusal_of}
+use Rattle.kernel_step.specs.Tests.{full_of, lent_of, turn_refusal_of}
 use Rattle.kernel_step.specs.declared.system.System.{System}
 use Rattle.kernel_step.specs.declared.task.Task.{Task}
 use Rattle.kernel_step.specs.declared.whereabouts.Whereabouts.TheVariants.{Here}
@@ -32,7 +32,7 @@ use Rattle.kernel_step.proofs.Lists.{map-set-same, count-set-same, count-map, le
 use Rattle.kernel_step.proofs.Refusing.{IsFineTurn, turn-fine}
 use Rattle.kernel_step.proofs.Quiet.{own-silent, screens-quiet, changes-part}
 use Rattle.kernel_step.proofs.EnterParts.{parts-quiet, pipes-quiet, counted-quiet}
-use Rattle.kernel_step.proofs.Turning.{IsProcessOf, process-there, turn-bare, enter-bare, turn-place, turn-happens, turn-child, turn-parts, turn_of, world_with, ran-tasks}
+use Rattle.kernel_step.proofs.Turning.{IsProcessOf, process-there, turn-bare, turn-place, turn-happens, turn-child, turn-parts, turn_of, world_with, ran-tasks}
 
 -- ---- what the definitions see
 pub full-is : (b : Boot) (history : List Event) (tasks : List Task) (last : ℕ)
@@ -46,13 +46,6 @@ turn-refusal-is b history tasks s last pid n h =
     ap (λ (ps : List Process). turn_refusal (process_at ps pid) (lent_of tasks pid) (full_of (length history) tasks) n) h.mirrors.each.processes
     ∙ turn-bare (run_of b history).sync.processes pid (lent_of tasks pid) (full_of (length history) tasks) n
     ∙ ap (λ f. turn_refusal (process_at (run_of b history).sync.processes pid) (lent_of tasks pid) f n) (full-is b history tasks last)
-
-pub enter-refusal-is : (b : Boot) (history : List Event) (tasks : List Task) (s : System) (last pid : ℕ) → KeepsRun b history tasks s
-    → enter_refusal_of tasks (full_of (length history) tasks) pid ≡ refusal (kernel_of b history tasks last) (Enter pid)
-enter-refusal-is b history tasks s last pid h =
-    ap (λ (ps : List Process). enter_refusal (process_at ps pid) (lent_of tasks pid) (full_of (length history) tasks)) h.mirrors.each.processes
-    ∙ enter-bare (run_of b history).sync.processes pid (lent_of tasks pid) (full_of (length history) tasks)
-    ∙ ap (λ f. enter_refusal (process_at (run_of b history).sync.processes pid) (lent_of tasks pid) f) (full-is b history tasks last)
 
 -- ---- a refused event changes nothing
 pub same-core : (b : Boot) (history history' : List Event) (tasks tasks' : List Task) (s : System) (d : Kept)

@@ -1,18 +1,19 @@
 -- How many instructions a core counts is how many its Turns ran, and a u64 holds it.
 use Rattle.std.proofs.Common.{◌≡◌, ℕ, zero, suc, ◌+◌, ◌*◌, ◌^◌, ◌<◌, ◌≤◌, Bool, true, false, if◌then◌else◌, List, [], ◌∷◌, ◌++◌, length, map, slice_get, slice_set, Option, Some, None, is_some, Result, Ok, Err, refl, sym, ap, subst, ◌∙◌, arith, append_assoc, length-append}
 use Rattle.std.specs.Prelude.{IfOk, OnOk, OnErr}
-use Rattle.machine_model.specs.States.{State, Stepped, Goes, Halts, Ran, state, reached_at, next, run, stands_at}
+use Rattle.machine_model.specs.States.{State, Stepped, Goes, Halts, Ran, reached_at, next, run, stands_at}
 use Rattle.machine_model.specs.declared.stop.Stop.{Stop}
 use Rattle.machine_model.specs.declared.stop.Stop.TheVariants.{Limit, Call, Trap}
 use Rattle.machine_model.proofs.Running.{run-zero, run-goes, run-halts, next-count}
-use Rattle.kernel_model.specs.Answers.{Kernel, Applies, AllAccepted, refusal, turn_refusal, ran_by, now, is_lent, is_full, with_event}
+use Rattle.kernel_model.specs.Answers.{Kernel, Applies, AllAccepted, refusal, turn_refusal, now, is_lent, is_full, with_event}
 use Rattle.kernel_model.specs.Loans.{events_of}
-use Rattle.kernel_model.specs.Ran.{instructions_of, instructions_in, instructions_from}
+use Rattle.kernel_model.specs.Ran.{instructions_of, instructions_in, instructions_from, ran_in}
 use Rattle.kernel_model.specs.Requests.{request_of}
-use Rattle.kernel_model.specs.Rows.{Effect as Row, row, row_end, cause_number, most_processes}
+use Rattle.machine_model.specs.Numbers.{cause_number}
+use Rattle.kernel_model.specs.Rows.{Effect as Row, row, row_end, most_processes}
 use Rattle.kernel_model.specs.State.{SyncState, Process, shared, process_at, put_process, with_process}
 use Rattle.kernel_model.specs.Steps.{Transition, step, impossible, own_entry, after_run, after_turn, after_reply, after_end, forked, effect_at, after_effect, after_effect_if, after_enter}
-use Rattle.kernel_model.specs.World.{Boot, World, first_world, happens, after, processes_from}
+use Rattle.kernel_model.specs.World.{Boot, World, first_world, happens, processes_from}
 use Rattle.kernel_model.specs.declared.answer.Answer.{Answer}
 use Rattle.kernel_model.specs.declared.answer.Refused.{Refused}
 use Rattle.kernel_model.specs.declared.event.Event.{Event}
@@ -20,11 +21,11 @@ use Rattle.kernel_model.specs.declared.event.Event.TheVariants.{Turn, Enter, Cut
 use Rattle.kernel_model.specs.declared.request.Verdict.{Verdict}
 use Rattle.kernel_model.specs.declared.request.Verdict.TheVariants.{Waits, Replies, Ends}
 use Rattle.kernel_model.proofs.ChildRows.{IsNoneOrNextProcess, call_next}
-use Rattle.kernel_model.proofs.Runs.{after-append, append-nil, now-with_event}
+use Rattle.kernel_model.proofs.Runs.{after-append, append-nil, now-with_event, instructions-append, ran-answer}
 use Rattle.disk_model.specs.declared.change.NamedFile.{NamedFile}
 use Rattle.kernel_step.specs.Booting.{program_of, boot_with}
 use Rattle.kernel_step.specs.Stands.{run_of, kernel_of, KeepsRun}
-use Rattle.kernel_step.specs.Counted.{ran_in, done_by, IsCounted}
+use Rattle.kernel_step.specs.Counted.{done_by, IsCounted}
 use Rattle.kernel_step.specs.Loaned.{loan_result}
 use Rattle.kernel_step.specs.Mirrors.{AreTasks}
 use Rattle.kernel_step.specs.Settling.{IsLoanOf}
@@ -186,10 +187,6 @@ event-few s (Complete at) few = few
 event-few s (Fail at) few = few
 
 -- ---- the count after events that are accepted
-pub instructions-append : (w : World) (es : List Event) (e : Event) → instructions_from w (es ++ e ∷ []) ≡ instructions_from w es + instructions_in (after w es) e
-instructions-append w [] e = omega arith
-instructions-append w (x ∷ es) e = let rest = instructions-append (happens w x) es e in omega (arith, rest)
-
 pub counted-event : (k : Kernel) (e : Event) (ran : ℕ) → IsCounted k.boot k.history ran → refusal k e ≡ None
     → IsCounted k.boot (k.history ++ e ∷ []) (ran + instructions_in (now k) e)
 counted-event k e ran h fine =
@@ -251,17 +248,13 @@ counted-other b history history' tasks new last ran e (Err why) none h done =
     counted-applies b history history' tasks new last ran ran e (Err why) h done tt refl
 
 -- a Turn, whose answer says how many instructions ran
-turn-ran : (o : Option Process) (n : ℕ) → ran_in (ran_by o n) ≡ instructions_of o n
-turn-ran None n = refl
-turn-ran (Some p) n = refl
-
 pub counted-turn : (b : Boot) (history history' : List Event) (tasks new : List Task) (last ran ran' pid n : ℕ) (r : Result Answer Refused)
     → IsCounted b history ran → Applies (kernel_of b history tasks last) (Turn pid n) (kernel_of b history' new last) r
     → IfOk r (λ a. ran' ≡ ran + ran_in a) → OnErr r (ran' ≡ ran)
     → IsCounted b history' ran'
 counted-turn b history history' tasks new last ran ran' pid n (Ok a) h done more same =
     counted-applies b history history' tasks new last ran ran' (Turn pid n) (Ok a) h done
-    (more ∙ ap (λ (x : Answer). ran + ran_in x) done.1 ∙ ap (λ m. ran + m) (turn-ran (process_at (run_of b history).sync.processes pid) n)) tt
+    (more ∙ ap (λ (x : Answer). ran + ran_in x) done.1 ∙ ap (λ m. ran + m) (ran-answer (kernel_of b history tasks last) (Turn pid n))) tt
 counted-turn b history history' tasks new last ran ran' pid n (Err why) h done more same =
     counted-applies b history history' tasks new last ran ran' (Turn pid n) (Err why) h done tt same
 
@@ -322,9 +315,9 @@ budget-most tasks w served h place t there =
     let budget : (machine_of t).count + needed (out_of t) ≤ 2 ^ 40 = (h.each place t there).budget in
     omega (arith, budget)
 
-pub counted-few : (b : Boot) (history : List Event) (tasks : List Task) (s : System) (ran : ℕ) → KeepsRun b history tasks s → IsCounted b history ran
-    → ran < 2 ^ 63
-counted-few b history tasks s ran h counted_so =
+pub counted-most : (b : Boot) (history : List Event) (tasks : List Task) (s : System) (ran : ℕ) → KeepsRun b history tasks s → IsCounted b history ran
+    → ran ≤ 2 ^ 50
+counted-most b history tasks s ran h counted_so =
     let w : World = run_of b history in
     let each : AreTasks w s.served tasks = h.mirrors.each in
     let same : done_by (map process_of tasks) ≡ done_by w.sync.processes = ap done_by each.processes ∙ done-bare w.sync.processes in
@@ -334,3 +327,9 @@ counted-few b history tasks s ran h counted_so =
     let few : length w.sync.processes ≤ most_processes = counted_so.few in
     let done : ran ≤ done_by w.sync.processes = counted_so.done in
     omega (arith, same, most, size, few, done)
+
+pub counted-few : (b : Boot) (history : List Event) (tasks : List Task) (s : System) (ran : ℕ) → KeepsRun b history tasks s → IsCounted b history ran
+    → ran < 2 ^ 63
+counted-few b history tasks s ran h counted_so =
+    let most : ran ≤ 2 ^ 50 = counted-most b history tasks s ran h counted_so in
+    omega (arith, most)

@@ -1,5 +1,5 @@
 -- Tasks after an Enter.
-use Rattle.std.proofs.Common.{◌≡◌, ℕ, suc, ◌+◌, ◌^◌, ◌<◌, ◌≤◌, ◌==◌, ◌&&◌, inl, inr, Bool, true, false, List, [], ◌∷◌, ◌++◌, length, map, replicate, slice_get, slice_set, Option, Some, None, is_some, IfSome, if◌then◌else◌, option_to_list, refl, sym, ap, subst, ◌∙◌, arith}
+use Rattle.std.proofs.Common.{◌≡◌, ℕ, suc, ◌+◌, ◌^◌, ◌<◌, ◌≤◌, ◌==◌, ◌&&◌, inl, inr, Bool, true, false, List, [], ◌∷◌, ◌++◌, length, map, slice_get, slice_set, Option, Some, None, is_some, IfSome, if◌then◌else◌, option_to_list, refl, sym, ap, subst, ◌∙◌, arith}
 use Rattle.std.proofs.lemmas.Bool.{eq-eqb, ne_eqb}
 use Rattle.disk_model.specs.declared.change.Change.{Change}
 use Rattle.disk_model.specs.declared.change.Change.TheVariants.{Create, Write, Empty}
@@ -7,7 +7,6 @@ use Rattle.disk_model.specs.declared.change.NamedFile.{NamedFile}
 use Rattle.disk_model.specs.Files.{changed, with_bytes, patched}
 use Rattle.disk_model.specs.Storage.{is_empty}
 use Rattle.machine_model.specs.States.{State, replied}
-use Rattle.machine_model.specs.declared.reply.Reply.{Reply}
 use Rattle.calls.specs.Plans.{NamesFile, NamesFiles, IsNext}
 use Rattle.calls.specs.declared.plan.Plan.{Plan}
 use Rattle.commit_deps.specs.Marks.{IsMarkOf}

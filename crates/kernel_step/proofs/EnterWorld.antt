@@ -7,7 +7,6 @@ use Rattle.disk_model.specs.Files.{IsFormed, IsMade, MayCome, changed}
 use Rattle.disk_model.specs.Rebuild.{CanBeRebuilt}
 use Rattle.disk_model.specs.Storage.{Storage}
 use Rattle.machine_model.specs.States.{State}
-use Rattle.machine_model.specs.declared.reply.Reply.{Reply}
 use Rattle.calls.specs.Plans.{IsPossible, NamesFiles, EditsAs, IsNext, all_seen}
 use Rattle.calls.specs.declared.plan.Plan.{Plan}
 use Rattle.commit_deps.specs.Keeps.{Keeps}

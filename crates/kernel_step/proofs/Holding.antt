@@ -1,10 +1,10 @@
 -- Whether some terminal holds bytes back.
-use Rattle.std.proofs.Common.{◌≡◌, ℕ, zero, suc, ◌∙◌, Bool, ◌||◌, nat_lt, List, [], ◌∷◌, length, slice_get, Some, refl, sym, ap, arith}
+use Rattle.std.proofs.Common.{◌≡◌, ℕ, zero, suc, ◌∙◌, Bool, ◌||◌, nat_lt, List, [], ◌∷◌, length, slice_get, Some, refl, ap, arith}
 use Rattle.std.specs.List.{list_any}
 use Rattle.kernel_model.specs.Answers.{is_held_back, terminals}
 use Rattle.kernel_model.specs.Shown.{printed, shown}
 use Rattle.kernel_model.specs.World.{World}
-use Rattle.withheld.specs.Withheld.{Withheld, released, holds_back}
+use Rattle.withheld.specs.Withheld.{Withheld, holds_back}
 use Rattle.kernel_step.specs.Seen.{Withholds, AreScreens}
 use Rattle.kernel_step.proofs.Releasing.{released-is, marked-length}
 

@@ -7,10 +7,11 @@ use Rattle.std.proofs.lemmas.List.Sums.{sum_by-set}
 use Rattle.std.proofs.lemmas.Option.{slice_get_within, slice_get-get_or, slice_get-map}
 use Rattle.std.proofs.Math.Seq.{map-set_same}
 use Rattle.machine_model.specs.States.{State}
-use Rattle.kernel_model.specs.Answers.{Kernel, Lending, lending_at, quantum_out, process_of as process_in, is_lent, loans_out, now, limit, has_ended, count_at}
+use Rattle.kernel_model.specs.Answers.{Kernel, Lending, Refuses, lending_at, quantum_out, process_of as process_in, is_lent, loans_out, now, limit, has_ended, count_at}
 use Rattle.kernel_model.specs.Loans.{is_waiting, is_lendable, pick, is_full_for_loan, loan_count, loans_in, loan_refusal, put_lending, with_loan, numbers_to, IsNextLoan}
 use Rattle.kernel_model.specs.State.{Process}
 use Rattle.kernel_model.specs.World.{Boot, World}
+use Rattle.kernel_model.specs.declared.answer.Refused.{Refused}
 use Rattle.kernel_model.specs.declared.answer.Refused.TheVariants as refused
 use Rattle.kernel_model.specs.declared.event.Event.{Event}
 use Rattle.kernel_step.specs.Stands.{run_of, kernel_of, KeepsRun}
@@ -250,6 +251,16 @@ lends-one b history old new system last quantum loan k e h room lent =
     subst (λ (v : Kernel). (loan_refusal v ≡ None) × IsNextLoan v (kernel_of b history new loan.pid) quantum (loan_out loan)) e
     (unrefused b history old last room, loan-is b history old new system last quantum loan h lent)
 
+some-mapped : (o : Option ℕ) → is_some o ≡ true → is_some (option_map (λ i. suc i) o) ≡ true
+some-mapped None some = cc
+some-mapped (Some i) some = refl
+
+-- where a task fits, a process is lendable
+pub some-is-picked : (b : Boot) (history : List Event) (tasks : List Task) (system : System) (last quantum : ℕ) → KeepsRun b history tasks system
+    → is_some (next_fit quantum system.served last tasks) ≡ true → is_some (pick (kernel_of b history tasks last) quantum) ≡ true
+some-is-picked b history tasks system last quantum h some =
+    ap (λ (o : Option ℕ). is_some o) (pick-is b history tasks system last quantum h) ∙ some-mapped (next_fit quantum system.served last tasks) some
+
 pub lends-none : (b : Boot) (history : List Event) (old new : List Task) (system : System) (last quantum : ℕ) (k : Kernel)
     → kernel_of b history old last ≡ k → KeepsRun b history old system → full_for_loan_of (length history) old ≡ false
     → next_fit quantum system.served last old ≡ None → new ≡ old
@@ -261,4 +272,15 @@ lends-none b history old new system last quantum k e h room none same =
         pick-is b history old system last quantum h ∙ ap (λ o. option_map (λ i. suc i) o) none,
         ap (λ ts. kernel_of b history ts last) same,
       ),
+    )
+
+pub lends-wanting : (b : Boot) (history : List Event) (old new : List Task) (system : System) (last quantum : ℕ) (k : Kernel)
+    → kernel_of b history old last ≡ k → KeepsRun b history old system → full_for_loan_of (length history) old ≡ false
+    → is_some (next_fit quantum system.served last old) ≡ true → new ≡ old
+    → Refuses (loan_refusal k) refused.OutOfMemory × (refused.OutOfMemory ≡ refused.OutOfMemory → is_some (pick k quantum) ≡ true) × (kernel_of b history new last ≡ k)
+lends-wanting b history old new system last quantum k e h room some same =
+    subst (λ (v : Kernel). Refuses (loan_refusal v) refused.OutOfMemory × (refused.OutOfMemory ≡ refused.OutOfMemory → is_some (pick v quantum) ≡ true) × (kernel_of b history new last ≡ v)) e (
+      subst (λ (o : Option Refused). Refuses o refused.OutOfMemory) (sym (unrefused b history old last room)) refl,
+      λ _. some-is-picked b history old system last quantum h some,
+      ap (λ ts. kernel_of b history ts last) same,
     )

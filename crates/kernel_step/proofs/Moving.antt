@@ -1,5 +1,5 @@
 -- A loop that changes each element of a list.
-use Rattle.std.proofs.Common.{◌≡◌, ℕ, suc, ◌+◌, ◌<◌, ◌≤◌, inl, inr, List, [], ◌∷◌, length, slice_get, slice_set, Some, nat_le, sym, subst, arith, if◌then◌else◌, true, false}
+use Rattle.std.proofs.Common.{◌≡◌, ℕ, ◌+◌, ◌<◌, ◌≤◌, inl, inr, List, length, slice_get, slice_set, Some, sym, subst, arith}
 use Rattle.kernel_step.proofs.Lists.{get-within, get-set}
 
 -- the elements before i are changed so, and the others stand as they were

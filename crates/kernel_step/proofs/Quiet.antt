@@ -8,7 +8,7 @@ use Rattle.disk_model.specs.declared.change.NamedFile.{NamedFile}
 use Rattle.kernel_model.specs.Entries.{Entry, Item, Got}
 use Rattle.kernel_model.specs.Loans.{waits_after, is_waiting}
 use Rattle.kernel_model.specs.Paths.{changes_in_log, with_change}
-use Rattle.kernel_model.specs.Shown.{Given, given_by, each_from, bytes_for, printed, items_for, is_made, told}
+use Rattle.kernel_model.specs.Shown.{given_by, each_from, bytes_for, printed, items_for, is_made, told}
 use Rattle.kernel_model.specs.Steps.{own_entry, disk_entry, zero_reply}
 use Rattle.kernel_model.specs.World.{World}
 use Rattle.kernel_model.proofs.Runs.{each_from-append, append-nil, told-entry}

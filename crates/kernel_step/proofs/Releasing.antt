@@ -1,5 +1,5 @@
 -- What a core shows and hands out is what the run releases.
-use Rattle.std.proofs.Common.{◌≡◌, ℕ, ◌+◌, Bool, true, false, nat_le, if◌then◌else◌, List, [], ◌∷◌, slice_get, length, map, suc, Option, Some, None, is_some, refl, sym, ap, ◌∙◌}
+use Rattle.std.proofs.Common.{◌≡◌, ℕ, Bool, true, false, nat_le, if◌then◌else◌, List, [], ◌∷◌, slice_get, length, map, suc, Option, Some, is_some, refl, ap, ◌∙◌}
 use Rattle.kernel_model.specs.Paths.{is_durable}
 use Rattle.kernel_model.specs.Shown.{Given, prefix, released}
 use Rattle.kernel_model.specs.State.{Process, process_at}
@@ -7,12 +7,11 @@ use Rattle.kernel_model.specs.World.{Boot}
 use Rattle.withheld.specs.Withheld.{Withheld, Held, whats, released as released_of}
 use Rattle.kernel_step.specs.Stands.{run_of, KeepsRun}
 use Rattle.kernel_step.specs.Seen.{AreMarked, Withholds}
-use Rattle.kernel_step.specs.Tasks.{process_of}
 use Rattle.kernel_step.specs.Tests.{IsPlaceOf}
 use Rattle.kernel_step.specs.declared.system.System.{System}
 use Rattle.kernel_step.specs.declared.task.Task.{Task}
 use Rattle.kernel_model.specs.declared.event.Event.{Event}
-use Rattle.kernel_step.proofs.Turning.{IsProcessOf, process-there, none-bare}
+use Rattle.kernel_step.proofs.Turning.{IsProcessOf, process-there}
 
 -- ---- what is released
 released-step : {A : Type 0} (s t : Bool) (g : Given A) (h : Held A) (gs : List (Given A)) (hs : List (Held A)) → t ≡ s → h.what ≡ g.what
@@ -45,8 +44,3 @@ pub there-is : (b : Boot) (history : List Event) (tasks : List Task) (s : System
 there-is b history tasks s pid place t h placed there =
     let of : IsProcessOf (run_of b history).sync.processes pid t = process-there (run_of b history) s.served tasks pid place t h.mirrors.each placed.number there in
     ap (λ (o : Option Process). is_some o) of.there
-
-pub none-is : (b : Boot) (history : List Event) (tasks : List Task) (s : System) (pid : ℕ) → KeepsRun b history tasks s
-    → process_at (map process_of tasks) pid ≡ None → process_at (run_of b history).sync.processes pid ≡ None
-none-is b history tasks s pid h none =
-    none-bare (run_of b history).sync.processes pid (ap (λ (ps : List Process). process_at ps pid) (sym h.mirrors.each.processes) ∙ none)

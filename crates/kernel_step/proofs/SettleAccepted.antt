@@ -16,7 +16,7 @@ use Rattle.kernel_model.specs.declared.event.Event.TheVariants.{Turn, Enter}
 use Rattle.kernel_step.specs.Stands.{run_of, kernel_of, KeepsRun}
 use Rattle.kernel_step.specs.Loaned.{loan_result}
 use Rattle.kernel_step.specs.Settling.{IsLoanOf}
-use Rattle.kernel_step.specs.Tasks.{machine_of, out_of, status_of, lending_of, count_out, needed}
+use Rattle.kernel_step.specs.Tasks.{machine_of, out_of, lending_of, count_out, needed}
 use Rattle.kernel_step.specs.Tests.{lent_of}
 use Rattle.kernel_step.specs.declared.loan.Done.{Done}
 use Rattle.kernel_step.specs.declared.system.System.{System}

@@ -1,5 +1,5 @@
 -- A task that is told something, from its parts.
-use Rattle.std.proofs.Common.{◌≡◌, ◌∙◌, ◌++◌, ℕ, List, Option, None, IfSome, Some, option_to_list, refl, sym, ap}
+use Rattle.std.proofs.Common.{◌≡◌, ◌∙◌, ◌++◌, ℕ, List, Option, None, IfSome, Some, option_to_list, ap}
 use Rattle.machine_model.specs.States.{State}
 use Rattle.kernel_model.specs.Entries.{Item}
 use Rattle.kernel_model.specs.Shown.{end_in}

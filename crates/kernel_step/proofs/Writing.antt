@@ -25,7 +25,7 @@ use Rattle.kernel_model.specs.declared.event.Event.{Event}
 use Rattle.kernel_model.specs.declared.event.Event.TheVariants.{Cut, Complete, Fail}
 use Rattle.machine_model.specs.States.{State}
 use Rattle.kernel_step.specs.Waiting.{is_asleep}
-use Rattle.kernel_step.specs.Advanced.{IsAdvanced, AreAdvanced, IsMoved, AreMoved}
+use Rattle.kernel_step.specs.Advanced.{AreAdvanced, IsMoved, AreMoved}
 use Rattle.kernel_step.specs.Stands.{run_of, kernel_of, KeepsRun}
 use Rattle.withheld.specs.Withheld.{Withheld, Held, whats}
 use Rattle.kernel_step.specs.Mirrors.{IsTask, AreTasks, AreChanges, Mirrors}

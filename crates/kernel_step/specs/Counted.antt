@@ -4,14 +4,7 @@ use Rattle.kernel_model.specs.Ran.{instructions_from}
 use Rattle.kernel_model.specs.Rows.{most_processes}
 use Rattle.kernel_model.specs.State.{Process}
 use Rattle.kernel_model.specs.World.{Boot, first_world, after}
-use Rattle.kernel_model.specs.declared.answer.Answer.{Answer}
-use Rattle.kernel_model.specs.declared.answer.Answer.TheVariants.{Ran}
 use Rattle.kernel_model.specs.declared.event.Event.{Event}
-
--- how many instructions the answer to a Turn says that it ran
-abbrev pub ran_in : Answer → ℕ
-ran_in (Ran count stop) = count
-ran_in _ = 0
 
 -- how many instructions these processes have done, each from its first state on
 abbrev pub done_by : List Process → ℕ

@@ -1,11 +1,10 @@
 -- What an Enter does to the parts of a core.
-use Rattle.std.specs.Prelude.{◌≡◌, ℕ, ◌+◌, ◌^◌, ◌<◌, ◌≤◌, ◌⊎◌, true, List, [], ◌∷◌, ◌++◌, length, map, Option, Some, None, IfSome, option_to_list, replicate, slice_get, vec_len, vec_capacity}
+use Rattle.std.specs.Prelude.{◌≡◌, ℕ, ◌+◌, ◌^◌, ◌<◌, ◌≤◌, ◌⊎◌, true, List, [], ◌∷◌, ◌++◌, length, map, Option, Some, None, IfSome, option_to_list, slice_get}
 use Rattle.std.specs.List.{AllByRecursion}
 use Rattle.std.specs.Option.{ForSome}
 use Rattle.disk_model.specs.declared.change.NamedFile.{NamedFile}
 use Rattle.machine_model.specs.Access.{is_writable}
 use Rattle.machine_model.specs.States.{State, stands_at, replied}
-use Rattle.machine_model.specs.declared.reply.Reply.{Reply}
 use Rattle.machine_model.specs.declared.stop.Stop.TheVariants.{Call}
 use Rattle.calls.specs.Plans.{IsPossible, NamesFiles, AreLeft, EditsAs, IsNext, MayAllStep, OpensAlone, OpensNone, all_seen}
 use Rattle.calls.specs.declared.plan.Plan.{Plan}

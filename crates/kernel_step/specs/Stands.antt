@@ -54,6 +54,7 @@ pub record Settles (b : Boot) (done : Done) (old new : Running) (result : Result
   pub fine : OnOk result (AllAccepted (returned (kernel_in b old) done.pid) (events_of (loan_result done)))
   pub events : OnOk result (kernel_in b new ≡ settled (kernel_in b old) (loan_result done))
   pub answer : IfOk result (λ a. a ≡ settled_answer (kernel_in b old) (loan_result done))
+  pub ran : OnOk result (new.ran ≡ old.ran + done.count)
   pub stranger : IfErr result (λ r. r.why ≡ Stranger → ¬ (IsOfLoan (kernel_in b old) (loan_result done)))
   pub own_only : IfErr result (λ r. r.why ≢ Stranger → (r.why ≡ OutOfMemory) × IsOfLoan (kernel_in b old) (loan_result done))
   pub back : IfErr result (λ r. r.done ≡ done)

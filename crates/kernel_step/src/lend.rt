@@ -1,5 +1,5 @@
 //! Machines lent out.
-ghost use Rattle.std.specs.Prelude.{◌≡◌, ◌+◌, ◌*◌, ◌^◌, ◌<◌, ◌≤◌, None, map, take, drop, position, IfOk, IfErr, OnOk, OnErr};
+ghost use Rattle.std.specs.Prelude.{◌≡◌, ◌+◌, ◌*◌, ◌^◌, ◌<◌, ◌≤◌, None, true, is_some, map, take, drop, position, IfOk, IfErr, OnOk, OnErr};
 ghost use Rattle.kernel_model.specs.Loans.{Lends};
 ghost use Rattle.kernel_model.specs.World.{Boot};
 ghost use Rattle.kernel_step.specs.Stands.{Stands, kernel_in};
@@ -111,6 +111,7 @@ fn lend_next(
     requires { AreFewLoans (2 ^ 40) (map lending_of tasks.old) }
     ensures done { IfOk result (λ given. LendsNext quantum served from tasks.old tasks.new given) }
     ensures cause { IfErr result (λ why. why ≡ OutOfMemory) }
+    ensures some { OnErr result (is_some (next_fit quantum served from tasks.old) ≡ true) }
     ensures same { OnErr result (tasks.new ≡ tasks.old) }
 {
     let Some(place) = next_lendable(tasks, from, served, quantum) else {

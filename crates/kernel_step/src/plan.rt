@@ -1,8 +1,8 @@
 //! What an Enter comes to, found with all its memory before anything changes.
 ghost use Rattle.std.specs.Prelude.{◌≡◌, ◌+◌, ◌<◌, ◌≤◌, ◌^◌, ◌∷◌, length, IfOk, Some, None, true, is_some};
+ghost use Rattle.machine_model.specs.Numbers.{cause_number};
 ghost use Rattle.machine_model.specs.States.{stands_at, replied};
 ghost use Rattle.processes.specs.Parts.{descriptors_in, part_at};
-ghost use Rattle.kernel_model.specs.Rows.{cause_number};
 ghost use Rattle.kernel_model.specs.Shown.{end_in};
 ghost use Rattle.kernel_model.specs.Steps.{zero_reply};
 ghost use Rattle.withheld.specs.Withheld.{whats};
@@ -32,11 +32,11 @@ pub struct Entering {
     pub child: Option<Task>,
 }
 
-/// The number that a trap of this cause tells.
-fn number_of(cause: Cause) -> u32
-    ensures { result ≡ cause_number cause }
+/// The status with which a trap of this cause ends its process.
+fn trap_status(cause: Cause) -> u32
+    ensures { result ≡ 256 + cause_number cause }
 {
-    cause as u32
+    256 + u32::from(cause.number())
 }
 
 /// The descriptors of a process that is there.
@@ -63,7 +63,7 @@ fn plan_enter(
     match stop {
         Stop::Trap(cause) => {
             let descriptors = descriptors_of(&system.processes, pid);
-            plan_end(alloc, descriptors, 256 + number_of(cause))
+            plan_end(alloc, descriptors, trap_status(cause))
         }
         _ => {
             let request = request_of(alloc, machine)?;

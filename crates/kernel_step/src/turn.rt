@@ -1,8 +1,8 @@
 //! A Turn: a process runs.
 ghost use Rattle.std.specs.Prelude.{◌≡◌, ◌+◌, ◌*◌, ◌^◌, ◌≤◌, ◌<◌, ◌++◌, ◌∷◌, [], List, length, vec_len, vec_capacity, IfOk, IfErr, OnOk, OnErr};
 ghost use Rattle.kernel_model.specs.Answers.{Refuses};
+ghost use Rattle.kernel_model.specs.Ran.{ran_in};
 ghost use Rattle.kernel_model.specs.declared.answer.Refused.TheVariants.{OutOfMemory};
-ghost use Rattle.kernel_step.specs.Counted.{ran_in};
 ghost use Rattle.kernel_step.specs.Parts.{IsOwnNoted, Turned};
 ghost use Rattle.kernel_step.specs.Tasks.{count_out};
 ghost use Rattle.kernel_step.specs.Tests.{full_of, turn_refusal_of};

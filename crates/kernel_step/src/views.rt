@@ -1,5 +1,5 @@
 //! What may be seen of a run.
-ghost use Rattle.std.specs.Prelude.{◌≡◌, ◌<◌, None, true, not, is_some, IfOk, OnOk, IfErr};
+ghost use Rattle.std.specs.Prelude.{◌≡◌, ◌<◌, ◌≤◌, ◌^◌, None, true, not, is_some, IfOk, OnOk, IfErr};
 ghost use Rattle.std.specs.List.{list_any};
 ghost use Rattle.disk_model.specs.Runs.{quiet};
 ghost use Rattle.disk_model.specs.Storage.{is_empty};
@@ -93,7 +93,8 @@ impl Running {
 
     /// How many instructions the history's Turns ran, those of loans' results among them.
     pub fn ran(&self) -> u64
-        ensures { (b : Boot) → Stands b self.now → result ≡ ran_by_turns (kernel_in b self.now) }
+        ensures sum { (b : Boot) → Stands b self.now → result ≡ ran_by_turns (kernel_in b self.now) }
+        ensures few { (b : Boot) → Stands b self.now → result ≤ 2 ^ 50 }
     {
         self.ran
     }

@@ -62,7 +62,7 @@ impl From<DiskFault> for Fault {
         match fault {
             DiskFault::OutOfMemory => Fault::OutOfMemory,
             fault => Fault::Disk {
-                number: fault as u8,
+                number: fault.number(),
                 fault,
             },
         }
@@ -83,7 +83,7 @@ impl From<AsmFault> for Fault {
         match fault.why {
             Cause::OutOfMemory => Fault::OutOfMemory,
             why => Fault::Source {
-                number: why as u8,
+                number: why.number(),
                 fault,
             },
         }

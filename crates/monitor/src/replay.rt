@@ -27,7 +27,7 @@ impl fmt::Display for StopText {
             Stop::Limit => f.write_str("limit"),
             Stop::Call => f.write_str("call"),
             Stop::Trap(cause) => {
-                let number = cause as u8;
+                let number = cause.number();
                 write!(f, "trap {number}")
             }
         }
@@ -60,7 +60,7 @@ fn print_refusal<O: Write>(why: Refused, out: &mut O) -> Result<(), Fault> {
     if why == Refused::OutOfMemory {
         return Err(Fault::OutOfMemory);
     }
-    let number = why as u8;
+    let number = why.number();
     writeln!(out, "refused {number} {why:?}")?;
     Ok(())
 }

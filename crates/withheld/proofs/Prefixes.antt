@@ -27,7 +27,7 @@ pub prefix-more : (c count : ℕ) (marks more marks' : List ℕ) → count ≤ p
 prefix-more c count marks more marks' h longer =
     subst (λ (ms : List ℕ). count ≤ prefix_of c ms) (sym longer) (omega (arith, h, prefix-append c marks more))
 
--- where the first k pass, what is behind them has the rest of the prefix
+-- where the first k pass, what comes after them has the rest of the prefix
 pub prefix-drop : (c k : ℕ) (marks : List ℕ) → k ≤ prefix_of c marks → k + prefix_of c (drop k marks) ≡ prefix_of c marks
 prefix-drop c zero marks h = omega arith
 prefix-drop c (suc k) [] h = absurd (omega (arith, h))

@@ -1,11 +1,11 @@
 -- The replies of a process, and its end, as one list of items.
-use Rattle.std.proofs.Common.{◌≡◌, ℕ, suc, ◌+◌, ◌<◌, ◌≤◌, ◌&&◌, not, Bool, true, false, if◌then◌else◌, List, [], ◌∷◌, ◌++◌, length, map, Option, Some, None, is_some, nat_le, nat_lt, refl, sym, ap, subst, ◌∙◌, arith}
+use Rattle.std.proofs.Common.{◌≡◌, ℕ, suc, ◌<◌, ◌≤◌, ◌&&◌, not, Bool, true, false, if◌then◌else◌, List, [], ◌∷◌, ◌++◌, length, Option, Some, None, is_some, nat_le, nat_lt, refl, sym, ap, ◌∙◌, arith}
 use Rattle.std.proofs.lemmas.Bool.{lt-ltb, le-ltb, ltb-true, ltb-false}
 use Rattle.machine_model.specs.declared.reply.Reply.{Reply}
 use Rattle.kernel_model.specs.Entries.{Item, Got, End}
 use Rattle.kernel_model.specs.Shown.{prefix, replies_in, end_in}
-use Rattle.withheld.specs.Withheld.{Withheld, Held, all_held, whats, released, holds_back}
-use Rattle.withheld.specs.Traces.{ending_items, as_items, told_items}
+use Rattle.withheld.specs.Withheld.{Held, all_held, whats}
+use Rattle.withheld.specs.Traces.{ending_items, as_items}
 use Rattle.withheld.specs.declared.trace.Ending.{Ending}
 
 -- the end of a process, if there is one, is its last item

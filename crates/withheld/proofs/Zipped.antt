@@ -1,7 +1,7 @@
 -- Items and marks that stand in two lists of one length.
-use Rattle.std.proofs.Common.{◌≡◌, ℕ, zero, suc, ◌+◌, ◌<◌, ◌≤◌, Bool, true, false, if◌then◌else◌, List, [], ◌∷◌, ◌++◌, length, map, take, replicate, nat_le, nat_lt, refl, sym, ap, subst, ◌∙◌, arith}
+use Rattle.std.proofs.Common.{◌≡◌, ℕ, suc, ◌+◌, Bool, true, false, if◌then◌else◌, List, [], ◌∷◌, ◌++◌, length, take, replicate, nat_le, refl, ap, subst, arith}
 use Rattle.kernel_model.specs.Shown.{prefix}
-use Rattle.withheld.specs.Withheld.{Held, Withheld, held_with, all_held, whats, prefix_of, released}
+use Rattle.withheld.specs.Withheld.{Held, held_with, all_held, whats, prefix_of}
 
 -- the items
 pub whats-with : {A : Type 0} (xs : List A) (ms : List ℕ) → length ms ≡ length xs → whats (held_with xs ms) ≡ xs

@@ -1,5 +1,5 @@
 -- What a trace is to its callers: the items that a process was told.
-use Rattle.std.specs.Prelude.{ℕ, List, [], ◌∷◌, ◌++◌, map, Option, Some, None}
+use Rattle.std.specs.Prelude.{List, [], ◌∷◌, ◌++◌, map, Option, Some, None}
 use Rattle.machine_model.specs.declared.reply.Reply.{Reply}
 use Rattle.kernel_model.specs.Entries.{Item, Got, End}
 use Rattle.withheld.specs.Withheld.{Withheld, Held}

@@ -1,6 +1,6 @@
 //! Items that are held back until they may be seen.
 ghost use Rattle.std.specs.Prelude.{◌≡◌, ◌+◌, ◌≤◌, ◌++◌, ◌∷◌, [], OnOk, length, replicate, vec_len, vec_capacity};
-ghost use Rattle.withheld.specs.Withheld.{released, whats, holds_back, all_held, nothing, IsSame};
+ghost use Rattle.withheld.specs.Withheld.{released, holds_back, all_held, nothing, IsSame};
 
 use crate::prefix::prefix_from;
 use commit_deps::Mark;
@@ -64,13 +64,6 @@ impl<T> Withheld<T> {
         ensures { result.now ≡ released self.now }
     {
         &self.items[..self.count]
-    }
-
-    /// All items, also those that are held back.
-    pub fn all(&self) -> &[T]
-        ensures { result.now ≡ whats self.now.items }
-    {
-        &self.items
     }
 
     /// Whether some item is held back.

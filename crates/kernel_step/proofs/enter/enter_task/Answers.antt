@@ -1,10 +1,9 @@
 -- The Enter is prepared, noted and finished.
-use Rattle.std.proofs.Common.{◌≡◌, ℕ, length, refl, sym, subst, rules}
+use Rattle.std.proofs.Common.{◌≡◌, ℕ, length, subst, rules}
 use Rattle.machine_model.specs.States.{State}
 use Rattle.kernel_step.specs.Entering.{seen_of, entry_of, PlansEnter, IsChild, IsNoted, IsEntered}
 use Rattle.kernel_step.specs.Tasks.{machine_of}
 use Rattle.kernel_step.specs.declared.task.Task.{Task}
-use Rattle.kernel_step.proofs.EnterResults.{on-err-any}
 use Rattle.kernel_step.proofs.EnterWorld.{finished-entered, finished-told}
 use Rattle.kernel_step.proofs.Telling.{told-then, child-runs}
 use Rattle.kernel_step.proofs.enter.enter_task.Goals as goal

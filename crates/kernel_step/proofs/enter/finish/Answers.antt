@@ -1,5 +1,5 @@
 -- Each part has changed as its function says.
-use Rattle.std.proofs.Common.{◌≡◌, ◌++◌, ◌∙◌, ℕ, List, option_to_list, ap, sym, subst}
+use Rattle.std.proofs.Common.{◌++◌, ◌∙◌, ℕ, List, option_to_list, ap, sym, subst}
 use Rattle.withheld.specs.Withheld.{Withheld}
 use Rattle.kernel_step.specs.Entering.{ArePrinted}
 use Rattle.kernel_step.specs.declared.system.System.{System}

@@ -1,5 +1,5 @@
 -- A plan, at a trap and at a call.
-use Rattle.std.proofs.Common.{◌≡◌, ◌∙◌, ap, Some, ◌+◌, subst, List, Option, IfOk}
+use Rattle.std.proofs.Common.{◌≡◌, ◌∙◌, ap, Some, subst, List, Option, IfOk}
 use Rattle.calls.specs.Plans.{IsPlan}
 use Rattle.kernel_model.specs.Rows.{row_end}
 use Rattle.kernel_model.specs.declared.descriptor.Descriptor.{Descriptor}
@@ -11,10 +11,10 @@ use Rattle.kernel_step.proofs.plan.plan_enter.Goals as goal
 
 pub returns-in-Trap : goal.returns-in-Trap
 returns-in-Trap c =
-    trap-result (seen_of c.args.system.now) c.args.pid c.args.machine.now c.plan_end.result c.in-Trap.cause (256 + c.number_of.result)
+    trap-result (seen_of c.args.system.now) c.args.pid c.args.machine.now c.plan_end.result c.in-Trap.cause c.trap_status.result
     (c.requires.stands ∙ ap (λ (s : Stop). Some s) c.in-Trap.is)
-    (ap (λ n. 256 + n) c.number_of.ensures)
-    (subst (λ (ds : List (Option Descriptor)). IfOk c.plan_end.result (λ plan. IsPlan plan (row_end ds (256 + c.number_of.result)))) c.descriptors_of-descriptors.ensures c.plan_end.ensures.row)
+    c.trap_status.ensures
+    (subst (λ (ds : List (Option Descriptor)). IfOk c.plan_end.result (λ plan. IsPlan plan (row_end ds c.trap_status.result))) c.descriptors_of-descriptors.ensures c.plan_end.ensures.row)
     c.plan_end.ensures.edits
     c.plan_end.ensures.opens
     c.plan_end.ensures.few

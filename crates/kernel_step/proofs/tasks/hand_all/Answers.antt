@@ -1,5 +1,5 @@
 -- One task more has moved on, and in the end all.
-use Rattle.std.proofs.Common.{◌<◌, arith, length, ap, get_or, refl}
+use Rattle.std.proofs.Common.{◌<◌, arith, length, get_or, refl}
 use Rattle.kernel_step.specs.Advanced.{IsMoved}
 use Rattle.kernel_step.specs.declared.task.Task.{Task}
 use Rattle.kernel_step.proofs.Lists.{get-index}

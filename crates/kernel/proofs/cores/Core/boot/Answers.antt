@@ -1,13 +1,20 @@
 -- A core at boot.
-use Rattle.std.proofs.Common.{◌≡◌, map, ap, sym, subst, ◌∙◌, List, Vec, ℕ, rules}
+use Rattle.std.proofs.Common.{◌≡◌, ◌+◌, ◌<◌, ◌≤◌, [], ◌∷◌, length, map, ap, sym, subst, ◌∙◌, List, Vec, ℕ, rules, arith}
+use Rattle.std.specs.List.{AllByRecursion}
+use Rattle.std.proofs.lemmas.List.{length-map}
 use Rattle.disk_model.specs.declared.change.NamedFile.{NamedFile}
 use Rattle.disk_model.specs.Held.{IsHeldTo}
 use Rattle.kernel_model.specs.Bytes.{ProgramsHoldBytes, TapesHoldBytes}
-use Rattle.kernel_model.specs.World.{Boot, HoldsItsFiles}
-use Rattle.kernel_step.specs.Booting.{boot_with, nothing_lent}
+use Rattle.kernel_model.specs.Answers.{AllAccepted}
+use Rattle.kernel_model.specs.World.{BootProgram, Boot, HoldsItsFiles}
+use Rattle.kernel_model.specs.declared.event.Event.{Event}
+use Rattle.kernel_step.specs.Booting.{program_of, boot_with, nothing_lent}
 use Rattle.kernel_step.specs.Stands.{Stands}
 use Rattle.kernel_step.specs.declared.booting.Program.{Program}
 use Rattle.kernel.specs.Booting.{boot_of}
+use Rattle.kernel.specs.Keeping.{at_boot}
+use Rattle.kernel_model.specs.Rows.{most_processes}
+use Rattle.kernel.specs.Sums.{process_of_turn, process_of_enter, sum_of_turns, sum_of_enters}
 use Rattle.kernel.specs.declared.cores.Booted.{Booted}
 use Rattle.kernel.proofs.cores.Core.boot.Goals as goal
 use Rattle.kernel.proofs.cores.Core.boot.Goals.{In_ok-running}
@@ -38,11 +45,32 @@ programs-hold c = subst (λ (b : Boot). ProgramsHoldBytes b) (boot-is c) (c.in_o
 tapes-hold : (c : In_ok-running) → TapesHoldBytes (boot_of (booted c))
 tapes-hold c = subst (λ (b : Boot). TapesHoldBytes b) (boot-is c) (c.in_ok-running.ensures.tapes c.args.device.disk c.in_ok-files.gate)
 
+terminals-are : (ps : List Program) → AllByRecursion (λ (p : Program). p.terminal < 8) ps → AllByRecursion (λ (p : BootProgram). p.terminal < 8) (map program_of ps)
+terminals-are [] h = tt
+terminals-are (p ∷ ps) h = (h.0, terminals-are ps h.1)
+
+tapes-few : (c : In_ok-running) → length (boot_of (booted c)).tapes ≤ 8
+tapes-few c = subst (λ (v : Vec _ _). length v.items ≤ 8) (sym c.in_ok-tapes.ensures) c.requires.few_tapes
+
 pub invariant_of-result : goal.invariant_of-result
-invariant_of-result c = (
-  record { held = held-is c; programs = programs-hold c; tapes = tapes-hold c },
-  subst (λ (b : Boot). Stands b c.in_ok-running.running) (boot-is c) (c.in_ok-running.ensures.stands c.args.device.disk c.in_ok-files.gate c.new-committer.ensures),
-)
+invariant_of-result c =
+    let none : c.in_ok-running.running.history.items ≡ [] = c.in_ok-running.ensures.history (boot_of (booted c)) in
+    let few : length (boot_of (booted c)).programs ≡ length c.args.programs.items = length-map c.args.programs.items program_of in
+    record {
+      booted = record {
+        sound = record { held = held-is c; programs = programs-hold c; tapes = tapes-hold c };
+        some = let some = c.requires.some in omega (arith, few, some);
+        few = let most = c.requires.few in omega (arith, few, most);
+        terminals = terminals-are c.args.programs.items c.requires.terminals;
+        tapes = tapes-few c;
+      };
+      stands = subst (λ (b : Boot). Stands b c.in_ok-running.running) (boot-is c) (c.in_ok-running.ensures.stands c.args.device.disk c.in_ok-files.gate c.new-committer.ensures);
+      accepted = subst (λ (es : List Event). AllAccepted (at_boot (boot_of (booted c))) es) (sym none) tt;
+      turns = ap sum_of_turns (sym none);
+      enters = ap sum_of_enters (sym none);
+      numbers = subst (λ (es : List Event). AllByRecursion (λ e. process_of_turn e + process_of_enter e ≤ most_processes) es) (sym none) tt;
+      few = omega arith;
+    }
 
 pub returns-clause-history : goal.returns-clause-history
 returns-clause-history c = c.in_ok-running.ensures.history (boot_of (booted c))

@@ -12,14 +12,14 @@ pub returns-then-has_failed-clause-drained : goal.returns-then-has_failed-clause
 returns-then-has_failed-clause-drained c =
     drain-failed c.args.self.now
     (ap (λ (k : Kernel). not (is_empty (now k).storage.device.failed)) (sym c.self.view_is)
-    ∙ sym (c.has_failed.ensures (boot_of c.self.inside.booted) c.self.invariant.1) ∙ c.if-has_failed.true)
+    ∙ sym (c.has_failed.ensures (boot_of c.self.inside.booted) c.self.invariant.stands) ∙ c.if-has_failed.true)
 
 pub loop-self-preserved : goal.loop-self-preserved
 loop-self-preserved c =
     let k : Kernel = c.loop-self.self in
     let some : committed (now k) < changes (now k) = omega (arith, c.loop-self-test.true, c.committed.ensures, c.changes.ensures) in
     draining-more c.args.self.now k c.apply.new.self c.next_event-event.result c.in_ok-apply.field-0
-    (c.next_event-event.ensures ∙ ap completion_or_cut c.in_flight.ensures) some c.loop-self.invariant c.in_ok-apply.ensures
+    (c.next_event-event.ensures ∙ ap completion_or_cut c.in_flight.ensures) some c.loop-self.invariant c.in_ok-apply.ensures.applies
 
 pub returns-in_err-apply-clause-drained : goal.returns-in_err-apply-clause-drained
 returns-in_err-apply-clause-drained c =
@@ -27,7 +27,7 @@ returns-in_err-apply-clause-drained c =
     let some : committed (now k) < changes (now k) = omega (arith, c.loop-self-test.true, c.committed.ensures, c.changes.ensures) in
     let p = err_from_is_err_and c.from_residual.result c.from_residual.ensures.1 in
     rw (p.1, p.2) (drain-refused c.args.self.now k c.apply.new.self c.next_event-event.result c.in_err-apply.field-0.0
-    (c.next_event-event.ensures ∙ ap completion_or_cut c.in_flight.ensures) some c.loop-self.invariant c.in_err-apply.ensures)
+    (c.next_event-event.ensures ∙ ap completion_or_cut c.in_flight.ensures) some c.loop-self.invariant c.in_err-apply.ensures.applies)
 
 pub returns-clause-drained : goal.returns-clause-drained
 returns-clause-drained c =

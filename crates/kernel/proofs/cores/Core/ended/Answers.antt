@@ -1,26 +1,23 @@
 -- What the parts say, the run says.
-use Rattle.std.proofs.Common.{◌≡◌, ◌∙◌, ap, subst, true, None, is_some, Result, Ok, Err}
-use Rattle.std.specs.Prelude.{IfOk, IfErr, OnOk}
+use Rattle.std.proofs.Common.{◌≡◌, ◌∙◌, ap, subst, true, None, is_some}
 use Rattle.kernel_model.specs.Answers.{Kernel, now, process_of}
 use Rattle.kernel_model.specs.Shown.{handed, end_in}
-use Rattle.kernel_model.specs.World.{Boot}
 use Rattle.kernel_model.specs.declared.answer.Refused.TheVariants.{NoProcess}
-use Rattle.kernel_step.specs.Stands.{Stands, kernel_in}
 use Rattle.kernel.specs.Booting.{boot_of}
 use Rattle.kernel.proofs.Seeing.{if-ok, on-ok, if-err}
 use Rattle.kernel.proofs.cores.Core.ended.Goals as goal
 
 pub returns-clause-status : goal.returns-clause-status
 returns-clause-status c =
-    if-ok c.ended.result (λ status all. all (boot_of c.self.inside.booted) c.self.invariant.1 ∙ ap (λ (k : Kernel). end_in (handed (now k) c.args.pid)) c.self.view_is)
+    if-ok c.ended.result (λ status all. all (boot_of c.self.inside.booted) c.self.invariant.stands ∙ ap (λ (k : Kernel). end_in (handed (now k) c.args.pid)) c.self.view_is)
     c.ended.ensures.status
 
 pub returns-clause-there : goal.returns-clause-there
 returns-clause-there c =
-    on-ok c.ended.result (λ all. subst (λ (k : Kernel). is_some (process_of k c.args.pid) ≡ true) c.self.view_is (all (boot_of c.self.inside.booted) c.self.invariant.1))
+    on-ok c.ended.result (λ all. subst (λ (k : Kernel). is_some (process_of k c.args.pid) ≡ true) c.self.view_is (all (boot_of c.self.inside.booted) c.self.invariant.stands))
     c.ended.ensures.there
 
 pub returns-clause-none : goal.returns-clause-none
 returns-clause-none c =
     if-err c.ended.result (λ why all. subst (λ (k : Kernel). (why ≡ NoProcess) × (process_of k c.args.pid ≡ None)) c.self.view_is
-    (all (boot_of c.self.inside.booted) c.self.invariant.1)) c.ended.ensures.none
+    (all (boot_of c.self.inside.booted) c.self.invariant.stands)) c.ended.ensures.none

@@ -1,6 +1,6 @@
 -- What the parts say, the run says.
-use Rattle.std.proofs.Common.{◌≡◌, ap, ◌∙◌}
-use Rattle.kernel_model.specs.Answers.{Kernel, now}
+use Rattle.std.proofs.Common.{ap, ◌∙◌}
+use Rattle.kernel_model.specs.Answers.{Kernel}
 use Rattle.kernel.specs.Booting.{boot_of}
 use Rattle.kernel.proofs.cores.Core.history.Goals as goal
 

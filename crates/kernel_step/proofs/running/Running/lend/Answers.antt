@@ -1,14 +1,15 @@
 -- The next process is lent.
-use Rattle.std.proofs.Common.{◌≡◌, ℕ, ◌+◌, ◌*◌, ◌^◌, ◌≤◌, List, length, map, false, Option, Some, None, refl, sym, ap, subst, ◌∙◌, arith}
+use Rattle.std.proofs.Common.{rules, ◌≡◌, ℕ, ◌+◌, ◌*◌, ◌^◌, ◌≤◌, List, length, map, false, true, is_some, Option, Some, None, Err, refl, sym, ap, subst, ◌∙◌, arith}
 use Rattle.std.specs.Vec.{with_items}
 use Rattle.std.proofs.lemmas.List.{with_items_is}
 use Rattle.kernel_step.specs.Lending.{full_for_loan_of, next_fit, Lent, LendsNext}
 use Rattle.kernel_step.specs.Tasks.{count_out, lending_of, AreFewLoans}
 use Rattle.kernel_step.specs.declared.loan.Loan.{Loan}
 use Rattle.kernel_step.specs.declared.task.Task.{Task}
+use Rattle.kernel_model.specs.declared.answer.Refused.TheVariants.{OutOfMemory}
 use Rattle.kernel_model.specs.declared.event.Event.{Event}
 use Rattle.kernel_step.proofs.FewLoans.{few-longer}
-use Rattle.kernel_step.proofs.LendKept.{lent-core, lends-one, lends-none}
+use Rattle.kernel_step.proofs.LendKept.{lent-core, lends-one, lends-none, lends-wanting}
 use Rattle.kernel_step.specs.Stands.{KeepsRun, kernel_in}
 use Rattle.kernel_step.proofs.running.Running.lend.Goals as goal
 
@@ -75,3 +76,15 @@ returns-clause-lends c = λ b h.
     (with_items c.args.self.now.tasks c.lend_next.new.tasks).items (Some c.in-Some.loan) c.deref_mut.ensures.value same done in
     lends-one b c.args.self.now.history.items c.args.self.now.tasks.items (with_items c.args.self.now.tasks c.lend_next.new.tasks).items c.args.self.now.system c.args.self.now.last_lent c.args.quantum c.in-Some.loan (kernel_in b c.args.self.now) refl
     h.parts room lent
+
+pub returns-in_err-loan-clause-lends : goal.returns-in_err-loan-clause-lends
+returns-in_err-loan-clause-lends c = λ b h.
+    let whole : length c.lend_next.new.tasks ≡ c.args.self.now.tasks.len = omega arith in
+    let same : (with_items c.args.self.now.tasks c.lend_next.new.tasks).items ≡ c.lend_next.new.tasks = with_items_is c.args.self.now.tasks c.lend_next.new.tasks whole in
+    let room : full_for_loan_of (length c.args.self.now.history.items) c.args.self.now.tasks.items ≡ false = cc in
+    let was : c.deref_mut.result.now ≡ c.args.self.now.tasks.items = c.deref_mut.ensures.value in
+    let some : is_some (next_fit c.args.quantum c.args.self.now.system.served c.args.self.now.last_lent c.args.self.now.tasks.items) ≡ true =
+    subst (λ (ts : List Task). is_some (next_fit c.args.quantum c.args.self.now.system.served c.args.self.now.last_lent ts) ≡ true) was c.in_err-loan.ensures.some in
+    let wanting : c.from_residual.result ≡ Err OutOfMemory = search rules in
+    rw wanting (lends-wanting b c.args.self.now.history.items c.args.self.now.tasks.items (with_items c.args.self.now.tasks c.lend_next.new.tasks).items c.args.self.now.system c.args.self.now.last_lent c.args.quantum (kernel_in b c.args.self.now) refl h.parts room
+    some (same ∙ c.in_err-loan.ensures.same ∙ was))

@@ -1,7 +1,7 @@
 -- The parts follow the result's events.
 use Rattle.std.proofs.Common.{◌≡◌, ◌∙◌, refl, sym, ap, subst, ℕ, List, Bool, true, false, Some, None, IsTrue, ◌<◌, length, map, slice_get, slice_set, rules}
 use Rattle.std.proofs.lemmas.Bool.{false≢true}
-use Rattle.std.specs.Prelude.{IfOk, OnOk, OnErr}
+use Rattle.std.specs.Prelude.{IfOk, OnErr}
 use Rattle.machine_model.specs.States.{stands_at}
 use Rattle.kernel_model.specs.Loans.{IsOfLoan}
 use Rattle.kernel_model.specs.State.{process_at}
@@ -43,6 +43,7 @@ returns-in_default c = λ b h. record {
   fine = tt;
   events = tt;
   answer = tt;
+  ran = tt;
   stranger = λ why own. not-there b c.args.self.now.history.items c.args.self.now.tasks.items c.args.self.now.last_lent c.args.done
       (subst (λ (ts : List Task). process_at (map process_of ts) c.args.done.pid ≡ None) c.deref.ensures.value c.in_default.ensures) own;
   own_only = λ other. absurd (other refl);
@@ -60,6 +61,7 @@ returns-then-not-is_of_loan c = λ b h.
       fine = tt;
       events = tt;
       answer = tt;
+      ran = tt;
       stranger = λ why own.
           let of : IsLoanOf c.index_mut-task.result.now c.args.done =
           loan-own b c.args.self.now.history.items c.args.self.now.tasks.items c.args.self.now.system c.args.self.now.last_lent c.in-Some.place c.index_mut-task.result.now c.args.done h.parts (placed at).number (there at) own in
@@ -130,6 +132,7 @@ returns-in-None c = λ b h.
       fine = on-ok-any r (events-accepted b c.args.self.now.history.items c.args.self.now.tasks.items c.args.self.now.system c.args.self.now.last_lent place t d h.parts (placed at).number (there at) of);
       events = settle-events b c.args.self.now.history.items later c.args.self.now.tasks.items new system c.args.self.now.last_lent place d r (placed at).number taken;
       answer = settle-answer b c.args.self.now.history.items later c.args.self.now.tasks.items new system c.args.self.now.last_lent place d r taken;
+      ran = c.settle_turn.ensures.ran;
       stranger = settle-strange (IsOfLoan (kernel_in b c.args.self.now) (loan_result d)) r c.settle_turn.ensures.cause;
       own_only = settle-only r own c.settle_turn.ensures.cause;
       back = c.settle_turn.ensures.back;
@@ -166,6 +169,7 @@ returns-in-Some-stopped c = λ b h.
       fine = on-ok-any r (events-accepted b c.args.self.now.history.items c.args.self.now.tasks.items c.args.self.now.system c.args.self.now.last_lent place t d h.parts (placed at).number (there at) of);
       events = settle-events b c.args.self.now.history.items later c.args.self.now.tasks.items new system c.args.self.now.last_lent place d r (placed at).number taken;
       answer = settle-answer b c.args.self.now.history.items later c.args.self.now.tasks.items new system c.args.self.now.last_lent place d r taken;
+      ran = c.settle_call.ensures.ran;
       stranger = settle-strange (IsOfLoan (kernel_in b c.args.self.now) (loan_result d)) r c.settle_call.ensures.cause;
       own_only = settle-only r own c.settle_call.ensures.cause;
       back = c.settle_call.ensures.back;

@@ -5,7 +5,7 @@ use Rattle.kernel_step.specs.Stands.{run_of}
 use Rattle.kernel_step.specs.Tests.{IsPlaceOf}
 use Rattle.kernel_step.specs.declared.task.Task.{Task}
 use Rattle.kernel_step.proofs.Lists.{get-there}
-use Rattle.kernel_step.proofs.Releasing.{released-is, there-is, none-is}
+use Rattle.kernel_step.proofs.Releasing.{released-is, there-is}
 use Rattle.kernel_step.proofs.running.Running.trace.Goals as goal
 
 pub returns-in-Some-clause-replies : goal.returns-in-Some-clause-replies

@@ -1,8 +1,8 @@
 -- The end is handed out where all replies are, and its own mark is committed.
-use Rattle.std.proofs.Common.{◌≡◌, ◌&&◌, not, nat_le, Option, Some, None, Bool, ℕ, sym, ap, ◌∙◌}
+use Rattle.std.proofs.Common.{Option, Bool, sym, ap, ◌∙◌}
 use Rattle.kernel_model.specs.Entries.{Item}
 use Rattle.kernel_model.specs.Shown.{end_in}
-use Rattle.withheld.specs.Withheld.{Withheld, released, holds_back}
+use Rattle.withheld.specs.Withheld.{Withheld, released}
 use Rattle.withheld.specs.Traces.{told_items}
 use Rattle.withheld.specs.declared.trace.Ending.{Ending}
 use Rattle.withheld.proofs.Traces.{none-released, end-released, status_if}

@@ -1,10 +1,8 @@
 -- The end is the last item.
-use Rattle.std.proofs.Common.{◌≡◌, ℕ, ◌+◌, ◌++◌, ◌∷◌, [], List, Option, Some, None, is_some, length, refl, sym, ap, subst, ◌∙◌, rules}
-use Rattle.kernel_model.specs.Entries.{Item, Got, End}
-use Rattle.kernel_model.specs.Shown.{replies_in, end_in}
-use Rattle.withheld.specs.Withheld.{Withheld, Held, released, all_held, whats}
-use Rattle.withheld.specs.Traces.{ending_items, as_items, told_items}
-use Rattle.withheld.specs.declared.trace.Ending.{Ending}
+use Rattle.std.proofs.Common.{is_some, sym, ap, ◌∙◌}
+use Rattle.kernel_model.specs.Entries.{Item}
+use Rattle.kernel_model.specs.Shown.{end_in}
+use Rattle.withheld.specs.Withheld.{Withheld, whats}
 use Rattle.withheld.proofs.Traces.{end-in}
 use Rattle.withheld.proofs.trace.Trace.has_end.Goals as goal
 

@@ -1,9 +1,9 @@
 -- One reply more.
-use Rattle.std.proofs.Common.{◌≡◌, ℕ, ◌+◌, ◌++◌, ◌∷◌, [], List, Option, Some, None, is_some, length, refl, sym, ap, subst, ◌∙◌, rules}
-use Rattle.kernel_model.specs.Entries.{Item, Got, End}
-use Rattle.kernel_model.specs.Shown.{replies_in, end_in}
-use Rattle.withheld.specs.Withheld.{Withheld, Held, released, all_held, whats}
-use Rattle.withheld.specs.Traces.{ending_items, as_items, told_items}
+use Rattle.std.proofs.Common.{◌≡◌, ◌++◌, ◌∷◌, [], List, Option, None, sym, ap, ◌∙◌}
+use Rattle.kernel_model.specs.Entries.{Item, Got}
+use Rattle.kernel_model.specs.Shown.{end_in}
+use Rattle.withheld.specs.Withheld.{Withheld, Held, all_held, whats}
+use Rattle.withheld.specs.Traces.{ending_items, as_items}
 use Rattle.withheld.specs.declared.trace.Ending.{Ending}
 use Rattle.withheld.proofs.Traces.{no-end, reply-more, append-none}
 use Rattle.withheld.proofs.trace.Trace.reply.Goals as goal

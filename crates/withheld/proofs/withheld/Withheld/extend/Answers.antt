@@ -1,6 +1,6 @@
 -- What was released is released still, and the others come after.
-use Rattle.std.proofs.Common.{◌≡◌, ℕ, ◌+◌, ◌≤◌, ◌++◌, ◌∷◌, [], List, length, take, replicate, nat_lt, refl, sym, ap, subst, ◌∙◌, arith, rules}
-use Rattle.withheld.specs.Withheld.{Withheld, Held, released, holds_back, held_with, all_held, whats, prefix_of}
+use Rattle.std.proofs.Common.{◌≡◌, ◌≤◌, ◌++◌, List, length, replicate, sym, ap, ◌∙◌, arith, rules}
+use Rattle.withheld.specs.Withheld.{Withheld, Held, held_with, all_held, prefix_of}
 use Rattle.withheld.proofs.Prefixes.{prefix-more}
 use Rattle.withheld.proofs.Zipped.{append-with, all-with}
 use Rattle.withheld.proofs.withheld.Withheld.extend.Goals as goal

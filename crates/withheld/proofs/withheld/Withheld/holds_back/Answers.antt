@@ -1,6 +1,6 @@
 -- The count of released items says whether one is held back.
-use Rattle.std.proofs.Common.{◌≡◌, ℕ, ◌+◌, ◌≤◌, ◌++◌, ◌∷◌, [], List, length, take, replicate, nat_lt, refl, sym, ap, subst, ◌∙◌, arith, rules}
-use Rattle.withheld.specs.Withheld.{Withheld, Held, released, holds_back, held_with, all_held, whats, prefix_of}
+use Rattle.std.proofs.Common.{◌≡◌, length, nat_lt, sym, ap, ◌∙◌, rules}
+use Rattle.withheld.specs.Withheld.{Withheld, released, holds_back, held_with}
 use Rattle.withheld.proofs.Zipped.{length-with, length-released}
 use Rattle.withheld.proofs.withheld.Withheld.holds_back.Goals as goal
 

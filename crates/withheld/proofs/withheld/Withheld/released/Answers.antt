@@ -1,6 +1,6 @@
 -- The first so many items are those that are released.
-use Rattle.std.proofs.Common.{◌≡◌, ℕ, ◌+◌, ◌≤◌, ◌++◌, ◌∷◌, [], List, length, take, replicate, nat_lt, refl, sym, ap, subst, ◌∙◌, arith, rules}
-use Rattle.withheld.specs.Withheld.{Withheld, Held, released, holds_back, held_with, all_held, whats, prefix_of}
+use Rattle.std.proofs.Common.{◌≡◌, ◌≤◌, length, take, sym, ap, ◌∙◌, arith, rules}
+use Rattle.withheld.specs.Withheld.{released, prefix_of}
 use Rattle.withheld.proofs.Prefixes.{prefix-within}
 use Rattle.withheld.proofs.Zipped.{released-with}
 use Rattle.withheld.proofs.withheld.Withheld.released.Goals as goal
