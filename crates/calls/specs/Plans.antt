@@ -34,6 +34,21 @@ pub record IsPlan (plan : Plan) (effect : Effect) : Type 0 where
   pub child : plan.child ≡ effect.child
   pub collects : plan.collects ≡ effect.collects
 
+-- what a plan says, as a row of the table
+abbrev pub effect_of : Plan → Effect
+effect_of plan = record {
+  verdict = plan.verdict;
+  reads = plan.reads.items;
+  writes = plan.writes.items;
+  change = plan.change;
+  output = plan.output;
+  tape = plan.tape;
+  pipes = plan.pipes.items;
+  slots = plan.slots.items;
+  child = plan.child;
+  collects = plan.collects;
+}
+
 -- a descriptor that stands for a file stands for one of so many
 abbrev pub NamesFile : ℕ → Option Descriptor → Type 0
 NamesFile count (Some (descriptor.File file offset writes)) = file < count

@@ -1,5 +1,5 @@
 //! The ends of pipes for which descriptors stand.
-ghost use Rattle.std.specs.Prelude.{◌≡◌, ◌≤◌, List, [], length, map, Some, option_to_list, IfOk};
+ghost use Rattle.std.specs.Prelude.{◌≡◌, ◌≤◌, ◌%◌, List, [], length, map, Some, option_to_list, IfOk};
 ghost use Rattle.kernel_model.specs.Rows.{end_of, ends_of, carrier_of, closing, on_pipe, row_close, row_end, descriptor_at};
 ghost use Rattle.kernel_model.specs.declared.effect.PipeStep.TheVariants.{Drop};
 ghost use Rattle.pipes.specs.Seen.{Seen};
@@ -8,7 +8,7 @@ ghost use Rattle.calls.specs.Plans.{IsPlan, EditsAs, OpensAlone, MayAllStep};
 use crate::errno::Errno;
 use crate::plan::Plan;
 use crate::verdict::number;
-use kernel_model::{Carrier, Descriptor, PipeEnd, PipeStep, Slot, Verdict};
+use kernel_model::{Carrier, Descriptor, PipeEnd, PipeStep, Verdict};
 use processes::Descriptors;
 use std::alloc::{AllocError, Global};
 
@@ -62,11 +62,13 @@ fn drops_of(alloc: Global, ends: &[PipeEnd]) -> Result<Vec<PipeStep>, AllocError
 fn closing(alloc: Global, ends: &[PipeEnd], verdict: Verdict) -> Result<Plan, AllocError>
     ensures { IfOk result (λ plan. IsPlan plan (closing ends.now verdict)) }
 {
-    let mut plan = Plan::only(alloc, verdict);
-    plan.reads = carriers_of(alloc, ends)?;
-    plan.writes = carriers_of(alloc, ends)?;
-    plan.pipes = drops_of(alloc, ends)?;
-    Ok(plan)
+    let carriers = carriers_of(alloc, ends)?;
+    let pipes = drops_of(alloc, ends)?;
+    let plan = Plan {
+        pipes,
+        ..Plan::only(alloc, verdict)
+    };
+    plan.updating_all(&carriers)
 }
 
 /// The end of a process with a status, 0 to 255 by a call, or 256 plus a trap's cause: each end of a pipe for which a
@@ -80,6 +82,13 @@ pub fn plan_end(alloc: Global, descriptors: &Descriptors, status: u32) -> Result
 {
     let ends = ends_of(alloc, descriptors)?;
     closing(alloc, &ends, Verdict::Ends(status))
+}
+
+/// An exit with a status, of which the last byte counts.
+pub fn exit(alloc: Global, descriptors: &Descriptors, status: u32) -> Result<Plan, AllocError>
+    ensures { IfOk result (λ plan. IsPlan plan (row_end descriptors.now (status % 256))) }
+{
+    plan_end(alloc, descriptors, status % 256)
 }
 
 /// The caller is told this, and a descriptor is closed that may stand for an end.
@@ -107,20 +116,12 @@ pub fn close(alloc: Global, descriptors: &Descriptors, fd: u32) -> Result<Plan, 
 fn close_there(alloc: Global, descriptor: Descriptor, fd: u32) -> Result<Plan, AllocError>
     ensures { IfOk result (λ plan. IsPlan plan (row_close (Some descriptor) fd)) }
 {
-    let mut plan = closing_one(alloc, end_of(Some(descriptor)), number(alloc, 0))?;
-    plan.slots.push(Slot {
-        fd: fd as usize,
-        holds: None,
-    })?;
-    Ok(plan)
+    closing_one(alloc, end_of(Some(descriptor)), number(alloc, 0))?.setting(fd as usize, None)
 }
 
 /// The caller of a call on a pipe is told this.
 pub fn on_pipe(alloc: Global, pipe: u32, verdict: Verdict) -> Result<Plan, AllocError>
     ensures { IfOk result (λ plan. IsPlan plan (on_pipe pipe verdict [])) }
 {
-    let mut plan = Plan::only(alloc, verdict);
-    plan.reads.push(Carrier::Pipe(pipe))?;
-    plan.writes.push(Carrier::Pipe(pipe))?;
-    Ok(plan)
+    Plan::only(alloc, verdict).updating(Carrier::Pipe(pipe))
 }

@@ -1,6 +1,7 @@
 //! The row of fork.
-ghost use Rattle.std.specs.Prelude.{◌≡◌, ◌++◌, length, map, IfOk};
-ghost use Rattle.kernel_model.specs.Rows.{carrier_of, row_fork};
+ghost use Rattle.std.specs.Prelude.{◌≡◌, ◌∷◌, length, map, Some, IfOk};
+ghost use Rattle.kernel_model.specs.Rows.{failure, number, only, row_fork, table_full};
+ghost use Rattle.kernel_model.specs.declared.carrier.Carrier.TheVariants.{Tasks, Proc};
 ghost use Rattle.kernel_model.specs.declared.effect.PipeStep.TheVariants.{Add};
 ghost use Rattle.calls.specs.Plans.{IsPlan};
 
@@ -11,24 +12,47 @@ use kernel_model::{Carrier, PipeEnd, PipeStep};
 use processes::{Descriptors, MOST_PROCESSES, ProcTable};
 use std::alloc::{AllocError, Global};
 
-/// These carriers, and after them the pipes of these ends.
-fn with_pipes(
-    alloc: Global,
-    first: &[Carrier],
-    ends: &[PipeEnd],
-) -> Result<Vec<Carrier>, AllocError>
-    ensures { IfOk result (λ all. all.items ≡ first.now ++ map carrier_of ends.now) }
-{
-    let mut all = first.to_vec(alloc)?;
-    all.extend_from_slice(&carriers_of(alloc, ends)?)?;
-    Ok(all)
-}
-
 /// A step of the pipes for each of these ends: one more descriptor stands for it.
 fn adds_of(alloc: Global, ends: &[PipeEnd]) -> Result<Vec<PipeStep>, AllocError>
     ensures { IfOk result (λ steps. steps.items ≡ map Add ends.now) }
 {
     ends.iter().map(|end| PipeStep::Add(*end)).collect(alloc)
+}
+
+/// A fork where there is no room for one more process, by a caller whose pipes are these carriers.
+fn fork_refused(alloc: Global, carriers: &[Carrier]) -> Result<Plan, AllocError>
+    ensures { IfOk result (λ plan. IsPlan plan (record (failure table_full) {
+      reads = Tasks ∷ carriers.now;
+      writes = Tasks ∷ carriers.now;
+    })) }
+{
+    Plan::failure(alloc, Errno::TableFull)
+        .updating(Carrier::Tasks)?
+        .updating_all(carriers)
+}
+
+/// A fork of this child, by a caller whose pipes are these carriers, with these steps of the pipes.
+fn fork_made(
+    alloc: Global,
+    child: u32,
+    carriers: &[Carrier],
+    pipes: Vec<PipeStep>,
+) -> Result<Plan, AllocError>
+    ensures { IfOk result (λ plan. IsPlan plan (record (only (number child)) {
+      reads = Tasks ∷ Proc child ∷ carriers.now;
+      writes = Tasks ∷ Proc child ∷ carriers.now;
+      pipes = pipes.items;
+      child = Some child;
+    })) }
+{
+    let plan = Plan {
+        pipes,
+        child: Some(child),
+        ..Plan::number(alloc, child)
+    };
+    plan.updating(Carrier::Tasks)?
+        .updating(Carrier::Proc(child))?
+        .updating_all(carriers)
 }
 
 /// A fork by a caller with these descriptors: the next process by number, and one more for each end of a pipe.
@@ -41,18 +65,10 @@ pub fn fork(
         (λ plan. IsPlan plan (row_fork (length processes.now.parts) descriptors.now)) }
 {
     let ends = ends_of(alloc, descriptors)?;
+    let carriers = carriers_of(alloc, &ends)?;
     let count = processes.len();
     if count >= MOST_PROCESSES {
-        let mut plan = Plan::failure(alloc, Errno::TableFull);
-        plan.reads = with_pipes(alloc, &[Carrier::Tasks], &ends)?;
-        plan.writes = with_pipes(alloc, &[Carrier::Tasks], &ends)?;
-        return Ok(plan);
+        return fork_refused(alloc, &carriers);
     }
-    let child = count as u32 + 1;
-    let mut plan = Plan::number(alloc, child);
-    plan.reads = with_pipes(alloc, &[Carrier::Tasks, Carrier::Proc(child)], &ends)?;
-    plan.writes = with_pipes(alloc, &[Carrier::Tasks, Carrier::Proc(child)], &ends)?;
-    plan.pipes = adds_of(alloc, &ends)?;
-    plan.child = Some(child);
-    Ok(plan)
+    fork_made(alloc, count as u32 + 1, &carriers, adds_of(alloc, &ends)?)
 }

@@ -9,7 +9,7 @@ use crate::plan::Plan;
 use byte_list::Bytes;
 use disk_model::{Change, LONGEST_NAME, MOST_FILES};
 use files::FileTable;
-use kernel_model::{Carrier, Descriptor, Slot};
+use kernel_model::{Carrier, Descriptor};
 use processes::Descriptors;
 use std::alloc::{AllocError, Global};
 
@@ -86,11 +86,7 @@ fn open_free(
             }
         }
         None if mode == 2 => open_made(alloc, fd, files.count(), name),
-        None => {
-            let mut plan = Plan::failure(alloc, Errno::NoSuchFile);
-            plan.reads.push(Carrier::Names)?;
-            Ok(plan)
-        }
+        None => Plan::failure(alloc, Errno::NoSuchFile).reading(Carrier::Names),
     }
 }
 
@@ -100,16 +96,12 @@ fn opened(alloc: Global, fd: usize, file: u16, writes: bool) -> Result<Plan, All
     ensures { IfOk result
         (λ plan. IsPlan plan (record (only (number fd)) { slots = opened fd file writes })) }
 {
-    let mut plan = Plan::number(alloc, fd as u32);
-    plan.slots.push(Slot {
-        fd,
-        holds: Some(Descriptor::File {
-            file,
-            offset: 0,
-            writes,
-        }),
-    })?;
-    Ok(plan)
+    let holds = Descriptor::File {
+        file,
+        offset: 0,
+        writes,
+    };
+    Plan::number(alloc, fd as u32).setting(fd, Some(holds))
 }
 
 /// A file that is there is opened as it stands.
@@ -117,9 +109,7 @@ fn open_there(alloc: Global, fd: usize, file: u16, writes: bool) -> Result<Plan,
     requires { fd < 16 }
     ensures { IfOk result (λ plan. IsPlan plan (open_there fd file writes)) }
 {
-    let mut plan = opened(alloc, fd, file, writes)?;
-    plan.reads.push(Carrier::Names)?;
-    Ok(plan)
+    opened(alloc, fd, file, writes)?.reading(Carrier::Names)
 }
 
 /// A file that is there is emptied, and opened to be written.
@@ -127,12 +117,10 @@ fn open_emptied(alloc: Global, fd: usize, file: u16) -> Result<Plan, AllocError>
     requires { fd < 16 }
     ensures { IfOk result (λ plan. IsPlan plan (open_emptied fd file)) }
 {
-    let mut plan = opened(alloc, fd, file, true)?;
-    plan.reads.push(Carrier::Names)?;
-    plan.reads.push(Carrier::File(file))?;
-    plan.writes.push(Carrier::File(file))?;
-    plan.change = Some(Change::Empty(file));
-    Ok(plan)
+    opened(alloc, fd, file, true)?
+        .changing(Change::Empty(file))
+        .reading(Carrier::Names)?
+        .updating(Carrier::File(file))
 }
 
 /// A new file, the next by number, is opened to be written, where there is room for one.
@@ -141,10 +129,7 @@ fn open_made(alloc: Global, fd: usize, count: usize, name: Bytes) -> Result<Plan
     ensures { IfOk result (λ plan. IsPlan plan (open_made fd count name)) }
 {
     if count >= MOST_FILES {
-        let mut plan = Plan::failure(alloc, Errno::TableFull);
-        plan.reads.push(Carrier::Names)?;
-        plan.writes.push(Carrier::Names)?;
-        return Ok(plan);
+        return Plan::failure(alloc, Errno::TableFull).updating(Carrier::Names);
     }
     open_new(alloc, fd, count as u16, name)
 }
@@ -154,11 +139,8 @@ fn open_new(alloc: Global, fd: usize, file: u16, name: Bytes) -> Result<Plan, Al
     requires { fd < 16 }
     ensures { IfOk result (λ plan. IsPlan plan (open_new fd file name)) }
 {
-    let mut plan = opened(alloc, fd, file, true)?;
-    plan.reads.push(Carrier::Names)?;
-    plan.reads.push(Carrier::File(file))?;
-    plan.writes.push(Carrier::Names)?;
-    plan.writes.push(Carrier::File(file))?;
-    plan.change = Some(Change::Create(name));
-    Ok(plan)
+    opened(alloc, fd, file, true)?
+        .changing(Change::Create(name))
+        .updating(Carrier::Names)?
+        .updating(Carrier::File(file))
 }

@@ -8,7 +8,7 @@ use crate::errno::Errno;
 use crate::plan::Plan;
 use crate::verdict::with_bytes;
 use byte_list::Bytes;
-use kernel_model::{Carrier, Descriptor, PipeEnd, PipeStep, Slot};
+use kernel_model::{Carrier, Descriptor, PipeEnd, PipeStep};
 use pipes::{MOST_PIPES, PipeTable};
 use processes::Descriptors;
 use std::alloc::{AllocError, Global};
@@ -35,10 +35,7 @@ pub fn pipe(
     };
     let count = pipes.len();
     if count >= MOST_PIPES {
-        let mut plan = Plan::failure(alloc, Errno::TableFull);
-        plan.reads.push(Carrier::Pipes)?;
-        plan.writes.push(Carrier::Pipes)?;
-        return Ok(plan);
+        return Plan::failure(alloc, Errno::TableFull).updating(Carrier::Pipes);
     }
     pipe_made(alloc, count as u32, at, reader, writer)
 }
@@ -67,19 +64,10 @@ fn pipe_made(
     ensures { IfOk result (λ plan. IsPlan plan (pipe_made pipe at reader writer)) }
 {
     let words = pair_of(alloc, reader as u32, writer as u32)?;
-    let mut plan = Plan::only(alloc, with_bytes(0, at, words));
-    plan.reads.push(Carrier::Pipes)?;
-    plan.reads.push(Carrier::Pipe(pipe))?;
-    plan.writes.push(Carrier::Pipes)?;
-    plan.writes.push(Carrier::Pipe(pipe))?;
-    plan.pipes.push(PipeStep::Open)?;
-    plan.slots.push(Slot {
-        fd: reader,
-        holds: Some(Descriptor::Pipe(PipeEnd::Read(pipe))),
-    })?;
-    plan.slots.push(Slot {
-        fd: writer,
-        holds: Some(Descriptor::Pipe(PipeEnd::Write(pipe))),
-    })?;
-    Ok(plan)
+    Plan::only(alloc, with_bytes(0, at, words))
+        .updating(Carrier::Pipes)?
+        .updating(Carrier::Pipe(pipe))?
+        .stepping(PipeStep::Open)?
+        .setting(reader, Some(Descriptor::Pipe(PipeEnd::Read(pipe))))?
+        .setting(writer, Some(Descriptor::Pipe(PipeEnd::Write(pipe))))
 }

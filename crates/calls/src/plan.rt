@@ -1,5 +1,5 @@
 //! What a call comes to, before anything is changed: the table of calls.
-ghost use Rattle.std.specs.Prelude.{◌≡◌, ◌≤◌, ◌<◌, ◌+◌, ◌^◌, ℕ, length, IfOk, IfSome};
+ghost use Rattle.std.specs.Prelude.{◌≡◌, ◌++◌, ◌∷◌, [], ◌≤◌, ◌<◌, ◌+◌, ◌^◌, ℕ, length, Some, IfOk, IfSome};
 ghost use Rattle.std.specs.List.{AllByRecursion};
 ghost use Rattle.disk_model.specs.declared.change.NamedFile.{NamedFile};
 ghost use Rattle.machine_model.specs.States.{State};
@@ -12,9 +12,9 @@ ghost use Rattle.processes.specs.Parts.{part_at, descriptors_in, children_in, st
 ghost use Rattle.calls.specs.Errors.{code_of};
 ghost use Rattle.calls.specs.Shares.{shared_of, IsKept};
 ghost use Rattle.calls.specs.Wholes.{IsWhole};
-ghost use Rattle.calls.specs.Plans.{IsPlan, IsPossible, CarriesBytes, NamesFiles, MayAllStep, IsNext, AreLeft, AtMostOneEntry, OpensAlone, EditsAs, MayBePlaced};
+ghost use Rattle.calls.specs.Plans.{IsPlan, effect_of, IsPossible, CarriesBytes, NamesFiles, MayAllStep, IsNext, AreLeft, AtMostOneEntry, OpensAlone, EditsAs, MayBePlaced};
 
-use crate::ends::{close, plan_end};
+use crate::ends::{close, exit};
 use crate::errno::Errno;
 use crate::fork::fork;
 use crate::open::open;
@@ -27,7 +27,7 @@ use crate::wait::wait;
 use crate::write::write;
 use disk_model::Change;
 use files::FileTable;
-use kernel_model::{Carrier, Output, PipeStep, Request, Slot, TapeRead, Verdict};
+use kernel_model::{Carrier, Descriptor, Output, PipeStep, Request, Slot, TapeRead, Verdict};
 use pipes::PipeTable;
 use processes::{Descriptors, ProcTable};
 use std::alloc::{AllocError, Global};
@@ -81,6 +81,72 @@ impl Plan {
     {
         Plan::number(alloc, errno.reply())
     }
+
+    /// It reads this carrier too.
+    pub(crate) fn reading(mut self, carrier: Carrier) -> Result<Plan, AllocError>
+        ensures { IfOk result
+            (λ plan. IsPlan plan (record (effect_of self) { reads = self.reads.items ++ carrier ∷ [] })) }
+    {
+        let pushed = self.reads.push(carrier);
+        Ok(pushed.and(Ok(self))?)
+    }
+
+    /// It reads and writes this carrier too.
+    pub(crate) fn updating(self, carrier: Carrier) -> Result<Plan, AllocError>
+        ensures { IfOk result (λ plan. IsPlan plan (record (effect_of self) {
+          reads = self.reads.items ++ carrier ∷ [];
+          writes = self.writes.items ++ carrier ∷ [];
+        })) }
+    {
+        let mut plan = self.reading(carrier)?;
+        let pushed = plan.writes.push(carrier);
+        Ok(pushed.and(Ok(plan))?)
+    }
+
+    /// It reads and writes these carriers too.
+    pub(crate) fn updating_all(mut self, carriers: &[Carrier]) -> Result<Plan, AllocError>
+        ensures { IfOk result (λ plan. IsPlan plan (record (effect_of self) {
+          reads = self.reads.items ++ carriers.now;
+          writes = self.writes.items ++ carriers.now;
+        })) }
+    {
+        let read = self.reads.extend_from_slice(carriers);
+        let written = self.writes.extend_from_slice(carriers);
+        read.and(written).and(Ok(self))
+    }
+
+    /// This change of the files comes of it.
+    pub(crate) fn changing(self, change: Change) -> Plan
+        ensures { IsPlan result (record (effect_of self) { change = Some change }) }
+    {
+        Plan {
+            change: Some(change),
+            ..self
+        }
+    }
+
+    /// This step of the pipes comes of it too.
+    pub(crate) fn stepping(mut self, step: PipeStep) -> Result<Plan, AllocError>
+        ensures { IfOk result
+            (λ plan. IsPlan plan (record (effect_of self) { pipes = self.pipes.items ++ step ∷ [] })) }
+    {
+        let pushed = self.pipes.push(step);
+        Ok(pushed.and(Ok(self))?)
+    }
+
+    /// The descriptor of this number comes to stand for this too.
+    pub(crate) fn setting(
+        mut self,
+        fd: usize,
+        holds: Option<Descriptor>,
+    ) -> Result<Plan, AllocError>
+        ensures { IfOk result (λ plan. IsPlan plan (record (effect_of self) {
+          slots = self.slots.items ++ record { fd = fd; holds = holds } ∷ [];
+        })) }
+    {
+        let pushed = self.slots.push(Slot { fd, holds });
+        Ok(pushed.and(Ok(self))?)
+    }
 }
 
 /// The descriptors of a process.
@@ -113,7 +179,7 @@ fn plan_row(
     ensures carries { IfOk result (λ plan. IfSome plan.change CarriesBytes) }
 {
     match request {
-        Request::Exit { status } => plan_end(alloc, descriptors, status % 256),
+        Request::Exit { status } => exit(alloc, descriptors, status),
         Request::Write { fd, n, bytes } => write(alloc, pipes, descriptors, fd, n, bytes),
         Request::Read { fd, at, n, fits } => {
             read(

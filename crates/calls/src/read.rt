@@ -15,7 +15,7 @@ use crate::tapes::TapeTable;
 use crate::verdict::{number, with_bytes};
 use byte_list::Bytes;
 use files::FileTable;
-use kernel_model::{Carrier, Descriptor, PipeEnd, PipeStep, Slot, TapeRead, Verdict};
+use kernel_model::{Carrier, Descriptor, PipeEnd, PipeStep, TapeRead, Verdict};
 use pipes::{Pipe, PipeTable};
 use processes::Descriptors;
 use std::alloc::{AllocError, Global};
@@ -93,13 +93,11 @@ fn read_tape(alloc: Global, tapes: &TapeTable, tape: u32, place: Place) -> Resul
     };
     let copy = Bytes::copy_of(alloc, bytes)?;
     let mut plan = Plan::only(alloc, with_bytes(bytes.len() as u32, place.at, copy));
-    plan.reads.push(Carrier::Tape(tape))?;
-    plan.writes.push(Carrier::Tape(tape))?;
     plan.tape = Some(TapeRead {
         tape,
         count: bytes.len(),
     });
-    Ok(plan)
+    plan.updating(Carrier::Tape(tape))
 }
 
 /// A read of a file from an offset on, which moves past what is read.
@@ -120,17 +118,14 @@ fn read_file(
         return Ok(Plan::failure(alloc, Errno::BadDescriptor));
     };
     let copy = Bytes::copy_of(alloc, bytes)?;
-    let mut plan = Plan::only(alloc, with_bytes(bytes.len() as u32, place.at, copy));
-    plan.reads.push(Carrier::File(file))?;
-    plan.slots.push(Slot {
-        fd,
-        holds: Some(Descriptor::File {
-            file,
-            offset: offset + bytes.len() as u32,
-            writes: false,
-        }),
-    })?;
-    Ok(plan)
+    let holds = Descriptor::File {
+        file,
+        offset: offset + bytes.len() as u32,
+        writes: false,
+    };
+    Plan::only(alloc, with_bytes(bytes.len() as u32, place.at, copy))
+        .reading(Carrier::File(file))?
+        .setting(fd, Some(holds))
 }
 
 /// A read of a pipe: of none where it holds none and none can write it any more, and waiting where some still can.
@@ -166,7 +161,6 @@ fn take_some(alloc: Global, pipe: u32, bytes: Bytes, at: u32) -> Result<Plan, Al
     ensures { IfOk result (λ plan. IsPlan plan (take_some pipe at (length bytes) bytes)) }
 {
     let count = bytes.as_slice().len();
-    let mut plan = on_pipe(alloc, pipe, with_bytes(count as u32, at, bytes))?;
-    plan.pipes.push(PipeStep::Take { pipe, count })?;
-    Ok(plan)
+    let plan = on_pipe(alloc, pipe, with_bytes(count as u32, at, bytes))?;
+    plan.stepping(PipeStep::Take { pipe, count })
 }

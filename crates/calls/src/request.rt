@@ -1,6 +1,6 @@
 //! The call at which a machine stands.
-ghost use Rattle.std.specs.Prelude.{◌≡◌, None, IfOk, IsOk};
-ghost use Rattle.kernel_model.specs.Requests.{read_bytes, may_be_placed, most_bytes, request_of as request_at};
+ghost use Rattle.std.specs.Prelude.{◌≡◌, ◌==◌, ◌||◌, None, IfOk, IsOk};
+ghost use Rattle.kernel_model.specs.Requests.{read_bytes, may_be_placed, most_bytes, word_size, request_of as request_at};
 ghost use Rattle.calls.specs.Wholes.{AreWhole, IsWhole, HoldsNone};
 
 use byte_list::Bytes;
@@ -49,6 +49,13 @@ fn may_be_placed(machine: &Machine, at: u32, n: u32) -> bool
     n <= MOST_BYTES && machine.space().writable(at, n)
 }
 
+/// Whether a wait asks for no status, by the address 0, or the process may write one at the address.
+fn may_take_status(machine: &Machine, at: u32) -> bool
+    ensures { result ≡ ((at == 0) || may_be_placed machine.now.hart.memory word_size at word_size) }
+{
+    at == 0 || machine.space().writable(at, WORD_SIZE)
+}
+
 /// The call that the registers name: its number in a7, its arguments in a0 to a2, with the bytes that it names. Refused
 /// for want of memory alone, which only the bytes of a write or of a name take.
 pub fn request_of(alloc: Global, machine: &Machine) -> Result<Request, AllocError>
@@ -85,7 +92,7 @@ pub fn request_of(alloc: Global, machine: &Machine) -> Result<Request, AllocErro
         7 => Ok(Request::Fork),
         8 => Ok(Request::Wait {
             at: a0,
-            fits: a0 == 0 || machine.space().writable(a0, WORD_SIZE),
+            fits: may_take_status(machine, a0),
         }),
         9 => Ok(Request::GetPid),
         10 => Ok(Request::Seek { fd: a0, offset: a1 }),

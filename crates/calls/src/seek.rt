@@ -6,7 +6,7 @@ ghost use Rattle.calls.specs.Plans.{IsPlan};
 use crate::errno::Errno;
 use crate::plan::Plan;
 use disk_model::LONGEST_FILE;
-use kernel_model::{Descriptor, Slot};
+use kernel_model::Descriptor;
 use processes::Descriptors;
 use std::alloc::{AllocError, Global};
 
@@ -26,14 +26,10 @@ pub fn seek(
     if offset > LONGEST_FILE {
         return Ok(Plan::failure(alloc, Errno::BadArgument));
     }
-    let mut plan = Plan::number(alloc, offset);
-    plan.slots.push(Slot {
-        fd: fd as usize,
-        holds: Some(Descriptor::File {
-            file,
-            offset,
-            writes,
-        }),
-    })?;
-    Ok(plan)
+    let holds = Descriptor::File {
+        file,
+        offset,
+        writes,
+    };
+    Plan::number(alloc, offset).setting(fd as usize, Some(holds))
 }

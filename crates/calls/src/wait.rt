@@ -68,13 +68,17 @@ fn wait_ended(
     ensures { IfOk result
         (λ plan. IsPlan plan (wait_ended at children.now (option_map child_of ended))) }
 {
+    let reads = procs_of(alloc, children)?;
     let Some(ended) = ended else {
-        let mut plan = Plan::only(alloc, Verdict::Waits);
-        plan.reads = procs_of(alloc, children)?;
-        return Ok(plan);
+        return Ok(Plan {
+            reads,
+            ..Plan::only(alloc, Verdict::Waits)
+        });
     };
-    let mut plan = Plan::only(alloc, told_of(alloc, at, ended)?);
-    plan.reads = procs_of(alloc, children)?;
-    plan.collects = Some(ended.child);
-    Ok(plan)
+    let verdict = told_of(alloc, at, ended)?;
+    Ok(Plan {
+        reads,
+        collects: Some(ended.child),
+        ..Plan::only(alloc, verdict)
+    })
 }

@@ -1,8 +1,8 @@
 //! The row of write.
-ghost use Rattle.std.specs.Prelude.{◌≡◌, ◌≤◌, ◌<◌, [], length, slice_get, map, IfOk, IfSome};
+ghost use Rattle.std.specs.Prelude.{◌≡◌, ◌≤◌, ◌<◌, ◌+◌, nat_lt, [], Some, length, slice_get, map, IfOk, IfSome};
 ghost use Rattle.std.specs.List.{AllByRecursion};
 ghost use Rattle.kernel_model.specs.Requests.{most_bytes};
-ghost use Rattle.kernel_model.specs.Rows.{descriptor_at, may_write, write_file, put_some, write_pipe, write_to, row_write};
+ghost use Rattle.kernel_model.specs.Rows.{longest_file, only, number, descriptor_at, may_write, write_file, put_some, write_pipe, write_to, row_write};
 ghost use Rattle.calls.specs.Plans.{IsPlan, CarriesBytes};
 ghost use Rattle.calls.specs.Shares.{pipe_of, things};
 ghost use Rattle.calls.specs.Wholes.{AreWhole};
@@ -14,7 +14,7 @@ use crate::request::MOST_BYTES;
 use crate::verdict::number;
 use byte_list::Bytes;
 use disk_model::{Change, LONGEST_FILE};
-use kernel_model::{Carrier, Descriptor, Output, PipeEnd, PipeStep, Slot, Verdict};
+use kernel_model::{Carrier, Descriptor, Output, PipeEnd, PipeStep, Verdict};
 use pipes::{Pipe, PipeTable};
 use processes::Descriptors;
 use std::alloc::{AllocError, Global};
@@ -85,11 +85,7 @@ fn write_to(
     ensures carries { IfOk result (λ plan. IfSome plan.change CarriesBytes) }
 {
     match to {
-        Some(Descriptor::Terminal(terminal)) => {
-            let mut plan = Plan::number(alloc, count(bytes.as_slice()));
-            plan.output = Some(Output { terminal, bytes });
-            Ok(plan)
-        }
+        Some(Descriptor::Terminal(terminal)) => write_terminal(alloc, terminal, bytes),
         Some(
             Descriptor::File {
                 file,
@@ -100,6 +96,26 @@ fn write_to(
         Some(Descriptor::Pipe(PipeEnd::Write(pipe))) => write_pipe(alloc, pipes, pipe, bytes),
         _ => Ok(Plan::failure(alloc, Errno::BadDescriptor)),
     }
+}
+
+/// A write of these bytes to a terminal.
+fn write_terminal(alloc: Global, terminal: u32, bytes: Bytes) -> Result<Plan, AllocError>
+    requires { length bytes ≤ most_bytes }
+    ensures { IfOk result (λ plan. IsPlan plan (record (only (number (length bytes))) {
+      output = Some (record { terminal = terminal; bytes = bytes });
+    })) }
+{
+    let mut plan = Plan::number(alloc, count(bytes.as_slice()));
+    plan.output = Some(Output { terminal, bytes });
+    Ok(plan)
+}
+
+/// Whether n bytes at an offset of a file end past the most that a file may hold.
+fn ends_too_far(offset: u32, n: u32) -> bool
+    requires { n ≤ most_bytes }
+    ensures { result ≡ nat_lt longest_file (offset + n) }
+{
+    offset > LONGEST_FILE || offset + n > LONGEST_FILE
 }
 
 /// A write of these bytes at an offset of a file.
@@ -115,26 +131,23 @@ fn write_file(
     ensures carries { IfOk result (λ plan. IfSome plan.change CarriesBytes) }
 {
     let n = count(bytes.as_slice());
-    if offset > LONGEST_FILE || offset + n > LONGEST_FILE {
+    if ends_too_far(offset, n) {
         return Ok(Plan::failure(alloc, Errno::FileTooLarge));
     }
-    let mut plan = Plan::number(alloc, n);
-    plan.reads.push(Carrier::File(file))?;
-    plan.writes.push(Carrier::File(file))?;
-    plan.change = Some(Change::Write {
+    let change = Change::Write {
         file,
         offset,
         bytes,
-    });
-    plan.slots.push(Slot {
-        fd,
-        holds: Some(Descriptor::File {
-            file,
-            offset: offset + n,
-            writes: true,
-        }),
-    })?;
-    Ok(plan)
+    };
+    let holds = Descriptor::File {
+        file,
+        offset: offset + n,
+        writes: true,
+    };
+    Plan::number(alloc, n)
+        .changing(change)
+        .updating(Carrier::File(file))?
+        .setting(fd, Some(holds))
 }
 
 /// A write of these bytes to a pipe: refused where none can read it any more, and waiting where it is full.
@@ -173,8 +186,7 @@ fn put_some(alloc: Global, pipe: u32, bytes: &[u8], room: usize) -> Result<Plan,
     ensures carries { IfOk result (λ plan. IfSome plan.change CarriesBytes) }
 {
     let taken = &bytes[..room.min(bytes.len())];
-    let mut plan = on_pipe(alloc, pipe, number(alloc, taken.len() as u32))?;
     let bytes = Bytes::copy_of(alloc, taken)?;
-    plan.pipes.push(PipeStep::Put { pipe, bytes })?;
-    Ok(plan)
+    let plan = on_pipe(alloc, pipe, number(alloc, taken.len() as u32))?;
+    plan.stepping(PipeStep::Put { pipe, bytes })
 }

@@ -54,19 +54,3 @@ impl Mark {
         }
     }
 }
-
-#[cfg(test)]
-mod tests {
-    use super::*;
-    use std::test::Fail;
-
-    #[test]
-    fn a_mark_waits_for_its_greatest_change(rt: HostRuntime) -> Result<(), Fail> {
-        let first = Mark::of_change(0);
-        let mark = Mark::none().joined(Mark::of_change(2)).joined(first);
-        for (committed, expected) in [(0, false), (2, false), (3, true), (4, true)] {
-            assert_eq!(rt; mark.below(committed), expected, "at {committed}");
-        }
-        Ok(())
-    }
-}

@@ -3,8 +3,6 @@
 
 mod pumping;
 mod sink;
-#[cfg(test)]
-mod tests;
 
 pub use pumping::{PumpFault, pump, pump_into};
 pub use sink::Sink;

@@ -1,5 +1,5 @@
 //! What each instruction does to the registers and a memory.
-ghost use Rattle.std.specs.Prelude.{◌≡◌, ◌+◌, ◌*◌, ◌%◌, ◌^◌, slice_index};
+ghost use Rattle.std.specs.Prelude.{◌≡◌, ◌+◌, ◌-◌, ◌*◌, ◌%◌, ◌^◌, slice_index};
 ghost use Rattle.machine_model.specs.Access.{size};
 ghost use Rattle.machine_model.specs.Arithmetic as model;
 ghost use Rattle.machine_model.specs.Effects as effects;
@@ -77,6 +77,19 @@ fn link(regs: &mut Regs, rd: Reg, target: u32) -> Outcome
     regs.set(rd, return_address);
     regs.pc = target;
     Outcome::Next
+}
+
+/// The same with the target that a register and an offset give, with bit 0 cleared.
+#[inline]
+fn link_to_register(regs: &mut Regs, rd: Reg, base: Reg, offset: Immediate) -> Outcome
+    ensures { (m : Memory) → Executes
+        (links (hart regs.old.x regs.old.pc m) rd (effects.moved (slice_index regs.old.x base) offset - effects.moved (slice_index regs.old.x base) offset % 2))
+        result
+        (hart regs.old.x regs.old.pc m)
+        (hart regs.new.x regs.new.pc m) }
+{
+    let target = address(regs, base, offset);
+    link(regs, rd, target - target % 2)
 }
 
 /// To the program counter plus an offset if the test holds, else to the next instruction.
@@ -182,10 +195,7 @@ pub fn exec_ref<B: Bus>(regs: &mut Regs, bus: &mut B, i: &Instr) -> Outcome
         Instr::Lui { rd, imm } => write(regs, rd, imm.value() << 12),
         Instr::Auipc { rd, imm } => write(regs, rd, regs.pc.wrapping_add(imm.value() << 12)),
         Instr::Jal { rd, offset } => link(regs, rd, moved(regs.pc, offset.value())),
-        Instr::Jalr { rd, rs1, imm } => {
-            let target = address(regs, rs1, imm);
-            link(regs, rd, target - target % 2)
-        }
+        Instr::Jalr { rd, rs1, imm } => link_to_register(regs, rd, rs1, imm),
         Instr::Beq { rs1, rs2, offset } => branch(regs, regs.get(rs1) == regs.get(rs2), offset),
         Instr::Bne { rs1, rs2, offset } => branch(regs, regs.get(rs1) != regs.get(rs2), offset),
         Instr::Blt { rs1, rs2, offset } => branch(

@@ -9,8 +9,6 @@ mod laws;
 mod reading;
 mod rebuilding;
 mod recovery;
-#[cfg(test)]
-mod tests;
 mod writing;
 
 pub use disk::{open, recover};

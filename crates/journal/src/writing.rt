@@ -51,30 +51,3 @@ pub fn body_of(alloc: Global, changes: &[Change]) -> Result<Vec<u8>, AllocError>
     }
     Ok(out)
 }
-
-#[cfg(test)]
-mod tests {
-    use super::*;
-    use byte_list::Bytes;
-    use std::test::Fail;
-
-    #[test]
-    fn a_body_of_each_kind(rt: HostRuntime) -> Result<(), Fail> {
-        let alloc = rt.alloc();
-        let changes = [
-            Change::Create(Bytes::copy_of(alloc, b"f")?),
-            Change::Write {
-                file: 0,
-                offset: 258,
-                bytes: Bytes::copy_of(alloc, &[0x41, 0, 0])?,
-            },
-            Change::Empty(772),
-        ];
-        let body = body_of(alloc, &changes)?;
-        assert_eq!(rt;
-            body.as_slice(),
-            b"\x01\x01f\x02\0\0\x02\x01\0\0\x03\0A\0\0\x03\x04\x03".as_slice()
-        );
-        Ok(())
-    }
-}

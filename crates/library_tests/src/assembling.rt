@@ -1,450 +1,351 @@
-use assembler::{AsmFault, Cause, Listing, assemble};
-use elf32::{Image, write};
-use std::alloc::Global;
+//! Sources with their words, their images and their faults.
+use crate::asserting::assert_row;
+use crate::image_files::is_one_call;
+use crate::tokens::push_repeated;
+use assembler::Cause::{DoubleLabel, NoStart, Range, Syntax, TooLarge, UnknownName};
+use assembler::{AsmFault, Cause, Row, assemble};
+use elf32::write;
+use std::alloc::{AllocError, Global};
 use std::process::Abort;
-use std::test::Fail;
 
-/// The words of a source's text.
-fn assert_words(rt: &impl Abort, alloc: Global, source: &str, words: &[u32]) -> Result<(), Fail> {
-    let (_, listing) = assemble(alloc, source)?;
-    let mut listed = Vec::new(alloc);
-    for row in listing.rows() {
-        listed.push(row.word)?;
-    }
-    assert_eq!(rt; listed.as_slice(), words, "{source}");
-    Ok(())
-}
+const FIRST_PROGRAM: &str =
+    "_start: li t0,0x66\n sw t0,-4(sp)\n addi a0,sp,-4\n li a1,1\n li a2,2\n li a7,4\n ecall\n\
+    \n li t0,65\n sw t0,-4(sp)\n addi a1,sp,-4\n li a2,3\n li a7,2\n ecall\n li a0,1\n li a2,1\n ecall\n\
+    \n li a0,0\n li a7,1\n ecall\n";
 
-/// A source is refused, with this cause at this line and column.
-fn assert_fault(
-    rt: &impl Abort,
-    alloc: Global,
-    source: &str,
-    why: Cause,
-    line: usize,
-    column: usize,
-) {
-    match assemble(alloc, source) {
-        Ok(_) => assert!(rt; false, "accepted: {source}"),
-        Err(fault) => assert_eq!(rt; fault, AsmFault { why, line, column }, "{source}"),
-    }
-}
+const FAR_BACK: &str = "m: .space 4096\n_start: la a0,m";
 
-#[test]
-fn loads_of_a_number(rt: HostRuntime) -> Result<(), Fail> {
-    let alloc = rt.alloc();
-    assert_words(
-        &rt,
-        alloc,
-        "_start: li a0,0x12345FFF",
-        &[0x12346537, 0xFFF50513],
-    )?;
-    assert_words(
-        &rt,
-        alloc,
-        "_start: li a0,0x7FFFFFFF",
-        &[0x80000537, 0xFFF50513],
-    )?;
-    assert_words(&rt, alloc, "_start: li a0,0xFFFFFFFF", &[0xFFF00513])?;
-    assert_words(&rt, alloc, "_start: li a0,-2048", &[0x80000513])?;
-    assert_words(&rt, alloc, "_start: li a0,2047", &[0x7FF00513])?;
-    assert_words(&rt, alloc, "_start: li a0,2048", &[0x00001537, 0x80050513])?;
-    assert_words(&rt, alloc, "_start: li a0,0x12345000", &[0x12345537])?;
-    assert_words(&rt, alloc, "_start: li a0,-2147483648", &[0x80000537])?;
-    assert_words(&rt, alloc, "_start: li a0,-2049", &[0xFFFFF537, 0x7FF50513])?;
-    assert_words(&rt, alloc, "_start: li a0,0x80000000", &[0x80000537])?;
-    assert_words(&rt, alloc, "_start: li zero,0", &[0x00000013])
-}
+const FAR_AHEAD: &str = "_start: la a0,m\n.space 2040\nm: nop";
 
-#[test]
-fn addresses_of_labels(rt: HostRuntime) -> Result<(), Fail> {
-    let alloc = rt.alloc();
-    assert_words(
-        &rt,
-        alloc,
+const FARTHEST_BRANCH: &str = "_start: beq zero,zero,L\n.space 4088\nL: ecall";
+
+const SIXTY_PAGES: &str = "_start: .space 245760";
+
+const SIXTY_WITH_DATA: &str = "_start: .space 241664\n.data\n.space 4096";
+
+const TEXT_AND_DATA: &str = "_start: la a0,m\necall\n.data\nm: .byte 1";
+
+const DATA: &str =
+    "_start: ecall\n.data\n.byte -128,255\n.ascii \"a\\n\"\n.word -1,0x10203040\n.space 3\nnop";
+
+/// The bytes of the data in `DATA`.
+const DATA_BYTES: [u8; 19] = [
+    0x80, 0xff, 0x61, 0x0a, 0xff, 0xff, 0xff, 0xff, 0x40, 0x30, 0x20, 0x10, 0, 0, 0, 0x13, 0, 0, 0,
+];
+
+/// Sources, and the words of their text.
+const WORDS: &[(&str, &[u32])] = &[
+    // Loads of a number.
+    ("_start: li a0,0x12345FFF", &[0x12346537, 0xFFF50513]),
+    ("_start: li a0,0x7FFFFFFF", &[0x80000537, 0xFFF50513]),
+    ("_start: li a0,0xFFFFFFFF", &[0xFFF00513]),
+    ("_start: li a0,-2048", &[0x80000513]),
+    ("_start: li a0,2047", &[0x7FF00513]),
+    ("_start: li a0,2048", &[0x00001537, 0x80050513]),
+    ("_start: li a0,0x12345000", &[0x12345537]),
+    ("_start: li a0,-2147483648", &[0x80000537]),
+    ("_start: li a0,-2049", &[0xFFFFF537, 0x7FF50513]),
+    ("_start: li a0,0x80000000", &[0x80000537]),
+    ("_start: li zero,0", &[0x00000013]),
+    // The ends of branches and jumps.
+    ("_start: beq a0,a1,-4096", &[0x80B50063]),
+    ("_start: jal ra,1048572", &[0x7FDFF0EF]),
+    ("_start: jal ra,-1048576", &[0x800000EF]),
+    // Pseudo-instructions.
+    ("_start: nop", &[0x00000013]),
+    ("_start: mv a0,a1", &[0x00058513]),
+    ("_start: not a0,a1", &[0xFFF5C513]),
+    ("_start: neg a0,a1", &[0x40B00533]),
+    ("_start: seqz a0,a1", &[0x0015B513]),
+    ("_start: snez a0,a1", &[0x00B03533]),
+    ("_start: sltz a0,a1", &[0x0005A533]),
+    ("_start: sgtz a0,a1", &[0x00B02533]),
+    ("_start: beqz a0,8", &[0x00050463]),
+    ("_start: bnez a0,8", &[0x00051463]),
+    ("_start: blez a0,8", &[0x00A05463]),
+    ("_start: bgez a0,8", &[0x00055463]),
+    ("_start: bltz a0,8", &[0x00054463]),
+    ("_start: bgtz a0,8", &[0x00A04463]),
+    ("_start: bgt a0,a1,8", &[0x00A5C463]),
+    ("_start: ble a0,a1,8", &[0x00A5D463]),
+    ("_start: bgtu a0,a1,8", &[0x00A5E463]),
+    ("_start: bleu a0,a1,8", &[0x00A5F463]),
+    ("_start: j 8", &[0x0080006F]),
+    ("_start: jal 8", &[0x008000EF]),
+    ("_start: call 8", &[0x008000EF]),
+    ("_start: jr a0", &[0x00050067]),
+    ("_start: jalr a0", &[0x000500E7]),
+    ("_start: ret", &[0x00008067]),
+    // Instructions.
+    ("_start: add a0,a0,a1", &[0x00B50533]),
+    ("_start: mul a0 , a0,\ta1 # a comment \u{e9}", &[0x02B50533]),
+    ("_start: lui t0,0x12345", &[0x123452B7]),
+    ("_start: auipc x5,0xFFFFF", &[0xFFFFF297]),
+    ("_start: sw a0,0(sp)", &[0x00A12023]),
+    ("_start: lw a0, -4 ( sp )", &[0xFFC12503]),
+    ("_start: beq zero,zero,-4", &[0xFE000EE3]),
+    ("_start: jalr ra,1(ra)", &[0x001080E7]),
+    ("_start: jal ra,8", &[0x008000EF]),
+    ("_start: srai a0,a0,31", &[0x41F55513]),
+    ("_start: fence", &[0x0FF0000F]),
+    ("_start: ebreak", &[0x00100073]),
+    ("_start: addi fp,x8,-1", &[0xFFF40413]),
+    ("_start: .word 0xFFFFFFFF", &[0xFFFFFFFF]),
+    // Labels.
+    (
         "_start: nop\nla a0,_start",
         &[0x00000013, 0x00000517, 0xFFC50513],
-    )?;
-    let (_, back) = assemble(alloc, "m: .space 4096\n_start: la a0,m")?;
-    assert_eq!(rt; back.rows().len(), 1026);
-    let words: [u32; 2] = [0xFFFFF517, 0x00050513];
-    for (row, word) in back.rows().iter().skip(1024).zip(words) {
-        assert_eq!(rt; row.word, word);
-    }
-    let (_, ahead) = assemble(alloc, "_start: la a0,m\n.space 2040\nm: nop")?;
-    assert_eq!(rt; ahead.rows().len(), 513);
-    let words: [u32; 2] = [0x00001517, 0x80050513];
-    for (row, word) in ahead.rows().iter().zip(words) {
-        assert_eq!(rt; row.word, word);
-    }
-    let (image, _) = assemble(alloc, "nop\n_start: ecall")?;
-    assert_eq!(rt; image.entry(), 0x00010004);
-    Ok(())
-}
-
-#[test]
-fn sixty_pages(rt: HostRuntime) -> Result<(), Fail> {
-    let alloc = rt.alloc();
-    let (image, listing) = assemble(alloc, "_start: .space 245760")?;
-    assert_eq!(rt; image.segments().len(), 1);
-    assert_eq!(rt; listing.rows().len(), 61440);
-    let (image, _) = assemble(alloc, "_start: .space 241664\n.data\n.space 4096")?;
-    assert_eq!(rt; image.segments().len(), 2);
-    assert_eq!(rt;
-        image.segments().last().map(|data| data.vaddr),
-        Some(0x4B000)
-    );
-    assert_fault(
-        &rt,
-        alloc,
-        "_start: .space 241664\n.data\n.space 4097",
-        Cause::TooLarge,
-        1,
-        1,
-    );
-    Ok(())
-}
-
-#[test]
-fn order_of_faults(rt: HostRuntime) {
-    let alloc = rt.alloc();
-    let cases = [
-        ("_start: foo\n nop @", Cause::Syntax, 2, 6),
-        ("_start: nop\n_start: .space -4", Cause::DoubleLabel, 2, 1),
-        ("_start: nop\n.foo: .space -4", Cause::Syntax, 2, 1),
-        (".foo: bar\n_start: nop\n_start: nop", Cause::Syntax, 1, 1),
-        (
-            "_start: nop\n_start: nop\n.foo: nop",
-            Cause::DoubleLabel,
-            2,
-            1,
-        ),
-        ("nop\n_start:", Cause::NoStart, 1, 1),
-        ("_start: j foo+4", Cause::UnknownName, 1, 11),
-        ("_start: j foo-4", Cause::UnknownName, 1, 11),
-        ("_start: lw a0,2048(sp)", Cause::Range, 1, 15),
-        ("_start: sw a0,-2049(sp)", Cause::Range, 1, 15),
-        ("_start: lui a0,0x100000", Cause::Range, 1, 16),
-    ];
-    for (source, why, line, column) in cases {
-        assert_fault(&rt, alloc, source, why, line, column);
-    }
-}
-
-#[test]
-fn reach_of_a_branch(rt: HostRuntime) -> Result<(), Fail> {
-    let alloc = rt.alloc();
-    let near = "_start: beq zero,zero,L\n.space 4088\nL: ecall";
-    let (_, listing) = assemble(alloc, near)?;
-    assert_eq!(rt; listing.rows().len(), 1024);
-    assert_eq!(rt;
-        listing.rows().first().map(|row| row.word),
-        Some(0x7E000EE3)
-    );
-    assert_fault(
-        &rt,
-        alloc,
-        "_start: beq zero,zero,L\n.space 4092\nL: ecall",
-        Cause::Range,
-        1,
-        23,
-    );
-    assert_fault(
-        &rt,
-        alloc,
-        "_start: beq zero,zero,L+2\n.space 4088\nL: ecall",
-        Cause::Range,
-        1,
-        23,
-    );
-    assert_words(&rt, alloc, "_start: beq a0,a1,-4096", &[0x80B50063])?;
-    assert_fault(&rt, alloc, "_start: beq a0,a1,-4100", Cause::Range, 1, 19);
-    assert_words(&rt, alloc, "_start: jal ra,1048572", &[0x7FDFF0EF])?;
-    assert_fault(&rt, alloc, "_start: jal ra,1048576", Cause::Range, 1, 16);
-    assert_words(&rt, alloc, "_start: jal ra,-1048576", &[0x800000EF])
-}
-
-#[test]
-fn first_program(rt: HostRuntime) -> Result<(), Fail> {
-    let source =
-        "_start: li t0,0x66\n sw t0,-4(sp)\n addi a0,sp,-4\n li a1,1\n li a2,2\n li a7,4\n ecall\n\
-        \n li t0,65\n sw t0,-4(sp)\n addi a1,sp,-4\n li a2,3\n li a7,2\n ecall\n li a0,1\n li a2,1\n ecall\n\
-        \n li a0,0\n li a7,1\n ecall\n";
-    let words = [
-        0x06600293, 0xfe512e23, 0xffc10513, 0x00100593, 0x00200613, 0x00400893, 0x00000073,
-        0x04100293, 0xfe512e23, 0xffc10593, 0x00300613, 0x00200893, 0x00000073, 0x00100513,
-        0x00100613, 0x00000073, 0x00000513, 0x00100893, 0x00000073,
-    ];
-    let alloc = rt.alloc();
-    assert_words(&rt, alloc, source, &words)?;
-    let (image, _) = assemble(alloc, source)?;
-    assert_eq!(rt; write(alloc, &image)?.len(), 4172);
-    Ok(())
-}
-
-#[test]
-fn text_and_data(rt: HostRuntime) -> Result<(), Fail> {
-    let alloc = rt.alloc();
-    let source = "_start: la a0,m\necall\n.data\nm: .byte 1";
-    assert_words(&rt, alloc, source, &[0x00001517, 0x00050513, 0x00000073])?;
-    let (image, listing) = assemble(alloc, source)?;
-    assert_eq!(rt; write(alloc, &image)?.len(), 8193);
-    assert_eq!(rt; image.entry(), 0x00010000);
-    let lines: [(u32, usize); 3] = [(0x10000, 1), (0x10004, 1), (0x10008, 2)];
-    for (row, (address, line)) in listing.rows().iter().zip(lines) {
-        assert_eq!(rt; row.address, address);
-        assert_eq!(rt; row.line, line);
-    }
-    let bytes =
-        "_start: ecall\n.data\n.byte -128,255\n.ascii \"a\\n\"\n.word -1,0x10203040\n.space 3\nnop";
-    let (image, _) = assemble(alloc, bytes)?;
-    assert_eq!(rt; image.segments().len(), 2);
-    if let Some(data) = image.segments().last() {
-        let wanted = [
-            0x80, 0xff, 0x61, 0x0a, 0xff, 0xff, 0xff, 0xff, 0x40, 0x30, 0x20, 0x10, 0, 0, 0, 0x13,
-            0, 0, 0,
-        ];
-        assert_eq!(rt; data.bytes.as_slice(), wanted.as_slice());
-        assert_eq!(rt; data.vaddr, 0x11000);
-    }
-    Ok(())
-}
-
-#[test]
-fn one_instruction(rt: HostRuntime) -> Result<(), Fail> {
-    let alloc = rt.alloc();
-    let (image, _) = assemble(alloc, "_start: ecall")?;
-    let file = write(alloc, &image)?;
-    assert_eq!(rt; file.len(), 4100);
-    let head: [u8; 84] = [
-        0x7f, 0x45, 0x4c, 0x46, 1, 1, 1, 0, 0, 0, 0, 0, 0, 0, 0, 0, 2, 0, 0xf3, 0, 1, 0, 0, 0, 0,
-        0, 1, 0, 0x34, 0, 0, 0, 0, 0, 0, 0, 0, 0, 0, 0, 0x34, 0, 0x20, 0, 1, 0, 0, 0, 0, 0, 0, 0,
-        1, 0, 0, 0, 0, 0x10, 0, 0, 0, 0, 1, 0, 0, 0, 1, 0, 4, 0, 0, 0, 4, 0, 0, 0, 5, 0, 0, 0, 0,
-        0x10, 0, 0,
-    ];
-    for (i, byte) in file.iter().enumerate() {
-        let wanted = if i < 84 {
-            head[i]
-        } else if i == 4096 {
-            0x73
-        } else {
-            0
-        };
-        assert_eq!(rt; *byte, wanted, "byte {i}");
-    }
-    Ok(())
-}
-
-#[test]
-fn pseudo_instructions(rt: HostRuntime) -> Result<(), Fail> {
-    let alloc = rt.alloc();
-    let cases = [
-        ("nop", 0x00000013),
-        ("mv a0,a1", 0x00058513),
-        ("not a0,a1", 0xFFF5C513),
-        ("neg a0,a1", 0x40B00533),
-        ("seqz a0,a1", 0x0015B513),
-        ("snez a0,a1", 0x00B03533),
-        ("sltz a0,a1", 0x0005A533),
-        ("sgtz a0,a1", 0x00B02533),
-        ("beqz a0,8", 0x00050463),
-        ("bnez a0,8", 0x00051463),
-        ("blez a0,8", 0x00A05463),
-        ("bgez a0,8", 0x00055463),
-        ("bltz a0,8", 0x00054463),
-        ("bgtz a0,8", 0x00A04463),
-        ("bgt a0,a1,8", 0x00A5C463),
-        ("ble a0,a1,8", 0x00A5D463),
-        ("bgtu a0,a1,8", 0x00A5E463),
-        ("bleu a0,a1,8", 0x00A5F463),
-        ("j 8", 0x0080006F),
-        ("jal 8", 0x008000EF),
-        ("call 8", 0x008000EF),
-        ("jr a0", 0x00050067),
-        ("jalr a0", 0x000500E7),
-        ("ret", 0x00008067),
-    ];
-    for (statement, word) in cases {
-        let source = format!(in alloc; "_start: {statement}")?;
-        assert_words(&rt, alloc, source.as_str(), &[word])?;
-    }
-    Ok(())
-}
-
-#[test]
-fn instructions(rt: HostRuntime) -> Result<(), Fail> {
-    let alloc = rt.alloc();
-    let cases = [
-        ("add a0,a0,a1", 0x00B50533),
-        ("mul a0 , a0,\ta1 # a comment \u{e9}", 0x02B50533),
-        ("lui t0,0x12345", 0x123452B7),
-        ("auipc x5,0xFFFFF", 0xFFFFF297),
-        ("sw a0,0(sp)", 0x00A12023),
-        ("lw a0, -4 ( sp )", 0xFFC12503),
-        ("beq zero,zero,-4", 0xFE000EE3),
-        ("jalr ra,1(ra)", 0x001080E7),
-        ("jal ra,8", 0x008000EF),
-        ("srai a0,a0,31", 0x41F55513),
-        ("fence", 0x0FF0000F),
-        ("ebreak", 0x00100073),
-        ("addi fp,x8,-1", 0xFFF40413),
-        (".word 0xFFFFFFFF", 0xFFFFFFFF),
-    ];
-    for (statement, word) in cases {
-        let source = format!(in alloc; "_start: {statement}")?;
-        assert_words(&rt, alloc, source.as_str(), &[word])?;
-    }
-    assert_words(
-        &rt,
-        alloc,
+    ),
+    (
         "ra: nop\n_start: jal ra\nj _start-4\nj ra+4\nadd: j add--4",
         &[0x00000013, 0xFFDFF0EF, 0xFF9FF06F, 0xFF9FF06F, 0x0040006F],
-    )
+    ),
+    // Programs.
+    (TEXT_AND_DATA, &[0x00001517, 0x00050513, 0x00000073]),
+    (
+        FIRST_PROGRAM,
+        &[
+            0x06600293, 0xfe512e23, 0xffc10513, 0x00100593, 0x00200613, 0x00400893, 0x00000073,
+            0x04100293, 0xfe512e23, 0xffc10593, 0x00300613, 0x00200893, 0x00000073, 0x00100513,
+            0x00100613, 0x00000073, 0x00000513, 0x00100893, 0x00000073,
+        ],
+    ),
+];
+
+/// Sources, how many words their text has, and the place, the address, the word and the line of one of them.
+const ROWS: &[(&str, usize, usize, u32, u32, usize)] = &[
+    (FAR_BACK, 1026, 1024, 0x11000, 0xFFFFF517, 2),
+    (FAR_BACK, 1026, 1025, 0x11004, 0x00050513, 2),
+    (FAR_AHEAD, 513, 0, 0x10000, 0x00001517, 1),
+    (FAR_AHEAD, 513, 1, 0x10004, 0x80050513, 1),
+    (FARTHEST_BRANCH, 1024, 0, 0x10000, 0x7E000EE3, 1),
+    (SIXTY_PAGES, 61440, 61439, 0x4BFFC, 0x00000000, 1),
+    (TEXT_AND_DATA, 3, 0, 0x10000, 0x00001517, 1),
+    (TEXT_AND_DATA, 3, 1, 0x10004, 0x00050513, 1),
+    (TEXT_AND_DATA, 3, 2, 0x10008, 0x00000073, 2),
+];
+
+/// Sources, and of their images the entry, the number of segments, the address and the length of the last one's bytes,
+/// and the length of the file.
+const IMAGES: &[(&str, u32, usize, u32, usize, usize)] = &[
+    ("_start: ecall", 0x10000, 1, 0x10000, 4, 4100),
+    ("nop\n_start: ecall", 0x10004, 1, 0x10000, 8, 4104),
+    (SIXTY_PAGES, 0x10000, 1, 0x10000, 245760, 249856),
+    (SIXTY_WITH_DATA, 0x10000, 2, 0x4B000, 4096, 249856),
+    (FIRST_PROGRAM, 0x10000, 1, 0x10000, 76, 4172),
+    (TEXT_AND_DATA, 0x10000, 2, 0x11000, 1, 8193),
+    (DATA, 0x10000, 2, 0x11000, 19, 8211),
+];
+
+/// Sources that are refused, with the cause, the line and the column.
+const FAULTS: &[(&str, Cause, usize, usize)] = &[
+    ("_start: foo\n nop @", Syntax, 2, 6),
+    ("_start: nop\n_start: .space -4", DoubleLabel, 2, 1),
+    ("_start: nop\n.foo: .space -4", Syntax, 2, 1),
+    (".foo: bar\n_start: nop\n_start: nop", Syntax, 1, 1),
+    ("_start: nop\n_start: nop\n.foo: nop", DoubleLabel, 2, 1),
+    ("nop\n_start:", NoStart, 1, 1),
+    ("_start: j foo+4", UnknownName, 1, 11),
+    ("_start: j foo-4", UnknownName, 1, 11),
+    ("_start: lw a0,2048(sp)", Range, 1, 15),
+    ("_start: sw a0,-2049(sp)", Range, 1, 15),
+    ("_start: lui a0,0x100000", Range, 1, 16),
+    ("_start: .space 241664\n.data\n.space 4097", TooLarge, 1, 1),
+    (
+        "_start: beq zero,zero,L\n.space 4092\nL: ecall",
+        Range,
+        1,
+        23,
+    ),
+    (
+        "_start: beq zero,zero,L+2\n.space 4088\nL: ecall",
+        Range,
+        1,
+        23,
+    ),
+    ("_start: beq a0,a1,-4100", Range, 1, 19),
+    ("_start: jal ra,1048576", Range, 1, 16),
+    ("", NoStart, 1, 1),
+    ("_start:", NoStart, 1, 1),
+    ("nop\n.data\n_start: nop", NoStart, 1, 1),
+    ("_start: nop\n foo a0", Syntax, 2, 2),
+    ("_start: add a0,a1", Syntax, 1, 18),
+    ("_start: add a0,a1 # more", Syntax, 1, 25),
+    ("_start: add a0,a1,a2,", Syntax, 1, 21),
+    ("_start: add a0,a1,2", Syntax, 1, 19),
+    ("_start: addi a0,a1,a2", Syntax, 1, 20),
+    ("_start: .byte 1", Syntax, 1, 9),
+    ("_start: .ascii \"a\"", Syntax, 1, 9),
+    ("_start: .word", Syntax, 1, 14),
+    ("_start: .word 1,", Syntax, 1, 17),
+    ("_start : nop", Syntax, 1, 1),
+    (".start: nop", Syntax, 1, 1),
+    ("_start: j _start + 4", Syntax, 1, 18),
+    ("_start: j _start+ 4", Syntax, 1, 19),
+    ("_start: la a0,_start+4", Syntax, 1, 21),
+    ("_start: nop\n\n_start: foo", DoubleLabel, 3, 1),
+    ("_start: .space 2", Range, 1, 16),
+    ("_start: .space -4", Range, 1, 16),
+    ("_start: .space 245764", TooLarge, 1, 1),
+    (".space 245764", TooLarge, 1, 1),
+    ("_start: .space 4\n.data\n.space 241665", TooLarge, 1, 1),
+    (
+        ".space 4294967292\n.space 4294967292\n_start: nop",
+        TooLarge,
+        1,
+        1,
+    ),
+    ("_start: nop\n.data\n.byte 0,256,foo", Syntax, 3, 13),
+    ("_start: nop\n.data\n.byte 0,256,257", Range, 3, 9),
+    ("_start: nop\n.data\n.byte -129", Range, 3, 7),
+    ("_start: j foo", UnknownName, 1, 11),
+    ("_start: addi a0,a0,2048\nj foo", Range, 1, 20),
+    ("_start: j foo\naddi a0,a0,2048", UnknownName, 1, 11),
+    ("_start: addi a0,a0,2048\nfoo", Syntax, 2, 1),
+    ("_start: lui a0,-1", Range, 1, 16),
+    ("_start: slli a0,a0,32", Range, 1, 20),
+    ("_start: nop\n nop \"a", Syntax, 2, 6),
+];
+
+/// How many words a source's text has, and the row of one of them.
+fn row_of(alloc: Global, source: &str, place: usize) -> Result<(usize, Option<Row>), AsmFault> {
+    let (_, listing) = assemble(alloc, source)?;
+    Ok((listing.rows().len(), listing.rows().get(place).copied()))
+}
+
+/// How many words a source's text has, and one of them.
+fn word_of(alloc: Global, source: &str, place: usize) -> Result<(usize, Option<u32>), AsmFault> {
+    let (count, row) = row_of(alloc, source, place)?;
+    Ok((count, row.map(|row| row.word)))
+}
+
+/// Why a source is refused.
+fn fault_of(alloc: Global, source: &str) -> Option<AsmFault> {
+    assemble(alloc, source).err()
+}
+
+/// Of a source's image the entry, the number of segments, and the address and the length of the last one's bytes.
+fn image_of(alloc: Global, source: &str) -> Result<(u32, usize, u32, usize), AsmFault> {
+    let (image, _) = assemble(alloc, source)?;
+    let (mut vaddr, mut len) = (0, 0);
+    if let Some(last) = image.segments().last() {
+        vaddr = last.vaddr;
+        len = last.bytes.as_slice().len();
+    }
+    Ok((image.entry(), image.segments().len(), vaddr, len))
+}
+
+/// The file of a source's image.
+fn file_of(alloc: Global, source: &str) -> Result<Vec<u8>, AsmFault> {
+    let (image, _) = assemble(alloc, source)?;
+    Ok(write(alloc, &image)?)
+}
+
+/// The length of the file of a source's image.
+fn file_len(alloc: Global, source: &str) -> Result<usize, AsmFault> {
+    let file = file_of(alloc, source)?;
+    Ok(file.len())
+}
+
+/// A source's text has these words.
+fn assert_words(rt: &impl Abort, alloc: Global, source: &str, words: &[u32]) {
+    for (place, word) in words.iter().enumerate() {
+        let listed = word_of(alloc, source, place);
+        assert_row(rt, &source, &listed, &Ok((words.len(), Some(*word))));
+    }
+}
+
+#[test]
+fn words(rt: HostRuntime) {
+    for &(source, words) in WORDS {
+        assert_words(&rt, rt.alloc(), source, words);
+    }
+}
+
+#[test]
+fn rows(rt: HostRuntime) {
+    for &(source, count, place, address, word, line) in ROWS {
+        let row = Row {
+            address,
+            word,
+            line,
+        };
+        let listed = row_of(rt.alloc(), source, place);
+        assert_row(&rt, &source, &listed, &Ok((count, Some(row))));
+    }
+}
+
+#[test]
+fn images(rt: HostRuntime) {
+    for &(source, entry, count, vaddr, len, file) in IMAGES {
+        let image = image_of(rt.alloc(), source);
+        let written = file_len(rt.alloc(), source);
+        assert_row(&rt, &source, &image, &Ok((entry, count, vaddr, len)));
+        assert_row(&rt, &source, &written, &Ok(file));
+    }
+}
+
+#[test]
+fn files(rt: HostRuntime) -> Result<(), AsmFault> {
+    assert!(rt; is_one_call(&file_of(rt.alloc(), "_start: ecall")?));
+    assert!(rt; file_of(rt.alloc(), DATA)?.ends_with(&DATA_BYTES));
+    Ok(())
 }
 
 #[test]
 fn faults(rt: HostRuntime) {
-    let alloc = rt.alloc();
-    assert_fault(&rt, alloc, "", Cause::NoStart, 1, 1);
-    assert_fault(&rt, alloc, "_start:", Cause::NoStart, 1, 1);
-    assert_fault(&rt, alloc, "nop\n.data\n_start: nop", Cause::NoStart, 1, 1);
-    assert_fault(&rt, alloc, "_start: nop\n foo a0", Cause::Syntax, 2, 2);
-    assert_fault(&rt, alloc, "_start: add a0,a1", Cause::Syntax, 1, 18);
-    assert_fault(&rt, alloc, "_start: add a0,a1 # more", Cause::Syntax, 1, 25);
-    assert_fault(&rt, alloc, "_start: add a0,a1,a2,", Cause::Syntax, 1, 21);
-    assert_fault(&rt, alloc, "_start: add a0,a1,2", Cause::Syntax, 1, 19);
-    assert_fault(&rt, alloc, "_start: addi a0,a1,a2", Cause::Syntax, 1, 20);
-    assert_fault(&rt, alloc, "_start: .byte 1", Cause::Syntax, 1, 9);
-    assert_fault(&rt, alloc, "_start: .ascii \"a\"", Cause::Syntax, 1, 9);
-    assert_fault(&rt, alloc, "_start: .word", Cause::Syntax, 1, 14);
-    assert_fault(&rt, alloc, "_start: .word 1,", Cause::Syntax, 1, 17);
-    assert_fault(&rt, alloc, "_start : nop", Cause::Syntax, 1, 1);
-    assert_fault(&rt, alloc, ".start: nop", Cause::Syntax, 1, 1);
-    assert_fault(&rt, alloc, "_start: j _start + 4", Cause::Syntax, 1, 18);
-    assert_fault(&rt, alloc, "_start: j _start+ 4", Cause::Syntax, 1, 19);
-    assert_fault(&rt, alloc, "_start: la a0,_start+4", Cause::Syntax, 1, 21);
-    assert_fault(
-        &rt,
-        alloc,
-        "_start: nop\n\n_start: foo",
-        Cause::DoubleLabel,
-        3,
-        1,
-    );
-    assert_fault(&rt, alloc, "_start: .space 2", Cause::Range, 1, 16);
-    assert_fault(&rt, alloc, "_start: .space -4", Cause::Range, 1, 16);
-    assert_fault(&rt, alloc, "_start: .space 245764", Cause::TooLarge, 1, 1);
-    assert_fault(&rt, alloc, ".space 245764", Cause::TooLarge, 1, 1);
-    assert_fault(
-        &rt,
-        alloc,
-        "_start: .space 4\n.data\n.space 241665",
-        Cause::TooLarge,
-        1,
-        1,
-    );
-    assert_fault(
-        &rt,
-        alloc,
-        ".space 4294967292\n.space 4294967292\n_start: nop",
-        Cause::TooLarge,
-        1,
-        1,
-    );
-    assert_fault(
-        &rt,
-        alloc,
-        "_start: nop\n.data\n.byte 0,256,foo",
-        Cause::Syntax,
-        3,
-        13,
-    );
-    assert_fault(
-        &rt,
-        alloc,
-        "_start: nop\n.data\n.byte 0,256,257",
-        Cause::Range,
-        3,
-        9,
-    );
-    assert_fault(
-        &rt,
-        alloc,
-        "_start: nop\n.data\n.byte -129",
-        Cause::Range,
-        3,
-        7,
-    );
-    assert_fault(&rt, alloc, "_start: j foo", Cause::UnknownName, 1, 11);
-    assert_fault(
-        &rt,
-        alloc,
-        "_start: addi a0,a0,2048\nj foo",
-        Cause::Range,
-        1,
-        20,
-    );
-    assert_fault(
-        &rt,
-        alloc,
-        "_start: j foo\naddi a0,a0,2048",
-        Cause::UnknownName,
-        1,
-        11,
-    );
-    assert_fault(
-        &rt,
-        alloc,
-        "_start: addi a0,a0,2048\nfoo",
-        Cause::Syntax,
-        2,
-        1,
-    );
-    assert_fault(&rt, alloc, "_start: lui a0,-1", Cause::Range, 1, 16);
-    assert_fault(&rt, alloc, "_start: slli a0,a0,32", Cause::Range, 1, 20);
-    assert_fault(&rt, alloc, "_start: nop\n nop \"a", Cause::Syntax, 2, 6);
+    for &(source, why, line, column) in FAULTS {
+        let fault = AsmFault { why, line, column };
+        assert_row(&rt, &source, &fault_of(rt.alloc(), source), &Some(fault));
+    }
 }
 
-#[test]
-fn thousands_of_lines(rt: HostRuntime) -> Result<(), Fail> {
-    let alloc = rt.alloc();
-    let mut source = String::from_str(alloc, "_start: nop\n")?;
+/// Appends a source of 3,001 words of text and 6,000 bytes of data.
+fn push_thousands(source: &mut String) -> Result<(), AllocError> {
+    source.push_str("_start: nop\n")?;
     for number in 0..3000u32 {
         write!(source, "label_{number}: beqz a0,label_{number}\n")?;
     }
-    source.push_str(".data\n")?;
-    for _ in 0..3000 {
-        source.push_str(".byte 1,2\n")?;
-    }
-    let (image, listing) = assemble(alloc, source.as_str())?;
-    assert_eq!(rt; listing.rows().len(), 3001);
-    if let Some(row) = listing.rows().last() {
-        assert_eq!(rt;
-            (row.address, row.word, row.line),
-            (0x12EE0, 0x00050063, 3001)
-        );
-    }
-    assert_eq!(rt;
-        image
-            .segments()
-            .last()
-            .map(|data| data.bytes.as_slice().len()),
-        Some(6000)
-    );
-    Ok(())
+    push_repeated(source, (".data\n", ".byte 1,2\n", 3000, ""))
 }
 
 #[test]
-fn long_sources(rt: HostRuntime) -> Result<(), Fail> {
-    let alloc = rt.alloc();
-    let mut source = String::from_str(alloc, "_start: ecall\n#")?;
-    for _ in 0..16383 {
-        source.push_str("................................................................")?;
-    }
-    source.push_str(".................................................")?;
-    assert_eq!(rt; source.len(), 1_048_576);
-    assert_words(&rt, alloc, source.as_str(), &[0x00000073])?;
+fn thousands_of_lines(rt: HostRuntime) -> Result<(), AllocError> {
+    let mut source = String::new(rt.alloc());
+    push_thousands(&mut source)?;
+    let last = Row {
+        address: 0x12EE0,
+        word: 0x00050063,
+        line: 3001,
+    };
+    let text = row_of(rt.alloc(), &source, 3000);
+    assert_row(&rt, &"text", &text, &Ok((3001, Some(last))));
+    let data = image_of(rt.alloc(), &source);
+    assert_row(&rt, &"data", &data, &Ok((0x10000, 2, 0x13000, 6000)));
+    Ok(())
+}
+
+/// Appends a source of 1,048,576 bytes.
+fn push_longest(source: &mut String) -> Result<(), AllocError> {
+    let dots = "................................................................";
+    let end = ".................................................";
+    push_repeated(source, ("_start: ecall\n#", dots, 16383, end))
+}
+
+#[test]
+fn long_sources(rt: HostRuntime) -> Result<(), AllocError> {
+    let mut source = String::new(rt.alloc());
+    push_longest(&mut source)?;
+    assert_row(&rt, &"length", &source.len(), &1_048_576);
+    let word = word_of(rt.alloc(), &source, 0);
+    assert_row(&rt, &"word", &word, &Ok((1, Some(0x00000073))));
     source.push_str(".")?;
-    assert_fault(&rt, alloc, source.as_str(), Cause::TooLarge, 1, 1);
+    let fault = fault_of(rt.alloc(), &source);
+    let wanted = AsmFault {
+        why: TooLarge,
+        line: 1,
+        column: 1,
+    };
+    assert_row(&rt, &"one byte more", &fault, &Some(wanted));
     Ok(())
 }

@@ -1,13 +1,18 @@
 //! A group on a worked disk.
-ghost use Rattle.std.specs.Prelude.{◌≡◌, OnOk};
+ghost use Rattle.std.specs.Prelude.{◌≡◌, IfOk, OnOk, [], ◌∷◌};
+ghost use Rattle.std.specs.List.{AllByRecursion};
+ghost use Rattle.disk_model.specs.declared.change.Change.TheVariants.{Create, Write};
 ghost use Rattle.disk_model.specs.Files.{IsFormed, IsMade, MayCome, changed};
 
+use crate::asserting::assert_row;
 use byte_list::Bytes;
 use disk_model::{Change, made_files_change};
 use files::FileTable;
-use group_commit::{CommitRefusal, Committer};
+use group_commit::CommitRefusal::{DiskFailed, GroupInFlight, NoSuchWrite, NothingToCut};
+use group_commit::Committer;
 use simdisk::SimDisk;
 use std::alloc::{AllocError, Global};
+use std::process::Abort;
 use std::test::Fail;
 
 /// The first gate of a disk of zeros.
@@ -25,43 +30,72 @@ fn grow(files: &mut FileTable, change: &Change) -> Result<(), AllocError>
     files.change(change)
 }
 
-#[test]
-fn a_group_is_a_record_and_then_its_gate(rt: HostRuntime) -> Result<(), Fail> {
-    let alloc = rt.alloc();
-    let changes = [
-        Change::Create(Bytes::copy_of(alloc, b"f")?),
-        Change::Write {
-            file: 0,
-            offset: 0,
-            bytes: Bytes::copy_of(alloc, b"A\0\0")?,
-        },
-    ];
+/// A file is created, and bytes are written to it.
+fn two_changes(alloc: Global) -> Result<Vec<Change>, AllocError>
+    ensures { IfOk result (λ changes. changes.items ≡ Create (102 ∷ []) ∷ Write 0 0 (65 ∷ 0 ∷ 0 ∷ []) ∷ []) }
+{
+    let mut changes = Vec::new(alloc);
+    changes.push(Change::Create(Bytes::copy_of(alloc, b"f")?))?;
+    changes.push(Change::Write {
+        file: 0,
+        offset: 0,
+        bytes: Bytes::copy_of(alloc, b"A\0\0")?,
+    })?;
+    Ok(changes)
+}
+
+/// The files that two changes make.
+fn files_of(alloc: Global, changes: &[Change]) -> Result<FileTable, AllocError>
+    requires { changes.now ≡ Create (102 ∷ []) ∷ Write 0 0 (65 ∷ 0 ∷ 0 ∷ []) ∷ [] }
+    ensures { IfOk result IsMade }
+{
     let mut files = FileTable::new(alloc);
     grow(&mut files, &changes[0])?;
     grow(&mut files, &changes[1])?;
+    Ok(files)
+}
+
+/// A committer commits a group of two changes by its record and then its gate, and the next group's first write fails.
+fn assert_groups(
+    rt: &impl Abort,
+    alloc: Global,
+    committer: &mut Committer,
+    changes: &[Change],
+    files: &FileTable,
+)
+    requires possible { IsMade files.now }
+    requires formed { AllByRecursion IsFormed changes.now }
+{
+    assert_row(rt, &"wanted", &committer.wants_cut(true), &true);
+    let nothing = committer.cut(alloc, &[], files);
+    assert_row(rt, &"nothing", &nothing, &Err(NothingToCut));
+    let cut = committer.cut(alloc, changes, files);
+    assert_row(rt, &"first cut", &cut, &Ok((2, 2)));
+    let again = committer.may_cut(changes);
+    assert_row(rt, &"in flight", &again, &Err(GroupInFlight));
+    assert_row(rt, &"early", &committer.completed(64), &Err(NoSuchWrite));
+    let flight = (committer.in_flight(), committer.is_in_flight(65));
+    assert_row(rt, &"places", &flight, &(Some(65), true));
+    assert_row(rt, &"record", &committer.completed(65), &Ok(0));
+    assert_row(rt, &"gate", &committer.completed(64), &Ok(2));
+    assert_row(rt, &"committed", &committer.committed(), &2);
+    let cut = committer.cut(alloc, changes, files);
+    assert_row(rt, &"next cut", &cut, &Ok((2, 2)));
+    let failed = (committer.failed(85), committer.has_failed());
+    assert_row(rt, &"failed", &failed, &(Ok(()), true));
+    let again = committer.may_cut(changes);
+    assert_row(rt, &"after it", &again, &Err(DiskFailed));
+}
+
+#[test]
+fn a_group_is_a_record_and_then_its_gate(rt: HostRuntime) -> Result<(), Fail> {
+    let alloc = rt.alloc();
+    let changes = two_changes(alloc)?;
+    let files = files_of(alloc, &changes)?;
     let mut committer = Committer::new(alloc, SimDisk::zero(alloc)?, FIRST_GATE);
-    assert!(rt; committer.wants_cut(true));
-    assert_eq!(rt;
-        committer.cut(alloc, &[], &files),
-        Err(CommitRefusal::NothingToCut)
-    );
-    assert_eq!(rt; committer.cut(alloc, &changes, &files), Ok((2, 2)));
-    assert_eq!(rt;
-        committer.may_cut(&changes),
-        Err(CommitRefusal::GroupInFlight)
-    );
-    assert_eq!(rt; committer.completed(64), Err(CommitRefusal::NoSuchWrite));
-    assert_eq!(rt; committer.in_flight(), Some(65));
-    assert!(rt; committer.is_in_flight(65));
-    assert_eq!(rt; committer.completed(65), Ok(0));
-    assert_eq!(rt; committer.completed(64), Ok(2));
-    assert_eq!(rt; committer.committed(), 2);
-    assert_eq!(rt; committer.cut(alloc, &changes, &files)?, (2, 2));
-    committer.failed(85)?;
-    assert!(rt; committer.has_failed());
-    assert_eq!(rt; committer.may_cut(&changes), Err(CommitRefusal::DiskFailed));
+    assert_groups(&rt, alloc, &mut committer, &changes, &files);
     let device = committer.crash(b"");
     let record = b"\x01\x0f\0\0\0\x01\x01f\x02\0\0\0\0\0\0\x03\0A\0\0\0";
-    assert_eq!(rt; &device.bytes()[64..85], record.as_slice());
+    assert!(rt; device.bytes()[64..].starts_with(record));
     Ok(())
 }

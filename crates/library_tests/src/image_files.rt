@@ -1,10 +1,10 @@
 //! A small program's file, that file with a fault in each place, and files of two segments.
 ghost use Rattle.std.specs.Prelude.{◌≡◌, IfOk, length};
 
+use crate::asserting::{assert_row, assert_shown};
 use elf32::{ElfFault, Image, parse, write};
 use machine_model::Rights;
 use std::alloc::{AllocError, Global};
-use std::test::Fail;
 
 const ECALL: u32 = 0x0000_0073;
 
@@ -24,16 +24,129 @@ const SECOND: [u8; 32] = [
     0x04, 0, 0, 0, 0x04, 0, 0, 0, 0x04, 0, 0, 0, 0, 0x10, 0, 0, //
 ];
 
+/// Lengths to which the small file is cut or lengthened, bytes that it has at places, and the number of its fault, 0
+/// where it has none.
+const FAULTS: &[(usize, &[(usize, u8)], u8)] = &[
+    (0, &[], 1),
+    (51, &[], 1),
+    (52, &[], 6),
+    (83, &[], 6),
+    (84, &[], 9),
+    (4099, &[], 9),
+    (4100, &[], 0),
+    (4101, &[], 0),
+    // One byte.
+    (4101, &[(3, 0x47)], 2),
+    (4101, &[(4, 2)], 3),
+    (4101, &[(15, 1)], 3),
+    (4101, &[(16, 3)], 4),
+    (4101, &[(18, 0x3e)], 4),
+    (4101, &[(20, 2)], 4),
+    (4101, &[(28, 0x54)], 5),
+    (4101, &[(33, 1)], 5),
+    (4101, &[(36, 1)], 5),
+    (4101, &[(40, 0x40)], 5),
+    (4101, &[(42, 0x38)], 5),
+    (4101, &[(44, 0)], 5),
+    (4101, &[(44, 5)], 5),
+    (4101, &[(46, 0x28)], 5),
+    (4101, &[(48, 1)], 5),
+    (4101, &[(50, 1)], 5),
+    (4101, &[(52, 2)], 7),
+    (4101, &[(56, 4)], 7),
+    (4101, &[(76, 0)], 7),
+    (4101, &[(76, 7)], 7),
+    (4101, &[(76, 8)], 7),
+    (4101, &[(81, 0x20)], 7),
+    (4101, &[(68, 5)], 8),
+    (4101, &[(59, 0xff)], 9),
+    (4101, &[(24, 2)], 12),
+    (4101, &[(24, 4)], 12),
+    (4101, &[(76, 4)], 12),
+    // The physical address says nothing.
+    (4101, &[(66, 0x44)], 0),
+    // No memory.
+    (4100, &[(68, 0), (72, 0)], 7),
+    // Below 0x00010000, with the entry there.
+    (4100, &[(62, 0), (26, 0)], 10),
+    // From 0x7FFF0000 on.
+    (4100, &[(63, 0x7f), (62, 0xff)], 10),
+    // Sixty-one pages, and sixty.
+    (4100, &[(73, 0xc0), (74, 0x03)], 10),
+    (4100, &[(73, 0xbf), (74, 0x03)], 0),
+    // Its bytes also pass the end, and in the shorter file all of them do.
+    (4100, &[(68, 5)], 8),
+    (84, &[(68, 5)], 8),
+    // Each fault in turn, until the file has none but its length.
+    (83, &[(0, 0), (4, 0), (16, 0), (44, 0)], 2),
+    (83, &[(4, 0), (16, 0), (44, 0)], 3),
+    (83, &[(16, 0), (44, 0)], 4),
+    (83, &[(44, 0)], 5),
+    (83, &[], 6),
+];
+
+/// At 0x00011800 eight bytes of memory, none of the file.
+const NO_BYTES: &[(usize, u8)] = &[(93, 0x18), (100, 0), (104, 8), (108, 6)];
+
+/// The same of the file with the second header.
+const FAULTS_OF_TWO: &[(usize, &[(usize, u8)], u8)] = &[
+    // The second header's fault, of an earlier check, wins over the first header's.
+    (0x1804, &[(108, 0), (68, 5)], 7),
+    // They share a page.
+    (0x1804, &[], 11),
+    // Below the first segment.
+    (0x1804, &[(94, 0x00)], 10),
+    (0x1804, &[(93, 0x18)], 0),
+    (0x17ff, NO_BYTES, 9),
+    (0x1800, NO_BYTES, 0),
+];
+
+/// Faults with their numbers and names.
+const NAMES: &[(ElfFault, u8, &str)] = &[
+    (ElfFault::Short, 1, "Short"),
+    (ElfFault::BadMagic, 2, "BadMagic"),
+    (ElfFault::BadIdent, 3, "BadIdent"),
+    (ElfFault::BadKind, 4, "BadKind"),
+    (ElfFault::BadHeader, 5, "BadHeader"),
+    (ElfFault::ShortTable, 6, "ShortTable"),
+    (ElfFault::BadSegment, 7, "BadSegment"),
+    (ElfFault::BadSize, 8, "BadSize"),
+    (ElfFault::PastEnd, 9, "PastEnd"),
+    (ElfFault::BadRange, 10, "BadRange"),
+    (ElfFault::Overlap, 11, "Overlap"),
+    (ElfFault::BadEntry, 12, "BadEntry"),
+    (ElfFault::OutOfMemory, 13, "OutOfMemory"),
+];
+
 /// The file of the program that is one ECALL.
 fn small_file(alloc: Global) -> Result<Vec<u8>, AllocError> {
     let image = Image::from_text(alloc, &[ECALL])?;
     write(alloc, &image)
 }
 
-/// Sets a byte, where the file has it.
-fn set(file: &mut Vec<u8>, at: usize, byte: u8) {
-    if at < file.len() {
-        file[at] = byte;
+/// Whether this is the file of the program that is one ECALL.
+pub fn is_one_call(file: &[u8]) -> bool {
+    for byte in file.iter().skip(84).take(4012) {
+        if *byte != 0 {
+            return false;
+        }
+    }
+    file.len() == 4100 && file.starts_with(&HEADERS) && file.ends_with(&[0x73, 0, 0, 0])
+}
+
+/// Sets bytes at their places, where the file has them.
+fn set(file: &mut [u8], bytes: &[(usize, u8)]) {
+    for &(at, byte) in bytes {
+        if at < file.len() {
+            file[at] = byte;
+        }
+    }
+}
+
+/// Sets the bytes from a place on, where the file has them.
+fn set_run(file: &mut [u8], from: usize, bytes: &[u8]) {
+    for (at, byte) in file.iter_mut().skip(from).zip(bytes) {
+        *at = *byte;
     }
 }
 
@@ -41,195 +154,16 @@ fn set(file: &mut Vec<u8>, at: usize, byte: u8) {
 fn changed(alloc: Global, len: usize, bytes: &[(usize, u8)]) -> Result<Vec<u8>, AllocError> {
     let mut file = small_file(alloc)?;
     file.resize(len, 0)?;
-    for (at, byte) in bytes {
-        set(&mut file, *at, *byte);
-    }
+    set(&mut file, bytes);
     Ok(file)
 }
 
-/// A file of two segments, the second with these bytes of its header changed.
+/// The small file, cut or lengthened, with the second header and then these bytes at their places.
 fn two_segments(alloc: Global, len: usize, bytes: &[(usize, u8)]) -> Result<Vec<u8>, AllocError> {
     let mut file = changed(alloc, len, &[(44, 2)])?;
-    for (k, byte) in SECOND.iter().enumerate() {
-        set(&mut file, 84 + k, *byte);
-    }
-    for (at, byte) in bytes {
-        set(&mut file, 84 + (*at % 32), *byte);
-    }
+    set_run(&mut file, 84, &SECOND);
+    set(&mut file, bytes);
     Ok(file)
-}
-
-/// The number of a file's fault, 0 where it has none.
-fn fault(alloc: Global, file: &[u8]) -> u8 {
-    match parse(alloc, file) {
-        Ok(_) => 0,
-        Err(why) => why.number(),
-    }
-}
-
-#[test]
-fn writes_a_small_file(rt: HostRuntime) -> Result<(), Fail> {
-    let file = small_file(rt.alloc())?;
-    let bytes = file.as_slice();
-    assert_eq!(rt; bytes.len(), 4100);
-    assert!(rt; bytes.starts_with(&HEADERS));
-    assert!(rt; bytes[84..4096].iter().all(|byte| *byte == 0));
-    assert!(rt; bytes.ends_with(&[0x73, 0, 0, 0]));
-    Ok(())
-}
-
-#[test]
-fn parses_a_small_file(rt: HostRuntime) -> Result<(), Fail> {
-    let file = small_file(rt.alloc())?;
-    let image = parse(rt.alloc(), &file)?;
-    assert_eq!(rt; image.entry(), 0x0001_0000);
-    assert_eq!(rt; image.segments().len(), 1);
-    for segment in image.segments() {
-        assert_eq!(rt; segment.vaddr, 0x0001_0000);
-        assert_eq!(rt; segment.memsz, 4);
-        assert_eq!(rt;
-            segment.rights,
-            Rights {
-                read: true,
-                write: false,
-                execute: true
-            }
-        );
-        assert_eq!(rt; segment.bytes.as_slice(), [0x73, 0, 0, 0].as_slice());
-    }
-    Ok(())
-}
-
-#[test]
-fn finds_the_fault_of_a_length(rt: HostRuntime) -> Result<(), Fail> {
-    for (len, number) in [
-        (0, 1),
-        (51, 1),
-        (52, 6),
-        (83, 6),
-        (84, 9),
-        (4099, 9),
-        (4100, 0),
-        (4101, 0),
-    ] {
-        let file = changed(rt.alloc(), len, &[])?;
-        assert_eq!(rt; fault(rt.alloc(), &file), number, "at {len}");
-    }
-    Ok(())
-}
-
-#[test]
-fn finds_the_fault_of_a_byte(rt: HostRuntime) -> Result<(), Fail> {
-    for (at, byte, number) in [
-        (3, 0x47, 2),
-        (4, 2, 3),
-        (15, 1, 3),
-        (16, 3, 4),
-        (18, 0x3e, 4),
-        (20, 2, 4),
-        (28, 0x54, 5),
-        (33, 1, 5),
-        (36, 1, 5),
-        (40, 0x40, 5),
-        (42, 0x38, 5),
-        (44, 0, 5),
-        (44, 5, 5),
-        (46, 0x28, 5),
-        (48, 1, 5),
-        (50, 1, 5),
-        (52, 2, 7),
-        (56, 4, 7),
-        (76, 0, 7),
-        (76, 7, 7),
-        (76, 8, 7),
-        (81, 0x20, 7),
-        (68, 5, 8),
-        (59, 0xff, 9),
-        (24, 2, 12),
-        (24, 4, 12),
-        (76, 4, 12),
-        // The physical address says nothing.
-        (66, 0x44, 0),
-    ] {
-        let file = changed(rt.alloc(), 4101, &[(at, byte)])?;
-        assert_eq!(rt; fault(rt.alloc(), &file), number, "at {at}");
-    }
-    Ok(())
-}
-
-#[test]
-fn finds_the_fault_of_two_bytes(rt: HostRuntime) -> Result<(), Fail> {
-    for (one, other, number) in [
-        // No memory.
-        ((68, 0), (72, 0), 7),
-        // Below 0x00010000, with the entry there.
-        ((62, 0), (26, 0), 10),
-        // From 0x7FFF0000 on.
-        ((63, 0x7f), (62, 0xff), 10),
-        // Sixty-one pages, and sixty.
-        ((73, 0xc0), (74, 0x03), 10),
-        ((73, 0xbf), (74, 0x03), 0),
-    ] {
-        let file = changed(rt.alloc(), 4100, &[one, other])?;
-        assert_eq!(rt; fault(rt.alloc(), &file), number, "at {one:?} {other:?}");
-    }
-    Ok(())
-}
-
-#[test]
-fn the_first_fault_wins(rt: HostRuntime) -> Result<(), Fail> {
-    // Its bytes also pass the end, and in the shorter file all of them do.
-    for len in [4100, 84] {
-        let file = changed(rt.alloc(), len, &[(68, 5)])?;
-        assert_eq!(rt; fault(rt.alloc(), &file), 8);
-    }
-    // The second header's fault, of an earlier check, wins over the first header's.
-    let mut file = two_segments(rt.alloc(), 0x1804, &[(24, 0)])?;
-    set(&mut file, 68, 5);
-    assert_eq!(rt; fault(rt.alloc(), &file), 7);
-    // Each in turn, until the file has none.
-    let mut file = changed(rt.alloc(), 83, &[(0, 0), (4, 0), (16, 0), (44, 0)])?;
-    for (at, byte, number) in [(0, 0x7f, 2), (4, 1, 3), (16, 2, 4), (44, 1, 5)] {
-        assert_eq!(rt; fault(rt.alloc(), &file), number);
-        set(&mut file, at, byte);
-    }
-    assert_eq!(rt; fault(rt.alloc(), &file), 6);
-    Ok(())
-}
-
-#[test]
-fn two_segments_share_no_page(rt: HostRuntime) -> Result<(), Fail> {
-    let overlap = two_segments(rt.alloc(), 0x1804, &[])?;
-    assert_eq!(rt; fault(rt.alloc(), &overlap), 11);
-    let below = two_segments(rt.alloc(), 0x1804, &[(10, 0x00)])?;
-    assert_eq!(rt; fault(rt.alloc(), &below), 10);
-    let apart = two_segments(rt.alloc(), 0x1804, &[(9, 0x18)])?;
-    assert_eq!(rt; fault(rt.alloc(), &apart), 0);
-    Ok(())
-}
-
-#[test]
-fn a_last_segment_of_no_bytes_is_kept(rt: HostRuntime) -> Result<(), Fail> {
-    // At 0x00011800 eight bytes of memory, none of the file.
-    let bytes = [(9, 0x18), (16, 0), (20, 8), (24, 6)];
-    let past = two_segments(rt.alloc(), 0x17ff, &bytes)?;
-    assert_eq!(rt; fault(rt.alloc(), &past), 9);
-    let file = two_segments(rt.alloc(), 0x1800, &bytes)?;
-    let image = parse(rt.alloc(), &file)?;
-    let written = write(rt.alloc(), &image)?;
-    // The next page after the first segment's bytes, and 0x800 further.
-    assert_eq!(rt; written.len(), 0x2800);
-    assert_eq!(rt; &written[84..92], [1, 0, 0, 0, 0, 0x28, 0, 0].as_slice());
-    let again = parse(rt.alloc(), &written)?;
-    assert_eq!(rt; again.entry(), image.entry());
-    assert_eq!(rt; again.segments().len(), 2);
-    for (one, other) in again.segments().iter().zip(image.segments()) {
-        assert_eq!(rt; one.vaddr, other.vaddr);
-        assert_eq!(rt; one.memsz, other.memsz);
-        assert_eq!(rt; one.rights, other.rights);
-        assert_eq!(rt; one.bytes.as_slice(), other.bytes.as_slice());
-    }
-    Ok(())
 }
 
 /// A file of four segments, each of a word on a page of its own, which counts so many of them.
@@ -237,29 +171,128 @@ fn four_segments(alloc: Global, count: u8) -> Result<Vec<u8>, AllocError> {
     let mut file = changed(alloc, 0x4004, &[(44, count)])?;
     for place in 0..4usize {
         let header = 52 + 32 * place;
-        for (k, byte) in HEADERS[52..].iter().enumerate() {
-            set(&mut file, header + k, *byte);
-        }
         // Its offset and its address, a page further each time.
         let page = 16 * place as u8;
-        set(&mut file, header + 5, page + 16);
-        set(&mut file, header + 9, page);
+        set_run(&mut file, header, &HEADERS[52..]);
+        set(&mut file, &[(header + 5, page + 16), (header + 9, page)]);
     }
     Ok(file)
 }
 
+/// The number of a file's fault, 0 where it has none.
+fn fault(alloc: Global, file: &[u8]) -> u8 {
+    match parse(alloc, file).err() {
+        None => 0,
+        Some(why) => why.number(),
+    }
+}
+
+/// The number of the fault of a file that is made.
+fn fault_of(alloc: Global, file: Result<Vec<u8>, AllocError>) -> Result<u8, AllocError> {
+    let file = file?;
+    Ok(fault(alloc, &file))
+}
+
+/// The file of a file's image.
+fn rewritten(alloc: Global, file: &[u8]) -> Result<Vec<u8>, ElfFault> {
+    let image = parse(alloc, file)?;
+    Ok(write(alloc, &image)?)
+}
+
+/// How many segments a file has.
+fn count_of(alloc: Global, file: &[u8]) -> Result<usize, ElfFault> {
+    let image = parse(alloc, file)?;
+    Ok(image.segments().len())
+}
+
+/// Whether two images are the same.
+fn is_same(one: &Image, other: &Image) -> bool {
+    for (one, other) in one.segments().iter().zip(other.segments()) {
+        if (one.vaddr, one.memsz, one.rights) != (other.vaddr, other.memsz, other.rights)
+            || one.bytes.as_slice() != other.bytes.as_slice()
+        {
+            return false;
+        }
+    }
+    one.entry() == other.entry() && one.segments().len() == other.segments().len()
+}
+
+/// Whether two files have the same image.
+fn have_same_image(alloc: Global, one: &[u8], other: &[u8]) -> Result<bool, ElfFault> {
+    let one = parse(alloc, one)?;
+    let other = parse(alloc, other)?;
+    Ok(is_same(&one, &other))
+}
+
 #[test]
-fn one_to_four_segments(rt: HostRuntime) -> Result<(), Fail> {
-    for (count, len) in [(1, 0x1004), (2, 0x2004), (3, 0x3004), (4, 0x4004)] {
-        let file = four_segments(rt.alloc(), count)?;
-        let image = parse(rt.alloc(), &file)?;
-        assert_eq!(rt; image.segments().len(), usize::from(count));
-        let written = write(rt.alloc(), &image)?;
-        assert_eq!(rt; written.len(), len);
-        let again = parse(rt.alloc(), &written)?;
-        assert_eq!(rt; again.segments().len(), usize::from(count));
+fn writes_a_small_file(rt: HostRuntime) -> Result<(), AllocError> {
+    assert!(rt; is_one_call(&small_file(rt.alloc())?));
+    Ok(())
+}
+
+#[test]
+fn parses_a_small_file(rt: HostRuntime) -> Result<(), ElfFault> {
+    let image = parse(rt.alloc(), &small_file(rt.alloc())?)?;
+    let rights = Rights {
+        read: true,
+        write: false,
+        execute: true,
+    };
+    let shape = (image.entry(), image.segments().len());
+    assert_row(&rt, &"image", &shape, &(0x0001_0000, 1));
+    for segment in image.segments() {
+        let found = (segment.vaddr, segment.memsz, segment.rights);
+        assert_row(&rt, &"segment", &found, &(0x0001_0000, 4, rights));
+        assert!(rt; segment.bytes.as_slice() == [0x73, 0, 0, 0].as_slice());
     }
     Ok(())
+}
+
+#[test]
+fn finds_the_first_fault(rt: HostRuntime) {
+    for (row, &(len, bytes, number)) in FAULTS.iter().enumerate() {
+        let found = fault_of(rt.alloc(), changed(rt.alloc(), len, bytes));
+        assert_row(&rt, &row, &found, &Ok(number));
+    }
+}
+
+#[test]
+fn finds_the_first_fault_of_two_segments(rt: HostRuntime) {
+    for (row, &(len, bytes, number)) in FAULTS_OF_TWO.iter().enumerate() {
+        let found = fault_of(rt.alloc(), two_segments(rt.alloc(), len, bytes));
+        assert_row(&rt, &row, &found, &Ok(number));
+    }
+}
+
+#[test]
+fn a_last_segment_of_no_bytes_is_kept(rt: HostRuntime) -> Result<(), ElfFault> {
+    let file = two_segments(rt.alloc(), 0x1800, NO_BYTES)?;
+    let written = rewritten(rt.alloc(), &file)?;
+    // The next page after the first segment's bytes, and 0x800 further.
+    assert!(rt; written.len() == 0x2800);
+    assert!(rt; written[84..].starts_with(&[1, 0, 0, 0, 0, 0x28, 0, 0]));
+    assert_row(&rt, &"segments", &count_of(rt.alloc(), &written), &Ok(2));
+    let same = have_same_image(rt.alloc(), &written, &file);
+    assert_row(&rt, &"the same", &same, &Ok(true));
+    Ok(())
+}
+
+/// Of a file of four segments that counts so many how many are read, and of the file that is written then its length and
+/// how many it has.
+fn counts_of_four(alloc: Global, count: u8) -> Result<(usize, usize, usize), ElfFault> {
+    let file = four_segments(alloc, count)?;
+    let written = rewritten(alloc, &file)?;
+    let read = count_of(alloc, &file)?;
+    Ok((read, written.len(), count_of(alloc, &written)?))
+}
+
+#[test]
+fn one_to_four_segments(rt: HostRuntime) {
+    for count in 1..5u8 {
+        let n = usize::from(count);
+        let wanted = (n, 0x1000 * n + 4, n);
+        assert_row(&rt, &count, &counts_of_four(rt.alloc(), count), &Ok(wanted));
+    }
 }
 
 /// This word so many times.
@@ -269,41 +302,30 @@ pub fn repeated(alloc: Global, word: u32, count: usize) -> Result<Vec<u32>, Allo
     vec![in alloc; word; count]
 }
 
+/// The file of the longest text, which fills sixty pages.
+fn longest_file(alloc: Global) -> Result<Vec<u8>, AllocError> {
+    let words = repeated(alloc, ECALL, 61_440)?;
+    let image = Image::from_text(alloc, &words)?;
+    write(alloc, &image)
+}
+
 #[test]
-fn the_longest_text_fills_sixty_pages(rt: HostRuntime) -> Result<(), Fail> {
-    let words = repeated(rt.alloc(), ECALL, 61_440)?;
-    let image = Image::from_text(rt.alloc(), &words)?;
-    let mut file = write(rt.alloc(), &image)?;
-    assert_eq!(rt; file.len(), 249_856);
-    assert_eq!(rt; fault(rt.alloc(), &file), 0);
-    // one word more, of the file and of memory
+fn the_longest_text_fills_sixty_pages(rt: HostRuntime) -> Result<(), AllocError> {
+    let mut file = longest_file(rt.alloc())?;
+    let whole = (file.len(), fault(rt.alloc(), &file));
+    assert_row(&rt, &"sixty pages", &whole, &(249_856, 0));
+    // One word more, of the file and of memory.
     file.resize(249_860, 0)?;
-    set(&mut file, 68, 4);
-    set(&mut file, 72, 4);
-    assert_eq!(rt; fault(rt.alloc(), &file), 10);
+    set(&mut file, &[(68, 4), (72, 4)]);
+    assert_row(&rt, &"one word more", &fault(rt.alloc(), &file), &10);
     Ok(())
 }
 
 #[test]
-fn faults_show_their_names(rt: HostRuntime) -> Result<(), Fail> {
-    for (fault, number, name) in [
-        (ElfFault::Short, 1, "Short"),
-        (ElfFault::BadMagic, 2, "BadMagic"),
-        (ElfFault::BadIdent, 3, "BadIdent"),
-        (ElfFault::BadKind, 4, "BadKind"),
-        (ElfFault::BadHeader, 5, "BadHeader"),
-        (ElfFault::ShortTable, 6, "ShortTable"),
-        (ElfFault::BadSegment, 7, "BadSegment"),
-        (ElfFault::BadSize, 8, "BadSize"),
-        (ElfFault::PastEnd, 9, "PastEnd"),
-        (ElfFault::BadRange, 10, "BadRange"),
-        (ElfFault::Overlap, 11, "Overlap"),
-        (ElfFault::BadEntry, 12, "BadEntry"),
-        (ElfFault::OutOfMemory, 13, "OutOfMemory"),
-    ] {
-        assert_eq!(rt; fault.number(), number);
-        let shown = format!(in rt.alloc(); "{fault}")?;
-        assert_eq!(rt; shown.as_str(), name);
+fn faults_show_their_names(rt: HostRuntime) -> Result<(), AllocError> {
+    for &(fault, number, name) in NAMES {
+        assert_row(&rt, &name, &fault.number(), &number);
+        assert_shown(&rt, rt.alloc(), &fault, name)?;
     }
     Ok(())
 }

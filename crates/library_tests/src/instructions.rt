@@ -1,72 +1,90 @@
 //! Words with their texts, words that mean nothing, and the ends of fields.
+use crate::asserting::{assert_row, assert_shown};
 use formats::{Instr, Reg, decode, encode};
-use std::alloc::{AllocError, Global};
-use std::process::Abort;
+use std::alloc::AllocError;
+
+/// Legal words, and their texts.
+const WORDS: &[(u32, &str)] = &[
+    (0x0050_0513, "addi a0,zero,5"),
+    (0x00B5_0533, "add a0,a0,a1"),
+    (0x02B5_0533, "mul a0,a0,a1"),
+    (0x1234_52B7, "lui t0,0x12345"),
+    (0x00A1_2023, "sw a0,0(sp)"),
+    (0xFE00_0EE3, "beq zero,zero,-4"),
+    (0x0080_00EF, "jal ra,8"),
+    (0x0010_80E7, "jalr ra,1(ra)"),
+    (0x41F5_5513, "srai a0,a0,31"),
+    (0xFFC1_2503, "lw a0,-4(sp)"),
+    (0x0000_0517, "auipc a0,0x0"),
+    (0x0FF0_000F, "fence"),
+    (0x0000_0073, "ecall"),
+    (0x0010_0073, "ebreak"),
+];
+
+/// Words, and whether they are fences: the others mean nothing.
+const FENCES: &[(u32, bool)] = &[
+    (0x0FF0_000F, true),
+    (0x0000_000F, true),
+    (0x0000_0000, false),
+    (0xFFFF_FFFF, false),
+    (0x0000_100F, false),
+];
+
+/// Numbers, and whether they fit the fields of ADDI, BEQ, JAL, LUI and SLLI.
+const FIELDS: &[(i64, [bool; 5])] = &[
+    (-1048578, [false, false, false, false, false]),
+    (-1048576, [false, false, true, false, false]),
+    (-4098, [false, false, true, false, false]),
+    (-4096, [false, true, true, false, false]),
+    (-2049, [false, false, false, false, false]),
+    (-2048, [true, true, true, false, false]),
+    (-1, [true, false, false, false, false]),
+    (0, [true, true, true, true, true]),
+    (31, [true, false, false, true, true]),
+    (32, [true, true, true, true, false]),
+    (2047, [true, false, false, true, false]),
+    (2048, [false, true, true, true, false]),
+    (4094, [false, true, true, true, false]),
+    (4096, [false, false, true, true, false]),
+    (1048574, [false, false, true, true, false]),
+    (1048575, [false, false, false, true, false]),
+    (1048576, [false, false, false, false, false]),
+];
+
+/// Which of five fields a number fits.
+fn fits(number: i64) -> [bool; 5] {
+    let zero = Reg::new(0);
+    [
+        Instr::addi(zero, zero, number).is_ok(),
+        Instr::beq(zero, zero, number).is_ok(),
+        Instr::jal(zero, number).is_ok(),
+        Instr::lui(zero, number).is_ok(),
+        Instr::slli(zero, zero, number).is_ok(),
+    ]
+}
 
 #[test]
 fn words_and_texts(rt: HostRuntime) -> Result<(), AllocError> {
-    assert_row(&rt, rt.alloc(), 0x0050_0513, "addi a0,zero,5")?;
-    assert_row(&rt, rt.alloc(), 0x00B5_0533, "add a0,a0,a1")?;
-    assert_row(&rt, rt.alloc(), 0x02B5_0533, "mul a0,a0,a1")?;
-    assert_row(&rt, rt.alloc(), 0x1234_52B7, "lui t0,0x12345")?;
-    assert_row(&rt, rt.alloc(), 0x00A1_2023, "sw a0,0(sp)")?;
-    assert_row(&rt, rt.alloc(), 0xFE00_0EE3, "beq zero,zero,-4")?;
-    assert_row(&rt, rt.alloc(), 0x0080_00EF, "jal ra,8")?;
-    assert_row(&rt, rt.alloc(), 0x0010_80E7, "jalr ra,1(ra)")?;
-    assert_row(&rt, rt.alloc(), 0x41F5_5513, "srai a0,a0,31")?;
-    assert_row(&rt, rt.alloc(), 0xFFC1_2503, "lw a0,-4(sp)")?;
-    assert_row(&rt, rt.alloc(), 0x0000_0517, "auipc a0,0x0")?;
-    assert_row(&rt, rt.alloc(), 0x0FF0_000F, "fence")?;
-    assert_row(&rt, rt.alloc(), 0x0000_0073, "ecall")?;
-    assert_row(&rt, rt.alloc(), 0x0010_0073, "ebreak")
-}
-
-fn assert_row(rt: &impl Abort, alloc: Global, word: u32, text: &str) -> Result<(), AllocError> {
-    let i = decode(word).expect(rt, "a legal word");
-    let written = i.to_string(alloc)?;
-    assert_eq!(rt; written.as_str(), text);
-    assert_eq!(rt; encode(&i), word);
+    for &(word, text) in WORDS {
+        let instr = decode(word).expect(&rt, text);
+        assert_shown(&rt, rt.alloc(), &instr, text)?;
+        assert_row(&rt, &text, &encode(&instr), &word);
+    }
     Ok(())
 }
 
 #[test]
 fn fences_and_illegal_words(rt: HostRuntime) {
-    for word in [0x0FF0_000F, 0x0000_000F] {
-        assert_eq!(rt; decode(word), Some(Instr::Fence));
-    }
-    assert_eq!(rt; encode(&Instr::Fence), 0x0FF0_000F);
-    for word in [0x0000_0000, 0xFFFF_FFFF, 0x0000_100F] {
-        assert_eq!(rt; decode(word), None);
+    assert_row(&rt, &"fence", &encode(&Instr::Fence), &0x0FF0_000F);
+    for &(word, is_fence) in FENCES {
+        let meaning = is_fence.then_some(Instr::Fence);
+        assert_row(&rt, &word, &decode(word), &meaning);
     }
 }
 
 #[test]
 fn ends_of_the_fields(rt: HostRuntime) {
-    let zero = Reg::new(0);
-    for (imm, fits) in [(-2049, false), (-2048, true), (2047, true), (2048, false)] {
-        assert_eq!(rt; Instr::addi(zero, zero, imm).is_ok(), fits, "{imm}");
-    }
-    for (offset, fits) in [
-        (-4098, false),
-        (-4096, true),
-        (-1, false),
-        (4094, true),
-        (4096, false),
-    ] {
-        assert_eq!(rt; Instr::beq(zero, zero, offset).is_ok(), fits, "{offset}");
-    }
-    for (offset, fits) in [
-        (-1048578, false),
-        (-1048576, true),
-        (1048574, true),
-        (1048576, false),
-    ] {
-        assert_eq!(rt; Instr::jal(zero, offset).is_ok(), fits, "{offset}");
-    }
-    for (imm, fits) in [(-1, false), (0, true), (1048575, true), (1048576, false)] {
-        assert_eq!(rt; Instr::lui(zero, imm).is_ok(), fits, "{imm}");
-    }
-    for (amount, fits) in [(-1, false), (0, true), (31, true), (32, false)] {
-        assert_eq!(rt; Instr::slli(zero, zero, amount).is_ok(), fits, "{amount}");
+    for &(number, fields) in FIELDS {
+        assert_row(&rt, &number, &fits(number), &fields);
     }
 }

@@ -5,6 +5,20 @@
 #[cfg(test)]
 mod assembling;
 #[cfg(test)]
+mod asserting;
+#[cfg(test)]
+mod bytes;
+#[cfg(test)]
+mod checkpoints;
+#[cfg(test)]
+mod devices;
+#[cfg(test)]
+mod disks;
+#[cfg(test)]
+mod execution;
+#[cfg(test)]
+mod file_tables;
+#[cfg(test)]
 mod groups;
 #[cfg(test)]
 mod image_files;
@@ -13,6 +27,16 @@ mod instructions;
 #[cfg(test)]
 mod machines;
 #[cfg(test)]
+mod marks;
+#[cfg(test)]
+mod pipe_tables;
+#[cfg(test)]
 mod planned_calls;
+#[cfg(test)]
+mod process_tables;
+#[cfg(test)]
+mod pumping;
+#[cfg(test)]
+mod spaces;
 #[cfg(test)]
 mod tokens;

@@ -1,11 +1,15 @@
 //! Programs, loaded and run.
+ghost use Rattle.std.specs.Prelude.{◌≡◌, ◌<◌, ◌≤◌, IfOk, length};
+
+use crate::asserting::assert_row;
 use crate::image_files::repeated;
 use byte_list::Bytes;
 use elf32::Image;
 use formats::Reg;
 use machine::Machine;
 use machine_model::{Cause, Reply, Stop};
-use std::test::Fail;
+use std::alloc::{AllocError, Global};
+use std::process::Abort;
 
 const LUI_T0_TEXT: u32 = 0x0001_02b7;
 
@@ -19,109 +23,141 @@ const ECALL: u32 = 0x0000_0073;
 
 const EBREAK: u32 = 0x0010_0073;
 
-#[test]
-fn begins_at_the_entry_with_an_empty_stack(rt: HostRuntime) -> Result<(), Fail> {
-    let image = Image::from_text(rt.alloc(), &[EBREAK])?;
-    let machine = Machine::load(rt.alloc(), &image)?;
-    assert_eq!(rt; machine.pc(), 0x0001_0000);
-    assert_eq!(rt; machine.reg(Reg::new(2)), 0x8000_0000);
-    assert_eq!(rt; machine.reg(Reg::new(10)), 0);
-    assert_eq!(rt; machine.count(), 0);
-    for (at, byte) in [
-        (0x0001_0000, Some(0x73)),
-        (0x0001_0002, Some(0x10)),
-        (0x0001_0004, Some(0)),
-        (0x0001_1000, None),
-        (0x7fff_bfff, None),
-        (0x7fff_c000, Some(0)),
-        (0x7fff_ffff, Some(0)),
-        (0x8000_0000, None),
-    ] {
-        assert_eq!(rt; machine.space().byte(at), byte, "at {at}");
+const BREAK: Stop = Stop::Trap(Cause::Breakpoint);
+
+const FAULT: Stop = Stop::Trap(Cause::PageFault);
+
+const ILLEGAL: Stop = Stop::Trap(Cause::Illegal);
+
+/// How many instructions a run does, and where it stops.
+type Ran = (u32, Stop);
+
+/// A program that begins, the most instructions that it is to do, how many it does, where it stops, and where it stands
+/// then.
+const RUNS: &[([u32; 2], u32, u32, Stop, Option<Stop>)] = &[
+    ([EBREAK, EBREAK], 5, 0, BREAK, Some(BREAK)),
+    ([LUI_T0_TEXT, SW_T0_AT_T0], 5, 1, FAULT, Some(FAULT)),
+    ([LUI_T0_TEXT, 0], 5, 1, ILLEGAL, Some(ILLEGAL)),
+    ([LUI_T0_TEXT, ECALL], 5, 1, Stop::Call, Some(Stop::Call)),
+    ([LUI_T0_TEXT, ECALL], 1, 1, Stop::Limit, Some(Stop::Call)),
+    ([ADDI_T0_T0_1, JUMP_BACK_4], 1000, 1000, Stop::Limit, None),
+];
+
+/// Addresses and the bytes there, where the program of one EBREAK begins.
+const FIRST_BYTES: &[(u32, Option<u8>)] = &[
+    (0x0001_0000, Some(0x73)),
+    (0x0001_0002, Some(0x10)),
+    (0x0001_0004, Some(0)),
+    (0x0001_1000, None),
+    (0x7fff_bfff, None),
+    (0x7fff_c000, Some(0)),
+    (0x7fff_ffff, Some(0)),
+    (0x8000_0000, None),
+];
+
+/// Addresses and the bytes there, after a reply.
+const REPLIED_BYTES: &[(u32, Option<u8>)] = &[
+    (0x7fff_ffef, Some(0)),
+    (0x7fff_fff0, Some(1)),
+    (0x7fff_fff2, Some(3)),
+    (0x7fff_fff3, Some(0)),
+];
+
+/// The machine in which a text begins.
+fn machine_of(alloc: Global, words: &[u32]) -> Result<Machine, AllocError>
+    requires some { 0 < length words.now }
+    requires fits { length words.now ≤ 61440 }
+    ensures { IfOk result (λ machine. machine.count ≡ 0) }
+{
+    let image = Image::from_text(alloc, words)?;
+    Machine::load(alloc, &image)
+}
+
+fn assert_bytes(rt: &impl Abort, machine: &Machine, bytes: &[(u32, Option<u8>)]) {
+    for &(at, byte) in bytes {
+        assert_row(rt, &at, &machine.space().byte(at), &byte);
     }
-    Ok(())
 }
 
 #[test]
-fn runs_stop_where_they_should(rt: HostRuntime) -> Result<(), Fail> {
-    for (words, max, done, stop, stands) in [
-        (
-            [EBREAK, EBREAK],
-            5,
-            0,
-            Stop::Trap(Cause::Breakpoint),
-            Some(Stop::Trap(Cause::Breakpoint)),
-        ),
-        (
-            [LUI_T0_TEXT, SW_T0_AT_T0],
-            5,
-            1,
-            Stop::Trap(Cause::PageFault),
-            Some(Stop::Trap(Cause::PageFault)),
-        ),
-        (
-            [LUI_T0_TEXT, 0],
-            5,
-            1,
-            Stop::Trap(Cause::Illegal),
-            Some(Stop::Trap(Cause::Illegal)),
-        ),
-        ([LUI_T0_TEXT, ECALL], 5, 1, Stop::Call, Some(Stop::Call)),
-        ([LUI_T0_TEXT, ECALL], 1, 1, Stop::Limit, Some(Stop::Call)),
-        ([ADDI_T0_T0_1, JUMP_BACK_4], 1000, 1000, Stop::Limit, None),
-    ] {
-        let image = Image::from_text(rt.alloc(), &words)?;
-        let mut machine = Machine::load(rt.alloc(), &image)?;
-        assert_eq!(rt; machine.count(), 0);
-        assert_eq!(rt; machine.run(max), (done, stop));
-        assert_eq!(rt; machine.stopped(), stands);
-        assert_eq!(rt; machine.count(), u64::from(done));
-        assert_eq!(rt; machine.run(0), (0, Stop::Limit));
-    }
+fn begins_at_the_entry_with_an_empty_stack(rt: HostRuntime) -> Result<(), AllocError> {
+    let machine = machine_of(rt.alloc(), &[EBREAK])?;
+    let sp = machine.reg(Reg::new(2));
+    let a0 = machine.reg(Reg::new(10));
+    let first = (machine.pc(), sp, a0, machine.count());
+    assert_row(
+        &rt,
+        &"pc, sp, a0 and count",
+        &first,
+        &(0x0001_0000, 0x8000_0000, 0, 0),
+    );
+    assert_bytes(&rt, &machine, FIRST_BYTES);
     Ok(())
 }
 
+/// What a run gives, how many instructions were done before it and after it, where the machine stands then, and what a run
+/// of none gives after it.
+fn run_of(
+    alloc: Global,
+    words: &[u32; 2],
+    max: u32,
+) -> Result<(Ran, [u64; 2], Option<Stop>, Ran), AllocError> {
+    let mut machine = machine_of(alloc, words)?;
+    let before = machine.count();
+    let ran = machine.run(max);
+    let counts = [before, machine.count()];
+    Ok((ran, counts, machine.stopped(), machine.run(0)))
+}
+
 #[test]
-fn runs_the_longest_text(rt: HostRuntime) -> Result<(), Fail> {
-    let words = repeated(rt.alloc(), ADDI_T0_T0_1, 61_440)?;
-    let image = Image::from_text(rt.alloc(), &words)?;
-    let machine = Machine::load(rt.alloc(), &image)?;
+fn runs_stop_where_they_should(rt: HostRuntime) {
+    for (row, &(words, max, done, stop, stands)) in RUNS.iter().enumerate() {
+        let wanted = ((done, stop), [0, u64::from(done)], stands, (0, Stop::Limit));
+        assert_row(&rt, &row, &run_of(rt.alloc(), &words, max), &Ok(wanted));
+    }
+}
+
+/// The machine in which the longest text begins.
+fn longest_machine(alloc: Global) -> Result<Machine, AllocError> {
+    let words = repeated(alloc, ADDI_T0_T0_1, 61_440)?;
+    machine_of(alloc, &words)
+}
+
+#[test]
+fn runs_the_longest_text(rt: HostRuntime) -> Result<(), AllocError> {
+    let machine = longest_machine(rt.alloc())?;
     let mut copy = machine.try_clone(rt.alloc())?;
-    assert_eq!(rt; copy.count(), 0);
-    assert_eq!(rt; copy.run(100_000), (61_440, Stop::Trap(Cause::FetchFault)));
-    assert_eq!(rt; machine.pc(), 0x0001_0000);
+    assert!(rt; copy.count() == 0);
+    let wanted = (61_440, Stop::Trap(Cause::FetchFault));
+    assert_row(&rt, &"run", &copy.run(100_000), &wanted);
+    assert_row(&rt, &"pc", &machine.pc(), &0x0001_0000);
     Ok(())
 }
 
+/// A machine that stands at its first call, and has a reply of three bytes.
+fn assert_replied(rt: &impl Abort, machine: &mut Machine, reply: &Reply)
+    requires { length reply.now.bytes ≡ 3 }
+{
+    assert!(rt; matches!(machine.stopped(), Some(Stop::Call)));
+    assert!(rt; machine.count() == 0);
+    assert!(rt; machine.space().writable(reply.at, 3));
+    machine.reply(reply);
+    let replied = (machine.reg(Reg::new(10)), machine.pc(), machine.count());
+    assert_row(rt, &"a0, pc and count", &replied, &(7, 0x0001_0004, 1));
+    assert_bytes(rt, machine, REPLIED_BYTES);
+}
+
 #[test]
-fn replies_to_a_call(rt: HostRuntime) -> Result<(), Fail> {
-    let image = Image::from_text(rt.alloc(), &[ECALL, EBREAK])?;
-    let mut machine = Machine::load(rt.alloc(), &image)?;
+fn replies_to_a_call(rt: HostRuntime) -> Result<(), AllocError> {
+    let mut machine = machine_of(rt.alloc(), &[ECALL, EBREAK])?;
     let copy = machine.try_clone(rt.alloc())?;
     let reply = Reply {
         a0: 7,
         at: 0x7fff_fff0,
         bytes: Bytes::copy_of(rt.alloc(), &[1, 2, 3])?,
     };
-    let Some(Stop::Call) = machine.stopped() else {
-        assert!(rt; false);
-        return Ok(());
-    };
-    assert!(rt; machine.count() == 0);
-    assert!(rt; machine.space().writable(reply.at, 3));
-    machine.reply(&reply);
-    assert_eq!(rt; machine.reg(Reg::new(10)), 7);
-    assert_eq!(rt; machine.pc(), 0x0001_0004);
-    assert_eq!(rt; machine.count(), 1);
-    for (at, byte) in [
-        (0x7fff_ffef, 0),
-        (0x7fff_fff0, 1),
-        (0x7fff_fff2, 3),
-        (0x7fff_fff3, 0),
-    ] {
-        assert_eq!(rt; machine.space().byte(at), Some(byte), "at {at}");
-    }
-    assert_eq!(rt; copy.stopped(), Some(Stop::Call));
-    assert_eq!(rt; copy.space().byte(0x7fff_fff0), Some(0));
+    assert_replied(&rt, &mut machine, &reply);
+    let kept = (copy.stopped(), copy.space().byte(0x7fff_fff0));
+    assert_row(&rt, &"copy", &kept, &(Some(Stop::Call), Some(0)));
     Ok(())
 }

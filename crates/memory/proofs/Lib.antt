@@ -5,6 +5,5 @@ pub mod SpaceStore
 pub mod Mapping
 pub mod Cells
 pub mod Ranges
-pub mod Free
 pub mod SameWords
 pub mod Standing

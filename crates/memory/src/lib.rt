@@ -9,8 +9,6 @@ mod fault;
 mod part;
 mod place;
 mod space;
-#[cfg(test)]
-mod tests;
 
 pub use fault::CopyFault;
 pub use machine_model::{BusFault, Rights};

@@ -1,7 +1,7 @@
 //! The command line.
 use clap::error::ErrorKind;
 use clap::{Arg, ArgAction, ArgMatches, Command, Error};
-use std::alloc::Global;
+use std::alloc::{AllocError, Global};
 
 /// What the program is to do.
 #[derive(Clone, Copy, Debug, PartialEq, Eq)]
@@ -25,8 +25,8 @@ fn argument<'a>(alloc: Global, name: &'a str, help: &'a str) -> Arg<'a> {
 }
 
 /// The command `asm`, under its whole name.
-fn assembling<'a>(alloc: Global) -> Result<Command<'a>, Error> {
-    let asm = Command::new(alloc, "asm")
+fn assembling<'a>(alloc: Global) -> Result<Command<'a>, AllocError> {
+    Command::new(alloc, "asm")
         .bin_name("bench asm")?
         .about("Assemble a source, and write its image")
         .arg(argument(alloc, "SOURCE", "the source's file"))?
@@ -34,18 +34,25 @@ fn assembling<'a>(alloc: Global) -> Result<Command<'a>, Error> {
             alloc,
             "IMAGE",
             "the image's file, which is written anew; another than the source's",
-        ))?;
-    Ok(asm)
+        ))
 }
 
-/// The commands and their arguments. Their usage begins with the program's name, so that it can be pasted.
-fn commands<'a>(alloc: Global) -> Result<Command<'a>, Error> {
-    let replay = Command::new(alloc, "replay")
+/// The command `replay`.
+fn replaying<'a>(alloc: Global) -> Result<Command<'a>, AllocError> {
+    Command::new(alloc, "replay")
         .about("Run a script, and print what each of its lines gives")
-        .arg(argument(alloc, "SCRIPT", "the script's file"))?;
-    let list = Command::new(alloc, "list")
+        .arg(argument(alloc, "SCRIPT", "the script's file"))
+}
+
+/// The command `list`.
+fn listing<'a>(alloc: Global) -> Result<Command<'a>, AllocError> {
+    Command::new(alloc, "list")
         .about("Print the words of an image that may be executed")
-        .arg(argument(alloc, "IMAGE", "the image's file"))?;
+        .arg(argument(alloc, "IMAGE", "the image's file"))
+}
+
+/// The program without its commands. Its usage begins with its name, so that it can be pasted.
+fn program<'a>(alloc: Global) -> Result<Command<'a>, AllocError> {
     let bench = Command::new(alloc, "bench")
         .bin_name("bench")?
         .about(
@@ -53,11 +60,24 @@ fn commands<'a>(alloc: Global) -> Result<Command<'a>, Error> {
         )
         .override_usage("bench < SCRIPT\n       bench <COMMAND>")
         .no_binary_name(true)
-        .subcommand_required(true)
-        .subcommand(replay)?
-        .subcommand(assembling(alloc)?)?
-        .subcommand(list)?;
+        .subcommand_required(true);
     Ok(bench)
+}
+
+/// The program with one more command, where memory sufficed for that command.
+fn with<'a>(
+    program: Command<'a>,
+    command: Result<Command<'a>, AllocError>,
+) -> Result<Command<'a>, AllocError> {
+    program.subcommand(command?)
+}
+
+/// The program with its commands.
+fn commands<'a>(alloc: Global) -> Result<Command<'a>, AllocError> {
+    let bench = program(alloc)?;
+    let bench = with(bench, replaying(alloc))?;
+    let bench = with(bench, assembling(alloc))?;
+    with(bench, listing(alloc))
 }
 
 /// What a command and its arguments ask for. None for a name that is not handled here.
@@ -87,19 +107,33 @@ fn checked<'a>(alloc: Global, task: Task<'a>) -> Result<Task<'a>, Error> {
     }
 }
 
+/// What the words ask for, if a command that is handled here is among them.
+fn asked<'a>(commands: &mut Command<'a>, words: &'a [String]) -> Result<Option<Task<'a>>, Error> {
+    let matches = commands.try_get_matches_from_mut(words)?;
+    let task = match matches.subcommand() {
+        Some((name, matches)) => task_of(name, matches),
+        None => None,
+    };
+    Ok(task)
+}
+
+/// What the words ask for, or why they ask for nothing.
+fn read<'a>(
+    alloc: Global,
+    commands: &mut Command<'a>,
+    words: &'a [String],
+) -> Result<Task<'a>, Error> {
+    match asked(commands, words)? {
+        Some(task) => checked(alloc, task),
+        None => Err(commands.error(ErrorKind::InvalidSubcommand, "no such command")?),
+    }
+}
+
 /// What the words, the program's name aside, ask for.
 pub fn parse<'a>(alloc: Global, words: &'a [String]) -> Result<Task<'a>, Error> {
     if words.is_empty() {
         return Ok(Task::ReplayInput);
     }
     let mut commands = commands(alloc)?;
-    let matches = commands.try_get_matches_from_mut(words)?;
-    let asked = match matches.subcommand() {
-        Some((name, matches)) => task_of(name, matches),
-        None => None,
-    };
-    match asked {
-        Some(task) => checked(alloc, task),
-        None => Err(commands.error(ErrorKind::InvalidSubcommand, "no such command")?),
-    }
+    read(alloc, &mut commands, words)
 }

@@ -171,15 +171,15 @@ fn play<O: Write>(
     step: &Step,
     out: &mut O,
 ) -> Result<Core, Fault> {
-    match step {
-        Step::Apply(event) => print_event(&mut core, *event, out)?,
-        Step::Drain => print_drain(&mut core, out)?,
-        Step::Shown(terminal) => print_shown(alloc, &core, *terminal, out)?,
-        Step::Trace(pid) => print_trace(alloc, &core, *pid, out)?,
-        Step::Files => print_files(core.boot_files(), out)?,
+    let printed = match step {
+        Step::Apply(event) => print_event(&mut core, *event, out),
+        Step::Drain => print_drain(&mut core, out),
+        Step::Shown(terminal) => print_shown(alloc, &core, *terminal, out),
+        Step::Trace(pid) => print_trace(alloc, &core, *pid, out),
+        Step::Files => print_files(core.boot_files(), out),
         Step::Crash(fill) => return crash(alloc, setup, core, fill.as_slice(), out),
-    }
-    Ok(core)
+    };
+    printed.map(|()| core)
 }
 
 /// Runs a script, and prints what each of its lines gives. The script is read whole before any image that it names.

@@ -4,8 +4,6 @@
 mod laws;
 mod pipe;
 mod table;
-#[cfg(test)]
-mod tests;
 
 pub use kernel_model::PipeEnd;
 pub use laws::{ends_grow_by_one, steps_are_shown};

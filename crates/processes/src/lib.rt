@@ -4,8 +4,6 @@
 mod descriptors;
 mod entry;
 mod table;
-#[cfg(test)]
-mod tests;
 
 pub use descriptors::Descriptors;
 pub use kernel_model::{Descriptor, Slot};

@@ -3,7 +3,7 @@ ghost use Rattle.std.specs.Prelude.{◌≡◌, ◌+◌, ◌%◌, ◌^◌, ◌≤
 ghost use Rattle.machine_model.specs.Memory.{memory_of};
 ghost use Rattle.machine_model.specs.Access.{mapped};
 
-use crate::{CopyFault, Space};
+use memory::{CopyFault, Space};
 use isa_table::Bus;
 use machine_model::{BusFault, Rights, Width};
 use std::alloc::{AllocError, Global};

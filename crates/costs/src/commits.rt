@@ -1,7 +1,5 @@
 //! What commits cost: cuts and their completions beside the same in plain code, and the recovery of a half that is full
 //! beside one reading of its bytes.
-#![tactic(auto)]
-
 ghost use Rattle.std.specs.Prelude.{[], ◌<◌, List, IfOk, OnOk, length};
 ghost use Rattle.std.specs.List.{AllByRecursion};
 ghost use Rattle.disk_model.specs.declared.change.NamedFile.{NamedFile};
@@ -9,7 +7,7 @@ ghost use Rattle.disk_model.specs.Files.{IsFormed, IsMade, MayCome};
 
 mod plain;
 
-use crate::plain::PlainDisk;
+use crate::commits::plain::PlainDisk;
 use anyhow::{Error, ensure};
 use byte_list::Bytes;
 use disk_model::{Change, made_files_change};
@@ -17,11 +15,10 @@ use files::FileTable;
 use group_commit::{CommitRefusal, Committer};
 use simdisk::SimDisk;
 use std::alloc::{AllocError, Global};
-use std::env;
 use std::time::{Clock, Duration, Instant};
 
 /// How many groups are timed.
-const GROUPS: u32 = 300;
+pub const GROUPS: u32 = 300;
 
 /// How many groups a half has room for.
 const GROUPS_OF_HALF: u32 = 15;
@@ -32,7 +29,7 @@ const ROUNDS: u32 = 10;
 /// How many blocks the file has that is written to, and how many writes a group.
 const BLOCKS: u8 = 16;
 
-const WRITES: u8 = 64;
+pub const WRITES: u8 = 64;
 
 /// How many bytes each block has.
 const BLOCK: usize = 1024;
@@ -233,32 +230,45 @@ fn time_recovery<R: Clock + AllocGlobal>(rt: &R, device: &SimDisk) -> Result<Tim
     })
 }
 
-fn main(rt: HostRuntime) -> Result<(), Error> {
-    let words: Vec<String> = env::args(&rt)?.collect(rt.alloc())?;
-    if words.len() > 1 {
-        println!(rt;
-            "commit_cost prints what {GROUPS} groups cost beside the same in plain code, and a recovery beside one reading; it takes no words"
-        )?;
-        return Ok(());
-    }
-    let group = group_of(rt.alloc())?;
-    let files = files_of(rt.alloc())?;
-    let mut commits = Times::NONE;
+/// The least times of the groups' commits.
+fn commit_ratio<R: Clock + AllocGlobal>(
+    rt: &R,
+    group: &[Change],
+    files: &FileTable,
+) -> Result<u128, Error>
+    requires possible { IsMade files.now }
+    requires formed { AllByRecursion IsFormed group.now }
+{
+    let mut least = Times::NONE;
     for _ in 0..ROUNDS {
-        commits = commits.least(time_commits(&rt, &group, &files)?);
+        least = least.least(time_commits(rt, group, files)?);
     }
-    println!(rt;
-        "{GROUPS} groups of {WRITES} writes: cuts and completions take {} thousandths of the time of plain code",
-        commits.ratio()
-    )?;
-    let device = full_disk(rt.alloc(), &group, &files)?;
-    let mut recoveries = Times::NONE;
+    Ok(least.ratio())
+}
+
+/// The least times of a recovery.
+fn recovery_ratio<R: Clock + AllocGlobal>(rt: &R, device: &SimDisk) -> Result<u128, Error> {
+    let mut least = Times::NONE;
     for _ in 0..ROUNDS {
-        recoveries = recoveries.least(time_recovery(&rt, &device)?);
+        least = least.least(time_recovery(rt, device)?);
     }
-    println!(rt;
-        "a half that is full: a recovery takes {} thousandths of the time of one reading of its bytes",
-        recoveries.ratio()
-    )?;
-    Ok(())
+    Ok(least.ratio())
+}
+
+/// What commits take, in thousandths of the time of plain code, and what a recovery takes, in thousandths of one reading.
+#[derive(Clone, Copy)]
+pub struct Ratios {
+    pub commits: u128,
+    pub recovery: u128,
+}
+
+/// Both ratios, of groups of writes to one file and of a half that they fill.
+pub fn measured_ratios<R: Clock + AllocGlobal>(rt: &R) -> Result<Ratios, Error> {
+    let alloc = rt.alloc();
+    let group = group_of(alloc)?;
+    let files = files_of(alloc)?;
+    Ok(Ratios {
+        commits: commit_ratio(rt, &group, &files)?,
+        recovery: recovery_ratio(rt, &full_disk(alloc, &group, &files)?)?,
+    })
 }

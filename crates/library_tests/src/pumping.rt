@@ -1,5 +1,5 @@
 //! Writers that take all, little or nothing, and fail.
-use crate::{PumpFault, pump};
+use console::{PumpFault, pump};
 use std::alloc::Global;
 use std::io::{self, Error, ErrorKind, Write};
 use std::process::Abort;

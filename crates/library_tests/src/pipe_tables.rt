@@ -1,8 +1,7 @@
 //! A ring that wraps round, a full pipe, and ends that are gone.
-use crate::pipe::{PIPE_SIZE, Pipe};
-use crate::table::{MOST_PIPES, PipeTable};
 use byte_list::Bytes;
 use kernel_model::PipeEnd;
+use pipes::{MOST_PIPES, PIPE_SIZE, Pipe, PipeTable};
 use std::alloc::Global;
 use std::process::Abort;
 use std::test::Fail;

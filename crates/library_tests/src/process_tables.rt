@@ -1,5 +1,5 @@
-use super::*;
-use kernel_model::Descriptor;
+//! Processes, their forks, and the ends of children.
+use processes::{Descriptor, EndedChild, MOST_PROCESSES, ProcTable, Slot};
 use std::process::Abort;
 use std::test::Fail;
 

@@ -1,17 +1,14 @@
 //! What a loan costs: the time to lend a machine and to take its result back, as a ratio to the time of its run.
-#![tactic(auto)]
-
 ghost use Rattle.std.specs.Prelude.{◌≤◌};
 
 use anyhow::Error;
 use bursts::run_loan;
 use kernel::{Core, Program, SimDisk};
 use std::alloc::{AllocError, Global};
-use std::env;
 use std::time::{Clock, Duration, Instant};
 
 /// How many instructions a loan runs.
-const QUANTUM: u32 = 10_000;
+pub const QUANTUM: u32 = 10_000;
 
 /// How many loans are measured for each size.
 const LOANS: u32 = 500;
@@ -122,25 +119,10 @@ fn measure<R: Clock>(rt: &R, core: &mut Core, loans: u32) -> Result<Times, Error
     Ok(times)
 }
 
-/// What lending and taking back took of the time of the run, in thousandths, with so many pages of data.
-fn ratio_with<R: AllocGlobal + Clock>(rt: &R, pages: u32) -> Result<u128, Error>
+/// What lending and taking back take of the time of the run, in thousandths, with so many pages of data.
+pub fn ratio_with<R: AllocGlobal + Clock>(rt: &R, pages: u32) -> Result<u128, Error>
     requires { pages ≤ 51 }
 {
     let mut core = boot(rt.alloc(), pages)?;
-    Ok(measure(rt, &mut core, LOANS)?.ratio())
-}
-
-fn main(rt: HostRuntime) -> Result<(), Error> {
-    let words: Vec<String> = env::args(&rt)?.collect(rt.alloc())?;
-    if words.len() > 1 {
-        println!(rt;
-            "loan_cost prints what a loan costs beside the run of its {QUANTUM} instructions; it takes no words"
-        )?;
-        return Ok(());
-    }
-    for pages in [1, 16, 51] {
-        let ratio = ratio_with(&rt, pages)?;
-        println!(rt; "{pages} pages of data: lend and settle take {ratio} thousandths of the run")?;
-    }
-    Ok(())
+    measure(rt, &mut core, LOANS).map(|times| times.ratio())
 }

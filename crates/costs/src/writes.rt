@@ -1,18 +1,15 @@
 //! What a write costs the kernel, to a terminal, to a file and to a pipe: the time of its Enter after a short history and
 //! after a long one.
-#![tactic(auto)]
-
 use anyhow::Error;
 use assembler::assemble;
 use kernel::{Core, Event, Program, SimDisk};
 use std::alloc::Global;
-use std::env;
 use std::time::{Clock, Duration, Instant};
 
 /// After how many events the Enters are timed.
-const SHORT: usize = 1_000;
+pub const SHORT: usize = 1_000;
 
-const LONG: usize = 100_000;
+pub const LONG: usize = 100_000;
 
 /// How many calls are looked at there.
 const CALLS: u32 = 2_000;
@@ -75,15 +72,16 @@ again:  mv a0,s1
 ";
 
 /// A program that writes.
-struct Writer {
+pub struct Writer {
     /// What it writes to.
-    to: &'static str,
+    pub to: &'static str,
     source: &'static str,
     /// Whether each write follows another call; else each call is a write.
     alternates: bool,
 }
 
-const WRITERS: [Writer; 3] = [
+/// One for each thing that is written to.
+pub const WRITERS: [Writer; 3] = [
     Writer {
         to: "a terminal",
         source: TO_A_TERMINAL,
@@ -159,30 +157,16 @@ impl Run {
         }
         Ok(time)
     }
+
+    /// What the writes take after many events, in thousandths of what they take after few.
+    fn ratio<R: Clock>(&mut self, rt: &R) -> Result<u128, Error> {
+        let short = self.time_after(rt, SHORT)?.as_nanos();
+        let long = self.time_after(rt, LONG)?.as_nanos();
+        Ok(long.saturating_mul(1000) / short.max(1))
+    }
 }
 
 /// What a write takes after many events, in thousandths of what it takes after few.
-fn ratio_of<R: AllocGlobal + Clock>(rt: &R, writer: &Writer) -> Result<u128, Error> {
-    let mut run = Run::of(rt.alloc(), writer)?;
-    let short = run.time_after(rt, SHORT)?.as_nanos();
-    let long = run.time_after(rt, LONG)?.as_nanos();
-    Ok(long.saturating_mul(1000) / short.max(1))
-}
-
-fn main(rt: HostRuntime) -> Result<(), Error> {
-    let words: Vec<String> = env::args(&rt)?.collect(rt.alloc())?;
-    if words.len() > 1 {
-        println!(rt;
-            "apply_cost prints what an Enter that writes costs behind {SHORT} and behind {LONG} events; it takes no words"
-        )?;
-        return Ok(());
-    }
-    for writer in &WRITERS {
-        let ratio = ratio_of(&rt, writer)?;
-        println!(rt;
-            "a write to {}: behind {LONG} events {ratio} thousandths of its time behind {SHORT}",
-            writer.to
-        )?;
-    }
-    Ok(())
+pub fn ratio_of<R: AllocGlobal + Clock>(rt: &R, writer: &Writer) -> Result<u128, Error> {
+    Run::of(rt.alloc(), writer)?.ratio(rt)
 }

@@ -1,6 +1,6 @@
 //! Disks that were made by hand.
-use super::*;
 use files::FileTable;
+use journal::{DiskFault, open, recover};
 use simdisk::{DiskRefusal, SIZE, SimDisk};
 use std::alloc::{AllocError, Global};
 use std::test::Fail;

@@ -2,8 +2,8 @@
 use Rattle.std.proofs.Common.{ap, ◌∙◌, inr, arith, None}
 use Rattle.std.specs.FinMap.{get}
 use Rattle.machine_model.specs.Memory.{Memory, memory_of}
-use Rattle.memory.proofs.Free.{free-empty, free-mapped}
-use Rattle.memory.proofs.tests.two_pages.Goals as goal
+use Rattle.library_tests.proofs.Free.{free-empty, free-mapped}
+use Rattle.library_tests.proofs.spaces.two_pages.Goals as goal
 
 pub map-requires-clause-free : goal.map-requires-clause-free
 map-requires-clause-free c = λ a low high.

@@ -1,0 +1,26 @@
+//! Assertions about the rows of a table.
+use std::alloc::{AllocError, Global};
+use std::fmt::{Debug, Display};
+use std::process::Abort;
+
+/// Fails, and says which row it is, where a row gives something else than is wanted.
+pub fn assert_row<T: PartialEq + Debug>(
+    rt: &impl Abort,
+    row: &impl Display,
+    found: &T,
+    wanted: &T,
+) {
+    assert_eq!(rt; found, wanted, "{row}");
+}
+
+/// The same of the text of a value.
+pub fn assert_shown(
+    rt: &impl Abort,
+    alloc: Global,
+    value: &impl Display,
+    text: &str,
+) -> Result<(), AllocError> {
+    let shown = format!(in alloc; "{value}")?;
+    assert_row(rt, &text, &shown.as_str(), &text);
+    Ok(())
+}
