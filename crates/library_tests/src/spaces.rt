@@ -3,9 +3,9 @@ ghost use Rattle.std.specs.Prelude.{◌≡◌, ◌+◌, ◌%◌, ◌^◌, ◌≤
 ghost use Rattle.machine_model.specs.Memory.{memory_of};
 ghost use Rattle.machine_model.specs.Access.{mapped};
 
-use memory::{CopyFault, Space};
 use isa_table::Bus;
 use machine_model::{BusFault, Rights, Width};
+use memory::{CopyFault, Space};
 use std::alloc::{AllocError, Global};
 use std::test::Fail;
 
