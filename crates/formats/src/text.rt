@@ -1,6 +1,6 @@
 //! How registers and instructions are written.
 ghost use Rattle.std.specs.Prelude.{◌≡◌, ◌++◌, Some};
-ghost use Rattle.formats.specs.Operands.{operands_text};
+ghost use Rattle.formats.specs.Operands.{operands_text, mnemonic_of, operands_of};
 ghost use Rattle.formats.specs.Text.{register_name, text_of};
 
 use crate::fields::{BranchOffset, Immediate, JumpOffset, Reg, ShiftAmount, Upper};
@@ -117,59 +117,112 @@ impl fmt::Display for Operands {
 }
 
 impl Instr {
-    /// The mnemonic and the operands.
-    fn parts(&self) -> (&'static str, Operands)
-        ensures { text_of self.now ≡ result.0.now ++ operands_text result.1 }
+    /// The mnemonic.
+    fn mnemonic(self) -> &'static str
+        ensures { result.now ≡ mnemonic_of self }
     {
-        match *self {
-            Instr::Lui { rd, imm } => ("lui", Operands::Upper(rd, imm)),
-            Instr::Auipc { rd, imm } => ("auipc", Operands::Upper(rd, imm)),
-            Instr::Jal { rd, offset } => ("jal", Operands::Jump(rd, offset)),
-            Instr::Jalr { rd, rs1, imm } => ("jalr", Operands::Address(rd, rs1, imm)),
-            Instr::Beq { rs1, rs2, offset } => ("beq", Operands::Branch(rs1, rs2, offset)),
-            Instr::Bne { rs1, rs2, offset } => ("bne", Operands::Branch(rs1, rs2, offset)),
-            Instr::Blt { rs1, rs2, offset } => ("blt", Operands::Branch(rs1, rs2, offset)),
-            Instr::Bge { rs1, rs2, offset } => ("bge", Operands::Branch(rs1, rs2, offset)),
-            Instr::Bltu { rs1, rs2, offset } => ("bltu", Operands::Branch(rs1, rs2, offset)),
-            Instr::Bgeu { rs1, rs2, offset } => ("bgeu", Operands::Branch(rs1, rs2, offset)),
-            Instr::Lb { rd, rs1, imm } => ("lb", Operands::Address(rd, rs1, imm)),
-            Instr::Lh { rd, rs1, imm } => ("lh", Operands::Address(rd, rs1, imm)),
-            Instr::Lw { rd, rs1, imm } => ("lw", Operands::Address(rd, rs1, imm)),
-            Instr::Lbu { rd, rs1, imm } => ("lbu", Operands::Address(rd, rs1, imm)),
-            Instr::Lhu { rd, rs1, imm } => ("lhu", Operands::Address(rd, rs1, imm)),
-            Instr::Sb { rs1, rs2, imm } => ("sb", Operands::Address(rs2, rs1, imm)),
-            Instr::Sh { rs1, rs2, imm } => ("sh", Operands::Address(rs2, rs1, imm)),
-            Instr::Sw { rs1, rs2, imm } => ("sw", Operands::Address(rs2, rs1, imm)),
-            Instr::Addi { rd, rs1, imm } => ("addi", Operands::Number(rd, rs1, imm)),
-            Instr::Slti { rd, rs1, imm } => ("slti", Operands::Number(rd, rs1, imm)),
-            Instr::Sltiu { rd, rs1, imm } => ("sltiu", Operands::Number(rd, rs1, imm)),
-            Instr::Xori { rd, rs1, imm } => ("xori", Operands::Number(rd, rs1, imm)),
-            Instr::Ori { rd, rs1, imm } => ("ori", Operands::Number(rd, rs1, imm)),
-            Instr::Andi { rd, rs1, imm } => ("andi", Operands::Number(rd, rs1, imm)),
-            Instr::Slli { rd, rs1, amount } => ("slli", Operands::Amount(rd, rs1, amount)),
-            Instr::Srli { rd, rs1, amount } => ("srli", Operands::Amount(rd, rs1, amount)),
-            Instr::Srai { rd, rs1, amount } => ("srai", Operands::Amount(rd, rs1, amount)),
-            Instr::Add { rd, rs1, rs2 } => ("add", Operands::Registers(rd, rs1, rs2)),
-            Instr::Sub { rd, rs1, rs2 } => ("sub", Operands::Registers(rd, rs1, rs2)),
-            Instr::Sll { rd, rs1, rs2 } => ("sll", Operands::Registers(rd, rs1, rs2)),
-            Instr::Slt { rd, rs1, rs2 } => ("slt", Operands::Registers(rd, rs1, rs2)),
-            Instr::Sltu { rd, rs1, rs2 } => ("sltu", Operands::Registers(rd, rs1, rs2)),
-            Instr::Xor { rd, rs1, rs2 } => ("xor", Operands::Registers(rd, rs1, rs2)),
-            Instr::Srl { rd, rs1, rs2 } => ("srl", Operands::Registers(rd, rs1, rs2)),
-            Instr::Sra { rd, rs1, rs2 } => ("sra", Operands::Registers(rd, rs1, rs2)),
-            Instr::Or { rd, rs1, rs2 } => ("or", Operands::Registers(rd, rs1, rs2)),
-            Instr::And { rd, rs1, rs2 } => ("and", Operands::Registers(rd, rs1, rs2)),
-            Instr::Mul { rd, rs1, rs2 } => ("mul", Operands::Registers(rd, rs1, rs2)),
-            Instr::Mulh { rd, rs1, rs2 } => ("mulh", Operands::Registers(rd, rs1, rs2)),
-            Instr::Mulhsu { rd, rs1, rs2 } => ("mulhsu", Operands::Registers(rd, rs1, rs2)),
-            Instr::Mulhu { rd, rs1, rs2 } => ("mulhu", Operands::Registers(rd, rs1, rs2)),
-            Instr::Div { rd, rs1, rs2 } => ("div", Operands::Registers(rd, rs1, rs2)),
-            Instr::Divu { rd, rs1, rs2 } => ("divu", Operands::Registers(rd, rs1, rs2)),
-            Instr::Rem { rd, rs1, rs2 } => ("rem", Operands::Registers(rd, rs1, rs2)),
-            Instr::Remu { rd, rs1, rs2 } => ("remu", Operands::Registers(rd, rs1, rs2)),
-            Instr::Fence => ("fence", Operands::None),
-            Instr::Ecall => ("ecall", Operands::None),
-            Instr::Ebreak => ("ebreak", Operands::None),
+        match self {
+            Instr::Lui { .. } => "lui",
+            Instr::Auipc { .. } => "auipc",
+            Instr::Jal { .. } => "jal",
+            Instr::Jalr { .. } => "jalr",
+            Instr::Beq { .. } => "beq",
+            Instr::Bne { .. } => "bne",
+            Instr::Blt { .. } => "blt",
+            Instr::Bge { .. } => "bge",
+            Instr::Bltu { .. } => "bltu",
+            Instr::Bgeu { .. } => "bgeu",
+            Instr::Lb { .. } => "lb",
+            Instr::Lh { .. } => "lh",
+            Instr::Lw { .. } => "lw",
+            Instr::Lbu { .. } => "lbu",
+            Instr::Lhu { .. } => "lhu",
+            Instr::Sb { .. } => "sb",
+            Instr::Sh { .. } => "sh",
+            Instr::Sw { .. } => "sw",
+            Instr::Addi { .. } => "addi",
+            Instr::Slti { .. } => "slti",
+            Instr::Sltiu { .. } => "sltiu",
+            Instr::Xori { .. } => "xori",
+            Instr::Ori { .. } => "ori",
+            Instr::Andi { .. } => "andi",
+            Instr::Slli { .. } => "slli",
+            Instr::Srli { .. } => "srli",
+            Instr::Srai { .. } => "srai",
+            Instr::Add { .. } => "add",
+            Instr::Sub { .. } => "sub",
+            Instr::Sll { .. } => "sll",
+            Instr::Slt { .. } => "slt",
+            Instr::Sltu { .. } => "sltu",
+            Instr::Xor { .. } => "xor",
+            Instr::Srl { .. } => "srl",
+            Instr::Sra { .. } => "sra",
+            Instr::Or { .. } => "or",
+            Instr::And { .. } => "and",
+            Instr::Mul { .. } => "mul",
+            Instr::Mulh { .. } => "mulh",
+            Instr::Mulhsu { .. } => "mulhsu",
+            Instr::Mulhu { .. } => "mulhu",
+            Instr::Div { .. } => "div",
+            Instr::Divu { .. } => "divu",
+            Instr::Rem { .. } => "rem",
+            Instr::Remu { .. } => "remu",
+            Instr::Fence => "fence",
+            Instr::Ecall => "ecall",
+            Instr::Ebreak => "ebreak",
+        }
+    }
+
+    /// The operands.
+    fn operands(self) -> Operands
+        ensures { result ≡ operands_of self }
+    {
+        match self {
+            Instr::Lui { rd, imm } | Instr::Auipc { rd, imm } => Operands::Upper(rd, imm),
+            Instr::Jal { rd, offset } => Operands::Jump(rd, offset),
+            Instr::Jalr { rd, rs1, imm }
+            | Instr::Lb { rd, rs1, imm }
+            | Instr::Lh { rd, rs1, imm }
+            | Instr::Lw { rd, rs1, imm }
+            | Instr::Lbu { rd, rs1, imm }
+            | Instr::Lhu { rd, rs1, imm } => Operands::Address(rd, rs1, imm),
+            Instr::Beq { rs1, rs2, offset }
+            | Instr::Bne { rs1, rs2, offset }
+            | Instr::Blt { rs1, rs2, offset }
+            | Instr::Bge { rs1, rs2, offset }
+            | Instr::Bltu { rs1, rs2, offset }
+            | Instr::Bgeu { rs1, rs2, offset } => Operands::Branch(rs1, rs2, offset),
+            Instr::Sb { rs1, rs2, imm }
+            | Instr::Sh { rs1, rs2, imm }
+            | Instr::Sw { rs1, rs2, imm } => Operands::Address(rs2, rs1, imm),
+            Instr::Addi { rd, rs1, imm }
+            | Instr::Slti { rd, rs1, imm }
+            | Instr::Sltiu { rd, rs1, imm }
+            | Instr::Xori { rd, rs1, imm }
+            | Instr::Ori { rd, rs1, imm }
+            | Instr::Andi { rd, rs1, imm } => Operands::Number(rd, rs1, imm),
+            Instr::Slli { rd, rs1, amount }
+            | Instr::Srli { rd, rs1, amount }
+            | Instr::Srai { rd, rs1, amount } => Operands::Amount(rd, rs1, amount),
+            Instr::Add { rd, rs1, rs2 }
+            | Instr::Sub { rd, rs1, rs2 }
+            | Instr::Sll { rd, rs1, rs2 }
+            | Instr::Slt { rd, rs1, rs2 }
+            | Instr::Sltu { rd, rs1, rs2 }
+            | Instr::Xor { rd, rs1, rs2 }
+            | Instr::Srl { rd, rs1, rs2 }
+            | Instr::Sra { rd, rs1, rs2 }
+            | Instr::Or { rd, rs1, rs2 }
+            | Instr::And { rd, rs1, rs2 }
+            | Instr::Mul { rd, rs1, rs2 }
+            | Instr::Mulh { rd, rs1, rs2 }
+            | Instr::Mulhsu { rd, rs1, rs2 }
+            | Instr::Mulhu { rd, rs1, rs2 }
+            | Instr::Div { rd, rs1, rs2 }
+            | Instr::Divu { rd, rs1, rs2 }
+            | Instr::Rem { rd, rs1, rs2 }
+            | Instr::Remu { rd, rs1, rs2 } => Operands::Registers(rd, rs1, rs2),
+            Instr::Fence | Instr::Ecall | Instr::Ebreak => Operands::None,
         }
     }
 }
@@ -179,9 +232,11 @@ impl Instr {
 impl fmt::Display for Instr {
     ghost output = { λ i. Some (text_of i) };
 
+    #[tactic(auto, using(crate::proofs::Texts::text_in_parts))]
     fn fmt<W: fmt::Write>(&self, f: &mut fmt::Formatter<W>) -> fmt::Result {
-        let (op, operands) = self.parts();
-        write!(f, "{op}{operands}")
+        let mnemonic = self.mnemonic();
+        let operands = self.operands();
+        write!(f, "{mnemonic}{operands}")
     }
 }
 
