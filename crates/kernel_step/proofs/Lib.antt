@@ -19,6 +19,7 @@ pub mod Holding
 pub mod Lists
 pub mod Moving
 pub mod Performing
+pub mod Preparing
 pub mod Quiet
 pub mod Refusing
 pub mod Releasing

@@ -1,11 +1,10 @@
 -- A task that is told something, from its parts.
-use Rattle.std.proofs.Common.{◌≡◌, ◌∙◌, ◌++◌, ℕ, List, Option, None, IfSome, Some, option_to_list, ap}
+use Rattle.std.proofs.Common.{◌∙◌, ◌++◌, ℕ, List, Option, option_to_list, ap}
 use Rattle.machine_model.specs.States.{State}
 use Rattle.kernel_model.specs.Entries.{Item}
-use Rattle.kernel_model.specs.Shown.{end_in}
 use Rattle.kernel_model.specs.declared.request.Verdict.{Verdict}
-use Rattle.withheld.specs.Withheld.{Withheld, Held, IsSame, all_held, whats}
-use Rattle.kernel_step.specs.Entering.{item_of, machine_after, IsTold, IsChild}
+use Rattle.withheld.specs.Withheld.{Withheld, Held, IsSame, all_held}
+use Rattle.kernel_step.specs.Entering.{item_of, machine_after, IsTold}
 use Rattle.kernel_step.specs.Settling.{IsBack}
 use Rattle.kernel_step.specs.Waiting.{waited_after}
 use Rattle.kernel_step.specs.declared.task.Task.{Task}
@@ -36,9 +35,3 @@ told-back verdict mark before t u v m r same back h = record {
   loans = h.loans ∙ back.loans;
   out = h.out ∙ back.out;
 }
-
--- a process that is made has not ended, where its parent has not
-pub child-runs : (number : Option ℕ) (s : State) (parent : Withheld Item) (o : Option Task) → IsChild number s parent o → end_in (whats parent.items) ≡ None
-    → IfSome o (λ (u : Task). end_in (whats u.trace.items) ≡ None)
-child-runs number s parent None made running = tt
-child-runs number s parent (Some u) made running = ap (λ (hs : List (Held Item)). end_in (whats hs)) made.1.items ∙ running

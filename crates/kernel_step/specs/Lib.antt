@@ -8,11 +8,13 @@ pub mod Lending
 pub mod Loaned
 pub mod Mirrors
 pub mod Parts
+pub mod Ready
 pub mod Seen
 pub mod Settling
 pub mod Stands
 pub mod Storing
 pub mod Tasks
 pub mod Tests
+pub mod Unchanged
 pub mod Waiting
 pub mod Whereabouts

@@ -5,11 +5,13 @@ use Rattle.commit_deps.specs.declared.dependencies.Marked.{Marked}
 use Rattle.kernel_model.specs.declared.answer.Answer.{Answer}
 use Rattle.kernel_model.specs.declared.answer.Answer.TheVariants as answer_of
 use Rattle.kernel_model.specs.declared.answer.Outcome.{Outcome}
+use Rattle.kernel_model.specs.declared.answer.Refused.TheVariants.{OutOfMemory}
 use Rattle.withheld.specs.Withheld.{IsSame}
 use Rattle.kernel_step.specs.Entering.{IsSameTask, IsDone}
 use Rattle.kernel_step.specs.Parts.{IsOwnNoted}
 use Rattle.kernel_step.specs.Tasks.{machine_of, out_of}
 use Rattle.kernel_step.specs.declared.loan.Done.{Done}
+use Rattle.kernel_step.specs.declared.loan.Rejected.{Rejected}
 use Rattle.kernel_step.specs.declared.system.System.{System}
 use Rattle.kernel_step.specs.declared.task.Task.{Task}
 
@@ -70,3 +72,8 @@ pub record IsUnsettled (place : ℕ) (old new : List Task) : Type 0 where
   pub after : Task
   pub same : IsSameTask task after
   pub tasks : new ≡ slice_set old place after
+
+-- the result is handed back, since memory ran out
+pub record HandsBack (d : Done) (r : Rejected) : Type 0 where
+  pub cause : r.why ≡ OutOfMemory
+  pub back : r.done ≡ d

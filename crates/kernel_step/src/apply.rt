@@ -49,7 +49,7 @@ impl Running {
         silent_events_leave_marks();
         let full = is_full(self.history.len(), &self.tasks);
         cut(
-            self.alloc,
+            self.system.alloc,
             &mut self.history,
             full,
             &mut self.system.committer,

@@ -58,6 +58,7 @@ impl Running {
         let screens = empty_screens(alloc)?;
         let pipes = PipeTable::new(alloc)?;
         let system = System {
+            alloc,
             dependencies: Dependencies::new(alloc),
             changes: Vec::new(alloc),
             files,
@@ -69,7 +70,6 @@ impl Running {
             committer,
         };
         Ok(Running {
-            alloc,
             history: Vec::new(alloc),
             ran: 0,
             tasks,

@@ -1,28 +1,27 @@
 //! An Enter: a process is told what its call, or its trap, comes to.
-ghost use Rattle.std.specs.Prelude.{ℕ, ◌≡◌, ◌+◌, ◌*◌, ◌<◌, ◌≤◌, ◌^◌, ◌⊎◌, ◌++◌, ◌∷◌, [], Option, length, map, Some, None, true, is_some, if◌then◌else◌, vec_len, vec_capacity, option_to_list, IfOk, IfErr, IfSome, OnOk, OnErr};
+ghost use Rattle.std.specs.Prelude.{ℕ, ◌≡◌, ◌+◌, ◌*◌, ◌<◌, ◌≤◌, ◌^◌, ◌++◌, ◌∷◌, [], Option, length, map, Some, None, is_some, if◌then◌else◌, vec_len, vec_capacity, option_to_list, IfOk, IfErr, OnOk, OnErr};
 ghost use Rattle.std.specs.List.{AllByRecursion};
-ghost use Rattle.machine_model.specs.States.{State, stands_at};
-ghost use Rattle.calls.specs.Plans.{AreLeft, IsNext, MayAllStep, OpensNone, all_seen};
+ghost use Rattle.machine_model.specs.States.{State};
+ghost use Rattle.calls.specs.Plans.{MayAllStep, OpensNone, all_seen};
 ghost use Rattle.pipes.specs.Stepping.{seen_after, MayStep};
 ghost use Rattle.processes.specs.Parts.{part_at, with_part, with_slots};
-ghost use Rattle.processes.specs.Table.{HasRoom as HasChildRoom};
 ghost use Rattle.kernel_model.specs.Answers.{Refuses, outcome_of, with_child, entered as answer_to};
 ghost use Rattle.kernel_model.specs.Entries.{Item};
-ghost use Rattle.kernel_model.specs.Shown.{end_in};
 ghost use Rattle.kernel_model.specs.State.{changed_by, read_by};
-ghost use Rattle.withheld.specs.Withheld.{Withheld, whats, IsSame};
+ghost use Rattle.withheld.specs.Withheld.{Withheld, IsSame};
 ghost use Rattle.kernel_model.specs.Steps.{step};
 ghost use Rattle.kernel_model.specs.World.{Boot, World, happens};
 ghost use Rattle.kernel_step.specs.Stands.{Stands, Steps};
-ghost use Rattle.kernel_model.specs.declared.answer.Refused.TheVariants.{OutOfMemory};
 ghost use Rattle.kernel_model.specs.declared.request.Verdict.TheVariants.{Replies as Told};
-ghost use Rattle.kernel_step.specs.Entering.{seen_of, entry_of, item_of, machine_after, parts_after, with_children, MayBeTold, MayPlan, IsSpare, IsTold, HasSpaceFor, StayScreens, ArePrinted, IsSameTask, IsSameSystem, IsSystemWith, IsEntering, IsChild, MakesTask, IsNoted, IsFinished, IsDone};
+ghost use Rattle.kernel_step.specs.Entering.{entry_of, item_of, parts_after, with_children, IsSpare, IsTold, HasSpaceFor, StayScreens, ArePrinted, IsSameSystem, IsSystemWith, IsChild, MakesTask, IsNoted, IsFinished, IsDone};
+ghost use Rattle.kernel_step.specs.Ready.{MayEnter, HoldsPlan, HoldsEnter, IsPrepared, MayTell, MayTellChild, MayChange, MayBecome, IsReady};
 ghost use Rattle.kernel_step.specs.Mirrors.{Mirrors};
 ghost use Rattle.kernel_step.specs.Tasks.{machine_of, out_of, count_out, lending_of};
 ghost use Rattle.kernel_step.specs.Tests.{full_of, enter_refusal_of};
+ghost use Rattle.kernel_step.specs.Unchanged.{AreUntouched};
 ghost use Rattle.kernel_step.specs.Waiting.{served_after};
 
-use crate::plan::{Entering, prepare};
+use crate::plan::Entering;
 use crate::running::Running;
 use crate::system::System;
 use crate::task::Task;
@@ -87,9 +86,7 @@ fn change_files(files: &mut FileTable, change: &Option<Change>) -> Result<(), Al
 fn ready(system: &mut System, pid: u32, plan: &Plan) -> Result<(), AllocError>
     requires from_1 { 0 < pid }
     requires there { pid ≤ length system.old.processes.parts }
-    ensures children { OnOk result (HasChildRoom system.new.processes pid) }
-    ensures changes { OnOk result (vec_len system.new.changes < vec_capacity system.new.changes) }
-    ensures screens { OnOk result (HasSpaceFor plan.now.output system.new.screens.items) }
+    ensures holds { OnOk result (HoldsPlan system.new pid plan.now) }
     ensures room { system.old.dependencies.room ≤ system.new.dependencies.room }
     ensures done { OnOk result (IsSystemWith (changed_by system.old.files plan.now.change) system.old system.new) }
     ensures err { OnErr result (IsSameSystem system.old system.new) }
@@ -100,46 +97,51 @@ fn ready(system: &mut System, pid: u32, plan: &Plan) -> Result<(), AllocError>
     change_files(&mut system.files, &plan.change)
 }
 
-/// Takes all memory for an Enter of a process whose machine is this one, and stands here, for so many events and carriers more,
-/// and does its change of the files, which is the last step that may fail. Answers what the Enter comes to. Where memory runs out
-/// nothing has changed.
-pub fn prepare_enter(
-    alloc: Global,
+/// Takes all memory for an Enter that comes to this, and for a Turn before it, and does its change of the files, which is the
+/// last step that may fail. Where memory runs out nothing has changed.
+fn take_room(
     history: &mut Vec<Event>,
-    pid: u32,
-    stop: Stop,
-    machine: &Machine,
-    trace: &mut Trace,
     system: &mut System,
-    more: usize,
-) -> Result<Entering, Refused>
-    requires stands { stands_at machine.now ≡ Some stop }
-    requires budget { machine.now.count < 2 ^ 40 }
-    requires running { end_in (whats trace.old.items) ≡ None }
-    requires fine { MayPlan (seen_of system.old) pid }
-    requires few { more ≤ 1 }
+    trace: &mut Trace,
+    entering: &Entering,
+) -> Result<(), AllocError>
+    requires from_1 { 0 < entering.now.pid }
+    requires there { entering.now.pid ≤ length system.old.processes.parts }
     ensures history { history.new.items ≡ history.old.items }
-    ensures events { OnOk result (vec_len history.new + 1 + more ≤ vec_capacity history.new) }
     ensures trace { IsSame trace.old trace.new }
-    ensures replies { OnOk result (1 ≤ trace.new.room) }
-    ensures writes { IfOk result (λ e. length e.writes.items + more ≤ system.new.dependencies.room) }
-    ensures changes { OnOk result (vec_len system.new.changes < vec_capacity system.new.changes) }
-    ensures children { OnOk result (HasChildRoom system.new.processes pid) }
-    ensures screens { IfOk result (λ e. HasSpaceFor e.plan.output system.new.screens.items) }
-    ensures entering { IfOk result (λ e. IsEntering (seen_of system.old) pid machine.now trace.old e) }
-    ensures done { IfOk result (λ e. IsSystemWith (changed_by system.old.files e.plan.change) system.old system.new) }
+    ensures holds { OnOk result (HoldsEnter history.new trace.new system.new entering.now) }
+    ensures done { OnOk result (IsSystemWith (changed_by system.old.files entering.now.plan.change) system.old system.new) }
     ensures err { OnErr result (IsSameSystem system.old system.new) }
-    ensures cause { IfErr result (λ why. why ≡ OutOfMemory) }
 {
-    let entering = prepare(alloc, pid, stop, machine, trace, system)?;
     reserve(
         history,
         &mut system.dependencies,
-        1 + more,
-        entering.writes.len() + more,
+        2,
+        entering.writes.len() + 1,
     )?;
     trace.reserve()?;
-    ready(system, pid, &entering.plan)?;
+    ready(system, entering.pid, &entering.plan)?;
+    Ok(())
+}
+
+/// Finds what an Enter of a process comes to whose machine and trace are these, takes all memory for it, and for a Turn before
+/// it, and does its change of the files, which is the last step that may fail. Where memory runs out nothing has changed.
+pub fn prepare(
+    history: &mut Vec<Event>,
+    system: &mut System,
+    pid: u32,
+    machine: &Machine,
+    trace: &mut Trace,
+) -> Result<Entering, AllocError>
+    requires { MayEnter system.old pid machine.now trace.old }
+    ensures history { history.new.items ≡ history.old.items }
+    ensures trace { IsSame trace.old trace.new }
+    ensures prepared { IfOk result (λ e. IsPrepared pid machine.now trace.old system.old system.new e) }
+    ensures holds { IfOk result (λ e. HoldsEnter history.new trace.new system.new e) }
+    ensures err { OnErr result (IsSameSystem system.old system.new) }
+{
+    let entering = Entering::new(system, pid, machine, trace)?;
+    take_room(history, system, trace, &entering)?;
     Ok(entering)
 }
 
@@ -232,11 +234,7 @@ fn set_all(processes: &mut ProcTable, pid: u32, slots: &[Slot])
 
 /// A process makes a child, or collects one. Takes no memory.
 fn change_children(processes: &mut ProcTable, pid: u32, plan: &Plan)
-    requires from_1 { 0 < pid }
-    requires there { pid ≤ length processes.old.parts }
-    requires child { IfSome plan.now.child (IsNext (length processes.old.parts)) }
-    requires one { (plan.now.child ≡ None) ⊎ (plan.now.collects ≡ None) }
-    requires room { HasChildRoom processes.old pid }
+    requires { MayChange processes.old pid plan.now }
     ensures { processes.new.parts ≡ with_children processes.old.parts pid plan.now }
 {
     match plan.child {
@@ -253,11 +251,7 @@ fn change_children(processes: &mut ProcTable, pid: u32, plan: &Plan)
 
 /// What becomes of the parts of all processes by a plan. Takes no memory.
 fn change_parts(processes: &mut ProcTable, pid: u32, plan: &Plan)
-    requires from_1 { 0 < pid }
-    requires there { pid ≤ length processes.old.parts }
-    requires child { IfSome plan.now.child (IsNext (length processes.old.parts)) }
-    requires one { (plan.now.child ≡ None) ⊎ (plan.now.collects ≡ None) }
-    requires room { HasChildRoom processes.old pid }
+    requires { MayChange processes.old pid plan.now }
     ensures { processes.new.parts ≡ parts_after processes.old.parts pid plan.now }
 {
     change_children(processes, pid, plan);
@@ -270,11 +264,7 @@ fn change_parts(processes: &mut ProcTable, pid: u32, plan: &Plan)
 
 /// A process whose machine is here gets the reply to its call, by an event of this mark.
 fn take_reply(task: &mut Task, reply: Reply, mark: Mark)
-    requires here { out_of task.old ≡ None }
-    requires fine { MayBeTold (machine_of task.old) (Told reply) }
-    requires budget { (machine_of task.old).count < 2 ^ 40 }
-    requires running { end_in (whats task.old.trace.items) ≡ None }
-    requires room { 1 ≤ task.old.trace.room }
+    requires { MayTell (Told reply) task.old }
     ensures { (served : ℕ) → IsTold (Told reply) mark served task.old task.new }
 {
     let Whereabouts::Here(machine) = &mut task.whereabouts else {
@@ -287,11 +277,7 @@ fn take_reply(task: &mut Task, reply: Reply, mark: Mark)
 /// A process whose machine is here is told what its call came to, by an event of this mark, where so many Enters did not have to
 /// wait before.
 fn tell(task: &mut Task, verdict: Verdict, served: u64, mark: Mark) -> Outcome
-    requires here { out_of task.old ≡ None }
-    requires fine { MayBeTold (machine_of task.old) verdict }
-    requires budget { (machine_of task.old).count < 2 ^ 40 }
-    requires running { end_in (whats task.old.trace.items) ≡ None }
-    requires room { 1 ≤ task.old.trace.room }
+    requires { MayTell verdict task.old }
     ensures outcome { result ≡ outcome_of (item_of verdict) }
     ensures task { IsTold verdict mark served task.old task.new }
 {
@@ -325,15 +311,7 @@ fn count_served(verdict: &Verdict, served: u64) -> u64
 
 /// Does what an Enter changes that is shared, beside its output and its change of the files. Takes no memory.
 fn change_system(system: &mut System, pid: u32, plan: &Plan, spare: Option<Pipe>)
-    requires from_1 { 0 < pid }
-    requires there { pid ≤ length system.old.processes.parts }
-    requires child { IfSome plan.now.child (IsNext (length system.old.processes.parts)) }
-    requires one { (plan.now.child ≡ None) ⊎ (plan.now.collects ≡ None) }
-    requires room { HasChildRoom system.old.processes pid }
-    requires left { IfSome plan.now.tape (AreLeft system.old.tapes) }
-    requires spare { IsSpare plan.now.pipes.items spare }
-    requires may { MayAllStep system.old.pipes plan.now.pipes.items }
-    requires few { system.old.served < 2 ^ 63 }
+    requires { MayBecome system.old pid plan.now spare }
     ensures system { system.new ≡ record system.old {
       tapes = read_by system.old.tapes plan.now.tape;
       pipes = all_seen system.old.pipes plan.now.pipes.items;
@@ -362,8 +340,7 @@ fn keep(changes: &mut Vec<Change>, change: Option<Change>)
 
 /// A process that was made, if one was, is told 0 by an event of this mark. Takes no memory.
 fn tell_child(alloc: Global, child: Option<Task>, mark: Mark) -> Option<Task>
-    requires running { IfSome child (λ u. end_in (whats u.trace.items) ≡ None) }
-    requires room { IfSome child (λ u. 1 ≤ u.trace.room) }
+    requires { MayTellChild child }
     ensures { (number : Option ℕ) (s : State) (parent : Withheld Item) → IsChild number s parent child → MakesTask number mark s parent result }
 {
     let mut child = child?;
@@ -374,30 +351,12 @@ fn tell_child(alloc: Global, child: Option<Task>, mark: Mark) -> Option<Task>
 /// Does the rest of an Enter that is prepared, of a process whose machine is here, and whose event is noted with this mark. Answers
 /// what it came to, and the process that it made, if it made one. Takes no memory.
 pub fn finish(
-    alloc: Global,
     task: &mut Task,
     system: &mut System,
     entering: Entering,
     mark: Mark,
 ) -> (Outcome, Option<Task>)
-    requires here { out_of task.old ≡ None }
-    requires fine { MayBeTold (machine_of task.old) entering.plan.verdict }
-    requires budget { (machine_of task.old).count < 2 ^ 40 }
-    requires running { end_in (whats task.old.trace.items) ≡ None }
-    requires room { 1 ≤ task.old.trace.room }
-    requires screens { HasSpaceFor entering.plan.output system.old.screens.items }
-    requires changes { vec_len system.old.changes < vec_capacity system.old.changes }
-    requires from_1 { 0 < entering.pid }
-    requires there { entering.pid ≤ length system.old.processes.parts }
-    requires next { IfSome entering.plan.child (IsNext (length system.old.processes.parts)) }
-    requires one { (entering.plan.child ≡ None) ⊎ (entering.plan.collects ≡ None) }
-    requires children { HasChildRoom system.old.processes entering.pid }
-    requires child_running { IfSome entering.child (λ u. end_in (whats u.trace.items) ≡ None) }
-    requires child { IfSome entering.child (λ u. 1 ≤ u.trace.room) }
-    requires left { IfSome entering.plan.tape (AreLeft system.old.tapes) }
-    requires spare { IsSpare entering.plan.pipes.items entering.spare }
-    requires may { MayAllStep system.old.pipes entering.plan.pipes.items }
-    requires few { system.old.served < 2 ^ 63 }
+    requires { IsReady task.old system.old entering }
     ensures outcome { result.0 ≡ outcome_of (item_of entering.plan.verdict) }
     ensures task { IsTold entering.plan.verdict mark system.old.served task.old task.new }
     ensures system { IsFinished entering.pid entering.plan mark system.old system.new }
@@ -420,7 +379,7 @@ pub fn finish(
     } = plan;
     keep(&mut system.changes, change);
     let outcome = tell(task, verdict, before, mark);
-    (outcome, tell_child(alloc, child, mark))
+    (outcome, tell_child(system.alloc, child, mark))
 }
 
 /// A process that was made comes after the others. Takes no memory.
@@ -436,38 +395,27 @@ pub fn join(tasks: &mut Vec<Task>, child: Option<Task>)
 /// A process enters the kernel whose machine is here and stands at a call or a trap. Answers what the Enter came to, and the
 /// process that it made, if it made one. Where memory runs out nothing has changed.
 fn enter_task(
-    alloc: Global,
     history: &mut Vec<Event>,
-    task: &mut Task,
     system: &mut System,
     pid: u32,
-) -> Result<(Outcome, Option<Task>), Refused>
+    task: &mut Task,
+) -> Result<(Outcome, Option<Task>), AllocError>
     requires here { out_of task.old ≡ None }
-    requires stands { is_some (stands_at (machine_of task.old)) ≡ true }
-    requires budget { (machine_of task.old).count < 2 ^ 40 }
-    requires running { end_in (whats task.old.trace.items) ≡ None }
-    requires fine { MayPlan (seen_of system.old) pid }
-    requires few { system.old.served < 2 ^ 63 }
+    requires fine { MayEnter system.old pid (machine_of task.old) task.old.trace }
     ensures done { IfOk result (λ r. IsDone pid task.old task.new system.old system.new r.0 r.1) }
     ensures history { OnOk result (history.new.items ≡ history.old.items ++ Event.Enter pid ∷ []) }
-    ensures same_task { OnErr result (IsSameTask task.old task.new) }
-    ensures same_system { OnErr result (IsSameSystem system.old system.new) }
-    ensures same_history { OnErr result (history.new.items ≡ history.old.items) }
-    ensures cause { IfErr result (λ why. why ≡ OutOfMemory) }
+    ensures err { OnErr result (AreUntouched task.old task.new system.old system.new history.old.items history.new.items) }
 {
     let machine = task.whereabouts.machine();
-    let stop = machine.stopped().unwrap();
-    let trace = &mut task.trace;
-    let entering = prepare_enter(alloc, history, pid, stop, machine, trace, system, 0)?;
+    let entering = prepare(history, system, pid, machine, &mut task.trace)?;
     let mark = note_enter(&mut system.dependencies, &entering, system.changes.len());
-    let (outcome, child) = finish(alloc, task, system, entering, mark);
+    let (outcome, child) = finish(task, system, entering, mark);
     history.push(Event::Enter { pid }).unwrap();
     Ok((outcome, child))
 }
 
 /// The process enters the kernel. Refused, with nothing changed: NoProcess, Ended, Lent, NotStopped, Budget, OutOfMemory.
 pub fn enter(
-    alloc: Global,
     history: &mut Vec<Event>,
     tasks: &mut Vec<Task>,
     system: &mut System,
@@ -496,7 +444,7 @@ pub fn enter(
     let place = enter_place(tasks, full, pid)?;
     tasks.reserve(1)?;
     let task = &mut tasks[place];
-    let (outcome, child) = enter_task(alloc, history, task, system, pid)?;
+    let (outcome, child) = enter_task(history, system, pid, task)?;
     join(tasks, child);
     Ok(entered(outcome))
 }
@@ -507,12 +455,6 @@ impl Running {
         requires { (b : Boot) × Stands b self.old }
         ensures { (b : Boot) → Stands b self.old → Steps b (Event.Enter pid) self.old self.new result }
     {
-        enter(
-            self.alloc,
-            &mut self.history,
-            &mut self.tasks,
-            &mut self.system,
-            pid,
-        )
+        enter(&mut self.history, &mut self.tasks, &mut self.system, pid)
     }
 }

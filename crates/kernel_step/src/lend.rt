@@ -136,7 +136,8 @@ impl Running {
         }
         let from = self.last_lent as usize;
         let served = self.system.served;
-        let Some(loan) = lend_next(self.alloc, &mut self.tasks, from, served, quantum)? else {
+        let Some(loan) = lend_next(self.system.alloc, &mut self.tasks, from, served, quantum)?
+        else {
             return Ok(None);
         };
         self.last_lent = loan.pid;

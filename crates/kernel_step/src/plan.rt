@@ -8,6 +8,7 @@ ghost use Rattle.kernel_model.specs.Steps.{zero_reply};
 ghost use Rattle.withheld.specs.Withheld.{whats};
 ghost use Rattle.kernel_model.specs.declared.carrier.Carrier.TheVariants.{Proc};
 ghost use Rattle.kernel_step.specs.Entering.{seen_of, writes_of, MayPlan, AreSteps, IsSpare, PlansEnter, IsEntering, IsChild};
+ghost use Rattle.kernel_step.specs.Ready.{MayEnter};
 
 use crate::system::System;
 use crate::task::Task;
@@ -49,13 +50,7 @@ fn descriptors_of(processes: &ProcTable, pid: u32) -> &Descriptors
 }
 
 /// The plan of the Enter of a process whose machine stands here, at a call or at a trap.
-fn plan_enter(
-    alloc: Global,
-    pid: u32,
-    stop: Stop,
-    machine: &Machine,
-    system: &System,
-) -> Result<Plan, AllocError>
+fn plan_enter(system: &System, pid: u32, machine: &Machine, stop: Stop) -> Result<Plan, AllocError>
     requires stands { stands_at machine.now ≡ Some stop }
     requires fine { MayPlan (seen_of system.now) pid }
     ensures { IfOk result (λ plan. PlansEnter (seen_of system.now) pid machine.now plan) }
@@ -63,12 +58,12 @@ fn plan_enter(
     match stop {
         Stop::Trap(cause) => {
             let descriptors = descriptors_of(&system.processes, pid);
-            plan_end(alloc, descriptors, trap_status(cause))
+            plan_end(system.alloc, descriptors, trap_status(cause))
         }
         _ => {
-            let request = request_of(alloc, machine)?;
+            let request = request_of(system.alloc, machine)?;
             plan_call(
-                alloc,
+                system.alloc,
                 &system.files,
                 &system.pipes,
                 &system.tapes,
@@ -146,32 +141,31 @@ fn prepare_child(
     Ok(Some(Task::made(pid, machine, trace)))
 }
 
-/// What an Enter of a process comes to whose machine and trace are these, and stands here.
-pub fn prepare(
-    alloc: Global,
-    pid: u32,
-    stop: Stop,
-    machine: &Machine,
-    trace: &Trace,
-    system: &System,
-) -> Result<Entering, AllocError>
-    requires stands { stands_at machine.now ≡ Some stop }
-    requires budget { machine.now.count < 2 ^ 40 }
-    requires running { end_in (whats trace.now.items) ≡ None }
-    requires fine { MayPlan (seen_of system.now) pid }
-    ensures { IfOk result (λ e. IsEntering (seen_of system.now) pid machine.now trace.now e) }
-{
-    let plan = plan_enter(alloc, pid, stop, machine, system)?;
-    let reads = with_own(alloc, pid, &plan.reads)?;
-    let writes = all_writes(alloc, pid, &plan)?;
-    let spare = spare_pipe(alloc, &plan.pipes)?;
-    let child = prepare_child(alloc, plan.child, machine, trace)?;
-    Ok(Entering {
-        pid,
-        plan,
-        reads,
-        writes,
-        spare,
-        child,
-    })
+impl Entering {
+    /// What an Enter of a process comes to whose machine and trace are these.
+    pub fn new(
+        system: &System,
+        pid: u32,
+        machine: &Machine,
+        trace: &Trace,
+    ) -> Result<Entering, AllocError>
+        requires { MayEnter system.now pid machine.now trace.now }
+        ensures { IfOk result (λ e. IsEntering (seen_of system.now) pid machine.now trace.now e) }
+    {
+        let alloc = system.alloc;
+        let stop = machine.stopped().unwrap();
+        let plan = plan_enter(system, pid, machine, stop)?;
+        let reads = with_own(alloc, pid, &plan.reads)?;
+        let writes = all_writes(alloc, pid, &plan)?;
+        let spare = spare_pipe(alloc, &plan.pipes)?;
+        let child = prepare_child(alloc, plan.child, machine, trace)?;
+        Ok(Entering {
+            pid,
+            plan,
+            reads,
+            writes,
+            spare,
+            child,
+        })
+    }
 }

@@ -2,13 +2,11 @@
 use crate::system::System;
 use crate::task::Task;
 use kernel_model::Event;
-use std::alloc::Global;
 
 /// The parts of a running kernel, as its events leave them. What it was booted from they do not have: contracts speak of every boot
 /// of which they are the parts.
 #[derive(Drop)]
 pub struct Running {
-    pub(crate) alloc: Global,
     /// The accepted events, in order.
     pub(crate) history: Vec<Event>,
     /// How many instructions the history's Turns ran, those of loans' results among them.

@@ -1,17 +1,16 @@
 //! Loans' results taken back.
 ghost use Rattle.std.specs.Prelude.{◌≡◌, ◌+◌, ◌<◌, ◌^◌, ◌++◌, ◌∷◌, [], ◌↔◌, IsTrue, length, slice_get, Some, None, IfOk, IfErr, OnOk, OnErr};
-ghost use Rattle.machine_model.specs.States.{stands_at};
 ghost use Rattle.kernel_model.specs.World.{Boot};
 ghost use Rattle.kernel_step.specs.Stands.{Stands, Settles};
-ghost use Rattle.kernel_model.specs.Shown.{end_in};
-ghost use Rattle.withheld.specs.Withheld.{whats};
 ghost use Rattle.kernel_step.specs.declared.task.Task.{Task};
 ghost use Rattle.kernel_model.specs.declared.answer.Refused.TheVariants.{OutOfMemory};
 ghost use Rattle.kernel_model.specs.declared.answer.Outcome.{Outcome};
-ghost use Rattle.kernel_step.specs.Entering.{seen_of, MayPlan, IsSameTask, IsSameSystem};
-ghost use Rattle.kernel_step.specs.Settling.{IsLoanOf, IsBack, IsTurnNoted, IsTurnEntered, IsCallSettled, IsUnsettled};
+ghost use Rattle.kernel_step.specs.Entering.{IsSameSystem};
+ghost use Rattle.kernel_step.specs.Ready.{MayEnter};
+ghost use Rattle.kernel_step.specs.Settling.{IsLoanOf, IsBack, IsTurnNoted, IsTurnEntered, IsCallSettled, IsUnsettled, HandsBack};
+ghost use Rattle.kernel_step.specs.Unchanged.{AreUntouched};
 
-use crate::enter::{finish, join, note_enter, prepare_enter};
+use crate::enter::{finish, join, note_enter, prepare};
 use crate::loan::{Done, Rejected};
 use crate::running::Running;
 use crate::system::System;
@@ -22,9 +21,7 @@ use crate::whereabouts::Whereabouts;
 use disk_model::{checkpoints_fit, made_files_change};
 use kernel_model::{Answer, Event, Refused};
 use machine::Machine;
-use machine_model::Stop;
 use pipes::{ends_grow_by_one, steps_are_shown};
-use std::alloc::Global;
 
 /// Whether a result is of the loan that the process is out on.
 fn is_of_loan(task: &Task, done: &Done) -> bool
@@ -92,33 +89,23 @@ fn settle_turn(
     })
 }
 
-/// Takes a result back whose machine stands here: it becomes a Turn and an Enter. Answers what the Enter came to, and the
-/// process that it made.
+/// Takes a result back of a task whose machine stands at a call or a trap: it becomes a Turn and an Enter. Answers what the Enter
+/// came to, and the process that it made.
 fn settle_enter(
-    alloc: Global,
     history: &mut Vec<Event>,
-    task: &mut Task,
     system: &mut System,
+    task: &mut Task,
     done: Done,
-    at: Stop,
 ) -> Result<(Answer, Option<Task>), Rejected>
-    requires stands { stands_at done.machine ≡ Some at }
-    requires running { end_in (whats task.old.trace.items) ≡ None }
-    requires fine { MayPlan (seen_of system.old) done.pid }
-    requires few { system.old.served < 2 ^ 63 }
+    requires { MayEnter system.old done.pid done.machine task.old.trace }
     ensures done { IfOk result (λ r. (o : Outcome) × (r.0 ≡ Answer.Settled done.count done.stop (Some o))
         × IsTurnEntered done.pid done.machine task.old task.new system.old system.new o r.1) }
     ensures history { OnOk result (history.new.items ≡ history.old.items ++ Event.Turn done.pid done.count ∷ Event.Enter done.pid ∷ []) }
-    ensures same_task { OnErr result (IsSameTask task.old task.new) }
-    ensures same_system { OnErr result (IsSameSystem system.old system.new) }
-    ensures same_history { OnErr result (history.new.items ≡ history.old.items) }
-    ensures cause { IfErr result (λ r. r.why ≡ OutOfMemory) }
-    ensures back { IfErr result (λ r. r.done ≡ done) }
+    ensures err { OnErr result (AreUntouched task.old task.new system.old system.new history.old.items history.new.items) }
+    ensures back { IfErr result (HandsBack done) }
 {
     let pid = done.pid;
-    let trace = &mut task.trace;
-    let Ok(entering) = prepare_enter(alloc, history, pid, at, &done.machine, trace, system, 1)
-    else {
+    let Ok(entering) = prepare(history, system, pid, &done.machine, &mut task.trace) else {
         return Err(Rejected {
             why: Refused::OutOfMemory,
             done,
@@ -133,7 +120,7 @@ fn settle_enter(
     note_own(&mut system.dependencies, pid);
     let mark = note_enter(&mut system.dependencies, &entering, system.changes.len());
     come_back(task, machine);
-    let (outcome, child) = finish(alloc, task, system, entering, mark);
+    let (outcome, child) = finish(task, system, entering, mark);
     history.push(Event::Turn { pid, n: count }).unwrap();
     history.push(Event::Enter { pid }).unwrap();
     let answer = Answer::Settled {
@@ -147,20 +134,15 @@ fn settle_enter(
 /// Takes a result back of the process at this place, whose machine stands here: it becomes a Turn, whose instructions are
 /// counted with those that ran before, and an Enter.
 fn settle_call(
-    alloc: Global,
     history: &mut Vec<Event>,
     ran: &mut u64,
     tasks: &mut Vec<Task>,
     system: &mut System,
     done: Done,
     place: usize,
-    at: Stop,
 ) -> Result<Answer, Rejected>
     requires there { place < length tasks.old.items }
-    requires stands { stands_at done.machine ≡ Some at }
-    requires running { (t : Task) → slice_get tasks.old.items place ≡ Some t → end_in (whats t.trace.items) ≡ None }
-    requires fine { MayPlan (seen_of system.old) done.pid }
-    requires few { system.old.served < 2 ^ 63 }
+    requires fine { (t : Task) → slice_get tasks.old.items place ≡ Some t → MayEnter system.old done.pid done.machine t.trace }
     requires few_ran { ran.old < 2 ^ 63 }
     ensures done { IfOk result (λ a. IsCallSettled done place tasks.old.items tasks.new.items system.old system.new a) }
     ensures history { OnOk result (history.new.items ≡ history.old.items ++ Event.Turn done.pid done.count ∷ Event.Enter done.pid ∷ []) }
@@ -180,7 +162,7 @@ fn settle_call(
     }
     let task = &mut tasks[place];
     let count = u64::from(done.count);
-    let (answer, child) = settle_enter(alloc, history, task, system, done, at)?;
+    let (answer, child) = settle_enter(history, system, task, done)?;
     join(tasks, child);
     *ran += count;
     Ok(answer)
@@ -219,15 +201,13 @@ impl Running {
                 &mut self.system,
                 done,
             ),
-            Some(at) => settle_call(
-                self.alloc,
+            Some(_) => settle_call(
                 &mut self.history,
                 &mut self.ran,
                 &mut self.tasks,
                 &mut self.system,
                 done,
                 place,
-                at,
             ),
         }
     }

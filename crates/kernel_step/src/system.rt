@@ -7,11 +7,13 @@ use files::FileTable;
 use group_commit::Committer;
 use pipes::PipeTable;
 use processes::ProcTable;
+use std::alloc::Global;
 use withheld::Withheld;
 
-/// What all processes share.
+/// What all processes share, the memory that they take among it.
 #[derive(Drop)]
 pub struct System {
+    pub alloc: Global,
     pub dependencies: Dependencies,
     /// All changes of files so far.
     pub changes: Vec<Change>,

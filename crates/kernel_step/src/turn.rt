@@ -2,7 +2,6 @@
 ghost use Rattle.std.specs.Prelude.{◌≡◌, ◌+◌, ◌*◌, ◌^◌, ◌≤◌, ◌<◌, ◌++◌, ◌∷◌, [], List, length, vec_len, vec_capacity, IfOk, IfErr, OnOk, OnErr};
 ghost use Rattle.kernel_model.specs.Answers.{Refuses};
 ghost use Rattle.kernel_model.specs.Ran.{ran_in};
-ghost use Rattle.kernel_model.specs.declared.answer.Refused.TheVariants.{OutOfMemory};
 ghost use Rattle.kernel_step.specs.Parts.{IsOwnNoted, Turned};
 ghost use Rattle.kernel_step.specs.Tasks.{count_out};
 ghost use Rattle.kernel_step.specs.Tests.{full_of, turn_refusal_of};
@@ -11,6 +10,7 @@ use crate::task::Task;
 use crate::tasks::{is_full, run_at, turn_place};
 use commit_deps::{Carrier, Dependencies};
 use kernel_model::{Answer, Event, Refused};
+use std::alloc::AllocError;
 
 /// Makes room for so many more events, which write so many carriers.
 pub fn reserve(
@@ -18,16 +18,14 @@ pub fn reserve(
     dependencies: &mut Dependencies,
     events: usize,
     writes: usize,
-) -> Result<(), Refused>
+) -> Result<(), AllocError>
     ensures history { OnOk result (vec_len history.new + events ≤ vec_capacity history.new) }
     ensures writes { OnOk result (writes ≤ dependencies.new.room) }
     ensures same_history { history.new.items ≡ history.old.items }
     ensures same_marks { dependencies.new.marks ≡ dependencies.old.marks }
-    ensures cause { IfErr result (λ why. why ≡ OutOfMemory) }
 {
     history.reserve(events)?;
-    dependencies.reserve(writes)?;
-    Ok(())
+    dependencies.reserve(writes)
 }
 
 /// Notes an event of a process that touches nothing but the process. Takes no memory.

@@ -1,5 +1,5 @@
 -- The parts do what the run says.
-use Rattle.std.proofs.Common.{◌≡◌, ◌∙◌, ℕ, ap, sym, subst, ◌++◌, List, Option, None, Some, slice_get, slice_set, map, option_to_list}
+use Rattle.std.proofs.Common.{◌≡◌, ◌∙◌, ℕ, ◌^◌, ◌≤◌, ap, sym, subst, ◌++◌, List, Option, None, Some, length, slice_get, slice_set, map, option_to_list, arith}
 use Rattle.kernel_model.specs.Answers.{with_child}
 use Rattle.kernel_model.specs.Answers.{entered as answer_to}
 use Rattle.kernel_model.specs.World.{World, happens}
@@ -36,20 +36,21 @@ fine c =
 pub enter_task-requires-clause-here : goal.enter_task-requires-clause-here
 enter_task-requires-clause-here c = (fine (goal.at.enter_task-requires-clause-here c).After-index_mut-task).here
 
-pub enter_task-requires-clause-stands : goal.enter_task-requires-clause-stands
-enter_task-requires-clause-stands c = (fine (goal.at.enter_task-requires-clause-stands c).After-index_mut-task).stopped
-
-pub enter_task-requires-clause-budget : goal.enter_task-requires-clause-budget
-enter_task-requires-clause-budget c = (fine (goal.at.enter_task-requires-clause-budget c).After-index_mut-task).few
-
-pub enter_task-requires-clause-running : goal.enter_task-requires-clause-running
-enter_task-requires-clause-running c = (fine (goal.at.enter_task-requires-clause-running c).After-index_mut-task).running
-
 pub enter_task-requires-clause-fine : goal.enter_task-requires-clause-fine
 enter_task-requires-clause-fine c =
     let t = (goal.at.enter_task-requires-clause-fine c).After-index_mut-task in
-    may-plan c.checkpoints_fit.ensures c.requires.mirrors.0 c.args.tasks.now.items c.args.system.now c.args.pid c.in_ok-place.place c.index_mut-task.result.now
-    c.requires.mirrors.1 c.requires.mirrors.2 (placed t).number (there t)
+    let ready = fine t in
+    let served : c.args.system.now.served ≤ length (c.requires.mirrors.0).log = (c.requires.mirrors.1).counted in
+    let short : length (c.requires.mirrors.0).log ≤ 2 ^ 40 = c.requires.mirrors.2 in
+    record {
+      stands = ready.stopped;
+      budget = ready.few;
+      running = ready.running;
+      plan =
+          may-plan c.checkpoints_fit.ensures c.requires.mirrors.0 c.args.tasks.now.items c.args.system.now c.args.pid c.in_ok-place.place c.index_mut-task.result.now
+          c.requires.mirrors.1 c.requires.mirrors.2 (placed t).number (there t);
+      few = omega (arith, served, short);
+    }
 
 -- the run after it
 runs : (c : After-index_mut-task) (u : Task) (s' : System) (outcome : Outcome) (child : Option Task)
@@ -90,7 +91,7 @@ returns-in_err-outcome-clause-same c =
     subst (λ (ts : List Task). Mirrors w (slice_set ts c.in_ok-place.place u) c.enter_task.new.system) (sym c.in_ok-reserve.ensures.items)
     (same-mirrors w tasks c.args.system.now c.enter_task.new.system c.in_ok-place.place c.index_mut-task.result.now u
     (there (goal.at.returns-in_err-outcome-clause-same c).After-index_mut-task)
-    c.in_err-outcome.ensures.same_task c.in_err-outcome.ensures.same_system h))
+    c.in_err-outcome.ensures.err.task c.in_err-outcome.ensures.err.system h))
 
 pub returns-in_err-outcome-clause-same_lendings : goal.returns-in_err-outcome-clause-same_lendings
 returns-in_err-outcome-clause-same_lendings c =
@@ -99,4 +100,4 @@ returns-in_err-outcome-clause-same_lendings c =
     on-err-any c.from_residual-in_err-outcome.result
     (ap (λ (ts : List Task). map lending_of (slice_set ts c.in_ok-place.place u)) c.in_ok-reserve.ensures.items
     ∙ same-lendings tasks c.in_ok-place.place c.index_mut-task.result.now u (there (goal.at.returns-in_err-outcome-clause-same_lendings c).After-index_mut-task)
-    c.in_err-outcome.ensures.same_task.loans c.in_err-outcome.ensures.same_task.out)
+    c.in_err-outcome.ensures.err.task.loans c.in_err-outcome.ensures.err.task.out)

@@ -5,6 +5,20 @@ use Rattle.kernel_step.specs.Entering.{ArePrinted}
 use Rattle.kernel_step.specs.declared.system.System.{System}
 use Rattle.kernel_step.proofs.enter.finish.Goals as goal
 
+pub print-requires : goal.print-requires
+print-requires c = c.requires.output
+
+pub change_system-requires : goal.change_system-requires
+change_system-requires c =
+    let may = c.requires.rest in
+    record { processes = may.processes; left = may.left; spare = may.spare; may = may.may; few = may.few }
+
+pub tell_child-requires : goal.tell_child-requires
+tell_child-requires c = c.requires.child
+
+pub tell-outcome-requires : goal.tell-outcome-requires
+tell-outcome-requires c = c.requires.task
+
 pub returns-clause-system : goal.returns-clause-system
 returns-clause-system c =
     let same = c.change_system.ensures.system in

@@ -6,6 +6,14 @@ use Rattle.kernel_step.proofs.Lists.{get-there}
 use Rattle.kernel_step.proofs.SettleCore.{unsettled-same}
 use Rattle.kernel_step.proofs.settle.settle_call.Goals as goal
 
+pub settle_enter-requires : goal.settle_enter-requires
+settle_enter-requires c =
+    let t : Task = c.index_mut-task.result.now in
+    let same : c.reserve.new.self.items ≡ c.args.tasks.now.items = c.reserve.ensures.items in
+    let within : c.args.place < length c.reserve.new.self.items = subst (λ (ts : List Task). c.args.place < length ts) (sym same) c.requires.there in
+    c.requires.fine t
+    (ap (λ (ts : List Task). slice_get ts c.args.place) (sym same) ∙ get-there c.reserve.new.self.items c.args.place t within c.index_mut-task.ensures.value)
+
 pub returns-clause-done : goal.returns-clause-done
 returns-clause-done c =
     let tasks : List Task = c.args.tasks.now.items in
@@ -37,6 +45,6 @@ returns-in_err-answer-clause-same c =
       task = t;
       there = ap (λ (ts : List Task). slice_get ts c.args.place) (sym same) ∙ get-there c.reserve.new.self.items c.args.place t within c.index_mut-task.ensures.value;
       after = c.settle_enter.new.task;
-      same = c.in_err-answer.ensures.same_task;
+      same = c.in_err-answer.ensures.err.task;
       tasks = ap (λ (ts : List Task). slice_set ts c.args.place c.settle_enter.new.task) same;
     })

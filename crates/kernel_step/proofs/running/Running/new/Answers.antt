@@ -12,7 +12,7 @@ use Rattle.kernel_step.proofs.running.Running.new.Goals as goal
 
 pub returns-clause-stands : goal.returns-clause-stands
 returns-clause-stands c = λ disk gate begins.
-    let s : System = record { dependencies = c.new-2.result; changes = c.new-3.result; files = c.args.files; tapes = c.new-4.result; pipes = c.in_ok-pipes.pipes; processes = c.in_ok-processes.processes; served = 0; screens = c.in_ok-screens.screens; committer = c.args.committer } in
+    let s : System = record { alloc = c.args.alloc; dependencies = c.new-2.result; changes = c.new-3.result; files = c.args.files; tapes = c.new-4.result; pipes = c.in_ok-pipes.pipes; processes = c.in_ok-processes.processes; served = 0; screens = c.in_ok-screens.screens; committer = c.args.committer } in
     record {
       parts =
           subst (λ (es : List Event). KeepsRun (boot_with c.args.programs.now c.args.tapes.value.items c.args.files disk gate) es c.in_ok-tasks.tasks.items s) (sym c.new-5.ensures.items)

@@ -1,8 +1,9 @@
 -- The parts follow the result's events.
-use Rattle.std.proofs.Common.{◌≡◌, ◌∙◌, refl, sym, ap, subst, ℕ, List, Bool, true, false, Some, None, IsTrue, ◌<◌, length, map, slice_get, slice_set, rules}
+use Rattle.std.proofs.Common.{◌≡◌, ◌∙◌, refl, sym, ap, subst, ℕ, List, Bool, true, false, Option, Some, None, is_some, IsTrue, ◌<◌, length, map, slice_get, slice_set, rules}
 use Rattle.std.proofs.lemmas.Bool.{false≢true}
 use Rattle.std.specs.Prelude.{IfOk, OnErr}
 use Rattle.machine_model.specs.States.{stands_at}
+use Rattle.machine_model.specs.declared.stop.Stop.{Stop}
 use Rattle.kernel_model.specs.Loans.{IsOfLoan}
 use Rattle.kernel_model.specs.State.{process_at}
 use Rattle.kernel_model.specs.declared.event.Event.{Event}
@@ -74,30 +75,30 @@ returns-then-not-is_of_loan c = λ b h.
     }
 
 -- ---- the calls
-pub settle_call-requires-clause-fine : goal.settle_call-requires-clause-fine
-settle_call-requires-clause-fine c =
-    let at = (goal.at.settle_call-requires-clause-fine c).After-index_mut-task in
-    may-plan c.checkpoints_fit.ensures (run_of c.requires.0 c.args.self.now.history.items) c.args.self.now.tasks.items c.args.self.now.system c.args.done.pid c.in-Some.place c.index_mut-task.result.now c.requires.1.parts.mirrors
-    (log-short c.requires.0 c.args.self.now.history.items c.args.self.now.tasks.items c.args.self.now.system c.requires.1.parts) (placed at).number (there at)
-
 pub settle_call-requires-clause-there : goal.settle_call-requires-clause-there
 settle_call-requires-clause-there c =
     let at = (goal.at.settle_call-requires-clause-there c).After-index_mut-task in
     subst (λ (ts : List Task). c.in-Some.place < length ts) (sym (set-same c.args.self.now.tasks.items c.in-Some.place c.index_mut-task.result.now (there at))) (placed at).there
 
-pub settle_call-requires-clause-running : goal.settle_call-requires-clause-running
-settle_call-requires-clause-running c = λ t at-place.
-    let at = (goal.at.settle_call-requires-clause-running c).After-index_mut-task in
+pub settle_call-requires-clause-fine : goal.settle_call-requires-clause-fine
+settle_call-requires-clause-fine c = λ t at-place.
+    let at = (goal.at.settle_call-requires-clause-fine c).After-index_mut-task in
     let of = of-loan c.index_mut-task.result.now c.args.done c.is_of_loan.result c.if-not-is_of_loan.false c.is_of_loan.ensures.0 in
     let same : t ≡ c.index_mut-task.result.now =
     get-one c.args.self.now.tasks.items c.in-Some.place t c.index_mut-task.result.now
     (ap (λ (ts : List Task). slice_get ts c.in-Some.place) (sym (set-same c.args.self.now.tasks.items c.in-Some.place c.index_mut-task.result.now (there at))) ∙ at-place) (there at) in
-    subst (λ (u : Task). status_of u ≡ None) (sym same)
-    (out-running (run_of c.requires.0 c.args.self.now.history.items) c.args.self.now.system.served c.in-Some.place c.index_mut-task.result.now c.args.done.quantum
-    (c.requires.1.parts.mirrors.each.each c.in-Some.place c.index_mut-task.result.now (there at)) of.out)
-
-pub settle_call-requires-clause-few : goal.settle_call-requires-clause-few
-settle_call-requires-clause-few c = served-few c.requires.0 c.args.self.now.history.items c.args.self.now.tasks.items c.args.self.now.system c.requires.1.parts
+    record {
+      stands = ap (λ (o : Option Stop). is_some o) (sym c.stopped.ensures ∙ c.in-Some-stopped.is);
+      budget = c.args.done.room;
+      running =
+          subst (λ (u : Task). status_of u ≡ None) (sym same)
+          (out-running (run_of c.requires.0 c.args.self.now.history.items) c.args.self.now.system.served c.in-Some.place c.index_mut-task.result.now c.args.done.quantum
+          (c.requires.1.parts.mirrors.each.each c.in-Some.place c.index_mut-task.result.now (there at)) of.out);
+      plan =
+          may-plan c.checkpoints_fit.ensures (run_of c.requires.0 c.args.self.now.history.items) c.args.self.now.tasks.items c.args.self.now.system c.args.done.pid c.in-Some.place c.index_mut-task.result.now c.requires.1.parts.mirrors
+          (log-short c.requires.0 c.args.self.now.history.items c.args.self.now.tasks.items c.args.self.now.system c.requires.1.parts) (placed at).number (there at);
+      few = served-few c.requires.0 c.args.self.now.history.items c.args.self.now.tasks.items c.args.self.now.system c.requires.1.parts;
+    }
 
 pub settle_turn-requires : goal.settle_turn-requires
 settle_turn-requires c = counted-few c.requires.0 c.args.self.now.history.items c.args.self.now.tasks.items c.args.self.now.system c.args.self.now.ran c.requires.1.parts c.requires.1.counted
@@ -151,9 +152,9 @@ returns-in-Some-stopped c = λ b h.
     let later : List Event = c.settle_call.new.history.items in
     let new : List Task = c.settle_call.new.tasks.items in
     let system = c.settle_call.new.system in
-    let stands : stands_at d.machine ≡ Some c.in-Some-stopped.at = sym c.stopped.ensures ∙ c.in-Some-stopped.is in
+    let stands : stands_at d.machine ≡ Some c.in-Some-stopped.field-0 = sym c.stopped.ensures ∙ c.in-Some-stopped.is in
     let taken = enter-result (record { changes = c.made_files_change.ensures; pipes = record { shown = c.steps_are_shown.ensures.next; grown = c.ends_grow_by_one.ensures } })
-    b c.args.self.now.history.items later c.args.self.now.tasks.items new c.args.self.now.system system c.args.self.now.last_lent place t d c.in-Some-stopped.at r
+    b c.args.self.now.history.items later c.args.self.now.tasks.items new c.args.self.now.system system c.args.self.now.last_lent place t d c.in-Some-stopped.field-0 r
     h.parts (placed at).number (there at) of stands
     (subst (λ (ts : List Task). IfOk r (λ a. IsCallSettled d place ts new c.args.self.now.system system a)) (set-same c.args.self.now.tasks.items place t (there at)) c.settle_call.ensures.done)
     c.settle_call.ensures.history in
