@@ -53,6 +53,17 @@ fn write(regs: &mut Regs, rd: Reg, value: u32) -> Outcome
     Outcome::Next
 }
 
+/// A register gets the quotient of two others, both signed, and the next instruction follows.
+#[inline]
+fn divide(regs: &mut Regs, rd: Reg, rs1: Reg, rs2: Reg) -> Outcome
+    ensures answer { result ≡ Outcome.Next }
+    ensures x { regs.new.x ≡ put regs.old.x rd (model.quotient_signed (slice_index regs.old.x rs1) (slice_index regs.old.x rs2)) }
+    ensures pc { regs.new.pc ≡ (regs.old.pc + 4) % 2 ^ 32 }
+{
+    let value = quotient_signed(regs.get(rs1), regs.get(rs2));
+    write(regs, rd, value)
+}
+
 /// A register's value and an offset.
 #[inline]
 fn address(regs: &Regs, base: Reg, offset: Immediate) -> u32
@@ -281,11 +292,7 @@ pub fn exec_ref<B: Bus>(regs: &mut Regs, bus: &mut B, i: &Instr) -> Outcome
             rd,
             high_product(regs.get(rs1), regs.get(rs2)),
         ),
-        Instr::Div { rd, rs1, rs2 } => write(
-            regs,
-            rd,
-            quotient_signed(regs.get(rs1), regs.get(rs2)),
-        ),
+        Instr::Div { rd, rs1, rs2 } => divide(regs, rd, rs1, rs2),
         Instr::Divu { rd, rs1, rs2 } => write(regs, rd, quotient(regs.get(rs1), regs.get(rs2))),
         Instr::Rem { rd, rs1, rs2 } => write(
             regs,
