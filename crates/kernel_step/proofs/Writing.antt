@@ -1,5 +1,5 @@
 -- The disk's events of the parts are those of the run.
-use Rattle.std.proofs.Common.{◌≡◌, ℕ, zero, suc, ◌+◌, ◌*◌, ◌^◌, ◌<◌, ◌≤◌, Bool, true, false, not, List, [], ◌∷◌, ◌++◌, length, map, drop, slice_get, Option, Some, None, is_some, IfSome, is_none, count_by, if◌then◌else◌, Result, Ok, Err, refl, sym, ap, subst, ◌∙◌, arith}
+use Rattle.std.proofs.Common.{◌≡◌, ℕ, suc, ◌+◌, ◌*◌, ◌^◌, ◌<◌, ◌≤◌, Bool, true, false, not, List, [], ◌∷◌, ◌++◌, length, map, drop, slice_get, Option, Some, None, is_some, IfSome, is_none, count_by, if◌then◌else◌, Result, Ok, Err, refl, sym, ap, subst, ◌∙◌, arith}
 use Rattle.std.specs.Prelude.{IfOk, IfErr, OnOk, OnErr}
 use Rattle.std.specs.List.{AllByRecursion}
 use Rattle.std.proofs.lemmas.Bool.{leb-false}
@@ -8,6 +8,7 @@ use Rattle.commit_deps.specs.declared.dependencies.Marked.{Marked}
 use Rattle.disk_model.specs.Files.{IsFormed, IsMade}
 use Rattle.disk_model.specs.Storage.{Storage, cut, group, checkpoint, group_of, group_or_checkpoint, fits, completed, failed, failed_by, is_empty, is_quiet, piece_at}
 use Rattle.disk_model.specs.Rebuild.{rebuild}
+use Rattle.disk_model.proofs.Lists.{each_drop}
 use Rattle.disk_model.specs.declared.change.Change.{Change}
 use Rattle.disk_model.specs.declared.change.NamedFile.{NamedFile}
 use Rattle.kernel_model.specs.Answers.{Refuses, Applies, refusal, cut_refusal, write_refusal, is_full, Lending, changes_to_commit, writes_to_come}
@@ -287,14 +288,9 @@ cut-committed st (c ∷ cs) files = elim (is_quiet st.device) as (λ q. (if q th
       ]
 ]
 
-all-drop : {A : Type 0} (P : A → Type 0) (n : ℕ) (xs : List A) → AllByRecursion P xs → AllByRecursion P (drop n xs)
-all-drop P zero xs h = h
-all-drop P (suc n) [] h = h
-all-drop P (suc n) (x ∷ xs) h = all-drop P n xs h.1
-
 pub changes-formed : (w : World) (s : System) (n : ℕ) → AreChanges w s → AllByRecursion IsFormed (drop n s.changes.items)
 changes-formed w s n h = subst (λ (cs : List Change). AllByRecursion IsFormed (drop n cs)) (sym h.changes)
-    (all-drop IsFormed n (changes_in_log w.log) h.formed)
+    (each_drop IsFormed n (changes_in_log w.log) h.formed)
 
 pub files-made : (w : World) (s : System) → AreChanges w s → IsMade s.files
 files-made w s h = subst (λ (fs : List NamedFile). IsMade fs) (sym h.files) h.made
