@@ -1,4 +1,4 @@
--- From a loan's result in the parts to the core.
+-- From a loan's result in the parts to the kernel.
 use Rattle.std.proofs.Common.{◌≡◌, ℕ, zero, suc, ◌+◌, ◌*◌, ◌^◌, ◌<◌, ◌≤◌, Bool, true, false, if◌then◌else◌, List, [], ◌∷◌, ◌++◌, length, map, slice_get, slice_set, Option, Some, None, is_some, option_map, option_to_list, Result, Ok, Err, refl, sym, ap, subst, ◌∙◌, arith, length-append, append_assoc}
 use Rattle.std.specs.Prelude.{◌≢◌, IfOk, IfErr, OnOk, OnErr}
 use Rattle.disk_model.proofs.Lists.{set_same}
@@ -70,7 +70,7 @@ loan-own b history tasks s last place t d h number there of =
     }
 
 -- ---- what a result that is taken back does to the parts
--- the core after the events, where they made this process, if they made one
+-- the kernel after the events, where they made this process, if they made one
 abbrev pub later_core : Kernel → Done → Option ℕ → Kernel
 later_core k d child = record k { history = k.history ++ events_of (loan_result d); lendings = with_child k.lendings child }
 
@@ -95,7 +95,7 @@ reached t d of =
     sym (run-reaches d.quantum (machine_of t) d.machine d.count (reached_at d.count d.machine d.stop)
     (ap (run d.quantum) of.began ∙ d.ran) refl refl)
 
--- the core after the events of a result
+-- the kernel after the events of a result
 settled-turn : (k : Kernel) (d : Done) → stands_at d.machine ≡ None → settled k (loan_result d) ≡ later_core (returned k d.pid) d None
 settled-turn k d stands =
     let es = events-none d stands in
@@ -182,7 +182,7 @@ enter-taken laws b history history' tasks new s s' last place d at a h number st
           ∙ sym (ap (λ (x : Option Stop). answer_of.Settled d.count d.stop (if is_some x then Some (outcome_after k d.pid d.count) else None)) stands);
     }
 
--- ---- the core
+-- ---- the kernel
 pub count-back : (tasks : List Task) (place q : ℕ) (t u : Task) → slice_get tasks place ≡ Some t → out_of t ≡ Some q → out_of u ≡ None
     → count_out (slice_set tasks place u) + 1 ≡ count_out tasks
 count-back [] place q t u there out none = cc

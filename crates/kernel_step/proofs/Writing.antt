@@ -165,7 +165,7 @@ still-mirrors law w st st' tasks s h same committed =
     (subst (λ (c : ℕ). AreAdvanced c s.screens.items s.screens.items) (sym committed) (screens-still w.storage.committed w.log s.screens.items h.screens))
     refl refl refl refl (record { pipes = refl; parts = refl; served = refl }) refl
 
--- ---- the core after an event of the disk
+-- ---- the kernel after an event of the disk
 pub stored-core : (b : Boot) (history history' : List Event) (old new : List Task) (s s' : System) (e : Event) (st : Storage) (full : Bool)
     → KeepsRun b history old s → full ≡ full_of (length history) old → full ≡ false → history' ≡ history ++ e ∷ []
     → happens (run_of b history) e ≡ stored_world (run_of b history) st
@@ -307,7 +307,7 @@ cut-fine : (st : Storage) (cs : List Change) (full : Bool) → cut_refusal st cs
 cut-fine st cs full h = (none-of-four full (not (is_empty st.device.failed)) (not (is_empty st.device.in_flight)) (is_empty cs)
     refused.Budget refused.DiskFailed refused.GroupInFlight refused.NothingToCut h).0
 
--- the storage after a Cut of the core is that of the run
+-- the storage after a Cut of the kernel is that of the run
 cut-same : (w : World) (s : System) → AreChanges w s → s.committer ≡ w.storage
     → cut s.committer (drop s.committer.committed s.changes.items) s.files ≡ cut w.storage (drop w.storage.committed (changes_in_log w.log)) w.sync.files
 cut-same w s h committer =
