@@ -1,4 +1,4 @@
--- From the parts of a core to the core.
+-- From the parts of a running kernel to the kernel.
 use Rattle.std.proofs.Common.{◌≡◌, ℕ, ◌+◌, ◌*◌, ◌^◌, ◌<◌, ◌≤◌, List, [], ◌∷◌, ◌++◌, length, map, Option, is_some, nat_le, Result, Ok, Err, refl, sym, ap, subst, ◌∙◌, arith}
 use Rattle.std.proofs.lemmas.Bool.{leb-false}
 use Rattle.std.specs.Prelude.{IfOk, IfErr, OnOk, OnErr}

@@ -1,4 +1,4 @@
--- The parts of a core at boot keep what the run says before any event.
+-- The parts of a kernel at boot keep what the run says before any event.
 use Rattle.std.proofs.Common.{◌≡◌, ℕ, zero, suc, ◌+◌, ◌≤◌, ◌⊎◌, inl, inr, List, [], ◌∷◌, ◌++◌, length, map, take, slice_get, Option, Some, None, is_some, IfSome, count_by, refl, sym, ap, subst, ◌∙◌, arith}
 use Rattle.std.specs.List.{AllByRecursion}
 use Rattle.commit_deps.specs.Keeps.{Keeps}

@@ -1,4 +1,4 @@
--- How many instructions a core counts is how many its Turns ran, and a u64 holds it.
+-- How many instructions a running kernel counts is how many its Turns ran, and a u64 holds it.
 use Rattle.std.proofs.Common.{◌≡◌, ℕ, zero, suc, ◌+◌, ◌*◌, ◌^◌, ◌<◌, ◌≤◌, Bool, true, false, if◌then◌else◌, List, [], ◌∷◌, ◌++◌, length, map, slice_get, slice_set, Option, Some, None, is_some, Result, Ok, Err, refl, sym, ap, subst, ◌∙◌, arith, append_assoc, length-append}
 use Rattle.std.specs.Prelude.{IfOk, OnOk, OnErr}
 use Rattle.machine_model.specs.States.{State, Stepped, Goes, Halts, Ran, reached_at, next, run, stands_at}
@@ -214,7 +214,7 @@ counted-events k (e ∷ es) ran h fine =
     subst (λ (xs : List Event). IsCounted k.boot xs (ran + instructions_from (now k) (e ∷ es))) (append_assoc k.history (e ∷ []) es)
     (subst (λ (n : ℕ). IsCounted k.boot ((k.history ++ e ∷ []) ++ es) n) sum rest)
 
--- ---- a core at boot
+-- ---- a kernel at boot
 first-length : (i : ℕ) (programs : List Program) → length (processes_from i (map program_of programs)) ≡ length programs
 first-length i [] = refl
 first-length i (p ∷ ps) = ap suc (first-length (i + 1) ps)
@@ -225,7 +225,7 @@ first-counted programs tapes files disk gate few =
     let size = first-length 0 programs in
     record { turns = refl; done = omega arith; few = omega (arith, size, few) }
 
--- ---- an event of a core
+-- ---- an event of a kernel
 pub counted-applies : (b : Boot) (history history' : List Event) (tasks new : List Task) (last ran ran' : ℕ) (e : Event) (r : Result Answer Refused)
     → IsCounted b history ran → Applies (kernel_of b history tasks last) e (kernel_of b history' new last) r
     → OnOk r (ran' ≡ ran + instructions_in (run_of b history) e) → OnErr r (ran' ≡ ran)

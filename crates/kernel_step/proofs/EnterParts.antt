@@ -1,6 +1,7 @@
 -- The table of processes and the pipes after one more event.
 use Rattle.std.proofs.Common.{◌≡◌, ℕ, zero, suc, ◌+◌, ◌*◌, ◌≤◌, List, [], ◌∷◌, ◌++◌, length, map, slice_set, Option, Some, None, refl, sym, ap, subst, ◌∙◌, arith}
 use Rattle.std.specs.List.{AllByRecursion}
+use Rattle.disk_model.proofs.Lists.{each_get, each_set, each_append, each_more}
 use Rattle.calls.specs.Plans.{NamesFiles, MayAllStep, all_seen}
 use Rattle.calls.specs.declared.plan.Plan.{Plan}
 use Rattle.pipes.specs.Seen.{Seen, Shows}
@@ -15,7 +16,7 @@ use Rattle.kernel_step.specs.Entering.{descriptors_after, part_after, process_af
 use Rattle.kernel_step.specs.Mirrors.{IsPart, AreParts, ArePipes}
 use Rattle.kernel_step.proofs.EnterPlans.{part-seen}
 use Rattle.kernel_step.proofs.EnterTasks.{world_after, files-grow, names-more}
-use Rattle.kernel_step.proofs.Lists.{map-set, length-snoc, map-append, all-at, all-set, all-both, all-others}
+use Rattle.kernel_step.proofs.Lists.{map-set, length-snoc, map-append}
 
 -- ---- lists
 -- ---- the parts
@@ -44,11 +45,11 @@ after-parts : (parts : List Part) (pid n m : ℕ) (part : Part) (plan : Plan) �
     → AllByRecursion (IsPart n) parts → AllByRecursion (IsPart m) (parts_after parts pid plan)
 after-parts parts zero n m part plan e more named h = cc
 after-parts parts (suc k) n m part plan e more named h =
-    let one : IsPart n part = all-at (IsPart n) parts k part h e in
+    let one : IsPart n part = each_get (IsPart n) parts k part h e in
     subst (λ (o : Option Part). AllByRecursion (IsPart m) (with_part parts (suc k) o (λ x. part_after x plan) ++ born o plan.child)) (sym e)
-    (all-both (IsPart m) (slice_set parts k (part_after part plan)) (born (Some part) plan.child)
-    (all-set (IsPart m) parts k (part_after part plan) (all-others (IsPart n) (IsPart m) (λ x g. part-more n m x more g) parts h)
-    (record { named = named }))
+    (each_append (IsPart m) (slice_set parts k (part_after part plan)) (born (Some part) plan.child)
+    (each_set (IsPart m) parts k (part_after part plan) (record { named = named })
+    (each_more (IsPart n) (IsPart m) (λ x g. part-more n m x more g) parts h))
     (born-parts n m part plan.child more one))
 
 pub parts-planned : (w : World) (parts parts' : List Part) (pid : ℕ) (p : Process) (plan : Plan) → AreParts w parts → process_at w.sync.processes pid ≡ Some p

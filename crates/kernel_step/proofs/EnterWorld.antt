@@ -5,6 +5,7 @@ use Rattle.disk_model.specs.declared.change.Change.{Change}
 use Rattle.disk_model.specs.declared.change.NamedFile.{NamedFile}
 use Rattle.disk_model.specs.Files.{IsFormed, IsMade, MayCome, changed}
 use Rattle.disk_model.specs.Rebuild.{CanBeRebuilt}
+use Rattle.disk_model.proofs.Lists.{each_get, each_append}
 use Rattle.disk_model.specs.Storage.{Storage}
 use Rattle.machine_model.specs.States.{State}
 use Rattle.calls.specs.Plans.{IsPossible, NamesFiles, EditsAs, IsNext, all_seen}
@@ -40,7 +41,7 @@ use Rattle.kernel_step.proofs.EnterFine.{IsFineTask}
 use Rattle.kernel_step.proofs.EnterParts.{PipeLaws, parts-planned, pipes-planned, counted-quiet}
 use Rattle.kernel_step.proofs.EnterPlans.{part-seen}
 use Rattle.kernel_step.proofs.EnterTasks.{world_after, told-tasks, served-by-one}
-use Rattle.kernel_step.proofs.Lists.{get-within, get-set, map-set-same, length-map, map-append, all-at, all-both}
+use Rattle.kernel_step.proofs.Lists.{get-within, get-set, map-set-same, length-map, map-append}
 use Rattle.kernel_step.proofs.EnterLists.{withholds-moved}
 use Rattle.kernel_step.proofs.Turning.{IsProcessOf, process-there}
 
@@ -85,7 +86,7 @@ may-plan law w tasks s pid place t h short number there =
     let at : part_at s.processes.parts pid ≡ Some (part_of of.process) = part-there w tasks s pid t h of in
     let next : pid ≡ suc place = omega arith in
     let part : IsPart (length w.sync.files) (part_of of.process) =
-    all-at (IsPart (length w.sync.files)) s.processes.parts place (part_of of.process) h.parts.each (ap (λ (k : ℕ). part_at s.processes.parts k) (sym next) ∙ at) in
+    each_get (IsPart (length w.sync.files)) s.processes.parts place (part_of of.process) h.parts.each (ap (λ (k : ℕ). part_at s.processes.parts k) (sym next) ∙ at) in
     let within : place < length tasks = get-within tasks place t there in
     let size : length tasks ≡ length s.processes.parts = as-many w tasks s h in
     record {
@@ -133,7 +134,7 @@ changes-more law w t s s' change makes files possible more new h =
       changes = more ∙ ap (λ (cs : List Change). cs ++ one) h.changes ∙ sym all;
       formed =
           subst (λ (cs : List Change). AllByRecursion IsFormed cs) (sym all)
-          (all-both IsFormed (changes_in_log w.log) one h.formed (formed-one s.files change possible));
+          (each_append IsFormed (changes_in_log w.log) one h.formed (formed-one s.files change possible));
       files = same;
       made = subst (λ (fs : List NamedFile). IsMade fs) (sym new ∙ same) (made-one law s.files change possible made);
     }

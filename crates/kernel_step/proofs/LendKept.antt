@@ -1,4 +1,4 @@
--- A core whose next process is lent.
+-- A kernel whose next process is lent.
 use Rattle.std.proofs.Common.{◌≡◌, ℕ, zero, suc, ◌+◌, ◌-◌, ◌*◌, ◌^◌, ◌<◌, ◌≤◌, ◌⊎◌, inl, inr, Bool, true, false, ◌&&◌, not, nat_lt, nat_le, cond, List, [], ◌∷◌, ◌++◌, length, take, drop, map, slice_get, slice_set, slice_index_or, Option, Some, None, is_some, IfSome, option_map, refl, sym, ap, subst, ◌∙◌, arith}
 use Rattle.std.specs.Prelude.{find, fold, if◌then◌else◌}
 use Rattle.std.proofs.lemmas.Bool.{ltb-false, leb-true}
@@ -239,7 +239,7 @@ loan-is b history old new system last quantum loan h lent =
           ∙ ap (λ p. with_loan k p quantum) (sym number);
     }
 
--- ---- what a loan comes to, at the core k
+-- ---- what a loan comes to, at the kernel k
 unrefused : (b : Boot) (history : List Event) (old : List Task) (last : ℕ) → full_for_loan_of (length history) old ≡ false
     → loan_refusal (kernel_of b history old last) ≡ None
 unrefused b history old last room = ap (λ v. if v then Some refused.Budget else None) (full-is b history old last ∙ room)

@@ -124,21 +124,3 @@ get-joined (z ∷ zs) o (suc i) y e = elim (get-joined zs o i y e) [
   | inl h ↦ inl h
   | inr h ↦ inr (ap (λ n. suc n) h.0, h.1)
 ]
-
-pub all-at : {A : Type 0} (P : A → Type 0) (xs : List A) (i : ℕ) (x : A) → AllByRecursion P xs → slice_get xs i ≡ Some x → P x
-all-at P [] i x h e = cc
-all-at P (y ∷ ys) zero x h e = let same : y ≡ x = cc in subst P same h.0
-all-at P (y ∷ ys) (suc i) x h e = all-at P ys i x h.1 e
-
-pub all-set : {A : Type 0} (P : A → Type 0) (xs : List A) (i : ℕ) (x : A) → AllByRecursion P xs → P x → AllByRecursion P (slice_set xs i x)
-all-set P [] i x h one = tt
-all-set P (y ∷ ys) zero x h one = (one, h.1)
-all-set P (y ∷ ys) (suc i) x h one = (h.0, all-set P ys i x h.1 one)
-
-pub all-both : {A : Type 0} (P : A → Type 0) (xs ys : List A) → AllByRecursion P xs → AllByRecursion P ys → AllByRecursion P (xs ++ ys)
-all-both P [] ys h g = g
-all-both P (x ∷ xs) ys h g = (h.0, all-both P xs ys h.1 g)
-
-pub all-others : {A : Type 0} (P Q : A → Type 0) → ((x : A) → P x → Q x) → (xs : List A) → AllByRecursion P xs → AllByRecursion Q xs
-all-others P Q f [] h = tt
-all-others P Q f (x ∷ xs) h = (f x h.0, all-others P Q f xs h.1)

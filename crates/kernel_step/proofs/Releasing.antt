@@ -1,4 +1,4 @@
--- What a core shows and hands out is what the run releases.
+-- What a running kernel shows and hands out is what the run releases.
 use Rattle.std.proofs.Common.{◌≡◌, ℕ, Bool, true, false, nat_le, if◌then◌else◌, List, [], ◌∷◌, slice_get, length, map, suc, Option, Some, is_some, refl, ap, ◌∙◌}
 use Rattle.kernel_model.specs.Paths.{is_durable}
 use Rattle.kernel_model.specs.Shown.{Given, prefix, released}

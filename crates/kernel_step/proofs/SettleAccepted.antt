@@ -85,7 +85,7 @@ enter-accepted o p lent full there running here stands few room =
     refused.NoProcess refused.Ended refused.Lent refused.NotStopped refused.Budget
     running here (ap not stands) (neither (nat_le limit p.state.count) full (lt-leb limit p.state.count few) room)
 
--- ---- the core once the process is back
+-- ---- the kernel once the process is back
 -- the task once it is back, with the machine of which it was lent
 abbrev pub returned_task : Task → Task
 returned_task t = record t { whereabouts = Here (machine_of t) }

@@ -1,6 +1,7 @@
--- From a loan's result in the parts to the core.
+-- From a loan's result in the parts to the kernel.
 use Rattle.std.proofs.Common.{◌≡◌, ℕ, zero, suc, ◌+◌, ◌*◌, ◌^◌, ◌<◌, ◌≤◌, Bool, true, false, if◌then◌else◌, List, [], ◌∷◌, ◌++◌, length, map, slice_get, slice_set, Option, Some, None, is_some, option_map, option_to_list, Result, Ok, Err, refl, sym, ap, subst, ◌∙◌, arith, length-append, append_assoc}
 use Rattle.std.specs.Prelude.{◌≢◌, IfOk, IfErr, OnOk, OnErr}
+use Rattle.disk_model.proofs.Lists.{set_same}
 use Rattle.machine_model.specs.States.{State, reached_at, run, stands_at}
 use Rattle.machine_model.specs.declared.stop.Stop.{Stop}
 use Rattle.kernel_model.specs.Answers.{Kernel, Lending, lending_at, quantum_out, outcome_of, now, with_child, with_event, with_events}
@@ -19,7 +20,7 @@ use Rattle.kernel_step.specs.Stands.{run_of, kernel_of, KeepsRun}
 use Rattle.kernel_step.specs.Entering.{IsSameTask, IsSameSystem}
 use Rattle.kernel_step.specs.Loaned.{loan_result}
 use Rattle.kernel_step.specs.Mirrors.{Mirrors}
-use Rattle.kernel_step.specs.Settling.{IsLoanOf, IsBack, IsTurnNoted, IsCallSettled, IsUnsettled}
+use Rattle.kernel_step.specs.Settling.{IsLoanOf, IsBack, IsTurnNoted, IsCallSettled, IsUnsettled, HandsBack}
 use Rattle.kernel_step.specs.Tasks.{machine_of, out_of, process_of, lending_of, count_out, unsettled, AreFewLoans}
 use Rattle.kernel_step.specs.declared.loan.Done.{Done}
 use Rattle.kernel_step.specs.declared.loan.Rejected.{Rejected}
@@ -69,7 +70,7 @@ loan-own b history tasks s last place t d h number there of =
     }
 
 -- ---- what a result that is taken back does to the parts
--- the core after the events, where they made this process, if they made one
+-- the kernel after the events, where they made this process, if they made one
 abbrev pub later_core : Kernel → Done → Option ℕ → Kernel
 later_core k d child = record k { history = k.history ++ events_of (loan_result d); lendings = with_child k.lendings child }
 
@@ -94,7 +95,7 @@ reached t d of =
     sym (run-reaches d.quantum (machine_of t) d.machine d.count (reached_at d.count d.machine d.stop)
     (ap (run d.quantum) of.began ∙ d.ran) refl refl)
 
--- the core after the events of a result
+-- the kernel after the events of a result
 settled-turn : (k : Kernel) (d : Done) → stands_at d.machine ≡ None → settled k (loan_result d) ≡ later_core (returned k d.pid) d None
 settled-turn k d stands =
     let es = events-none d stands in
@@ -181,7 +182,7 @@ enter-taken laws b history history' tasks new s s' last place d at a h number st
           ∙ sym (ap (λ (x : Option Stop). answer_of.Settled d.count d.stop (if is_some x then Some (outcome_after k d.pid d.count) else None)) stands);
     }
 
--- ---- the core
+-- ---- the kernel
 pub count-back : (tasks : List Task) (place q : ℕ) (t u : Task) → slice_get tasks place ≡ Some t → out_of t ≡ Some q → out_of u ≡ None
     → count_out (slice_set tasks place u) + 1 ≡ count_out tasks
 count-back [] place q t u there out none = cc
@@ -345,10 +346,14 @@ pub settle-answer : (b : Boot) (history history' : List Event) (tasks new : List
 settle-answer b history history' tasks new s' last place d (Ok a) taken = taken.taken.answer
 settle-answer b history history' tasks new s' last place d (Err e) taken = tt
 
-pub settle-only : {P : Type 0} (r : Result Answer Rejected) → P → IfErr r (λ e. e.why ≡ OutOfMemory)
+pub settle-only : {P : Type 0} (d : Done) (r : Result Answer Rejected) → P → IfErr r (λ e. HandsBack d e)
     → IfErr r (λ e. e.why ≢ Stranger → (e.why ≡ OutOfMemory) × P)
-settle-only (Ok a) h cause = tt
-settle-only (Err e) h cause = λ other. (cause, h)
+settle-only d (Ok a) h handed = tt
+settle-only d (Err e) h handed = λ other. (handed.cause, h)
+
+pub settle-back : (d : Done) (r : Result Answer Rejected) → IfErr r (λ e. HandsBack d e) → IfErr r (λ e. e.done ≡ d)
+settle-back d (Ok a) handed = tt
+settle-back d (Err e) handed = handed.back
 
 pub settle-err : (b : Boot) (history history' : List Event) (tasks new : List Task) (last place : ℕ) (r : Result Answer Rejected)
     → OnErr r (history' ≡ history) → OnErr r (IsUnsettled place tasks new)
@@ -374,11 +379,6 @@ same-of (Err e) tasks place t u there h = record {
 }
 
 -- no task has changed
-pub set-same : {A : Type 0} (xs : List A) (i : ℕ) (x : A) → slice_get xs i ≡ Some x → slice_set xs i x ≡ xs
-set-same [] i x e = refl
-set-same (y ∷ ys) zero x e = let same : x ≡ y = cc in ap (λ z. z ∷ ys) same
-set-same (y ∷ ys) (suc i) x e = ap (λ zs. y ∷ zs) (set-same ys i x e)
-
 some-there : {A : Type 0} (xs : List A) (i : ℕ) → i < length xs → (x : A) × (slice_get xs i ≡ Some x)
 some-there [] i h = absurd (omega arith)
 some-there (x ∷ xs) zero h = (x, refl)
@@ -387,12 +387,12 @@ some-there (x ∷ xs) (suc i) h = some-there xs i (omega arith)
 pub unsettled-same : (tasks new : List Task) (place : ℕ) → place < length tasks → new ≡ tasks → IsUnsettled place tasks new
 unsettled-same tasks new place within is =
     let one = some-there tasks place within in
-    record { task = one.0; there = one.1; after = one.0; same = same-task-as one.0; tasks = is ∙ sym (set-same tasks place one.0 one.1) }
+    record { task = one.0; there = one.1; after = one.0; same = same-task-as one.0; tasks = is ∙ sym (set_same tasks place one.0 one.1) }
 
 -- ---- strangers
-pub settle-strange : (P : Type 0) (r : Result Answer Rejected) → IfErr r (λ e. e.why ≡ OutOfMemory) → IfErr r (λ e. e.why ≡ Stranger → ¬ P)
-settle-strange P (Ok a) cause = tt
-settle-strange P (Err e) cause = λ why own. cc
+pub settle-strange : (P : Type 0) (d : Done) (r : Result Answer Rejected) → IfErr r (λ e. HandsBack d e) → IfErr r (λ e. e.why ≡ Stranger → ¬ P)
+settle-strange P d (Ok a) handed = tt
+settle-strange P d (Err e) handed = λ why own. let cause : e.why ≡ OutOfMemory = handed.cause in cc
 
 not-out : (tasks : List Task) (pid : ℕ) → process_at (map process_of tasks) pid ≡ None → lending_at (map lending_of tasks) pid ≡ None
 not-out tasks zero h = refl

@@ -1,5 +1,5 @@
 -- The disk's events of the parts are those of the run.
-use Rattle.std.proofs.Common.{◌≡◌, ℕ, zero, suc, ◌+◌, ◌*◌, ◌^◌, ◌<◌, ◌≤◌, Bool, true, false, not, List, [], ◌∷◌, ◌++◌, length, map, drop, slice_get, Option, Some, None, is_some, IfSome, is_none, count_by, if◌then◌else◌, Result, Ok, Err, refl, sym, ap, subst, ◌∙◌, arith}
+use Rattle.std.proofs.Common.{◌≡◌, ℕ, suc, ◌+◌, ◌*◌, ◌^◌, ◌<◌, ◌≤◌, Bool, true, false, not, List, [], ◌∷◌, ◌++◌, length, map, drop, slice_get, Option, Some, None, is_some, IfSome, is_none, count_by, if◌then◌else◌, Result, Ok, Err, refl, sym, ap, subst, ◌∙◌, arith}
 use Rattle.std.specs.Prelude.{IfOk, IfErr, OnOk, OnErr}
 use Rattle.std.specs.List.{AllByRecursion}
 use Rattle.std.proofs.lemmas.Bool.{leb-false}
@@ -8,6 +8,7 @@ use Rattle.commit_deps.specs.declared.dependencies.Marked.{Marked}
 use Rattle.disk_model.specs.Files.{IsFormed, IsMade}
 use Rattle.disk_model.specs.Storage.{Storage, cut, group, checkpoint, group_of, group_or_checkpoint, fits, completed, failed, failed_by, is_empty, is_quiet, piece_at}
 use Rattle.disk_model.specs.Rebuild.{rebuild}
+use Rattle.disk_model.proofs.Lists.{each_drop}
 use Rattle.disk_model.specs.declared.change.Change.{Change}
 use Rattle.disk_model.specs.declared.change.NamedFile.{NamedFile}
 use Rattle.kernel_model.specs.Answers.{Refuses, Applies, refusal, cut_refusal, write_refusal, is_full, Lending, changes_to_commit, writes_to_come}
@@ -164,7 +165,7 @@ still-mirrors law w st st' tasks s h same committed =
     (subst (λ (c : ℕ). AreAdvanced c s.screens.items s.screens.items) (sym committed) (screens-still w.storage.committed w.log s.screens.items h.screens))
     refl refl refl refl (record { pipes = refl; parts = refl; served = refl }) refl
 
--- ---- the core after an event of the disk
+-- ---- the kernel after an event of the disk
 pub stored-core : (b : Boot) (history history' : List Event) (old new : List Task) (s s' : System) (e : Event) (st : Storage) (full : Bool)
     → KeepsRun b history old s → full ≡ full_of (length history) old → full ≡ false → history' ≡ history ++ e ∷ []
     → happens (run_of b history) e ≡ stored_world (run_of b history) st
@@ -287,14 +288,9 @@ cut-committed st (c ∷ cs) files = elim (is_quiet st.device) as (λ q. (if q th
       ]
 ]
 
-all-drop : {A : Type 0} (P : A → Type 0) (n : ℕ) (xs : List A) → AllByRecursion P xs → AllByRecursion P (drop n xs)
-all-drop P zero xs h = h
-all-drop P (suc n) [] h = h
-all-drop P (suc n) (x ∷ xs) h = all-drop P n xs h.1
-
 pub changes-formed : (w : World) (s : System) (n : ℕ) → AreChanges w s → AllByRecursion IsFormed (drop n s.changes.items)
 changes-formed w s n h = subst (λ (cs : List Change). AllByRecursion IsFormed (drop n cs)) (sym h.changes)
-    (all-drop IsFormed n (changes_in_log w.log) h.formed)
+    (each_drop IsFormed n (changes_in_log w.log) h.formed)
 
 pub files-made : (w : World) (s : System) → AreChanges w s → IsMade s.files
 files-made w s h = subst (λ (fs : List NamedFile). IsMade fs) (sym h.files) h.made
@@ -311,7 +307,7 @@ cut-fine : (st : Storage) (cs : List Change) (full : Bool) → cut_refusal st cs
 cut-fine st cs full h = (none-of-four full (not (is_empty st.device.failed)) (not (is_empty st.device.in_flight)) (is_empty cs)
     refused.Budget refused.DiskFailed refused.GroupInFlight refused.NothingToCut h).0
 
--- the storage after a Cut of the core is that of the run
+-- the storage after a Cut of the kernel is that of the run
 cut-same : (w : World) (s : System) → AreChanges w s → s.committer ≡ w.storage
     → cut s.committer (drop s.committer.committed s.changes.items) s.files ≡ cut w.storage (drop w.storage.committed (changes_in_log w.log)) w.sync.files
 cut-same w s h committer =

@@ -1,4 +1,4 @@
--- How many instructions a core counts.
+-- How many instructions a running kernel counts.
 use Rattle.std.specs.Prelude.{◌≡◌, ℕ, ◌+◌, ◌≤◌, List, [], ◌∷◌, length}
 use Rattle.kernel_model.specs.Ran.{instructions_from}
 use Rattle.kernel_model.specs.Rows.{most_processes}

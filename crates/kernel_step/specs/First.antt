@@ -1,4 +1,4 @@
--- What a core's parts are at boot.
+-- What the parts of a kernel are at boot.
 use Rattle.std.specs.Prelude.{◌≡◌, ℕ, ◌+◌, List, [], ◌∷◌, length, slice_get, Some, None}
 use Rattle.machine_model.specs.Access.{HoldsBytes}
 use Rattle.machine.specs.First.{first_state}

@@ -1,4 +1,4 @@
--- What a core's parts keep of the run.
+-- What the parts of a running kernel keep of the run.
 use Rattle.std.specs.Prelude.{◌≡◌, ℕ, ◌+◌, ◌*◌, ◌^◌, ◌≤◌, true, List, length, map, slice_get, Some, None, is_some, IfSome}
 use Rattle.std.specs.List.{AllByRecursion}
 use Rattle.disk_model.specs.Files.{IsFormed, IsMade}

@@ -1,4 +1,4 @@
--- What an event does to the parts of a core.
+-- What an event does to the parts of a running kernel.
 use Rattle.std.specs.Prelude.{◌≡◌, ℕ, List, [], ◌∷◌, ◌++◌, None}
 use Rattle.kernel_model.specs.declared.answer.Answer.{Answer}
 use Rattle.kernel_model.specs.declared.answer.Answer.TheVariants as answer_of

@@ -1,4 +1,4 @@
--- What a core keeps of what may be seen.
+-- What a running kernel keeps of what may be seen.
 use Rattle.std.specs.Prelude.{◌≡◌, ℕ, List, [], ◌∷◌, length, slice_get, Some}
 use Rattle.commit_deps.specs.Marks.{IsMarkOf}
 use Rattle.kernel_model.specs.Entries.{Entry}

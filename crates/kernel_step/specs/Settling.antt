@@ -1,4 +1,4 @@
--- What a loan's result does to the parts of a core.
+-- What a loan's result does to the parts of a running kernel.
 use Rattle.std.specs.Prelude.{◌≡◌, ℕ, List, ◌++◌, Option, Some, None, option_to_list, slice_get, slice_set}
 use Rattle.machine_model.specs.States.{State}
 use Rattle.commit_deps.specs.declared.dependencies.Marked.{Marked}

@@ -1,4 +1,4 @@
--- What a core's tasks stand for.
+-- What a running kernel's tasks stand for.
 use Rattle.std.specs.Prelude.{◌≡◌, ℕ, ◌+◌, ◌≤◌, List, [], Option, Some, None, is_some, count_by, slice_get, slice_set}
 use Rattle.machine_model.specs.States.{State, run}
 use Rattle.machine_model.specs.declared.stop.Stop.{Stop}

@@ -8,7 +8,7 @@ use machine_model::Stop;
 use std::sync::Arc;
 
 /// A machine that is lent out, to run at most `quantum` instructions. `number` is the loan's number among those of the
-/// process, from 1; `began` is the state from which it runs, shared with the core.
+/// process, from 1; `began` is the state from which it runs, shared with the kernel.
 #[derive(Drop)]
 pub struct Loan {
     pub pid: u32,

@@ -3,7 +3,6 @@ ghost use Rattle.std.specs.Prelude.{◌≡◌, ◌+◌, ◌<◌, ◌^◌, ◌++�
 ghost use Rattle.kernel_model.specs.World.{Boot};
 ghost use Rattle.kernel_step.specs.Stands.{Stands, Settles};
 ghost use Rattle.kernel_step.specs.declared.task.Task.{Task};
-ghost use Rattle.kernel_model.specs.declared.answer.Refused.TheVariants.{OutOfMemory};
 ghost use Rattle.kernel_model.specs.declared.answer.Outcome.{Outcome};
 ghost use Rattle.kernel_step.specs.Entering.{IsSameSystem};
 ghost use Rattle.kernel_step.specs.Ready.{MayEnter};
@@ -62,8 +61,7 @@ fn settle_turn(
     ensures same_system { OnErr result (IsSameSystem system.old system.new) }
     ensures same_history { OnErr result (history.new.items ≡ history.old.items) }
     ensures same_ran { OnErr result (ran.new ≡ ran.old) }
-    ensures cause { IfErr result (λ r. r.why ≡ OutOfMemory) }
-    ensures back { IfErr result (λ r. r.done ≡ done) }
+    ensures back { IfErr result (HandsBack done) }
 {
     if reserve(history, &mut system.dependencies, 1, 1).is_err() {
         return Err(Rejected {
@@ -151,8 +149,7 @@ fn settle_call(
     ensures same_system { OnErr result (IsSameSystem system.old system.new) }
     ensures same_history { OnErr result (history.new.items ≡ history.old.items) }
     ensures same_ran { OnErr result (ran.new ≡ ran.old) }
-    ensures cause { IfErr result (λ r. r.why ≡ OutOfMemory) }
-    ensures back { IfErr result (λ r. r.done ≡ done) }
+    ensures back { IfErr result (HandsBack done) }
 {
     if tasks.reserve(1).is_err() {
         return Err(Rejected {

@@ -4,10 +4,10 @@ ghost use Rattle.std.specs.Prelude.{◌≡◌, is_some};
 use machine::Machine;
 use std::sync::Arc;
 
-/// Where a process's machine is: in the core, or with its borrower.
+/// Where a process's machine is: in the kernel, or with its borrower.
 #[derive(Drop)]
 pub enum Whereabouts {
-    /// In the core.
+    /// In the kernel.
     Here(Machine),
     /// Out on loan, to run at most `quantum` instructions. `began` is the state with which it was lent; the loan shares it.
     Out { began: Arc<Machine>, quantum: u32 },

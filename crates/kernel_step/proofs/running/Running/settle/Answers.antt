@@ -19,7 +19,8 @@ use Rattle.kernel_step.proofs.EnterCore.{log-short, served-few}
 use Rattle.kernel_step.proofs.EnterResults.{on-ok-any}
 use Rattle.kernel_step.proofs.EnterWorld.{may-plan}
 use Rattle.kernel_step.proofs.SettleAccepted.{events-accepted}
-use Rattle.kernel_step.proofs.SettleCore.{own-loan, loan-own, turn-result, enter-result, settle-core, settle-events, settle-answer, settle-only, settle-strange, settle-err, same-of, set-same, not-there, get-one}
+use Rattle.disk_model.proofs.Lists.{set_same}
+use Rattle.kernel_step.proofs.SettleCore.{own-loan, loan-own, turn-result, enter-result, settle-core, settle-events, settle-answer, settle-only, settle-back, settle-strange, settle-err, same-of, not-there, get-one}
 use Rattle.kernel_step.specs.Stands.{KeepsRun, run_of, kernel_of, kernel_in}
 use Rattle.kernel_step.proofs.SettleWorld.{out-running}
 use Rattle.kernel_step.proofs.running.Running.settle.Goals as goal
@@ -55,7 +56,7 @@ returns-in_default c = λ b h. record {
 pub returns-then-not-is_of_loan : goal.returns-then-not-is_of_loan
 returns-then-not-is_of_loan c = λ b h.
     let at = (goal.at.returns-then-not-is_of_loan c).After-index_mut-task in
-    let same = set-same c.args.self.now.tasks.items c.in-Some.place c.index_mut-task.result.now (there at) in
+    let same = set_same c.args.self.now.tasks.items c.in-Some.place c.index_mut-task.result.now (there at) in
     record {
       stands = record { parts = subst (λ (ts : List Task). KeepsRun b c.args.self.now.history.items ts c.args.self.now.system) (sym same) h.parts; counted = h.counted };
       own = tt;
@@ -78,7 +79,7 @@ returns-then-not-is_of_loan c = λ b h.
 pub settle_call-requires-clause-there : goal.settle_call-requires-clause-there
 settle_call-requires-clause-there c =
     let at = (goal.at.settle_call-requires-clause-there c).After-index_mut-task in
-    subst (λ (ts : List Task). c.in-Some.place < length ts) (sym (set-same c.args.self.now.tasks.items c.in-Some.place c.index_mut-task.result.now (there at))) (placed at).there
+    subst (λ (ts : List Task). c.in-Some.place < length ts) (sym (set_same c.args.self.now.tasks.items c.in-Some.place c.index_mut-task.result.now (there at))) (placed at).there
 
 pub settle_call-requires-clause-fine : goal.settle_call-requires-clause-fine
 settle_call-requires-clause-fine c = λ t at-place.
@@ -86,7 +87,7 @@ settle_call-requires-clause-fine c = λ t at-place.
     let of = of-loan c.index_mut-task.result.now c.args.done c.is_of_loan.result c.if-not-is_of_loan.false c.is_of_loan.ensures.0 in
     let same : t ≡ c.index_mut-task.result.now =
     get-one c.args.self.now.tasks.items c.in-Some.place t c.index_mut-task.result.now
-    (ap (λ (ts : List Task). slice_get ts c.in-Some.place) (sym (set-same c.args.self.now.tasks.items c.in-Some.place c.index_mut-task.result.now (there at))) ∙ at-place) (there at) in
+    (ap (λ (ts : List Task). slice_get ts c.in-Some.place) (sym (set_same c.args.self.now.tasks.items c.in-Some.place c.index_mut-task.result.now (there at))) ∙ at-place) (there at) in
     record {
       stands = ap (λ (o : Option Stop). is_some o) (sym c.stopped.ensures ∙ c.in-Some-stopped.is);
       budget = c.args.done.room;
@@ -134,9 +135,9 @@ returns-in-None c = λ b h.
       events = settle-events b c.args.self.now.history.items later c.args.self.now.tasks.items new system c.args.self.now.last_lent place d r (placed at).number taken;
       answer = settle-answer b c.args.self.now.history.items later c.args.self.now.tasks.items new system c.args.self.now.last_lent place d r taken;
       ran = c.settle_turn.ensures.ran;
-      stranger = settle-strange (IsOfLoan (kernel_in b c.args.self.now) (loan_result d)) r c.settle_turn.ensures.cause;
-      own_only = settle-only r own c.settle_turn.ensures.cause;
-      back = c.settle_turn.ensures.back;
+      stranger = settle-strange (IsOfLoan (kernel_in b c.args.self.now) (loan_result d)) d r c.settle_turn.ensures.back;
+      own_only = settle-only d r own c.settle_turn.ensures.back;
+      back = settle-back d r c.settle_turn.ensures.back;
       err = settle-err b c.args.self.now.history.items later c.args.self.now.tasks.items new c.args.self.now.last_lent place r c.settle_turn.ensures.same_history same;
     }
 
@@ -156,9 +157,9 @@ returns-in-Some-stopped c = λ b h.
     let taken = enter-result (record { changes = c.made_files_change.ensures; pipes = record { shown = c.steps_are_shown.ensures.next; grown = c.ends_grow_by_one.ensures } })
     b c.args.self.now.history.items later c.args.self.now.tasks.items new c.args.self.now.system system c.args.self.now.last_lent place t d c.in-Some-stopped.field-0 r
     h.parts (placed at).number (there at) of stands
-    (subst (λ (ts : List Task). IfOk r (λ a. IsCallSettled d place ts new c.args.self.now.system system a)) (set-same c.args.self.now.tasks.items place t (there at)) c.settle_call.ensures.done)
+    (subst (λ (ts : List Task). IfOk r (λ a. IsCallSettled d place ts new c.args.self.now.system system a)) (set_same c.args.self.now.tasks.items place t (there at)) c.settle_call.ensures.done)
     c.settle_call.ensures.history in
-    let same = subst (λ (ts : List Task). OnErr r (IsUnsettled place ts new)) (set-same c.args.self.now.tasks.items place t (there at)) c.settle_call.ensures.same in
+    let same = subst (λ (ts : List Task). OnErr r (IsUnsettled place ts new)) (set_same c.args.self.now.tasks.items place t (there at)) c.settle_call.ensures.same in
     record {
       stands = record {
         parts = settle-core b c.args.self.now.history.items later c.args.self.now.tasks.items new c.args.self.now.system system c.args.self.now.last_lent place d r h.parts taken c.settle_call.ensures.same_history same c.settle_call.ensures.same_system;
@@ -171,8 +172,8 @@ returns-in-Some-stopped c = λ b h.
       events = settle-events b c.args.self.now.history.items later c.args.self.now.tasks.items new system c.args.self.now.last_lent place d r (placed at).number taken;
       answer = settle-answer b c.args.self.now.history.items later c.args.self.now.tasks.items new system c.args.self.now.last_lent place d r taken;
       ran = c.settle_call.ensures.ran;
-      stranger = settle-strange (IsOfLoan (kernel_in b c.args.self.now) (loan_result d)) r c.settle_call.ensures.cause;
-      own_only = settle-only r own c.settle_call.ensures.cause;
-      back = c.settle_call.ensures.back;
+      stranger = settle-strange (IsOfLoan (kernel_in b c.args.self.now) (loan_result d)) d r c.settle_call.ensures.back;
+      own_only = settle-only d r own c.settle_call.ensures.back;
+      back = settle-back d r c.settle_call.ensures.back;
       err = settle-err b c.args.self.now.history.items later c.args.self.now.tasks.items new c.args.self.now.last_lent place r c.settle_call.ensures.same_history same;
     }
