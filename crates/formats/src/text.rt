@@ -1,10 +1,5 @@
 //! How registers and instructions are written.
-ghost use Rattle.std.specs.Cmp.Lexicographic.{pointwise, nat_list_eq_equiv};
-ghost use Rattle.std.specs.Cmp.{and_equiv, on_equiv, partial_equiv_from_equiv};
-ghost use Rattle.formats.specs.contracts.text.OperandsEq.TheImpl.Laws as operands_laws;
-ghost use Rattle.formats.specs.contracts.text.OperandsPartialEq.TheImpl as operands_equality;
-ghost use Rattle.std.specs.Ordering.{eq_of_both, on};
-ghost use Rattle.std.specs.Prelude.{◌≡◌, ◌++◌, Some, nat_eq};
+ghost use Rattle.std.specs.Prelude.{◌≡◌, ◌++◌, Some};
 ghost use Rattle.formats.specs.Operands.{operands_text, mnemonic_of, operands_of};
 ghost use Rattle.formats.specs.Text.{register_name, text_of};
 
@@ -65,7 +60,7 @@ impl fmt::Display for Reg {
 }
 
 /// The operands of an instruction, by the form in which they are written.
-#[derive(PartialEq, Eq, Drop)]
+#[derive(Drop)]
 enum Operands {
     /// `rd,rs1,rs2`.
     Registers(Reg, Reg, Reg),
@@ -230,21 +225,6 @@ impl Instr {
             Instr::Fence | Instr::Ecall | Instr::Ebreak => Operands::None,
         }
     }
-}
-
-/// Two instructions are the same where their mnemonics and their operands are.
-impl PartialEq for Instr {
-    ghost eq = { eq_of_both (on mnemonic_of (pointwise nat_eq)) (on operands_of operands_equality.ghosts.eq) };
-
-    ghost laws = { partial_equiv_from_equiv (and_equiv (on_equiv mnemonic_of nat_list_eq_equiv) (on_equiv operands_of operands_laws.laws-law)) };
-
-    fn eq(&self, other: &Instr) -> bool {
-        self.mnemonic() == other.mnemonic() && self.operands() == other.operands()
-    }
-}
-
-impl Eq for Instr {
-    ghost laws = { and_equiv (on_equiv mnemonic_of nat_list_eq_equiv) (on_equiv operands_of operands_laws.laws-law) };
 }
 
 /// The instruction as an assembler reads it, as `addi a0,zero,5`: mnemonic and names in lower case, immediates and
