@@ -1,4 +1,4 @@
--- How the operands of instructions are written, by their form.
+-- The mnemonic and the operands of instructions, and how operands are written, by their form.
 use Rattle.std.specs.Prelude.{ℕ, List, [], codes}
 use Rattle.std.specs.Fmt.{signed_decimal}
 use Rattle.formats.specs.declared.instr.Instr.{Instr}

@@ -18,7 +18,6 @@ use Rattle.kernel_step.proofs.EnterPlans.{part-seen}
 use Rattle.kernel_step.proofs.EnterTasks.{world_after, files-grow, names-more}
 use Rattle.kernel_step.proofs.Lists.{map-set, length-snoc, map-append}
 
--- ---- lists
 -- ---- the parts
 born-forked : (p : Process) (o : Option ℕ) → born (Some (part_of p)) o ≡ map part_of (forked p o)
 born-forked p None = refl

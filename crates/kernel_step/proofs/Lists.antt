@@ -83,7 +83,7 @@ all-taken P [] i all h = tt
 all-taken P (y ∷ ys) zero all h = absurd (omega arith)
 all-taken P (y ∷ ys) (suc i) all h = (h.0, all-taken P ys i (omega arith) h.1)
 
--- the same of a list for which room was taken
+-- the element at a place of a list that is another one
 pub get-reserved : {A : Type 0} (xs ys : List A) (i : ℕ) (x : A) → ys ≡ xs → i < length xs → x ≡ slice_index_or ys i x → slice_get xs i ≡ Some x
 get-reserved xs ys i x same h e = get-there xs i x h (e ∙ ap (λ zs. slice_index_or zs i x) same)
 

@@ -378,12 +378,12 @@ same-of (Err e) tasks place t u there h = record {
   tasks = refl;
 }
 
--- no task has changed
 some-there : {A : Type 0} (xs : List A) (i : ℕ) → i < length xs → (x : A) × (slice_get xs i ≡ Some x)
 some-there [] i h = absurd (omega arith)
 some-there (x ∷ xs) zero h = (x, refl)
 some-there (x ∷ xs) (suc i) h = some-there xs i (omega arith)
 
+-- no task has changed
 pub unsettled-same : (tasks new : List Task) (place : ℕ) → place < length tasks → new ≡ tasks → IsUnsettled place tasks new
 unsettled-same tasks new place within is =
     let one = some-there tasks place within in

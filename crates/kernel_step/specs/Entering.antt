@@ -193,8 +193,8 @@ pub record AreSteps (steps : List PipeStep) : Type 0 where
   pub kind : OpensAlone steps
   pub few : length steps ≤ 16
 
--- The plan says what comes of the call or the trap at which process pid stands, which sees this. It makes a child or collects
--- one, and not both; and it reads no more of a tape than is left.
+-- The plan says what comes of the call or the trap at which process pid stands, which sees this. It does not both make a child
+-- and collect one; and it reads no more of a tape than is left.
 pub record PlansEnter (seen : Sight) (pid : ℕ) (s : State) (plan : Plan) : Type 0 where
   pub goes : (state : SyncState) (p : Process) → IsSightOf state seen → process_at state.processes pid ≡ Some p → p.state ≡ s → p.status ≡ None
       → step state (Enter pid) ≡ planned state pid p plan

@@ -42,6 +42,8 @@ pub record HoldsEnter (history : Vec Event) (trace : Withheld Item) (s : System)
   pub replies : 1 ≤ trace.room
   pub plan : HoldsPlan s e.pid e.plan
 
+-- ---- what is prepared
+
 -- an Enter of process pid by this machine and with this trace comes to this, and its change of the files is done
 pub record IsPrepared (pid : ℕ) (m : State) (trace : Withheld Item) (old new : System) (e : Entering) : Type 0 where
   pub entering : IsEntering (seen_of old) pid m trace e
@@ -63,8 +65,8 @@ pub record MayTellChild (child : Option Task) : Type 0 where
   pub running : IfSome child (λ u. status_of u ≡ None)
   pub room : IfSome child (λ u. 1 ≤ u.trace.room)
 
--- the plan of process pid may change the table of processes: the process is there, with room for a child, and it makes the next
--- process or collects a child, and not both
+-- the plan of process pid may change the table of processes: the process is there, with room for a child; a process that the plan
+-- makes is the next one, and it does not both make one and collect one
 pub record MayChange (table : Table) (pid : ℕ) (plan : Plan) : Type 0 where
   pub from_1 : 0 < pid
   pub there : pid ≤ length table.parts
@@ -72,7 +74,8 @@ pub record MayChange (table : Table) (pid : ℕ) (plan : Plan) : Type 0 where
   pub one : (plan.child ≡ None) ⊎ (plan.collects ≡ None)
   pub room : HasChildRoom table pid
 
--- the same of what is shared: no more of a tape is read than is left, and this is the pipe that is made, if one is
+-- the plan may change what is shared: the table of processes as above; no more of a tape is read than is left; the steps of its
+-- pipes may be done, of which this is the pipe that is made, if one is; and one more Enter may be counted
 pub record MayBecome (s : System) (pid : ℕ) (plan : Plan) (pipe : Option Seen) : Type 0 where
   pub processes : MayChange s.processes pid plan
   pub left : IfSome plan.tape (AreLeft s.tapes)

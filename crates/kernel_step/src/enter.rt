@@ -97,8 +97,8 @@ fn ready(system: &mut System, pid: u32, plan: &Plan) -> Result<(), AllocError>
     change_files(&mut system.files, &plan.change)
 }
 
-/// Takes all memory for an Enter that comes to this, and for a Turn before it, and does its change of the files, which is the
-/// last step that may fail. Where memory runs out nothing has changed.
+/// Takes the rest of the memory for an Enter that comes to this, with room for the Turn that a loan's result has before it, and
+/// does its change of the files, which is the last step that may fail. Where memory runs out nothing has changed.
 fn take_room(
     history: &mut Vec<Event>,
     system: &mut System,

@@ -1,4 +1,4 @@
-//! What an Enter comes to, found with all its memory before anything changes.
+//! What an Enter comes to, found before anything changes.
 ghost use Rattle.std.specs.Prelude.{◌≡◌, ◌+◌, ◌<◌, ◌≤◌, ◌^◌, ◌∷◌, length, IfOk, Some, None, true, is_some};
 ghost use Rattle.machine_model.specs.Numbers.{cause_number};
 ghost use Rattle.machine_model.specs.States.{stands_at, replied};

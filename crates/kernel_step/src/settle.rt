@@ -129,8 +129,8 @@ fn settle_enter(
     Ok((answer, child))
 }
 
-/// Takes a result back of the process at this place, whose machine stands here: it becomes a Turn, whose instructions are
-/// counted with those that ran before, and an Enter.
+/// Takes a result back of the process at this place, whose machine stands at a call or a trap: it becomes a Turn, whose
+/// instructions are counted with those that ran before, and an Enter.
 fn settle_call(
     history: &mut Vec<Event>,
     ran: &mut u64,

@@ -1,5 +1,5 @@
 //! What all processes share: what events rest on, the changes, the files, the pipes, the tapes, the terminals and the disk,
-//! and what is kept of all processes beside their machines.
+//! what is kept of all processes beside their machines, and the allocator.
 use calls::TapeTable;
 use commit_deps::Dependencies;
 use disk_model::Change;
@@ -10,9 +10,10 @@ use processes::ProcTable;
 use std::alloc::Global;
 use withheld::Withheld;
 
-/// What all processes share, the memory that they take among it.
+/// What all processes share.
 #[derive(Drop)]
 pub struct System {
+    /// Where the host's memory comes from.
     pub alloc: Global,
     pub dependencies: Dependencies,
     /// All changes of files so far.
