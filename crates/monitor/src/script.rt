@@ -170,6 +170,11 @@ fn program_of(alloc: Global, words: &[&str]) -> Result<Option<ScriptProgram>, Al
     }
 }
 
+/// Whether a word is a path: it is not empty, and has no tab and no carriage return.
+fn is_path(word: &str) -> bool {
+    !word.is_empty() && !word.contains('\t') && !word.contains('\r')
+}
+
 /// The program of a line `image T PATH`, without its first word. None where it has no such form.
 fn image_of(alloc: Global, words: &[&str]) -> Result<Option<ScriptProgram>, AllocError> {
     let [first, path] = words else {
@@ -178,7 +183,7 @@ fn image_of(alloc: Global, words: &[&str]) -> Result<Option<ScriptProgram>, Allo
     let Some(terminal) = terminal_of(first) else {
         return Ok(None);
     };
-    if path.is_empty() {
+    if !is_path(path) {
         return Ok(None);
     }
     Ok(Some(ScriptProgram {
