@@ -172,7 +172,7 @@ fn program_of(alloc: Global, words: &[&str]) -> Result<Option<ScriptProgram>, Al
 
 /// Whether a word is a path: it is not empty, and has no tab and no carriage return.
 fn is_path(word: &str) -> bool {
-    !word.is_empty() && !word.contains('\t') && !word.contains('\r')
+    !word.is_empty() && word.bytes().all(|byte| byte != b'\t' && byte != b'\r')
 }
 
 /// The program of a line `image T PATH`, without its first word. None where it has no such form.
