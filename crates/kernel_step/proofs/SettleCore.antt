@@ -20,7 +20,7 @@ use Rattle.kernel_step.specs.Stands.{run_of, kernel_of, KeepsRun}
 use Rattle.kernel_step.specs.Entering.{IsSameTask, IsSameSystem}
 use Rattle.kernel_step.specs.Loaned.{loan_result}
 use Rattle.kernel_step.specs.Mirrors.{Mirrors}
-use Rattle.kernel_step.specs.Settling.{IsLoanOf, IsBack, IsTurnNoted, IsCallSettled, IsUnsettled, HandsBack}
+use Rattle.kernel_step.specs.Settling.{IsLoanOf, IsBack, IsTurnNoted, IsCallSettled, IsUnsettled, LackedMemory}
 use Rattle.kernel_step.specs.Tasks.{machine_of, out_of, process_of, lending_of, count_out, unsettled, AreFewLoans}
 use Rattle.kernel_step.specs.declared.loan.Done.{Done}
 use Rattle.kernel_step.specs.declared.loan.Rejected.{Rejected}
@@ -346,12 +346,12 @@ pub settle-answer : (b : Boot) (history history' : List Event) (tasks new : List
 settle-answer b history history' tasks new s' last place d (Ok a) taken = taken.taken.answer
 settle-answer b history history' tasks new s' last place d (Err e) taken = tt
 
-pub settle-only : {P : Type 0} (d : Done) (r : Result Answer Rejected) → P → IfErr r (λ e. HandsBack d e)
+pub settle-only : {P : Type 0} (d : Done) (r : Result Answer Rejected) → P → IfErr r (λ e. LackedMemory d e)
     → IfErr r (λ e. e.why ≢ Stranger → (e.why ≡ OutOfMemory) × P)
 settle-only d (Ok a) h handed = tt
 settle-only d (Err e) h handed = λ other. (handed.cause, h)
 
-pub settle-back : (d : Done) (r : Result Answer Rejected) → IfErr r (λ e. HandsBack d e) → IfErr r (λ e. e.done ≡ d)
+pub settle-back : (d : Done) (r : Result Answer Rejected) → IfErr r (λ e. LackedMemory d e) → IfErr r (λ e. e.done ≡ d)
 settle-back d (Ok a) handed = tt
 settle-back d (Err e) handed = handed.back
 
@@ -390,7 +390,7 @@ unsettled-same tasks new place within is =
     record { task = one.0; there = one.1; after = one.0; same = same-task-as one.0; tasks = is ∙ sym (set_same tasks place one.0 one.1) }
 
 -- ---- strangers
-pub settle-strange : (P : Type 0) (d : Done) (r : Result Answer Rejected) → IfErr r (λ e. HandsBack d e) → IfErr r (λ e. e.why ≡ Stranger → ¬ P)
+pub settle-strange : (P : Type 0) (d : Done) (r : Result Answer Rejected) → IfErr r (λ e. LackedMemory d e) → IfErr r (λ e. e.why ≡ Stranger → ¬ P)
 settle-strange P d (Ok a) handed = tt
 settle-strange P d (Err e) handed = λ why own. let cause : e.why ≡ OutOfMemory = handed.cause in cc
 

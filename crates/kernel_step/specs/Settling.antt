@@ -73,7 +73,7 @@ pub record IsUnsettled (place : ℕ) (old new : List Task) : Type 0 where
   pub same : IsSameTask task after
   pub tasks : new ≡ slice_set old place after
 
--- the result is handed back, since memory ran out
-pub record HandsBack (d : Done) (r : Rejected) : Type 0 where
+-- memory ran out, and the result is handed back
+pub record LackedMemory (d : Done) (r : Rejected) : Type 0 where
   pub cause : r.why ≡ OutOfMemory
   pub back : r.done ≡ d

@@ -6,8 +6,8 @@ ghost use Rattle.kernel_step.specs.declared.task.Task.{Task};
 ghost use Rattle.kernel_model.specs.declared.answer.Outcome.{Outcome};
 ghost use Rattle.kernel_step.specs.Entering.{IsSameSystem};
 ghost use Rattle.kernel_step.specs.Ready.{MayEnter};
-ghost use Rattle.kernel_step.specs.Settling.{IsLoanOf, IsBack, IsTurnNoted, IsTurnEntered, IsCallSettled, IsUnsettled, HandsBack};
-ghost use Rattle.kernel_step.specs.Unchanged.{AreUntouched};
+ghost use Rattle.kernel_step.specs.Settling.{IsLoanOf, IsBack, IsTurnNoted, IsTurnEntered, IsCallSettled, IsUnsettled, LackedMemory};
+ghost use Rattle.kernel_step.specs.Unchanged.{AreUnchanged};
 
 use crate::enter::{finish, join, note_enter, prepare};
 use crate::loan::{Done, Rejected};
@@ -61,7 +61,7 @@ fn settle_turn(
     ensures same_system { OnErr result (IsSameSystem system.old system.new) }
     ensures same_history { OnErr result (history.new.items ≡ history.old.items) }
     ensures same_ran { OnErr result (ran.new ≡ ran.old) }
-    ensures back { IfErr result (HandsBack done) }
+    ensures back { IfErr result (LackedMemory done) }
 {
     if reserve(history, &mut system.dependencies, 1, 1).is_err() {
         return Err(Rejected {
@@ -99,8 +99,8 @@ fn settle_enter(
     ensures done { IfOk result (λ r. (o : Outcome) × (r.0 ≡ Answer.Settled done.count done.stop (Some o))
         × IsTurnEntered done.pid done.machine task.old task.new system.old system.new o r.1) }
     ensures history { OnOk result (history.new.items ≡ history.old.items ++ Event.Turn done.pid done.count ∷ Event.Enter done.pid ∷ []) }
-    ensures err { OnErr result (AreUntouched task.old task.new system.old system.new history.old.items history.new.items) }
-    ensures back { IfErr result (HandsBack done) }
+    ensures err { OnErr result (AreUnchanged task.old task.new system.old system.new history.old.items history.new.items) }
+    ensures back { IfErr result (LackedMemory done) }
 {
     let pid = done.pid;
     let Ok(entering) = prepare(history, system, pid, &done.machine, &mut task.trace) else {
@@ -149,7 +149,7 @@ fn settle_call(
     ensures same_system { OnErr result (IsSameSystem system.old system.new) }
     ensures same_history { OnErr result (history.new.items ≡ history.old.items) }
     ensures same_ran { OnErr result (ran.new ≡ ran.old) }
-    ensures back { IfErr result (HandsBack done) }
+    ensures back { IfErr result (LackedMemory done) }
 {
     if tasks.reserve(1).is_err() {
         return Err(Rejected {
