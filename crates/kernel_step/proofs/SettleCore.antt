@@ -1,5 +1,6 @@
 -- From a loan's result in the parts to the kernel.
 use Rattle.std.proofs.Common.{◌≡◌, ℕ, zero, suc, ◌+◌, ◌*◌, ◌^◌, ◌<◌, ◌≤◌, Bool, true, false, if◌then◌else◌, List, [], ◌∷◌, ◌++◌, length, map, slice_get, slice_set, Option, Some, None, is_some, option_map, option_to_list, Result, Ok, Err, refl, sym, ap, subst, ◌∙◌, arith, length-append, append_assoc}
+use Rattle.std.proofs.lemmas.List.{map-set}
 use Rattle.std.specs.Prelude.{◌≢◌, IfOk, IfErr, OnOk, OnErr}
 use Rattle.disk_model.proofs.Lists.{set_same}
 use Rattle.machine_model.specs.States.{State, reached_at, run, stands_at}
@@ -29,7 +30,7 @@ use Rattle.kernel_step.specs.declared.task.Task.{Task}
 use Rattle.kernel_step.proofs.EnterCore.{same-out, child-out}
 use Rattle.kernel_step.proofs.EnterWorld.{EnterLaws, same-mirrors, same-lendings}
 use Rattle.kernel_step.proofs.FewLoans.{few-longer, few-same, few-put, few-at, few-child}
-use Rattle.kernel_step.proofs.Lists.{map-set, get-map, count-cons}
+use Rattle.kernel_step.proofs.Lists.{get-map, count-cons}
 use Rattle.kernel_step.proofs.SettleWorld.{run-reaches, back-mirrors, both-run}
 use Rattle.kernel_step.proofs.Turning.{IsProcessOf, process-there, turn-child}
 

@@ -1,5 +1,5 @@
 //! The disk's events: a group is cut, and a write is complete or has failed.
-ghost use Rattle.std.specs.Prelude.{◌≡◌, ◌++◌, ◌∷◌, [], length, drop, IfOk, IfErr, OnOk, OnErr, true};
+ghost use Rattle.std.specs.Prelude.{◌≡◌, ◌++◌, ◌∷◌, [], drop, IfOk, IfErr, OnOk, OnErr};
 ghost use Rattle.std.specs.List.{AllByRecursion};
 ghost use Rattle.disk_model.specs.Files.{IsFormed, IsMade};
 ghost use Rattle.kernel_model.specs.Answers.{Refuses, cut_refusal, write_refusal};
