@@ -1,5 +1,5 @@
 -- Each process had few loans.
-use Rattle.std.proofs.Common.{◌≡◌, ℕ, zero, suc, ◌+◌, ◌≤◌, ◌⊎◌, inl, inr, false, List, [], ◌∷◌, ◌++◌, map, slice_get, slice_set, Option, Some, None, is_some, refl, sym, subst, arith}
+use Rattle.std.proofs.Common.{◌≡◌, ℕ, ◌+◌, ◌≤◌, inl, inr, false, List, map, slice_get, slice_set, Option, Some, None, is_some, refl, sym, subst, arith}
 use Rattle.std.proofs.lemmas.List.{map-set}
 use Rattle.kernel_model.specs.Answers.{Lending, never_lent, with_child}
 use Rattle.kernel_step.specs.Tasks.{out_of, lending_of, unsettled, AreFewLoans}
