@@ -21,7 +21,8 @@ use Rattle.kernel_step.specs.Stands.{run_of, kernel_of, KeepsRun}
 use Rattle.kernel_step.specs.Entering.{IsSameTask, IsSameSystem}
 use Rattle.kernel_step.specs.Loaned.{loan_result}
 use Rattle.kernel_step.specs.Mirrors.{Mirrors}
-use Rattle.kernel_step.specs.Settling.{IsLoanOf, IsBack, IsTurnNoted, IsCallSettled, IsUnsettled, LackedMemory}
+use Rattle.kernel_step.specs.Settling.{IsLoanOf, IsBack, IsTurnNoted, IsTurnSettled, IsCallSettled, IsUnsettled, LackedMemory}
+use Rattle.kernel_step.specs.Unchanged.{AreUnchanged}
 use Rattle.kernel_step.specs.Tasks.{machine_of, out_of, process_of, lending_of, count_out, unsettled, AreFewLoans}
 use Rattle.kernel_step.specs.declared.loan.Done.{Done}
 use Rattle.kernel_step.specs.declared.loan.Rejected.{Rejected}
@@ -301,19 +302,34 @@ settle-core b history history' tasks new s s' last place d (Ok a) h taken x y z 
 settle-core b history history' tasks new s s' last place d (Err e) h taken x y z =
     subst (λ (ts : List Task). KeepsRun b history' ts s') (sym y.tasks) (kept-core b history history' tasks s s' place y.task y.after h y.there x y.same z)
 
-pub turn-result : (b : Boot) (history history' : List Event) (tasks : List Task) (s s' : System) (last place : ℕ) (t u : Task) (d : Done) (r : Result Answer Rejected)
+-- what the facts of a result that became a Turn, or changed nothing, say of its parts
+pub turn-ran : (t u : Task) (s s' : System) (history history' : List Event) (ran ran' : ℕ) (d : Done) (r : Result Answer Rejected)
+    → IfOk r (λ a. IsTurnSettled d t u s s' history history' ran ran' a) → OnOk r (ran' ≡ ran + d.count)
+turn-ran t u s s' history history' ran ran' d (Ok a) h = h.counted
+turn-ran t u s s' history history' ran ran' d (Err e) h = tt
+
+pub same-history : (t u : Task) (s s' : System) (history history' : List Event) (r : Result Answer Rejected)
+    → OnErr r (AreUnchanged t u s s' history history') → OnErr r (history' ≡ history)
+same-history t u s s' history history' (Ok a) h = tt
+same-history t u s s' history history' (Err e) h = h.history
+
+pub same-system : (t u : Task) (s s' : System) (history history' : List Event) (r : Result Answer Rejected)
+    → OnErr r (AreUnchanged t u s s' history history') → OnErr r (IsSameSystem s s')
+same-system t u s s' history history' (Ok a) h = tt
+same-system t u s s' history history' (Err e) h = h.system
+
+pub turn-result : (b : Boot) (history history' : List Event) (tasks : List Task) (s s' : System) (last place ran ran' : ℕ) (t u : Task) (d : Done) (r : Result Answer Rejected)
     → KeepsRun b history tasks s → d.pid ≡ place + 1 → slice_get tasks place ≡ Some t → IsLoanOf t d → stands_at d.machine ≡ None
-    → OnOk r (IsBack d.machine t u) → OnOk r (IsTurnNoted d.pid s s') → OnOk r (history' ≡ history ++ Turn d.pid d.count ∷ [])
-    → IfOk r (λ a. a ≡ answer_of.Settled d.count d.stop None)
+    → IfOk r (λ a. IsTurnSettled d t u s s' history history' ran ran' a)
     → IfOk r (λ a. IsTakenOf b history history' tasks (slice_set tasks place u) last place s' d a)
-turn-result b history history' tasks s s' last place t u d (Ok a) h number there of stands back noted grown answer = record {
+turn-result b history history' tasks s s' last place ran ran' t u d (Ok a) h number there of stands done = record {
   task = t;
   after = u;
   there = there;
   of = of;
-  taken = turn-taken b history history' tasks s s' last place t u d a h number there of stands back noted grown answer;
+  taken = turn-taken b history history' tasks s s' last place t u d a h number there of stands done.back done.system done.history done.answer;
 }
-turn-result b history history' tasks s s' last place t u d (Err e) h number there of stands back noted grown answer = tt
+turn-result b history history' tasks s s' last place ran ran' t u d (Err e) h number there of stands done = tt
 
 pub enter-result : EnterLaws → (b : Boot) (history history' : List Event) (tasks new : List Task) (s s' : System) (last place : ℕ) (t : Task) (d : Done) (at : Stop) (r : Result Answer Rejected)
     → KeepsRun b history tasks s → d.pid ≡ place + 1 → slice_get tasks place ≡ Some t → IsLoanOf t d → stands_at d.machine ≡ Some at
