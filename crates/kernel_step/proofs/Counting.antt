@@ -1,5 +1,6 @@
 -- How many instructions a running kernel counts is how many its Turns ran, and a u64 holds it.
 use Rattle.std.proofs.Common.{◌≡◌, ℕ, zero, suc, ◌+◌, ◌*◌, ◌^◌, ◌<◌, ◌≤◌, Bool, true, false, if◌then◌else◌, List, [], ◌∷◌, ◌++◌, length, map, slice_get, slice_set, Option, Some, None, is_some, Result, Ok, Err, refl, sym, ap, subst, ◌∙◌, arith, append_assoc, length-append}
+use Rattle.std.proofs.lemmas.List.{length-set, length-map}
 use Rattle.std.specs.Prelude.{IfOk, OnOk, OnErr}
 use Rattle.machine_model.specs.States.{State, Stepped, Goes, Halts, Ran, reached_at, next, run, stands_at}
 use Rattle.machine_model.specs.declared.stop.Stop.{Stop}
@@ -35,7 +36,6 @@ use Rattle.kernel_step.specs.declared.loan.Done.{Done}
 use Rattle.kernel_step.specs.declared.loan.Rejected.{Rejected}
 use Rattle.kernel_step.specs.declared.system.System.{System}
 use Rattle.kernel_step.specs.declared.task.Task.{Task}
-use Rattle.kernel_step.proofs.Lists.{length-set-at}
 use Rattle.kernel_step.proofs.Refusing.{turn-fine}
 use Rattle.kernel_step.proofs.SettleAccepted.{events-accepted}
 use Rattle.kernel_step.proofs.SettleCore.{process-in, IsTakenOf}
@@ -89,7 +89,7 @@ done-append (p ∷ ps) qs = let rest = done-append ps qs in omega (arith, rest)
 
 length-put : (ps : List Process) (pid : ℕ) (q : Process) → length (put_process ps pid q) ≡ length ps
 length-put ps zero q = refl
-length-put ps (suc i) q = length-set-at ps i q
+length-put ps (suc i) q = length-set ps i q
 
 -- ---- what an event does to that
 effect-done : (s : SyncState) (pid : ℕ) (p : Process) (e : Row) (v : Verdict) → process_at s.processes pid ≡ Some p
@@ -296,10 +296,6 @@ done-bare : (ps : List Process) → done_by (map bare ps) ≡ done_by ps
 done-bare [] = refl
 done-bare (p ∷ ps) = ap (λ n. p.state.count + n) (done-bare ps)
 
-length-mapped : {A B : Type 0} (f : A → B) (xs : List A) → length (map f xs) ≡ length xs
-length-mapped f [] = refl
-length-mapped f (x ∷ xs) = ap suc (length-mapped f xs)
-
 done-most : (most : ℕ) (tasks : List Task) → ((place : ℕ) (t : Task) → slice_get tasks place ≡ Some t → (machine_of t).count ≤ most)
     → done_by (map process_of tasks) ≤ most * length tasks
 done-most most [] each = omega arith
@@ -323,7 +319,7 @@ counted-most b history tasks s ran h counted_so =
     let same : done_by (map process_of tasks) ≡ done_by w.sync.processes = ap done_by each.processes ∙ done-bare w.sync.processes in
     let most : done_by (map process_of tasks) ≤ 2 ^ 40 * length tasks = done-most (2 ^ 40) tasks (budget-most tasks w s.served each) in
     let size : length tasks ≡ length w.sync.processes =
-    sym (length-mapped process_of tasks) ∙ ap (λ (ps : List Process). length ps) each.processes ∙ length-mapped bare w.sync.processes in
+    sym (length-map tasks process_of) ∙ ap (λ (ps : List Process). length ps) each.processes ∙ length-map w.sync.processes bare in
     let few : length w.sync.processes ≤ most_processes = counted_so.few in
     let done : ran ≤ done_by w.sync.processes = counted_so.done in
     omega (arith, same, most, size, few, done)

@@ -1,5 +1,6 @@
 -- The table of processes and the pipes after one more event.
 use Rattle.std.proofs.Common.{◌≡◌, ℕ, zero, suc, ◌+◌, ◌*◌, ◌≤◌, List, [], ◌∷◌, ◌++◌, length, map, slice_set, Option, Some, None, refl, sym, ap, subst, ◌∙◌, arith}
+use Rattle.std.proofs.lemmas.List.{map-set, map-append}
 use Rattle.std.specs.List.{AllByRecursion}
 use Rattle.disk_model.proofs.Lists.{each_get, each_set, each_append, each_more}
 use Rattle.calls.specs.Plans.{NamesFiles, MayAllStep, all_seen}
@@ -16,7 +17,7 @@ use Rattle.kernel_step.specs.Entering.{descriptors_after, part_after, process_af
 use Rattle.kernel_step.specs.Mirrors.{IsPart, AreParts, ArePipes}
 use Rattle.kernel_step.proofs.EnterPlans.{part-seen}
 use Rattle.kernel_step.proofs.EnterTasks.{world_after, files-grow, names-more}
-use Rattle.kernel_step.proofs.Lists.{map-set, length-snoc, map-append}
+use Rattle.kernel_step.proofs.Lists.{length-snoc}
 
 -- ---- the parts
 born-forked : (p : Process) (o : Option ℕ) → born (Some (part_of p)) o ≡ map part_of (forked p o)

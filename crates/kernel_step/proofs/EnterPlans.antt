@@ -1,5 +1,6 @@
 -- What a plan says comes of an Enter.
 use Rattle.std.proofs.Common.{◌≡◌, ℕ, zero, suc, ◌+◌, ◌^◌, ◌<◌, ◌≤◌, inl, not, if◌then◌else◌, List, [], ◌∷◌, ◌++◌, length, map, filter, slice_get, slice_set, Option, Some, None, is_some, option_to_list, IfSome, IfOk, Result, Ok, Err, refl, sym, ap, subst, ◌∙◌}
+use Rattle.std.proofs.lemmas.List.{append-nil}
 use Rattle.std.specs.List.{AllByRecursion}
 use Rattle.disk_model.specs.declared.change.Change.{Change}
 use Rattle.machine_model.specs.States.{State, stands_at, next, by_step, Stepped, Goes, Halts, replied}
@@ -29,7 +30,6 @@ use Rattle.kernel_model.specs.declared.request.Request.{Request}
 use Rattle.kernel_model.specs.declared.request.Verdict.{Verdict}
 use Rattle.kernel_model.specs.declared.request.Verdict.TheVariants.{Waits, Replies, Ends}
 use Rattle.kernel_step.specs.Entering.{Sight, IsSightOf, HaveRoom, item_of, machine_after, descriptors_after, status_after, writes_of, MayBeTold, effect_of, planned, PlansEnter}
-use Rattle.kernel_step.proofs.Lists.{append-none}
 
 -- ---- what comes of an effect is what the plan says
 abbrev planned_told : SyncState → ℕ → Process → Plan → Verdict → Transition
@@ -70,7 +70,7 @@ all-kept [] = refl
 all-kept (c ∷ cs) = ap (λ xs. c ∷ xs) (all-kept cs)
 
 children-kept : (cs : List ℕ) → filter (λ child. not (is_collected None child)) cs ++ [] ≡ cs
-children-kept cs = append-none (filter (λ child. not (is_collected None child)) cs) ∙ all-kept cs
+children-kept cs = append-nil (filter (λ child. not (is_collected None child)) cs) ∙ all-kept cs
 
 -- the edits are these
 abbrev edited : SyncState → ℕ → Process → Plan → Verdict → Option Change → Option Output → Option TapeRead → List PipeStep → Option ℕ → Option ℕ → Transition
@@ -111,7 +111,7 @@ told-planned : (s : SyncState) (pid : ℕ) (p : Process) (plan : Plan) (verdict 
     → after_effect s pid p (effect_of plan) verdict ≡ planned_told s pid p plan verdict
 told-planned s pid p plan Waits edits there running =
     let same : put_process s.processes pid (record p { children = filter (λ other. not (is_collected None other)) p.children ++ [] }) ++ [] ≡ s.processes =
-    append-none (put_process s.processes pid (record p { children = filter (λ other. not (is_collected None other)) p.children ++ [] }))
+    append-nil (put_process s.processes pid (record p { children = filter (λ other. not (is_collected None other)) p.children ++ [] }))
     ∙ ap (λ (cs : List ℕ). put_process s.processes pid (record p { children = cs })) (children-kept p.children)
     ∙ put-same s.processes pid p there in
     ap (λ (ps : List Process). record {
@@ -145,7 +145,7 @@ told-planned s pid p plan (Replies r) edits there running =
 told-planned s pid p plan (Ends status) edits there running =
     let ended : List ℕ → Process = λ cs. record { state = p.state; descriptors = map (λ d. None) p.descriptors; children = cs; status = Some status } in
     let same : put_process s.processes pid (ended (filter (λ other. not (is_collected None other)) p.children ++ [])) ++ [] ≡ put_process s.processes pid (ended p.children) =
-    append-none (put_process s.processes pid (ended (filter (λ other. not (is_collected None other)) p.children ++ [])))
+    append-nil (put_process s.processes pid (ended (filter (λ other. not (is_collected None other)) p.children ++ [])))
     ∙ ap (λ (cs : List ℕ). put_process s.processes pid (ended cs)) (children-kept p.children) in
     ap (λ (ps : List Process). record {
       state = record { processes = ps; files = s.files; pipes = all_stepped s.pipes plan.pipes.items; tapes = s.tapes };

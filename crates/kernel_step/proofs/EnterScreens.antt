@@ -1,5 +1,6 @@
 -- Screens after one more event.
 use Rattle.std.proofs.Common.{◌≡◌, ℕ, ◌<◌, ◌≤◌, inl, inr, List, [], ◌∷◌, ◌++◌, length, slice_get, slice_set, Option, Some, None, refl, sym, ap, subst, ◌∙◌, arith}
+use Rattle.std.proofs.lemmas.List.{length-set, append-nil}
 use Rattle.commit_deps.specs.Marks.{IsMarkOf}
 use Rattle.kernel_model.specs.Entries.{Entry}
 use Rattle.kernel_model.specs.Shown.{given_by, printed, bytes_for}
@@ -8,14 +9,14 @@ use Rattle.kernel_model.proofs.Runs.{printed-entry}
 use Rattle.withheld.specs.Withheld.{Withheld, IsSame, all_held}
 use Rattle.kernel_step.specs.Seen.{Withholds, AreScreens}
 use Rattle.kernel_step.proofs.EnterLists.{withholds-more, withholds-same, withholds-moved, bytes-here, bytes-elsewhere}
-use Rattle.kernel_step.proofs.Lists.{get-within, get-set, length-set-at, append-none}
+use Rattle.kernel_step.proofs.Lists.{get-within, get-set}
 
 -- a screen to which the event writes nothing stays
 screen-stays : (c : ℕ) (log : List Entry) (e : Entry) (t : ℕ) (s : Withheld ℕ) → bytes_for t e.output ≡ [] → Withholds c (printed t log) s
     → Withholds c (printed t (log ++ e ∷ [])) s
 screen-stays c log e t s none h =
     withholds-same c (printed t log) (printed t (log ++ e ∷ [])) s
-    (printed-entry t log e ∙ ap (λ (xs : List ℕ). printed t log ++ given_by log e xs) none ∙ append-none (printed t log)) h
+    (printed-entry t log e ∙ ap (λ (xs : List ℕ). printed t log ++ given_by log e xs) none ∙ append-nil (printed t log)) h
 
 -- the screen after bytes of one more event of this mark
 pub record IsPrinted (bytes : List ℕ) (mark : ℕ) (old new : Withheld ℕ) : Type 0 where
@@ -33,7 +34,7 @@ pub screens-printed : (c : ℕ) (log : List Entry) (e : Entry) (out : Output) (m
     → slice_get ss out.terminal ≡ Some s → e.output ≡ Some out → IsMarkOf mark log e → IsPrinted out.bytes mark s s'
     → AreScreens c log ss → AreScreens c (log ++ e ∷ []) (slice_set ss out.terminal s')
 screens-printed c log e out mark ss s s' there writes is_mark new h = record {
-  count = length-set-at ss out.terminal s' ∙ h.count;
+  count = length-set ss out.terminal s' ∙ h.count;
   each = λ t x at. elim (get-set ss out.terminal t s' x at) as (λ _. Withholds c (printed t (log ++ e ∷ [])) x) [
     | inl g ↦
         subst (λ (y : Withheld ℕ). Withholds c (printed t (log ++ e ∷ [])) y) (sym g.1)
@@ -64,7 +65,7 @@ screens-stay c log e ss none h = record {
 pub screens-same : (c : ℕ) (log : List Entry) (ss : List (Withheld ℕ)) (t : ℕ) (s s' : Withheld ℕ) → slice_get ss t ≡ Some s → IsSame s s'
     → AreScreens c log ss → AreScreens c log (slice_set ss t s')
 screens-same c log ss t s s' there same h = record {
-  count = length-set-at ss t s' ∙ h.count;
+  count = length-set ss t s' ∙ h.count;
   each = λ k x at. elim (get-set ss t k s' x at) as (λ _. Withholds c (printed k log) x) [
     | inl g ↦
         subst (λ (y : Withheld ℕ). Withholds c (printed k log) y) (sym g.1)

@@ -1,5 +1,6 @@
 -- Tasks after an Enter.
 use Rattle.std.proofs.Common.{◌≡◌, ℕ, suc, ◌+◌, ◌^◌, ◌<◌, ◌≤◌, ◌==◌, ◌&&◌, inl, inr, Bool, true, false, List, [], ◌∷◌, ◌++◌, length, map, slice_get, slice_set, Option, Some, None, is_some, IfSome, if◌then◌else◌, option_to_list, refl, sym, ap, subst, ◌∙◌, arith}
+use Rattle.std.proofs.lemmas.List.{map-set, length-set, map-append, append-nil}
 use Rattle.std.proofs.lemmas.Bool.{eq-eqb, ne_eqb}
 use Rattle.disk_model.specs.declared.change.Change.{Change}
 use Rattle.disk_model.specs.declared.change.Change.TheVariants.{Create, Write, Empty}
@@ -30,7 +31,7 @@ use Rattle.kernel_step.specs.Waiting.{is_asleep, served_after, waited_after}
 use Rattle.kernel_step.specs.declared.task.Task.{Task}
 use Rattle.kernel_step.proofs.EnterFine.{IsFineTask}
 use Rattle.kernel_step.proofs.EnterLists.{withholds-more, withholds-same, items-here, items-elsewhere}
-use Rattle.kernel_step.proofs.Lists.{map-set, get-within, get-set, length-snoc, length-set-at, map-append, append-none, get-joined}
+use Rattle.kernel_step.proofs.Lists.{get-within, get-set, length-snoc, get-joined}
 use Rattle.kernel_step.proofs.Quiet.{told-own, told-made, waiting-more}
 use Rattle.kernel_step.proofs.Turning.{IsProcessOf}
 
@@ -84,7 +85,7 @@ since-served (Ends status) served waited h = since-more served (served + 1) wait
 -- ---- files grow in number
 with_bytes-length : (files : List NamedFile) (place : ℕ) (o : Option NamedFile) (f : List ℕ → List ℕ) → length (with_bytes files place o f) ≡ length files
 with_bytes-length files place None f = refl
-with_bytes-length files place (Some file) f = length-set-at files place (record { name = file.name; bytes = f file.bytes })
+with_bytes-length files place (Some file) f = length-set files place (record { name = file.name; bytes = f file.bytes })
 
 changed-grows : (files : List NamedFile) (c : Change) → length files ≤ length (changed files c)
 changed-grows files (Create name) = let more = length-snoc files (record { name = name; bytes = [] }) in omega arith
@@ -135,7 +136,7 @@ trace-other c log e p t other unmade h =
     withholds-same c (told p log) (told p (log ++ e ∷ [])) t
     (told-own p log e unmade
     ∙ ap (λ (xs : List Item). told p log ++ given_by log e xs) (items-elsewhere p e other)
-    ∙ append-none (told p log)) h
+    ∙ append-nil (told p log)) h
 
 -- ---- which process was made
 unmade : (o : Option ℕ) (n k : ℕ) → IfSome o (IsNext n) → k < n → is_made o (k + 1) ≡ false
@@ -295,7 +296,7 @@ told-tasks w served tasks pid place full t t' plan mark child number there fine 
     let v : World = world_after w (planned w.sync pid q plan) in
     let after : ℕ = served_after plan.verdict served in
     let is_suc : pid ≡ suc place = omega arith in
-    let size : length (slice_set tasks place t') ≡ length tasks = length-set-at tasks place t' in
+    let size : length (slice_set tasks place t') ≡ length tasks = length-set tasks place t' in
     let running : q.status ≡ None = of.status ∙ fine.running in
     record {
       processes =

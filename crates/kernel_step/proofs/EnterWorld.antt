@@ -1,5 +1,6 @@
 -- An Enter of the parts is an Enter of the run.
 use Rattle.std.proofs.Common.{◌≡◌, ℕ, suc, ◌+◌, ◌*◌, ◌^◌, ◌<◌, ◌≤◌, inl, inr, true, false, Bool, List, [], ◌∷◌, ◌++◌, length, map, slice_get, slice_set, Option, Some, None, is_some, IfSome, option_to_list, refl, sym, ap, subst, ◌∙◌, arith}
+use Rattle.std.proofs.lemmas.List.{length-map, map-append}
 use Rattle.std.specs.List.{AllByRecursion}
 use Rattle.disk_model.specs.declared.change.Change.{Change}
 use Rattle.disk_model.specs.declared.change.NamedFile.{NamedFile}
@@ -41,7 +42,7 @@ use Rattle.kernel_step.proofs.EnterFine.{IsFineTask}
 use Rattle.kernel_step.proofs.EnterParts.{PipeLaws, parts-planned, pipes-planned, counted-quiet}
 use Rattle.kernel_step.proofs.EnterPlans.{part-seen}
 use Rattle.kernel_step.proofs.EnterTasks.{world_after, told-tasks, served-by-one}
-use Rattle.kernel_step.proofs.Lists.{get-within, get-set, map-set-same, length-map, map-append}
+use Rattle.kernel_step.proofs.Lists.{get-within, get-set, map-set-same}
 use Rattle.kernel_step.proofs.EnterLists.{withholds-moved}
 use Rattle.kernel_step.proofs.Turning.{IsProcessOf, process-there}
 
@@ -66,10 +67,10 @@ sight-is w tasks s h = record { parts = h.parts.same; files = h.changes.files; p
 -- there are as many tasks as parts
 pub as-many : (w : World) (tasks : List Task) (s : System) → Mirrors w tasks s → length tasks ≡ length s.processes.parts
 as-many w tasks s h =
-    sym (length-map process_of tasks)
+    sym (length-map tasks process_of)
     ∙ ap (λ (ps : List Process). length ps) h.each.processes
-    ∙ length-map bare w.sync.processes
-    ∙ sym (length-map part_of w.sync.processes)
+    ∙ length-map w.sync.processes bare
+    ∙ sym (length-map w.sync.processes part_of)
     ∙ ap (λ (xs : List Part). length xs) (sym h.parts.same)
 
 -- what the table has of a process

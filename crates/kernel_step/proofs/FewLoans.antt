@@ -1,9 +1,10 @@
 -- Each process had few loans.
-use Rattle.std.proofs.Common.{◌≡◌, ℕ, zero, suc, ◌+◌, ◌≤◌, ◌⊎◌, inl, inr, false, List, [], ◌∷◌, ◌++◌, map, slice_get, slice_set, Option, Some, None, is_some, refl, sym, subst, arith}
+use Rattle.std.proofs.Common.{◌≡◌, ℕ, ◌+◌, ◌≤◌, inl, inr, false, List, map, slice_get, slice_set, Option, Some, None, is_some, refl, sym, subst, arith}
+use Rattle.std.proofs.lemmas.List.{map-set}
 use Rattle.kernel_model.specs.Answers.{Lending, never_lent, with_child}
 use Rattle.kernel_step.specs.Tasks.{out_of, lending_of, unsettled, AreFewLoans}
 use Rattle.kernel_step.specs.declared.task.Task.{Task}
-use Rattle.kernel_step.proofs.Lists.{map-set, get-map, get-set}
+use Rattle.kernel_step.proofs.Lists.{get-map, get-set, get-snoc}
 
 -- there may be more events
 pub few-longer : (n m : ℕ) (ls : List Lending) → n ≤ m → AreFewLoans n ls → AreFewLoans m ls
@@ -17,18 +18,12 @@ pub few-same : (n m : ℕ) (old new : List Task) → n ≤ m → map lending_of 
 few-same n m old new more same h = subst (λ (ls : List Lending). AreFewLoans m ls) (sym same) (few-longer n m (map lending_of old) more h)
 
 -- a process that was made had none
-get-snoc : {A : Type 0} (xs : List A) (x : A) (i : ℕ) (y : A) → slice_get (xs ++ x ∷ []) i ≡ Some y → (slice_get xs i ≡ Some y) ⊎ (y ≡ x)
-get-snoc [] x zero y e = inr cc
-get-snoc [] x (suc i) y e = cc
-get-snoc (z ∷ zs) x zero y e = inl e
-get-snoc (z ∷ zs) x (suc i) y e = get-snoc zs x i y e
-
 pub few-child : (n : ℕ) (ls : List Lending) (o : Option ℕ) → AreFewLoans n ls → AreFewLoans n (with_child ls o)
 few-child n ls None h = h
 few-child n ls (Some child) h = record {
   each = λ place l there. elim (get-snoc ls never_lent place l there) [
     | inl g ↦ h.each place l g
-    | inr g ↦ subst (λ (x : Lending). x.loans ≤ n + unsettled x.out) (sym g) (omega arith)
+    | inr g ↦ subst (λ (x : Lending). x.loans ≤ n + unsettled x.out) (sym g.1) (omega arith)
   ];
 }
 

@@ -2,7 +2,7 @@
 use Rattle.std.proofs.Common.{◌≡◌, ℕ, zero, suc, ◌+◌, ◌-◌, ◌*◌, ◌^◌, ◌<◌, ◌≤◌, ◌⊎◌, inl, inr, Bool, true, false, ◌&&◌, not, nat_lt, nat_le, cond, List, [], ◌∷◌, ◌++◌, length, take, drop, map, slice_get, slice_set, slice_index_or, Option, Some, None, is_some, IfSome, option_map, refl, sym, ap, subst, ◌∙◌, arith}
 use Rattle.std.specs.Prelude.{find, fold, if◌then◌else◌}
 use Rattle.std.proofs.lemmas.Bool.{ltb-false, leb-true}
-use Rattle.std.proofs.lemmas.List.{map-set}
+use Rattle.std.proofs.lemmas.List.{map-set, length-map}
 use Rattle.std.proofs.lemmas.List.Sums.{sum_by-set}
 use Rattle.std.proofs.lemmas.Option.{slice_get_within, slice_get-get_or, slice_get-map}
 use Rattle.std.proofs.Math.Seq.{map-set_same}
@@ -29,7 +29,6 @@ use Rattle.kernel_model.specs.Entries.{Item}
 use Rattle.kernel_step.specs.declared.task.Task.{Task}
 use Rattle.kernel_step.proofs.FewLoans.{few-put, few-here}
 use Rattle.kernel_step.proofs.LendPick.{find-round}
-use Rattle.kernel_step.proofs.Lists.{length-map}
 use Rattle.kernel_step.proofs.Turning.{IsProcessOf, process-there}
 
 -- what stands in a list where x was set
@@ -194,7 +193,7 @@ pub pick-is : (b : Boot) (history : List Event) (tasks : List Task) (system : Sy
 pick-is b history tasks system last quantum h =
     let k : Kernel = kernel_of b history tasks last in
     let count : length (now k).sync.processes ≡ length tasks =
-    sym (length-map bare (now k).sync.processes) ∙ ap (λ (ps : List Process). length ps) (sym h.mirrors.each.processes) ∙ length-map process_of tasks in
+    sym (length-map (now k).sync.processes bare) ∙ ap (λ (ps : List Process). length ps) (sym h.mirrors.each.processes) ∙ length-map tasks process_of in
     ap (λ n. find (is_lendable k quantum) (drop last (numbers_to n) ++ take last (numbers_to n))) count
     ∙ find-round (is_lendable k quantum) (is_fit quantum system.served) last tasks (λ i t there. lendable-is b history tasks system last quantum i t h there)
 

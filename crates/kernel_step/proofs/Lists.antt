@@ -3,11 +3,6 @@ use Rattle.std.proofs.Common.{◌≡◌, ℕ, zero, suc, ◌+◌, ◌<◌, ◌�
 use Rattle.std.specs.List.{AllByRecursion}
 use Rattle.std.proofs.lemmas.List.Sums.{sum_by-cons}
 
-pub map-set : {A B : Type 0} (f : A → B) (xs : List A) (i : ℕ) (x : A) → map f (slice_set xs i x) ≡ slice_set (map f xs) i (f x)
-map-set f [] i x = refl
-map-set f (y ∷ ys) zero x = refl
-map-set f (y ∷ ys) (suc i) x = ap (λ zs. f y ∷ zs) (map-set f ys i x)
-
 pub get-map : {A B : Type 0} (f : A → B) (xs : List A) (i : ℕ) (x : A) → slice_get xs i ≡ Some x → slice_get (map f xs) i ≡ Some (f x)
 get-map f [] i x e = cc
 get-map f (y ∷ ys) zero x e = let same : y ≡ x = cc in ap (λ z. Some (f z)) same
@@ -92,28 +87,6 @@ get-set-here [] i x h = absurd (omega arith)
 get-set-here (y ∷ ys) zero x h = refl
 get-set-here (y ∷ ys) (suc i) x h = get-set-here ys i x (omega arith)
 
-pub set-again : {A : Type 0} (xs : List A) (i : ℕ) (x y : A) → slice_set (slice_set xs i x) i y ≡ slice_set xs i y
-set-again [] i x y = refl
-set-again (z ∷ zs) zero x y = refl
-set-again (z ∷ zs) (suc i) x y = ap (λ vs. z ∷ vs) (set-again zs i x y)
-
-pub length-set-at : {A : Type 0} (xs : List A) (i : ℕ) (x : A) → length (slice_set xs i x) ≡ length xs
-length-set-at [] i x = refl
-length-set-at (y ∷ ys) zero x = refl
-length-set-at (y ∷ ys) (suc i) x = ap (λ n. suc n) (length-set-at ys i x)
-
-pub length-map : {A B : Type 0} (f : A → B) (xs : List A) → length (map f xs) ≡ length xs
-length-map f [] = refl
-length-map f (x ∷ xs) = ap (λ n. suc n) (length-map f xs)
-
-pub map-append : {A B : Type 0} (f : A → B) (xs ys : List A) → map f (xs ++ ys) ≡ map f xs ++ map f ys
-map-append f [] ys = refl
-map-append f (x ∷ xs) ys = ap (λ zs. f x ∷ zs) (map-append f xs ys)
-
-pub append-none : {A : Type 0} (xs : List A) → xs ++ [] ≡ xs
-append-none [] = refl
-append-none (x ∷ xs) = ap (λ ys. x ∷ ys) (append-none xs)
-
 pub get-joined : {A : Type 0} (xs : List A) (o : Option A) (i : ℕ) (y : A) → slice_get (xs ++ option_to_list o) i ≡ Some y
     → (slice_get xs i ≡ Some y) ⊎ ((i ≡ length xs) × (o ≡ Some y))
 get-joined [] None i y e = cc
@@ -123,4 +96,12 @@ get-joined (z ∷ zs) o zero y e = inl e
 get-joined (z ∷ zs) o (suc i) y e = elim (get-joined zs o i y e) [
   | inl h ↦ inl h
   | inr h ↦ inr (ap (λ n. suc n) h.0, h.1)
+]
+
+-- what stands in a list with one more at its end
+pub get-snoc : {A : Type 0} (xs : List A) (x : A) (i : ℕ) (y : A) → slice_get (xs ++ x ∷ []) i ≡ Some y
+    → (slice_get xs i ≡ Some y) ⊎ ((i ≡ length xs) × (y ≡ x))
+get-snoc xs x i y e = elim (get-joined xs (Some x) i y e) [
+  | inl h ↦ inl h
+  | inr h ↦ (let is : Some x ≡ Some y = h.1 in let same : y ≡ x = cc in inr (h.0, same))
 ]

@@ -1,5 +1,6 @@
 -- What a plan does to the pipes and to the table of processes.
 use Rattle.std.proofs.Common.{◌≡◌, ℕ, zero, suc, ◌+◌, ◌<◌, ◌≤◌, ◌⊎◌, inl, inr, not, List, [], ◌∷◌, ◌++◌, length, filter, drop, get_or, slice_get, Option, Some, None, IfSome, option_to_list, refl, sym, ap, subst, ◌∙◌, arith}
+use Rattle.std.proofs.lemmas.List.{length-set, append-nil}
 use Rattle.std.specs.List.{AllByRecursion}
 use Rattle.calls.specs.Plans.{IsNext, MayAllStep, OpensNone, all_seen}
 use Rattle.calls.specs.declared.plan.Plan.{Plan}
@@ -13,7 +14,6 @@ use Rattle.kernel_model.specs.declared.request.Verdict.{Verdict}
 use Rattle.kernel_model.specs.declared.request.Verdict.TheVariants.{Waits, Replies, Ends}
 use Rattle.kernel_step.specs.Entering.{descriptors_after, status_after, family_of, born, with_children, parts_after}
 use Rattle.kernel_step.proofs.EnterPlans.{all-kept}
-use Rattle.kernel_step.proofs.Lists.{length-set-at, append-none}
 
 -- ---- what is left of a list
 pub drop-there : {A : Type 0} (xs : List A) (i : ℕ) (x : A) → i < length xs → x ≡ get_or xs i x → drop i xs ≡ x ∷ drop (i + 1) xs
@@ -82,7 +82,7 @@ with-same parts (suc k) f same = by parts k
 with-length : (parts : List Part) (pid : ℕ) (o : Option Part) (f : Part → Part) → length (with_part parts pid o f) ≡ length parts
 with-length parts pid None f = refl
 with-length parts zero (Some part) f = refl
-with-length parts (suc k) (Some part) f = length-set-at parts k (f part)
+with-length parts (suc k) (Some part) f = length-set parts k (f part)
 
 with-joined : (parts more : List Part) (pid : ℕ) (f : Part → Part) → 0 < pid → pid ≤ length parts
     → with_part (parts ++ more) pid (part_at (parts ++ more) pid) f ≡ with_part parts pid (part_at parts pid) f ++ more
@@ -146,7 +146,7 @@ family-is parts pid part plan child collects made gone =
 
 fork-by : (parts : List Part) (pid : ℕ) (o : Option Part) (plan : Plan) (child : ℕ) → plan.child ≡ Some child → plan.collects ≡ None → child ≡ length parts + 1
     → after_fork parts pid o ≡ with_part parts pid o (λ x. family_of x plan) ++ born o plan.child
-fork-by parts pid None plan child made gone next = sym (append-none parts)
+fork-by parts pid None plan child made gone next = sym (append-nil parts)
 fork-by parts pid (Some part) plan child made gone next =
     ap (λ (n : ℕ). put_part parts pid (with_child n part) ++ child_part part ∷ []) (sym next)
     ∙ ap (λ (cs : List ℕ). put_part parts pid (record part { children = cs ++ child ∷ [] }) ++ child_part part ∷ []) (sym (all-kept part.children))
@@ -161,11 +161,11 @@ fork-children parts parts' pid plan child made (inr gone) next is =
 
 collect-by : (parts : List Part) (pid : ℕ) (o : Option Part) (plan : Plan) (child : ℕ) → plan.child ≡ None → plan.collects ≡ Some child
     → with_part parts pid o (without_child child) ≡ with_part parts pid o (λ x. family_of x plan) ++ born o plan.child
-collect-by parts pid None plan child made gone = sym (append-none parts)
+collect-by parts pid None plan child made gone = sym (append-nil parts)
 collect-by parts pid (Some part) plan child made gone =
     let left : List ℕ = filter (λ other. not (is_collected (Some child) other)) part.children in
-    ap (λ (cs : List ℕ). put_part parts pid (record part { children = cs })) (sym (append-none left))
-    ∙ sym (append-none (put_part parts pid (record part { children = left ++ [] })))
+    ap (λ (cs : List ℕ). put_part parts pid (record part { children = cs })) (sym (append-nil left))
+    ∙ sym (append-nil (put_part parts pid (record part { children = left ++ [] })))
     ∙ family-is parts pid part plan None (Some child) made gone
 
 pub collect-children : (parts parts' : List Part) (pid : ℕ) (plan : Plan) (child : ℕ) → plan.child ≡ None → plan.collects ≡ Some child
@@ -174,10 +174,10 @@ collect-children parts parts' pid plan child made gone is = is ∙ collect-by pa
 
 none-by : (parts : List Part) (pid : ℕ) (o : Option Part) (plan : Plan) → plan.child ≡ None → plan.collects ≡ None
     → with_part parts pid o (λ x. x) ≡ with_part parts pid o (λ x. family_of x plan) ++ born o plan.child
-none-by parts pid None plan made gone = sym (append-none parts)
+none-by parts pid None plan made gone = sym (append-nil parts)
 none-by parts pid (Some part) plan made gone =
-    ap (λ (cs : List ℕ). put_part parts pid (record part { children = cs })) (sym (append-none (filter (λ other. not (is_collected None other)) part.children) ∙ all-kept part.children))
-    ∙ sym (append-none (put_part parts pid (record part { children = filter (λ other. not (is_collected None other)) part.children ++ [] })))
+    ap (λ (cs : List ℕ). put_part parts pid (record part { children = cs })) (sym (append-nil (filter (λ other. not (is_collected None other)) part.children) ∙ all-kept part.children))
+    ∙ sym (append-nil (put_part parts pid (record part { children = filter (λ other. not (is_collected None other)) part.children ++ [] })))
     ∙ family-is parts pid part plan None None made gone
 
 pub same-children : (parts : List Part) (pid : ℕ) (plan : Plan) → plan.child ≡ None → plan.collects ≡ None → parts ≡ with_children parts pid plan

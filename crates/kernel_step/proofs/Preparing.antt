@@ -12,7 +12,7 @@ use Rattle.pipes.specs.Seen.{Seen}
 use Rattle.processes.specs.Parts.{Part}
 use Rattle.withheld.specs.Withheld.{Withheld, Held, IsSame, whats}
 use Rattle.kernel_step.specs.Entering.{MayBeTold, IsChild}
-use Rattle.kernel_step.specs.Ready.{MayEnter, HoldsEnter, IsPrepared, IsReady}
+use Rattle.kernel_step.specs.Ready.{MayEnter, HasRoomForEnter, IsPrepared, IsReady}
 use Rattle.kernel_step.specs.Tasks.{machine_of, out_of, status_of}
 use Rattle.kernel_step.specs.declared.plan.Entering.{Entering}
 use Rattle.kernel_step.specs.declared.system.System.{System}
@@ -29,7 +29,7 @@ child-room number s parent None made = tt
 child-room number s parent (Some u) made = made.1.room
 
 pub is-ready : (u : Task) (m : State) (parent trace : Withheld Item) (s s1 : System) (d : Kept) (pid : ℕ) (history : Vec Event) (e : Entering)
-    → MayEnter s pid m parent → IsPrepared pid m parent s s1 e → HoldsEnter history trace s1 e → IsSame parent trace
+    → MayEnter s pid m parent → IsPrepared pid m parent s s1 e → HasRoomForEnter history trace s1 e → IsSame parent trace
     → out_of u ≡ None → machine_of u ≡ m → u.trace ≡ trace
     → IsReady u (record s1 { dependencies = d }) e
 is-ready u m parent trace s s1 d pid history e may prepared holds same here is traced =
@@ -56,7 +56,7 @@ is-ready u m parent trace s s1 d pid history e may prepared holds same here is t
       };
       output = holds.plan.output;
       changes = holds.plan.changes;
-      rest = record {
+      system = record {
         processes = record {
           from_1 = subst (λ (k : ℕ). 0 < k) (sym number) may.plan.from_1;
           there = omega (arith, size, within, number);

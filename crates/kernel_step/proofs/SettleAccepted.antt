@@ -1,5 +1,6 @@
 -- The events of a loan's result are accepted where they stand, once the process is back.
 use Rattle.std.proofs.Common.{◌≡◌, ℕ, zero, suc, ◌+◌, ◌*◌, ◌^◌, ◌<◌, ◌≤◌, Bool, true, false, ◌||◌, not, if◌then◌else◌, List, [], ◌∷◌, ◌++◌, length, map, slice_get, slice_set, Option, Some, None, is_some, nat_lt, nat_le, refl, sym, ap, subst, ◌∙◌, arith}
+use Rattle.std.proofs.lemmas.List.{map-set}
 use Rattle.std.proofs.lemmas.Bool.{le-ltb, lt-leb}
 use Rattle.machine_model.specs.States.{State, Stepped, Goes, Halts, Ran, next, run, stands_at}
 use Rattle.machine_model.proofs.Running.{run-zero, run-goes, run-halts}
@@ -23,7 +24,7 @@ use Rattle.kernel_step.specs.declared.system.System.{System}
 use Rattle.kernel_step.specs.declared.task.Task.{Task}
 use Rattle.kernel_step.specs.declared.whereabouts.Whereabouts.TheVariants.{Here}
 use Rattle.kernel_step.proofs.Applying.{full-is}
-use Rattle.kernel_step.proofs.Lists.{map-set, get-within, length-snoc, get-set-here}
+use Rattle.kernel_step.proofs.Lists.{get-within, length-snoc, get-set-here}
 use Rattle.kernel_step.proofs.SettleCore.{process-in, lending-of, count-back, reached}
 use Rattle.kernel_step.proofs.SettleWorld.{out-running, back-happens}
 use Rattle.kernel_step.proofs.Turning.{IsProcessOf, lending-place, turn-child}

@@ -1,5 +1,6 @@
 -- From a loan's result in the parts to the kernel.
 use Rattle.std.proofs.Common.{◌≡◌, ℕ, zero, suc, ◌+◌, ◌*◌, ◌^◌, ◌<◌, ◌≤◌, Bool, true, false, if◌then◌else◌, List, [], ◌∷◌, ◌++◌, length, map, slice_get, slice_set, Option, Some, None, is_some, option_map, option_to_list, Result, Ok, Err, refl, sym, ap, subst, ◌∙◌, arith, length-append, append_assoc}
+use Rattle.std.proofs.lemmas.List.{map-set}
 use Rattle.std.specs.Prelude.{◌≢◌, IfOk, IfErr, OnOk, OnErr}
 use Rattle.disk_model.proofs.Lists.{set_same}
 use Rattle.machine_model.specs.States.{State, reached_at, run, stands_at}
@@ -20,7 +21,8 @@ use Rattle.kernel_step.specs.Stands.{run_of, kernel_of, KeepsRun}
 use Rattle.kernel_step.specs.Entering.{IsSameTask, IsSameSystem}
 use Rattle.kernel_step.specs.Loaned.{loan_result}
 use Rattle.kernel_step.specs.Mirrors.{Mirrors}
-use Rattle.kernel_step.specs.Settling.{IsLoanOf, IsBack, IsTurnNoted, IsCallSettled, IsUnsettled, HandsBack}
+use Rattle.kernel_step.specs.Settling.{IsLoanOf, IsBack, IsTurnNoted, IsTurnSettled, IsCallSettled, IsUnsettled, LackedMemory}
+use Rattle.kernel_step.specs.Unchanged.{AreUnchanged}
 use Rattle.kernel_step.specs.Tasks.{machine_of, out_of, process_of, lending_of, count_out, unsettled, AreFewLoans}
 use Rattle.kernel_step.specs.declared.loan.Done.{Done}
 use Rattle.kernel_step.specs.declared.loan.Rejected.{Rejected}
@@ -29,7 +31,7 @@ use Rattle.kernel_step.specs.declared.task.Task.{Task}
 use Rattle.kernel_step.proofs.EnterCore.{same-out, child-out}
 use Rattle.kernel_step.proofs.EnterWorld.{EnterLaws, same-mirrors, same-lendings}
 use Rattle.kernel_step.proofs.FewLoans.{few-longer, few-same, few-put, few-at, few-child}
-use Rattle.kernel_step.proofs.Lists.{map-set, get-map, count-cons}
+use Rattle.kernel_step.proofs.Lists.{get-map, count-cons}
 use Rattle.kernel_step.proofs.SettleWorld.{run-reaches, back-mirrors, both-run}
 use Rattle.kernel_step.proofs.Turning.{IsProcessOf, process-there, turn-child}
 
@@ -300,19 +302,34 @@ settle-core b history history' tasks new s s' last place d (Ok a) h taken x y z 
 settle-core b history history' tasks new s s' last place d (Err e) h taken x y z =
     subst (λ (ts : List Task). KeepsRun b history' ts s') (sym y.tasks) (kept-core b history history' tasks s s' place y.task y.after h y.there x y.same z)
 
-pub turn-result : (b : Boot) (history history' : List Event) (tasks : List Task) (s s' : System) (last place : ℕ) (t u : Task) (d : Done) (r : Result Answer Rejected)
+-- what the facts of a result that became a Turn, or changed nothing, say of its parts
+pub turn-ran : (t u : Task) (s s' : System) (history history' : List Event) (ran ran' : ℕ) (d : Done) (r : Result Answer Rejected)
+    → IfOk r (λ a. IsTurnSettled d t u s s' history history' ran ran' a) → OnOk r (ran' ≡ ran + d.count)
+turn-ran t u s s' history history' ran ran' d (Ok a) h = h.counted
+turn-ran t u s s' history history' ran ran' d (Err e) h = tt
+
+pub same-history : (t u : Task) (s s' : System) (history history' : List Event) (r : Result Answer Rejected)
+    → OnErr r (AreUnchanged t u s s' history history') → OnErr r (history' ≡ history)
+same-history t u s s' history history' (Ok a) h = tt
+same-history t u s s' history history' (Err e) h = h.history
+
+pub same-system : (t u : Task) (s s' : System) (history history' : List Event) (r : Result Answer Rejected)
+    → OnErr r (AreUnchanged t u s s' history history') → OnErr r (IsSameSystem s s')
+same-system t u s s' history history' (Ok a) h = tt
+same-system t u s s' history history' (Err e) h = h.system
+
+pub turn-result : (b : Boot) (history history' : List Event) (tasks : List Task) (s s' : System) (last place ran ran' : ℕ) (t u : Task) (d : Done) (r : Result Answer Rejected)
     → KeepsRun b history tasks s → d.pid ≡ place + 1 → slice_get tasks place ≡ Some t → IsLoanOf t d → stands_at d.machine ≡ None
-    → OnOk r (IsBack d.machine t u) → OnOk r (IsTurnNoted d.pid s s') → OnOk r (history' ≡ history ++ Turn d.pid d.count ∷ [])
-    → IfOk r (λ a. a ≡ answer_of.Settled d.count d.stop None)
+    → IfOk r (λ a. IsTurnSettled d t u s s' history history' ran ran' a)
     → IfOk r (λ a. IsTakenOf b history history' tasks (slice_set tasks place u) last place s' d a)
-turn-result b history history' tasks s s' last place t u d (Ok a) h number there of stands back noted grown answer = record {
+turn-result b history history' tasks s s' last place ran ran' t u d (Ok a) h number there of stands done = record {
   task = t;
   after = u;
   there = there;
   of = of;
-  taken = turn-taken b history history' tasks s s' last place t u d a h number there of stands back noted grown answer;
+  taken = turn-taken b history history' tasks s s' last place t u d a h number there of stands done.back done.system done.history done.answer;
 }
-turn-result b history history' tasks s s' last place t u d (Err e) h number there of stands back noted grown answer = tt
+turn-result b history history' tasks s s' last place ran ran' t u d (Err e) h number there of stands done = tt
 
 pub enter-result : EnterLaws → (b : Boot) (history history' : List Event) (tasks new : List Task) (s s' : System) (last place : ℕ) (t : Task) (d : Done) (at : Stop) (r : Result Answer Rejected)
     → KeepsRun b history tasks s → d.pid ≡ place + 1 → slice_get tasks place ≡ Some t → IsLoanOf t d → stands_at d.machine ≡ Some at
@@ -346,12 +363,12 @@ pub settle-answer : (b : Boot) (history history' : List Event) (tasks new : List
 settle-answer b history history' tasks new s' last place d (Ok a) taken = taken.taken.answer
 settle-answer b history history' tasks new s' last place d (Err e) taken = tt
 
-pub settle-only : {P : Type 0} (d : Done) (r : Result Answer Rejected) → P → IfErr r (λ e. HandsBack d e)
+pub settle-only : {P : Type 0} (d : Done) (r : Result Answer Rejected) → P → IfErr r (λ e. LackedMemory d e)
     → IfErr r (λ e. e.why ≢ Stranger → (e.why ≡ OutOfMemory) × P)
 settle-only d (Ok a) h handed = tt
 settle-only d (Err e) h handed = λ other. (handed.cause, h)
 
-pub settle-back : (d : Done) (r : Result Answer Rejected) → IfErr r (λ e. HandsBack d e) → IfErr r (λ e. e.done ≡ d)
+pub settle-back : (d : Done) (r : Result Answer Rejected) → IfErr r (λ e. LackedMemory d e) → IfErr r (λ e. e.done ≡ d)
 settle-back d (Ok a) handed = tt
 settle-back d (Err e) handed = handed.back
 
@@ -390,7 +407,7 @@ unsettled-same tasks new place within is =
     record { task = one.0; there = one.1; after = one.0; same = same-task-as one.0; tasks = is ∙ sym (set_same tasks place one.0 one.1) }
 
 -- ---- strangers
-pub settle-strange : (P : Type 0) (d : Done) (r : Result Answer Rejected) → IfErr r (λ e. HandsBack d e) → IfErr r (λ e. e.why ≡ Stranger → ¬ P)
+pub settle-strange : (P : Type 0) (d : Done) (r : Result Answer Rejected) → IfErr r (λ e. LackedMemory d e) → IfErr r (λ e. e.why ≡ Stranger → ¬ P)
 settle-strange P d (Ok a) handed = tt
 settle-strange P d (Err e) handed = λ why own. let cause : e.why ≡ OutOfMemory = handed.cause in cc
 

@@ -1,5 +1,6 @@
 -- A loan's result in the parts is a Turn, and an Enter, of the run.
 use Rattle.std.proofs.Common.{◌≡◌, ℕ, zero, suc, ◌+◌, ◌^◌, ◌<◌, inl, inr, true, false, List, [], ◌∷◌, ◌++◌, map, option_to_list, slice_get, slice_set, Option, Some, None, is_some, refl, sym, ap, subst, ◌∙◌, arith}
+use Rattle.std.proofs.lemmas.List.{map-set, set-set}
 use Rattle.machine_model.specs.States.{State, Stepped, Goes, Halts, Ran, reached_at, next, run, after, stands_at}
 use Rattle.machine_model.proofs.Running.{run-zero, run-goes, run-halts}
 use Rattle.kernel_model.specs.State.{Process, put_process}
@@ -20,7 +21,7 @@ use Rattle.kernel_step.specs.declared.whereabouts.Whereabouts.TheVariants.{Here}
 use Rattle.kernel_step.proofs.EnterFine.{IsFineTask}
 use Rattle.kernel_step.proofs.EnterParts.{parts-quiet, pipes-quiet, counted-quiet}
 use Rattle.kernel_step.proofs.EnterWorld.{EnterLaws, IsRun, done-runs, same-task}
-use Rattle.kernel_step.proofs.Lists.{map-set, get-within, get-set, get-set-here, set-again}
+use Rattle.kernel_step.proofs.Lists.{get-within, get-set, get-set-here}
 use Rattle.kernel_step.proofs.Quiet.{own-silent, screens-quiet, trace-quiet, changes-part, waits-own}
 use Rattle.kernel_step.proofs.Turning.{IsProcessOf, bare-of, process-there, world_with, turn_of, turn-happens, turn-parts}
 
@@ -158,5 +159,5 @@ both-run laws w tasks s s' pid place n q m t u outcome child h number there out 
       few = subst (λ (x : State). x.count < 2 ^ 40) (sym e.back.machine) few;
       room = refl;
     } in
-    subst (λ (ts : List Task). IsRun w1 pid tasks1 (ts ++ option_to_list child) s' outcome) (set-again tasks place e.middle u)
+    subst (λ (ts : List Task). IsRun w1 pid tasks1 (ts ++ option_to_list child) s' outcome) (set-set tasks place e.middle u)
     (done-runs laws w1 tasks1 s1 s' pid place false e.middle u outcome child h1 number there1 fine e.entered)

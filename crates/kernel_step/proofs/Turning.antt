@@ -1,5 +1,6 @@
 -- A Turn of the parts is a Turn of the run.
 use Rattle.std.proofs.Common.{◌≡◌, ℕ, zero, suc, ◌+◌, ◌^◌, ◌<◌, ◌≤◌, inl, inr, Bool, true, false, if◌then◌else◌, List, [], ◌∷◌, ◌++◌, length, map, slice_get, slice_set, slice_index_or, Option, Some, None, is_some, option_map, refl, sym, ap, subst, ◌∙◌, arith}
+use Rattle.std.proofs.lemmas.List.{map-set}
 use Rattle.std.proofs.lemmas.Option.{slice_get-map}
 use Rattle.machine_model.specs.States.{State, Ran, run, reached_at}
 use Rattle.machine_model.specs.declared.stop.Stop.{Stop}
@@ -16,7 +17,7 @@ use Rattle.kernel_step.specs.Whereabouts.{state_in, quantum_in}
 use Rattle.kernel_step.specs.declared.task.Task.{Task}
 use Rattle.kernel_step.specs.declared.whereabouts.Whereabouts.{Whereabouts}
 use Rattle.kernel_step.specs.declared.whereabouts.Whereabouts.TheVariants.{Here}
-use Rattle.kernel_step.proofs.Lists.{map-set, get-map, get-index, get-set, map-set-same}
+use Rattle.kernel_step.proofs.Lists.{get-map, get-index, get-set, map-set-same}
 use Rattle.kernel_step.proofs.Quiet.{own-silent, trace-quiet, waits-own}
 
 -- ---- the process of a number
@@ -108,13 +109,6 @@ turn-bare ps pid lent full n = ap (λ (o : Option Process). turn_refusal o lent 
 
 pub enter-bare : (ps : List Process) (pid : ℕ) (lent full : Bool) → enter_refusal (process_at (map bare ps) pid) lent full ≡ enter_refusal (process_at ps pid) lent full
 enter-bare ps pid lent full = ap (λ (o : Option Process). enter_refusal o lent full) (at-bare ps pid) ∙ enter-by (process_at ps pid) lent full
-
-pub none-bare : (ps : List Process) (pid : ℕ) → process_at (map bare ps) pid ≡ None → process_at ps pid ≡ None
-none-bare ps pid e = by (process_at ps pid) (sym (at-bare ps pid) ∙ e)
-  where
-    by : (o : Option Process) → option_map bare o ≡ None → o ≡ None
-    by None h = refl
-    by (Some p) h = cc
 
 -- ---- a Turn of the run
 abbrev pub world_with : World → Transition → World

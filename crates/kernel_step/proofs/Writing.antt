@@ -31,7 +31,7 @@ use Rattle.kernel_step.specs.Stands.{run_of, kernel_of, KeepsRun}
 use Rattle.withheld.specs.Withheld.{Withheld, Held, whats}
 use Rattle.kernel_step.specs.Mirrors.{IsTask, AreTasks, AreChanges, Mirrors}
 use Rattle.kernel_step.specs.Seen.{AreScreens}
-use Rattle.kernel_step.specs.Storing.{WasCut, IsCompleted, HasFailed}
+use Rattle.kernel_step.specs.Storing.{WasCut, IsUncut, IsCompleted, HasFailed}
 use Rattle.kernel_step.specs.Tasks.{machine_of, out_of, process_of, status_of, lending_of, count_out, needed}
 use Rattle.kernel_step.specs.Tests.{full_of}
 use Rattle.kernel_step.specs.declared.system.System.{System}
@@ -317,29 +317,29 @@ cut-same w s h committer =
 
 pub cut-core : SilentLaw → (b : Boot) (history history' : List Event) (tasks : List Task) (s : System) (d : Storage) (full : Bool) (r : Result Answer Refused)
     → KeepsRun b history tasks s → full ≡ full_of (length history) tasks
-    → IfOk r (WasCut s.committer d s.changes.items s.files full) → OnOk r (history' ≡ history ++ Cut ∷ [])
-    → OnErr r (history' ≡ history) → OnErr r (d ≡ s.committer)
+    → IfOk r (WasCut s.committer d s.changes.items s.files full history history')
+    → OnErr r (IsUncut s.committer d history history')
     → KeepsRun b history' tasks (record s { committer = d })
-cut-core law b history history' tasks s d full (Ok a) h is done grown x y =
+cut-core law b history history' tasks s d full (Ok a) h is done x =
     let w : World = run_of b history in
     let st : Storage = cut w.storage (drop w.storage.committed (changes_in_log w.log)) w.sync.files in
     let same : d ≡ st = done.committer ∙ cut-same w s h.mirrors.changes h.mirrors.committer in
     let none : st.committed ≡ w.storage.committed = cut-committed w.storage (drop w.storage.committed (changes_in_log w.log)) w.sync.files in
-    stored-core b history history' tasks tasks s (record s { committer = d }) Cut st full h is (cut-fine s.committer (drop s.committer.committed s.changes.items) full done.fine) grown refl
+    stored-core b history history' tasks tasks s (record s { committer = d }) Cut st full h is (cut-fine s.committer (drop s.committer.committed s.changes.items) full done.fine) done.history refl
     (subst (λ (c : ℕ). AreMoved c tasks tasks) (sym none) (tasks-still w s.served tasks h.mirrors.each))
     (still-mirrors law w st d tasks s h.mirrors same none)
-cut-core law b history history' tasks s d full (Err why) h is done grown x y = same-stored b history history' tasks s d x y h
+cut-core law b history history' tasks s d full (Err why) h is done x = same-stored b history history' tasks s d x.history x.committer h
 
 pub cut-applies : (b : Boot) (history history' : List Event) (tasks : List Task) (s : System) (d : Storage) (last : ℕ) (full : Bool) (r : Result Answer Refused)
     → KeepsRun b history tasks s → full ≡ full_of (length history) tasks
-    → IfOk r (WasCut s.committer d s.changes.items s.files full) → OnOk r (history' ≡ history ++ Cut ∷ [])
-    → IfErr r (Refuses (cut_refusal s.committer (drop s.committer.committed s.changes.items) full)) → OnErr r (history' ≡ history)
+    → IfOk r (WasCut s.committer d s.changes.items s.files full history history')
+    → IfErr r (Refuses (cut_refusal s.committer (drop s.committer.committed s.changes.items) full)) → OnErr r (IsUncut s.committer d history history')
     → Applies (kernel_of b history tasks last) Cut (kernel_of b history' tasks last) r
-cut-applies b history history' tasks s d last full (Ok a) h is done grown why x =
+cut-applies b history history' tasks s d last full (Ok a) h is done why x =
     let w : World = run_of b history in (
       sym (cut-refusal-is b history tasks s last full h is) ∙ done.fine,
       done.answer ∙ ap (λ (st : Storage). answer_of.Cut (changes_to_commit st) (writes_to_come st)) (done.committer ∙ cut-same w s h.mirrors.changes h.mirrors.committer),
-      grown-kernel b history history' tasks tasks last Cut grown refl,
+      grown-kernel b history history' tasks tasks last Cut done.history refl,
     )
-cut-applies b history history' tasks s d last full (Err e) h is done grown why x =
-    refused-applies b history history' tasks tasks last Cut (cut_refusal s.committer (drop s.committer.committed s.changes.items) full) e x refl (cut-refusal-is b history tasks s last full h is) why
+cut-applies b history history' tasks s d last full (Err e) h is done why x =
+    refused-applies b history history' tasks tasks last Cut (cut_refusal s.committer (drop s.committer.committed s.changes.items) full) e x.history refl (cut-refusal-is b history tasks s last full h is) why

@@ -34,8 +34,8 @@ pub record IsLent (quantum : ℕ) (old new : Task) : Type 0 where
   pub loans : new.loans ≡ old.loans + 1
   pub out : out_of new ≡ Some quantum
 
--- the loan is one of this task, for a quantum
-pub record IsLoanOf (n : ℕ) (t : Task) (loan : Loan) : Type 0 where
+-- the loan is the next one of this task, for a quantum
+pub record IsNextLoanOf (n : ℕ) (t : Task) (loan : Loan) : Type 0 where
   pub process : loan.pid ≡ t.pid
   pub number : loan.number ≡ t.loans + 1
   pub quantum : loan.quantum ≡ n
@@ -48,7 +48,7 @@ pub record Lent (quantum served from : ℕ) (old new : List Task) (loan : Loan) 
   pub next : next_fit quantum served from old ≡ Some place
   pub there : slice_get old place ≡ Some task
   pub fit : is_fit quantum served task ≡ true
-  pub given : IsLoanOf quantum task loan
+  pub given : IsNextLoanOf quantum task loan
   pub later : Task
   pub lent : IsLent quantum task later
   pub after : new ≡ slice_set old place later

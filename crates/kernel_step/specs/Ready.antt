@@ -30,17 +30,17 @@ pub record MayEnter (s : System) (pid : ℕ) (m : State) (trace : Withheld Item)
 -- ---- room
 
 -- there is room for what a plan of process pid adds to what is shared
-pub record HoldsPlan (s : System) (pid : ℕ) (plan : Plan) : Type 0 where
+pub record HasRoomForPlan (s : System) (pid : ℕ) (plan : Plan) : Type 0 where
   pub children : HasChildRoom s.processes pid
   pub changes : vec_len s.changes < vec_capacity s.changes
   pub output : HasSpaceFor plan.output s.screens.items
 
 -- there is room for all that an Enter adds, and for a Turn before it
-pub record HoldsEnter (history : Vec Event) (trace : Withheld Item) (s : System) (e : Entering) : Type 0 where
+pub record HasRoomForEnter (history : Vec Event) (trace : Withheld Item) (s : System) (e : Entering) : Type 0 where
   pub events : vec_len history + 2 ≤ vec_capacity history
   pub writes : length e.writes.items + 1 ≤ s.dependencies.room
   pub replies : 1 ≤ trace.room
-  pub plan : HoldsPlan s e.pid e.plan
+  pub plan : HasRoomForPlan s e.pid e.plan
 
 -- ---- what is prepared
 
@@ -53,7 +53,7 @@ pub record IsPrepared (pid : ℕ) (m : State) (trace : Withheld Item) (old new :
 
 -- a task may be told this: its machine is here, may be told it and do one more instruction; it has not ended, and has room for a
 -- reply
-pub record MayTell (verdict : Verdict) (t : Task) : Type 0 where
+pub record TaskMayBeTold (verdict : Verdict) (t : Task) : Type 0 where
   pub here : out_of t ≡ None
   pub fine : MayBeTold (machine_of t) verdict
   pub budget : (machine_of t).count < 2 ^ 40
@@ -61,13 +61,13 @@ pub record MayTell (verdict : Verdict) (t : Task) : Type 0 where
   pub room : 1 ≤ t.trace.room
 
 -- a process that is made, if one is, may be told a reply
-pub record MayTellChild (child : Option Task) : Type 0 where
+pub record ChildMayBeTold (child : Option Task) : Type 0 where
   pub running : IfSome child (λ u. status_of u ≡ None)
   pub room : IfSome child (λ u. 1 ≤ u.trace.room)
 
 -- the plan of process pid may change the table of processes: the process is there, with room for a child; a process that the plan
 -- makes is the next one, and it does not both make one and collect one
-pub record MayChange (table : Table) (pid : ℕ) (plan : Plan) : Type 0 where
+pub record MayChangeParts (table : Table) (pid : ℕ) (plan : Plan) : Type 0 where
   pub from_1 : 0 < pid
   pub there : pid ≤ length table.parts
   pub child : IfSome plan.child (IsNext (length table.parts))
@@ -76,8 +76,8 @@ pub record MayChange (table : Table) (pid : ℕ) (plan : Plan) : Type 0 where
 
 -- the plan may change what is shared: the table of processes as above; no more of a tape is read than is left; the steps of its
 -- pipes may be done, of which this is the pipe that is made, if one is; and one more Enter may be counted
-pub record MayBecome (s : System) (pid : ℕ) (plan : Plan) (pipe : Option Seen) : Type 0 where
-  pub processes : MayChange s.processes pid plan
+pub record MayChangeSystem (s : System) (pid : ℕ) (plan : Plan) (pipe : Option Seen) : Type 0 where
+  pub processes : MayChangeParts s.processes pid plan
   pub left : IfSome plan.tape (AreLeft s.tapes)
   pub spare : IsSpare plan.pipes.items pipe
   pub may : MayAllStep s.pipes plan.pipes.items
@@ -85,8 +85,8 @@ pub record MayBecome (s : System) (pid : ℕ) (plan : Plan) (pipe : Option Seen)
 
 -- the rest of an Enter may be done
 pub record IsReady (t : Task) (s : System) (e : Entering) : Type 0 where
-  pub task : MayTell e.plan.verdict t
-  pub child : MayTellChild e.child
+  pub task : TaskMayBeTold e.plan.verdict t
+  pub child : ChildMayBeTold e.child
   pub output : HasSpaceFor e.plan.output s.screens.items
   pub changes : vec_len s.changes < vec_capacity s.changes
-  pub rest : MayBecome s e.pid e.plan e.spare
+  pub system : MayChangeSystem s e.pid e.plan e.spare

@@ -1,11 +1,13 @@
 -- What a loan's result does to the parts of a running kernel.
-use Rattle.std.specs.Prelude.{◌≡◌, ℕ, List, ◌++◌, Option, Some, None, option_to_list, slice_get, slice_set}
+use Rattle.std.specs.Prelude.{◌≡◌, ℕ, ◌+◌, List, [], ◌∷◌, ◌++◌, Option, Some, None, option_to_list, slice_get, slice_set}
 use Rattle.machine_model.specs.States.{State}
 use Rattle.commit_deps.specs.declared.dependencies.Marked.{Marked}
 use Rattle.kernel_model.specs.declared.answer.Answer.{Answer}
 use Rattle.kernel_model.specs.declared.answer.Answer.TheVariants as answer_of
 use Rattle.kernel_model.specs.declared.answer.Outcome.{Outcome}
 use Rattle.kernel_model.specs.declared.answer.Refused.TheVariants.{OutOfMemory}
+use Rattle.kernel_model.specs.declared.event.Event.{Event}
+use Rattle.kernel_model.specs.declared.event.Event.TheVariants.{Turn}
 use Rattle.withheld.specs.Withheld.{IsSame}
 use Rattle.kernel_step.specs.Entering.{IsSameTask, IsDone}
 use Rattle.kernel_step.specs.Parts.{IsOwnNoted}
@@ -42,6 +44,14 @@ pub record IsTurnNoted (pid : ℕ) (old new : System) : Type 0 where
   pub screens : new.screens.items ≡ old.screens.items
   pub committer : new.committer ≡ old.committer
 
+-- a result became a Turn: its task is back, the Turn is noted and joined the history, and its instructions are counted
+pub record IsTurnSettled (d : Done) (old new : Task) (before later : System) (events events' : List Event) (ran ran' : ℕ) (a : Answer) : Type 0 where
+  pub back : IsBack d.machine old new
+  pub system : IsTurnNoted d.pid before later
+  pub history : events' ≡ events ++ Turn d.pid d.count ∷ []
+  pub counted : ran' ≡ ran + d.count
+  pub answer : a ≡ answer_of.Settled d.count d.stop None
+
 -- what is shared, with these marks
 abbrev pub marked_with : System → List Marked → System
 marked_with s marks = record s { dependencies = record { marks = marks; room = 0 } }
@@ -73,7 +83,7 @@ pub record IsUnsettled (place : ℕ) (old new : List Task) : Type 0 where
   pub same : IsSameTask task after
   pub tasks : new ≡ slice_set old place after
 
--- the result is handed back, since memory ran out
-pub record HandsBack (d : Done) (r : Rejected) : Type 0 where
+-- memory ran out, and the result is handed back
+pub record LackedMemory (d : Done) (r : Rejected) : Type 0 where
   pub cause : r.why ≡ OutOfMemory
   pub back : r.done ≡ d

@@ -6,7 +6,7 @@ use Rattle.kernel_step.specs.declared.system.System.{System}
 use Rattle.kernel_step.specs.declared.task.Task.{Task}
 
 -- a task, what is shared and the history are the same, though there may be room for more
-pub record AreUntouched (old new : Task) (before later : System) (events events' : List Event) : Type 0 where
+pub record AreUnchanged (old new : Task) (before later : System) (events events' : List Event) : Type 0 where
   pub task : IsSameTask old new
   pub system : IsSameSystem before later
   pub history : events' ≡ events

@@ -48,14 +48,7 @@ impl Running {
     {
         silent_events_leave_marks();
         let full = is_full(self.history.len(), &self.tasks);
-        cut(
-            self.system.alloc,
-            &mut self.history,
-            full,
-            &mut self.system.committer,
-            &self.system.changes,
-            &self.system.files,
-        )
+        cut(&mut self.history, &mut self.system, full)
     }
 
     /// The write in flight that begins there is complete.

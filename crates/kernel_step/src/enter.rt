@@ -14,11 +14,11 @@ ghost use Rattle.kernel_model.specs.World.{Boot, World, happens};
 ghost use Rattle.kernel_step.specs.Stands.{Stands, Steps};
 ghost use Rattle.kernel_model.specs.declared.request.Verdict.TheVariants.{Replies as Told};
 ghost use Rattle.kernel_step.specs.Entering.{entry_of, item_of, parts_after, with_children, IsSpare, IsTold, HasSpaceFor, StayScreens, ArePrinted, IsSameSystem, IsSystemWith, IsChild, MakesTask, IsNoted, IsFinished, IsDone};
-ghost use Rattle.kernel_step.specs.Ready.{MayEnter, HoldsPlan, HoldsEnter, IsPrepared, MayTell, MayTellChild, MayChange, MayBecome, IsReady};
+ghost use Rattle.kernel_step.specs.Ready.{MayEnter, HasRoomForPlan, HasRoomForEnter, IsPrepared, TaskMayBeTold, ChildMayBeTold, MayChangeParts, MayChangeSystem, IsReady};
 ghost use Rattle.kernel_step.specs.Mirrors.{Mirrors};
 ghost use Rattle.kernel_step.specs.Tasks.{machine_of, out_of, count_out, lending_of};
 ghost use Rattle.kernel_step.specs.Tests.{full_of, enter_refusal_of};
-ghost use Rattle.kernel_step.specs.Unchanged.{AreUntouched};
+ghost use Rattle.kernel_step.specs.Unchanged.{AreUnchanged};
 ghost use Rattle.kernel_step.specs.Waiting.{served_after};
 
 use crate::plan::Entering;
@@ -86,7 +86,7 @@ fn change_files(files: &mut FileTable, change: &Option<Change>) -> Result<(), Al
 fn ready(system: &mut System, pid: u32, plan: &Plan) -> Result<(), AllocError>
     requires from_1 { 0 < pid }
     requires there { pid ≤ length system.old.processes.parts }
-    ensures holds { OnOk result (HoldsPlan system.new pid plan.now) }
+    ensures holds { OnOk result (HasRoomForPlan system.new pid plan.now) }
     ensures room { system.old.dependencies.room ≤ system.new.dependencies.room }
     ensures done { OnOk result (IsSystemWith (changed_by system.old.files plan.now.change) system.old system.new) }
     ensures err { OnErr result (IsSameSystem system.old system.new) }
@@ -109,7 +109,7 @@ fn take_room(
     requires there { entering.now.pid ≤ length system.old.processes.parts }
     ensures history { history.new.items ≡ history.old.items }
     ensures trace { IsSame trace.old trace.new }
-    ensures holds { OnOk result (HoldsEnter history.new trace.new system.new entering.now) }
+    ensures holds { OnOk result (HasRoomForEnter history.new trace.new system.new entering.now) }
     ensures done { OnOk result (IsSystemWith (changed_by system.old.files entering.now.plan.change) system.old system.new) }
     ensures err { OnErr result (IsSameSystem system.old system.new) }
 {
@@ -137,7 +137,7 @@ pub fn prepare(
     ensures history { history.new.items ≡ history.old.items }
     ensures trace { IsSame trace.old trace.new }
     ensures prepared { IfOk result (λ e. IsPrepared pid machine.now trace.old system.old system.new e) }
-    ensures holds { IfOk result (λ e. HoldsEnter history.new trace.new system.new e) }
+    ensures holds { IfOk result (λ e. HasRoomForEnter history.new trace.new system.new e) }
     ensures err { OnErr result (IsSameSystem system.old system.new) }
 {
     let entering = Entering::new(system, pid, machine, trace)?;
@@ -234,7 +234,7 @@ fn set_all(processes: &mut ProcTable, pid: u32, slots: &[Slot])
 
 /// A process makes a child, or collects one. Takes no memory.
 fn change_children(processes: &mut ProcTable, pid: u32, plan: &Plan)
-    requires { MayChange processes.old pid plan.now }
+    requires { MayChangeParts processes.old pid plan.now }
     ensures { processes.new.parts ≡ with_children processes.old.parts pid plan.now }
 {
     match plan.child {
@@ -251,7 +251,7 @@ fn change_children(processes: &mut ProcTable, pid: u32, plan: &Plan)
 
 /// What becomes of the parts of all processes by a plan. Takes no memory.
 fn change_parts(processes: &mut ProcTable, pid: u32, plan: &Plan)
-    requires { MayChange processes.old pid plan.now }
+    requires { MayChangeParts processes.old pid plan.now }
     ensures { processes.new.parts ≡ parts_after processes.old.parts pid plan.now }
 {
     change_children(processes, pid, plan);
@@ -264,7 +264,7 @@ fn change_parts(processes: &mut ProcTable, pid: u32, plan: &Plan)
 
 /// A process whose machine is here gets the reply to its call, by an event of this mark.
 fn take_reply(task: &mut Task, reply: Reply, mark: Mark)
-    requires { MayTell (Told reply) task.old }
+    requires { TaskMayBeTold (Told reply) task.old }
     ensures { (served : ℕ) → IsTold (Told reply) mark served task.old task.new }
 {
     let Whereabouts::Here(machine) = &mut task.whereabouts else {
@@ -277,7 +277,7 @@ fn take_reply(task: &mut Task, reply: Reply, mark: Mark)
 /// A process whose machine is here is told what its call came to, by an event of this mark, where so many Enters did not have to
 /// wait before.
 fn tell(task: &mut Task, verdict: Verdict, served: u64, mark: Mark) -> Outcome
-    requires { MayTell verdict task.old }
+    requires { TaskMayBeTold verdict task.old }
     ensures outcome { result ≡ outcome_of (item_of verdict) }
     ensures task { IsTold verdict mark served task.old task.new }
 {
@@ -311,7 +311,7 @@ fn count_served(verdict: &Verdict, served: u64) -> u64
 
 /// Does what an Enter changes that is shared, beside its output and its change of the files. Takes no memory.
 fn change_system(system: &mut System, pid: u32, plan: &Plan, spare: Option<Pipe>)
-    requires { MayBecome system.old pid plan.now spare }
+    requires { MayChangeSystem system.old pid plan.now spare }
     ensures system { system.new ≡ record system.old {
       tapes = read_by system.old.tapes plan.now.tape;
       pipes = all_seen system.old.pipes plan.now.pipes.items;
@@ -340,7 +340,7 @@ fn keep(changes: &mut Vec<Change>, change: Option<Change>)
 
 /// A process that was made, if one was, is told 0 by an event of this mark. Takes no memory.
 fn tell_child(alloc: Global, child: Option<Task>, mark: Mark) -> Option<Task>
-    requires { MayTellChild child }
+    requires { ChildMayBeTold child }
     ensures { (number : Option ℕ) (s : State) (parent : Withheld Item) → IsChild number s parent child → MakesTask number mark s parent result }
 {
     let mut child = child?;
@@ -404,7 +404,7 @@ fn enter_task(
     requires fine { MayEnter system.old pid (machine_of task.old) task.old.trace }
     ensures done { IfOk result (λ r. IsDone pid task.old task.new system.old system.new r.0 r.1) }
     ensures history { OnOk result (history.new.items ≡ history.old.items ++ Event.Enter pid ∷ []) }
-    ensures err { OnErr result (AreUntouched task.old task.new system.old system.new history.old.items history.new.items) }
+    ensures err { OnErr result (AreUnchanged task.old task.new system.old system.new history.old.items history.new.items) }
 {
     let machine = task.whereabouts.machine();
     let entering = prepare(history, system, pid, machine, &mut task.trace)?;

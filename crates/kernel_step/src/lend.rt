@@ -4,7 +4,7 @@ ghost use Rattle.kernel_model.specs.Loans.{Lends};
 ghost use Rattle.kernel_model.specs.World.{Boot};
 ghost use Rattle.kernel_step.specs.Stands.{Stands, kernel_in};
 ghost use Rattle.kernel_model.specs.declared.answer.Refused.TheVariants.{OutOfMemory};
-ghost use Rattle.kernel_step.specs.Lending.{full_for_loan_of, is_fit, next_fit, IsLent, IsLoanOf, LendsNext};
+ghost use Rattle.kernel_step.specs.Lending.{full_for_loan_of, is_fit, next_fit, IsLent, IsNextLoanOf, LendsNext};
 ghost use Rattle.kernel_step.specs.Loaned.{lent_out};
 ghost use Rattle.kernel_step.specs.Tasks.{machine_of, out_of, count_out, lending_of, AreFewLoans};
 
@@ -74,7 +74,7 @@ fn lend_task(alloc: Global, task: &mut Task, quantum: u32) -> Result<Loan, Refus
     requires here { out_of task.old ≡ None }
     requires room { (machine_of task.old).count + quantum < 2 ^ 40 }
     requires few { task.old.loans ≤ 2 ^ 40 }
-    ensures loan { IfOk result (λ loan. IsLoanOf quantum task.old loan) }
+    ensures loan { IfOk result (λ loan. IsNextLoanOf quantum task.old loan) }
     ensures task { OnOk result (IsLent quantum task.old task.new) }
     ensures cause { IfErr result (λ why. why ≡ OutOfMemory) }
     ensures same { OnErr result (task.new ≡ task.old) }

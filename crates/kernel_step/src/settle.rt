@@ -1,13 +1,13 @@
 //! Loans' results taken back.
-ghost use Rattle.std.specs.Prelude.{◌≡◌, ◌+◌, ◌<◌, ◌^◌, ◌++◌, ◌∷◌, [], ◌↔◌, IsTrue, length, slice_get, Some, None, IfOk, IfErr, OnOk, OnErr};
+ghost use Rattle.std.specs.Prelude.{◌≡◌, ◌+◌, ◌<◌, ◌^◌, ◌++◌, ◌∷◌, [], ◌↔◌, IsTrue, length, slice_get, Some, IfOk, IfErr, OnOk, OnErr};
 ghost use Rattle.kernel_model.specs.World.{Boot};
 ghost use Rattle.kernel_step.specs.Stands.{Stands, Settles};
 ghost use Rattle.kernel_step.specs.declared.task.Task.{Task};
 ghost use Rattle.kernel_model.specs.declared.answer.Outcome.{Outcome};
 ghost use Rattle.kernel_step.specs.Entering.{IsSameSystem};
 ghost use Rattle.kernel_step.specs.Ready.{MayEnter};
-ghost use Rattle.kernel_step.specs.Settling.{IsLoanOf, IsBack, IsTurnNoted, IsTurnEntered, IsCallSettled, IsUnsettled, HandsBack};
-ghost use Rattle.kernel_step.specs.Unchanged.{AreUntouched};
+ghost use Rattle.kernel_step.specs.Settling.{IsLoanOf, IsBack, IsTurnSettled, IsTurnEntered, IsCallSettled, IsUnsettled, LackedMemory};
+ghost use Rattle.kernel_step.specs.Unchanged.{AreUnchanged};
 
 use crate::enter::{finish, join, note_enter, prepare};
 use crate::loan::{Done, Rejected};
@@ -52,16 +52,11 @@ fn settle_turn(
     done: Done,
 ) -> Result<Answer, Rejected>
     requires { ran.old < 2 ^ 63 }
-    ensures task { OnOk result (IsBack done.machine task.old task.new) }
-    ensures system { OnOk result (IsTurnNoted done.pid system.old system.new) }
-    ensures history { OnOk result (history.new.items ≡ history.old.items ++ Event.Turn done.pid done.count ∷ []) }
-    ensures ran { OnOk result (ran.new ≡ ran.old + done.count) }
-    ensures answer { IfOk result (λ a. a ≡ Answer.Settled done.count done.stop None) }
+    ensures done { IfOk result (IsTurnSettled done task.old task.new system.old system.new history.old.items history.new.items ran.old ran.new) }
+    ensures err { OnErr result (AreUnchanged task.old task.new system.old system.new history.old.items history.new.items) }
     ensures same_task { OnErr result (task.new ≡ task.old) }
-    ensures same_system { OnErr result (IsSameSystem system.old system.new) }
-    ensures same_history { OnErr result (history.new.items ≡ history.old.items) }
     ensures same_ran { OnErr result (ran.new ≡ ran.old) }
-    ensures back { IfErr result (HandsBack done) }
+    ensures back { IfErr result (LackedMemory done) }
 {
     if reserve(history, &mut system.dependencies, 1, 1).is_err() {
         return Err(Rejected {
@@ -99,8 +94,8 @@ fn settle_enter(
     ensures done { IfOk result (λ r. (o : Outcome) × (r.0 ≡ Answer.Settled done.count done.stop (Some o))
         × IsTurnEntered done.pid done.machine task.old task.new system.old system.new o r.1) }
     ensures history { OnOk result (history.new.items ≡ history.old.items ++ Event.Turn done.pid done.count ∷ Event.Enter done.pid ∷ []) }
-    ensures err { OnErr result (AreUntouched task.old task.new system.old system.new history.old.items history.new.items) }
-    ensures back { IfErr result (HandsBack done) }
+    ensures err { OnErr result (AreUnchanged task.old task.new system.old system.new history.old.items history.new.items) }
+    ensures back { IfErr result (LackedMemory done) }
 {
     let pid = done.pid;
     let Ok(entering) = prepare(history, system, pid, &done.machine, &mut task.trace) else {
@@ -149,7 +144,7 @@ fn settle_call(
     ensures same_system { OnErr result (IsSameSystem system.old system.new) }
     ensures same_history { OnErr result (history.new.items ≡ history.old.items) }
     ensures same_ran { OnErr result (ran.new ≡ ran.old) }
-    ensures back { IfErr result (HandsBack done) }
+    ensures back { IfErr result (LackedMemory done) }
 {
     if tasks.reserve(1).is_err() {
         return Err(Rejected {

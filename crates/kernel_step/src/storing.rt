@@ -1,18 +1,17 @@
 //! The disk's events: a group is cut, and a write is complete or has failed.
-ghost use Rattle.std.specs.Prelude.{◌≡◌, ◌++◌, ◌∷◌, [], length, drop, IfOk, IfErr, OnOk, OnErr, true};
+ghost use Rattle.std.specs.Prelude.{◌≡◌, ◌++◌, ◌∷◌, [], drop, IfOk, IfErr, OnOk, OnErr};
 ghost use Rattle.std.specs.List.{AllByRecursion};
 ghost use Rattle.disk_model.specs.Files.{IsFormed, IsMade};
 ghost use Rattle.kernel_model.specs.Answers.{Refuses, cut_refusal, write_refusal};
 ghost use Rattle.kernel_step.specs.Advanced.{AreAdvanced, AreMoved};
-ghost use Rattle.kernel_step.specs.Storing.{WasCut, IsCompleted, HasFailed};
+ghost use Rattle.kernel_step.specs.Storing.{WasCut, IsUncut, IsCompleted, HasFailed};
 
+use crate::system::System;
 use crate::task::Task;
 use crate::tasks::hand_all;
 use disk_model::Change;
-use files::FileTable;
 use group_commit::{CommitRefusal, Committer};
 use kernel_model::{Answer, Event, Refused};
-use std::alloc::Global;
 use withheld::Withheld;
 
 /// The changes that are not committed, of all changes.
@@ -39,28 +38,20 @@ fn cut_refused(committer: &Committer, changes: &[Change], full: bool) -> Option<
 
 /// A group of the first uncommitted changes, or a checkpoint, is submitted to the disk. Refused, with nothing changed:
 /// Budget, where the history is full; DiskFailed; GroupInFlight; NothingToCut; OutOfMemory.
-pub fn cut(
-    alloc: Global,
-    history: &mut Vec<Event>,
-    full: bool,
-    committer: &mut Committer,
-    changes: &[Change],
-    files: &FileTable,
-) -> Result<Answer, Refused>
-    requires possible { IsMade files.now }
-    requires formed { AllByRecursion IsFormed (drop committer.old.committed changes.now) }
-    ensures done { IfOk result (WasCut committer.old committer.new changes.now files.now full) }
-    ensures history { OnOk result (history.new.items ≡ history.old.items ++ Event.Cut ∷ []) }
-    ensures refused { IfErr result (Refuses (cut_refusal committer.old (drop committer.old.committed changes.now) full)) }
-    ensures same_history { OnErr result (history.new.items ≡ history.old.items) }
-    ensures same_committer { OnErr result (committer.new ≡ committer.old) }
+pub fn cut(history: &mut Vec<Event>, system: &mut System, full: bool) -> Result<Answer, Refused>
+    requires possible { IsMade system.old.files }
+    requires formed { AllByRecursion IsFormed (drop system.old.committer.committed system.old.changes.items) }
+    ensures done { IfOk result (WasCut system.old.committer system.new.committer system.old.changes.items system.old.files full history.old.items history.new.items) }
+    ensures refused { IfErr result (Refuses (cut_refusal system.old.committer (drop system.old.committer.committed system.old.changes.items) full)) }
+    ensures same { OnErr result (IsUncut system.old.committer system.new.committer history.old.items history.new.items) }
+    ensures only { system.new ≡ record system.old { committer = system.new.committer } }
 {
-    let rest = uncommitted(changes, committer.committed());
-    if let Some(why) = cut_refused(committer, rest, full) {
+    let rest = uncommitted(&system.changes, system.committer.committed());
+    if let Some(why) = cut_refused(&system.committer, rest, full) {
         return Err(why);
     }
     history.reserve(1)?;
-    match committer.cut(alloc, rest, files) {
+    match system.committer.cut(system.alloc, rest, &system.files) {
         Err(_) => Err(Refused::OutOfMemory),
         Ok((changes, writes)) => {
             history.push(Event::Cut).unwrap();

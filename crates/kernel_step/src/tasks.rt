@@ -1,5 +1,5 @@
 //! The tasks of all processes.
-ghost use Rattle.std.specs.Prelude.{◌≡◌, ◌+◌, ◌*◌, ◌^◌, ◌≤◌, ◌<◌, None, Some, true, is_some, length, map, slice_get, MatchOption, MatchResult, IfOk, IfErr, OnErr};
+ghost use Rattle.std.specs.Prelude.{◌≡◌, ◌+◌, ◌*◌, ◌^◌, ◌≤◌, ◌<◌, None, Some, true, is_some, length, map, slice_get, MatchOption, IfOk, IfErr, OnErr};
 ghost use Rattle.kernel_model.specs.State.{process_at};
 ghost use Rattle.kernel_model.specs.declared.answer.Refused.TheVariants.{Lent};
 ghost use Rattle.kernel_step.specs.Tasks.{machine_of, out_of, process_of, count_out, RanAt};

@@ -1,5 +1,5 @@
 //! A Turn: a process runs.
-ghost use Rattle.std.specs.Prelude.{◌≡◌, ◌+◌, ◌*◌, ◌^◌, ◌≤◌, ◌<◌, ◌++◌, ◌∷◌, [], List, length, vec_len, vec_capacity, IfOk, IfErr, OnOk, OnErr};
+ghost use Rattle.std.specs.Prelude.{◌≡◌, ◌+◌, ◌*◌, ◌^◌, ◌≤◌, ◌<◌, ◌++◌, ◌∷◌, [], length, vec_len, vec_capacity, IfOk, IfErr, OnOk, OnErr};
 ghost use Rattle.kernel_model.specs.Answers.{Refuses};
 ghost use Rattle.kernel_model.specs.Ran.{ran_in};
 ghost use Rattle.kernel_step.specs.Parts.{IsOwnNoted, Turned};

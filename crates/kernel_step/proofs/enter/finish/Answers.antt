@@ -10,7 +10,7 @@ print-requires c = c.requires.output
 
 pub change_system-requires : goal.change_system-requires
 change_system-requires c =
-    let may = c.requires.rest in
+    let may = c.requires.system in
     record { processes = may.processes; left = may.left; spare = may.spare; may = may.may; few = may.few }
 
 pub tell_child-requires : goal.tell_child-requires

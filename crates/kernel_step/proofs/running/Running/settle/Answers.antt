@@ -20,7 +20,7 @@ use Rattle.kernel_step.proofs.EnterResults.{on-ok-any}
 use Rattle.kernel_step.proofs.EnterWorld.{may-plan}
 use Rattle.kernel_step.proofs.SettleAccepted.{events-accepted}
 use Rattle.disk_model.proofs.Lists.{set_same}
-use Rattle.kernel_step.proofs.SettleCore.{own-loan, loan-own, turn-result, enter-result, settle-core, settle-events, settle-answer, settle-only, settle-back, settle-strange, settle-err, same-of, not-there, get-one}
+use Rattle.kernel_step.proofs.SettleCore.{own-loan, loan-own, turn-ran, same-history, same-system, turn-result, enter-result, settle-core, settle-events, settle-answer, settle-only, settle-back, settle-strange, settle-err, same-of, not-there, get-one}
 use Rattle.kernel_step.specs.Stands.{KeepsRun, run_of, kernel_of, kernel_in}
 use Rattle.kernel_step.proofs.SettleWorld.{out-running}
 use Rattle.kernel_step.proofs.running.Running.settle.Goals as goal
@@ -120,25 +120,28 @@ returns-in-None c = λ b h.
     let new : List Task = slice_set c.args.self.now.tasks.items place c.settle_turn.new.task in
     let system = c.settle_turn.new.system in
     let stands : stands_at d.machine ≡ None = sym c.stopped.ensures ∙ c.in-None.is in
-    let taken = turn-result b c.args.self.now.history.items later c.args.self.now.tasks.items c.args.self.now.system system c.args.self.now.last_lent place t c.settle_turn.new.task d r
-    h.parts (placed at).number (there at) of stands c.settle_turn.ensures.task c.settle_turn.ensures.system c.settle_turn.ensures.history c.settle_turn.ensures.answer in
+    let taken = turn-result b c.args.self.now.history.items later c.args.self.now.tasks.items c.args.self.now.system system c.args.self.now.last_lent place c.args.self.now.ran c.settle_turn.new.ran t c.settle_turn.new.task d r
+    h.parts (placed at).number (there at) of stands c.settle_turn.ensures.done in
+    let stays = same-history t c.settle_turn.new.task c.args.self.now.system system c.args.self.now.history.items later r c.settle_turn.ensures.err in
+    let counts = turn-ran t c.settle_turn.new.task c.args.self.now.system system c.args.self.now.history.items later c.args.self.now.ran c.settle_turn.new.ran d r c.settle_turn.ensures.done in
     let same = same-of r c.args.self.now.tasks.items place t c.settle_turn.new.task (there at) c.settle_turn.ensures.same_task in
     record {
       stands = record {
-        parts = settle-core b c.args.self.now.history.items later c.args.self.now.tasks.items new c.args.self.now.system system c.args.self.now.last_lent place d r h.parts taken c.settle_turn.ensures.same_history same c.settle_turn.ensures.same_system;
+        parts = settle-core b c.args.self.now.history.items later c.args.self.now.tasks.items new c.args.self.now.system system c.args.self.now.last_lent place d r h.parts taken stays same
+            (same-system t c.settle_turn.new.task c.args.self.now.system system c.args.self.now.history.items later r c.settle_turn.ensures.err);
         counted =
             counted-settle b c.args.self.now.history.items later c.args.self.now.tasks.items new c.args.self.now.system system c.args.self.now.last_lent place c.args.self.now.ran c.settle_turn.new.ran t d r h.parts (placed at).number (there at) of h.counted
-            taken c.settle_turn.ensures.same_history c.settle_turn.ensures.ran c.settle_turn.ensures.same_ran;
+            taken stays counts c.settle_turn.ensures.same_ran;
       };
       own = on-ok-any r own;
       fine = on-ok-any r (events-accepted b c.args.self.now.history.items c.args.self.now.tasks.items c.args.self.now.system c.args.self.now.last_lent place t d h.parts (placed at).number (there at) of);
       events = settle-events b c.args.self.now.history.items later c.args.self.now.tasks.items new system c.args.self.now.last_lent place d r (placed at).number taken;
       answer = settle-answer b c.args.self.now.history.items later c.args.self.now.tasks.items new system c.args.self.now.last_lent place d r taken;
-      ran = c.settle_turn.ensures.ran;
+      ran = counts;
       stranger = settle-strange (IsOfLoan (kernel_in b c.args.self.now) (loan_result d)) d r c.settle_turn.ensures.back;
       own_only = settle-only d r own c.settle_turn.ensures.back;
       back = settle-back d r c.settle_turn.ensures.back;
-      err = settle-err b c.args.self.now.history.items later c.args.self.now.tasks.items new c.args.self.now.last_lent place r c.settle_turn.ensures.same_history same;
+      err = settle-err b c.args.self.now.history.items later c.args.self.now.tasks.items new c.args.self.now.last_lent place r stays same;
     }
 
 pub returns-in-Some-stopped : goal.returns-in-Some-stopped
