@@ -4,7 +4,7 @@ use clap::{Arg, ArgAction, ArgMatches, Command, Error};
 use std::alloc::{AllocError, Global};
 
 /// What the program is to do.
-#[derive(Clone, Copy, Debug, PartialEq, Eq)]
+#[derive(Clone, Copy)]
 pub enum Task<'a> {
     /// Replay the script on standard input.
     ReplayInput,
@@ -80,29 +80,37 @@ fn commands<'a>(alloc: Global) -> Result<Command<'a>, AllocError> {
     with(bench, listing(alloc))
 }
 
+/// What the arguments of the command `asm` ask for.
+fn assemble_task<'a>(matches: &ArgMatches<'a>) -> Option<Task<'a>> {
+    Some(Task::Assemble {
+        source: matches.get_str("SOURCE")?,
+        image: matches.get_str("IMAGE")?,
+    })
+}
+
 /// What a command and its arguments ask for. None for a name that is not handled here.
 fn task_of<'a>(name: &str, matches: &ArgMatches<'a>) -> Option<Task<'a>> {
     match name {
-        "replay" => Some(Task::ReplayFile(matches.get_str("SCRIPT")?)),
-        "asm" => Some(Task::Assemble {
-            source: matches.get_str("SOURCE")?,
-            image: matches.get_str("IMAGE")?,
-        }),
-        "list" => Some(Task::List(matches.get_str("IMAGE")?)),
+        "replay" => matches.get_str("SCRIPT").map(|path| Task::ReplayFile(path)),
+        "asm" => assemble_task(matches),
+        "list" => matches.get_str("IMAGE").map(|path| Task::List(path)),
         _ => None,
     }
+}
+
+/// The refusal of an image that would be written over its own source.
+fn same_path(alloc: Global) -> Result<Error, AllocError> {
+    let mut asm = assembling(alloc)?;
+    asm.error(
+        ErrorKind::ArgumentConflict,
+        "<SOURCE> and <IMAGE> are the same path",
+    )
 }
 
 /// Refuses an image that would be written over its own source.
 fn checked<'a>(alloc: Global, task: Task<'a>) -> Result<Task<'a>, Error> {
     match task {
-        Task::Assemble { source, image } if source == image => {
-            let mut asm = assembling(alloc)?;
-            Err(asm.error(
-                ErrorKind::ArgumentConflict,
-                "<SOURCE> and <IMAGE> are the same path",
-            )?)
-        }
+        Task::Assemble { source, image } if source == image => Err(same_path(alloc)?),
         task => Ok(task),
     }
 }

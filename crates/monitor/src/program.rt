@@ -3,12 +3,60 @@ use crate::command::{Task, parse};
 use crate::fault::Fault;
 use crate::list::list;
 use crate::replay::{image_in, replay};
-use crate::source::assemble_source;
+use crate::source::{Assembled, assemble_source};
 use clap::Error;
 use clap::error::ErrorKind;
 use std::io::{BufWriter, Read, Write};
 use std::rt::Files;
 use std::{fs, io};
+
+/// Replays the script on the input.
+fn replay_input<R: Files + AllocGlobal, I: Read, O: Write>(
+    rt: &R,
+    input: &mut I,
+    out: &mut O,
+) -> Result<(), Fault> {
+    let text = io::read_to_string(rt.alloc(), input)?;
+    replay(rt, text.as_str(), out)
+}
+
+/// Replays the script of a file.
+fn replay_file<R: Files + AllocGlobal, O: Write>(
+    rt: &R,
+    path: &str,
+    out: &mut O,
+) -> Result<(), Fault> {
+    let text = fs::read_to_string(rt, path)?;
+    replay(rt, text.as_str(), out)
+}
+
+/// Assembles the source in a file.
+fn assemble_file<R: Files + AllocGlobal>(rt: &R, source: &str) -> Result<Assembled, Fault> {
+    let text = fs::read_to_string(rt, source)?;
+    assemble_source(rt.alloc(), text.as_str())
+}
+
+/// Writes the image of what was assembled to a file, and prints the line.
+fn write_assembled<R: Files, O: Write>(
+    rt: &R,
+    assembled: &Assembled,
+    image: &str,
+    out: &mut O,
+) -> Result<(), Fault> {
+    fs::write(rt, image, assembled.file.as_slice())?;
+    let line = assembled.line.as_str();
+    writeln!(out, "{line}")?;
+    Ok(())
+}
+
+/// Lists the image in a file.
+fn list_file<R: Files + AllocGlobal, O: Write>(
+    rt: &R,
+    path: &str,
+    out: &mut O,
+) -> Result<(), Fault> {
+    list(&image_in(rt, path)?, out)
+}
 
 /// Does a task.
 fn perform<R: Files + AllocGlobal, I: Read, O: Write>(
@@ -18,27 +66,13 @@ fn perform<R: Files + AllocGlobal, I: Read, O: Write>(
     out: &mut O,
 ) -> Result<(), Fault> {
     match task {
-        Task::ReplayInput => {
-            let text = io::read_to_string(rt.alloc(), input)?;
-            replay(rt, text.as_str(), out)?;
-        }
-        Task::ReplayFile(path) => {
-            let text = fs::read_to_string(rt, path)?;
-            replay(rt, text.as_str(), out)?;
-        }
+        Task::ReplayInput => replay_input(rt, input, out),
+        Task::ReplayFile(path) => replay_file(rt, path, out),
         Task::Assemble { source, image } => {
-            let text = fs::read_to_string(rt, source)?;
-            let assembled = assemble_source(rt.alloc(), text.as_str())?;
-            fs::write(rt, image, assembled.file.as_slice())?;
-            let line = assembled.line;
-            writeln!(out, "{line}")?;
+            write_assembled(rt, &assemble_file(rt, source)?, image, out)
         }
-        Task::List(path) => {
-            let image = image_in(rt, path)?;
-            list(&image, out)?;
-        }
+        Task::List(path) => list_file(rt, path, out),
     }
-    Ok(())
 }
 
 /// Does a task. What it printed goes out, also where a fault ends it early.
@@ -94,6 +128,23 @@ pub fn end_without_arguments<E: Write>(error: &io::Error, err: &mut E) -> u8 {
     end(fault, err)
 }
 
+/// Does what the words ask for, and answers the exit status.
+fn obey<R: Files + AllocGlobal, I: Read, O: Write, E: Write>(
+    rt: &R,
+    words: &[String],
+    input: &mut I,
+    out: &mut O,
+    err: &mut E,
+) -> u8 {
+    match parse(rt.alloc(), words) {
+        Err(error) => end_usage(&error, out, err),
+        Ok(task) => match run(rt, task, input, out) {
+            Ok(()) => 0,
+            Err(fault) => end(fault, err),
+        },
+    }
+}
+
 /// The whole program: does what the words, the program's name aside, ask for, and answers the exit status. No words:
 /// replays the script on the input. What it prints goes to `out`, through a buffer that has gone out before anything is
 /// written to `err` and before the status is answered; one line on `err` says why it ended early.
@@ -104,18 +155,13 @@ pub fn bench<R: Files + AllocGlobal, I: Read, O: Write, E: Write>(
     out: &mut O,
     err: &mut E,
 ) -> u8 {
-    let mut out = match BufWriter::new(rt.alloc(), out) {
-        Ok(out) => out,
-        Err(error) => return end(Fault::from(error), err),
-    };
-    let status = match parse(rt.alloc(), words) {
-        Err(error) => end_usage(&error, &mut out, err),
-        Ok(task) => match run(rt, task, input, &mut out) {
-            Ok(()) => 0,
-            Err(fault) => end(fault, err),
-        },
-    };
-    // What could not go out is not tried again after the line that says so.
-    let _ = out.into_parts();
-    status
+    match BufWriter::new(rt.alloc(), out) {
+        Ok(mut out) => {
+            let status = obey(rt, words, input, &mut out, err);
+            // What could not go out is not tried again after the line that says so.
+            let _ = out.into_parts();
+            status
+        }
+        Err(error) => end(Fault::from(error), err),
+    }
 }

@@ -1,6 +1,6 @@
 //! The run of a script.
 use crate::fault::Fault;
-use crate::script::{Script, Step, Terminal};
+use crate::script::{Action, Script, Step, Terminal};
 use crate::setup::Setup;
 use elf32::Image;
 use files::FileTable;
@@ -73,17 +73,15 @@ fn bytes_text(alloc: Global, bytes: &[u8]) -> Result<String, Fault> {
     Ok(hex::encode(alloc, bytes)?)
 }
 
-/// Prints a reply: a0, and its bytes after the place where they go.
+/// Prints a reply: a0, and its bytes after the place where they go, or `-` for none.
 fn print_reply<O: Write>(alloc: Global, reply: &Reply, out: &mut O) -> Result<(), Fault> {
     let a0 = reply.a0;
-    let at = reply.at;
-    let bytes = bytes_text(alloc, reply.bytes.as_slice())?;
     if reply.bytes.as_slice().is_empty() {
-        writeln!(out, "{a0:08x} {bytes}")?;
-    } else {
-        writeln!(out, "{a0:08x} {at:08x} {bytes}")?;
+        return Ok(writeln!(out, "{a0:08x} -")?);
     }
-    Ok(())
+    let at = reply.at;
+    let bytes = hex::encode(alloc, reply.bytes.as_slice())?;
+    Ok(writeln!(out, "{a0:08x} {at:08x} {bytes}")?)
 }
 
 /// What a terminal shows.
@@ -99,18 +97,26 @@ fn print_shown<O: Write>(
     Ok(())
 }
 
+/// Prints how many replies there are to a process's calls, and then a line for each.
+fn print_replies<O: Write>(
+    alloc: Global,
+    pid: u32,
+    replies: &[Reply],
+    out: &mut O,
+) -> Result<(), Fault> {
+    let count = replies.len();
+    writeln!(out, "trace {pid} {count} replies")?;
+    for reply in replies {
+        print_reply(alloc, reply, out)?;
+    }
+    Ok(())
+}
+
 /// The replies to a process's calls that are handed out, a line each.
 fn print_trace<O: Write>(alloc: Global, core: &Core, pid: u32, out: &mut O) -> Result<(), Fault> {
     match core.trace(pid) {
         Err(why) => print_refusal(why, out),
-        Ok(replies) => {
-            let count = replies.len();
-            writeln!(out, "trace {pid} {count} replies")?;
-            for reply in replies {
-                print_reply(alloc, reply, out)?;
-            }
-            Ok(())
-        }
+        Ok(replies) => print_replies(alloc, pid, replies, out),
     }
 }
 
@@ -163,6 +169,17 @@ fn crash<O: Write>(
     Ok(next)
 }
 
+/// Acts on the core, and prints what that gives.
+fn act<O: Write>(alloc: Global, core: &mut Core, action: Action, out: &mut O) -> Result<(), Fault> {
+    match action {
+        Action::Apply(event) => print_event(core, event, out),
+        Action::Drain => print_drain(core, out),
+        Action::Shown(terminal) => print_shown(alloc, core, terminal, out),
+        Action::Trace(pid) => print_trace(alloc, core, pid, out),
+        Action::Files => print_files(core.boot_files(), out),
+    }
+}
+
 /// Does a step, and prints what it gives. After a crash the core that comes back is another one.
 fn play<O: Write>(
     alloc: Global,
@@ -171,15 +188,24 @@ fn play<O: Write>(
     step: &Step,
     out: &mut O,
 ) -> Result<Core, Fault> {
-    let printed = match step {
-        Step::Apply(event) => print_event(&mut core, *event, out),
-        Step::Drain => print_drain(&mut core, out),
-        Step::Shown(terminal) => print_shown(alloc, &core, *terminal, out),
-        Step::Trace(pid) => print_trace(alloc, &core, *pid, out),
-        Step::Files => print_files(core.boot_files(), out),
-        Step::Crash(fill) => return crash(alloc, setup, core, fill.as_slice(), out),
-    };
-    printed.map(|()| core)
+    match step {
+        Step::Act(action) => act(alloc, &mut core, *action, out).map(|()| core),
+        Step::Crash(fill) => crash(alloc, setup, core, fill.as_slice(), out),
+    }
+}
+
+/// Does the steps in order, and prints what each gives.
+fn play_all<O: Write>(
+    alloc: Global,
+    setup: &Setup,
+    mut core: Core,
+    steps: &[Step],
+    out: &mut O,
+) -> Result<(), Fault> {
+    for step in steps {
+        core = play(alloc, setup, core, step, out)?;
+    }
+    Ok(())
 }
 
 /// Runs a script, and prints what each of its lines gives. The script is read whole before any image that it names.
@@ -189,14 +215,7 @@ pub fn replay<R: Files + AllocGlobal, O: Write>(
     out: &mut O,
 ) -> Result<(), Fault> {
     let alloc = rt.alloc();
-    let Script {
-        programs,
-        tapes,
-        steps,
-    } = Script::parse(alloc, text)?;
-    let (setup, mut core) = Setup::boot(rt, programs, tapes)?;
-    for step in &steps {
-        core = play(alloc, &setup, core, step, out)?;
-    }
-    Ok(())
+    let script = Script::parse(alloc, text)?;
+    let (setup, core) = Setup::boot(rt, script.programs, script.tapes)?;
+    play_all(alloc, &setup, core, script.steps.as_slice(), out)
 }

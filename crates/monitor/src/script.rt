@@ -62,9 +62,9 @@ pub struct ScriptTape {
     ghost short: { length bytes ≤ 65536 },
 }
 
-/// A line of a script that is no set-up line.
-#[derive(Drop)]
-pub enum Step {
+/// A step that the core outlives.
+#[derive(Clone, Copy)]
+pub enum Action {
     /// An event is applied, and its answer printed.
     Apply(Event),
     /// All changes are committed.
@@ -75,13 +75,19 @@ pub enum Step {
     Trace(u32),
     /// The files that the disk held at this boot are printed.
     Files,
+}
+
+/// A line of a script that is no set-up line.
+#[derive(Drop)]
+pub enum Step {
+    Act(Action),
     /// The run is cut short, and all programs are booted again on the disk that is left, where the ranges of writes in
     /// flight or failed take these bytes.
     Crash(Bytes),
 }
 
 /// A terminal's number, 0 to 7.
-#[derive(Clone, Copy, Debug, PartialEq, Eq)]
+#[derive(Clone, Copy)]
 pub struct Terminal {
     pub number: u32,
     ghost there: { number < 8 },
@@ -153,19 +159,16 @@ fn words_of(alloc: Global, texts: &[&str]) -> Result<Option<Words>, AllocError> 
     }
 }
 
-/// The program of a line `program T WORD..`, without its first word. None where it has no such form.
-fn program_of(alloc: Global, words: &[&str]) -> Result<Option<ScriptProgram>, AllocError> {
+/// The line `program T WORD..` of the words after its first. None where they have no such form.
+fn program_of(alloc: Global, words: &[&str]) -> Result<Option<Line>, AllocError> {
     let [first, texts @ ..] = words else {
         return Ok(None);
     };
-    let Some(terminal) = terminal_of(first) else {
-        return Ok(None);
-    };
-    match words_of(alloc, texts)? {
-        Some(words) => Ok(Some(ScriptProgram {
+    match terminal_of(first) {
+        Some(terminal) => Ok(words_of(alloc, texts)?.map(|words| Line::Program(ScriptProgram {
             terminal,
             source: Source::Words(words),
-        })),
+        }))),
         None => Ok(None),
     }
 }
@@ -175,21 +178,18 @@ fn is_path(word: &str) -> bool {
     !word.is_empty() && word.bytes().all(|byte| byte != b'\t' && byte != b'\r')
 }
 
-/// The program of a line `image T PATH`, without its first word. None where it has no such form.
-fn image_of(alloc: Global, words: &[&str]) -> Result<Option<ScriptProgram>, AllocError> {
+/// The line `image T PATH` of the words after its first. None where they have no such form.
+fn image_of(alloc: Global, words: &[&str]) -> Result<Option<Line>, AllocError> {
     let [first, path] = words else {
         return Ok(None);
     };
-    let Some(terminal) = terminal_of(first) else {
-        return Ok(None);
-    };
-    if !is_path(path) {
-        return Ok(None);
+    match terminal_of(first) {
+        Some(terminal) if is_path(path) => Ok(Some(Line::Program(ScriptProgram {
+            terminal,
+            source: Source::Image(String::from_str(alloc, path)?),
+        }))),
+        _ => Ok(None),
     }
-    Ok(Some(ScriptProgram {
-        terminal,
-        source: Source::Image(String::from_str(alloc, path)?),
-    }))
 }
 
 /// The bytes of a word of pairs of hexadecimal digits, or none for `-`. None where it has no such form.
@@ -205,55 +205,67 @@ fn bytes_of(alloc: Global, word: &str) -> Result<Option<Bytes>, AllocError> {
     }
 }
 
-/// The tape of a line `tape T HEX`, without its first word. None where it has no such form, or is too long.
-fn tape_of(alloc: Global, words: &[&str]) -> Result<Option<ScriptTape>, AllocError> {
-    let [first, text] = words else {
-        return Ok(None);
-    };
-    let Some(number) = decimal(first) else {
-        return Ok(None);
-    };
-    let Some(bytes) = bytes_of(alloc, text)? else {
-        return Ok(None);
-    };
+/// The tape of this number, with these bytes. None where there is no such number, or they are too many.
+fn numbered_tape(number: u32, bytes: Bytes) -> Option<ScriptTape> {
     if number < TAPES as u32 && bytes.as_slice().len() <= MOST_TAPE_BYTES {
-        Ok(Some(ScriptTape { number, bytes }))
+        Some(ScriptTape { number, bytes })
     } else {
-        Ok(None)
+        None
     }
 }
 
-/// The step of a line, if it has the form of one, but for `crash`, which takes memory.
-fn step_of(words: &[&str]) -> Option<Step> {
-    let step = match words {
-        ["turn", pid, n] => Step::Apply(Event::Turn {
+/// The line `tape T HEX` of the words after its first. None where they have no such form, or the tape is too long.
+fn tape_of(alloc: Global, words: &[&str]) -> Result<Option<Line>, AllocError> {
+    let [first, text] = words else {
+        return Ok(None);
+    };
+    match (decimal(first), bytes_of(alloc, text)?) {
+        (Some(number), Some(bytes)) => {
+            Ok(numbered_tape(number, bytes).map(|tape| Line::Tape(tape)))
+        }
+        _ => Ok(None),
+    }
+}
+
+/// The line `crash HEX` of the word after its first. None where it has no such form.
+fn crash_of(alloc: Global, fill: &str) -> Result<Option<Line>, AllocError> {
+    Ok(bytes_of(alloc, fill)?.map(|fill| Line::Step(Step::Crash(fill))))
+}
+
+/// The event of a line, if it has the form of one.
+fn event_of(words: &[&str]) -> Option<Event> {
+    match words {
+        ["turn", pid, n] => Some(Event::Turn {
             pid: decimal(pid)?,
             n: decimal(n)?,
         }),
-        ["enter", pid] => Step::Apply(Event::Enter { pid: decimal(pid)? }),
-        ["cut"] => Step::Apply(Event::Cut),
-        ["complete", at] => Step::Apply(Event::Complete { at: decimal(at)? }),
-        ["fail", at] => Step::Apply(Event::Fail { at: decimal(at)? }),
-        ["drain"] => Step::Drain,
-        ["shown", number] => Step::Shown(terminal_of(number)?),
-        ["trace", pid] => Step::Trace(decimal(pid)?),
-        ["files"] => Step::Files,
-        _ => return None,
-    };
-    Some(step)
+        ["enter", pid] => decimal(pid).map(|pid| Event::Enter { pid }),
+        ["cut"] => Some(Event::Cut),
+        ["complete", at] => decimal(at).map(|at| Event::Complete { at }),
+        ["fail", at] => decimal(at).map(|at| Event::Fail { at }),
+        _ => None,
+    }
 }
 
-/// A line, if it has a form. Words are parted by one space each.
-fn line_of(alloc: Global, text: &str) -> Result<Option<Line>, AllocError> {
-    let words: Vec<&str> = text.split(' ').collect(alloc)?;
-    match words.as_slice() {
-        ["program", rest @ ..] => Ok(program_of(alloc, rest)?.map(|program| Line::Program(
-            program,
-        ))),
-        ["image", rest @ ..] => Ok(image_of(alloc, rest)?.map(|program| Line::Program(program))),
-        ["tape", rest @ ..] => Ok(tape_of(alloc, rest)?.map(|tape| Line::Tape(tape))),
-        ["crash", fill] => Ok(bytes_of(alloc, fill)?.map(|fill| Line::Step(Step::Crash(fill)))),
-        others => Ok(step_of(others).map(|step| Line::Step(step))),
+/// What a line does with the core, if it has the form of that.
+fn action_of(words: &[&str]) -> Option<Action> {
+    match words {
+        ["drain"] => Some(Action::Drain),
+        ["shown", number] => terminal_of(number).map(|terminal| Action::Shown(terminal)),
+        ["trace", pid] => decimal(pid).map(|pid| Action::Trace(pid)),
+        ["files"] => Some(Action::Files),
+        others => event_of(others).map(|event| Action::Apply(event)),
+    }
+}
+
+/// The line of these words, if they have the form of one.
+fn line_of(alloc: Global, words: &[&str]) -> Result<Option<Line>, AllocError> {
+    match words {
+        ["program", rest @ ..] => program_of(alloc, rest),
+        ["image", rest @ ..] => image_of(alloc, rest),
+        ["tape", rest @ ..] => tape_of(alloc, rest),
+        ["crash", fill] => crash_of(alloc, fill),
+        others => Ok(action_of(others).map(|action| Line::Step(Step::Act(action)))),
     }
 }
 
@@ -282,6 +294,35 @@ fn push_tape(tapes: &mut Vec<ScriptTape>, tape: ScriptTape) -> Result<bool, Allo
 }
 
 impl Script {
+    /// Adds a line, if it may stand after those before it.
+    fn push(&mut self, line: Line) -> Result<bool, AllocError>
+        requires { vec_len self.old.programs ≤ 8 }
+        ensures { vec_len self.new.programs ≤ 8 }
+    {
+        match line {
+            Line::Step(step) => {
+                self.steps.push(step)?;
+                Ok(true)
+            }
+            _ if !self.steps.is_empty() => Ok(false),
+            Line::Program(program) => push_program(&mut self.programs, program),
+            Line::Tape(tape) => push_tape(&mut self.tapes, tape),
+        }
+    }
+
+    /// Reads a line that is neither empty nor a comment, and adds it, if it has a form and may stand here. Words are parted
+    /// by one space each.
+    fn read(&mut self, alloc: Global, text: &str) -> Result<bool, AllocError>
+        requires { vec_len self.old.programs ≤ 8 }
+        ensures { vec_len self.new.programs ≤ 8 }
+    {
+        let words: Vec<&str> = text.split(' ').collect(alloc)?;
+        match line_of(alloc, words.as_slice())? {
+            Some(line) => self.push(line),
+            None => Ok(false),
+        }
+    }
+
     /// Reads a script whole. Refused is the first line that has no form, is a set-up line (`program`, `image` or `tape`)
     /// after a line that is none, is a ninth `program` or `image` line, or is a second line for one tape; and where
     /// there is no such line, line 1 of a script without a `program` and an `image` line. Lines are counted from 1 and
@@ -290,37 +331,22 @@ impl Script {
         ensures some { IfOk result (λ script. 1 ≤ vec_len script.programs) }
         ensures few { IfOk result (λ script. vec_len script.programs ≤ 8) }
     {
-        let mut programs = Vec::new(alloc);
-        let mut tapes = Vec::new(alloc);
-        let mut steps = Vec::new(alloc);
+        let mut script = Script {
+            programs: Vec::new(alloc),
+            tapes: Vec::new(alloc),
+            steps: Vec::new(alloc),
+        };
         let mut number = 0usize;
         for text in text.split('\n') {
             number = number.saturating_add(1);
-            if text.is_empty() || text.starts_with('#') {
-                continue;
-            }
-            let taken = match line_of(alloc, text)? {
-                Some(Line::Program(program)) => {
-                    steps.is_empty() && push_program(&mut programs, program)?
-                }
-                Some(Line::Tape(tape)) => steps.is_empty() && push_tape(&mut tapes, tape)?,
-                Some(Line::Step(step)) => {
-                    steps.push(step)?;
-                    true
-                }
-                None => false,
-            };
-            if !taken {
+            let blank = text.is_empty() || text.starts_with('#');
+            if !blank && !script.read(alloc, text)? {
                 return Err(Fault::Script { line: number });
             }
         }
-        if programs.is_empty() {
+        if script.programs.is_empty() {
             return Err(Fault::Script { line: 1 });
         }
-        Ok(Script {
-            programs,
-            tapes,
-            steps,
-        })
+        Ok(script)
     }
 }

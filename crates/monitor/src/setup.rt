@@ -9,7 +9,7 @@ use byte_list::Bytes;
 use elf32::Image;
 use kernel::{Core, Program, SimDisk};
 use kernel_model::TAPES;
-use std::alloc::Global;
+use std::alloc::{AllocError, Global};
 use std::fs;
 use std::rt::Files;
 
@@ -79,8 +79,7 @@ impl Setup {
     {
         let alloc = rt.alloc();
         let (kept, programs) = read_programs(rt, programs)?;
-        let booted = tapes_of(alloc, tapes.as_slice())?;
-        let core = Core::boot(alloc, SimDisk::zero(alloc)?, programs, booted)?;
+        let core = boot_on(alloc, SimDisk::zero(alloc)?, programs, tapes.as_slice())?;
         let setup = Setup {
             programs: kept,
             tapes,
@@ -93,9 +92,39 @@ impl Setup {
         requires { is_quiet device ≡ true }
     {
         let programs = programs_of(alloc, self.programs.as_slice())?;
-        let tapes = tapes_of(alloc, self.tapes.as_slice())?;
-        Ok(Core::boot(alloc, device, programs, tapes)?)
+        boot_on(alloc, device, programs, self.tapes.as_slice())
     }
+}
+
+/// Boots these programs, with the tapes that a script gives, on a disk.
+fn boot_on(
+    alloc: Global,
+    device: SimDisk,
+    programs: Vec<Program>,
+    tapes: &[ScriptTape],
+) -> Result<Core, Fault>
+    requires quiet { is_quiet device ≡ true }
+    requires some { 1 ≤ length programs.items }
+    requires few { length programs.items ≤ 8 }
+    requires terminals { AllByRecursion (λ p. p.terminal < 8) programs.items }
+{
+    let tapes = tapes_of(alloc, tapes)?;
+    Ok(Core::boot(alloc, device, programs, tapes)?)
+}
+
+/// A program of a script, kept, and to be booted once.
+fn read_program<R: Files + AllocGlobal>(
+    rt: &R,
+    program: ScriptProgram,
+) -> Result<(Bootable, Program), Fault>
+    ensures { IfOk result (λ read. read.1.terminal < 8) }
+{
+    let kept = Bootable {
+        terminal: program.terminal,
+        code: Code::read(rt, program.source)?,
+    };
+    let booted = kept.program(rt.alloc())?;
+    Ok((kept, booted))
 }
 
 /// The programs of a script, kept, and to be booted once.
@@ -110,11 +139,8 @@ fn read_programs<R: Files + AllocGlobal>(
     let mut kept = Vec::new(rt.alloc());
     let mut booted = Vec::new(rt.alloc());
     for program in programs {
-        let bootable = Bootable {
-            terminal: program.terminal,
-            code: Code::read(rt, program.source)?,
-        };
-        booted.push(bootable.program(rt.alloc())?)?;
+        let (bootable, program) = read_program(rt, program)?;
+        booted.push(program)?;
         kept.push(bootable)?;
     }
     Ok((kept, booted))
@@ -132,17 +158,21 @@ fn programs_of(alloc: Global, programs: &[Bootable]) -> Result<Vec<Program>, Fau
     Ok(booted)
 }
 
+/// The tape of this number that a script gives, or an empty one.
+fn tape_of(alloc: Global, tapes: &[ScriptTape], number: u32) -> Result<Bytes, AllocError> {
+    match tapes.iter().find(|tape| tape.number == number) {
+        Some(tape) => tape.bytes.try_clone(alloc),
+        None => Ok(Bytes::empty(alloc)),
+    }
+}
+
 /// The eight tapes of a boot, by their numbers: those that a script gives, the others empty.
 fn tapes_of(alloc: Global, tapes: &[ScriptTape]) -> Result<Vec<Bytes>, Fault>
     ensures { IfOk result (λ booted. length booted.items ≡ 8) }
 {
     let mut booted = Vec::new(alloc);
     for number in 0..TAPES as u32 {
-        let given = tapes.iter().find(|tape| tape.number == number);
-        booted.push(match given {
-            Some(tape) => tape.bytes.try_clone(alloc)?,
-            None => Bytes::empty(alloc),
-        })?;
+        booted.push(tape_of(alloc, tapes, number)?)?;
     }
     Ok(booted)
 }

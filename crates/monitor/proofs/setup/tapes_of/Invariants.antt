@@ -3,4 +3,4 @@ use Rattle.std.proofs.Common.{◌≡◌, length}
 use Rattle.monitor.proofs.setup.tapes_of.Given as goal
 
 abbrev pub invariant-loop-number : goal.invariant-loop-number
-invariant-loop-number l = length l.booted.items ≡ l.number-counter
+invariant-loop-number l = length l.booted.items ≡ l.number

@@ -3,4 +3,4 @@ use Rattle.std.proofs.Common.{◌≤◌, vec_len}
 use Rattle.monitor.proofs.script.Script.parse.Given as goal
 
 abbrev pub invariant-loop-text : goal.invariant-loop-text
-invariant-loop-text l = vec_len l.programs ≤ 8
+invariant-loop-text l = vec_len l.script.programs ≤ 8
