@@ -42,9 +42,9 @@
 //! - `bytes AT N`: N bytes from this place on, in HEX; `zeros AT N`: whether they are zeros.
 use crate::changers::Changer;
 use crate::cores::{Source, TestCore, recover};
-use crate::plain_files::{PlainFile, has};
+use crate::plain_files::has;
 use anyhow::{Error, bail};
-use bursts::{Done, Rejected};
+use bursts::Done;
 use files::part_of;
 use kernel::{Event, SimDisk};
 use simdisk::DiskRefusal;
@@ -112,17 +112,11 @@ fn last_events(core: &TestCore, count: usize) -> &[Event] {
     &history[history.len().saturating_sub(count)..]
 }
 
-/// What a line of events comes to.
-fn run_script(alloc: Global, core: &mut TestCore, command: &str) -> Result<String, Error> {
-    let events = events_of(alloc, command)?;
-    text(alloc, core.run_script(&events))
-}
-
 /// What a line comes to by which a core runs.
 fn run(alloc: Global, core: &mut TestCore, command: &str, words: &[&str]) -> Result<String, Error> {
     let first = number(words, 1);
     match word(words, 0) {
-        "script" => run_script(alloc, core, command),
+        "script" => text(alloc, core.run_script(&events_of(alloc, command)?)),
         "drain" => text(alloc, core.drain()),
         "until" => text(alloc, core.change_up_to(u64::from(first))),
         "commit" => text(alloc, core.commit(u64::from(first))),
@@ -168,26 +162,11 @@ fn disk_with(alloc: Global, selector: u8, at: u32, bytes: &[u8]) -> Result<SimDi
     Ok(device)
 }
 
-/// Why a result was refused, and what is given back of it.
-fn rejection(alloc: Global, rejected: &Rejected) -> Result<String, Error> {
-    let done = &rejected.done;
-    text(alloc, (rejected.why, done.pid, done.number, done.count))
-}
-
 /// The result of a loan, and its name.
 #[derive(Drop)]
 struct Kept {
     name: String,
     done: Done,
-}
-
-/// Whether this is what is wanted of a line; where it is not, it is written what the line comes to.
-fn is_wanted<R: Eprint>(rt: &R, command: &str, wanted: &str, answer: &str) -> Result<bool, Error> {
-    if answer == wanted {
-        return Ok(true);
-    }
-    eprintln!(rt; "{command} => {wanted}\nit comes to: {answer}")?;
-    Ok(false)
 }
 
 /// A case as far as it has run.
@@ -273,18 +252,13 @@ impl Case {
 
     /// A loan, whose result goes by this name. Answers its process, if one was lent.
     fn lend(&mut self, quantum: u32, name: &str) -> Result<Option<u32>, Error> {
-        match self.core()?.burst(quantum)? {
-            Some(done) => Ok(Some(self.keep(name, done)?)),
-            None => Ok(None),
-        }
-    }
-
-    /// Keeps the result of a loan by this name. Answers its process.
-    fn keep(&mut self, name: &str, done: Done) -> Result<u32, Error> {
+        let Some(done) = self.core()?.burst(quantum)? else {
+            return Ok(None);
+        };
         let pid = done.pid;
         let name = String::from_str(self.alloc, name)?;
         self.results.push(Kept { name, done })?;
-        Ok(pid)
+        Ok(Some(pid))
     }
 
     /// The result of this name, which is gone then.
@@ -303,7 +277,10 @@ impl Case {
         let done = self.result(name)?;
         match self.core()?.settle(done) {
             Ok(answer) => text(alloc, answer),
-            Err(rejected) => rejection(alloc, &rejected),
+            Err(rejected) => {
+                let done = &rejected.done;
+                text(alloc, (rejected.why, done.pid, done.number, done.count))
+            }
         }
     }
 
@@ -323,18 +300,13 @@ impl Case {
         }
     }
 
-    /// Whether a core that is booted on the disk finds these files.
-    fn finds(&self, files: &[PlainFile]) -> Result<bool, Error> {
-        let core = TestCore::boot(self.alloc, &self.sources, &self.tapes, &self.device)?;
-        Ok(has(core.boot_files(), files))
-    }
-
     /// Whether the disk holds the files that a program leaves after so many changes, and a core that is booted on it finds
     /// them.
     fn holds(&self, name: &str, changes: u32) -> Result<bool, Error> {
         let files = Changer::of(name).files_after(self.alloc, changes)?;
-        let held = has(&recover(self.alloc, &self.device)?, &files);
-        Ok(self.finds(&files)? && held)
+        let found = recover(self.alloc, &self.device)?;
+        let next = TestCore::boot(self.alloc, &self.sources, &self.tapes, &self.device)?;
+        Ok(has(&found, &files) && has(next.boot_files(), &files))
     }
 
     /// So many bytes of the disk, from this place on.
@@ -393,7 +365,11 @@ impl Case {
     ) -> Result<bool, Error> {
         let words: Vec<&str> = command.split_whitespace().collect(self.alloc)?;
         let answer = self.answer(rt, command, &words)?;
-        is_wanted(rt, command, wanted, answer.as_str())
+        let same = answer.as_str() == wanted;
+        if !same {
+            eprintln!(rt; "{command} => {wanted}\nit comes to: {answer}")?;
+        }
+        Ok(same)
     }
 }
 

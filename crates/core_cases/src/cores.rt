@@ -1,5 +1,5 @@
 //! Cores of the programs and tapes that a case gives.
-ghost use Rattle.std.specs.Prelude.{◌≡◌, ◌≤◌, ◌<◌, IfOk, length};
+ghost use Rattle.std.specs.Prelude.{◌≡◌, ◌<◌, IfOk, length};
 ghost use Rattle.std.specs.List.{AllByRecursion};
 
 use anyhow::{Error, bail};
@@ -73,24 +73,9 @@ impl TestCore {
         if sources.is_empty() || sources.len() > 8 || tapes.len() > 8 {
             bail!("a core has one to eight programs, and at most eight tapes");
         }
-        let programs = programs_of(alloc, sources)?;
-        TestCore::boot_on(alloc, device, programs, tapes_of(alloc, tapes)?)
-    }
-
-    /// The boot of these programs and tapes, to which they go, on the completed bytes of a disk.
-    fn boot_on(
-        alloc: Global,
-        device: &SimDisk,
-        programs: Vec<Program>,
-        tapes: Vec<Bytes>,
-    ) -> Result<Result<TestCore, BootFault>, Error>
-        requires some { 1 ≤ length programs.items }
-        requires few { length programs.items ≤ 8 }
-        requires terminals { AllByRecursion (λ p. p.terminal < 8) programs.items }
-        requires few_tapes { length tapes.items ≤ 8 }
-    {
         let device = SimDisk::open(alloc, device.bytes())?;
-        let booted = Core::boot(alloc, device, programs, tapes);
+        let programs = programs_of(alloc, sources)?;
+        let booted = Core::boot(alloc, device, programs, tapes_of(alloc, tapes)?);
         Ok(booted.map(|core| TestCore { core }))
     }
 

@@ -31,51 +31,27 @@ struct Origin<'a> {
     group: u32,
 }
 
-/// How far a run came: how many writes commit the group that it cut, and after how many changes, at least and at most, a
-/// crash leaves the files.
-#[derive(Clone, Copy)]
-struct Reached {
-    writes: u64,
-    least: u32,
-    most: u32,
-}
-
 impl Origin<'_> {
-    /// A core commits all groups before this one, cuts it, and does so many completions of its writes.
-    fn run(&self, core: &mut TestCore, group: u32, completed: u64) -> Result<Reached, Error> {
+    /// A core that has committed all groups before this one and has cut it, and how many writes commit it.
+    fn cut(&self, alloc: Global, group: u32) -> Result<(TestCore, u64), Error> {
+        let mut core = TestCore::boot(alloc, self.sources, self.tapes, self.device)?;
         for before in self.group..group {
             core.round(size_of(before))?;
         }
         let writes = core.cut_after(size_of(group))?;
-        core.commit(completed)?;
-        let before = changes_before(self.group);
-        Ok(Reached {
-            writes,
-            least: before.saturating_add(u32::try_from(core.committed())?),
-            most: before.saturating_add(u32::try_from(core.changes())?),
-        })
-    }
-
-    /// The disk that a crash with this fill leaves after such a run, and how far the run came.
-    fn crash(
-        &self,
-        alloc: Global,
-        group: u32,
-        completed: u64,
-        fill: &[u8],
-    ) -> Result<(SimDisk, Reached), Error> {
-        let mut core = TestCore::boot(alloc, self.sources, self.tapes, self.device)?;
-        let reached = self.run(&mut core, group, completed)?;
-        Ok((core.halt(fill), reached))
+        Ok((core, writes))
     }
 }
 
-/// Refused where a crash with this fill left other files than after any number of changes from the least to the most.
-fn check_left(alloc: Global, left: &SimDisk, reached: Reached, fill: &[u8]) -> Result<(), Error> {
-    let least = reached.least;
-    let most = reached.most;
-    if Changer::Writer.leaves(alloc, &recover(alloc, left)?, least, most)? {
-        Ok(())
+/// The disk that a crash of this core with this fill leaves, where the files are right. There were so many changes before
+/// its run.
+fn crash(alloc: Global, core: TestCore, before: u32, fill: &[u8]) -> Result<SimDisk, Error> {
+    let least = before.saturating_add(u32::try_from(core.committed())?);
+    let most = before.saturating_add(u32::try_from(core.changes())?);
+    let left = core.halt(fill);
+    let found = recover(alloc, &left)?;
+    if Changer::Writer.leaves(alloc, &found, least, most)? {
+        Ok(left)
     } else {
         bail!(
             "a crash with the fill {fill:?} leaves other files than after {least} to {most} changes"
@@ -92,9 +68,10 @@ fn crash_group(
     fill: &[u8],
 ) -> Result<SimDisk, Error> {
     for completed in 0..100 {
-        let (left, reached) = origin.crash(alloc, group, completed, fill)?;
-        check_left(alloc, &left, reached, fill)?;
-        if completed == reached.writes {
+        let (mut core, writes) = origin.cut(alloc, group)?;
+        core.commit(completed)?;
+        let left = crash(alloc, core, changes_before(origin.group), fill)?;
+        if completed == writes {
             return Ok(left);
         }
     }
