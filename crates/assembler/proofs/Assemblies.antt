@@ -1,6 +1,6 @@
 -- From the passes to the image and listing of a source, or its first fault.
 use Rattle.std.proofs.Common.{◌≡◌, ◌≢◌, ℕ, ◌+◌, ◌*◌, ◌≤◌, List, [], ◌∷◌, length, Result, Ok, Err, refl, subst, arith}
-use Rattle.elf32.specs.Images.{Program, bytes_of_words}
+use Rattle.machine_model.specs.Images.{Program, bytes_of_words}
 use Rattle.asm_text.specs.Text.{IsText}
 use Rattle.asm_text.specs.declared.token.Line.{Line}
 use Rattle.assembler.specs.Steps.{and_then}

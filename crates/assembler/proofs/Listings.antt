@@ -5,7 +5,7 @@ use Rattle.std.specs.Option.{ok_or}
 use Rattle.std.proofs.lemmas.Bool.Decides.{nat_tests}
 use Rattle.std.proofs.lemmas.List.{append-nil}
 use Rattle.std.proofs.lemmas.List.Elements.{All-nil, All-cons, All-head, All-tail, All-append, All-replicate, All-weaker}
-use Rattle.elf32.specs.Images.{Program}
+use Rattle.machine_model.specs.Images.{Program}
 use Rattle.asm_text.specs.Tokens.{Leads}
 use Rattle.asm_text.specs.Text.{LineStart, source_start, IsNextLine, IsText}
 use Rattle.asm_text.specs.declared.token.Token.{Token}

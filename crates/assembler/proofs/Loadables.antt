@@ -3,7 +3,7 @@ use Rattle.std.proofs.Common.{ℕ, ◌≡◌, ◌+◌, ◌*◌, ◌<◌, ◌≤�
 use Rattle.std.specs.Prelude.{if◌then◌else◌, codes}
 use Rattle.std.specs.FinMap.{get}
 use Rattle.std.proofs.lemmas.Bool.Decides.{nat_tests}
-use Rattle.elf32.specs.Images.{Program, IsProfile, bytes_of_words}
+use Rattle.machine_model.specs.Images.{Program, IsProfile, bytes_of_words}
 use Rattle.asm_text.specs.declared.token.Line.{Line}
 use Rattle.assembler.specs.Faults.{whole}
 use Rattle.assembler.specs.Layout.{start_layout, all_placed}

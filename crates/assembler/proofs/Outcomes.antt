@@ -1,7 +1,7 @@
 -- A source has one outcome.
 use Rattle.std.proofs.Common.{ℕ, ◌≡◌, ◌<◌, ◌≤◌, List, length, Result, Ok, Err, ◌⊎◌, inl, inr, ⊎_elim, Bool, true, false, nat_lt, refl, sym, ap, ◌∙◌, subst, arith}
 use Rattle.std.proofs.lemmas.Bool.Decides.{nat_tests}
-use Rattle.elf32.specs.Images.{Program}
+use Rattle.machine_model.specs.Images.{Program}
 use Rattle.asm_text.specs.Text.{IsText, FirstFault}
 use Rattle.asm_text.specs.declared.token.Line.{Line}
 use Rattle.assembler.specs.Faults.{whole}

@@ -5,8 +5,8 @@ use Rattle.std.specs.Int.{to_le_bytes, w32}
 use Rattle.std.proofs.lemmas.List.{length-append}
 use Rattle.std.proofs.lemmas.List.Elements.{All-cons}
 use Rattle.machine_model.specs.Access.{low_bytes}
-use Rattle.elf32.specs.declared.image.Segment.{Segment}
-use Rattle.elf32.specs.Images.{IsLoadable, IsProfile, bytes_of_words}
+use Rattle.machine_model.specs.declared.image.Segment.{Segment}
+use Rattle.machine_model.specs.Images.{IsLoadable, IsProfile, bytes_of_words}
 use Rattle.assembler.specs.Assembly.{pages, data_base, words_of, text_segment, data_segment, data_segments}
 use Rattle.assembler.specs.declared.filling.Cell.{Cell}
 

@@ -5,7 +5,7 @@ use Rattle.std.specs.Option.{ok_or}
 use Rattle.std.proofs.lemmas.Bool.Decides.{nat_tests}
 use Rattle.std.proofs.lemmas.List.{append-nil}
 use Rattle.machine_model.specs.Access.{low_bytes}
-use Rattle.elf32.specs.Images.{bytes_of_words}
+use Rattle.machine_model.specs.Images.{bytes_of_words}
 use Rattle.asm_text.specs.declared.token.Line.{Line}
 use Rattle.assembler.specs.Steps.{and_then}
 use Rattle.assembler.specs.Encoding.{word_of}

@@ -7,7 +7,7 @@ use Rattle.formats.specs.Fields.{field, rd_of, rs1_of, rs2_of, immediate_u, imme
 use Rattle.formats.specs.Meaning.{Means, IsU, IsI, IsS, IsB, IsShift, IsR}
 use Rattle.formats.specs.declared.instr.Instr.{Instr}
 use Rattle.formats.specs.declared.instr.Instr.TheVariants as instr
-use Rattle.elf32.specs.Images.{Program}
+use Rattle.machine_model.specs.Images.{Program}
 use Rattle.asm_text.specs.declared.token.Line.{Line}
 use Rattle.assembler.specs.Encoding.{fields_word, complement, r_word, shift_word, i_word, s_word, b_word, u_word, j_word, word_of}
 use Rattle.assembler.specs.Expansion.{expansion_of, modulo_word}

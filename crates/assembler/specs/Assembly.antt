@@ -1,8 +1,8 @@
 -- The image and the listing of a source, or its first fault.
 use Rattle.std.specs.Prelude.{◌≡◌, ℕ, ◌+◌, ◌*◌, ◌/◌, ◌%◌, ◌≤◌, ◌<◌, ◌&&◌, true, false, not, nat_lt, if◌then◌else◌, List, [], ◌∷◌, length, codes, Option, Some, None, Result, Ok, Err}
 use Rattle.std.specs.FinMap.{get}
-use Rattle.elf32.specs.Images.{Program, bytes_of_words}
-use Rattle.elf32.specs.declared.image.Segment.{Segment}
+use Rattle.machine_model.specs.Images.{Program, bytes_of_words}
+use Rattle.machine_model.specs.declared.image.Segment.{Segment}
 use Rattle.asm_text.specs.Text.{IsText, FirstFault}
 use Rattle.asm_text.specs.declared.token.Line.{Line}
 use Rattle.assembler.specs.Steps.{and_then}

@@ -3,7 +3,7 @@ use Rattle.std.specs.Prelude.{◌≡◌, ℕ, pos, ◌+ℤ◌, ◌*◌, ◌%◌,
 use Rattle.formats.specs.Meaning.{Means}
 use Rattle.formats.specs.declared.instr.Instr.{Instr}
 use Rattle.formats.specs.declared.instr.Instr.TheVariants.{Fence}
-use Rattle.elf32.specs.Images.{Program}
+use Rattle.machine_model.specs.Images.{Program}
 use Rattle.assembler.specs.Encoding.{word_of}
 use Rattle.assembler.specs.Expansion.{modulo_word, low_part, high_part}
 use Rattle.assembler.specs.Assembly.{Assembles, FaultOf}

@@ -1,8 +1,8 @@
 -- What a listing tells of its image.
 use Rattle.std.specs.Prelude.{◌≡◌, ℕ, ◌+◌, List, [], ◌∷◌, ◌++◌}
 use Rattle.machine_model.specs.Access.{low_bytes}
-use Rattle.elf32.specs.Images.{Program}
-use Rattle.elf32.specs.declared.image.Segment.{Segment}
+use Rattle.machine_model.specs.Images.{Program}
+use Rattle.machine_model.specs.declared.image.Segment.{Segment}
 use Rattle.assembler.specs.declared.listing.Row.{Row}
 
 -- bytes at an address are the listed words, one after the other, each at its own address

@@ -1,6 +1,6 @@
 -- What the sections of a source hold, line by line, and where its labels stand.
 use Rattle.std.specs.Prelude.{◌≡◌, ℕ, ℤ, pos, ◌+◌, ◌*◌, Bool, true, false, if◌then◌else◌, List, [], ◌∷◌, ◌++◌, length, map, replicate, Option, Some, Ok}
-use Rattle.elf32.specs.Images.{Program, bytes_of_words}
+use Rattle.machine_model.specs.Images.{Program, bytes_of_words}
 use Rattle.asm_text.specs.Text.{IsText}
 use Rattle.asm_text.specs.declared.token.Token.{Token}
 use Rattle.asm_text.specs.declared.token.Line.{Line}

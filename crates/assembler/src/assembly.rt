@@ -1,6 +1,6 @@
 //! From a source to its image and listing.
 ghost use Rattle.std.specs.Prelude.{◌≡◌, ◌≢◌, ◌∷◌, ◌≤◌, ◌+◌, ◌*◌, Ok, Err, IfOk, IfErr, OnOk, length};
-ghost use Rattle.elf32.specs.Images.{bytes_of_words};
+ghost use Rattle.machine_model.specs.Images.{bytes_of_words};
 ghost use Rattle.assembler.specs.Faults.{out_of_memory};
 ghost use Rattle.assembler.specs.Assembly.{pages, data_base, IsTextAddress, start_at, entry_of, words_of, image_of, text_segment, data_segment, data_segments, assembly, Assembles, FaultOf};
 ghost use Rattle.assembler.specs.Filling.{shown};
@@ -14,8 +14,7 @@ use crate::layout::{Layout, lay_out};
 use crate::listing::{Listing, list_cells};
 use asm_text::{Line, lines, one_reading};
 use byte_list::Bytes;
-use elf32::{Image, Segment};
-use machine_model::Rights;
+use machine_model::{Image, Rights, Segment};
 use std::alloc::{AllocError, Global};
 
 /// The longest source, in bytes.

@@ -1,6 +1,6 @@
 //! What the definitions say of every source.
 ghost use Rattle.std.specs.Prelude.{ℕ, ◌<◌, ◌^◌, List, All};
-ghost use Rattle.elf32.specs.Images.{Program, IsProfile};
+ghost use Rattle.machine_model.specs.Images.{Program, IsProfile};
 ghost use Rattle.assembler.specs.Assembly.{Assembles};
 ghost use Rattle.assembler.specs.Listed.{IsListedIn};
 ghost use Rattle.assembler.specs.Instructions.{ListsInstructions};

@@ -8,3 +8,4 @@ pub mod Seeing
 pub mod Stepping
 pub mod Sound
 pub mod Planned
+pub mod Calling

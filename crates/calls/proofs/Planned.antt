@@ -17,28 +17,14 @@ use Rattle.kernel_model.specs.declared.request.Request.{Request}
 use Rattle.kernel_model.specs.declared.request.Verdict.{Verdict}
 use Rattle.kernel_model.specs.declared.request.Verdict.TheVariants.{Waits, Replies, Ends}
 use Rattle.calls.specs.declared.plan.Plan.{Plan}
-use Rattle.calls.specs.Plans.{IsPlan, IsPossible, CarriesBytes, MayAllStep, OpensAlone, EditsPipesAlone, EditsAs}
+use Rattle.calls.specs.Plans.{IsPlan, effect_of, IsPossible, CarriesBytes, MayAllStep, OpensAlone, EditsPipesAlone, EditsAs}
 use Rattle.calls.specs.Shares.{shared_of}
 use Rattle.pipes.specs.Seen.{Seen}
 use Rattle.calls.proofs.Stepping.{drops-may, drops-open-none}
 use Rattle.calls.proofs.Sound.{Kept, IsFine, EditsLittle, EditsWhere, IsSound, row-sound}
 
--- the effect of which a plan speaks
-abbrev pub effect_of : Plan → Effect
-effect_of plan = record {
-  verdict = plan.verdict;
-  reads = plan.reads.items;
-  writes = plan.writes.items;
-  change = plan.change;
-  output = plan.output;
-  tape = plan.tape;
-  pipes = plan.pipes.items;
-  slots = plan.slots.items;
-  child = plan.child;
-  collects = plan.collects;
-}
-
-is-effect : (plan : Plan) (e : Effect) → IsPlan plan e → e ≡ effect_of plan
+-- the row is what the plan says
+pub is-effect : (plan : Plan) (e : Effect) → IsPlan plan e → e ≡ effect_of plan
 is-effect plan e is =
     let e1 : Effect = record e { verdict = plan.verdict } in
     let e2 : Effect = record e1 { reads = plan.reads.items } in
@@ -76,15 +62,10 @@ pub if_planned : (r : Result Plan AllocError) (P Q : Plan → Type 0) → ((plan
 if_planned (Err why) P Q more h = tt
 if_planned (Ok plan) P Q more h = more plan h
 
-both_planned : (files : List NamedFile) (c : Option Change) → IfSome c (λ x. CarriesBytes x → IsPossible files x) → IfSome c CarriesBytes → IfSome c (IsPossible files)
+-- a change that carries bytes is possible
+pub both_planned : (files : List NamedFile) (c : Option Change) → IfSome c (λ x. CarriesBytes x → IsPossible files x) → IfSome c CarriesBytes → IfSome c (IsPossible files)
 both_planned files None h bytes = tt
 both_planned files (Some c) h bytes = h bytes
-
--- a change that carries bytes is possible
-pub carried : (r : Result Plan AllocError) (k : Kept) (asked : Request) → IfOk r (λ plan. IsSound k asked (effect_of plan))
-    → IfOk r (λ plan. IfSome plan.change CarriesBytes) → IfOk r (λ plan. IfSome plan.change (IsPossible k.files))
-carried (Err why) k asked sound bytes = tt
-carried (Ok plan) k asked sound bytes = both_planned k.files plan.change sound.possible bytes
 
 alone : (plan : Plan) → EditsLittle (effect_of plan) → EditsPipesAlone plan
 alone plan h = record { change = h.change; output = h.output; tape = h.tape; slots = h.slots; child = h.child; collects = h.collects }

@@ -4,3 +4,4 @@ pub mod Wholes
 pub mod Places
 pub mod Shares
 pub mod Plans
+pub mod Sights

@@ -1,18 +1,13 @@
 //! What a call comes to, before anything is changed: the table of calls.
-ghost use Rattle.std.specs.Prelude.{◌≡◌, ◌++◌, ◌∷◌, [], ◌≤◌, ◌<◌, ◌+◌, ◌^◌, ℕ, length, Some, IfOk, IfSome};
+ghost use Rattle.std.specs.Prelude.{◌≡◌, ◌++◌, ◌∷◌, [], ◌≤◌, ◌<◌, length, Some, IfOk, IfSome};
 ghost use Rattle.std.specs.List.{AllByRecursion};
 ghost use Rattle.disk_model.specs.declared.change.NamedFile.{NamedFile};
-ghost use Rattle.machine_model.specs.States.{State};
-ghost use Rattle.kernel_model.specs.Requests.{request_of};
-ghost use Rattle.kernel_model.specs.Rows.{row, only, number, failure};
-ghost use Rattle.kernel_model.specs.State.{Shared, changed_by};
-ghost use Rattle.kernel_model.specs.Steps.{set_slots};
-ghost use Rattle.pipes.specs.Stepping.{HasAtMost};
-ghost use Rattle.processes.specs.Parts.{part_at, descriptors_in, children_in, statuses_of};
+ghost use Rattle.kernel_model.specs.Rows.{only, number, failure};
+ghost use Rattle.processes.specs.Parts.{part_at, descriptors_in};
 ghost use Rattle.calls.specs.Errors.{code_of};
-ghost use Rattle.calls.specs.Shares.{shared_of, IsKept};
+ghost use Rattle.calls.specs.Plans.{IsPlan, effect_of, CarriesBytes};
+ghost use Rattle.calls.specs.Sights.{sight_of, row_seen, MayAsk, PlansCall};
 ghost use Rattle.calls.specs.Wholes.{IsWhole};
-ghost use Rattle.calls.specs.Plans.{IsPlan, effect_of, IsPossible, CarriesBytes, NamesFiles, MayAllStep, IsNext, AreLeft, AtMostOneEntry, OpensAlone, EditsAs, MayBePlaced};
 
 use crate::ends::{close, exit};
 use crate::errno::Errno;
@@ -21,14 +16,12 @@ use crate::open::open;
 use crate::pipe::pipe;
 use crate::read::{Place, read};
 use crate::seek::seek;
-use crate::tapes::TapeTable;
+use crate::tables::Tables;
 use crate::verdict::number;
 use crate::wait::wait;
 use crate::write::write;
 use disk_model::Change;
-use files::FileTable;
 use kernel_model::{Carrier, Descriptor, Output, PipeStep, Request, Slot, TapeRead, Verdict};
-use pipes::PipeTable;
 use processes::{Descriptors, ProcTable};
 use std::alloc::{AllocError, Global};
 
@@ -162,41 +155,40 @@ fn descriptors_of(processes: &ProcTable, pid: u32) -> &Descriptors
 /// The row of a request.
 fn plan_row(
     alloc: Global,
-    files: &FileTable,
-    pipes: &PipeTable,
-    tapes: &TapeTable,
-    processes: &ProcTable,
+    tables: &Tables,
     pid: u32,
     descriptors: &Descriptors,
     request: Request,
 ) -> Result<Plan, AllocError>
-    requires few { length files.now ≤ 32 }
-    requires short { AllByRecursion (λ (f : NamedFile). length f.bytes ≤ 16384) files.now }
+    requires few { length tables.now.files.now ≤ 32 }
+    requires short { AllByRecursion (λ (f : NamedFile). length f.bytes ≤ 16384) tables.now.files.now }
     requires whole { IsWhole request }
-    ensures row { IfOk result (λ plan. IsPlan plan
-        (row (shared_of (statuses_of processes.now.parts) files.now pipes.now tapes.now) pid descriptors.now
-        (children_in (part_at processes.now.parts pid)) request)) }
+    ensures row { IfOk result (λ plan. IsPlan plan (row_seen (sight_of tables.now) pid descriptors.now request)) }
     ensures carries { IfOk result (λ plan. IfSome plan.change CarriesBytes) }
 {
     match request {
         Request::Exit { status } => exit(alloc, descriptors, status),
-        Request::Write { fd, n, bytes } => write(alloc, pipes, descriptors, fd, n, bytes),
+        Request::Write { fd, n, bytes } => {
+            write(alloc, tables.pipes, descriptors, fd, n, bytes)
+        }
         Request::Read { fd, at, n, fits } => {
             read(
                 alloc,
-                files,
-                pipes,
-                tapes,
+                tables.files,
+                tables.pipes,
+                tables.tapes,
                 descriptors,
                 fd,
                 Place { at, n, fits },
             )
         }
-        Request::Open { n, mode, name } => open(alloc, files, descriptors, n, mode, name),
+        Request::Open { n, mode, name } => {
+            open(alloc, tables.files, descriptors, n, mode, name)
+        }
         Request::Close { fd } => close(alloc, descriptors, fd),
-        Request::Pipe { at, fits } => pipe(alloc, pipes, descriptors, at, fits),
-        Request::Fork => fork(alloc, processes, descriptors),
-        Request::Wait { at, fits } => wait(alloc, processes, pid, at, fits),
+        Request::Pipe { at, fits } => pipe(alloc, tables.pipes, descriptors, at, fits),
+        Request::Fork => fork(alloc, tables.processes, descriptors),
+        Request::Wait { at, fits } => wait(alloc, tables.processes, pid, at, fits),
         Request::GetPid => Ok(Plan::number(alloc, pid)),
         Request::Seek { fd, offset } => seek(alloc, descriptors, fd, offset),
         Request::Sync => Ok(Plan::number(alloc, 0)),
@@ -209,46 +201,13 @@ fn plan_row(
 /// memory alone.
 pub fn plan_call(
     alloc: Global,
-    files: &FileTable,
-    pipes: &PipeTable,
-    tapes: &TapeTable,
-    processes: &ProcTable,
+    tables: &Tables,
     pid: u32,
     request: Request,
 ) -> Result<Plan, AllocError>
-    requires from_1 { 0 < pid }
-    requires there { pid ≤ length processes.now.parts }
-    requires few { length files.now ≤ 32 }
-    requires short { AllByRecursion (λ (f : NamedFile). length f.bytes ≤ 16384) files.now }
-    requires whole { IsWhole request }
-    requires named { NamesFiles (length files.now) (descriptors_in (part_at processes.now.parts pid)) }
-    ensures row { (s : Shared) → IsKept s (statuses_of processes.now.parts) files.now pipes.now tapes.now
-        → IfOk result (λ plan. IsPlan plan (row s pid (descriptors_in (part_at processes.now.parts pid))
-        (children_in (part_at processes.now.parts pid)) request)) }
-    ensures one_entry { IfOk result (λ plan. AtMostOneEntry plan.slots.items plan.child plan.collects) }
-    ensures opens { IfOk result (λ plan. OpensAlone plan.pipes.items) }
-    ensures few { IfOk result (λ plan. length plan.pipes.items ≤ 16) }
-    ensures edits { IfOk result (λ plan. EditsAs plan.verdict plan) }
-    ensures possible { IfOk result (λ plan. IfSome plan.change (IsPossible files.now)) }
-    ensures named { IfOk result (λ plan. NamesFiles (length (changed_by files.now plan.change))
-        (set_slots (descriptors_in (part_at processes.now.parts pid)) plan.slots.items)) }
-    ensures left { IfOk result (λ plan. IfSome plan.tape (AreLeft tapes.now)) }
-    ensures steps { (s : Shared) (n : ℕ) → IsKept s (statuses_of processes.now.parts) files.now pipes.now tapes.now
-        → AllByRecursion (HasAtMost n) s.pipes → n + 16 < 2 ^ 64
-        → IfOk result (λ plan. MayAllStep pipes.now plan.pipes.items) }
-    ensures child { IfOk result (λ plan. IfSome plan.child (IsNext (length processes.now.parts))) }
-    ensures place { IfOk result
-        (λ plan. (s : State) → request ≡ request_of s → MayBePlaced s.hart.memory plan.verdict) }
+    requires { MayAsk (sight_of tables.now) pid request }
+    ensures { IfOk result (λ plan. PlansCall (sight_of tables.now) pid request plan) }
 {
-    let descriptors = descriptors_of(processes, pid);
-    plan_row(
-        alloc,
-        files,
-        pipes,
-        tapes,
-        processes,
-        pid,
-        descriptors,
-        request,
-    )
+    let descriptors = descriptors_of(tables.processes, pid);
+    plan_row(alloc, tables, pid, descriptors, request)
 }

@@ -5,8 +5,8 @@ use Rattle.machine_model.specs.Access.{low_bytes}
 use Rattle.machine_model.specs.declared.access.Rights.{Rights}
 use Rattle.elf32.specs.declared.header.FileHeader.{FileHeader}
 use Rattle.elf32.specs.declared.header.ProgramHeader.{ProgramHeader}
-use Rattle.elf32.specs.declared.image.Segment.{Segment}
-use Rattle.elf32.specs.Images.{IsLoadable}
+use Rattle.machine_model.specs.declared.image.Segment.{Segment}
+use Rattle.machine_model.specs.Images.{IsLoadable}
 use Rattle.elf32.specs.Fields.{number_at, half_at, word_at, file_header, program_header, headers_in}
 use Rattle.elf32.specs.Files.{AreNear, file_header_of, flags_of, program_header_of, offset_after, end_after, table_after}
 

@@ -10,8 +10,8 @@ use Rattle.elf32.specs.declared.fault.ElfFault.{ElfFault}
 use Rattle.elf32.specs.declared.fault.ElfFault.TheVariants.{OutOfMemory}
 use Rattle.elf32.specs.Fields.{file_header, headers_in, program_headers}
 use Rattle.elf32.specs.Checks.{has_bad_table, has_sections, has_bad_layout, is_past_end, first_of, header_checks, segment_checks, first_fault}
-use Rattle.elf32.specs.declared.image.Segment.{Segment}
-use Rattle.elf32.specs.Images.{Program, IsProfile}
+use Rattle.machine_model.specs.declared.image.Segment.{Segment}
+use Rattle.machine_model.specs.Images.{Program, IsProfile}
 use Rattle.elf32.specs.Names.{segment_in, program_in, Names, IsRefused}
 use Rattle.elf32.proofs.Profile.{profile}
 use Rattle.elf32.proofs.Passing.{none_at, first_of-some, first_of-none}

@@ -1,5 +1,5 @@
 -- The lemmas.
-pub mod Words
+pub mod Halves
 pub mod Numbers
 pub mod Headers
 pub mod Passing

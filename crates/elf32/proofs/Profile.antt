@@ -7,9 +7,9 @@ use Rattle.std.proofs.lemmas.List.{length-map, length-take}
 use Rattle.std.proofs.lemmas.List.Sums.{sum_by-cons}
 use Rattle.std.proofs.lemmas.List.Elements.{All-from_recursion}
 use Rattle.elf32.specs.declared.header.ProgramHeader.{ProgramHeader}
-use Rattle.elf32.specs.declared.image.Segment.{Segment}
+use Rattle.machine_model.specs.declared.image.Segment.{Segment}
 use Rattle.elf32.specs.declared.fault.ElfFault.TheVariants.{BadSegment, BadSize, PastEnd, BadRange, Overlap, BadEntry}
-use Rattle.elf32.specs.Images.{IsLoadable, IsProfile, AreAscending, IsCode, page_count}
+use Rattle.machine_model.specs.Images.{IsLoadable, IsProfile, AreAscending, IsCode, page_count}
 use Rattle.elf32.specs.Checks.{may_read, may_write, may_execute, is_not_loaded, has_bad_flags, is_misplaced, is_bad_segment, has_bad_size, is_past_end, first_page_of, last_page_of, page_count_of, is_out_of_range, has_bad_range, meets_next, has_overlap, is_code_at, is_bad_entry, first_of, segment_checks}
 use Rattle.elf32.specs.Names.{segment_in}
 use Rattle.elf32.proofs.Passing.{none_passes, six_pass}

@@ -6,9 +6,9 @@ use Rattle.std.proofs.lemmas.List.{append_assoc, length-append, length-replicate
 use Rattle.std.proofs.lemmas.List.Elements.{recursion_from_All}
 use Rattle.elf32.specs.declared.header.FileHeader.{FileHeader}
 use Rattle.elf32.specs.declared.header.ProgramHeader.{ProgramHeader}
-use Rattle.elf32.specs.declared.image.Segment.{Segment}
+use Rattle.machine_model.specs.declared.image.Segment.{Segment}
 use Rattle.elf32.specs.declared.fault.ElfFault.TheVariants.{Short, BadMagic, BadIdent, BadKind, BadHeader, ShortTable, BadSegment, BadSize, PastEnd, BadRange, Overlap, BadEntry}
-use Rattle.elf32.specs.Images.{Program, IsLoadable, IsProfile, IsCode}
+use Rattle.machine_model.specs.Images.{Program, IsLoadable, IsProfile, IsCode}
 use Rattle.elf32.specs.Fields.{file_header, headers_in, program_headers}
 use Rattle.elf32.specs.Checks.{is_short, lacks_magic, lacks_ident, has_bad_kind, has_bad_table, has_sections, has_bad_layout, has_short_table, is_bad_segment, has_bad_size, is_past_end, has_bad_range, has_overlap, is_bad_entry, first_of, header_checks, segment_checks, first_fault}
 use Rattle.elf32.specs.Names.{segment_in, program_in}

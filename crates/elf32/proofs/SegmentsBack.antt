@@ -3,7 +3,7 @@ use Rattle.std.proofs.Common.{◌≡◌, ℕ, zero, ◌-◌, Bool, true, false, 
 use Rattle.std.specs.Prelude.{◌==◌, not, bit_and}
 use Rattle.std.proofs.lemmas.List.{append_assoc, length-append, length-replicate, take_at, drop_at}
 use Rattle.machine_model.specs.declared.access.Rights.{Rights}
-use Rattle.elf32.specs.declared.image.Segment.{Segment}
+use Rattle.machine_model.specs.declared.image.Segment.{Segment}
 use Rattle.elf32.specs.Checks.{may_read, may_write, may_execute}
 use Rattle.elf32.specs.Names.{segment_in}
 use Rattle.elf32.specs.Files.{flags_of, offset_after, end_after, contents_after}

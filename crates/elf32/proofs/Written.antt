@@ -5,8 +5,8 @@ use Rattle.std.specs.List.{AllByRecursion}
 use Rattle.std.proofs.lemmas.List.{append_assoc, length-append, length-replicate, take_all}
 use Rattle.std.proofs.lemmas.List.Elements.{recursion_from_All}
 use Rattle.std.proofs.lemmas.List.Sums.{sum_by-cons}
-use Rattle.elf32.specs.declared.image.Segment.{Segment}
-use Rattle.elf32.specs.Images.{Program, IsLoadable, IsProfile, page_count}
+use Rattle.machine_model.specs.declared.image.Segment.{Segment}
+use Rattle.machine_model.specs.Images.{Program, IsLoadable, IsProfile, page_count}
 use Rattle.elf32.specs.Files.{AreNear, file_header_of, program_header_of, offset_after, end_after, table_after, contents_after, headers_of, file_of}
 
 -- a segment's bytes lie in its pages

@@ -2,8 +2,8 @@
 use Rattle.std.specs.Prelude.{◌≡◌, ℕ, ◌+◌, ◌-◌, ◌*◌, ◌/◌, ◌%◌, ◌^◌, ◌<◌, if◌then◌else◌, List, [], ◌∷◌, ◌++◌, length, replicate, None}
 use Rattle.machine_model.specs.Access.{low_bytes}
 use Rattle.machine_model.specs.declared.access.Rights.{Rights}
-use Rattle.elf32.specs.declared.image.Segment.{Segment}
-use Rattle.elf32.specs.Images.{Program, IsProfile, bytes_of_words}
+use Rattle.machine_model.specs.declared.image.Segment.{Segment}
+use Rattle.machine_model.specs.Images.{Program, IsProfile, bytes_of_words}
 use Rattle.elf32.specs.Checks.{first_fault}
 use Rattle.elf32.specs.Names.{program_in}
 

@@ -1,5 +1,4 @@
 -- The definitions.
-pub mod Images
 pub mod Fields
 pub mod Faults
 pub mod Checks

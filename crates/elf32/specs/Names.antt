@@ -3,8 +3,8 @@ use Rattle.std.specs.Prelude.{◌≡◌, ℕ, List, take, drop, map, Some, None,
 use Rattle.elf32.specs.declared.fault.ElfFault.{ElfFault}
 use Rattle.elf32.specs.declared.fault.ElfFault.TheVariants.{OutOfMemory}
 use Rattle.elf32.specs.declared.header.ProgramHeader.{ProgramHeader}
-use Rattle.elf32.specs.declared.image.Segment.{Segment}
-use Rattle.elf32.specs.Images.{Program}
+use Rattle.machine_model.specs.declared.image.Segment.{Segment}
+use Rattle.machine_model.specs.Images.{Program}
 use Rattle.elf32.specs.Fields.{file_header, program_headers}
 use Rattle.elf32.specs.Checks.{may_read, may_write, may_execute, first_fault}
 

@@ -8,9 +8,8 @@ ghost use Rattle.elf32.specs.Names.{segment_in, Names, IsRefused};
 use crate::checks::{header_fault, segments_fault};
 use crate::fault::ElfFault;
 use crate::header::{FILE_HEADER, FileHeader, ProgramHeader, read_table};
-use crate::image::{Image, Segment};
 use byte_list::Bytes;
-use machine_model::Rights;
+use machine_model::{Image, Rights, Segment};
 use std::alloc::{AllocError, Global};
 
 /// The program that a file names, or the first of the twelve checks that fails. Bytes that no segment names, and physical

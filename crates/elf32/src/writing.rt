@@ -1,15 +1,14 @@
 //! Images written as files.
 ghost use Rattle.std.specs.Prelude.{◌≡◌, ◌+◌, ◌*◌, ◌^◌, ◌<◌, ◌≤◌, ◌++◌, List, All, length, replicate, sum_by, vec_len, IfOk, OnOk};
-ghost use Rattle.elf32.specs.Images.{IsLoadable, IsProfile, page_count};
+ghost use Rattle.machine_model.specs.Images.{IsLoadable, IsProfile, page_count};
 ghost use Rattle.elf32.specs.Files.{AreNear, file_header_of, flags_of, program_header_of, offset_after, end_after, table_after, contents_after, file_of, RoundTrips};
 
 use crate::header::{
     EM_RISCV, ET_EXEC, EV_CURRENT, FILE_HEADER, IDENT, MAGIC, PAGE, PF_R, PF_W, PF_X,
     PROGRAM_HEADER, PT_LOAD,
 };
-use crate::image::{Image, Segment};
-use crate::little_endian::{put_halves, put_words};
-use machine_model::Rights;
+use crate::little_endian::put_halves;
+use machine_model::{Image, Rights, Segment, put_words};
 use std::alloc::{AllocError, Global};
 
 /// The file of an image: its headers, and from the second page on the bytes of its segments, each at an offset that is its

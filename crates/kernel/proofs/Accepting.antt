@@ -220,6 +220,3 @@ enters-of k r = by (is_some (stands_at r.reached.state))
         ≡ (if tells_enter (answer_of.Settled r.reached.count r.reached.stop (if b then Some (outcome_after k r.process r.reached.count) else None)) then r.process else 0)
     by true = omega arith
     by false = refl
-
-pub sum-both : (f : Event → ℕ) (history es : List Event) (n : ℕ) → sum_by f es ≡ n → sum_by f (history ++ es) ≡ sum_by f history + n
-sum-both f history es n e = sum_by-append f history es ∙ ap (λ m. sum_by f history + m) e

@@ -1,4 +1,4 @@
--- Paths by their last hop, and the test of what an event rests on.
+-- The test of what an event rests on.
 use Rattle.std.proofs.Common.{◌≡◌, ℕ, suc, ◌+◌, ◌<◌, ◌⊎◌, inl, inr, Bool, true, false, if◌then◌else◌, IsTrue, List, [], ◌∷◌, ◌++◌, take, Some, is_some, not, nat_lt, ◌||◌, refl, sym, subst, ◌∙◌, add_assoc, add-zero, slice_get}
 use Rattle.kernel_model.specs.declared.carrier.Carrier.{Carrier}
 use Rattle.kernel_model.specs.Entries.{Entry, meets}
@@ -6,52 +6,10 @@ use Rattle.std.proofs.lemmas.Bool.{false≢true, ltb-true, lt-ltb, both_ways, no
 use Rattle.kernel_model.specs.Paths.{Leads, RestsOn, change_count, wanted, is_durable_from}
 use Rattle.kernel_model.proofs.Meets.{meets-append}
 
--- a hop from the event at place i to a reader of rs
-pub record Hop (ws : List Carrier) (ds : List Entry) (rs : List Carrier) : Type 0 where
-  pub place : ℕ
-  pub entry : Entry
-  pub there : slice_get ds place ≡ Some entry
-  pub leads : Leads ws (take place ds) entry.reads
-  pub hops : IsTrue (meets entry.writes rs)
-
--- a path has a last hop
-pub last_hop : (ws : List Carrier) (ds : List Entry) (rs : List Carrier) → Leads ws ds rs → IsTrue (meets ws rs) ⊎ Hop ws ds rs
-last_hop ws [] rs h = inl h
-last_hop ws (d ∷ ds) rs (inl h) = elim (last_hop ws ds rs h) [
-  | inl m ↦ inl m
-  | inr p ↦ inr (record { place = suc p.place; entry = p.entry; there = p.there; leads = inl p.leads; hops = p.hops })
-]
-last_hop ws (d ∷ ds) rs (inr h) = elim (last_hop d.writes ds rs h.1) [
-  | inl m ↦ inr (record { place = 0; entry = d; there = refl; leads = h.0; hops = m })
-  | inr p ↦ inr (record { place = suc p.place; entry = p.entry; there = p.there; leads = inr (h.0, p.leads); hops = p.hops })
-]
-
 -- how many changes these events made
 abbrev pub count_of : List Entry → ℕ
 count_of [] = 0
 count_of (d ∷ ds) = change_count d + count_of ds
-
--- the change is one on which an event rests that leads straight to d
-pub record By (n : ℕ) (ds : List Entry) (d : Entry) (k : ℕ) : Type 0 where
-  pub place : ℕ
-  pub entry : Entry
-  pub there : slice_get ds place ≡ Some entry
-  pub rests : RestsOn n (take place ds) entry k
-  pub hops : IsTrue (meets entry.writes d.reads)
-
-abbrev pub Own : ℕ → List Entry → Entry → ℕ → Type 0
-Own n ds d k = IsTrue (is_some d.change) × (k ≡ n + count_of ds)
-
-pub rests_by : (n : ℕ) (ds : List Entry) (d : Entry) (k : ℕ) → RestsOn n ds d k → Own n ds d k ⊎ By n ds d k
-rests_by n [] d k h = inl (h.0, h.1 ∙ sym (add-zero n))
-rests_by n (x ∷ xs) d k (inl h) = elim (last_hop x.writes xs d.reads h.2) [
-  | inl m ↦ inr (record { place = 0; entry = x; there = refl; rests = (h.0, h.1); hops = m })
-  | inr p ↦ inr (record { place = suc p.place; entry = p.entry; there = p.there; rests = inl (h.0, h.1, p.leads); hops = p.hops })
-]
-rests_by n (x ∷ xs) d k (inr h) = elim (rests_by (n + change_count x) xs d k h) [
-  | inl o ↦ inl (o.0, o.1 ∙ add_assoc n (change_count x) (count_of xs))
-  | inr p ↦ inr (record { place = suc p.place; entry = p.entry; there = p.there; rests = inr p.rests; hops = p.hops })
-]
 
 -- the tests are what they say
 

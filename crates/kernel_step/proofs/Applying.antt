@@ -1,7 +1,6 @@
 -- From the parts of a running kernel to the kernel.
-use Rattle.std.proofs.Common.{◌≡◌, ℕ, ◌+◌, ◌*◌, ◌^◌, ◌<◌, ◌≤◌, List, [], ◌∷◌, ◌++◌, length, map, Option, is_some, nat_le, Result, Ok, Err, refl, sym, ap, subst, ◌∙◌, arith}
+use Rattle.std.proofs.Common.{◌≡◌, ℕ, ◌+◌, ◌*◌, ◌^◌, ◌<◌, ◌≤◌, List, [], ◌∷◌, ◌++◌, length, map, Option, is_some, nat_le, Ok, Err, refl, sym, ap, subst, ◌∙◌, arith}
 use Rattle.std.proofs.lemmas.Bool.{leb-false}
-use Rattle.std.specs.Prelude.{IfOk, IfErr, OnOk, OnErr}
 use Rattle.machine_model.specs.States.{State, run}
 use Rattle.processes.specs.Parts.{part_of}
 use Rattle.commit_deps.specs.Kept.{Kept}
@@ -149,25 +148,3 @@ turned-applies b history history' old new s later last pid n a h grown t =
           ∙ ap (λ (o : Option ℕ). record { boot = b; history = history ++ Turn pid n ∷ []; lendings = with_child (map lending_of old) o; last_lent = last })
           (sym (turn-child w.sync pid n)),
     )
-
--- a Turn that is accepted or refused
-pub turn-core : (b : Boot) (history history' : List Event) (old new : List Task) (s : System) (d : Kept) (pid n : ℕ) (r : Result Answer Refused)
-    → KeepsRun b history old s
-    → IfOk r (λ a. Turned (length history) pid n old new s.dependencies.marks d.marks a)
-    → OnOk r (history' ≡ history ++ Turn pid n ∷ [])
-    → OnErr r (history' ≡ history) → OnErr r (new ≡ old) → OnErr r (d.marks ≡ s.dependencies.marks)
-    → KeepsRun b history' new (record s { dependencies = d })
-turn-core b history history' old new s d pid n (Ok a) h t grown x y z = turned-core b history history' old new s d pid n a h grown t
-turn-core b history history' old new s d pid n (Err why) h t grown x y z = same-core b history history' old new s d x y z h
-
-pub turn-applies : (b : Boot) (history history' : List Event) (old new : List Task) (s : System) (later : List Marked) (last pid n : ℕ) (r : Result Answer Refused)
-    → KeepsRun b history old s
-    → IfOk r (λ a. Turned (length history) pid n old new s.dependencies.marks later a)
-    → OnOk r (history' ≡ history ++ Turn pid n ∷ [])
-    → IfErr r (λ why. Refuses (turn_refusal_of old (full_of (length history) old) pid n) why)
-    → OnErr r (history' ≡ history) → OnErr r (new ≡ old)
-    → Applies (kernel_of b history old last) (Turn pid n) (kernel_of b history' new last) r
-turn-applies b history history' old new s later last pid n (Ok a) h t grown why x y = turned-applies b history history' old new s later last pid n a h grown t
-turn-applies b history history' old new s later last pid n (Err e) h t grown why x y =
-    refused-applies b history history' old new last (Turn pid n) (turn_refusal_of old (full_of (length history) old) pid n) e x y
-    (turn-refusal-is b history old s last pid n h) why

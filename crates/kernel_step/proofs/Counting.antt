@@ -1,6 +1,6 @@
 -- How many instructions a running kernel counts is how many its Turns ran, and a u64 holds it.
 use Rattle.std.proofs.Common.{◌≡◌, ℕ, zero, suc, ◌+◌, ◌*◌, ◌^◌, ◌<◌, ◌≤◌, Bool, true, false, if◌then◌else◌, List, [], ◌∷◌, ◌++◌, length, map, slice_get, slice_set, Option, Some, None, is_some, Result, Ok, Err, refl, sym, ap, subst, ◌∙◌, arith, append_assoc, length-append}
-use Rattle.std.proofs.lemmas.List.{length-set, length-map}
+use Rattle.std.proofs.lemmas.List.{length-map}
 use Rattle.std.specs.Prelude.{IfOk, OnOk, OnErr}
 use Rattle.machine_model.specs.States.{State, Stepped, Goes, Halts, Ran, reached_at, next, run, stands_at}
 use Rattle.machine_model.specs.declared.stop.Stop.{Stop}
@@ -22,6 +22,7 @@ use Rattle.kernel_model.specs.declared.event.Event.TheVariants.{Turn, Enter, Cut
 use Rattle.kernel_model.specs.declared.request.Verdict.{Verdict}
 use Rattle.kernel_model.specs.declared.request.Verdict.TheVariants.{Waits, Replies, Ends}
 use Rattle.kernel_model.proofs.ChildRows.{IsNoneOrNextProcess, call_next}
+use Rattle.kernel_model.proofs.Limits.{put_length}
 use Rattle.kernel_model.proofs.Runs.{after-append, append-nil, now-with_event, instructions-append, ran-answer}
 use Rattle.disk_model.specs.declared.change.NamedFile.{NamedFile}
 use Rattle.kernel_step.specs.Booting.{program_of, boot_with}
@@ -87,10 +88,6 @@ done-append : (ps qs : List Process) → done_by (ps ++ qs) ≡ done_by ps + don
 done-append [] qs = omega arith
 done-append (p ∷ ps) qs = let rest = done-append ps qs in omega (arith, rest)
 
-length-put : (ps : List Process) (pid : ℕ) (q : Process) → length (put_process ps pid q) ≡ length ps
-length-put ps zero q = refl
-length-put ps (suc i) q = length-set ps i q
-
 -- ---- what an event does to that
 effect-done : (s : SyncState) (pid : ℕ) (p : Process) (e : Row) (v : Verdict) → process_at s.processes pid ≡ Some p
     → done_by s.processes ≤ done_by (after_effect s pid p e v).state.processes
@@ -146,11 +143,11 @@ effect-few : (s : SyncState) (pid : ℕ) (p : Process) (e : Row) (v : Verdict) �
     → length (after_effect s pid p e v).state.processes ≤ most_processes
 effect-few s pid p e Waits next few = few
 effect-few s pid p e (Replies r) next few =
-    let put = length-put s.processes pid (after_reply p e r) in
+    let put = put_length s.processes pid (after_reply p e r) in
     let all = length-append (put_process s.processes pid (after_reply p e r)) (forked p e.child) in
     let most = forked-few p (length s.processes) e.child next few in
     omega (arith, put, all, most)
-effect-few s pid p e (Ends status) next few = let put = length-put s.processes pid (after_end p status) in omega (arith, put)
+effect-few s pid p e (Ends status) next few = let put = put_length s.processes pid (after_end p status) in omega (arith, put)
 
 stop-few : (s : SyncState) (pid : ℕ) (p : Process) (stop : Option Stop) → length s.processes ≤ most_processes
     → length (after_effect_if s pid p (effect_at (shared s) pid p stop)).state.processes ≤ most_processes
@@ -177,7 +174,7 @@ turn-few s pid n (Some p) few = by (is_some p.status)
     by : (b : Bool) → length (if b then impossible pid s else record { state = with_process s pid (after_run n p); entry = own_entry pid }).state.processes
         ≤ most_processes
     by true = few
-    by false = let put = length-put s.processes pid (after_run n p) in omega (arith, put)
+    by false = let put = put_length s.processes pid (after_run n p) in omega (arith, put)
 
 event-few : (s : SyncState) (e : Event) → length s.processes ≤ most_processes → length (step s e).state.processes ≤ most_processes
 event-few s (Turn pid n) few = turn-few s pid n (process_at s.processes pid) few

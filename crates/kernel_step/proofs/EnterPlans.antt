@@ -1,24 +1,23 @@
 -- What a plan says comes of an Enter.
-use Rattle.std.proofs.Common.{◌≡◌, ℕ, zero, suc, ◌+◌, ◌^◌, ◌<◌, ◌≤◌, inl, not, if◌then◌else◌, List, [], ◌∷◌, ◌++◌, length, map, filter, slice_get, slice_set, Option, Some, None, is_some, option_to_list, IfSome, IfOk, Result, Ok, Err, refl, sym, ap, subst, ◌∙◌}
+use Rattle.std.proofs.Common.{◌≡◌, ℕ, zero, suc, ◌+◌, ◌≤◌, inl, not, if◌then◌else◌, List, [], ◌∷◌, ◌++◌, length, map, filter, slice_get, Option, Some, None, is_some, option_to_list, IfSome, IfOk, Result, Ok, Err, refl, sym, ap, subst, ◌∙◌}
 use Rattle.std.proofs.lemmas.List.{append-nil}
-use Rattle.std.specs.List.{AllByRecursion}
 use Rattle.disk_model.specs.declared.change.Change.{Change}
 use Rattle.machine_model.specs.States.{State, stands_at, next, by_step, Stepped, Goes, Halts, replied}
 use Rattle.machine_model.specs.declared.stop.Stop.{Stop}
 use Rattle.machine_model.specs.declared.stop.Stop.TheVariants.{Limit, Call, Trap}
 use Rattle.machine_model.specs.declared.stop.Cause.{Cause}
 use Rattle.machine_model.proofs.Halting.{next-not_limit}
-use Rattle.calls.specs.Plans.{IsPlan, IsPossible, NamesFiles, AreLeft, AtMostOneEntry, OpensAlone, MayBePlaced, EditsAs, EditsPipesAlone, IsNext, MayAllStep}
+use Rattle.calls.specs.Plans.{IsPlan, effect_of, IsPossible, NamesFiles, AreLeft, OpensAlone, MayBePlaced, EditsAs, EditsPipesAlone, IsNext, MayAllStep}
+use Rattle.calls.specs.Sights.{Sight, PlansCall}
 use Rattle.calls.specs.Shares.{IsKept}
 use Rattle.calls.specs.declared.plan.Plan.{Plan}
-use Rattle.pipes.specs.Stepping.{HasAtMost}
+use Rattle.calls.proofs.Planned.{is-effect}
 use Rattle.processes.specs.Parts.{Part, part_of, part_at, descriptors_in, children_in, statuses_of}
 use Rattle.kernel_model.specs.State.{SyncState, Shared as Seen, PipeState, Process, shared, process_at, put_process, changed_by, read_by, all_stepped}
 use Rattle.kernel_model.specs.Requests.{request_of}
 use Rattle.machine_model.specs.Numbers.{cause_number}
 use Rattle.kernel_model.specs.Rows.{Effect, row, row_end, number}
 use Rattle.kernel_model.specs.Steps.{Transition, step, after_enter, impossible, effect_at, set_slots, children_after, is_collected, forked, after_effect, after_effect_if}
-use Rattle.kernel_model.specs.declared.carrier.Carrier.{Carrier}
 use Rattle.kernel_model.specs.declared.carrier.Carrier.TheVariants.{Proc}
 use Rattle.kernel_model.specs.declared.descriptor.Descriptor.{Descriptor}
 use Rattle.kernel_model.specs.declared.effect.Output.{Output}
@@ -29,7 +28,8 @@ use Rattle.kernel_model.specs.declared.event.Event.TheVariants.{Enter}
 use Rattle.kernel_model.specs.declared.request.Request.{Request}
 use Rattle.kernel_model.specs.declared.request.Verdict.{Verdict}
 use Rattle.kernel_model.specs.declared.request.Verdict.TheVariants.{Waits, Replies, Ends}
-use Rattle.kernel_step.specs.Entering.{Sight, IsSightOf, HaveRoom, item_of, machine_after, descriptors_after, status_after, writes_of, MayBeTold, effect_of, planned, PlansEnter}
+use Rattle.kernel_model.proofs.Limits.{put_same}
+use Rattle.kernel_step.specs.Entering.{IsSightOf, HaveRoom, item_of, machine_after, descriptors_after, status_after, writes_of, MayBeTold, planned, PlansEnter}
 
 -- ---- what comes of an effect is what the plan says
 abbrev planned_told : SyncState → ℕ → Process → Plan → Verdict → Transition
@@ -55,15 +55,6 @@ planned_told s pid p plan verdict = record {
     child = plan.child;
   };
 }
-
-put-same : (ps : List Process) (pid : ℕ) (p : Process) → process_at ps pid ≡ Some p → put_process ps pid p ≡ ps
-put-same ps zero p e = refl
-put-same ps (suc k) p e = by ps k e
-  where
-    by : (xs : List Process) (i : ℕ) → slice_get xs i ≡ Some p → slice_set xs i p ≡ xs
-    by [] i e = refl
-    by (x ∷ xs) zero e = let same : p ≡ x = cc in ap (λ (y : Process). y ∷ xs) same
-    by (x ∷ xs) (suc i) e = ap (λ (ys : List Process). x ∷ ys) (by xs i e)
 
 pub all-kept : (cs : List ℕ) → filter (λ child. not (is_collected None child)) cs ≡ cs
 all-kept [] = refl
@@ -113,7 +104,7 @@ told-planned s pid p plan Waits edits there running =
     let same : put_process s.processes pid (record p { children = filter (λ other. not (is_collected None other)) p.children ++ [] }) ++ [] ≡ s.processes =
     append-nil (put_process s.processes pid (record p { children = filter (λ other. not (is_collected None other)) p.children ++ [] }))
     ∙ ap (λ (cs : List ℕ). put_process s.processes pid (record p { children = cs })) (children-kept p.children)
-    ∙ put-same s.processes pid p there in
+    ∙ put_same s.processes pid p there in
     ap (λ (ps : List Process). record {
       state = record { processes = ps; files = s.files; pipes = s.pipes; tapes = s.tapes };
       entry = record { process = pid; reads = Proc pid ∷ plan.reads.items; writes = []; change = None; output = None; item = None; child = None };
@@ -161,27 +152,14 @@ told-planned s pid p plan (Ends status) edits there running =
     }) (sym same)
     ∙ pipes-alone s pid p plan (Ends status) plan.pipes.items edits refl
 
-plan-effect : (plan : Plan) (e : Effect) → IsPlan plan e → e ≡ effect_of plan
-plan-effect plan e is =
-    ap (λ (v : Verdict). record e { verdict = v }) (sym is.verdict)
-    ∙ ap (λ (v : List Carrier). record e { verdict = plan.verdict; reads = v }) (sym is.reads)
-    ∙ ap (λ (v : List Carrier). record e { verdict = plan.verdict; reads = plan.reads.items; writes = v }) (sym is.writes)
-    ∙ ap (λ (v : Option Change). record (effect_of plan) { change = v; output = e.output; tape = e.tape; pipes = e.pipes; slots = e.slots; child = e.child; collects = e.collects }) (sym is.change)
-    ∙ ap (λ (v : Option Output). record (effect_of plan) { output = v; tape = e.tape; pipes = e.pipes; slots = e.slots; child = e.child; collects = e.collects }) (sym is.output)
-    ∙ ap (λ (v : Option TapeRead). record (effect_of plan) { tape = v; pipes = e.pipes; slots = e.slots; child = e.child; collects = e.collects }) (sym is.tape)
-    ∙ ap (λ (v : List PipeStep). record (effect_of plan) { pipes = v; slots = e.slots; child = e.child; collects = e.collects }) (sym is.pipes)
-    ∙ ap (λ (v : List Slot). record (effect_of plan) { slots = v; child = e.child; collects = e.collects }) (sym is.slots)
-    ∙ ap (λ (v : Option ℕ). record (effect_of plan) { child = v; collects = e.collects }) (sym is.child)
-    ∙ ap (λ (v : Option ℕ). record (effect_of plan) { collects = v }) (sym is.collects)
-
 -- the step of a process that is there and has not ended
-step-by : (s : SyncState) (pid : ℕ) (p : Process) (plan : Plan) (e : Effect) → IsPlan plan e → EditsAs plan.verdict plan
+step-by : (s : SyncState) (pid : ℕ) (p : Process) (plan : Plan) (e : Effect) → effect_of plan ≡ e → EditsAs plan.verdict plan
     → process_at s.processes pid ≡ Some p → p.status ≡ None → effect_at (shared s) pid p (stands_at p.state) ≡ Some e
     → step s (Enter pid) ≡ planned s pid p plan
 step-by s pid p plan e is edits there running at =
     ap (λ (o : Option Process). after_enter s pid o) there
     ∙ ap (λ (o : Option ℕ). if is_some o then impossible pid s else after_effect_if s pid p (effect_at (shared s) pid p (stands_at p.state))) running
-    ∙ ap (λ (o : Option Effect). after_effect_if s pid p o) (at ∙ ap (λ (x : Effect). Some x) (plan-effect plan e is))
+    ∙ ap (λ (o : Option Effect). after_effect_if s pid p o) (at ∙ ap (λ (x : Effect). Some x) (sym is))
     ∙ told-planned s pid p plan plan.verdict edits there running
 
 -- ---- what is seen of the process
@@ -235,42 +213,28 @@ waits-nothing plan (Ends status) edits e = cc
 abbrev sight_shared : Sight → List PipeState → Seen
 sight_shared seen pipes = record { statuses = statuses_of seen.parts; files = seen.files; pipes = pipes; tapes = seen.tapes }
 
-pub call-plans : (seen : Sight) (pid : ℕ) (s : State) (plan : Plan) → stands_at s ≡ Some Call
-    → HaveRoom seen.pipes
-    → ((x : Seen) → IsKept x (statuses_of seen.parts) seen.files seen.pipes seen.tapes
-    → IsPlan plan (row x pid (descriptors_in (part_at seen.parts pid)) (children_in (part_at seen.parts pid)) (request_of s)))
-    → AtMostOneEntry plan.slots.items plan.child plan.collects
-    → OpensAlone plan.pipes.items
-    → length plan.pipes.items ≤ 16
-    → EditsAs plan.verdict plan
-    → IfSome plan.change (IsPossible seen.files)
-    → NamesFiles (length (changed_by seen.files plan.change)) (set_slots (descriptors_in (part_at seen.parts pid)) plan.slots.items)
-    → IfSome plan.tape (AreLeft seen.tapes)
-    → ((x : Seen) (n : ℕ) → IsKept x (statuses_of seen.parts) seen.files seen.pipes seen.tapes → AllByRecursion (HasAtMost n) x.pipes → n + 16 < 2 ^ 64
-    → MayAllStep seen.pipes plan.pipes.items)
-    → IfSome plan.child (IsNext (length seen.parts))
-    → MayBePlaced s.hart.memory plan.verdict
+pub call-plans : (seen : Sight) (pid : ℕ) (s : State) (plan : Plan) → stands_at s ≡ Some Call → HaveRoom seen.pipes → PlansCall seen pid (request_of s) plan
     → PlansEnter seen pid s plan
-call-plans seen pid s plan stands ends is entry opens few edits possible named left may child place =
+call-plans seen pid s plan stands ends calls =
     let ds : List (Option Descriptor) = descriptors_in (part_at seen.parts pid) in
     let x : Seen = sight_shared seen ends.pipes in
     let look : IsKept x (statuses_of seen.parts) seen.files seen.pipes seen.tapes = record { statuses = refl; files = refl; pipes = ends.shown; tapes = refl } in
     record {
       goes = λ state p sight there state_is running.
           let part : part_at seen.parts pid ≡ Some (part_of p) = part-at state seen pid p sight there in
-          step-by state pid p plan (row (shared state) pid ds (children_in (part_at seen.parts pid)) (request_of s)) (is (shared state) (kept state seen sight)) edits there running
+          step-by state pid p plan (row (shared state) pid ds (children_in (part_at seen.parts pid)) (request_of s)) (calls.effect (shared state) (kept state seen sight)) calls.edits there running
           (ap (λ (o : Option Stop). effect_at (shared state) pid p o) (ap stands_at state_is ∙ stands)
           ∙ ap (λ (o : Option Part). Some (row (shared state) pid (descriptors_in o) (children_in o) (request_of p.state))) (sym part)
           ∙ ap (λ (t : State). Some (row (shared state) pid ds (children_in (part_at seen.parts pid)) (request_of t))) state_is);
-      verdict = told-row s plan.verdict stands place;
-      edits = edits;
-      one_child = entry.child_or_collects;
-      possible = possible;
-      left = left;
-      named = names-after (length (changed_by seen.files plan.change)) 0 ds plan.verdict plan.slots.items named (λ r waits. waits-nothing plan plan.verdict edits waits);
-      steps = record { kind = opens; few = few };
-      may = may x ends.most look ends.few ends.room;
-      child = child;
+      verdict = told-row s plan.verdict stands (calls.place s refl);
+      edits = calls.edits;
+      one_child = calls.one_entry.child_or_collects;
+      possible = calls.possible;
+      left = calls.left;
+      named = names-after (length (changed_by seen.files plan.change)) 0 ds plan.verdict plan.slots.items calls.named (λ r waits. waits-nothing plan plan.verdict calls.edits waits);
+      steps = record { kind = calls.opens; few = calls.few };
+      may = calls.steps x ends.most look ends.few ends.room;
+      child = calls.child;
     }
 
 -- ---- at a trap
@@ -284,7 +248,7 @@ trap-plans seen pid s plan cause status stands number is edits opens few may =
     record {
       goes = λ state p sight there state_is running.
           let part : part_at seen.parts pid ≡ Some (part_of p) = part-at state seen pid p sight there in
-          step-by state pid p plan (row_end ds status) is edits there running
+          step-by state pid p plan (row_end ds status) (sym (is-effect plan (row_end ds status) is)) edits there running
           (ap (λ (o : Option Stop). effect_at (shared state) pid p o) (ap stands_at state_is ∙ stands)
           ∙ ap (λ (o : Option Part). Some (row_end (descriptors_in o) (256 + cause_number cause))) (sym part)
           ∙ ap (λ n. Some (row_end ds n)) (sym number));
@@ -324,24 +288,8 @@ stands-call s Limit h none = by (next s) refl h
 
 -- the same of a result
 pub result-plans : {E : Type 0} (seen : Sight) (pid : ℕ) (s : State) (r : Result Plan E) (request : Request)
-    → stands_at s ≡ Some Call → request ≡ request_of s
-    → HaveRoom seen.pipes
-    → ((x : Seen) → IsKept x (statuses_of seen.parts) seen.files seen.pipes seen.tapes
-    → IfOk r (λ plan. IsPlan plan (row x pid (descriptors_in (part_at seen.parts pid)) (children_in (part_at seen.parts pid)) request)))
-    → IfOk r (λ plan. AtMostOneEntry plan.slots.items plan.child plan.collects)
-    → IfOk r (λ plan. OpensAlone plan.pipes.items)
-    → IfOk r (λ plan. length plan.pipes.items ≤ 16)
-    → IfOk r (λ plan. EditsAs plan.verdict plan)
-    → IfOk r (λ plan. IfSome plan.change (IsPossible seen.files))
-    → IfOk r (λ plan. NamesFiles (length (changed_by seen.files plan.change)) (set_slots (descriptors_in (part_at seen.parts pid)) plan.slots.items))
-    → IfOk r (λ plan. IfSome plan.tape (AreLeft seen.tapes))
-    → ((x : Seen) (n : ℕ) → IsKept x (statuses_of seen.parts) seen.files seen.pipes seen.tapes → AllByRecursion (HasAtMost n) x.pipes → n + 16 < 2 ^ 64
-    → IfOk r (λ plan. MayAllStep seen.pipes plan.pipes.items))
-    → IfOk r (λ plan. IfSome plan.child (IsNext (length seen.parts)))
-    → IfOk r (λ plan. (t : State) → request ≡ request_of t → MayBePlaced t.hart.memory plan.verdict)
+    → stands_at s ≡ Some Call → request ≡ request_of s → HaveRoom seen.pipes → IfOk r (λ plan. PlansCall seen pid request plan)
     → IfOk r (λ plan. PlansEnter seen pid s plan)
-result-plans seen pid s (Ok plan) request stands asks ends is entry opens few edits possible named left may child place =
-    call-plans seen pid s plan stands ends
-    (λ x look. subst (λ (q : Request). IsPlan plan (row x pid (descriptors_in (part_at seen.parts pid)) (children_in (part_at seen.parts pid)) q)) asks (is x look))
-    entry opens few edits possible named left may child (place s asks)
-result-plans seen pid s (Err e) request stands asks ends is entry opens few edits possible named left may child place = tt
+result-plans seen pid s (Ok plan) request stands asks ends calls =
+    call-plans seen pid s plan stands ends (subst (λ (q : Request). PlansCall seen pid q plan) asks calls)
+result-plans seen pid s (Err e) request stands asks ends calls = tt

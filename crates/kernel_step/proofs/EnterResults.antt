@@ -1,10 +1,6 @@
 -- What holds of results.
 use Rattle.std.proofs.Common.{Result, Ok, Err}
-use Rattle.std.specs.Prelude.{OnOk, OnErr}
-
-pub on-ok-any : {T E P : Type 0} (r : Result T E) → P → OnOk r P
-on-ok-any (Ok x) h = h
-on-ok-any (Err e) h = tt
+use Rattle.std.specs.Prelude.{OnErr}
 
 pub on-err-any : {T E P : Type 0} (r : Result T E) → P → OnErr r P
 on-err-any (Ok x) h = tt

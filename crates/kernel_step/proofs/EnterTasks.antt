@@ -2,24 +2,18 @@
 use Rattle.std.proofs.Common.{◌≡◌, ℕ, suc, ◌+◌, ◌^◌, ◌<◌, ◌≤◌, ◌==◌, ◌&&◌, inl, inr, Bool, true, false, List, [], ◌∷◌, ◌++◌, length, map, slice_get, slice_set, Option, Some, None, is_some, IfSome, if◌then◌else◌, option_to_list, refl, sym, ap, subst, ◌∙◌, arith}
 use Rattle.std.proofs.lemmas.List.{map-set, length-set, map-append, append-nil}
 use Rattle.std.proofs.lemmas.Bool.{eq-eqb, ne_eqb}
-use Rattle.disk_model.specs.declared.change.Change.{Change}
-use Rattle.disk_model.specs.declared.change.Change.TheVariants.{Create, Write, Empty}
-use Rattle.disk_model.specs.declared.change.NamedFile.{NamedFile}
-use Rattle.disk_model.specs.Files.{changed, with_bytes, patched}
 use Rattle.disk_model.specs.Storage.{is_empty}
 use Rattle.machine_model.specs.States.{State, replied}
-use Rattle.calls.specs.Plans.{NamesFile, NamesFiles, IsNext}
+use Rattle.calls.specs.Plans.{IsNext}
 use Rattle.calls.specs.declared.plan.Plan.{Plan}
 use Rattle.commit_deps.specs.Marks.{IsMarkOf}
 use Rattle.kernel_model.specs.Entries.{Entry, Item, Got, End as Ended}
 use Rattle.kernel_model.specs.Loans.{is_waiting}
 use Rattle.kernel_model.specs.Shown.{given_by, is_made, told, end_in}
-use Rattle.kernel_model.specs.State.{Process, put_process, changed_by}
+use Rattle.kernel_model.specs.State.{Process, put_process}
 use Rattle.kernel_model.specs.Steps.{Transition, forked, zero_reply}
 use Rattle.kernel_model.specs.World.{World}
 use Rattle.kernel_model.specs.declared.carrier.Carrier.{Carrier}
-use Rattle.kernel_model.specs.declared.descriptor.Descriptor.{Descriptor}
-use Rattle.kernel_model.specs.declared.descriptor.Descriptor.TheVariants as descriptor
 use Rattle.kernel_model.specs.declared.request.Verdict.{Verdict}
 use Rattle.kernel_model.specs.declared.request.Verdict.TheVariants.{Waits, Replies, Ends}
 use Rattle.kernel_step.specs.Entering.{item_of, machine_after, status_after, writes_of, entry_of, process_after, planned, IsTold, IsForked, MakesTask}
@@ -31,7 +25,7 @@ use Rattle.kernel_step.specs.Waiting.{is_asleep, served_after, waited_after}
 use Rattle.kernel_step.specs.declared.task.Task.{Task}
 use Rattle.kernel_step.proofs.EnterFine.{IsFineTask}
 use Rattle.kernel_step.proofs.EnterLists.{withholds-more, withholds-same, items-here, items-elsewhere}
-use Rattle.kernel_step.proofs.Lists.{get-within, get-set, length-snoc, get-joined}
+use Rattle.kernel_step.proofs.Lists.{get-within, get-set, get-joined}
 use Rattle.kernel_step.proofs.Quiet.{told-own, told-made, waiting-more}
 use Rattle.kernel_step.proofs.Turning.{IsProcessOf}
 
@@ -81,33 +75,6 @@ since-served : (v : Verdict) (served : ℕ) (waited : Option ℕ) → IfSome wai
 since-served Waits served waited h = omega arith
 since-served (Replies r) served waited h = since-more served (served + 1) waited (omega arith) h
 since-served (Ends status) served waited h = since-more served (served + 1) waited (omega arith) h
-
--- ---- files grow in number
-with_bytes-length : (files : List NamedFile) (place : ℕ) (o : Option NamedFile) (f : List ℕ → List ℕ) → length (with_bytes files place o f) ≡ length files
-with_bytes-length files place None f = refl
-with_bytes-length files place (Some file) f = length-set files place (record { name = file.name; bytes = f file.bytes })
-
-changed-grows : (files : List NamedFile) (c : Change) → length files ≤ length (changed files c)
-changed-grows files (Create name) = let more = length-snoc files (record { name = name; bytes = [] }) in omega arith
-changed-grows files (Write place offset bytes) =
-    let same = with_bytes-length files place (slice_get files place) (λ old. patched old offset bytes) in omega arith
-changed-grows files (Empty place) =
-    let same = with_bytes-length files place (slice_get files place) (λ old. []) in omega arith
-
-pub files-grow : (files : List NamedFile) (o : Option Change) → length files ≤ length (changed_by files o)
-files-grow files None = omega arith
-files-grow files (Some c) = changed-grows files c
-
-name-more : (n m : ℕ) (d : Option Descriptor) → n ≤ m → NamesFile n d → NamesFile m d
-name-more n m (Some (descriptor.File file offset writes)) h g = omega arith
-name-more n m (Some (descriptor.Tape tape)) h g = tt
-name-more n m (Some (descriptor.Terminal terminal)) h g = tt
-name-more n m (Some (descriptor.Pipe end)) h g = tt
-name-more n m None h g = tt
-
-pub names-more : (n m : ℕ) (ds : List (Option Descriptor)) → n ≤ m → NamesFiles n ds → NamesFiles m ds
-names-more n m [] h g = tt
-names-more n m (d ∷ ds) h g = (name-more n m d h g.0, names-more n m ds h g.1)
 
 -- ---- traces
 -- that of the process that was told something

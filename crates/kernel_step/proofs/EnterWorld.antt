@@ -29,7 +29,8 @@ use Rattle.kernel_model.specs.declared.answer.Outcome.{Outcome}
 use Rattle.kernel_model.specs.declared.event.Event.TheVariants.{Enter}
 use Rattle.kernel_model.specs.declared.request.Verdict.{Verdict}
 use Rattle.kernel_model.specs.declared.request.Verdict.TheVariants.{Waits, Replies, Ends}
-use Rattle.kernel_step.specs.Entering.{Sight, IsSightOf, item_of, descriptors_after, seen_of, MayPlan, entry_of, parts_after, planned, PlansEnter, MakesTask, IsNoted, IsFinished, IsEntered, IsDone, IsTold, IsSameTask, IsSystemWith, IsSameSystem}
+use Rattle.calls.specs.Sights.{Sight}
+use Rattle.kernel_step.specs.Entering.{IsSightOf, item_of, descriptors_after, seen_of, MayPlan, entry_of, parts_after, planned, PlansEnter, MakesTask, IsNoted, IsFinished, IsEntered, IsDone, IsTold, IsSameTask, IsSystemWith, IsSameSystem}
 use Rattle.withheld.specs.Withheld.{Withheld, Held, whats}
 use Rattle.kernel_step.specs.Mirrors.{IsTask, AreTasks, IsPart, AreChanges, AreParts, ArePipes, Mirrors}
 use Rattle.kernel_step.specs.Seen.{AreScreens}

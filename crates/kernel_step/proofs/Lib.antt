@@ -26,6 +26,8 @@ pub mod Releasing
 pub mod SettleAccepted
 pub mod SettleCore
 pub mod SettleWorld
+pub mod Settled
+pub mod Taken
 pub mod Telling
 pub mod Turning
 pub mod Writing

@@ -1,7 +1,6 @@
 -- From a loan's result in the parts to the kernel.
-use Rattle.std.proofs.Common.{◌≡◌, ℕ, zero, suc, ◌+◌, ◌*◌, ◌^◌, ◌<◌, ◌≤◌, Bool, true, false, if◌then◌else◌, List, [], ◌∷◌, ◌++◌, length, map, slice_get, slice_set, Option, Some, None, is_some, option_map, option_to_list, Result, Ok, Err, refl, sym, ap, subst, ◌∙◌, arith, length-append, append_assoc}
+use Rattle.std.proofs.Common.{◌≡◌, ℕ, zero, suc, ◌+◌, ◌*◌, ◌^◌, ◌<◌, ◌≤◌, Bool, true, false, if◌then◌else◌, List, [], ◌∷◌, ◌++◌, length, map, slice_get, slice_set, Option, Some, None, is_some, option_map, option_to_list, refl, sym, ap, subst, ◌∙◌, arith, length-append, append_assoc}
 use Rattle.std.proofs.lemmas.List.{map-set}
-use Rattle.std.specs.Prelude.{◌≢◌, IfOk, IfErr, OnOk, OnErr}
 use Rattle.disk_model.proofs.Lists.{set_same}
 use Rattle.machine_model.specs.States.{State, reached_at, run, stands_at}
 use Rattle.machine_model.specs.declared.stop.Stop.{Stop}
@@ -14,18 +13,16 @@ use Rattle.kernel_model.proofs.Runs.{after-append, after-after, now-with_event}
 use Rattle.kernel_model.specs.declared.answer.Answer.{Answer}
 use Rattle.kernel_model.specs.declared.answer.Answer.TheVariants as answer_of
 use Rattle.kernel_model.specs.declared.answer.Outcome.{Outcome}
-use Rattle.kernel_model.specs.declared.answer.Refused.TheVariants.{Stranger, OutOfMemory}
 use Rattle.kernel_model.specs.declared.event.Event.{Event}
 use Rattle.kernel_model.specs.declared.event.Event.TheVariants.{Turn, Enter}
 use Rattle.kernel_step.specs.Stands.{run_of, kernel_of, KeepsRun}
 use Rattle.kernel_step.specs.Entering.{IsSameTask, IsSameSystem}
 use Rattle.kernel_step.specs.Loaned.{loan_result}
 use Rattle.kernel_step.specs.Mirrors.{Mirrors}
-use Rattle.kernel_step.specs.Settling.{IsLoanOf, IsBack, IsTurnNoted, IsTurnSettled, IsCallSettled, IsUnsettled, LackedMemory}
-use Rattle.kernel_step.specs.Unchanged.{AreUnchanged}
+use Rattle.kernel_step.specs.Settling.{IsLoanOf, IsBack, IsTurnNoted, IsCallSettled, IsUnsettled}
 use Rattle.kernel_step.specs.Tasks.{machine_of, out_of, process_of, lending_of, count_out, unsettled, AreFewLoans}
 use Rattle.kernel_step.specs.declared.loan.Done.{Done}
-use Rattle.kernel_step.specs.declared.loan.Rejected.{Rejected}
+use Rattle.kernel_step.specs.declared.running.Running.{Running}
 use Rattle.kernel_step.specs.declared.system.System.{System}
 use Rattle.kernel_step.specs.declared.task.Task.{Task}
 use Rattle.kernel_step.proofs.EnterCore.{same-out, child-out}
@@ -145,17 +142,20 @@ turn-taken b history history' tasks s s' last place t u d a h number there of st
           (if is_some o then Some (outcome_after (kernel_of b history tasks last) d.pid d.count) else None)) stands);
     }
 
-pub enter-taken : EnterLaws → (b : Boot) (history history' : List Event) (tasks new : List Task) (s s' : System) (last place : ℕ) (d : Done) (at : Stop) (a : Answer)
-    → KeepsRun b history tasks s → d.pid ≡ place + 1 → stands_at d.machine ≡ Some at
-    → (e : IsCallSettled d place tasks new s s' a) → IsLoanOf e.task d → history' ≡ history ++ Turn d.pid d.count ∷ Enter d.pid ∷ []
-    → IsTaken b history history' tasks new last place e.task e.after s' d a
-enter-taken laws b history history' tasks new s s' last place d at a h number stands e of grown =
+pub enter-taken : EnterLaws → (b : Boot) (old new : Running) (place : ℕ) (d : Done) (at : Stop) (a : Answer)
+    → KeepsRun b old.history.items old.tasks.items old.system → d.pid ≡ place + 1 → stands_at d.machine ≡ Some at
+    → (e : IsCallSettled d place old new a) → IsLoanOf e.task d
+    → IsTaken b old.history.items new.history.items old.tasks.items new.tasks.items old.last_lent place e.task e.after new.system d a
+enter-taken laws b old new place d at a h number stands e of =
+    let history : List Event = old.history.items in
+    let tasks : List Task = old.tasks.items in
+    let s' : System = new.system in
     let es = events-some d at stands in
     let w : World = run_of b history in
-    let k : Kernel = kernel_of b history tasks last in
+    let k : Kernel = kernel_of b history tasks old.last_lent in
     let t : Task = e.task in
     let u : Task = e.after in
-    let both = both-run laws w tasks s s' d.pid place d.count d.quantum d.machine t u e.outcome e.child h.mirrors number e.there of.out (reached t d of) d.room
+    let both = both-run laws w tasks old.system s' d.pid place d.count d.quantum d.machine t u e.outcome e.child h.mirrors number e.there of.out (reached t d of) d.room
     (ap (λ (x : Option Stop). is_some x) stands) e.entered in
     let done = e.entered.entered in
     let outcome : e.outcome ≡ outcome_after k d.pid d.count =
@@ -166,7 +166,7 @@ enter-taken laws b history history' tasks new s s' last place d at a h number st
     ∙ ap (λ (o : Option ℕ). slice_set (map lending_of tasks) place (record { loans = u.loans; out = o })) (sym done.told.out)
     ∙ sym (map-set lending_of tasks place u) in
     record {
-      grown = grown ∙ ap (λ (xs : List Event). history ++ xs) (sym es);
+      grown = e.history ∙ ap (λ (xs : List Event). history ++ xs) (sym es);
       mirrors =
           subst (λ (ts : List Task). Mirrors (after w (events_of (loan_result d))) ts s') (sym e.tasks)
           (subst (λ (xs : List Event). Mirrors (after w xs) (slice_set tasks place u ++ option_to_list e.child) s') (sym es) both.mirrors);
@@ -291,109 +291,10 @@ kept-kernel b history history' tasks last place t u there same_history same =
     ∙ ap (λ (ls : List Lending). record { boot = b; history = history; lendings = ls; last_lent = last })
     (same-lendings tasks place t u there same.loans same.out)
 
--- either way
-pub settle-core : (b : Boot) (history history' : List Event) (tasks new : List Task) (s s' : System) (last place : ℕ) (d : Done) (r : Result Answer Rejected)
-    → KeepsRun b history tasks s
-    → IfOk r (λ a. IsTakenOf b history history' tasks new last place s' d a)
-    → OnErr r (history' ≡ history) → OnErr r (IsUnsettled place tasks new) → OnErr r (IsSameSystem s s')
-    → KeepsRun b history' new s'
-settle-core b history history' tasks new s s' last place d (Ok a) h taken x y z =
-    taken-core b history history' tasks new s s' last place taken.task taken.after d a h taken.there taken.of taken.taken
-settle-core b history history' tasks new s s' last place d (Err e) h taken x y z =
-    subst (λ (ts : List Task). KeepsRun b history' ts s') (sym y.tasks) (kept-core b history history' tasks s s' place y.task y.after h y.there x y.same z)
-
--- what the facts of a result that became a Turn, or changed nothing, say of its parts
-pub turn-ran : (t u : Task) (s s' : System) (history history' : List Event) (ran ran' : ℕ) (d : Done) (r : Result Answer Rejected)
-    → IfOk r (λ a. IsTurnSettled d t u s s' history history' ran ran' a) → OnOk r (ran' ≡ ran + d.count)
-turn-ran t u s s' history history' ran ran' d (Ok a) h = h.counted
-turn-ran t u s s' history history' ran ran' d (Err e) h = tt
-
-pub same-history : (t u : Task) (s s' : System) (history history' : List Event) (r : Result Answer Rejected)
-    → OnErr r (AreUnchanged t u s s' history history') → OnErr r (history' ≡ history)
-same-history t u s s' history history' (Ok a) h = tt
-same-history t u s s' history history' (Err e) h = h.history
-
-pub same-system : (t u : Task) (s s' : System) (history history' : List Event) (r : Result Answer Rejected)
-    → OnErr r (AreUnchanged t u s s' history history') → OnErr r (IsSameSystem s s')
-same-system t u s s' history history' (Ok a) h = tt
-same-system t u s s' history history' (Err e) h = h.system
-
-pub turn-result : (b : Boot) (history history' : List Event) (tasks : List Task) (s s' : System) (last place ran ran' : ℕ) (t u : Task) (d : Done) (r : Result Answer Rejected)
-    → KeepsRun b history tasks s → d.pid ≡ place + 1 → slice_get tasks place ≡ Some t → IsLoanOf t d → stands_at d.machine ≡ None
-    → IfOk r (λ a. IsTurnSettled d t u s s' history history' ran ran' a)
-    → IfOk r (λ a. IsTakenOf b history history' tasks (slice_set tasks place u) last place s' d a)
-turn-result b history history' tasks s s' last place ran ran' t u d (Ok a) h number there of stands done = record {
-  task = t;
-  after = u;
-  there = there;
-  of = of;
-  taken = turn-taken b history history' tasks s s' last place t u d a h number there of stands done.back done.system done.history done.answer;
-}
-turn-result b history history' tasks s s' last place ran ran' t u d (Err e) h number there of stands done = tt
-
-pub enter-result : EnterLaws → (b : Boot) (history history' : List Event) (tasks new : List Task) (s s' : System) (last place : ℕ) (t : Task) (d : Done) (at : Stop) (r : Result Answer Rejected)
-    → KeepsRun b history tasks s → d.pid ≡ place + 1 → slice_get tasks place ≡ Some t → IsLoanOf t d → stands_at d.machine ≡ Some at
-    → IfOk r (λ a. IsCallSettled d place tasks new s s' a)
-    → OnOk r (history' ≡ history ++ Turn d.pid d.count ∷ Enter d.pid ∷ [])
-    → IfOk r (λ a. IsTakenOf b history history' tasks new last place s' d a)
-enter-result laws b history history' tasks new s s' last place t d at (Ok a) h number there of stands done grown =
-    let twice : Some t ≡ Some done.task = sym there ∙ done.there in
-    let same : t ≡ done.task = cc in
-    let own : IsLoanOf done.task d = subst (λ (x : Task). IsLoanOf x d) same of in
-    record {
-      task = done.task;
-      after = done.after;
-      there = done.there;
-      of = own;
-      taken = enter-taken laws b history history' tasks new s s' last place d at a h number stands done own grown;
-    }
-enter-result laws b history history' tasks new s s' last place t d at (Err e) h number there of stands done grown = tt
-
-pub settle-events : (b : Boot) (history history' : List Event) (tasks new : List Task) (s' : System) (last place : ℕ) (d : Done) (r : Result Answer Rejected)
-    → d.pid ≡ place + 1
-    → IfOk r (λ a. IsTakenOf b history history' tasks new last place s' d a)
-    → OnOk r (kernel_of b history' new last ≡ settled (kernel_of b history tasks last) (loan_result d))
-settle-events b history history' tasks new s' last place d (Ok a) number taken =
-    taken-events b history history' tasks new s' last place taken.task taken.after d a number taken.there taken.taken
-settle-events b history history' tasks new s' last place d (Err e) number taken = tt
-
-pub settle-answer : (b : Boot) (history history' : List Event) (tasks new : List Task) (s' : System) (last place : ℕ) (d : Done) (r : Result Answer Rejected)
-    → IfOk r (λ a. IsTakenOf b history history' tasks new last place s' d a)
-    → IfOk r (λ a. a ≡ settled_answer (kernel_of b history tasks last) (loan_result d))
-settle-answer b history history' tasks new s' last place d (Ok a) taken = taken.taken.answer
-settle-answer b history history' tasks new s' last place d (Err e) taken = tt
-
-pub settle-only : {P : Type 0} (d : Done) (r : Result Answer Rejected) → P → IfErr r (λ e. LackedMemory d e)
-    → IfErr r (λ e. e.why ≢ Stranger → (e.why ≡ OutOfMemory) × P)
-settle-only d (Ok a) h handed = tt
-settle-only d (Err e) h handed = λ other. (handed.cause, h)
-
-pub settle-back : (d : Done) (r : Result Answer Rejected) → IfErr r (λ e. LackedMemory d e) → IfErr r (λ e. e.done ≡ d)
-settle-back d (Ok a) handed = tt
-settle-back d (Err e) handed = handed.back
-
-pub settle-err : (b : Boot) (history history' : List Event) (tasks new : List Task) (last place : ℕ) (r : Result Answer Rejected)
-    → OnErr r (history' ≡ history) → OnErr r (IsUnsettled place tasks new)
-    → OnErr r (kernel_of b history' new last ≡ kernel_of b history tasks last)
-settle-err b history history' tasks new last place (Ok a) x y = tt
-settle-err b history history' tasks new last place (Err e) x y =
-    ap (λ (ts : List Task). kernel_of b history' ts last) y.tasks ∙ kept-kernel b history history' tasks last place y.task y.after y.there x y.same
-
 -- a task that is the same as it was
 pub same-task-as : (t : Task) → IsSameTask t t
 same-task-as t =
     record { pid = refl; machine = refl; trace = record { items = refl; committed = refl }; waited = refl; loans = refl; out = refl }
-
-pub same-of : {E X : Type 0} (r : Result X E) (tasks : List Task) (place : ℕ) (t u : Task) → slice_get tasks place ≡ Some t → OnErr r (u ≡ t)
-    → OnErr r (IsUnsettled place tasks (slice_set tasks place u))
-same-of (Ok x) tasks place t u there h = tt
-same-of (Err e) tasks place t u there h = record {
-  task = t;
-  there = there;
-  after = u;
-  same = subst (λ (v : Task). IsSameTask t v) (sym h) (same-task-as t);
-  tasks = refl;
-}
 
 some-there : {A : Type 0} (xs : List A) (i : ℕ) → i < length xs → (x : A) × (slice_get xs i ≡ Some x)
 some-there [] i h = absurd (omega arith)
@@ -401,16 +302,23 @@ some-there (x ∷ xs) zero h = (x, refl)
 some-there (x ∷ xs) (suc i) h = some-there xs i (omega arith)
 
 -- no task has changed
-pub unsettled-same : (tasks new : List Task) (place : ℕ) → place < length tasks → new ≡ tasks → IsUnsettled place tasks new
-unsettled-same tasks new place within is =
-    let one = some-there tasks place within in
-    record { task = one.0; there = one.1; after = one.0; same = same-task-as one.0; tasks = is ∙ sym (set_same tasks place one.0 one.1) }
+pub unsettled-same : (old new : Running) (place : ℕ) → place < length old.tasks.items → new.tasks.items ≡ old.tasks.items → IsSameSystem old.system new.system
+    → new.history.items ≡ old.history.items → new.ran ≡ old.ran → new.last_lent ≡ old.last_lent → IsUnsettled place old new
+unsettled-same old new place within is system history ran last =
+    let one = some-there old.tasks.items place within in
+    record {
+      task = one.0;
+      there = one.1;
+      after = one.0;
+      same = same-task-as one.0;
+      tasks = is ∙ sym (set_same old.tasks.items place one.0 one.1);
+      system = system;
+      history = history;
+      ran = ran;
+      last_lent = last;
+    }
 
 -- ---- strangers
-pub settle-strange : (P : Type 0) (d : Done) (r : Result Answer Rejected) → IfErr r (λ e. LackedMemory d e) → IfErr r (λ e. e.why ≡ Stranger → ¬ P)
-settle-strange P d (Ok a) handed = tt
-settle-strange P d (Err e) handed = λ why own. let cause : e.why ≡ OutOfMemory = handed.cause in cc
-
 not-out : (tasks : List Task) (pid : ℕ) → process_at (map process_of tasks) pid ≡ None → lending_at (map lending_of tasks) pid ≡ None
 not-out tasks zero h = refl
 not-out [] (suc k) h = refl

@@ -1,6 +1,6 @@
 -- What a kernel is booted from.
 use Rattle.std.specs.Prelude.{ℕ, List, map, None}
-use Rattle.machine.specs.First.{first_state}
+use Rattle.machine_model.specs.First.{first_state}
 use Rattle.disk_model.specs.declared.change.NamedFile.{NamedFile}
 use Rattle.kernel_model.specs.World.{BootProgram, Boot}
 use Rattle.kernel_model.specs.Answers.{Lending}

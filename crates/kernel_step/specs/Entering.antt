@@ -6,7 +6,8 @@ use Rattle.disk_model.specs.declared.change.NamedFile.{NamedFile}
 use Rattle.machine_model.specs.Access.{is_writable}
 use Rattle.machine_model.specs.States.{State, stands_at, replied}
 use Rattle.machine_model.specs.declared.stop.Stop.TheVariants.{Call}
-use Rattle.calls.specs.Plans.{IsPossible, NamesFiles, AreLeft, EditsAs, IsNext, MayAllStep, OpensAlone, OpensNone, all_seen}
+use Rattle.calls.specs.Plans.{effect_of, IsPossible, NamesFiles, AreLeft, EditsAs, IsNext, MayAllStep, OpensAlone, OpensNone, all_seen}
+use Rattle.calls.specs.Sights.{Sight}
 use Rattle.calls.specs.declared.plan.Plan.{Plan}
 use Rattle.commit_deps.specs.Keeps.{Keeps}
 use Rattle.commit_deps.specs.Marks.{IsMarkOf}
@@ -14,8 +15,7 @@ use Rattle.commit_deps.specs.declared.dependencies.Marked.{Marked}
 use Rattle.kernel_model.specs.Answers.{outcome_of}
 use Rattle.kernel_model.specs.Entries.{Entry, Item, Got, End as Ended}
 use Rattle.kernel_model.specs.Paths.{changes_in_log}
-use Rattle.kernel_model.specs.Rows.{Effect}
-use Rattle.kernel_model.specs.State.{SyncState, Process, PipeState, TapeState, new_pipe, process_at, put_process, changed_by, read_by, all_stepped}
+use Rattle.kernel_model.specs.State.{SyncState, Process, PipeState, new_pipe, process_at, put_process, changed_by, read_by, all_stepped}
 use Rattle.kernel_model.specs.Steps.{Transition, step, set_slots, children_after, forked, zero_reply}
 use Rattle.kernel_model.specs.declared.answer.Outcome.{Outcome}
 use Rattle.kernel_model.specs.declared.carrier.Carrier.{Carrier}
@@ -80,12 +80,6 @@ MayBeTold s (Ends status) = Unit {0}
 -- ---- what a plan comes to
 
 -- what calls may look at, of what is shared
-pub record Sight : Type 0 where
-  pub parts : List Part
-  pub files : List NamedFile
-  pub pipes : List Seen
-  pub tapes : List TapeState
-
 abbrev pub seen_of : System → Sight
 seen_of s = record { parts = s.processes.parts; files = s.files; pipes = s.pipes; tapes = s.tapes }
 
@@ -113,21 +107,6 @@ pub record MayPlan (seen : Sight) (pid : ℕ) : Type 0 where
   pub short : AllByRecursion (λ (f : NamedFile). length f.bytes ≤ 16384) seen.files
   pub named : NamesFiles (length seen.files) (descriptors_in (part_at seen.parts pid))
   pub ends : HaveRoom seen.pipes
-
--- what the plan says
-abbrev pub effect_of : Plan → Effect
-effect_of plan = record {
-  verdict = plan.verdict;
-  reads = plan.reads.items;
-  writes = plan.writes.items;
-  change = plan.change;
-  output = plan.output;
-  tape = plan.tape;
-  pipes = plan.pipes.items;
-  slots = plan.slots.items;
-  child = plan.child;
-  collects = plan.collects;
-}
 
 -- the entry of an Enter of process pid
 abbrev pub entry_of : ℕ → Plan → Entry

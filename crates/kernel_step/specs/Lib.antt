@@ -13,6 +13,7 @@ pub mod Seen
 pub mod Settling
 pub mod Stands
 pub mod Storing
+pub mod Taken
 pub mod Tasks
 pub mod Tests
 pub mod Unchanged

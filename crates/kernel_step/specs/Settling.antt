@@ -1,19 +1,20 @@
 -- What a loan's result does to the parts of a running kernel.
-use Rattle.std.specs.Prelude.{◌≡◌, ℕ, ◌+◌, List, [], ◌∷◌, ◌++◌, Option, Some, None, option_to_list, slice_get, slice_set}
+use Rattle.std.specs.Prelude.{◌≡◌, ℕ, ◌+◌, ◌^◌, ◌<◌, List, [], ◌∷◌, ◌++◌, length, Option, Some, None, option_to_list, slice_get, slice_set}
 use Rattle.machine_model.specs.States.{State}
 use Rattle.commit_deps.specs.declared.dependencies.Marked.{Marked}
 use Rattle.kernel_model.specs.declared.answer.Answer.{Answer}
 use Rattle.kernel_model.specs.declared.answer.Answer.TheVariants as answer_of
 use Rattle.kernel_model.specs.declared.answer.Outcome.{Outcome}
 use Rattle.kernel_model.specs.declared.answer.Refused.TheVariants.{OutOfMemory}
-use Rattle.kernel_model.specs.declared.event.Event.{Event}
-use Rattle.kernel_model.specs.declared.event.Event.TheVariants.{Turn}
+use Rattle.kernel_model.specs.declared.event.Event.TheVariants.{Turn, Enter}
 use Rattle.withheld.specs.Withheld.{IsSame}
-use Rattle.kernel_step.specs.Entering.{IsSameTask, IsDone}
+use Rattle.kernel_step.specs.Entering.{IsSameTask, IsSameSystem, IsDone}
 use Rattle.kernel_step.specs.Parts.{IsOwnNoted}
+use Rattle.kernel_step.specs.Ready.{MayEnter}
 use Rattle.kernel_step.specs.Tasks.{machine_of, out_of}
 use Rattle.kernel_step.specs.declared.loan.Done.{Done}
 use Rattle.kernel_step.specs.declared.loan.Rejected.{Rejected}
+use Rattle.kernel_step.specs.declared.running.Running.{Running}
 use Rattle.kernel_step.specs.declared.system.System.{System}
 use Rattle.kernel_step.specs.declared.task.Task.{Task}
 
@@ -44,12 +45,22 @@ pub record IsTurnNoted (pid : ℕ) (old new : System) : Type 0 where
   pub screens : new.screens.items ≡ old.screens.items
   pub committer : new.committer ≡ old.committer
 
--- a result became a Turn: its task is back, the Turn is noted and joined the history, and its instructions are counted
-pub record IsTurnSettled (d : Done) (old new : Task) (before later : System) (events events' : List Event) (ran ran' : ℕ) (a : Answer) : Type 0 where
-  pub back : IsBack d.machine old new
-  pub system : IsTurnNoted d.pid before later
-  pub history : events' ≡ events ++ Turn d.pid d.count ∷ []
-  pub counted : ran' ≡ ran + d.count
+-- a result of the process at this place may become a Turn: there is room to count its instructions
+pub record MaySettleTurn (place : ℕ) (r : Running) : Type 0 where
+  pub within : place < length r.tasks.items
+  pub few : r.ran < 2 ^ 63
+
+-- a result became a Turn: the task at this place is back, the Turn is noted and joined the history, and its instructions are counted
+pub record IsTurnSettled (d : Done) (place : ℕ) (old new : Running) (a : Answer) : Type 0 where
+  pub task : Task
+  pub there : slice_get old.tasks.items place ≡ Some task
+  pub after : Task
+  pub back : IsBack d.machine task after
+  pub tasks : new.tasks.items ≡ slice_set old.tasks.items place after
+  pub system : IsTurnNoted d.pid old.system new.system
+  pub history : new.history.items ≡ old.history.items ++ Turn d.pid d.count ∷ []
+  pub ran : new.ran ≡ old.ran + d.count
+  pub last_lent : new.last_lent ≡ old.last_lent
   pub answer : a ≡ answer_of.Settled d.count d.stop None
 
 -- what is shared, with these marks
@@ -64,24 +75,38 @@ pub record IsTurnEntered (pid : ℕ) (m : State) (old new : Task) (before later 
   pub turn : IsOwnNoted pid before.dependencies.marks marks
   pub entered : IsDone pid middle new (marked_with before marks) later outcome child
 
--- the same of the task at a place, where the child comes after all tasks, and its answer
-pub record IsCallSettled (d : Done) (place : ℕ) (old new : List Task) (before later : System) (a : Answer) : Type 0 where
+-- a result of the process at this place may become a Turn and an Enter
+pub record MaySettleCall (d : Done) (place : ℕ) (r : Running) : Type 0 where
+  pub within : place < length r.tasks.items
+  pub fine : (t : Task) → slice_get r.tasks.items place ≡ Some t → MayEnter r.system d.pid d.machine t.trace
+  pub few : r.ran < 2 ^ 63
+
+-- a result became a Turn and an Enter of the task at this place, which joined the history; its instructions are counted, and a child
+-- that it made comes after all tasks
+pub record IsCallSettled (d : Done) (place : ℕ) (old new : Running) (a : Answer) : Type 0 where
   pub task : Task
-  pub there : slice_get old place ≡ Some task
+  pub there : slice_get old.tasks.items place ≡ Some task
   pub after : Task
   pub child : Option Task
   pub outcome : Outcome
-  pub entered : IsTurnEntered d.pid d.machine task after before later outcome child
-  pub tasks : new ≡ slice_set old place after ++ option_to_list child
+  pub entered : IsTurnEntered d.pid d.machine task after old.system new.system outcome child
+  pub tasks : new.tasks.items ≡ slice_set old.tasks.items place after ++ option_to_list child
+  pub history : new.history.items ≡ old.history.items ++ Turn d.pid d.count ∷ Enter d.pid ∷ []
+  pub ran : new.ran ≡ old.ran + d.count
+  pub last_lent : new.last_lent ≡ old.last_lent
   pub answer : a ≡ answer_of.Settled d.count d.stop (Some outcome)
 
--- the task at a place is the same, though there may be room for more
-pub record IsUnsettled (place : ℕ) (old new : List Task) : Type 0 where
+-- a result was not taken back, and nothing has changed, though there may be room for more, also with the task at this place
+pub record IsUnsettled (place : ℕ) (old new : Running) : Type 0 where
   pub task : Task
-  pub there : slice_get old place ≡ Some task
+  pub there : slice_get old.tasks.items place ≡ Some task
   pub after : Task
   pub same : IsSameTask task after
-  pub tasks : new ≡ slice_set old place after
+  pub tasks : new.tasks.items ≡ slice_set old.tasks.items place after
+  pub system : IsSameSystem old.system new.system
+  pub history : new.history.items ≡ old.history.items
+  pub ran : new.ran ≡ old.ran
+  pub last_lent : new.last_lent ≡ old.last_lent
 
 -- memory ran out, and the result is handed back
 pub record LackedMemory (d : Done) (r : Rejected) : Type 0 where

@@ -5,7 +5,6 @@ ghost use Rattle.kernel_step.specs.Stands.{Stands, Steps};
 use crate::running::Running;
 use crate::storing::{complete, cut, fail, release};
 use crate::tasks::is_full;
-use crate::turn::turn;
 use commit_deps::silent_events_leave_marks;
 use kernel_model::{Answer, Event, Refused};
 
@@ -24,21 +23,6 @@ impl Running {
             Event::Complete { at } => self.complete(at),
             Event::Fail { at } => self.fail(at),
         }
-    }
-
-    /// The process runs at most n instructions.
-    fn turn(&mut self, pid: u32, n: u32) -> Result<Answer, Refused>
-        requires { (b : Boot) × Stands b self.old }
-        ensures { (b : Boot) → Stands b self.old → Steps b (Event.Turn pid n) self.old self.new result }
-    {
-        turn(
-            &mut self.history,
-            &mut self.ran,
-            &mut self.tasks,
-            &mut self.system.dependencies,
-            pid,
-            n,
-        )
     }
 
     /// A group of the first uncommitted changes is submitted to the disk.

@@ -1,23 +1,22 @@
 //! An Enter: a process is told what its call, or its trap, comes to.
-ghost use Rattle.std.specs.Prelude.{ℕ, ◌≡◌, ◌+◌, ◌*◌, ◌<◌, ◌≤◌, ◌^◌, ◌++◌, ◌∷◌, [], Option, length, map, Some, None, is_some, if◌then◌else◌, vec_len, vec_capacity, option_to_list, IfOk, IfErr, OnOk, OnErr};
+ghost use Rattle.std.specs.Prelude.{ℕ, ◌≡◌, ◌<◌, ◌≤◌, ◌^◌, ◌++◌, ◌∷◌, [], Option, length, Some, None, is_some, if◌then◌else◌, vec_len, vec_capacity, option_to_list, IfOk, IfErr, OnOk, OnErr};
 ghost use Rattle.std.specs.List.{AllByRecursion};
 ghost use Rattle.machine_model.specs.States.{State};
 ghost use Rattle.calls.specs.Plans.{MayAllStep, OpensNone, all_seen};
 ghost use Rattle.pipes.specs.Stepping.{seen_after, MayStep};
 ghost use Rattle.processes.specs.Parts.{part_at, with_part, with_slots};
-ghost use Rattle.kernel_model.specs.Answers.{Refuses, outcome_of, with_child, entered as answer_to};
+ghost use Rattle.kernel_model.specs.Answers.{Refuses, outcome_of, entered as answer_to};
 ghost use Rattle.kernel_model.specs.Entries.{Item};
 ghost use Rattle.kernel_model.specs.State.{changed_by, read_by};
 ghost use Rattle.withheld.specs.Withheld.{Withheld, IsSame};
-ghost use Rattle.kernel_model.specs.Steps.{step};
-ghost use Rattle.kernel_model.specs.World.{Boot, World, happens};
+ghost use Rattle.kernel_model.specs.World.{Boot};
 ghost use Rattle.kernel_step.specs.Stands.{Stands, Steps};
 ghost use Rattle.kernel_model.specs.declared.request.Verdict.TheVariants.{Replies as Told};
 ghost use Rattle.kernel_step.specs.Entering.{entry_of, item_of, parts_after, with_children, IsSpare, IsTold, HasSpaceFor, StayScreens, ArePrinted, IsSameSystem, IsSystemWith, IsChild, MakesTask, IsNoted, IsFinished, IsDone};
 ghost use Rattle.kernel_step.specs.Ready.{MayEnter, HasRoomForPlan, HasRoomForEnter, IsPrepared, TaskMayBeTold, ChildMayBeTold, MayChangeParts, MayChangeSystem, IsReady};
-ghost use Rattle.kernel_step.specs.Mirrors.{Mirrors};
-ghost use Rattle.kernel_step.specs.Tasks.{machine_of, out_of, count_out, lending_of};
-ghost use Rattle.kernel_step.specs.Tests.{full_of, enter_refusal_of};
+ghost use Rattle.kernel_step.specs.Taken.{is_full_with, MayTakeEnter, IsEnterTaken, IsNoEnterTaken};
+ghost use Rattle.kernel_step.specs.Tasks.{machine_of, out_of};
+ghost use Rattle.kernel_step.specs.Tests.{enter_refusal_of};
 ghost use Rattle.kernel_step.specs.Unchanged.{AreUnchanged};
 ghost use Rattle.kernel_step.specs.Waiting.{served_after};
 
@@ -414,47 +413,32 @@ fn enter_task(
     Ok((outcome, child))
 }
 
-/// The process enters the kernel. Refused, with nothing changed: NoProcess, Ended, Lent, NotStopped, Budget, OutOfMemory.
-pub fn enter(
-    history: &mut Vec<Event>,
-    tasks: &mut Vec<Task>,
-    system: &mut System,
-    pid: u32,
-) -> Result<Answer, Refused>
-    requires mirrors { (w : World) × Mirrors w tasks.old.items system.old × (length w.log ≤ 2 ^ 40) }
-    requires room { length history.old.items + 2 * count_out tasks.old.items ≤ 2 ^ 40 }
-    ensures fine { OnOk result (enter_refusal_of tasks.old.items (full_of (length history.old.items) tasks.old.items) pid ≡ None) }
-    ensures answer { IfOk result (λ a. (w : World) → Mirrors w tasks.old.items system.old
-        → a ≡ answer_to (outcome_of (step w.sync (Event.Enter pid)).entry.item)) }
-    ensures mirrors { OnOk result ((w : World) → Mirrors w tasks.old.items system.old
-        → Mirrors (happens w (Event.Enter pid)) tasks.new.items system.new) }
-    ensures history { OnOk result (history.new.items ≡ history.old.items ++ Event.Enter pid ∷ []) }
-    ensures lendings { OnOk result ((w : World) → Mirrors w tasks.old.items system.old
-        → map lending_of tasks.new.items ≡ with_child (map lending_of tasks.old.items) (step w.sync (Event.Enter pid)).entry.child) }
-    ensures refused { IfErr result (λ why. Refuses (enter_refusal_of tasks.old.items (full_of (length history.old.items) tasks.old.items) pid) why) }
-    ensures same { OnErr result ((w : World) → Mirrors w tasks.old.items system.old → Mirrors w tasks.new.items system.new) }
-    ensures same_history { OnErr result (history.new.items ≡ history.old.items) }
-    ensures same_lendings { OnErr result (map lending_of tasks.new.items ≡ map lending_of tasks.old.items) }
-{
-    checkpoints_fit();
-    made_files_change();
-    steps_are_shown();
-    ends_grow_by_one();
-    let full = is_full(history.len(), tasks);
-    let place = enter_place(tasks, full, pid)?;
-    tasks.reserve(1)?;
-    let task = &mut tasks[place];
-    let (outcome, child) = enter_task(history, system, pid, task)?;
-    join(tasks, child);
-    Ok(entered(outcome))
-}
-
 impl Running {
     /// The process enters the kernel by the call or the trap at which it stands.
     pub(crate) fn enter(&mut self, pid: u32) -> Result<Answer, Refused>
         requires { (b : Boot) × Stands b self.old }
         ensures { (b : Boot) → Stands b self.old → Steps b (Event.Enter pid) self.old self.new result }
     {
-        enter(&mut self.history, &mut self.tasks, &mut self.system, pid)
+        self.take_enter(pid)
+    }
+
+    /// The same of the parts. Refused, with nothing changed: NoProcess, Ended, Lent, NotStopped, Budget, OutOfMemory.
+    fn take_enter(&mut self, pid: u32) -> Result<Answer, Refused>
+        requires { MayTakeEnter self.old }
+        ensures done { IfOk result (IsEnterTaken pid self.old self.new) }
+        ensures refused { IfErr result (Refuses (enter_refusal_of self.old.tasks.items (is_full_with self.old) pid)) }
+        ensures same { OnErr result (IsNoEnterTaken self.old self.new) }
+    {
+        checkpoints_fit();
+        made_files_change();
+        steps_are_shown();
+        ends_grow_by_one();
+        let full = is_full(self.history.len(), &self.tasks);
+        let place = enter_place(&self.tasks, full, pid)?;
+        self.tasks.reserve(1)?;
+        let task = &mut self.tasks[place];
+        let (outcome, child) = enter_task(&mut self.history, &mut self.system, pid, task)?;
+        join(&mut self.tasks, child);
+        Ok(entered(outcome))
     }
 }

@@ -62,15 +62,7 @@ fn plan_enter(system: &System, pid: u32, machine: &Machine, stop: Stop) -> Resul
         }
         _ => {
             let request = request_of(system.alloc, machine)?;
-            plan_call(
-                system.alloc,
-                &system.files,
-                &system.pipes,
-                &system.tapes,
-                &system.processes,
-                pid,
-                request,
-            )
+            plan_call(system.alloc, &system.tables(), pid, request)
         }
     }
 }

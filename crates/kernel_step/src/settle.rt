@@ -1,12 +1,10 @@
 //! Loans' results taken back.
-ghost use Rattle.std.specs.Prelude.{◌≡◌, ◌+◌, ◌<◌, ◌^◌, ◌++◌, ◌∷◌, [], ◌↔◌, IsTrue, length, slice_get, Some, IfOk, IfErr, OnOk, OnErr};
+ghost use Rattle.std.specs.Prelude.{◌≡◌, ◌++◌, ◌∷◌, [], ◌↔◌, IsTrue, Some, IfOk, IfErr, OnOk, OnErr};
 ghost use Rattle.kernel_model.specs.World.{Boot};
 ghost use Rattle.kernel_step.specs.Stands.{Stands, Settles};
-ghost use Rattle.kernel_step.specs.declared.task.Task.{Task};
 ghost use Rattle.kernel_model.specs.declared.answer.Outcome.{Outcome};
-ghost use Rattle.kernel_step.specs.Entering.{IsSameSystem};
 ghost use Rattle.kernel_step.specs.Ready.{MayEnter};
-ghost use Rattle.kernel_step.specs.Settling.{IsLoanOf, IsBack, IsTurnSettled, IsTurnEntered, IsCallSettled, IsUnsettled, LackedMemory};
+ghost use Rattle.kernel_step.specs.Settling.{IsLoanOf, IsBack, MaySettleTurn, IsTurnSettled, IsTurnEntered, MaySettleCall, IsCallSettled, IsUnsettled, LackedMemory};
 ghost use Rattle.kernel_step.specs.Unchanged.{AreUnchanged};
 
 use crate::enter::{finish, join, note_enter, prepare};
@@ -40,46 +38,6 @@ fn come_back(task: &mut Task, machine: Machine)
     ensures trace { task.new.trace ≡ task.old.trace }
 {
     task.whereabouts = Whereabouts::Here(machine);
-}
-
-/// Takes a result back whose machine stands nowhere: it becomes a Turn, whose instructions are counted with those that ran
-/// before.
-fn settle_turn(
-    history: &mut Vec<Event>,
-    ran: &mut u64,
-    task: &mut Task,
-    system: &mut System,
-    done: Done,
-) -> Result<Answer, Rejected>
-    requires { ran.old < 2 ^ 63 }
-    ensures done { IfOk result (IsTurnSettled done task.old task.new system.old system.new history.old.items history.new.items ran.old ran.new) }
-    ensures err { OnErr result (AreUnchanged task.old task.new system.old system.new history.old.items history.new.items) }
-    ensures same_task { OnErr result (task.new ≡ task.old) }
-    ensures same_ran { OnErr result (ran.new ≡ ran.old) }
-    ensures back { IfErr result (LackedMemory done) }
-{
-    if reserve(history, &mut system.dependencies, 1, 1).is_err() {
-        return Err(Rejected {
-            why: Refused::OutOfMemory,
-            done,
-        });
-    }
-    let Done {
-        pid,
-        machine,
-        count,
-        stop,
-        ..
-    } = done;
-    note_own(&mut system.dependencies, pid);
-    come_back(task, machine);
-    history.push(Event::Turn { pid, n: count }).unwrap();
-    *ran += u64::from(count);
-    Ok(Answer::Settled {
-        count,
-        stop,
-        outcome: None,
-    })
 }
 
 /// Takes a result back of a task whose machine stands at a call or a trap: it becomes a Turn and an Enter. Answers what the Enter
@@ -124,42 +82,6 @@ fn settle_enter(
     Ok((answer, child))
 }
 
-/// Takes a result back of the process at this place, whose machine stands at a call or a trap: it becomes a Turn, whose
-/// instructions are counted with those that ran before, and an Enter.
-fn settle_call(
-    history: &mut Vec<Event>,
-    ran: &mut u64,
-    tasks: &mut Vec<Task>,
-    system: &mut System,
-    done: Done,
-    place: usize,
-) -> Result<Answer, Rejected>
-    requires there { place < length tasks.old.items }
-    requires fine { (t : Task) → slice_get tasks.old.items place ≡ Some t → MayEnter system.old done.pid done.machine t.trace }
-    requires few_ran { ran.old < 2 ^ 63 }
-    ensures done { IfOk result (λ a. IsCallSettled done place tasks.old.items tasks.new.items system.old system.new a) }
-    ensures history { OnOk result (history.new.items ≡ history.old.items ++ Event.Turn done.pid done.count ∷ Event.Enter done.pid ∷ []) }
-    ensures ran { OnOk result (ran.new ≡ ran.old + done.count) }
-    ensures same { OnErr result (IsUnsettled place tasks.old.items tasks.new.items) }
-    ensures same_system { OnErr result (IsSameSystem system.old system.new) }
-    ensures same_history { OnErr result (history.new.items ≡ history.old.items) }
-    ensures same_ran { OnErr result (ran.new ≡ ran.old) }
-    ensures back { IfErr result (LackedMemory done) }
-{
-    if tasks.reserve(1).is_err() {
-        return Err(Rejected {
-            why: Refused::OutOfMemory,
-            done,
-        });
-    }
-    let task = &mut tasks[place];
-    let count = u64::from(done.count);
-    let (answer, child) = settle_enter(history, system, task, done)?;
-    join(tasks, child);
-    *ran += count;
-    Ok(answer)
-}
-
 impl Running {
     /// Takes a loan's result back: it becomes a Turn of its instructions and, where the state reached stands at a call or
     /// a trap, an Enter. Refused, with the result: Stranger, exactly where it is not of the loan that its process is out
@@ -178,7 +100,7 @@ impl Running {
                 done,
             });
         };
-        let task = &mut self.tasks[place];
+        let task = &self.tasks[place];
         if !is_of_loan(task, &done) {
             return Err(Rejected {
                 why: Refused::Stranger,
@@ -186,21 +108,62 @@ impl Running {
             });
         }
         match done.machine.stopped() {
-            None => settle_turn(
-                &mut self.history,
-                &mut self.ran,
-                task,
-                &mut self.system,
-                done,
-            ),
-            Some(_) => settle_call(
-                &mut self.history,
-                &mut self.ran,
-                &mut self.tasks,
-                &mut self.system,
-                done,
-                place,
-            ),
+            None => self.settle_turn(done, place),
+            Some(_) => self.settle_call(done, place),
         }
+    }
+
+    /// Takes a result back of the process at this place, whose machine stands nowhere: it becomes a Turn, whose instructions are
+    /// counted with those that ran before. Refused, with nothing changed: OutOfMemory.
+    fn settle_turn(&mut self, done: Done, place: usize) -> Result<Answer, Rejected>
+        requires { MaySettleTurn place self.old }
+        ensures done { IfOk result (IsTurnSettled done place self.old self.new) }
+        ensures same { OnErr result (IsUnsettled place self.old self.new) }
+        ensures back { IfErr result (LackedMemory done) }
+    {
+        if reserve(&mut self.history, &mut self.system.dependencies, 1, 1).is_err() {
+            return Err(Rejected {
+                why: Refused::OutOfMemory,
+                done,
+            });
+        }
+        let Done {
+            pid,
+            machine,
+            count,
+            stop,
+            ..
+        } = done;
+        note_own(&mut self.system.dependencies, pid);
+        come_back(&mut self.tasks[place], machine);
+        self.history.push(Event::Turn { pid, n: count }).unwrap();
+        self.ran += u64::from(count);
+        Ok(Answer::Settled {
+            count,
+            stop,
+            outcome: None,
+        })
+    }
+
+    /// Takes a result back of the process at this place, whose machine stands at a call or a trap: it becomes a Turn, whose
+    /// instructions are counted with those that ran before, and an Enter. Refused, with nothing changed: OutOfMemory.
+    fn settle_call(&mut self, done: Done, place: usize) -> Result<Answer, Rejected>
+        requires { MaySettleCall done place self.old }
+        ensures done { IfOk result (IsCallSettled done place self.old self.new) }
+        ensures same { OnErr result (IsUnsettled place self.old self.new) }
+        ensures back { IfErr result (LackedMemory done) }
+    {
+        if self.tasks.reserve(1).is_err() {
+            return Err(Rejected {
+                why: Refused::OutOfMemory,
+                done,
+            });
+        }
+        let task = &mut self.tasks[place];
+        let count = u64::from(done.count);
+        let (answer, child) = settle_enter(&mut self.history, &mut self.system, task, done)?;
+        join(&mut self.tasks, child);
+        self.ran += count;
+        Ok(answer)
     }
 }

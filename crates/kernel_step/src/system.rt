@@ -1,6 +1,10 @@
 //! What all processes share: what events rest on, the changes, the files, the pipes, the tapes, the terminals and the disk,
 //! what is kept of all processes beside their machines, and the allocator.
-use calls::TapeTable;
+ghost use Rattle.std.specs.Prelude.{◌≡◌};
+ghost use Rattle.calls.specs.Sights.{sight_of};
+ghost use Rattle.kernel_step.specs.Entering.{seen_of};
+
+use calls::{Tables, TapeTable};
 use commit_deps::Dependencies;
 use disk_model::Change;
 use files::FileTable;
@@ -27,4 +31,18 @@ pub struct System {
     /// The bytes of the terminals, 0 to 7.
     pub screens: Vec<Withheld<u8>>,
     pub committer: Committer,
+}
+
+impl System {
+    /// The tables by which calls are planned.
+    pub fn tables(&self) -> Tables<'_>
+        ensures { sight_of result ≡ seen_of self.now }
+    {
+        Tables {
+            files: &self.files,
+            pipes: &self.pipes,
+            tapes: &self.tapes,
+            processes: &self.processes,
+        }
+    }
 }

@@ -1,12 +1,13 @@
 //! A Turn: a process runs.
-ghost use Rattle.std.specs.Prelude.{◌≡◌, ◌+◌, ◌*◌, ◌^◌, ◌≤◌, ◌<◌, ◌++◌, ◌∷◌, [], length, vec_len, vec_capacity, IfOk, IfErr, OnOk, OnErr};
+ghost use Rattle.std.specs.Prelude.{◌≡◌, ◌+◌, ◌≤◌, vec_len, vec_capacity, IfOk, IfErr, OnOk, OnErr};
 ghost use Rattle.kernel_model.specs.Answers.{Refuses};
-ghost use Rattle.kernel_model.specs.Ran.{ran_in};
-ghost use Rattle.kernel_step.specs.Parts.{IsOwnNoted, Turned};
-ghost use Rattle.kernel_step.specs.Tasks.{count_out};
-ghost use Rattle.kernel_step.specs.Tests.{full_of, turn_refusal_of};
+ghost use Rattle.kernel_model.specs.World.{Boot};
+ghost use Rattle.kernel_step.specs.Parts.{IsOwnNoted};
+ghost use Rattle.kernel_step.specs.Stands.{Stands, Steps};
+ghost use Rattle.kernel_step.specs.Taken.{is_full_with, MayTakeTurn, IsTurnTaken, IsNoTurnTaken};
+ghost use Rattle.kernel_step.specs.Tests.{turn_refusal_of};
 
-use crate::task::Task;
+use crate::running::Running;
 use crate::tasks::{is_full, run_at, turn_place};
 use commit_deps::{Carrier, Dependencies};
 use kernel_model::{Answer, Event, Refused};
@@ -38,34 +39,30 @@ pub fn note_own(dependencies: &mut Dependencies, pid: u32)
     dependencies.event(&own, &own, None).unwrap();
 }
 
-/// The process runs at most n instructions, which are counted with those that ran before. Refused, with nothing changed:
-/// NoProcess, Ended, Lent, Budget, OutOfMemory.
-pub fn turn(
-    history: &mut Vec<Event>,
-    ran: &mut u64,
-    tasks: &mut Vec<Task>,
-    dependencies: &mut Dependencies,
-    pid: u32,
-    n: u32,
-) -> Result<Answer, Refused>
-    requires room { length history.old.items + 2 * count_out tasks.old.items ≤ 2 ^ 40 }
-    requires few { ran.old < 2 ^ 63 }
-    ensures done { IfOk result (λ a. Turned (length history.old.items) pid n tasks.old.items tasks.new.items
-        dependencies.old.marks dependencies.new.marks a) }
-    ensures history { OnOk result (history.new.items ≡ history.old.items ++ Event.Turn pid n ∷ []) }
-    ensures ran { IfOk result (λ a. ran.new ≡ ran.old + ran_in a) }
-    ensures refused { IfErr result (λ why. Refuses (turn_refusal_of tasks.old.items (full_of (length history.old.items) tasks.old.items) pid n) why) }
-    ensures same_history { OnErr result (history.new.items ≡ history.old.items) }
-    ensures same_ran { OnErr result (ran.new ≡ ran.old) }
-    ensures same_tasks { OnErr result (tasks.new.items ≡ tasks.old.items) }
-    ensures same_marks { OnErr result (dependencies.new.marks ≡ dependencies.old.marks) }
-{
-    let full = is_full(history.len(), tasks);
-    let place = turn_place(tasks, full, pid, n)?;
-    reserve(history, dependencies, 1, 1)?;
-    let (count, stop) = run_at(tasks, place, n)?;
-    note_own(dependencies, pid);
-    history.push(Event::Turn { pid, n }).unwrap();
-    *ran += u64::from(count);
-    Ok(Answer::Ran { count, stop })
+impl Running {
+    /// The process runs at most n instructions.
+    pub(crate) fn turn(&mut self, pid: u32, n: u32) -> Result<Answer, Refused>
+        requires { (b : Boot) × Stands b self.old }
+        ensures { (b : Boot) → Stands b self.old → Steps b (Event.Turn pid n) self.old self.new result }
+    {
+        self.take_turn(pid, n)
+    }
+
+    /// The same of the parts. The instructions are counted with those that ran before. Refused, with nothing changed: NoProcess,
+    /// Ended, Lent, Budget, OutOfMemory.
+    fn take_turn(&mut self, pid: u32, n: u32) -> Result<Answer, Refused>
+        requires { MayTakeTurn self.old }
+        ensures done { IfOk result (IsTurnTaken pid n self.old self.new) }
+        ensures refused { IfErr result (Refuses (turn_refusal_of self.old.tasks.items (is_full_with self.old) pid n)) }
+        ensures same { OnErr result (IsNoTurnTaken self.old self.new) }
+    {
+        let full = is_full(self.history.len(), &self.tasks);
+        let place = turn_place(&self.tasks, full, pid, n)?;
+        reserve(&mut self.history, &mut self.system.dependencies, 1, 1)?;
+        let (count, stop) = run_at(&mut self.tasks, place, n)?;
+        note_own(&mut self.system.dependencies, pid);
+        self.history.push(Event::Turn { pid, n }).unwrap();
+        self.ran += u64::from(count);
+        Ok(Answer::Ran { count, stop })
+    }
 }

@@ -2,8 +2,8 @@
 ghost use Rattle.std.specs.Prelude.{◌≡◌, IfOk, length};
 
 use crate::asserting::{assert_row, assert_shown};
-use elf32::{ElfFault, Image, parse, write};
-use machine_model::Rights;
+use elf32::{ElfFault, parse, write};
+use machine_model::{Image, Rights};
 use std::alloc::{AllocError, Global};
 
 const ECALL: u32 = 0x0000_0073;

@@ -4,10 +4,9 @@ ghost use Rattle.std.specs.Prelude.{◌≡◌, ◌<◌, ◌≤◌, IfOk, length}
 use crate::asserting::assert_row;
 use crate::image_files::repeated;
 use byte_list::Bytes;
-use elf32::Image;
 use formats::Reg;
 use machine::Machine;
-use machine_model::{Cause, Reply, Stop};
+use machine_model::{Cause, Image, Reply, Stop};
 use std::alloc::{AllocError, Global};
 use std::process::Abort;
 

@@ -8,7 +8,7 @@ ghost use Rattle.calls.specs.Wholes.{IsWhole};
 
 use crate::asserting::assert_row;
 use byte_list::Bytes;
-use calls::{Plan, TapeTable, plan_call, plan_end, request_of};
+use calls::{Plan, Tables, TapeTable, plan_call, plan_end, request_of};
 use files::FileTable;
 use kernel_model::{Carrier, Descriptor, PipeEnd, PipeStep, Request, Slot, Verdict};
 use machine::{Image, Machine};
@@ -133,7 +133,13 @@ fn plan_of(alloc: Global, tapes: &TapeTable, request: Request) -> Result<Plan, A
     let files = file_of_abc(alloc)?;
     let pipes = PipeTable::new(alloc)?;
     let processes = two_processes(alloc)?;
-    plan_call(alloc, &files, &pipes, tapes, &processes, 2, request)
+    let tables = Tables {
+        files: &files,
+        pipes: &pipes,
+        tapes,
+        processes: &processes,
+    };
+    plan_call(alloc, &tables, 2, request)
 }
 
 /// What a plan tells its caller: a reply's number, or as an error the status with which it ends, if it does.

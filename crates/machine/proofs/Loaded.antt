@@ -6,9 +6,9 @@ use Rattle.std.proofs.lemmas.Bool.Decides.{nat_tests}
 use Rattle.std.proofs.lemmas.List.Elements.{All-head, All-tail, All-get_or}
 use Rattle.machine_model.specs.Access.{cell_with}
 use Rattle.machine_model.proofs.Memories.{get-memory_of}
-use Rattle.elf32.specs.declared.image.Segment.{Segment}
-use Rattle.elf32.specs.Images.{Program, IsLoadable, IsProfile, AreAscending, first_page, last_page}
-use Rattle.machine.specs.First.{has_page, byte_at, first_cell, first_state}
+use Rattle.machine_model.specs.declared.image.Segment.{Segment}
+use Rattle.machine_model.specs.Images.{Program, IsLoadable, IsProfile, AreAscending, first_page, last_page}
+use Rattle.machine_model.specs.First.{has_page, byte_at, first_cell, first_state}
 use Rattle.machine.proofs.Pages.{first_page-le}
 
 leb-yes : (m n : ℕ) → m ≤ n → leb m n ≡ true

@@ -8,9 +8,9 @@ use Rattle.machine_model.specs.Memory.{Memory, Cell, memory_of}
 use Rattle.machine_model.specs.Access.{HoldsBytes, byte_of, mapped, cell_with}
 use Rattle.machine_model.specs.declared.access.Rights.{Rights}
 use Rattle.machine_model.proofs.Memories.{get-memory_of, same_memory}
-use Rattle.elf32.specs.declared.image.Segment.{Segment}
-use Rattle.elf32.specs.Images.{IsLoadable, AreAscending, first_page, last_page, page_count}
-use Rattle.machine.specs.First.{first_cell, byte_at}
+use Rattle.machine_model.specs.declared.image.Segment.{Segment}
+use Rattle.machine_model.specs.Images.{IsLoadable, AreAscending, first_page, last_page, page_count}
+use Rattle.machine_model.specs.First.{first_cell, byte_at}
 
 zeros-at : (n k : ℕ) → slice_index (replicate n 0) k ≡ 0
 zeros-at n k =

@@ -2,9 +2,9 @@
 ghost use Rattle.std.specs.Prelude.{◌≡◌, ℕ, ◌+◌, ◌<◌, Some, All, slice_index};
 ghost use Rattle.std.specs.FinMap.{get};
 ghost use Rattle.machine_model.specs.Access.{cell_with};
-ghost use Rattle.elf32.specs.declared.image.Segment.{Segment};
-ghost use Rattle.elf32.specs.Images.{Program, IsProfile};
-ghost use Rattle.machine.specs.First.{first_state};
+ghost use Rattle.machine_model.specs.declared.image.Segment.{Segment};
+ghost use Rattle.machine_model.specs.Images.{Program, IsProfile};
+ghost use Rattle.machine_model.specs.First.{first_state};
 
 /// A law: in the first state of a program that may be loaded, at each address of each of its segments stands the segment's
 /// byte, which is 0 after those of the file, with the segment's rights.

@@ -10,7 +10,6 @@ mod machine;
 mod stopped;
 mod table;
 
-pub use elf32::{Image, Segment};
 pub use laws::segments_are_loaded;
 pub use machine::Machine;
-pub use machine_model::{Cause, Reply, Stop};
+pub use machine_model::{Cause, Image, Reply, Segment, Stop};

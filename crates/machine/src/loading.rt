@@ -2,11 +2,10 @@
 ghost use Rattle.std.specs.Prelude.{◌≡◌, ℕ, [], ◌+◌, ◌-◌, ◌*◌, ◌<◌, ◌≤◌, All, length, nat_le, if◌then◌else◌, slice_index, vec_len, IfOk, OnOk};
 ghost use Rattle.machine_model.specs.Memory.{memory_of};
 ghost use Rattle.machine_model.specs.Access.{HoldsBytes};
-ghost use Rattle.elf32.specs.Images.{IsLoadable, AreAscending, first_page, page_count};
-ghost use Rattle.machine.specs.First.{first_cell, byte_at};
+ghost use Rattle.machine_model.specs.Images.{IsLoadable, AreAscending, first_page, page_count};
+ghost use Rattle.machine_model.specs.First.{first_cell, byte_at};
 
-use elf32::Segment;
-use machine_model::Rights;
+use machine_model::{Rights, Segment};
 use memory::Space;
 use std::alloc::{AllocError, Global};
 

@@ -3,7 +3,7 @@ ghost use Rattle.std.specs.Prelude.{◌≡◌, ◌≢◌, ◌↔◌, ℕ, ◌+�
 ghost use Rattle.machine_model.specs.Access.{HoldsBytes, is_writable, put_bytes};
 ghost use Rattle.machine_model.specs.Effects.{reg as register};
 ghost use Rattle.machine_model.specs.States.{run as run_from, reached_at, stands_at, replied};
-ghost use Rattle.machine.specs.First.{first_state, first_registers};
+ghost use Rattle.machine_model.specs.First.{first_state, first_registers};
 ghost use Rattle.machine.specs.Kept.{Kept};
 
 use crate::decoded::tables_of;
@@ -11,10 +11,9 @@ use crate::fast::run_tables;
 use crate::loading::space_of;
 use crate::stopped::stop_at;
 use crate::table::Table;
-use elf32::Image;
 use formats::Reg;
 use isa_table::Regs;
-use machine_model::{Reply, Stop};
+use machine_model::{Image, Reply, Stop};
 use memory::Space;
 use std::alloc::{AllocError, Global};
 use std::marker::Model;

@@ -2,3 +2,4 @@ pub mod Memories
 pub mod Running
 pub mod Halting
 pub mod Stepping
+pub mod Words

@@ -3,5 +3,7 @@ pub mod Access
 pub mod Arithmetic
 pub mod Effects
 pub mod States
+pub mod Images
+pub mod First
 pub mod Steps
 pub mod Numbers

@@ -1,8 +1,8 @@
 //! Listings of images.
 use crate::fault::Fault;
 use byteorder::{ByteOrder, LittleEndian};
-use elf32::{Image, Segment};
 use formats::decode;
+use machine_model::{Image, Segment};
 use std::io::Write;
 
 /// Prints the line of a word: its address, the word, and the instruction that it means, if it means one.

@@ -2,10 +2,9 @@
 use crate::fault::Fault;
 use crate::script::{Action, Script, Step, Terminal};
 use crate::setup::Setup;
-use elf32::Image;
 use files::FileTable;
 use kernel::{Answer, Core, Event, Refused};
-use machine_model::{Reply, Stop};
+use machine_model::{Image, Reply, Stop};
 use std::alloc::Global;
 use std::io::Write;
 use std::rt::Files;

@@ -1,7 +1,7 @@
 //! Sources assembled to files of images.
 use crate::fault::Fault;
 use assembler::assemble;
-use elf32::{Image, Segment};
+use machine_model::{Image, Segment};
 use std::alloc::Global;
 
 /// What comes of a source: the bytes of its image's file, and the line that is printed.

@@ -10,7 +10,7 @@ use Rattle.machine_model.specs.declared.access.Rights.{Rights}
 use Rattle.machine_model.specs.declared.access.Width.TheVariants.{Word}
 use Rattle.machine_model.specs.declared.access.BusFault.{BusFault}
 use Rattle.machine_model.specs.declared.access.BusFault.TheVariants.{NoRight, Misaligned}
-use Rattle.elf32.specs.declared.image.Segment.{Segment}
+use Rattle.machine_model.specs.declared.image.Segment.{Segment}
 use Rattle.asm_text.specs.declared.token.Line.{Line}
 use Rattle.assembler.specs.Assembly.{text_segment}
 use Rattle.assembler.specs.Listed.{AreListed, IsListedFirst}

@@ -1,6 +1,6 @@
 -- The file of a program names it alone.
 use Rattle.std.proofs.Common.{◌≡◌, ℕ, List, Option, Some, None, sym, ◌∙◌, inl, inr}
-use Rattle.elf32.specs.Images.{Program, IsProfile}
+use Rattle.machine_model.specs.Images.{Program, IsProfile}
 use Rattle.elf32.specs.Checks.{first_fault}
 use Rattle.elf32.specs.Names.{IsRefused}
 use Rattle.elf32.specs.Files.{file_of, RoundTrips}

@@ -4,7 +4,7 @@ use Rattle.formats.specs.Meaning.{Means}
 use Rattle.formats.specs.declared.instr.Instr.{Instr}
 use Rattle.machine_model.specs.Memory.{Memory}
 use Rattle.machine_model.specs.Access.{fetched}
-use Rattle.elf32.specs.Images.{Program, IsProfile}
+use Rattle.machine_model.specs.Images.{Program, IsProfile}
 use Rattle.elf32.specs.Files.{file_of}
 use Rattle.elf32.specs.Names.{Names, IsRefused}
 use Rattle.elf32.specs.declared.fault.ElfFault.{ElfFault}
@@ -15,7 +15,7 @@ use Rattle.assembler.specs.Instructions.{IsInstruction, IsListedInstruction, ins
 use Rattle.assembler.specs.declared.mnemonic.Mnemonic.{Mnemonic}
 use Rattle.assembler.specs.declared.operands.Operands.{Operands}
 use Rattle.assembler.specs.declared.listing.Row.{Row}
-use Rattle.machine.specs.First.{first_state}
+use Rattle.machine_model.specs.First.{first_state}
 
 -- a file names this program and no other, and is refused for want of memory alone
 pub record NamesAlone (file : List ℕ) (program : Program) : Type 0 where

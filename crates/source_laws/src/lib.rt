@@ -2,7 +2,7 @@
 #![tactic(auto)]
 
 ghost use Rattle.std.specs.Prelude.{List, ℕ};
-ghost use Rattle.elf32.specs.Images.{Program};
+ghost use Rattle.machine_model.specs.Images.{Program};
 ghost use Rattle.assembler.specs.Assembly.{Assembles};
 ghost use Rattle.assembler.specs.declared.listing.Row.{Row};
 ghost use Rattle.source_laws.specs.Loaded.{IsLoadedAsListed};

@@ -1,10 +1,10 @@
 -- The laws of the crates below, put together.
 use Rattle.std.specs.Prelude.{All}
 use Rattle.machine_model.specs.Memory.{Memory}
-use Rattle.elf32.specs.Images.{IsProfile}
+use Rattle.machine_model.specs.Images.{IsProfile}
 use Rattle.assembler.specs.Assembly.{data_segments}
 use Rattle.assembler.specs.Sections.{IsByLines, text_of, data_of, data_begins}
-use Rattle.machine.specs.First.{first_state}
+use Rattle.machine_model.specs.First.{first_state}
 use Rattle.source_laws.specs.Loaded.{IsFetched}
 use Rattle.source_laws.proofs.Fetching.{text-fetched, instructions-fetched}
 use Rattle.source_laws.proofs.Files.{names-alone}

@@ -1,5 +1,5 @@
 use Rattle.std.proofs.Common.{◌≡◌, ◌++◌, drop}
-use Rattle.elf32.specs.Images.{bytes_of_words}
+use Rattle.machine_model.specs.Images.{bytes_of_words}
 use Rattle.assembler.specs.Assembly.{words_of}
 use Rattle.assembler.proofs.assembly.text_bytes.Given as goal
 

@@ -11,7 +11,7 @@ use Rattle.calls.proofs.plan.plan_row.Goals as goal
 
 pub returns-in-Read-clause-carries : goal.returns-in-Read-clause-carries
 returns-in-Read-clause-carries c =
-    let s = things c.args.files.now c.args.pipes.now c.args.tapes.now in
+    let s = things c.args.tables.now.files.now c.args.tables.now.pipes.now c.args.tables.now.tapes.now in
     let r = request.Read c.in-Read.fd c.in-Read.at c.in-Read.n c.in-Read.fits in
     let e = row s 0 c.args.descriptors.now [] r in
     let carries : IfSome e.change CarriesBytes = of_row (λ (e : Effect). IfSome e.change CarriesBytes) s c.args.descriptors.now [] r (record {

@@ -1,5 +1,5 @@
 -- One more half.
-use Rattle.elf32.proofs.Words.{halves_more}
+use Rattle.elf32.proofs.Halves.{halves_more}
 use Rattle.elf32.proofs.little_endian.put_halves.Goals as goal
 
 pub loop-half-preserved : goal.loop-half-preserved

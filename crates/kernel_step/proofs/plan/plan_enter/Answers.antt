@@ -1,6 +1,7 @@
 -- A plan, at a trap and at a call.
-use Rattle.std.proofs.Common.{◌≡◌, ◌∙◌, ap, Some, subst, List, Option, IfOk}
+use Rattle.std.proofs.Common.{◌≡◌, ◌∙◌, ap, Some, sym, subst, List, Option, IfOk}
 use Rattle.calls.specs.Plans.{IsPlan}
+use Rattle.calls.specs.Sights.{Sight, MayAsk, PlansCall}
 use Rattle.kernel_model.specs.Rows.{row_end}
 use Rattle.kernel_model.specs.declared.descriptor.Descriptor.{Descriptor}
 use Rattle.machine_model.specs.declared.stop.Stop.{Stop}
@@ -20,6 +21,12 @@ returns-in-Trap c =
     c.plan_end.ensures.few
     (c.plan_end.ensures.steps c.args.system.now.pipes)
 
+pub plan_call-requires : goal.plan_call-requires
+plan_call-requires c =
+    let fine = c.requires.fine in
+    subst (λ (seen : Sight). MayAsk seen c.args.pid c.in_ok-request-in_default.request) (sym c.tables.ensures)
+    (record { from_1 = fine.from_1; there = fine.there; few = fine.few; short = fine.short; whole = c.in_ok-request-in_default.ensures.whole; named = fine.named })
+
 pub returns-in_ok-request-in_default : goal.returns-in_ok-request-in_default
 returns-in_ok-request-in_default c =
     let call : c.args.stop ≡ Call = stands-call c.args.machine.now c.args.stop c.requires.stands (λ cause is. c.in_default.not-Trap cause is) in
@@ -27,14 +34,4 @@ returns-in_ok-request-in_default c =
     (c.requires.stands ∙ ap (λ (s : Stop). Some s) call)
     (c.in_ok-request-in_default.ensures.request)
     c.requires.fine.ends
-    c.plan_call.ensures.row
-    c.plan_call.ensures.one_entry
-    c.plan_call.ensures.opens
-    c.plan_call.ensures.few
-    c.plan_call.ensures.edits
-    c.plan_call.ensures.possible
-    c.plan_call.ensures.named
-    c.plan_call.ensures.left
-    c.plan_call.ensures.steps
-    c.plan_call.ensures.child
-    c.plan_call.ensures.place
+    (subst (λ (seen : Sight). IfOk c.plan_call.result (λ plan. PlansCall seen c.args.pid c.in_ok-request-in_default.request plan)) c.tables.ensures c.plan_call.ensures)

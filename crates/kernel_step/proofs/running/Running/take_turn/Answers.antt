@@ -6,7 +6,7 @@ use Rattle.kernel_step.specs.Tests.{turn_refusal_of, IsPlaceOf}
 use Rattle.kernel_step.specs.declared.task.Task.{Task}
 use Rattle.kernel_step.proofs.Refusing.{turn-fine}
 use Rattle.kernel_step.proofs.Turning.{turn-place}
-use Rattle.kernel_step.proofs.turn.turn.Goals as goal
+use Rattle.kernel_step.proofs.running.Running.take_turn.Goals as goal
 
 -- what stands at a place
 there-is : {A : Type 0} (xs : List A) (i : ℕ) → i < length xs → (x : A) × (slice_get xs i ≡ Some x)

@@ -1,10 +1,10 @@
 //! What may be loaded.
 ghost use Rattle.std.specs.Prelude.{◌≡◌, ◌<◌, ◌≤◌, length, IfOk};
-ghost use Rattle.elf32.specs.Images.{IsProfile, program_of_words};
+ghost use Rattle.machine_model.specs.Images.{IsProfile, program_of_words};
 
+use crate::access::Rights;
 use crate::little_endian::put_words;
 use byte_list::Bytes;
-use machine_model::Rights;
 use std::alloc::{AllocError, Global};
 use std::marker::Model;
 
@@ -29,13 +29,13 @@ pub struct Image {
 }
 
 impl Model for Image {
-    ghost use Rattle.elf32.specs.Images.{Program, program_code};
+    ghost use Rattle.machine_model.specs.Images.{Program, program_code};
 
     ghost Value = { Program };
 
     ghost coded = { program_code };
 
-    ghost use Rattle.elf32.specs.Images.{IsProfile};
+    ghost use Rattle.machine_model.specs.Images.{IsProfile};
 
     ghost view = { λ i. record { entry = i.entry; segments = i.segments.items } };
 

@@ -3,8 +3,8 @@ use Rattle.std.specs.Prelude.{ℕ, ◌-◌, ◌/◌, ◌&&◌, Bool, true, false
 use Rattle.machine_model.specs.Access.{cell_with}
 use Rattle.machine_model.specs.Memory.{Cell, memory_of}
 use Rattle.machine_model.specs.States.{State, hart, state}
-use Rattle.elf32.specs.declared.image.Segment.{Segment}
-use Rattle.elf32.specs.Images.{Program, first_page, last_page}
+use Rattle.machine_model.specs.declared.image.Segment.{Segment}
+use Rattle.machine_model.specs.Images.{Program, first_page, last_page}
 
 abbrev pub has_page : Segment → ℕ → Bool
 has_page s page = nat_le (first_page s) page && nat_le page (last_page s)

@@ -1,0 +1,94 @@
+-- A Turn or an Enter that the parts take is one of the run.
+use Rattle.std.proofs.Common.{◌≡◌, ℕ, List, Result, Ok, Err, refl, sym, subst}
+use Rattle.std.specs.Prelude.{IfOk, IfErr, OnErr}
+use Rattle.kernel_model.specs.Answers.{Refuses, Applies}
+use Rattle.kernel_model.specs.World.{Boot}
+use Rattle.kernel_model.specs.declared.answer.Answer.{Answer}
+use Rattle.kernel_model.specs.declared.answer.Refused.{Refused}
+use Rattle.kernel_model.specs.declared.event.Event.{Event}
+use Rattle.kernel_model.specs.declared.event.Event.TheVariants.{Turn, Enter}
+use Rattle.kernel_step.specs.Counted.{IsCounted}
+use Rattle.kernel_step.specs.Stands.{kernel_of, kernel_in, KeepsRun, Stands, Steps}
+use Rattle.kernel_step.specs.Taken.{is_full_with, IsTurnTaken, IsNoTurnTaken, IsEnterTaken, IsNoEnterTaken}
+use Rattle.kernel_step.specs.Tests.{turn_refusal_of, enter_refusal_of}
+use Rattle.kernel_step.specs.declared.running.Running.{Running}
+use Rattle.kernel_step.specs.declared.system.System.{System}
+use Rattle.kernel_step.specs.declared.task.Task.{Task}
+use Rattle.kernel_step.proofs.Applying.{turn-refusal-is, same-core, refused-applies, turned-core, turned-applies}
+use Rattle.kernel_step.proofs.Counting.{counted-other, counted-turn}
+use Rattle.kernel_step.proofs.EnterCore.{enter-core, enter-applies}
+
+-- the process that was lent last is the same
+same-lent : (b : Boot) (old new : Running) (e : Event) (r : Result Answer Refused) → new.last_lent ≡ old.last_lent
+    → Applies (kernel_in b old) e (kernel_of b new.history.items new.tasks.items old.last_lent) r → Applies (kernel_in b old) e (kernel_in b new) r
+same-lent b old new e r same h =
+    subst (λ (last : ℕ). Applies (kernel_in b old) e (kernel_of b new.history.items new.tasks.items last) r) (sym same) h
+
+pub turn-steps : (b : Boot) (old new : Running) (pid n : ℕ) (r : Result Answer Refused) → Stands b old
+    → IfOk r (λ a. IsTurnTaken pid n old new a)
+    → IfErr r (λ why. Refuses (turn_refusal_of old.tasks.items (is_full_with old) pid n) why)
+    → OnErr r (IsNoTurnTaken old new)
+    → Steps b (Turn pid n) old new r
+turn-steps b old new pid n (Ok a) h done why same =
+    let history : List Event = old.history.items in
+    let later : List Event = new.history.items in
+    let tasks : List Task = old.tasks.items in
+    let after : List Task = new.tasks.items in
+    let applies = turned-applies b history later tasks after old.system new.system.dependencies.marks old.last_lent pid n a h.parts done.history done.turned in
+    record {
+      stands = record {
+        parts =
+            subst (λ (s : System). KeepsRun b later after s) (sym done.system)
+            (turned-core b history later tasks after old.system new.system.dependencies pid n a h.parts done.history done.turned);
+        counted = counted-turn b history later tasks after old.last_lent old.ran new.ran pid n (Ok a) h.counted applies done.ran tt;
+      };
+      applies = same-lent b old new (Turn pid n) (Ok a) done.last_lent applies;
+    }
+turn-steps b old new pid n (Err e) h done why same =
+    let history : List Event = old.history.items in
+    let later : List Event = new.history.items in
+    let tasks : List Task = old.tasks.items in
+    let after : List Task = new.tasks.items in
+    let applies = refused-applies b history later tasks after old.last_lent (Turn pid n) (turn_refusal_of tasks (is_full_with old) pid n) e same.history same.tasks
+    (turn-refusal-is b history tasks old.system old.last_lent pid n h.parts) why in
+    record {
+      stands = record {
+        parts =
+            subst (λ (s : System). KeepsRun b later after s) (sym same.system)
+            (same-core b history later tasks after old.system new.system.dependencies same.history same.tasks same.marks h.parts);
+        counted = counted-turn b history later tasks after old.last_lent old.ran new.ran pid n (Err e) h.counted applies tt same.ran;
+      };
+      applies = same-lent b old new (Turn pid n) (Err e) same.last_lent applies;
+    }
+
+pub enter-steps : (b : Boot) (old new : Running) (pid : ℕ) (r : Result Answer Refused) → Stands b old
+    → IfOk r (λ a. IsEnterTaken pid old new a)
+    → IfErr r (λ why. Refuses (enter_refusal_of old.tasks.items (is_full_with old) pid) why)
+    → OnErr r (IsNoEnterTaken old new)
+    → Steps b (Enter pid) old new r
+enter-steps b old new pid (Ok a) h done why same =
+    let history : List Event = old.history.items in
+    let later : List Event = new.history.items in
+    let tasks : List Task = old.tasks.items in
+    let after : List Task = new.tasks.items in
+    let applies = enter-applies b history later tasks after old.system old.last_lent pid (Ok a) h.parts done.fine done.answer done.history done.lendings tt tt tt in
+    record {
+      stands = record {
+        parts = enter-core b history later tasks after old.system new.system pid (Ok a) h.parts done.fine done.mirrors done.history done.lendings tt tt tt;
+        counted = subst (IsCounted b later) (sym done.ran) (counted-other b history later tasks after old.last_lent old.ran (Enter pid) (Ok a) refl h.counted applies);
+      };
+      applies = same-lent b old new (Enter pid) (Ok a) done.last_lent applies;
+    }
+enter-steps b old new pid (Err e) h done why same =
+    let history : List Event = old.history.items in
+    let later : List Event = new.history.items in
+    let tasks : List Task = old.tasks.items in
+    let after : List Task = new.tasks.items in
+    let applies = enter-applies b history later tasks after old.system old.last_lent pid (Err e) h.parts tt tt tt tt why same.history same.lendings in
+    record {
+      stands = record {
+        parts = enter-core b history later tasks after old.system new.system pid (Err e) h.parts tt tt tt tt same.mirrors same.history same.lendings;
+        counted = subst (IsCounted b later) (sym same.ran) (counted-other b history later tasks after old.last_lent old.ran (Enter pid) (Err e) refl h.counted applies);
+      };
+      applies = same-lent b old new (Enter pid) (Err e) same.last_lent applies;
+    }

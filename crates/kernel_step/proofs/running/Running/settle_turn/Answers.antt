@@ -1,0 +1,49 @@
+-- The task is back, and the Turn is noted.
+use Rattle.std.proofs.Common.{◌≡◌, ◌∙◌, ℕ, ◌+◌, [], ◌∷◌, ◌++◌, List, refl, ap, subst, rules}
+use Rattle.commit_deps.specs.declared.dependencies.Marked.{Marked}
+use Rattle.kernel_model.specs.declared.event.Event.{Event}
+use Rattle.kernel_model.specs.declared.event.Event.TheVariants.{Turn}
+use Rattle.kernel_step.specs.Parts.{IsOwnNoted}
+use Rattle.kernel_step.proofs.Lists.{get-there}
+use Rattle.kernel_step.proofs.SettleCore.{unsettled-same}
+use Rattle.kernel_step.proofs.running.Running.settle_turn.Goals as goal
+
+pub returns-then-is_err-clause-same : goal.returns-then-is_err-clause-same
+returns-then-is_err-clause-same c =
+    unsettled-same c.args.self.now _ c.args.place c.requires.within refl (record {
+      marks = c.reserve.ensures.same_marks;
+      changes = refl;
+      files = refl;
+      tapes = refl;
+      pipes = refl;
+      parts = refl;
+      served = refl;
+      committer = refl;
+      screens = λ committed log screens. screens;
+    }) c.reserve.ensures.same_history refl refl
+
+pub returns-clause-done : goal.returns-clause-done
+returns-clause-done c =
+    let pushed : c.push.new.self.items ≡ c.reserve.new.history.items ++ Turn c.args.done.pid c.args.done.count ∷ [] = search rules in
+    record {
+      task = c.index_mut.result.now;
+      there = get-there c.args.self.now.tasks.items c.args.place c.index_mut.result.now c.requires.within c.index_mut.ensures.value;
+      after = c.come_back.new.task;
+      back = c.come_back.ensures.back;
+      tasks = refl;
+      system = record {
+        noted = subst (λ (ms : List Marked). IsOwnNoted c.args.done.pid ms c.note_own.new.dependencies.marks) c.reserve.ensures.same_marks c.note_own.ensures.noted;
+        changes = refl;
+        files = refl;
+        tapes = refl;
+        pipes = refl;
+        parts = refl;
+        served = refl;
+        screens = refl;
+        committer = refl;
+      };
+      history = pushed ∙ ap (λ (es : List Event). es ++ Turn c.args.done.pid c.args.done.count ∷ []) c.reserve.ensures.same_history;
+      ran = ap (λ (n : ℕ). c.args.self.now.ran + n) c.from.ensures;
+      last_lent = refl;
+      answer = refl;
+    }

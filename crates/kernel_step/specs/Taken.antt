@@ -1,0 +1,70 @@
+-- What a Turn and an Enter do to a running kernel.
+use Rattle.std.specs.Prelude.{◌≡◌, ℕ, ◌+◌, ◌*◌, ◌^◌, ◌<◌, ◌≤◌, Bool, [], ◌∷◌, ◌++◌, length, map, None}
+use Rattle.kernel_model.specs.Answers.{entered, outcome_of, with_child}
+use Rattle.kernel_model.specs.Ran.{ran_in}
+use Rattle.kernel_model.specs.Steps.{step}
+use Rattle.kernel_model.specs.World.{World, happens}
+use Rattle.kernel_model.specs.declared.answer.Answer.{Answer}
+use Rattle.kernel_model.specs.declared.event.Event.TheVariants.{Turn, Enter}
+use Rattle.kernel_step.specs.Mirrors.{Mirrors}
+use Rattle.kernel_step.specs.Parts.{Turned}
+use Rattle.kernel_step.specs.Tasks.{lending_of, count_out}
+use Rattle.kernel_step.specs.Tests.{full_of, enter_refusal_of}
+use Rattle.kernel_step.specs.declared.running.Running.{Running}
+
+-- the history has no room for one more event, with two kept for each loan that is out
+abbrev pub is_full_with : Running → Bool
+is_full_with r = full_of (length r.history.items) r.tasks.items
+
+-- ---- a Turn
+
+-- a Turn may be tried: the history has not more events than it may have, and there is room to count what runs
+pub record MayTakeTurn (r : Running) : Type 0 where
+  pub room : length r.history.items + 2 * count_out r.tasks.items ≤ 2 ^ 40
+  pub few : r.ran < 2 ^ 63
+
+-- process pid ran at most n instructions: its task, the marks, the history and the count of instructions say so, and nothing else
+-- has changed
+pub record IsTurnTaken (pid n : ℕ) (old new : Running) (a : Answer) : Type 0 where
+  pub turned : Turned (length old.history.items) pid n old.tasks.items new.tasks.items old.system.dependencies.marks new.system.dependencies.marks a
+  pub system : new.system ≡ record old.system { dependencies = new.system.dependencies }
+  pub history : new.history.items ≡ old.history.items ++ Turn pid n ∷ []
+  pub ran : new.ran ≡ old.ran + ran_in a
+  pub last_lent : new.last_lent ≡ old.last_lent
+
+-- no Turn was taken, and nothing has changed, though there may be room for more
+pub record IsNoTurnTaken (old new : Running) : Type 0 where
+  pub tasks : new.tasks.items ≡ old.tasks.items
+  pub marks : new.system.dependencies.marks ≡ old.system.dependencies.marks
+  pub system : new.system ≡ record old.system { dependencies = new.system.dependencies }
+  pub history : new.history.items ≡ old.history.items
+  pub ran : new.ran ≡ old.ran
+  pub last_lent : new.last_lent ≡ old.last_lent
+
+-- ---- an Enter
+
+-- an Enter may be tried: the parts keep what some run says, and the history has not more events than it may have
+pub record MayTakeEnter (r : Running) : Type 0 where
+  pub world : World
+  pub mirrors : Mirrors world r.tasks.items r.system
+  pub short : length world.log ≤ 2 ^ 40
+  pub room : length r.history.items + 2 * count_out r.tasks.items ≤ 2 ^ 40
+
+-- process pid entered the kernel: of whatever run the parts kept what it said, they do so after the Enter, which comes to this
+-- answer
+pub record IsEnterTaken (pid : ℕ) (old new : Running) (a : Answer) : Type 0 where
+  pub fine : enter_refusal_of old.tasks.items (is_full_with old) pid ≡ None
+  pub answer : (w : World) → Mirrors w old.tasks.items old.system → a ≡ entered (outcome_of (step w.sync (Enter pid)).entry.item)
+  pub mirrors : (w : World) → Mirrors w old.tasks.items old.system → Mirrors (happens w (Enter pid)) new.tasks.items new.system
+  pub lendings : (w : World) → Mirrors w old.tasks.items old.system → map lending_of new.tasks.items ≡ with_child (map lending_of old.tasks.items) (step w.sync (Enter pid)).entry.child
+  pub history : new.history.items ≡ old.history.items ++ Enter pid ∷ []
+  pub ran : new.ran ≡ old.ran
+  pub last_lent : new.last_lent ≡ old.last_lent
+
+-- no Enter was taken, and nothing has changed, though there may be room for more
+pub record IsNoEnterTaken (old new : Running) : Type 0 where
+  pub mirrors : (w : World) → Mirrors w old.tasks.items old.system → Mirrors w new.tasks.items new.system
+  pub lendings : map lending_of new.tasks.items ≡ map lending_of old.tasks.items
+  pub history : new.history.items ≡ old.history.items
+  pub ran : new.ran ≡ old.ran
+  pub last_lent : new.last_lent ≡ old.last_lent
