@@ -4,9 +4,12 @@
 mod apply;
 mod booting;
 mod enter;
+mod finishing;
 mod lend;
 mod loan;
 mod plan;
+mod replies;
+mod room;
 mod running;
 mod settle;
 mod storing;

@@ -7,8 +7,10 @@ ghost use Rattle.kernel_step.specs.Ready.{MayEnter};
 ghost use Rattle.kernel_step.specs.Settling.{IsLoanOf, IsBack, MaySettleTurn, IsTurnSettled, IsTurnEntered, MaySettleCall, IsCallSettled, IsUnsettled, LackedMemory};
 ghost use Rattle.kernel_step.specs.Unchanged.{AreUnchanged};
 
-use crate::enter::{finish, join, note_enter, prepare};
+use crate::enter::join;
+use crate::finishing::{finish, note_enter};
 use crate::loan::{Done, Rejected};
+use crate::room::prepare;
 use crate::running::Running;
 use crate::system::System;
 use crate::task::Task;

@@ -2,7 +2,7 @@
 use Rattle.std.proofs.Common.{refl, drop, ◌+◌}
 use Rattle.calls.specs.Plans.{all_seen}
 use Rattle.kernel_step.proofs.Performing.{left-first, left-next, left-none}
-use Rattle.kernel_step.proofs.enter.step_all.Goals as goal
+use Rattle.kernel_step.proofs.finishing.step_all.Goals as goal
 
 pub loop-step-init : goal.loop-step-init
 loop-step-init c = record { plain = c.requires.plain; may = c.requires.may; ends = refl }

@@ -1,7 +1,7 @@
 -- The process's own part is changed once its children are.
 use Rattle.kernel_model.specs.declared.request.Verdict.TheVariants.{Replies}
 use Rattle.kernel_step.proofs.Performing.{parts-wait, parts-reply, parts-end}
-use Rattle.kernel_step.proofs.enter.change_parts.Goals as goal
+use Rattle.kernel_step.proofs.finishing.change_parts.Goals as goal
 
 pub returns-in-Waits : goal.returns-in-Waits
 returns-in-Waits c = parts-wait c.args.processes.now.parts c.change_children.new.processes.parts c.args.pid c.args.plan.now c.in-Waits.is c.change_children.ensures

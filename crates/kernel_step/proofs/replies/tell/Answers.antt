@@ -2,7 +2,7 @@
 use Rattle.std.proofs.Common.{subst, sym}
 use Rattle.kernel_model.specs.declared.request.Verdict.{Verdict}
 use Rattle.kernel_step.specs.Entering.{IsTold}
-use Rattle.kernel_step.proofs.enter.tell.Goals as goal
+use Rattle.kernel_step.proofs.replies.tell.Goals as goal
 
 pub returns-in-Replies-clause-task : goal.returns-in-Replies-clause-task
 returns-in-Replies-clause-task c =

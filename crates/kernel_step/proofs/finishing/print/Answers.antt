@@ -6,7 +6,7 @@ use Rattle.withheld.specs.Withheld.{Withheld, all_held}
 use Rattle.kernel_step.specs.Entering.{HasSpaceFor}
 use Rattle.kernel_step.proofs.EnterScreens.{screens-stay, screens-elsewhere, screens-printed}
 use Rattle.kernel_step.proofs.Lists.{get-there}
-use Rattle.kernel_step.proofs.enter.print.Goals as goal
+use Rattle.kernel_step.proofs.finishing.print.Goals as goal
 
 pub returns-in_default : goal.returns-in_default
 returns-in_default c = λ committed log e h is_mark writes. screens-stay committed log e c.args.screens.now.items (writes ∙ c.in_default.is) h

@@ -1,7 +1,7 @@
 -- The later slots are left.
 use Rattle.std.proofs.Common.{◌≡◌, drop}
 use Rattle.processes.specs.Parts.{part_at, with_part, with_slots}
-use Rattle.kernel_step.proofs.enter.set_all.Given as goal
+use Rattle.kernel_step.proofs.finishing.set_all.Given as goal
 
 abbrev pub invariant-loop-slot : goal.invariant-loop-slot
 invariant-loop-slot l =

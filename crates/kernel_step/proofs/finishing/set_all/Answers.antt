@@ -1,6 +1,6 @@
 -- One slot more is set, and in the end all.
 use Rattle.kernel_step.proofs.Performing.{slots-set, slots-none}
-use Rattle.kernel_step.proofs.enter.set_all.Goals as goal
+use Rattle.kernel_step.proofs.finishing.set_all.Goals as goal
 
 pub loop-slot-preserved : goal.loop-slot-preserved
 loop-slot-preserved c =

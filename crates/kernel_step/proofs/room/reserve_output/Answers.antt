@@ -3,7 +3,7 @@ use Rattle.std.proofs.Common.{◌≡◌, ◌<◌, ℕ, length, vec_len, rules, a
 use Rattle.withheld.specs.Withheld.{Withheld}
 use Rattle.kernel_step.proofs.EnterScreens.{screens-same}
 use Rattle.kernel_step.proofs.Lists.{get-there}
-use Rattle.kernel_step.proofs.enter.reserve_output.Goals as goal
+use Rattle.kernel_step.proofs.room.reserve_output.Goals as goal
 
 pub returns-clause-same : goal.returns-clause-same
 returns-clause-same c = λ committed log h.

@@ -1,6 +1,6 @@
 -- A child is made or collected, or neither.
 use Rattle.kernel_step.proofs.Performing.{fork-children, collect-children, same-children}
-use Rattle.kernel_step.proofs.enter.change_children.Goals as goal
+use Rattle.kernel_step.proofs.finishing.change_children.Goals as goal
 
 pub returns-in-Some : goal.returns-in-Some
 returns-in-Some c = fork-children c.args.processes.now.parts c.fork.new.self.parts c.args.pid c.args.plan.now c.in-Some.field-0

@@ -3,7 +3,7 @@ use Rattle.std.proofs.Common.{◌++◌, ◌∙◌, ℕ, List, option_to_list, ap
 use Rattle.withheld.specs.Withheld.{Withheld}
 use Rattle.kernel_step.specs.Entering.{ArePrinted}
 use Rattle.kernel_step.specs.declared.system.System.{System}
-use Rattle.kernel_step.proofs.enter.finish.Goals as goal
+use Rattle.kernel_step.proofs.finishing.finish.Goals as goal
 
 pub print-requires : goal.print-requires
 print-requires c = c.requires.output
