@@ -7,20 +7,9 @@ use Rattle.std.proofs.lemmas.List.Elements.{All-cons}
 use Rattle.machine_model.specs.Access.{low_bytes}
 use Rattle.machine_model.specs.declared.image.Segment.{Segment}
 use Rattle.machine_model.specs.Images.{IsLoadable, IsProfile, bytes_of_words}
+use Rattle.machine_model.proofs.Words.{low_bytes-le, length-low_bytes}
 use Rattle.assembler.specs.Assembly.{pages, data_base, words_of, text_segment, data_segment, data_segments}
 use Rattle.assembler.specs.declared.filling.Cell.{Cell}
-
--- the four bytes of a word
-pub low_bytes-le : (word : ℕ) → to_le_bytes w32 word ≡ low_bytes 4 word
-low_bytes-le word =
-    let second : word / 65536 ≡ word / 256 / 256 = omega arith in
-    let third : word / 16777216 ≡ word / 256 / 256 / 256 = omega arith in
-    ap (λ (n : ℕ). word % 256 ∷ word / 256 % 256 ∷ n % 256 ∷ word / 16777216 % 256 ∷ []) second
-    ∙ ap (λ (n : ℕ). word % 256 ∷ word / 256 % 256 ∷ word / 256 / 256 % 256 ∷ n % 256 ∷ []) third
-
-length-low_bytes : (n value : ℕ) → length (low_bytes n value) ≡ n
-length-low_bytes zero value = refl
-length-low_bytes (suc n) value = ap suc (length-low_bytes n (value / 2 ^ 8))
 
 -- text has four bytes for each word
 pub text_length : (cells : List Cell) → length (bytes_of_words (words_of cells)) ≡ 4 * length cells

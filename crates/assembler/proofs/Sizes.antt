@@ -6,6 +6,7 @@ use Rattle.machine_model.specs.Access.{low_bytes}
 use Rattle.formats.specs.declared.instr.Instr.{Instr}
 use Rattle.asm_text.specs.declared.token.Token.{Token}
 use Rattle.asm_text.specs.declared.token.Line.{Line}
+use Rattle.machine_model.proofs.Words.{length-low_bytes}
 use Rattle.assembler.specs.Steps.{and_then}
 use Rattle.assembler.specs.Statements.{label_read, statement_read}
 use Rattle.assembler.specs.Expansion.{expansion_of, word_count, words_taken, modulo_word}
@@ -55,10 +56,6 @@ measured-advanced false words bytes size c d m longer = record {
 longer-none : (in_data : Bool) (c : Contents) → IsLonger in_data 0 c c
 longer-none true c = record { cells = omega arith; bytes = omega arith }
 longer-none false c = record { cells = omega arith; bytes = omega arith }
-
-length-low_bytes : (n value : ℕ) → length (low_bytes n value) ≡ n
-length-low_bytes zero value = refl
-length-low_bytes (suc n) value = ap suc (length-low_bytes n (value / 2 ^ 8))
 
 longer-word : (in_data : Bool) (line word : ℕ) (c : Contents) → IsLonger in_data (units_of 1 in_data) c (put_word in_data line word c)
 longer-word true line word c = record { cells = omega arith; bytes = length-append c.bytes (low_bytes 4 word) ∙ ap (λ (n : ℕ). length c.bytes + n) (length-low_bytes 4 word) }

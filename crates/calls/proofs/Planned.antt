@@ -1,5 +1,5 @@
 -- What holds of a row holds of a plan that says the same.
-use Rattle.std.proofs.Common.{◌≡◌, ◌≤◌, inr, ℕ, List, length, Option, Some, None, Result, Ok, Err, IfOk, IfSome, sym, ap, ◌∙◌, subst, arith}
+use Rattle.std.proofs.Common.{◌≡◌, ◌≤◌, inr, ℕ, List, length, Option, Some, None, Result, Ok, Err, IfOk, IfSome, refl, sym, ap, ◌∙◌, subst, arith}
 use Rattle.std.proofs.lemmas.List.{length-map}
 use Rattle.std.specs.declared.alloc.AllocError.{AllocError}
 use Rattle.disk_model.specs.declared.change.Change.{Change}
@@ -45,6 +45,21 @@ is-effect plan e is =
     ∙ ap (λ (x : List Slot). record e7 { slots = x }) (sym is.slots)
     ∙ ap (λ (x : Option ℕ). record e8 { child = x }) (sym is.child)
     ∙ ap (λ (x : Option ℕ). record e9 { collects = x }) (sym is.collects)
+
+-- a plan says what it says
+pub is-plan : (plan : Plan) (e : Effect) → effect_of plan ≡ e → IsPlan plan e
+is-plan plan e is = subst (IsPlan plan) is (record {
+  verdict = refl;
+  reads = refl;
+  writes = refl;
+  change = refl;
+  output = refl;
+  tape = refl;
+  pipes = refl;
+  slots = refl;
+  child = refl;
+  collects = refl;
+})
 
 -- a plan that says a row, for a caller with these descriptors, is as sound as the row
 pub planned : (r : Result Plan AllocError) (k : Kept) (p : ℕ) (asked : Request) (ds : List (Option Descriptor)) → ds ≡ k.descriptors → IsFine k asked

@@ -1,4 +1,4 @@
--- What calls may look at, and what holds of a plan that is made by it.
+-- What calls may look at, when a call may be planned from it, and what holds of the plan.
 use Rattle.std.specs.Prelude.{◌≡◌, ℕ, ◌+◌, ◌^◌, ◌<◌, ◌≤◌, List, length, Option, IfSome}
 use Rattle.std.specs.List.{AllByRecursion}
 use Rattle.disk_model.specs.declared.change.NamedFile.{NamedFile}
@@ -14,9 +14,8 @@ use Rattle.pipes.specs.Stepping.{HasAtMost}
 use Rattle.processes.specs.Parts.{Part, part_at, descriptors_in, children_in, statuses_of}
 use Rattle.calls.specs.Plans.{effect_of, IsPossible, NamesFiles, AreLeft, AtMostOneEntry, OpensAlone, EditsAs, MayAllStep, IsNext, MayBePlaced}
 use Rattle.calls.specs.Shares.{IsKept, shared_of}
-use Rattle.calls.specs.Wholes.{IsWhole}
 use Rattle.calls.specs.declared.plan.Plan.{Plan}
-use Rattle.calls.specs.declared.tables.Tables.{Tables}
+use Rattle.calls.specs.declared.tables.KernelTables.{KernelTables}
 
 -- what is kept of all processes beside their machines, the files, what is seen of the pipes, and the tapes
 pub record Sight : Type 0 where
@@ -26,34 +25,34 @@ pub record Sight : Type 0 where
   pub tapes : List TapeState
 
 -- what these tables show
-abbrev pub sight_of : Tables → Sight
+abbrev pub sight_of : KernelTables → Sight
 sight_of t = record { parts = t.processes.now.parts; files = t.files.now; pipes = t.pipes.now; tapes = t.tapes.now }
 
 -- calls may look at this much of a state
-abbrev pub IsShownOf : Shared → Sight → Type 0
-IsShownOf s seen = IsKept s (statuses_of seen.parts) seen.files seen.pipes seen.tapes
+abbrev pub IsSightOfShared : Shared → Sight → Type 0
+IsSightOfShared s seen = IsKept s (statuses_of seen.parts) seen.files seen.pipes seen.tapes
 
 -- the row of a request of process pid, by this much of a state, where its descriptors are these
-abbrev pub row_seen : Sight → ℕ → List (Option Descriptor) → Request → Effect
-row_seen seen pid ds request = row (shared_of (statuses_of seen.parts) seen.files seen.pipes seen.tapes) pid ds (children_in (part_at seen.parts pid)) request
+abbrev pub row_from : Sight → ℕ → List (Option Descriptor) → Request → Effect
+row_from seen pid ds request = row (shared_of (statuses_of seen.parts) seen.files seen.pipes seen.tapes) pid ds (children_in (part_at seen.parts pid)) request
 
--- A request of process pid may be planned: the process is there, and its descriptors name files that are there; the files are few
--- and short; and the bytes that come with the request are as many as it says.
-pub record MayAsk (seen : Sight) (pid : ℕ) (request : Request) : Type 0 where
+-- A call of process pid may be planned: the process is there, and its descriptors name files that are there; the files are few and
+-- short.
+pub record MayPlanCall (seen : Sight) (pid : ℕ) : Type 0 where
   pub from_1 : 0 < pid
   pub there : pid ≤ length seen.parts
   pub few : length seen.files ≤ 32
   pub short : AllByRecursion (λ (f : NamedFile). length f.bytes ≤ 16384) seen.files
-  pub whole : IsWhole request
   pub named : NamesFiles (length seen.files) (descriptors_in (part_at seen.parts pid))
 
--- The plan is what a request of process pid comes to, by the table of calls. It may be done: it sets descriptors, makes a child or
--- collects one, and never two of these; its steps of pipes are at most 16, and there is room for them where each end of a pipe stands in
--- fewer than 2^64 - 16 descriptors; its change of the files is possible, and leaves the caller's descriptors with files that are
--- there; it reads no more of a tape than is left; the child is the next process; and where a machine asks this request, the bytes of
--- the reply may be written at their place in that machine.
+-- The plan is what a request of process pid comes to, by the table of calls, and it may be done. At most one of these comes of it:
+-- descriptors are set, a child is made, a child is collected. Where it opens a pipe, that is its only step of the pipes. It has at
+-- most 16 steps, and there is room for them where fewer than 2^64 - 16 descriptors stand for each end of a pipe. Where the caller
+-- waits nothing changes, and where it ends nothing but the pipes. Its change of the files is possible, and the caller's
+-- descriptors still name files that are there. No more of a tape is read than is left. A child is the next process, and not one
+-- too many. Where a machine asks this request, the bytes of the reply may be written at their place in that machine.
 pub record PlansCall (seen : Sight) (pid : ℕ) (request : Request) (plan : Plan) : Type 0 where
-  pub effect : (s : Shared) → IsShownOf s seen → effect_of plan ≡ row s pid (descriptors_in (part_at seen.parts pid)) (children_in (part_at seen.parts pid)) request
+  pub effect : (s : Shared) → IsSightOfShared s seen → effect_of plan ≡ row s pid (descriptors_in (part_at seen.parts pid)) (children_in (part_at seen.parts pid)) request
   pub one_entry : AtMostOneEntry plan.slots.items plan.child plan.collects
   pub opens : OpensAlone plan.pipes.items
   pub few : length plan.pipes.items ≤ 16
@@ -61,6 +60,6 @@ pub record PlansCall (seen : Sight) (pid : ℕ) (request : Request) (plan : Plan
   pub possible : IfSome plan.change (IsPossible seen.files)
   pub named : NamesFiles (length (changed_by seen.files plan.change)) (set_slots (descriptors_in (part_at seen.parts pid)) plan.slots.items)
   pub left : IfSome plan.tape (AreLeft seen.tapes)
-  pub steps : (s : Shared) (n : ℕ) → IsShownOf s seen → AllByRecursion (HasAtMost n) s.pipes → n + 16 < 2 ^ 64 → MayAllStep seen.pipes plan.pipes.items
+  pub steps : (s : Shared) (n : ℕ) → IsSightOfShared s seen → AllByRecursion (HasAtMost n) s.pipes → n + 16 < 2 ^ 64 → MayAllStep seen.pipes plan.pipes.items
   pub child : IfSome plan.child (IsNext (length seen.parts))
   pub place : (s : State) → request ≡ request_of s → MayBePlaced s.hart.memory plan.verdict

@@ -3,7 +3,7 @@ ghost use Rattle.std.specs.Prelude.{◌≡◌, ◌≤◌, ◌%◌, List, [], len
 ghost use Rattle.kernel_model.specs.Rows.{end_of, ends_of, carrier_of, closing, on_pipe, row_close, row_end, descriptor_at};
 ghost use Rattle.kernel_model.specs.declared.effect.PipeStep.TheVariants.{Drop};
 ghost use Rattle.pipes.specs.Seen.{Seen};
-ghost use Rattle.calls.specs.Plans.{IsPlan, EditsAs, OpensAlone, MayAllStep};
+ghost use Rattle.calls.specs.Plans.{IsPlan, effect_of, EditsAs, OpensAlone, MayAllStep};
 
 use crate::errno::Errno;
 use crate::plan::Plan;
@@ -74,7 +74,7 @@ fn closing(alloc: Global, ends: &[PipeEnd], verdict: Verdict) -> Result<Plan, Al
 /// The end of a process with a status, 0 to 255 by a call, or 256 plus a trap's cause: each end of a pipe for which a
 /// descriptor of its stands is given up. Refused for want of memory alone.
 pub fn plan_end(alloc: Global, descriptors: &Descriptors, status: u32) -> Result<Plan, AllocError>
-    ensures row { IfOk result (λ plan. IsPlan plan (row_end descriptors.now status)) }
+    ensures row { IfOk result (λ plan. effect_of plan ≡ row_end descriptors.now status) }
     ensures edits { IfOk result (λ plan. EditsAs plan.verdict plan) }
     ensures opens { IfOk result (λ plan. OpensAlone plan.pipes.items) }
     ensures few { IfOk result (λ plan. length plan.pipes.items ≤ 16) }

@@ -21,5 +21,5 @@ pub use errno::Errno;
 pub use kernel_model::{Descriptor, Output, PipeStep, Request, Slot, TapeRead, Verdict};
 pub use plan::{Plan, plan_call};
 pub use request::request_of;
-pub use tables::Tables;
+pub use tables::KernelTables;
 pub use tapes::TapeTable;

@@ -6,7 +6,7 @@ ghost use Rattle.kernel_model.specs.Rows.{only, number, failure};
 ghost use Rattle.processes.specs.Parts.{part_at, descriptors_in};
 ghost use Rattle.calls.specs.Errors.{code_of};
 ghost use Rattle.calls.specs.Plans.{IsPlan, effect_of, CarriesBytes};
-ghost use Rattle.calls.specs.Sights.{sight_of, row_seen, MayAsk, PlansCall};
+ghost use Rattle.calls.specs.Sights.{sight_of, row_from, MayPlanCall, PlansCall};
 ghost use Rattle.calls.specs.Wholes.{IsWhole};
 
 use crate::ends::{close, exit};
@@ -16,7 +16,7 @@ use crate::open::open;
 use crate::pipe::pipe;
 use crate::read::{Place, read};
 use crate::seek::seek;
-use crate::tables::Tables;
+use crate::tables::KernelTables;
 use crate::verdict::number;
 use crate::wait::wait;
 use crate::write::write;
@@ -155,7 +155,7 @@ fn descriptors_of(processes: &ProcTable, pid: u32) -> &Descriptors
 /// The row of a request.
 fn plan_row(
     alloc: Global,
-    tables: &Tables,
+    tables: &KernelTables,
     pid: u32,
     descriptors: &Descriptors,
     request: Request,
@@ -163,14 +163,12 @@ fn plan_row(
     requires few { length tables.now.files.now ≤ 32 }
     requires short { AllByRecursion (λ (f : NamedFile). length f.bytes ≤ 16384) tables.now.files.now }
     requires whole { IsWhole request }
-    ensures row { IfOk result (λ plan. IsPlan plan (row_seen (sight_of tables.now) pid descriptors.now request)) }
+    ensures row { IfOk result (λ plan. IsPlan plan (row_from (sight_of tables.now) pid descriptors.now request)) }
     ensures carries { IfOk result (λ plan. IfSome plan.change CarriesBytes) }
 {
     match request {
         Request::Exit { status } => exit(alloc, descriptors, status),
-        Request::Write { fd, n, bytes } => {
-            write(alloc, tables.pipes, descriptors, fd, n, bytes)
-        }
+        Request::Write { fd, n, bytes } => write(alloc, tables.pipes, descriptors, fd, n, bytes),
         Request::Read { fd, at, n, fits } => {
             read(
                 alloc,
@@ -182,9 +180,7 @@ fn plan_row(
                 Place { at, n, fits },
             )
         }
-        Request::Open { n, mode, name } => {
-            open(alloc, tables.files, descriptors, n, mode, name)
-        }
+        Request::Open { n, mode, name } => open(alloc, tables.files, descriptors, n, mode, name),
         Request::Close { fd } => close(alloc, descriptors, fd),
         Request::Pipe { at, fits } => pipe(alloc, tables.pipes, descriptors, at, fits),
         Request::Fork => fork(alloc, tables.processes, descriptors),
@@ -201,11 +197,12 @@ fn plan_row(
 /// memory alone.
 pub fn plan_call(
     alloc: Global,
-    tables: &Tables,
+    tables: &KernelTables,
     pid: u32,
     request: Request,
 ) -> Result<Plan, AllocError>
-    requires { MayAsk (sight_of tables.now) pid request }
+    requires may { MayPlanCall (sight_of tables.now) pid }
+    requires whole { IsWhole request }
     ensures { IfOk result (λ plan. PlansCall (sight_of tables.now) pid request plan) }
 {
     let descriptors = descriptors_of(tables.processes, pid);

@@ -4,9 +4,9 @@ use files::FileTable;
 use pipes::PipeTable;
 use processes::ProcTable;
 
-/// The tables by which calls are planned. Nothing of them changes meanwhile.
+/// The tables of a kernel from which calls are planned. A plan changes nothing of them.
 #[derive(Clone, Copy)]
-pub struct Tables<'a> {
+pub struct KernelTables<'a> {
     pub files: &'a FileTable,
     pub pipes: &'a PipeTable,
     pub tapes: &'a TapeTable,

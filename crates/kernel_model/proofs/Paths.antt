@@ -1,5 +1,5 @@
 -- The test of what an event rests on.
-use Rattle.std.proofs.Common.{◌≡◌, ℕ, suc, ◌+◌, ◌<◌, ◌⊎◌, inl, inr, Bool, true, false, if◌then◌else◌, IsTrue, List, [], ◌∷◌, ◌++◌, take, Some, is_some, not, nat_lt, ◌||◌, refl, sym, subst, ◌∙◌, add_assoc, add-zero, slice_get}
+use Rattle.std.proofs.Common.{◌≡◌, ℕ, ◌+◌, ◌<◌, ◌⊎◌, inl, inr, Bool, true, false, if◌then◌else◌, IsTrue, List, [], ◌∷◌, ◌++◌, is_some, not, nat_lt, ◌||◌, refl, sym, subst, ◌∙◌}
 use Rattle.kernel_model.specs.declared.carrier.Carrier.{Carrier}
 use Rattle.kernel_model.specs.Entries.{Entry, meets}
 use Rattle.std.proofs.lemmas.Bool.{false≢true, ltb-true, lt-ltb, both_ways, not-true, and_parts, and_from, or_cases, or_left, or_right}

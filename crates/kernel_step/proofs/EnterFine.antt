@@ -9,7 +9,8 @@ use Rattle.kernel_model.specs.Answers.{first_of, ◌⇒◌, has_ended, is_stoppe
 use Rattle.kernel_step.specs.Tasks.{machine_of, out_of, process_of, lending_of, status_of}
 use Rattle.kernel_step.specs.Tests.{lent_of, enter_refusal_of}
 use Rattle.kernel_step.specs.declared.task.Task.{Task}
-use Rattle.kernel_step.proofs.Lists.{get-map}
+use Rattle.kernel_step.proofs.Refusing.{or-false}
+use Rattle.kernel_step.proofs.Turning.{process-place, lending-place}
 
 -- no test of five holds where there is no refusal
 none-of-five : (a b c d e : Bool) (r s t u v : Refused) → first_of ((a ⇒ r) ∷ (b ⇒ s) ∷ (c ⇒ t) ∷ (d ⇒ u) ∷ (e ⇒ v) ∷ []) ≡ None
@@ -20,10 +21,6 @@ none-of-five false false true d e r s t u v h = cc
 none-of-five false false false true e r s t u v h = cc
 none-of-five false false false false true r s t u v h = cc
 none-of-five false false false false false r s t u v h = (refl, refl, refl, refl, refl)
-
-or-false : (a b : Bool) → (a || b) ≡ false → (a ≡ false) × (b ≡ false)
-or-false true b h = cc
-or-false false b h = (refl, h)
 
 not-false : (b : Bool) → not b ≡ false → b ≡ true
 not-false true h = refl
@@ -54,25 +51,12 @@ fine-by t full h =
       room = last.1;
     }
 
--- the process of a number
-pub process-of : (tasks : List Task) (pid place : ℕ) (t : Task) → pid ≡ place + 1 → slice_get tasks place ≡ Some t
-    → process_at (map process_of tasks) pid ≡ Some (process_of t)
-process-of tasks pid place t number there =
-    let next : pid ≡ suc place = omega arith in
-    rw next (get-map process_of tasks place t there)
-
-lent-of : (tasks : List Task) (pid place : ℕ) (t : Task) → pid ≡ place + 1 → slice_get tasks place ≡ Some t
-    → lent_of tasks pid ≡ is_some (out_of t)
-lent-of tasks pid place t number there =
-    let next : pid ≡ suc place = omega arith in
-    rw (next, get-map lending_of tasks place t there) refl
-
 -- the refusal is that of the task
 pub refusal-of : (tasks : List Task) (full : Bool) (pid place : ℕ) (t : Task) → pid ≡ place + 1 → slice_get tasks place ≡ Some t
     → enter_refusal_of tasks full pid ≡ enter_refusal (Some (process_of t)) (is_some (out_of t)) full
 refusal-of tasks full pid place t number there =
-    ap (λ (o : Option Process). enter_refusal o (lent_of tasks pid) full) (process-of tasks pid place t number there)
-    ∙ ap (λ (b : Bool). enter_refusal (Some (process_of t)) b full) (lent-of tasks pid place t number there)
+    ap (λ (o : Option Process). enter_refusal o (lent_of tasks pid) full) (process-place tasks pid place t number there)
+    ∙ ap (λ (b : Bool). enter_refusal (Some (process_of t)) b full) (lending-place tasks pid place t number there)
 
 pub fine-task : (tasks : List Task) (full : Bool) (pid place : ℕ) (t : Task) → pid ≡ place + 1 → slice_get tasks place ≡ Some t
     → enter_refusal_of tasks full pid ≡ None → IsFineTask t full

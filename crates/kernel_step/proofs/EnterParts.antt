@@ -16,9 +16,8 @@ use Rattle.kernel_model.specs.declared.effect.PipeStep.{PipeStep}
 use Rattle.kernel_step.specs.Entering.{descriptors_after, part_after, process_after, born, parts_after, planned}
 use Rattle.kernel_step.specs.Mirrors.{IsPart, AreParts, ArePipes}
 use Rattle.kernel_step.proofs.EnterPlans.{part-seen}
-use Rattle.calls.proofs.Files.{NamesFiles-more}
 use Rattle.kernel_model.proofs.Limits.{changed_by_grows}
-use Rattle.kernel_step.proofs.EnterTasks.{world_after}
+use Rattle.kernel_step.proofs.EnterTasks.{world_after, names-more}
 use Rattle.kernel_step.proofs.Lists.{length-snoc}
 
 -- ---- the parts
@@ -36,11 +35,11 @@ parts-same ps (suc k) p plan e =
     ∙ sym (map-append part_of (slice_set ps k (process_after p plan)) (forked p plan.child))
 
 part-more : (n m : ℕ) (part : Part) → n ≤ m → IsPart n part → IsPart m part
-part-more n m part more h = record { named = NamesFiles-more n m more part.descriptors h.named }
+part-more n m part more h = record { named = names-more n m more part.descriptors h.named }
 
 born-parts : (n m : ℕ) (part : Part) (o : Option ℕ) → n ≤ m → IsPart n part → AllByRecursion (IsPart m) (born (Some part) o)
 born-parts n m part None more h = tt
-born-parts n m part (Some child) more h = (record { named = NamesFiles-more n m more part.descriptors h.named }, tt)
+born-parts n m part (Some child) more h = (record { named = names-more n m more part.descriptors h.named }, tt)
 
 after-parts : (parts : List Part) (pid n m : ℕ) (part : Part) (plan : Plan) → part_at parts pid ≡ Some part → n ≤ m
     → NamesFiles m (descriptors_after part.descriptors plan.verdict plan.slots.items)

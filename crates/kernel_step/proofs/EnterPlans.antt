@@ -8,10 +8,9 @@ use Rattle.machine_model.specs.declared.stop.Stop.TheVariants.{Limit, Call, Trap
 use Rattle.machine_model.specs.declared.stop.Cause.{Cause}
 use Rattle.machine_model.proofs.Halting.{next-not_limit}
 use Rattle.calls.specs.Plans.{IsPlan, effect_of, IsPossible, NamesFiles, AreLeft, OpensAlone, MayBePlaced, EditsAs, EditsPipesAlone, IsNext, MayAllStep}
-use Rattle.calls.specs.Sights.{Sight, PlansCall}
+use Rattle.calls.specs.Sights.{Sight, IsSightOfShared, PlansCall}
 use Rattle.calls.specs.Shares.{IsKept}
 use Rattle.calls.specs.declared.plan.Plan.{Plan}
-use Rattle.calls.proofs.Planned.{is-effect}
 use Rattle.processes.specs.Parts.{Part, part_of, part_at, descriptors_in, children_in, statuses_of}
 use Rattle.kernel_model.specs.State.{SyncState, Shared as Seen, PipeState, Process, shared, process_at, put_process, changed_by, read_by, all_stepped}
 use Rattle.kernel_model.specs.Requests.{request_of}
@@ -180,7 +179,7 @@ statuses : (ps : List Process) → map (λ (p : Process). p.status) ps ≡ statu
 statuses [] = refl
 statuses (p ∷ ps) = ap (λ (xs : List (Option ℕ)). p.status ∷ xs) (statuses ps)
 
-kept : (state : SyncState) (seen : Sight) → IsSightOf state seen → IsKept (shared state) (statuses_of seen.parts) seen.files seen.pipes seen.tapes
+kept : (state : SyncState) (seen : Sight) → IsSightOf state seen → IsSightOfShared (shared state) seen
 kept state seen sight = record {
   statuses = statuses state.processes ∙ ap (λ (parts : List Part). statuses_of parts) (sym sight.parts);
   files = sym sight.files;
@@ -218,7 +217,7 @@ pub call-plans : (seen : Sight) (pid : ℕ) (s : State) (plan : Plan) → stands
 call-plans seen pid s plan stands ends calls =
     let ds : List (Option Descriptor) = descriptors_in (part_at seen.parts pid) in
     let x : Seen = sight_shared seen ends.pipes in
-    let look : IsKept x (statuses_of seen.parts) seen.files seen.pipes seen.tapes = record { statuses = refl; files = refl; pipes = ends.shown; tapes = refl } in
+    let look : IsSightOfShared x seen = record { statuses = refl; files = refl; pipes = ends.shown; tapes = refl } in
     record {
       goes = λ state p sight there state_is running.
           let part : part_at seen.parts pid ≡ Some (part_of p) = part-at state seen pid p sight there in
@@ -240,7 +239,7 @@ call-plans seen pid s plan stands ends calls =
 -- ---- at a trap
 pub trap-plans : (seen : Sight) (pid : ℕ) (s : State) (plan : Plan) (cause : Cause) (status : ℕ)
     → stands_at s ≡ Some (Trap cause) → status ≡ 256 + cause_number cause
-    → IsPlan plan (row_end (descriptors_in (part_at seen.parts pid)) status)
+    → effect_of plan ≡ row_end (descriptors_in (part_at seen.parts pid)) status
     → EditsAs plan.verdict plan → OpensAlone plan.pipes.items → length plan.pipes.items ≤ 16 → MayAllStep seen.pipes plan.pipes.items
     → PlansEnter seen pid s plan
 trap-plans seen pid s plan cause status stands number is edits opens few may =
@@ -248,26 +247,26 @@ trap-plans seen pid s plan cause status stands number is edits opens few may =
     record {
       goes = λ state p sight there state_is running.
           let part : part_at seen.parts pid ≡ Some (part_of p) = part-at state seen pid p sight there in
-          step-by state pid p plan (row_end ds status) (sym (is-effect plan (row_end ds status) is)) edits there running
+          step-by state pid p plan (row_end ds status) is edits there running
           (ap (λ (o : Option Stop). effect_at (shared state) pid p o) (ap stands_at state_is ∙ stands)
           ∙ ap (λ (o : Option Part). Some (row_end (descriptors_in o) (256 + cause_number cause))) (sym part)
           ∙ ap (λ n. Some (row_end ds n)) (sym number));
-      verdict = subst (λ (v : Verdict). MayBeTold s v) (sym is.verdict) tt;
+      verdict = subst (λ (v : Verdict). MayBeTold s v) (sym (ap (λ (e : Effect). e.verdict) is)) tt;
       edits = edits;
-      one_child = inl is.child;
-      possible = subst (λ (o : Option Change). IfSome o (IsPossible seen.files)) (sym is.change) tt;
-      left = subst (λ (o : Option TapeRead). IfSome o (AreLeft seen.tapes)) (sym is.tape) tt;
+      one_child = inl (ap (λ (e : Effect). e.child) is);
+      possible = subst (λ (o : Option Change). IfSome o (IsPossible seen.files)) (sym (ap (λ (e : Effect). e.change) is)) tt;
+      left = subst (λ (o : Option TapeRead). IfSome o (AreLeft seen.tapes)) (sym (ap (λ (e : Effect). e.tape) is)) tt;
       named =
-          subst (λ (v : Verdict). NamesFiles (length (changed_by seen.files plan.change)) (descriptors_after ds v plan.slots.items)) (sym is.verdict)
+          subst (λ (v : Verdict). NamesFiles (length (changed_by seen.files plan.change)) (descriptors_after ds v plan.slots.items)) (sym (ap (λ (e : Effect). e.verdict) is))
           (closed-names (length (changed_by seen.files plan.change)) ds);
       steps = record { kind = opens; few = few };
       may = may;
-      child = subst (λ (o : Option ℕ). IfSome o (IsNext (length seen.parts))) (sym is.child) tt;
+      child = subst (λ (o : Option ℕ). IfSome o (IsNext (length seen.parts))) (sym (ap (λ (e : Effect). e.child) is)) tt;
     }
 
 pub trap-result : {E : Type 0} (seen : Sight) (pid : ℕ) (s : State) (r : Result Plan E) (cause : Cause) (status : ℕ)
     → stands_at s ≡ Some (Trap cause) → status ≡ 256 + cause_number cause
-    → IfOk r (λ plan. IsPlan plan (row_end (descriptors_in (part_at seen.parts pid)) status))
+    → IfOk r (λ plan. effect_of plan ≡ row_end (descriptors_in (part_at seen.parts pid)) status)
     → IfOk r (λ plan. EditsAs plan.verdict plan)
     → IfOk r (λ plan. OpensAlone plan.pipes.items)
     → IfOk r (λ plan. length plan.pipes.items ≤ 16)

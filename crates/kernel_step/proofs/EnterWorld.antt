@@ -30,7 +30,7 @@ use Rattle.kernel_model.specs.declared.event.Event.TheVariants.{Enter}
 use Rattle.kernel_model.specs.declared.request.Verdict.{Verdict}
 use Rattle.kernel_model.specs.declared.request.Verdict.TheVariants.{Waits, Replies, Ends}
 use Rattle.calls.specs.Sights.{Sight}
-use Rattle.kernel_step.specs.Entering.{IsSightOf, item_of, descriptors_after, seen_of, MayPlan, entry_of, parts_after, planned, PlansEnter, MakesTask, IsNoted, IsFinished, IsEntered, IsDone, IsTold, IsSameTask, IsSystemWith, IsSameSystem}
+use Rattle.kernel_step.specs.Entering.{IsSightOf, item_of, descriptors_after, sight_in, MayPlan, entry_of, parts_after, planned, PlansEnter, MakesTask, IsNoted, IsFinished, IsEntered, IsDone, IsTold, IsSameTask, IsSystemWith, IsSameSystem}
 use Rattle.withheld.specs.Withheld.{Withheld, Held, whats}
 use Rattle.kernel_step.specs.Mirrors.{IsTask, AreTasks, IsPart, AreChanges, AreParts, ArePipes, Mirrors}
 use Rattle.kernel_step.specs.Seen.{AreScreens}
@@ -62,7 +62,7 @@ pub record EnterLaws : Type 0 where
   pub pipes : PipeLaws
 
 -- ---- what the plan rests on
-pub sight-is : (w : World) (tasks : List Task) (s : System) → Mirrors w tasks s → IsSightOf w.sync (seen_of s)
+pub sight-is : (w : World) (tasks : List Task) (s : System) → Mirrors w tasks s → IsSightOf w.sync (sight_in s)
 sight-is w tasks s h = record { parts = h.parts.same; files = h.changes.files; pipes = h.pipes.shown; tapes = h.tapes }
 
 -- there are as many tasks as parts
@@ -80,7 +80,7 @@ pub part-there : (w : World) (tasks : List Task) (s : System) (pid : ℕ) (t : T
 part-there w tasks s pid t h of = ap (λ (xs : List Part). part_at xs pid) h.parts.same ∙ part-seen w.sync.processes pid of.process of.there
 
 pub may-plan : RebuiltLaw → (w : World) (tasks : List Task) (s : System) (pid place : ℕ) (t : Task) → Mirrors w tasks s → length w.log ≤ 2 ^ 40
-    → pid ≡ place + 1 → slice_get tasks place ≡ Some t → MayPlan (seen_of s) pid
+    → pid ≡ place + 1 → slice_get tasks place ≡ Some t → MayPlan (sight_in s) pid
 may-plan law w tasks s pid place t h short number there =
     let made : IsMade s.files = subst (λ (fs : List NamedFile). IsMade fs) (sym h.changes.files) h.changes.made in
     let rebuilt : CanBeRebuilt s.files = law s.files made in
@@ -92,13 +92,15 @@ may-plan law w tasks s pid place t h short number there =
     let within : place < length tasks = get-within tasks place t there in
     let size : length tasks ≡ length s.processes.parts = as-many w tasks s h in
     record {
-      from_1 = omega (arith, number);
-      there = omega (arith, number, within, size);
-      few = rebuilt.few;
-      short = rebuilt.short;
-      named =
-          subst (λ (o : Option Part). NamesFiles (length s.files) (descriptors_in o)) (sym at)
-          (subst (λ (fs : List NamedFile). NamesFiles (length fs) of.process.descriptors) (sym h.changes.files) part.named);
+      call = record {
+        from_1 = omega (arith, number);
+        there = omega (arith, number, within, size);
+        few = rebuilt.few;
+        short = rebuilt.short;
+        named =
+            subst (λ (o : Option Part). NamesFiles (length s.files) (descriptors_in o)) (sym at)
+            (subst (λ (fs : List NamedFile). NamesFiles (length fs) of.process.descriptors) (sym h.changes.files) part.named);
+      };
       ends = record { pipes = w.sync.pipes; most = 16 * length w.log; shown = h.pipes.shown; few = h.pipes.few; room = omega (arith, short) };
     }
 
@@ -187,7 +189,7 @@ done-runs laws w tasks s s' pid place full t t' outcome child h number there fin
     let x : Entry = entry_of pid plan in
     let of : IsProcessOf w.sync.processes pid t = process-there w s.served tasks pid place t h.each number there in
     let goes : step w.sync (Enter pid) ≡ planned w.sync pid of.process plan =
-    enter-steps w (seen_of s) pid full t plan of (sight-is w tasks s h) fine done.plans in
+    enter-steps w (sight_in s) pid full t plan of (sight-is w tasks s h) fine done.plans in
     let entry : (step w.sync (Enter pid)).entry ≡ x = ap (λ (y : Transition). y.entry) goes in
     let v : World = world_after w (planned w.sync pid of.process plan) in
     let size : length s.processes.parts ≡ length tasks = sym (as-many w tasks s h) in

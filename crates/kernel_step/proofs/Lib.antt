@@ -27,7 +27,7 @@ pub mod SettleAccepted
 pub mod SettleCore
 pub mod SettleWorld
 pub mod Settled
-pub mod Taken
 pub mod Telling
+pub mod Trying
 pub mod Turning
 pub mod Writing

@@ -23,6 +23,12 @@ get-within [] i x e = cc
 get-within (y ∷ ys) zero x e = omega arith
 get-within (y ∷ ys) (suc i) x e = let rest : i < length ys = get-within ys i x e in omega arith
 
+-- something stands at each place within
+pub some-there : {A : Type 0} (xs : List A) (i : ℕ) → i < length xs → (x : A) × (slice_get xs i ≡ Some x)
+some-there [] i h = absurd (omega arith)
+some-there (x ∷ xs) zero h = (x, refl)
+some-there (x ∷ xs) (suc i) h = some-there xs i (omega arith)
+
 -- what stands in a list where x was set
 pub get-set : {A : Type 0} (xs : List A) (i j : ℕ) (x y : A) → slice_get (slice_set xs i x) j ≡ Some y
     → ((j ≡ i) × (y ≡ x)) ⊎ ((j ≡ i → ⊥) × (slice_get xs j ≡ Some y))

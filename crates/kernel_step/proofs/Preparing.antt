@@ -37,7 +37,7 @@ is-ready u m parent trace s s1 d pid history e may prepared holds same here is t
     let plans = entering.plan in
     let changed = prepared.changed in
     let size : length s1.processes.parts ≡ length s.processes.parts = ap (λ (xs : List Part). length xs) changed.parts in
-    let within : pid ≤ length s.processes.parts = may.plan.there in
+    let within : pid ≤ length s.processes.parts = may.plan.call.there in
     let number : e.pid ≡ pid = entering.process in
     record {
       task = record {
@@ -58,7 +58,7 @@ is-ready u m parent trace s s1 d pid history e may prepared holds same here is t
       changes = holds.plan.changes;
       system = record {
         processes = record {
-          from_1 = subst (λ (k : ℕ). 0 < k) (sym number) may.plan.from_1;
+          from_1 = subst (λ (k : ℕ). 0 < k) (sym number) may.plan.call.from_1;
           there = omega (arith, size, within, number);
           child = subst (λ (xs : List Part). IfSome e.plan.child (IsNext (length xs))) (sym changed.parts) plans.child;
           one = plans.one_child;

@@ -19,7 +19,7 @@ use Rattle.kernel_step.specs.Stands.{run_of, kernel_of, KeepsRun}
 use Rattle.kernel_step.specs.Entering.{IsSameTask, IsSameSystem}
 use Rattle.kernel_step.specs.Loaned.{loan_result}
 use Rattle.kernel_step.specs.Mirrors.{Mirrors}
-use Rattle.kernel_step.specs.Settling.{IsLoanOf, IsBack, IsTurnNoted, IsCallSettled, IsUnsettled}
+use Rattle.kernel_step.specs.Settling.{IsLoanOf, IsBack, IsTurnNoted, IsCallSettled, IsNotSettled}
 use Rattle.kernel_step.specs.Tasks.{machine_of, out_of, process_of, lending_of, count_out, unsettled, AreFewLoans}
 use Rattle.kernel_step.specs.declared.loan.Done.{Done}
 use Rattle.kernel_step.specs.declared.running.Running.{Running}
@@ -28,7 +28,7 @@ use Rattle.kernel_step.specs.declared.task.Task.{Task}
 use Rattle.kernel_step.proofs.EnterCore.{same-out, child-out}
 use Rattle.kernel_step.proofs.EnterWorld.{EnterLaws, same-mirrors, same-lendings}
 use Rattle.kernel_step.proofs.FewLoans.{few-longer, few-same, few-put, few-at, few-child}
-use Rattle.kernel_step.proofs.Lists.{get-map, count-cons}
+use Rattle.kernel_step.proofs.Lists.{get-map, count-cons, some-there}
 use Rattle.kernel_step.proofs.SettleWorld.{run-reaches, back-mirrors, both-run}
 use Rattle.kernel_step.proofs.Turning.{IsProcessOf, process-there, turn-child}
 
@@ -296,14 +296,9 @@ pub same-task-as : (t : Task) → IsSameTask t t
 same-task-as t =
     record { pid = refl; machine = refl; trace = record { items = refl; committed = refl }; waited = refl; loans = refl; out = refl }
 
-some-there : {A : Type 0} (xs : List A) (i : ℕ) → i < length xs → (x : A) × (slice_get xs i ≡ Some x)
-some-there [] i h = absurd (omega arith)
-some-there (x ∷ xs) zero h = (x, refl)
-some-there (x ∷ xs) (suc i) h = some-there xs i (omega arith)
-
 -- no task has changed
 pub unsettled-same : (old new : Running) (place : ℕ) → place < length old.tasks.items → new.tasks.items ≡ old.tasks.items → IsSameSystem old.system new.system
-    → new.history.items ≡ old.history.items → new.ran ≡ old.ran → new.last_lent ≡ old.last_lent → IsUnsettled place old new
+    → new.history.items ≡ old.history.items → new.ran ≡ old.ran → new.last_lent ≡ old.last_lent → IsNotSettled place old new
 unsettled-same old new place within is system history ran last =
     let one = some-there old.tasks.items place within in
     record {

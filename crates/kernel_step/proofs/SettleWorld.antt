@@ -23,7 +23,7 @@ use Rattle.kernel_step.proofs.EnterParts.{parts-quiet, pipes-quiet, counted-quie
 use Rattle.kernel_step.proofs.EnterWorld.{EnterLaws, IsRun, done-runs, same-task}
 use Rattle.kernel_step.proofs.Lists.{get-within, get-set, get-set-here}
 use Rattle.kernel_step.proofs.Quiet.{own-silent, screens-quiet, trace-quiet, changes-part, waits-own}
-use Rattle.kernel_step.proofs.Turning.{IsProcessOf, bare-of, process-there, world_with, turn_of, turn-happens, turn-parts}
+use Rattle.kernel_step.proofs.Turning.{away-task, IsProcessOf, bare-of, process-there, world_with, turn_of, turn-happens, turn-parts}
 
 -- ---- a run is that of as many instructions as it did
 run-prefix : (n : ℕ) (s : State) → (run (run n s).count s).state ≡ (run n s).state
@@ -71,16 +71,6 @@ back-task w served pid place q m t u few back h =
     same-task v served place t1 u
     (record { pid = back.pid; machine = back.machine; trace = back.trace; waited = back.waited; loans = back.loans; out = back.out })
     there
-
-away-task : (w : World) (served pid place : ℕ) (q : Process) (u : Task) → IsTask w served place u → IsTask (world_with w (turn_of w pid q)) served place u
-away-task w served pid place q u h = record {
-  number = h.number;
-  trace = trace-quiet w.storage.committed w.log (own_entry pid) (place + 1) u.trace (own-silent pid) h.trace;
-  budget = h.budget;
-  waits = waits-own (place + 1) pid w.log ∙ h.waits;
-  since = h.since;
-  running = h.running;
-}
 
 back-status : (m : State) (t u : Task) → IsBack m t u → status_of u ≡ status_of t
 back-status m t u back = ap (λ (hs : List (Held Item)). end_in (whats hs)) back.trace.items

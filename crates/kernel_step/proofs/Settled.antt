@@ -10,7 +10,7 @@ use Rattle.kernel_model.specs.declared.answer.Refused.TheVariants.{OutOfMemory}
 use Rattle.kernel_model.specs.declared.event.Event.{Event}
 use Rattle.kernel_step.specs.Counted.{IsCounted}
 use Rattle.kernel_step.specs.Loaned.{loan_result}
-use Rattle.kernel_step.specs.Settling.{IsLoanOf, IsTurnSettled, IsCallSettled, IsUnsettled, LackedMemory}
+use Rattle.kernel_step.specs.Settling.{IsLoanOf, IsTurnSettled, IsCallSettled, IsNotSettled, LackedMemory}
 use Rattle.kernel_step.specs.Stands.{kernel_of, kernel_in, KeepsRun, Stands, Settles}
 use Rattle.kernel_step.specs.declared.loan.Done.{Done}
 use Rattle.kernel_step.specs.declared.loan.Rejected.{Rejected}
@@ -22,7 +22,7 @@ use Rattle.kernel_step.proofs.SettleAccepted.{events-accepted}
 use Rattle.kernel_step.proofs.SettleCore.{IsTaken, IsTakenOf, own-loan, turn-taken, enter-taken, taken-core, taken-events, kept-core, kept-kernel, get-one}
 
 -- the parts follow the result's events, and its instructions are counted
-record IsTakenIn (b : Boot) (d : Done) (place : ℕ) (old new : Running) (a : Answer) : Type 0 where
+record IsTakenAndCounted (b : Boot) (d : Done) (place : ℕ) (old new : Running) (a : Answer) : Type 0 where
   taken : IsTakenOf b old.history.items new.history.items old.tasks.items new.tasks.items old.last_lent place new.system d a
   ran : new.ran ≡ old.ran + d.count
   last_lent : new.last_lent ≡ old.last_lent
@@ -33,7 +33,7 @@ IsTakenTo b d place old new a t u tasks = IsTaken b old.history.items new.histor
 
 settles : (b : Boot) (old new : Running) (place : ℕ) (t : Task) (d : Done) (r : Result Answer Rejected) → Stands b old
     → d.pid ≡ place + 1 → slice_get old.tasks.items place ≡ Some t → IsLoanOf t d
-    → IfOk r (λ a. IsTakenIn b d place old new a) → OnErr r (IsUnsettled place old new) → IfErr r (λ e. LackedMemory d e)
+    → IfOk r (λ a. IsTakenAndCounted b d place old new a) → OnErr r (IsNotSettled place old new) → IfErr r (λ e. LackedMemory d e)
     → Settles b d old new r
 settles b old new place t d (Ok a) h number there of done same back =
     let history : List Event = old.history.items in
@@ -92,7 +92,7 @@ settles b old new place t d (Err e) h number there of done same back =
 -- a result whose machine stands nowhere
 pub turn-settles : (b : Boot) (old new : Running) (place : ℕ) (t : Task) (d : Done) (r : Result Answer Rejected) → Stands b old
     → d.pid ≡ place + 1 → slice_get old.tasks.items place ≡ Some t → IsLoanOf t d → stands_at d.machine ≡ None
-    → IfOk r (λ a. IsTurnSettled d place old new a) → OnErr r (IsUnsettled place old new) → IfErr r (λ e. LackedMemory d e)
+    → IfOk r (λ a. IsTurnSettled d place old new a) → OnErr r (IsNotSettled place old new) → IfErr r (λ e. LackedMemory d e)
     → Settles b d old new r
 turn-settles b old new place t d (Ok a) h number there of stands done same back =
     let own : IsLoanOf done.task d = subst (λ (x : Task). IsLoanOf x d) (get-one old.tasks.items place t done.task there done.there) of in
@@ -115,7 +115,7 @@ turn-settles b old new place t d (Err e) h number there of stands done same back
 -- a result whose machine stands at a call or a trap
 pub call-settles : EnterLaws → (b : Boot) (old new : Running) (place : ℕ) (t : Task) (d : Done) (at : Stop) (r : Result Answer Rejected) → Stands b old
     → d.pid ≡ place + 1 → slice_get old.tasks.items place ≡ Some t → IsLoanOf t d → stands_at d.machine ≡ Some at
-    → IfOk r (λ a. IsCallSettled d place old new a) → OnErr r (IsUnsettled place old new) → IfErr r (λ e. LackedMemory d e)
+    → IfOk r (λ a. IsCallSettled d place old new a) → OnErr r (IsNotSettled place old new) → IfErr r (λ e. LackedMemory d e)
     → Settles b d old new r
 call-settles laws b old new place t d at (Ok a) h number there of stands done same back =
     let own : IsLoanOf done.task d = subst (λ (x : Task). IsLoanOf x d) (get-one old.tasks.items place t done.task there done.there) of in

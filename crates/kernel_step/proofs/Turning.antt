@@ -150,8 +150,8 @@ ran-task w served pid place q t s h few = record {
   running = λ lent. cc;
 }
 
-same-task : (w : World) (served pid place : ℕ) (q : Process) (t : Task) → IsTask w served place t → IsTask (world_with w (turn_of w pid q)) served place t
-same-task w served pid place q t h = record {
+pub away-task : (w : World) (served pid place : ℕ) (q : Process) (t : Task) → IsTask w served place t → IsTask (world_with w (turn_of w pid q)) served place t
+away-task w served pid place q t h = record {
   number = h.number;
   trace = trace-quiet w.storage.committed w.log (own_entry pid) (place + 1) t.trace (own-silent pid) h.trace;
   budget = h.budget;
@@ -183,6 +183,6 @@ ran-tasks w served old new pid n place count stop h number ran running few =
         | inl s ↦ subst (λ (k : ℕ). IsTask (world_with w (turn_of w pid q)) served k u) (sym s.0)
             (subst (λ (v : Task). IsTask (world_with w (turn_of w pid q)) served place v) (sym s.1)
             (ran-task w served pid place q t (run n (machine_of t)).state (h.each place t ran.there) few))
-        | inr s ↦ same-task w served pid i q u (h.each i u s.1)
+        | inr s ↦ away-task w served pid i q u (h.each i u s.1)
       ];
     })

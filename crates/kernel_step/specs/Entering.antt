@@ -7,7 +7,7 @@ use Rattle.machine_model.specs.Access.{is_writable}
 use Rattle.machine_model.specs.States.{State, stands_at, replied}
 use Rattle.machine_model.specs.declared.stop.Stop.TheVariants.{Call}
 use Rattle.calls.specs.Plans.{effect_of, IsPossible, NamesFiles, AreLeft, EditsAs, IsNext, MayAllStep, OpensAlone, OpensNone, all_seen}
-use Rattle.calls.specs.Sights.{Sight}
+use Rattle.calls.specs.Sights.{Sight, MayPlanCall}
 use Rattle.calls.specs.declared.plan.Plan.{Plan}
 use Rattle.commit_deps.specs.Keeps.{Keeps}
 use Rattle.commit_deps.specs.Marks.{IsMarkOf}
@@ -80,8 +80,8 @@ MayBeTold s (Ends status) = Unit {0}
 -- ---- what a plan comes to
 
 -- what calls may look at, of what is shared
-abbrev pub seen_of : System → Sight
-seen_of s = record { parts = s.processes.parts; files = s.files; pipes = s.pipes; tapes = s.tapes }
+abbrev pub sight_in : System → Sight
+sight_in s = record { parts = s.processes.parts; files = s.files; pipes = s.pipes; tapes = s.tapes }
 
 -- this is seen of a state
 pub record IsSightOf (state : SyncState) (seen : Sight) : Type 0 where
@@ -98,14 +98,9 @@ pub record HaveRoom (seen : List Seen) : Type 0 where
   pub few : AllByRecursion (HasAtMost most) pipes
   pub room : most + 16 < 2 ^ 64
 
--- A plan may be made for process pid: it is there, and its descriptors name files that are there; the files are few and short,
--- and there is room for its descriptors once more.
+-- a plan may be made for process pid: a call of its may be planned, and there is room for its descriptors once more
 pub record MayPlan (seen : Sight) (pid : ℕ) : Type 0 where
-  pub from_1 : 0 < pid
-  pub there : pid ≤ length seen.parts
-  pub few : length seen.files ≤ 32
-  pub short : AllByRecursion (λ (f : NamedFile). length f.bytes ≤ 16384) seen.files
-  pub named : NamesFiles (length seen.files) (descriptors_in (part_at seen.parts pid))
+  pub call : MayPlanCall seen pid
   pub ends : HaveRoom seen.pipes
 
 -- the entry of an Enter of process pid
@@ -321,7 +316,7 @@ pub record IsEntered (pid : ℕ) (plan : Plan) (mark : ℕ) (old new : System) :
 pub record IsDone (pid : ℕ) (old new : Task) (before later : System) (outcome : Outcome) (child : Option Task) : Type 0 where
   pub plan : Plan
   pub mark : ℕ
-  pub plans : PlansEnter (seen_of before) pid (machine_of old) plan
+  pub plans : PlansEnter (sight_in before) pid (machine_of old) plan
   pub told : IsTold plan.verdict mark before.served old new
   pub made : MakesTask plan.child mark (machine_of old) old.trace child
   pub system : IsEntered pid plan mark before later

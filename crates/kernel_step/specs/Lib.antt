@@ -13,9 +13,9 @@ pub mod Seen
 pub mod Settling
 pub mod Stands
 pub mod Storing
-pub mod Taken
 pub mod Tasks
 pub mod Tests
+pub mod Trying
 pub mod Unchanged
 pub mod Waiting
 pub mod Whereabouts

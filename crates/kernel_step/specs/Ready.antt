@@ -12,7 +12,7 @@ use Rattle.machine_model.specs.States.{State, stands_at}
 use Rattle.pipes.specs.Seen.{Seen}
 use Rattle.processes.specs.Table.{Table, HasRoom as HasChildRoom}
 use Rattle.withheld.specs.Withheld.{Withheld, whats}
-use Rattle.kernel_step.specs.Entering.{seen_of, MayBeTold, MayPlan, HasSpaceFor, IsSpare, IsEntering, IsSystemWith}
+use Rattle.kernel_step.specs.Entering.{sight_in, MayBeTold, MayPlan, HasSpaceFor, IsSpare, IsEntering, IsSystemWith}
 use Rattle.kernel_step.specs.Tasks.{machine_of, out_of, status_of}
 use Rattle.kernel_step.specs.declared.plan.Entering.{Entering}
 use Rattle.kernel_step.specs.declared.system.System.{System}
@@ -24,7 +24,7 @@ pub record MayEnter (s : System) (pid : ℕ) (m : State) (trace : Withheld Item)
   pub stands : is_some (stands_at m) ≡ true
   pub budget : m.count < 2 ^ 40
   pub running : end_in (whats trace.items) ≡ None
-  pub plan : MayPlan (seen_of s) pid
+  pub plan : MayPlan (sight_in s) pid
   pub few : s.served < 2 ^ 63
 
 -- ---- room
@@ -46,7 +46,7 @@ pub record HasRoomForEnter (history : Vec Event) (trace : Withheld Item) (s : Sy
 
 -- an Enter of process pid by this machine and with this trace comes to this, and its change of the files is done
 pub record IsPrepared (pid : ℕ) (m : State) (trace : Withheld Item) (old new : System) (e : Entering) : Type 0 where
-  pub entering : IsEntering (seen_of old) pid m trace e
+  pub entering : IsEntering (sight_in old) pid m trace e
   pub changed : IsSystemWith (changed_by old.files e.plan.change) old new
 
 -- ---- the rest of an Enter

@@ -45,12 +45,13 @@ pub record IsTurnNoted (pid : ℕ) (old new : System) : Type 0 where
   pub screens : new.screens.items ≡ old.screens.items
   pub committer : new.committer ≡ old.committer
 
--- a result of the process at this place may become a Turn: there is room to count its instructions
+-- a result of the process at this place may become a Turn: the place is there, and there is room to count its instructions
 pub record MaySettleTurn (place : ℕ) (r : Running) : Type 0 where
   pub within : place < length r.tasks.items
   pub few : r.ran < 2 ^ 63
 
--- a result became a Turn: the task at this place is back, the Turn is noted and joined the history, and its instructions are counted
+-- a result became a Turn: the task at this place is back, the Turn is noted and joined the history, and its instructions are
+-- counted
 pub record IsTurnSettled (d : Done) (place : ℕ) (old new : Running) (a : Answer) : Type 0 where
   pub task : Task
   pub there : slice_get old.tasks.items place ≡ Some task
@@ -75,14 +76,15 @@ pub record IsTurnEntered (pid : ℕ) (m : State) (old new : Task) (before later 
   pub turn : IsOwnNoted pid before.dependencies.marks marks
   pub entered : IsDone pid middle new (marked_with before marks) later outcome child
 
--- a result of the process at this place may become a Turn and an Enter
+-- a result of the process at this place may become a Turn and an Enter: the process may enter by its machine, and there is room to
+-- count its instructions
 pub record MaySettleCall (d : Done) (place : ℕ) (r : Running) : Type 0 where
   pub within : place < length r.tasks.items
   pub fine : (t : Task) → slice_get r.tasks.items place ≡ Some t → MayEnter r.system d.pid d.machine t.trace
   pub few : r.ran < 2 ^ 63
 
--- a result became a Turn and an Enter of the task at this place, which joined the history; its instructions are counted, and a child
--- that it made comes after all tasks
+-- a result became a Turn and an Enter of the task at this place, which joined the history; its instructions are counted, and a
+-- child that it made comes after all tasks
 pub record IsCallSettled (d : Done) (place : ℕ) (old new : Running) (a : Answer) : Type 0 where
   pub task : Task
   pub there : slice_get old.tasks.items place ≡ Some task
@@ -97,7 +99,7 @@ pub record IsCallSettled (d : Done) (place : ℕ) (old new : Running) (a : Answe
   pub answer : a ≡ answer_of.Settled d.count d.stop (Some outcome)
 
 -- a result was not taken back, and nothing has changed, though there may be room for more, also with the task at this place
-pub record IsUnsettled (place : ℕ) (old new : Running) : Type 0 where
+pub record IsNotSettled (place : ℕ) (old new : Running) : Type 0 where
   pub task : Task
   pub there : slice_get old.tasks.items place ≡ Some task
   pub after : Task

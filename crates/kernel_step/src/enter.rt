@@ -5,7 +5,7 @@ ghost use Rattle.kernel_model.specs.World.{Boot};
 ghost use Rattle.kernel_step.specs.Stands.{Stands, Steps};
 ghost use Rattle.kernel_step.specs.Entering.{IsDone};
 ghost use Rattle.kernel_step.specs.Ready.{MayEnter};
-ghost use Rattle.kernel_step.specs.Taken.{is_full_with, MayTakeEnter, IsEnterTaken, IsNoEnterTaken};
+ghost use Rattle.kernel_step.specs.Trying.{is_history_full, MayTryEnter, IsEnterAccepted, IsEnterRefused};
 ghost use Rattle.kernel_step.specs.Tasks.{machine_of, out_of};
 ghost use Rattle.kernel_step.specs.Tests.{enter_refusal_of};
 ghost use Rattle.kernel_step.specs.Unchanged.{AreUnchanged};
@@ -70,15 +70,15 @@ impl Running {
         requires { (b : Boot) × Stands b self.old }
         ensures { (b : Boot) → Stands b self.old → Steps b (Event.Enter pid) self.old self.new result }
     {
-        self.take_enter(pid)
+        self.try_enter(pid)
     }
 
-    /// The same of the parts. Refused, with nothing changed: NoProcess, Ended, Lent, NotStopped, Budget, OutOfMemory.
-    fn take_enter(&mut self, pid: u32) -> Result<Answer, Refused>
-        requires { MayTakeEnter self.old }
-        ensures done { IfOk result (IsEnterTaken pid self.old self.new) }
-        ensures refused { IfErr result (Refuses (enter_refusal_of self.old.tasks.items (is_full_with self.old) pid)) }
-        ensures same { OnErr result (IsNoEnterTaken self.old self.new) }
+    /// The process enters the kernel, told of the parts alone. Refused, with nothing changed: NoProcess, Ended, Lent, NotStopped, Budget, OutOfMemory.
+    fn try_enter(&mut self, pid: u32) -> Result<Answer, Refused>
+        requires { MayTryEnter self.old }
+        ensures done { IfOk result (IsEnterAccepted pid self.old self.new) }
+        ensures refused { IfErr result (Refuses (enter_refusal_of self.old.tasks.items (is_history_full self.old) pid)) }
+        ensures same { OnErr result (IsEnterRefused self.old self.new) }
     {
         checkpoints_fit();
         made_files_change();

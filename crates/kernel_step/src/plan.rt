@@ -7,7 +7,7 @@ ghost use Rattle.kernel_model.specs.Shown.{end_in};
 ghost use Rattle.kernel_model.specs.Steps.{zero_reply};
 ghost use Rattle.withheld.specs.Withheld.{whats};
 ghost use Rattle.kernel_model.specs.declared.carrier.Carrier.TheVariants.{Proc};
-ghost use Rattle.kernel_step.specs.Entering.{seen_of, writes_of, MayPlan, AreSteps, IsSpare, PlansEnter, IsEntering, IsChild};
+ghost use Rattle.kernel_step.specs.Entering.{sight_in, writes_of, MayPlan, AreSteps, IsSpare, PlansEnter, IsEntering, IsChild};
 ghost use Rattle.kernel_step.specs.Ready.{MayEnter};
 
 use crate::system::System;
@@ -52,8 +52,8 @@ fn descriptors_of(processes: &ProcTable, pid: u32) -> &Descriptors
 /// The plan of the Enter of a process whose machine stands here, at a call or at a trap.
 fn plan_enter(system: &System, pid: u32, machine: &Machine, stop: Stop) -> Result<Plan, AllocError>
     requires stands { stands_at machine.now ≡ Some stop }
-    requires fine { MayPlan (seen_of system.now) pid }
-    ensures { IfOk result (λ plan. PlansEnter (seen_of system.now) pid machine.now plan) }
+    requires fine { MayPlan (sight_in system.now) pid }
+    ensures { IfOk result (λ plan. PlansEnter (sight_in system.now) pid machine.now plan) }
 {
     match stop {
         Stop::Trap(cause) => {
@@ -142,7 +142,7 @@ impl Entering {
         trace: &Trace,
     ) -> Result<Entering, AllocError>
         requires { MayEnter system.now pid machine.now trace.now }
-        ensures { IfOk result (λ e. IsEntering (seen_of system.now) pid machine.now trace.now e) }
+        ensures { IfOk result (λ e. IsEntering (sight_in system.now) pid machine.now trace.now e) }
     {
         let alloc = system.alloc;
         let stop = machine.stopped().unwrap();

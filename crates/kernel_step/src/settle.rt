@@ -4,7 +4,7 @@ ghost use Rattle.kernel_model.specs.World.{Boot};
 ghost use Rattle.kernel_step.specs.Stands.{Stands, Settles};
 ghost use Rattle.kernel_model.specs.declared.answer.Outcome.{Outcome};
 ghost use Rattle.kernel_step.specs.Ready.{MayEnter};
-ghost use Rattle.kernel_step.specs.Settling.{IsLoanOf, IsBack, MaySettleTurn, IsTurnSettled, IsTurnEntered, MaySettleCall, IsCallSettled, IsUnsettled, LackedMemory};
+ghost use Rattle.kernel_step.specs.Settling.{IsLoanOf, IsBack, MaySettleTurn, IsTurnSettled, IsTurnEntered, MaySettleCall, IsCallSettled, IsNotSettled, LackedMemory};
 ghost use Rattle.kernel_step.specs.Unchanged.{AreUnchanged};
 
 use crate::enter::join;
@@ -120,7 +120,7 @@ impl Running {
     fn settle_turn(&mut self, done: Done, place: usize) -> Result<Answer, Rejected>
         requires { MaySettleTurn place self.old }
         ensures done { IfOk result (IsTurnSettled done place self.old self.new) }
-        ensures same { OnErr result (IsUnsettled place self.old self.new) }
+        ensures same { OnErr result (IsNotSettled place self.old self.new) }
         ensures back { IfErr result (LackedMemory done) }
     {
         if reserve(&mut self.history, &mut self.system.dependencies, 1, 1).is_err() {
@@ -152,7 +152,7 @@ impl Running {
     fn settle_call(&mut self, done: Done, place: usize) -> Result<Answer, Rejected>
         requires { MaySettleCall done place self.old }
         ensures done { IfOk result (IsCallSettled done place self.old self.new) }
-        ensures same { OnErr result (IsUnsettled place self.old self.new) }
+        ensures same { OnErr result (IsNotSettled place self.old self.new) }
         ensures back { IfErr result (LackedMemory done) }
     {
         if self.tasks.reserve(1).is_err() {

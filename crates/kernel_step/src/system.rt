@@ -2,9 +2,9 @@
 //! what is kept of all processes beside their machines, and the allocator.
 ghost use Rattle.std.specs.Prelude.{◌≡◌};
 ghost use Rattle.calls.specs.Sights.{sight_of};
-ghost use Rattle.kernel_step.specs.Entering.{seen_of};
+ghost use Rattle.kernel_step.specs.Entering.{sight_in};
 
-use calls::{Tables, TapeTable};
+use calls::{KernelTables, TapeTable};
 use commit_deps::Dependencies;
 use disk_model::Change;
 use files::FileTable;
@@ -34,11 +34,11 @@ pub struct System {
 }
 
 impl System {
-    /// The tables by which calls are planned.
-    pub fn tables(&self) -> Tables<'_>
-        ensures { sight_of result ≡ seen_of self.now }
+    /// The tables from which calls are planned.
+    pub fn tables(&self) -> KernelTables<'_>
+        ensures { sight_of result ≡ sight_in self.now }
     {
-        Tables {
+        KernelTables {
             files: &self.files,
             pipes: &self.pipes,
             tapes: &self.tapes,

@@ -4,7 +4,7 @@ ghost use Rattle.kernel_model.specs.Answers.{Refuses};
 ghost use Rattle.kernel_model.specs.World.{Boot};
 ghost use Rattle.kernel_step.specs.Parts.{IsOwnNoted};
 ghost use Rattle.kernel_step.specs.Stands.{Stands, Steps};
-ghost use Rattle.kernel_step.specs.Taken.{is_full_with, MayTakeTurn, IsTurnTaken, IsNoTurnTaken};
+ghost use Rattle.kernel_step.specs.Trying.{is_history_full, MayTryTurn, IsTurnAccepted, IsTurnRefused};
 ghost use Rattle.kernel_step.specs.Tests.{turn_refusal_of};
 
 use crate::running::Running;
@@ -45,16 +45,16 @@ impl Running {
         requires { (b : Boot) × Stands b self.old }
         ensures { (b : Boot) → Stands b self.old → Steps b (Event.Turn pid n) self.old self.new result }
     {
-        self.take_turn(pid, n)
+        self.try_turn(pid, n)
     }
 
-    /// The same of the parts. The instructions are counted with those that ran before. Refused, with nothing changed: NoProcess,
+    /// The process runs at most n instructions, told of the parts alone. The instructions are counted with those that ran before. Refused, with nothing changed: NoProcess,
     /// Ended, Lent, Budget, OutOfMemory.
-    fn take_turn(&mut self, pid: u32, n: u32) -> Result<Answer, Refused>
-        requires { MayTakeTurn self.old }
-        ensures done { IfOk result (IsTurnTaken pid n self.old self.new) }
-        ensures refused { IfErr result (Refuses (turn_refusal_of self.old.tasks.items (is_full_with self.old) pid n)) }
-        ensures same { OnErr result (IsNoTurnTaken self.old self.new) }
+    fn try_turn(&mut self, pid: u32, n: u32) -> Result<Answer, Refused>
+        requires { MayTryTurn self.old }
+        ensures done { IfOk result (IsTurnAccepted pid n self.old self.new) }
+        ensures refused { IfErr result (Refuses (turn_refusal_of self.old.tasks.items (is_history_full self.old) pid n)) }
+        ensures same { OnErr result (IsTurnRefused self.old self.new) }
     {
         let full = is_full(self.history.len(), &self.tasks);
         let place = turn_place(&self.tasks, full, pid, n)?;

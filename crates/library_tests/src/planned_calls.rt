@@ -8,7 +8,7 @@ ghost use Rattle.calls.specs.Wholes.{IsWhole};
 
 use crate::asserting::assert_row;
 use byte_list::Bytes;
-use calls::{Plan, Tables, TapeTable, plan_call, plan_end, request_of};
+use calls::{KernelTables, Plan, TapeTable, plan_call, plan_end, request_of};
 use files::FileTable;
 use kernel_model::{Carrier, Descriptor, PipeEnd, PipeStep, Request, Slot, Verdict};
 use machine::{Image, Machine};
@@ -133,7 +133,7 @@ fn plan_of(alloc: Global, tapes: &TapeTable, request: Request) -> Result<Plan, A
     let files = file_of_abc(alloc)?;
     let pipes = PipeTable::new(alloc)?;
     let processes = two_processes(alloc)?;
-    let tables = Tables {
+    let tables = KernelTables {
         files: &files,
         pipes: &pipes,
         tapes,

@@ -7,7 +7,7 @@ use Rattle.machine_model.specs.Access.{low_bytes}
 use Rattle.machine_model.specs.declared.image.Segment.{Segment}
 use Rattle.machine_model.specs.Images.{IsLoadable, IsProfile, bytes_of_words, program_of_words}
 
-low_bytes-le : (word : ℕ) → to_le_bytes w32 word ≡ low_bytes 4 word
+pub low_bytes-le : (word : ℕ) → to_le_bytes w32 word ≡ low_bytes 4 word
 low_bytes-le word =
     let second : word / 65536 ≡ word / 256 / 256 = omega arith in
     let third : word / 16777216 ≡ word / 256 / 256 / 256 = omega arith in
@@ -30,7 +30,7 @@ words_more old now new number words i small so_far is put =
     ∙ ap (λ (bytes : List ℕ). old ++ (bytes_of_words (take i words) ++ bytes)) is
     ∙ ap (λ (bytes : List ℕ). old ++ bytes) (bytes_of_words-take words i small)
 
-length-low_bytes : (n value : ℕ) → length (low_bytes n value) ≡ n
+pub length-low_bytes : (n value : ℕ) → length (low_bytes n value) ≡ n
 length-low_bytes zero value = refl
 length-low_bytes (suc n) value = ap suc (length-low_bytes n (value / 2 ^ 8))
 

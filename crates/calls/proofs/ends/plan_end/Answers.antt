@@ -1,11 +1,18 @@
 -- Ends may be given up, and nothing else changes.
-use Rattle.std.proofs.Common.{◌≡◌, ◌≤◌, ◌∙◌, List, length, ap, arith}
-use Rattle.kernel_model.specs.Rows.{ends_of}
+use Rattle.std.proofs.Common.{◌≡◌, ◌≤◌, ◌∙◌, List, length, IfOk, ap, sym, subst, arith}
+use Rattle.kernel_model.specs.Rows.{ends_of, closing}
 use Rattle.kernel_model.specs.declared.descriptor.PipeEnd.{PipeEnd}
+use Rattle.kernel_model.specs.declared.request.Verdict.TheVariants.{Ends}
+use Rattle.calls.specs.Plans.{effect_of}
 use Rattle.calls.specs.declared.plan.Plan.{Plan}
-use Rattle.calls.proofs.Planned.{if_planned, ending-edits, ending-steps, ending-opens, ending-few}
+use Rattle.calls.proofs.Planned.{is-effect, if_planned, ending-edits, ending-steps, ending-opens, ending-few}
 use Rattle.calls.proofs.Stepping.{length-ends_of}
 use Rattle.calls.proofs.ends.plan_end.Goals as goal
+
+pub returns-clause-row : goal.returns-clause-row
+returns-clause-row c =
+    subst (λ (ends : List PipeEnd). IfOk c.closing.result (λ plan. effect_of plan ≡ closing ends (Ends c.args.status))) (c.deref.ensures.value ∙ c.in_ok-ends.ensures.ends)
+    (if_planned c.closing.result _ _ (λ (plan : Plan) is. sym (is-effect plan (closing c.deref.result.now (Ends c.args.status)) is)) c.closing.ensures)
 
 pub returns-clause-edits : goal.returns-clause-edits
 returns-clause-edits c =

@@ -1,7 +1,7 @@
 -- The Enter is prepared, noted and finished.
 use Rattle.std.proofs.Common.{◌≡◌, ℕ, length, refl, sym, subst, rules}
 use Rattle.machine_model.specs.States.{State}
-use Rattle.kernel_step.specs.Entering.{seen_of, entry_of, PlansEnter, IsChild, IsNoted, IsEntered}
+use Rattle.kernel_step.specs.Entering.{sight_in, entry_of, PlansEnter, IsChild, IsNoted, IsEntered}
 use Rattle.kernel_step.specs.Ready.{MayEnter}
 use Rattle.kernel_step.specs.Tasks.{machine_of}
 use Rattle.kernel_step.specs.declared.task.Task.{Task}
@@ -42,7 +42,7 @@ returns-clause-done c =
     record {
       plan = e.plan;
       mark = mark;
-      plans = subst (λ (x : State). PlansEnter (seen_of s) c.args.pid x e.plan) here prepared.plan;
+      plans = subst (λ (x : State). PlansEnter (sight_in s) c.args.pid x e.plan) here prepared.plan;
       told =
           finished-told e.plan.verdict mark _ s s1 t c.finish-outcome.new.task ready
           (told-then e.plan.verdict mark s1.served t c.finish-outcome.new.task c.prepare.new.trace c.in_ok-entering.ensures.trace done.task);

@@ -4,20 +4,15 @@ use Rattle.std.proofs.lemmas.Bool.{false≢true}
 use Rattle.kernel_step.specs.Tasks.{out_of, process_of}
 use Rattle.kernel_step.specs.Tests.{turn_refusal_of, IsPlaceOf}
 use Rattle.kernel_step.specs.declared.task.Task.{Task}
+use Rattle.kernel_step.proofs.Lists.{some-there}
 use Rattle.kernel_step.proofs.Refusing.{turn-fine}
 use Rattle.kernel_step.proofs.Turning.{turn-place}
-use Rattle.kernel_step.proofs.running.Running.take_turn.Goals as goal
-
--- what stands at a place
-there-is : {A : Type 0} (xs : List A) (i : ℕ) → i < length xs → (x : A) × (slice_get xs i ≡ Some x)
-there-is [] i h = absurd (omega arith)
-there-is (x ∷ xs) zero h = (x, refl)
-there-is (x ∷ xs) (suc i) h = there-is xs i (omega arith)
+use Rattle.kernel_step.proofs.running.Running.try_turn.Goals as goal
 
 fine-here : (tasks : List Task) (full : Bool) (pid place n : ℕ) → IsPlaceOf tasks pid place → turn_refusal_of tasks full pid n ≡ None
     → ((t : Task) → slice_get tasks place ≡ Some t → is_some (out_of t) ≡ true) → ⊥
 fine-here tasks full pid place n placed accepted lent =
-    let one = there-is tasks place placed.there in
+    let one = some-there tasks place placed.there in
     let fine = turn-fine (process_of one.0) (is_some (out_of one.0)) full n
     (sym (turn-place tasks full pid place n one.0 placed one.1) ∙ accepted) in
     false≢true (sym fine.here ∙ lent one.0 one.1)

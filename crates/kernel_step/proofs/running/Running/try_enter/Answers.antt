@@ -15,8 +15,8 @@ use Rattle.kernel_step.proofs.EnterFine.{IsFineTask, fine-task}
 use Rattle.kernel_step.proofs.EnterResults.{on-err-any}
 use Rattle.kernel_step.proofs.EnterWorld.{IsRun, may-plan, done-runs, same-mirrors, same-lendings}
 use Rattle.kernel_step.proofs.Lists.{get-reserved}
-use Rattle.kernel_step.proofs.running.Running.take_enter.Goals as goal
-use Rattle.kernel_step.proofs.running.Running.take_enter.Goals.{After-index_mut-task}
+use Rattle.kernel_step.proofs.running.Running.try_enter.Goals as goal
+use Rattle.kernel_step.proofs.running.Running.try_enter.Goals.{After-index_mut-task}
 
 -- ---- the task
 placed : (c : After-index_mut-task) → IsPlaceOf c.args.self.now.tasks.items c.args.pid c.in_ok-place.place

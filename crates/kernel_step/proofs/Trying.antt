@@ -9,7 +9,7 @@ use Rattle.kernel_model.specs.declared.event.Event.{Event}
 use Rattle.kernel_model.specs.declared.event.Event.TheVariants.{Turn, Enter}
 use Rattle.kernel_step.specs.Counted.{IsCounted}
 use Rattle.kernel_step.specs.Stands.{kernel_of, kernel_in, KeepsRun, Stands, Steps}
-use Rattle.kernel_step.specs.Taken.{is_full_with, IsTurnTaken, IsNoTurnTaken, IsEnterTaken, IsNoEnterTaken}
+use Rattle.kernel_step.specs.Trying.{is_history_full, IsTurnAccepted, IsTurnRefused, IsEnterAccepted, IsEnterRefused}
 use Rattle.kernel_step.specs.Tests.{turn_refusal_of, enter_refusal_of}
 use Rattle.kernel_step.specs.declared.running.Running.{Running}
 use Rattle.kernel_step.specs.declared.system.System.{System}
@@ -24,12 +24,12 @@ same-lent : (b : Boot) (old new : Running) (e : Event) (r : Result Answer Refuse
 same-lent b old new e r same h =
     subst (λ (last : ℕ). Applies (kernel_in b old) e (kernel_of b new.history.items new.tasks.items last) r) (sym same) h
 
-pub turn-steps : (b : Boot) (old new : Running) (pid n : ℕ) (r : Result Answer Refused) → Stands b old
-    → IfOk r (λ a. IsTurnTaken pid n old new a)
-    → IfErr r (λ why. Refuses (turn_refusal_of old.tasks.items (is_full_with old) pid n) why)
-    → OnErr r (IsNoTurnTaken old new)
+pub turn-steps-run : (b : Boot) (old new : Running) (pid n : ℕ) (r : Result Answer Refused) → Stands b old
+    → IfOk r (λ a. IsTurnAccepted pid n old new a)
+    → IfErr r (λ why. Refuses (turn_refusal_of old.tasks.items (is_history_full old) pid n) why)
+    → OnErr r (IsTurnRefused old new)
     → Steps b (Turn pid n) old new r
-turn-steps b old new pid n (Ok a) h done why same =
+turn-steps-run b old new pid n (Ok a) h done why same =
     let history : List Event = old.history.items in
     let later : List Event = new.history.items in
     let tasks : List Task = old.tasks.items in
@@ -44,12 +44,12 @@ turn-steps b old new pid n (Ok a) h done why same =
       };
       applies = same-lent b old new (Turn pid n) (Ok a) done.last_lent applies;
     }
-turn-steps b old new pid n (Err e) h done why same =
+turn-steps-run b old new pid n (Err e) h done why same =
     let history : List Event = old.history.items in
     let later : List Event = new.history.items in
     let tasks : List Task = old.tasks.items in
     let after : List Task = new.tasks.items in
-    let applies = refused-applies b history later tasks after old.last_lent (Turn pid n) (turn_refusal_of tasks (is_full_with old) pid n) e same.history same.tasks
+    let applies = refused-applies b history later tasks after old.last_lent (Turn pid n) (turn_refusal_of tasks (is_history_full old) pid n) e same.history same.tasks
     (turn-refusal-is b history tasks old.system old.last_lent pid n h.parts) why in
     record {
       stands = record {
@@ -61,12 +61,12 @@ turn-steps b old new pid n (Err e) h done why same =
       applies = same-lent b old new (Turn pid n) (Err e) same.last_lent applies;
     }
 
-pub enter-steps : (b : Boot) (old new : Running) (pid : ℕ) (r : Result Answer Refused) → Stands b old
-    → IfOk r (λ a. IsEnterTaken pid old new a)
-    → IfErr r (λ why. Refuses (enter_refusal_of old.tasks.items (is_full_with old) pid) why)
-    → OnErr r (IsNoEnterTaken old new)
+pub enter-steps-run : (b : Boot) (old new : Running) (pid : ℕ) (r : Result Answer Refused) → Stands b old
+    → IfOk r (λ a. IsEnterAccepted pid old new a)
+    → IfErr r (λ why. Refuses (enter_refusal_of old.tasks.items (is_history_full old) pid) why)
+    → OnErr r (IsEnterRefused old new)
     → Steps b (Enter pid) old new r
-enter-steps b old new pid (Ok a) h done why same =
+enter-steps-run b old new pid (Ok a) h done why same =
     let history : List Event = old.history.items in
     let later : List Event = new.history.items in
     let tasks : List Task = old.tasks.items in
@@ -79,7 +79,7 @@ enter-steps b old new pid (Ok a) h done why same =
       };
       applies = same-lent b old new (Enter pid) (Ok a) done.last_lent applies;
     }
-enter-steps b old new pid (Err e) h done why same =
+enter-steps-run b old new pid (Err e) h done why same =
     let history : List Event = old.history.items in
     let later : List Event = new.history.items in
     let tasks : List Task = old.tasks.items in
