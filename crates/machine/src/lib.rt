@@ -1,12 +1,15 @@
 //! A process's machine state: how it begins, its runs, and replies to its calls.
 #![tactic(auto)]
 
+mod choosing;
 mod decoded;
+mod doing;
 mod fast;
 mod instruction;
 mod laws;
 mod loading;
 mod machine;
+mod op;
 mod stopped;
 mod table;
 

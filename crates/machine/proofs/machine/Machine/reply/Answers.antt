@@ -3,4 +3,4 @@ use Rattle.machine.proofs.Keeping.{matches-kept}
 use Rattle.machine.proofs.machine.Machine.reply.Goals as goal
 
 pub invariant_of-self : goal.invariant_of-self
-invariant_of-self c = λ i table is. matches-kept table.first table.slots.items c.self.inside.space c.place.new.space c.place.ensures.kept (c.self.invariant i table is)
+invariant_of-self c = λ i table is. matches-kept table.first table.ops.items c.self.inside.space c.place.new.space c.place.ensures.kept (c.self.invariant i table is)

@@ -13,7 +13,7 @@ run_tables-done-requires c =
     subst (λ (ts : List Table). AllMatch ts c.self.inside.space) same c.self.invariant
 
 pub invariant_of-self : goal.invariant_of-self
-invariant_of-self c = λ i table is. matches-kept table.first table.slots.items c.self.inside.space c.run_tables-done.new.space c.run_tables-done.ensures.kept (c.self.invariant i table is)
+invariant_of-self c = λ i table is. matches-kept table.first table.ops.items c.self.inside.space c.run_tables-done.new.space c.run_tables-done.ensures.kept (c.self.invariant i table is)
 
 pub returns-clause-limit : goal.returns-clause-limit
 returns-clause-limit c = (reached_at-is_run c.args.max _ _ (c.run_tables-done.ensures.run c.self.inside.count)).limit
