@@ -12,6 +12,7 @@ mod machine;
 mod op;
 mod stopped;
 mod table;
+mod words;
 
 pub use laws::segments_are_loaded;
 pub use machine::Machine;
