@@ -1,5 +1,5 @@
 //! The operations on words that are more than one of Rust's operators.
-ghost use Rattle.std.specs.Prelude.{◌≡◌, ◌*◌, ◌/◌, ◌^◌, ◌<◌};
+ghost use Rattle.std.specs.Prelude.{◌≡◌, ◌*◌, ◌/◌, ◌<◌};
 ghost use Rattle.machine_model.specs.Access.{size};
 ghost use Rattle.machine_model.specs.Arithmetic as model;
 
