@@ -251,7 +251,7 @@ fn file_len(alloc: Global, source: &str) -> Result<usize, AsmFault> {
 fn assert_words(rt: &impl Abort, alloc: Global, source: &str, words: &[u32]) {
     for (place, word) in words.iter().enumerate() {
         let listed = word_of(alloc, source, place);
-        assert_row(rt, &source, &listed, &Ok((words.len(), Some(*word))));
+        assert_row(rt, source, listed, Ok((words.len(), Some(*word))));
     }
 }
 
@@ -271,7 +271,7 @@ fn rows(rt: HostRuntime) {
             line,
         };
         let listed = row_of(rt.alloc(), source, place);
-        assert_row(&rt, &source, &listed, &Ok((count, Some(row))));
+        assert_row(&rt, source, listed, Ok((count, Some(row))));
     }
 }
 
@@ -280,8 +280,8 @@ fn images(rt: HostRuntime) {
     for &(source, entry, count, vaddr, len, file) in IMAGES {
         let image = image_of(rt.alloc(), source);
         let written = file_len(rt.alloc(), source);
-        assert_row(&rt, &source, &image, &Ok((entry, count, vaddr, len)));
-        assert_row(&rt, &source, &written, &Ok(file));
+        assert_row(&rt, source, image, Ok((entry, count, vaddr, len)));
+        assert_row(&rt, source, written, Ok(file));
     }
 }
 
@@ -296,7 +296,7 @@ fn files(rt: HostRuntime) -> Result<(), AsmFault> {
 fn faults(rt: HostRuntime) {
     for &(source, why, line, column) in FAULTS {
         let fault = AsmFault { why, line, column };
-        assert_row(&rt, &source, &fault_of(rt.alloc(), source), &Some(fault));
+        assert_row(&rt, source, fault_of(rt.alloc(), source), Some(fault));
     }
 }
 
@@ -319,9 +319,9 @@ fn thousands_of_lines(rt: HostRuntime) -> Result<(), AllocError> {
         line: 3001,
     };
     let text = row_of(rt.alloc(), &source, 3000);
-    assert_row(&rt, &"text", &text, &Ok((3001, Some(last))));
+    assert_row(&rt, "text", text, Ok((3001, Some(last))));
     let data = image_of(rt.alloc(), &source);
-    assert_row(&rt, &"data", &data, &Ok((0x10000, 2, 0x13000, 6000)));
+    assert_row(&rt, "data", data, Ok((0x10000, 2, 0x13000, 6000)));
     Ok(())
 }
 
@@ -336,9 +336,9 @@ fn push_longest(source: &mut String) -> Result<(), AllocError> {
 fn long_sources(rt: HostRuntime) -> Result<(), AllocError> {
     let mut source = String::new(rt.alloc());
     push_longest(&mut source)?;
-    assert_row(&rt, &"length", &source.len(), &1_048_576);
+    assert_row(&rt, "length", source.len(), 1_048_576);
     let word = word_of(rt.alloc(), &source, 0);
-    assert_row(&rt, &"word", &word, &Ok((1, Some(0x00000073))));
+    assert_row(&rt, "word", word, Ok((1, Some(0x00000073))));
     source.push_str(".")?;
     let fault = fault_of(rt.alloc(), &source);
     let wanted = AsmFault {
@@ -346,6 +346,6 @@ fn long_sources(rt: HostRuntime) -> Result<(), AllocError> {
         line: 1,
         column: 1,
     };
-    assert_row(&rt, &"one byte more", &fault, &Some(wanted));
+    assert_row(&rt, "one byte more", fault, Some(wanted));
     Ok(())
 }

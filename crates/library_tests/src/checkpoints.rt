@@ -1,12 +1,12 @@
 //! The bytes of a record, and the changes of a checkpoint.
+use crate::asserting::assert_row;
 use byte_list::Bytes;
 use files::FileTable;
 use journal::{Change, body_of, rebuild};
-use std::test::Fail;
+use std::alloc::{AllocError, Global};
 
-#[test]
-fn a_body_of_each_kind(rt: HostRuntime) -> Result<(), Fail> {
-    let alloc = rt.alloc();
+/// The body of a record with a change of each kind.
+fn body_of_three(alloc: Global) -> Result<Vec<u8>, AllocError> {
     let changes = [
         Change::Create(Bytes::copy_of(alloc, b"f")?),
         Change::Write {
@@ -16,42 +16,57 @@ fn a_body_of_each_kind(rt: HostRuntime) -> Result<(), Fail> {
         },
         Change::Empty(772),
     ];
-    let body = body_of(alloc, &changes)?;
-    assert_eq!(rt;
-        body.as_slice(),
-        b"\x01\x01f\x02\0\0\x02\x01\0\0\x03\0A\0\0\x03\x04\x03".as_slice()
-    );
-    Ok(())
+    body_of(alloc, &changes)
 }
 
 #[test]
-fn a_checkpoint_has_every_file(rt: HostRuntime) -> Result<(), Fail> {
-    let alloc = rt.alloc();
+fn a_body_of_each_kind(rt: HostRuntime) -> Result<(), AllocError> {
+    let body = body_of_three(rt.alloc())?;
+    let wanted = b"\x01\x01f\x02\0\0\x02\x01\0\0\x03\0A\0\0\x03\x04\x03".as_slice();
+    assert_row(&rt, "body", body.as_slice(), wanted);
+    Ok(())
+}
+
+/// The changes of a checkpoint of two files, of which the second has 1,025 bytes.
+fn rebuilt(alloc: Global) -> Result<Vec<Change>, AllocError> {
     let mut files = FileTable::new(alloc);
     files.create(Bytes::copy_of(alloc, b"empty")?)?;
     files.create(Bytes::copy_of(alloc, b"b")?)?;
     files.write(1, 0, &[7; 1025])?;
-    let changes = rebuild(alloc, &files)?;
-    assert_eq!(rt; changes.len(), 4);
-    match (&changes[0], &changes[1]) {
-        (Change::Create(first), Change::Create(second)) => {
-            assert_eq!(rt; first.as_slice(), b"empty".as_slice());
-            assert_eq!(rt; second.as_slice(), b"b".as_slice());
-        }
-        _ => assert!(rt; false, "creations come first"),
+    rebuild(alloc, &files)
+}
+
+/// The name of the file that a change creates, if it creates one.
+fn created(change: &Change) -> Option<&[u8]> {
+    match change {
+        Change::Create(name) => Some(name.as_slice()),
+        _ => None,
+    }
+}
+
+/// The file to which a change writes, the offset, and how many bytes, if it writes.
+fn written(change: &Change) -> Option<(u16, u32, usize)> {
+    match change {
+        Change::Write {
+            file,
+            offset,
+            bytes,
+        } => Some((*file, *offset, bytes.as_slice().len())),
+        _ => None,
+    }
+}
+
+#[test]
+fn a_checkpoint_has_every_file(rt: HostRuntime) -> Result<(), AllocError> {
+    let changes = rebuilt(rt.alloc())?;
+    assert!(rt; changes.len() == 4);
+    // Creations come first, and writes last.
+    for (place, name) in [(0, b"empty".as_slice()), (1, b"b")] {
+        assert_row(&rt, place, created(&changes[place]), Some(name));
     }
     for (place, at, len) in [(2, 0, 1024), (3, 1024, 1)] {
-        match &changes[place] {
-            Change::Write {
-                file,
-                offset,
-                bytes,
-            } => {
-                assert_eq!(rt; (*file, *offset), (1, at));
-                assert_eq!(rt; bytes.as_slice().len(), len);
-            }
-            _ => assert!(rt; false, "writes come last"),
-        }
+        let write = Some((1, at, len));
+        assert_row(&rt, place, written(&changes[place]), write);
     }
     Ok(())
 }

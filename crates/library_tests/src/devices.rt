@@ -1,47 +1,77 @@
 //! The device: writes in flight, refusals and a crash.
+use crate::asserting::assert_row;
 use simdisk::{DiskRefusal, SimDisk};
 use std::alloc::{AllocError, Global};
-use std::test::Fail;
+use std::process::Abort;
 
-#[test]
-fn writes_of_a_disk(rt: HostRuntime) -> Result<(), Fail> {
-    let alloc = rt.alloc();
+/// Writes that are out of range: into one that is in flight, of no bytes, and past the end.
+const OUT_OF_RANGE: &[(u32, &[u8])] = &[(65, b"x"), (70, b""), (2097151, b"xy")];
+
+/// Writes at 70 and at 64 are in flight, and others are refused.
+fn assert_in_flight(rt: &impl Abort, device: &mut SimDisk) {
+    for &(at, bytes) in OUT_OF_RANGE {
+        let refused = Err(DiskRefusal::OutOfRange);
+        assert_row(rt, at, device.submit(at, bytes), refused);
+    }
+    let places = (
+        device.in_flight(),
+        device.is_in_flight(70),
+        device.is_in_flight(71),
+    );
+    assert_row(rt, "in flight", places, (Some(64), true, false));
+}
+
+/// The write at 64 completes and the one at 70 fails, each once.
+fn assert_ended(rt: &impl Abort, device: &mut SimDisk) {
+    let no_such_write = Err(DiskRefusal::NoSuchWrite);
+    let completed = [device.complete(64), device.complete(64)];
+    assert_row(rt, "complete", completed, [Ok(()), no_such_write]);
+    let failed = [device.fail(70), device.fail(70)];
+    assert_row(rt, "fail", failed, [Ok(()), no_such_write]);
+    assert_row(rt, "has failed", device.has_failed(), true);
+}
+
+/// A disk that crashed while one write was in flight, after one completed and one failed; what it refuses before is compared too.
+fn crashed(rt: &impl Abort, alloc: Global) -> Result<SimDisk, DiskRefusal> {
     let mut device = SimDisk::zero(alloc)?;
     device.submit(70, b"abc")?;
     device.submit(64, b"de")?;
-    for (at, bytes) in [(65, b"x".as_slice()), (70, b""), (2097151, b"xy")] {
-        assert_eq!(rt;
-            device.submit(at, bytes),
-            Err(DiskRefusal::OutOfRange),
-            "at {at}"
-        );
-    }
-    assert_eq!(rt; device.in_flight(), Some(64));
-    assert!(rt; device.is_in_flight(70) && !device.is_in_flight(71));
-    device.complete(64)?;
-    assert_eq!(rt; device.complete(64), Err(DiskRefusal::NoSuchWrite));
-    device.fail(70)?;
-    assert_eq!(rt; device.fail(70), Err(DiskRefusal::NoSuchWrite));
-    assert!(rt; device.has_failed());
+    assert_in_flight(rt, &mut device);
+    assert_ended(rt, &mut device);
     device.submit(60, b"fg")?;
-    let crashed = device.crash(b"123");
-    assert!(rt; crashed.quiet());
-    assert_eq!(rt;
-        &crashed.bytes()[59..74],
-        b"\x0012\0\0de\0\0\0\0312\0".as_slice()
-    );
-    let mut opened = SimDisk::open(alloc, crashed.bytes())?;
-    opened.submit(2093056, &opened_bytes(alloc)?)?;
-    let kept = opened.crash(b"");
-    assert_eq!(rt; kept.bytes()[64], b'd');
-    match SimDisk::open(alloc, b"short") {
-        Ok(_) => assert!(rt; false, "a short disk was opened"),
-        Err(refusal) => assert_eq!(rt; refusal.number(), 4),
-    }
-    Ok(())
+    Ok(device.crash(b"123"))
 }
 
 // The longest write that ends with the disk.
 fn opened_bytes(alloc: Global) -> Result<Vec<u8>, AllocError> {
     vec![in alloc; 7; 4096]
+}
+
+/// The byte at 64 of a disk that is opened with these bytes, and crashes while the longest write is in flight.
+fn kept_byte(alloc: Global, bytes: &[u8]) -> Result<u8, DiskRefusal> {
+    let mut opened = SimDisk::open(alloc, bytes)?;
+    opened.submit(2093056, &opened_bytes(alloc)?)?;
+    let kept = opened.crash(b"");
+    Ok(kept.bytes()[64])
+}
+
+/// The number of the refusal of a disk of these bytes, if they are refused.
+fn refused(alloc: Global, bytes: &[u8]) -> Option<u8> {
+    match SimDisk::open(alloc, bytes) {
+        Ok(_) => None,
+        Err(refusal) => Some(refusal.number()),
+    }
+}
+
+#[test]
+fn writes_of_a_disk(rt: HostRuntime) -> Result<(), DiskRefusal> {
+    let alloc = rt.alloc();
+    let device = crashed(&rt, alloc)?;
+    assert!(rt; device.quiet());
+    let left = &device.bytes()[59..74];
+    let wanted = b"\x0012\0\0de\0\0\0\0312\0".as_slice();
+    assert_row(&rt, "left", left, wanted);
+    assert_row(&rt, "kept", kept_byte(alloc, device.bytes())?, b'd');
+    assert_row(&rt, "short", refused(alloc, b"short"), Some(4));
+    Ok(())
 }

@@ -1,8 +1,10 @@
 //! Disks that were made by hand.
+use crate::asserting::assert_row;
 use files::FileTable;
 use journal::{DiskFault, open, recover};
 use simdisk::{DiskRefusal, SIZE, SimDisk};
 use std::alloc::{AllocError, Global};
+use std::process::Abort;
 use std::test::Fail;
 
 /// A disk of zeros but for these bytes, each from its place on.
@@ -35,123 +37,159 @@ fn record_of(alloc: Global, body: &[u8]) -> Result<Vec<u8>, AllocError> {
     Ok(record)
 }
 
-#[test]
-fn a_disk_of_zeros_holds_no_files(rt: HostRuntime) -> Result<(), Fail> {
-    let alloc = rt.alloc();
+/// The fault of a disk whose first record has this body, with its gate open, if it has one.
+fn fault_of_body(alloc: Global, body: &[u8]) -> Result<Option<DiskFault>, DiskRefusal> {
+    let record = record_of(alloc, body)?;
+    fault_of(alloc, &[(64, &record)])
+}
+
+/// The files of a disk, and its first gate that is not open.
+fn opened(alloc: Global, parts: &[(usize, &[u8])]) -> Result<(FileTable, u32), Fail> {
+    let device = device_of(alloc, parts)?;
+    Ok(open(alloc, &device)?)
+}
+
+/// How many files a disk has, and its first gate that is not open.
+fn counted(alloc: Global, parts: &[(usize, &[u8])]) -> Result<(usize, u32), Fail> {
+    let (files, gate) = opened(alloc, parts)?;
+    Ok((files.count(), gate))
+}
+
+/// How many files a disk of zeros has, its first gate that is not open, and how many files are recovered from it.
+fn counted_of_zeros(alloc: Global) -> Result<(usize, u32, usize), Fail> {
     let device = SimDisk::zero(alloc)?;
     let (files, gate) = open(alloc, &device)?;
-    assert_eq!(rt; (files.count(), gate), (0, 64));
-    assert_eq!(rt; recover(alloc, &device)?.count(), 0);
-    Ok(())
+    Ok((files.count(), gate, recover(alloc, &device)?.count()))
 }
 
 #[test]
-fn damaged_disks(rt: HostRuntime) -> Result<(), Fail> {
-    let alloc = rt.alloc();
-    let bad_record = Some(DiskFault::BadRecord);
-    let bad_change = Some(DiskFault::BadChange);
-    let past_half = Some(DiskFault::PastHalf);
-    for (bytes, fault) in [
-        (b"\x01\0\0\0\0".as_slice(), None),
-        (b"\x01\xbb\xff\x0f\0", past_half),
-        (b"\x01\xba\xff\x0f\0", bad_record),
-        (b"\x01\x01\0\0\0\x09", bad_record),
-        (b"\x01\x02\0\0\0\x01\0", bad_record),
-        (b"\x01\x03\0\0\0\x01\x01/", bad_record),
-        (b"\x01\x06\0\0\0\x01\x01f\x01\x01f", bad_change),
-        (b"\x01\x0c\0\0\0\x02\0\0\0\0\0\0\x03\0AAA", bad_change),
-    ] {
-        assert_eq!(rt; fault_of(alloc, &[(64, bytes)])?, fault);
-    }
-    assert_eq!(rt; DiskFault::BadRecord.number(), 1);
-    assert_eq!(rt; DiskFault::BadChange.number(), 2);
-    assert_eq!(rt; DiskFault::PastHalf.number(), 3);
-    assert_eq!(rt; DiskFault::OutOfMemory.number(), 4);
+fn a_disk_of_zeros_holds_no_files(rt: HostRuntime) -> Result<(), Fail> {
+    let counts = counted_of_zeros(rt.alloc())?;
+    assert_row(&rt, "opened and recovered", counts, (0, 64, 0));
     Ok(())
 }
 
+const BAD_RECORD: Option<DiskFault> = Some(DiskFault::BadRecord);
+
+const BAD_CHANGE: Option<DiskFault> = Some(DiskFault::BadChange);
+
+const PAST_HALF: Option<DiskFault> = Some(DiskFault::PastHalf);
+
+/// The bytes at the first gate, and the fault of the disk.
+const DAMAGED: &[(&[u8], Option<DiskFault>)] = &[
+    (b"\x01\0\0\0\0", None),
+    (b"\x01\xbb\xff\x0f\0", PAST_HALF),
+    (b"\x01\xba\xff\x0f\0", BAD_RECORD),
+    (b"\x01\x01\0\0\0\x09", BAD_RECORD),
+    (b"\x01\x02\0\0\0\x01\0", BAD_RECORD),
+    (b"\x01\x03\0\0\0\x01\x01/", BAD_RECORD),
+    (b"\x01\x06\0\0\0\x01\x01f\x01\x01f", BAD_CHANGE),
+    (b"\x01\x0c\0\0\0\x02\0\0\0\0\0\0\x03\0AAA", BAD_CHANGE),
+];
+
+/// Faults and their numbers.
+const NUMBERS: &[(DiskFault, u8)] = &[
+    (DiskFault::BadRecord, 1),
+    (DiskFault::BadChange, 2),
+    (DiskFault::PastHalf, 3),
+    (DiskFault::OutOfMemory, 4),
+];
+
 #[test]
-fn bad_bodies(rt: HostRuntime) -> Result<(), Fail> {
-    let alloc = rt.alloc();
-    for body in [
-        // A change of kind 0.
-        b"\0".as_slice(),
-        // Names without bytes, of a blank, and of 0x7f.
-        b"\x01\0",
-        b"\x01\x01 ",
-        b"\x01\x01\x7f",
-        // A name of 33 bytes.
-        b"\x01\x21aaaaaaaaaaaaaaaaaaaaaaaaaaaaaaaaa",
-        // A write of no bytes, one that ends too soon, and an emptying that does.
-        b"\x01\x01f\x02\0\0\0\0\0\0\0\0",
-        b"\x01\x01f\x02\0\0\0\0\0\0\x02\0a",
-        b"\x01\x01f\x03\0",
-        // A file that is not there is emptied before.
-        b"\x03\0\0\x09",
-    ] {
-        let record = record_of(alloc, body)?;
-        assert_eq!(rt;
-            fault_of(alloc, &[(64, &record)])?,
-            Some(DiskFault::BadRecord)
-        );
+fn damaged_disks(rt: HostRuntime) {
+    for (row, &(bytes, fault)) in DAMAGED.iter().enumerate() {
+        assert_row(&rt, row, fault_of(rt.alloc(), &[(64, bytes)]), Ok(fault));
     }
-    Ok(())
+    for &(fault, number) in NUMBERS {
+        assert_row(&rt, number, fault.number(), number);
+    }
+}
+
+/// Bodies that are no lists of changes.
+const BAD_BODIES: &[&[u8]] = &[
+    // A change of kind 0.
+    b"\0",
+    // Names without bytes, of a blank, and of 0x7f.
+    b"\x01\0",
+    b"\x01\x01 ",
+    b"\x01\x01\x7f",
+    // A name of 33 bytes.
+    b"\x01\x21aaaaaaaaaaaaaaaaaaaaaaaaaaaaaaaaa",
+    // A write of no bytes, one that ends too soon, and an emptying that does.
+    b"\x01\x01f\x02\0\0\0\0\0\0\0\0",
+    b"\x01\x01f\x02\0\0\0\0\0\0\x02\0a",
+    b"\x01\x01f\x03\0",
+    // A file that is not there is emptied before.
+    b"\x03\0\0\x09",
+];
+
+#[test]
+fn bad_bodies(rt: HostRuntime) {
+    for (row, &body) in BAD_BODIES.iter().enumerate() {
+        assert_row(&rt, row, fault_of_body(rt.alloc(), body), Ok(BAD_RECORD));
+    }
 }
 
 #[test]
 fn a_file_of_the_first_record(rt: HostRuntime) -> Result<(), Fail> {
-    let alloc = rt.alloc();
     let record = b"\x01\x0f\0\0\0\x01\x01f\x02\0\0\0\0\0\0\x03\0A\0\0\0";
-    let device = device_of(alloc, &[(64, record.as_slice())])?;
-    let (files, gate) = open(alloc, &device)?;
-    assert_eq!(rt; (files.count(), gate), (1, 84));
-    assert_eq!(rt; files.find(b"f"), Some(0));
-    assert_eq!(rt; files.read(0, 0, 9), Some(b"A\0\0".as_slice()));
+    let (files, gate) = opened(rt.alloc(), &[(64, record.as_slice())])?;
+    assert_row(&rt, "files and gate", (files.count(), gate), (1, 84));
+    assert_row(&rt, "place", files.find(b"f"), Some(0));
+    let bytes = Some(b"A\0\0".as_slice());
+    assert_row(&rt, "bytes", files.read(0, 0, 9), bytes);
     Ok(())
 }
 
 #[test]
 fn one_record_after_the_other(rt: HostRuntime) -> Result<(), Fail> {
-    let alloc = rt.alloc();
     let first = b"\x01\x06\0\0\0\x01\x01f\x01\x01g".as_slice();
     let second = b"\x01\x0d\0\0\0\x02\x01\0\x02\0\0\0\x01\0A\x03\0\0\x02".as_slice();
     let leftovers = b"\x01\x01".as_slice();
-    let parts = [(64, first), (75, second), (94, leftovers)];
-    let device = device_of(alloc, &parts)?;
     // The second gate is open, and the third, of 2, is not; what lies after it is not read.
-    let (files, gate) = open(alloc, &device)?;
-    assert_eq!(rt; (files.count(), gate), (2, 93));
-    assert_eq!(rt; files.bytes(0), b"".as_slice());
-    assert_eq!(rt; files.bytes(1), b"\0\0A".as_slice());
+    let parts = [(64, first), (75, second), (94, leftovers)];
+    let (files, gate) = opened(rt.alloc(), &parts)?;
+    assert_row(&rt, "gate", gate, 93);
+    assert!(rt; files.count() == 2);
+    assert_row(&rt, "first", files.bytes(0), b"".as_slice());
+    assert_row(&rt, "second", files.bytes(1), b"\0\0A".as_slice());
     Ok(())
 }
 
 #[test]
 fn leftovers_after_a_closed_gate(rt: HostRuntime) -> Result<(), Fail> {
-    let alloc = rt.alloc();
     for gate in [0, 2, 255] {
         let bytes = [gate, 0xff, 0xff, 0xff, 0xff, 1, 9];
-        let device = device_of(alloc, &[(64, bytes.as_slice())])?;
-        let (files, place) = open(alloc, &device)?;
-        assert_eq!(rt; (files.count(), place), (0, 64), "gate {gate}");
+        let found = counted(rt.alloc(), &[(64, bytes.as_slice())])?;
+        assert_row(&rt, gate, found, (0, 64));
     }
+    Ok(())
+}
+
+/// A disk with this byte 0, and with these bytes at the first gates of its halves, has one file, `g`, and its first gate that
+/// is not open is at this place.
+fn assert_half(
+    rt: &(impl Abort + AllocGlobal),
+    byte: u8,
+    first: &[u8],
+    second: &[u8],
+    place: u32,
+) -> Result<(), Fail> {
+    let selector = [byte];
+    let parts = [(0, selector.as_slice()), (64, first), (1048576, second)];
+    let (files, gate) = opened(rt.alloc(), &parts)?;
+    assert_row(rt, byte, gate, place);
+    assert!(rt; files.count() == 1);
+    assert_row(rt, byte, files.name(0), b"g".as_slice());
     Ok(())
 }
 
 #[test]
 fn byte_0_selects_the_half(rt: HostRuntime) -> Result<(), Fail> {
-    let alloc = rt.alloc();
     let damaged = b"\x01\x01\0\0\0\x09".as_slice();
     let file = b"\x01\x03\0\0\0\x01\x01g".as_slice();
-    for (byte, first, second, place) in [(3, damaged, file, 1048584), (2, file, damaged, 72)] {
-        let selector = [byte];
-        let parts = [(0, selector.as_slice()), (64, first), (1048576, second)];
-        let device = device_of(alloc, &parts)?;
-        let (files, gate) = open(alloc, &device)?;
-        assert_eq!(rt; (files.count(), gate), (1, place));
-        assert_eq!(rt; files.name(0), b"g".as_slice());
-    }
-    Ok(())
+    assert_half(&rt, 3, damaged, file, 1048584)?;
+    assert_half(&rt, 2, file, damaged, 72)
 }
 
 /// A body of 1,048,504 bytes: a creation, 1,015 writes of 1,024 bytes, and an emptying.
@@ -166,22 +204,41 @@ fn long_body(alloc: Global) -> Result<Vec<u8>, AllocError> {
     Ok(body)
 }
 
+/// How many files a disk has whose byte 0 is this byte and which has a record at a place, and its first gate that is not
+/// open.
+fn counted_of_half(
+    alloc: Global,
+    byte: u8,
+    start: usize,
+    record: &[u8],
+) -> Result<(usize, u32), Fail> {
+    let selector = [byte];
+    counted(alloc, &[(0, selector.as_slice()), (start, record)])
+}
+
+/// The fault of such a disk, where the gate after a record of 1,048,509 bytes is open too, and two bytes are left after it.
+fn fault_of_half(
+    alloc: Global,
+    byte: u8,
+    start: usize,
+    record: &[u8],
+) -> Result<Option<DiskFault>, DiskRefusal> {
+    let selector_and_gate = [byte, 1, 0, 0];
+    let (selector, gate) = selector_and_gate.split_at(1);
+    let next = start.saturating_add(1048509);
+    fault_of(alloc, &[(0, selector), (start, record), (next, gate)])
+}
+
 #[test]
 fn too_few_bytes_for_a_length(rt: HostRuntime) -> Result<(), Fail> {
     let alloc = rt.alloc();
-    let record = record_of(alloc, &long_body(alloc)?)?;
-    for (start, byte) in [(64, 0), (1048576, 1)] {
-        let selector = [byte];
-        let device = device_of(alloc, &[(0, selector.as_slice()), (start, &record)])?;
-        let (files, gate) = open(alloc, &device)?;
-        assert_eq!(rt; (files.count(), gate as usize), (1, start + 1048509));
-        // The next gate is open, and two bytes are left after it.
-        let parts = [
-            (0, selector.as_slice()),
-            (start, &record),
-            (start + 1048509, b"\x01\0\0"),
-        ];
-        assert_eq!(rt; fault_of(alloc, &parts)?, Some(DiskFault::PastHalf));
+    let body = long_body(alloc)?;
+    let record = record_of(alloc, &body)?;
+    for (byte, start) in [(0, 64), (1, 1048576)] {
+        let (count, gate) = counted_of_half(alloc, byte, start, &record)?;
+        assert_row(&rt, start, (count, gate as usize), (1, start + 1048509));
+        let fault = fault_of_half(alloc, byte, start, &record);
+        assert_row(&rt, start, fault, Ok(PAST_HALF));
     }
     Ok(())
 }
@@ -195,18 +252,29 @@ fn creations(alloc: Global, files: u8) -> Result<Vec<u8>, AllocError> {
     Ok(body)
 }
 
+/// The files that the record of a body makes.
+fn files_of_body(alloc: Global, body: &[u8]) -> Result<FileTable, Fail> {
+    let record = record_of(alloc, body)?;
+    let device = device_of(alloc, &[(64, &record)])?;
+    Ok(recover(alloc, &device)?)
+}
+
+/// How many files so many creations make, and the place of the file `` ` ``, the 32nd.
+fn created(alloc: Global, count: u8) -> Result<(usize, Option<usize>), Fail> {
+    let files = files_of_body(alloc, &creations(alloc, count)?)?;
+    Ok((files.count(), files.find(b"`")))
+}
+
+/// The fault of so many creations, if they have one.
+fn fault_of_creations(alloc: Global, count: u8) -> Result<Option<DiskFault>, DiskRefusal> {
+    fault_of_body(alloc, &creations(alloc, count)?)
+}
+
 #[test]
 fn as_many_files_as_there_may_be(rt: HostRuntime) -> Result<(), Fail> {
     let alloc = rt.alloc();
-    let record = record_of(alloc, &creations(alloc, 32)?)?;
-    let files = recover(alloc, &device_of(alloc, &[(64, &record)])?)?;
-    assert_eq!(rt; files.count(), 32);
-    assert_eq!(rt; files.find(b"`"), Some(31));
-    let record = record_of(alloc, &creations(alloc, 33)?)?;
-    assert_eq!(rt;
-        fault_of(alloc, &[(64, &record)])?,
-        Some(DiskFault::BadChange)
-    );
+    assert_row(&rt, 32, created(alloc, 32)?, (32, Some(31)));
+    assert_row(&rt, 33, fault_of_creations(alloc, 33), Ok(BAD_CHANGE));
     Ok(())
 }
 
@@ -226,82 +294,92 @@ fn long_file(alloc: Global, last: u32) -> Result<Vec<u8>, AllocError> {
     Ok(body)
 }
 
+/// The fault of a long file, if it has one.
+fn fault_of_long_file(alloc: Global, last: u32) -> Result<Option<DiskFault>, DiskRefusal> {
+    fault_of_body(alloc, &long_file(alloc, last)?)
+}
+
 #[test]
 fn a_file_as_long_as_it_may_be(rt: HostRuntime) -> Result<(), Fail> {
-    let alloc = rt.alloc();
-    let record = record_of(alloc, &long_file(alloc, 16383)?)?;
-    let files = recover(alloc, &device_of(alloc, &[(64, &record)])?)?;
-    assert_eq!(rt; files.count(), 1);
-    assert_eq!(rt; files.length(0), 16384);
-    assert_eq!(rt; files.read(0, 16382, 9), Some([15, 99].as_slice()));
-    assert_eq!(rt; files.read(0, 1023, 2), Some([0, 1].as_slice()));
-    let record = record_of(alloc, &long_file(alloc, 16384)?)?;
-    assert_eq!(rt;
-        fault_of(alloc, &[(64, &record)])?,
-        Some(DiskFault::BadChange)
+    let files = files_of_body(rt.alloc(), &long_file(rt.alloc(), 16383)?)?;
+    assert!(rt; files.count() == 1);
+    assert_row(&rt, "length", files.length(0), 16384);
+    let (last, border) = (files.read(0, 16382, 9), files.read(0, 1023, 2));
+    assert_row(&rt, "last bytes", last, Some([15, 99].as_slice()));
+    assert_row(
+        &rt,
+        "end of the first write",
+        border,
+        Some([0, 1].as_slice()),
     );
+    let fault = fault_of_long_file(rt.alloc(), 16384);
+    assert_row(&rt, "one byte more", fault, Ok(BAD_CHANGE));
     Ok(())
 }
 
+/// The fault of a body that ends with so many bytes of one value, if it has one.
+fn fault_of_write(
+    alloc: Global,
+    prefix: &[u8],
+    len: usize,
+) -> Result<Option<DiskFault>, DiskRefusal> {
+    let mut body = Vec::from_slice(alloc, prefix)?;
+    body.extend_from_slice(&vec![in alloc; 7; len]?)?;
+    fault_of_body(alloc, &body)
+}
+
 #[test]
-fn a_write_longer_than_it_may_be(rt: HostRuntime) -> Result<(), Fail> {
-    let alloc = rt.alloc();
+fn a_write_longer_than_it_may_be(rt: HostRuntime) {
     for (prefix, len, fault) in [
         (b"\x01\x01f\x02\0\0\0\0\0\0\0\x04".as_slice(), 1024, None),
-        (
-            b"\x01\x01f\x02\0\0\0\0\0\0\x01\x04",
-            1025,
-            Some(DiskFault::BadRecord),
-        ),
+        (b"\x01\x01f\x02\0\0\0\0\0\0\x01\x04", 1025, BAD_RECORD),
     ] {
-        let mut body = Vec::from_slice(alloc, prefix)?;
-        body.extend_from_slice(&vec![in alloc; 7; len]?)?;
-        let record = record_of(alloc, &body)?;
-        assert_eq!(rt; fault_of(alloc, &[(64, &record)])?, fault);
+        assert_row(&rt, len, fault_of_write(rt.alloc(), prefix, len), Ok(fault));
     }
-    Ok(())
 }
 
+/// Bodies with a change that is not possible.
+const BAD_CHANGES: &[&[u8]] = &[
+    // A file that is not there is emptied.
+    b"\x01\x01f\x03\x01\0",
+    // Writes of one byte at the greatest offset, and past the longest file.
+    b"\x01\x01f\x02\0\0\xff\xff\xff\xff\x01\0a",
+    b"\x01\x01f\x02\0\0\0\x40\0\0\x01\0a",
+];
+
 #[test]
-fn impossible_changes(rt: HostRuntime) -> Result<(), Fail> {
-    let alloc = rt.alloc();
-    for body in [
-        // A file that is not there is emptied.
-        b"\x01\x01f\x03\x01\0".as_slice(),
-        // Writes of one byte at the greatest offset, and past the longest file.
-        b"\x01\x01f\x02\0\0\xff\xff\xff\xff\x01\0a",
-        b"\x01\x01f\x02\0\0\0\x40\0\0\x01\0a",
-    ] {
-        let record = record_of(alloc, body)?;
-        assert_eq!(rt;
-            fault_of(alloc, &[(64, &record)])?,
-            Some(DiskFault::BadChange)
-        );
+fn impossible_changes(rt: HostRuntime) {
+    for (row, &body) in BAD_CHANGES.iter().enumerate() {
+        assert_row(&rt, row, fault_of_body(rt.alloc(), body), Ok(BAD_CHANGE));
     }
-    Ok(())
 }
 
 /// The fault of a disk with these records one after the other, from the first gate on.
-fn fault_of_two(alloc: Global, first: &[u8], second: &[u8]) -> Result<Option<DiskFault>, Fail> {
+fn fault_of_two(
+    alloc: Global,
+    first: &[u8],
+    second: &[u8],
+) -> Result<Option<DiskFault>, DiskRefusal> {
     let mut records = Vec::from_slice(alloc, first)?;
     records.extend_from_slice(second)?;
-    Ok(fault_of(alloc, &[(64, &records)])?)
+    fault_of(alloc, &[(64, &records)])
 }
 
 #[test]
-fn the_first_record_with_a_fault(rt: HostRuntime) -> Result<(), Fail> {
-    let alloc = rt.alloc();
+fn the_first_record_with_a_fault(rt: HostRuntime) {
     // Each with its gate open: a record past the half, a body that is no list of changes, and a change that is not possible.
     let past_half = b"\x01\xff\xff\xff\xff".as_slice();
     let bad_record = b"\x01\x01\0\0\0\x09".as_slice();
     let bad_change = b"\x01\x03\0\0\0\x03\0\0".as_slice();
-    for (first, second, fault) in [
-        (bad_record, past_half, DiskFault::BadRecord),
-        (bad_change, past_half, DiskFault::BadChange),
-        (bad_change, bad_record, DiskFault::BadChange),
-        (bad_record, bad_change, DiskFault::BadRecord),
-    ] {
-        assert_eq!(rt; fault_of_two(alloc, first, second)?, Some(fault));
+    for (row, (first, second, fault)) in [
+        (bad_record, past_half, BAD_RECORD),
+        (bad_change, past_half, BAD_CHANGE),
+        (bad_change, bad_record, BAD_CHANGE),
+        (bad_record, bad_change, BAD_RECORD),
+    ]
+    .into_iter()
+    .enumerate()
+    {
+        assert_row(&rt, row, fault_of_two(rt.alloc(), first, second), Ok(fault));
     }
-    Ok(())
 }

@@ -66,25 +66,25 @@ fn assert_groups(
     requires possible { IsMade files.now }
     requires formed { AllByRecursion IsFormed changes.now }
 {
-    assert_row(rt, &"wanted", &committer.wants_cut(true), &true);
+    assert_row(rt, "wanted", committer.wants_cut(true), true);
     let nothing = committer.cut(alloc, &[], files);
-    assert_row(rt, &"nothing", &nothing, &Err(NothingToCut));
+    assert_row(rt, "nothing", nothing, Err(NothingToCut));
     let cut = committer.cut(alloc, changes, files);
-    assert_row(rt, &"first cut", &cut, &Ok((2, 2)));
+    assert_row(rt, "first cut", cut, Ok((2, 2)));
     let again = committer.may_cut(changes);
-    assert_row(rt, &"in flight", &again, &Err(GroupInFlight));
-    assert_row(rt, &"early", &committer.completed(64), &Err(NoSuchWrite));
+    assert_row(rt, "in flight", again, Err(GroupInFlight));
+    assert_row(rt, "early", committer.completed(64), Err(NoSuchWrite));
     let flight = (committer.in_flight(), committer.is_in_flight(65));
-    assert_row(rt, &"places", &flight, &(Some(65), true));
-    assert_row(rt, &"record", &committer.completed(65), &Ok(0));
-    assert_row(rt, &"gate", &committer.completed(64), &Ok(2));
-    assert_row(rt, &"committed", &committer.committed(), &2);
+    assert_row(rt, "places", flight, (Some(65), true));
+    assert_row(rt, "record", committer.completed(65), Ok(0));
+    assert_row(rt, "gate", committer.completed(64), Ok(2));
+    assert_row(rt, "committed", committer.committed(), 2);
     let cut = committer.cut(alloc, changes, files);
-    assert_row(rt, &"next cut", &cut, &Ok((2, 2)));
+    assert_row(rt, "next cut", cut, Ok((2, 2)));
     let failed = (committer.failed(85), committer.has_failed());
-    assert_row(rt, &"failed", &failed, &(Ok(()), true));
+    assert_row(rt, "failed", failed, (Ok(()), true));
     let again = committer.may_cut(changes);
-    assert_row(rt, &"after it", &again, &Err(DiskFailed));
+    assert_row(rt, "after it", again, Err(DiskFailed));
 }
 
 #[test]

@@ -239,10 +239,10 @@ fn parses_a_small_file(rt: HostRuntime) -> Result<(), ElfFault> {
         execute: true,
     };
     let shape = (image.entry(), image.segments().len());
-    assert_row(&rt, &"image", &shape, &(0x0001_0000, 1));
+    assert_row(&rt, "image", shape, (0x0001_0000, 1));
     for segment in image.segments() {
         let found = (segment.vaddr, segment.memsz, segment.rights);
-        assert_row(&rt, &"segment", &found, &(0x0001_0000, 4, rights));
+        assert_row(&rt, "segment", found, (0x0001_0000, 4, rights));
         assert!(rt; segment.bytes.as_slice() == [0x73, 0, 0, 0].as_slice());
     }
     Ok(())
@@ -252,7 +252,7 @@ fn parses_a_small_file(rt: HostRuntime) -> Result<(), ElfFault> {
 fn finds_the_first_fault(rt: HostRuntime) {
     for (row, &(len, bytes, number)) in FAULTS.iter().enumerate() {
         let found = fault_of(rt.alloc(), changed(rt.alloc(), len, bytes));
-        assert_row(&rt, &row, &found, &Ok(number));
+        assert_row(&rt, row, found, Ok(number));
     }
 }
 
@@ -260,7 +260,7 @@ fn finds_the_first_fault(rt: HostRuntime) {
 fn finds_the_first_fault_of_two_segments(rt: HostRuntime) {
     for (row, &(len, bytes, number)) in FAULTS_OF_TWO.iter().enumerate() {
         let found = fault_of(rt.alloc(), two_segments(rt.alloc(), len, bytes));
-        assert_row(&rt, &row, &found, &Ok(number));
+        assert_row(&rt, row, found, Ok(number));
     }
 }
 
@@ -271,9 +271,9 @@ fn a_last_segment_of_no_bytes_is_kept(rt: HostRuntime) -> Result<(), ElfFault> {
     // The next page after the first segment's bytes, and 0x800 further.
     assert!(rt; written.len() == 0x2800);
     assert!(rt; written[84..].starts_with(&[1, 0, 0, 0, 0, 0x28, 0, 0]));
-    assert_row(&rt, &"segments", &count_of(rt.alloc(), &written), &Ok(2));
+    assert_row(&rt, "segments", count_of(rt.alloc(), &written), Ok(2));
     let same = have_same_image(rt.alloc(), &written, &file);
-    assert_row(&rt, &"the same", &same, &Ok(true));
+    assert_row(&rt, "the same", same, Ok(true));
     Ok(())
 }
 
@@ -291,7 +291,7 @@ fn one_to_four_segments(rt: HostRuntime) {
     for count in 1..5u8 {
         let n = usize::from(count);
         let wanted = (n, 0x1000 * n + 4, n);
-        assert_row(&rt, &count, &counts_of_four(rt.alloc(), count), &Ok(wanted));
+        assert_row(&rt, count, counts_of_four(rt.alloc(), count), Ok(wanted));
     }
 }
 
@@ -313,18 +313,18 @@ fn longest_file(alloc: Global) -> Result<Vec<u8>, AllocError> {
 fn the_longest_text_fills_sixty_pages(rt: HostRuntime) -> Result<(), AllocError> {
     let mut file = longest_file(rt.alloc())?;
     let whole = (file.len(), fault(rt.alloc(), &file));
-    assert_row(&rt, &"sixty pages", &whole, &(249_856, 0));
+    assert_row(&rt, "sixty pages", whole, (249_856, 0));
     // One word more, of the file and of memory.
     file.resize(249_860, 0)?;
     set(&mut file, &[(68, 4), (72, 4)]);
-    assert_row(&rt, &"one word more", &fault(rt.alloc(), &file), &10);
+    assert_row(&rt, "one word more", fault(rt.alloc(), &file), 10);
     Ok(())
 }
 
 #[test]
 fn faults_show_their_names(rt: HostRuntime) -> Result<(), AllocError> {
     for &(fault, number, name) in NAMES {
-        assert_row(&rt, &name, &fault.number(), &number);
+        assert_row(&rt, name, fault.number(), number);
         assert_shown(&rt, rt.alloc(), &fault, name)?;
     }
     Ok(())

@@ -68,23 +68,23 @@ fn words_and_texts(rt: HostRuntime) -> Result<(), AllocError> {
     for &(word, text) in WORDS {
         let instr = decode(word).expect(&rt, text);
         assert_shown(&rt, rt.alloc(), &instr, text)?;
-        assert_row(&rt, &text, &encode(&instr), &word);
+        assert_row(&rt, text, encode(&instr), word);
     }
     Ok(())
 }
 
 #[test]
 fn fences_and_illegal_words(rt: HostRuntime) {
-    assert_row(&rt, &"fence", &encode(&Instr::Fence), &0x0FF0_000F);
+    assert_row(&rt, "fence", encode(&Instr::Fence), 0x0FF0_000F);
     for &(word, is_fence) in FENCES {
         let meaning = is_fence.then_some(Instr::Fence);
-        assert_row(&rt, &word, &decode(word), &meaning);
+        assert_row(&rt, word, decode(word), meaning);
     }
 }
 
 #[test]
 fn ends_of_the_fields(rt: HostRuntime) {
     for &(number, fields) in FIELDS {
-        assert_row(&rt, &number, &fits(number), &fields);
+        assert_row(&rt, number, fits(number), fields);
     }
 }

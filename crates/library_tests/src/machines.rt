@@ -74,7 +74,7 @@ fn machine_of(alloc: Global, words: &[u32]) -> Result<Machine, AllocError>
 
 fn assert_bytes(rt: &impl Abort, machine: &Machine, bytes: &[(u32, Option<u8>)]) {
     for &(at, byte) in bytes {
-        assert_row(rt, &at, &machine.space().byte(at), &byte);
+        assert_row(rt, at, machine.space().byte(at), byte);
     }
 }
 
@@ -86,9 +86,9 @@ fn begins_at_the_entry_with_an_empty_stack(rt: HostRuntime) -> Result<(), AllocE
     let first = (machine.pc(), sp, a0, machine.count());
     assert_row(
         &rt,
-        &"pc, sp, a0 and count",
-        &first,
-        &(0x0001_0000, 0x8000_0000, 0, 0),
+        "pc, sp, a0 and count",
+        first,
+        (0x0001_0000, 0x8000_0000, 0, 0),
     );
     assert_bytes(&rt, &machine, FIRST_BYTES);
     Ok(())
@@ -112,7 +112,7 @@ fn run_of(
 fn runs_stop_where_they_should(rt: HostRuntime) {
     for (row, &(words, max, done, stop, stands)) in RUNS.iter().enumerate() {
         let wanted = ((done, stop), [0, u64::from(done)], stands, (0, Stop::Limit));
-        assert_row(&rt, &row, &run_of(rt.alloc(), &words, max), &Ok(wanted));
+        assert_row(&rt, row, run_of(rt.alloc(), &words, max), Ok(wanted));
     }
 }
 
@@ -128,8 +128,8 @@ fn runs_the_longest_text(rt: HostRuntime) -> Result<(), AllocError> {
     let mut copy = machine.try_clone(rt.alloc())?;
     assert!(rt; copy.count() == 0);
     let wanted = (61_440, Stop::Trap(Cause::FetchFault));
-    assert_row(&rt, &"run", &copy.run(100_000), &wanted);
-    assert_row(&rt, &"pc", &machine.pc(), &0x0001_0000);
+    assert_row(&rt, "run", copy.run(100_000), wanted);
+    assert_row(&rt, "pc", machine.pc(), 0x0001_0000);
     Ok(())
 }
 
@@ -142,7 +142,7 @@ fn assert_replied(rt: &impl Abort, machine: &mut Machine, reply: &Reply)
     assert!(rt; machine.space().writable(reply.at, 3));
     machine.reply(reply);
     let replied = (machine.reg(Reg::new(10)), machine.pc(), machine.count());
-    assert_row(rt, &"a0, pc and count", &replied, &(7, 0x0001_0004, 1));
+    assert_row(rt, "a0, pc and count", replied, (7, 0x0001_0004, 1));
     assert_bytes(rt, machine, REPLIED_BYTES);
 }
 
@@ -157,6 +157,6 @@ fn replies_to_a_call(rt: HostRuntime) -> Result<(), AllocError> {
     };
     assert_replied(&rt, &mut machine, &reply);
     let kept = (copy.stopped(), copy.space().byte(0x7fff_fff0));
-    assert_row(&rt, &"copy", &kept, &(Some(Stop::Call), Some(0)));
+    assert_row(&rt, "copy", kept, (Some(Stop::Call), Some(0)));
     Ok(())
 }

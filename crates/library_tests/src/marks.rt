@@ -1,36 +1,64 @@
 //! On how many changes an event rests.
-use commit_deps::{Carrier, Dependencies, Mark};
-use std::test::Fail;
+ghost use Rattle.std.specs.Prelude.{◌+◌, ◌<◌, ◌^◌};
+ghost use Rattle.std.specs.Option.{ForSome};
 
-// A process changes a file and then writes to a pipe; another reads the pipe, and a third only its own state.
+use crate::asserting::assert_row;
+use commit_deps::{Carrier, Dependencies, Mark};
+use std::alloc::AllocError;
+
+const FILE: Carrier = Carrier::File(0);
+
+const PIPE: Carrier = Carrier::Pipe(0);
+
+const WRITER: Carrier = Carrier::Proc(1);
+
+const READER: Carrier = Carrier::Proc(2);
+
+const OTHER: Carrier = Carrier::Proc(3);
+
+/// Events: what each reads, what it writes, which change it makes, and on which it rests. A process changes a file and then
+/// writes to a pipe; another reads the pipe, and a third only its own state, before it changes the file too.
+const EVENTS: &[(&[Carrier], &[Carrier], Option<u64>, Option<u64>)] = &[
+    (&[WRITER], &[WRITER, FILE], Some(0), Some(0)),
+    (&[WRITER], &[PIPE], None, Some(0)),
+    (&[READER, PIPE], &[READER, PIPE], None, Some(0)),
+    (&[OTHER], &[], None, None),
+    (&[OTHER], &[FILE], Some(1), Some(1)),
+];
+
+/// The mark of what rests on a change, or on none.
+fn mark_of(change: Option<u64>) -> Mark
+    requires { ForSome change (λ k. k + 1 < 2 ^ 64) }
+{
+    match change {
+        Some(change) => Mark::of_change(change),
+        None => Mark::none(),
+    }
+}
+
 #[test]
-fn a_pipe_carries_a_change(rt: HostRuntime) -> Result<(), Fail> {
+fn a_pipe_carries_a_change(rt: HostRuntime) -> Result<(), AllocError> {
     let mut dependencies = Dependencies::new(rt.alloc());
-    let process = Carrier::Proc(1);
-    let pipe = Carrier::Pipe(0);
-    let change = dependencies.event(&[process], &[process, Carrier::File(0)], Some(0))?;
-    let sent = dependencies.event(&[process], &[pipe], None)?;
-    let read = dependencies.event(&[Carrier::Proc(2), pipe], &[Carrier::Proc(2), pipe], None)?;
-    let other = dependencies.event(&[Carrier::Proc(3)], &[], None)?;
-    let later = dependencies.event(&[Carrier::Proc(3)], &[Carrier::File(0)], Some(1))?;
-    assert_eq!(rt; change, Mark::of_change(0));
-    assert_eq!(rt; sent, change);
-    assert_eq!(rt; read, change);
-    assert_eq!(rt; other, Mark::none());
-    assert_eq!(rt; later, Mark::of_change(1));
-    assert_eq!(rt; dependencies.of(pipe), Some(change));
-    assert_eq!(rt; dependencies.of(Carrier::File(0)), Some(later));
-    assert_eq!(rt; dependencies.of(Carrier::Proc(3)), None);
+    for (row, &(reads, writes, change, rests)) in EVENTS.iter().enumerate() {
+        let event = dependencies.event(reads, writes, change)?;
+        assert_row(&rt, row, event, mark_of(rests));
+    }
+    let marks = [
+        dependencies.of(PIPE),
+        dependencies.of(FILE),
+        dependencies.of(OTHER),
+    ];
+    let wanted = [Some(Mark::of_change(0)), Some(Mark::of_change(1)), None];
+    assert_row(&rt, "marks", marks, wanted);
     dependencies.reserve(100)?;
     Ok(())
 }
 
 #[test]
-fn a_mark_waits_for_its_greatest_change(rt: HostRuntime) -> Result<(), Fail> {
+fn a_mark_waits_for_its_greatest_change(rt: HostRuntime) {
     let first = Mark::of_change(0);
     let mark = Mark::none().joined(Mark::of_change(2)).joined(first);
     for (committed, expected) in [(0, false), (2, false), (3, true), (4, true)] {
-        assert_eq!(rt; mark.below(committed), expected, "at {committed}");
+        assert_row(&rt, committed, mark.below(committed), expected);
     }
-    Ok(())
 }

@@ -1,10 +1,29 @@
 //! A ring that wraps round, a full pipe, and ends that are gone.
+use crate::asserting::assert_row;
 use byte_list::Bytes;
 use kernel_model::PipeEnd;
 use pipes::{MOST_PIPES, PIPE_SIZE, Pipe, PipeTable};
 use std::alloc::Global;
 use std::process::Abort;
 use std::test::Fail;
+
+/// What a pipe holds, for how much more it has room, and how many descriptors stand for its ends.
+type Numbers = (usize, usize, usize, usize);
+
+const FULL: Option<Numbers> = Some((4096, 0, 1, 1));
+
+const EMPTY: Option<Numbers> = Some((0, 4096, 1, 1));
+
+/// What is read around the end of the ring, 4 bytes at a time.
+const AROUND: &[&[u8]] = &[b"\x02abc", b"def", b""];
+
+/// Ends of the second pipe that are dropped, and how many readers and writers it has then.
+const ENDS: &[(PipeEnd, usize, usize)] = &[
+    (PipeEnd::Read(1), 1, 1),
+    (PipeEnd::Write(1), 1, 0),
+    (PipeEnd::Read(1), 0, 0),
+    (PipeEnd::Write(1), 0, 0),
+];
 
 /// One more pipe.
 fn open(rt: &impl Abort, pipes: &mut PipeTable) -> Result<(), Fail> {
@@ -36,82 +55,92 @@ fn add_reader(rt: &impl Abort, pipes: &mut PipeTable, pipe: u32) {
     pipes.add_end(PipeEnd::Read(pipe));
 }
 
-/// What a pipe holds, for how much more it has room, and how many descriptors stand for its ends.
-fn numbers(pipes: &PipeTable, pipe: u32) -> Option<(usize, usize, usize, usize)> {
+/// The numbers of a pipe, if it is there.
+fn numbers(pipes: &PipeTable, pipe: u32) -> Option<Numbers> {
     let pipe = pipes.get(pipe)?;
     Some((pipe.held(), pipe.room(), pipe.readers(), pipe.writers()))
 }
 
+/// Reads at most n bytes, and wants these.
+fn assert_read(
+    rt: &(impl Abort + AllocGlobal),
+    pipes: &mut PipeTable,
+    pipe: u32,
+    n: usize,
+    wanted: &[u8],
+) -> Result<(), Fail> {
+    let bytes = read(rt.alloc(), pipes, pipe, n)?;
+    assert_row(rt, n, bytes.as_slice(), wanted);
+    Ok(())
+}
+
+/// Reads at most n bytes, and wants so many.
+fn assert_count(
+    rt: &(impl Abort + AllocGlobal),
+    pipes: &mut PipeTable,
+    pipe: u32,
+    n: usize,
+    wanted: usize,
+) -> Result<(), Fail> {
+    let bytes = read(rt.alloc(), pipes, pipe, n)?;
+    assert_row(rt, n, bytes.as_slice().len(), wanted);
+    Ok(())
+}
+
 #[test]
 fn a_ring_wraps_round(rt: HostRuntime) -> Result<(), Fail> {
-    let alloc = rt.alloc();
-    let mut pipes = PipeTable::new(alloc)?;
+    let mut pipes = PipeTable::new(rt.alloc())?;
     open(&rt, &mut pipes)?;
     write(&rt, &mut pipes, 0, &[1; 4000]);
-    assert_eq!(rt;
-        read(alloc, &mut pipes, 0, 3998)?.as_slice(),
-        [1; 3998].as_slice()
-    );
+    assert_read(&rt, &mut pipes, 0, 3998, &[1; 3998])?;
     write(&rt, &mut pipes, 0, &[2; 95]);
     write(&rt, &mut pipes, 0, b"abcdef");
-    assert_eq!(rt; read(alloc, &mut pipes, 0, 96)?.as_slice().len(), 96);
-    assert_eq!(rt;
-        read(alloc, &mut pipes, 0, 4)?.as_slice(),
-        b"\x02abc".as_slice()
-    );
-    assert_eq!(rt;
-        read(alloc, &mut pipes, 0, 4)?.as_slice(),
-        b"def".as_slice()
-    );
-    assert_eq!(rt; read(alloc, &mut pipes, 0, 4)?.as_slice(), b"".as_slice());
+    assert_count(&rt, &mut pipes, 0, 96, 96)?;
+    for &bytes in AROUND {
+        assert_read(&rt, &mut pipes, 0, 4, bytes)?;
+    }
     Ok(())
 }
 
 #[test]
 fn a_pipe_is_full(rt: HostRuntime) -> Result<(), Fail> {
-    let alloc = rt.alloc();
-    let mut pipes = PipeTable::new(alloc)?;
+    let mut pipes = PipeTable::new(rt.alloc())?;
     open(&rt, &mut pipes)?;
     open(&rt, &mut pipes)?;
     write(&rt, &mut pipes, 1, &[7; PIPE_SIZE]);
-    assert_eq!(rt; numbers(&pipes, 1), Some((4096, 0, 1, 1)));
-    assert_eq!(rt;
-        read(alloc, &mut pipes, 1, 10)?.as_slice(),
-        [7; 10].as_slice()
-    );
+    assert_row(&rt, "full", numbers(&pipes, 1), FULL);
+    assert_read(&rt, &mut pipes, 1, 10, &[7; 10])?;
     write(&rt, &mut pipes, 1, &[8; 10]);
-    assert_eq!(rt; numbers(&pipes, 1), Some((4096, 0, 1, 1)));
-    assert_eq!(rt; read(alloc, &mut pipes, 1, 5000)?.as_slice().len(), 4096);
-    assert_eq!(rt; numbers(&pipes, 1), Some((0, 4096, 1, 1)));
-    assert_eq!(rt; numbers(&pipes, 0), Some((0, 4096, 1, 1)));
+    assert_row(&rt, "full again", numbers(&pipes, 1), FULL);
+    assert_count(&rt, &mut pipes, 1, 5000, 4096)?;
+    let both = [numbers(&pipes, 1), numbers(&pipes, 0)];
+    assert_row(&rt, "empty", both, [EMPTY, EMPTY]);
     Ok(())
+}
+
+/// Two pipes, of which the second has two readers, and one reader more of a pipe that is not there.
+fn two_pipes(rt: &(impl Abort + AllocGlobal)) -> Result<PipeTable, Fail> {
+    let alloc = rt.alloc();
+    let mut pipes = PipeTable::new(alloc)?;
+    open(rt, &mut pipes)?;
+    assert!(rt; pipes.len() < MOST_PIPES);
+    pipes.push(Pipe::new(alloc)?);
+    add_reader(rt, &mut pipes, 1);
+    add_reader(rt, &mut pipes, 7);
+    Ok(pipes)
 }
 
 #[test]
 fn ends_are_gone(rt: HostRuntime) -> Result<(), Fail> {
-    let alloc = rt.alloc();
-    let mut pipes = PipeTable::new(alloc)?;
-    open(&rt, &mut pipes)?;
-    assert!(rt; pipes.len() < MOST_PIPES);
-    pipes.push(Pipe::new(alloc)?);
-    add_reader(&rt, &mut pipes, 1);
-    add_reader(&rt, &mut pipes, 7);
-    for (end, left) in [
-        (PipeEnd::Read(1), (1, 1)),
-        (PipeEnd::Write(1), (1, 0)),
-        (PipeEnd::Read(1), (0, 0)),
-        (PipeEnd::Write(1), (0, 0)),
-    ] {
+    let mut pipes = two_pipes(&rt)?;
+    for (row, &(end, readers, writers)) in ENDS.iter().enumerate() {
         pipes.drop_end(end);
-        assert_eq!(rt;
-            numbers(&pipes, 1),
-            Some((0, 4096, left.0, left.1)),
-            "{end:?}"
-        );
+        let left = Some((0, 4096, readers, writers));
+        assert_row(&rt, row, numbers(&pipes, 1), left);
     }
     pipes.drop_end(PipeEnd::Read(7));
-    assert_eq!(rt; numbers(&pipes, 0), Some((0, 4096, 1, 1)));
-    assert_eq!(rt; numbers(&pipes, 7), None);
-    assert_eq!(rt; pipes.len(), 2);
+    let both = [numbers(&pipes, 0), numbers(&pipes, 7)];
+    assert_row(&rt, "the others", both, [EMPTY, None]);
+    assert_row(&rt, "pipes", pipes.len(), 2);
     Ok(())
 }

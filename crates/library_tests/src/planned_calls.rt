@@ -179,7 +179,7 @@ const CALLS: &[([u32; 4], Result<u32, Option<u32>>)] = &[
 #[test]
 fn programs_call(rt: HostRuntime) {
     for (row, &(words, wanted)) in CALLS.iter().enumerate() {
-        assert_row(&rt, &row, &told_by(rt.alloc(), words), &Ok(wanted));
+        assert_row(&rt, row, told_by(rt.alloc(), words), Ok(wanted));
     }
 }
 
@@ -201,7 +201,7 @@ fn plan_of_open(alloc: Global) -> Result<Plan, AllocError> {
 #[test]
 fn a_file_is_opened(rt: HostRuntime) -> Result<(), AllocError> {
     let plan = plan_of_open(rt.alloc())?;
-    assert_row(&rt, &"open", &told(&plan), &Ok(2));
+    assert_row(&rt, "open", told(&plan), Ok(2));
     assert!(rt; plan.reads.as_slice() == [Carrier::Names].as_slice());
     Ok(())
 }
@@ -242,17 +242,17 @@ fn dropped(step: &PipeStep) -> Option<PipeEnd> {
 #[test]
 fn ends_are_given_up(rt: HostRuntime) -> Result<(), AllocError> {
     let plan = plan_end(rt.alloc(), &descriptors_of_pipes(), 300)?;
-    assert_row(&rt, &"end", &told(&plan), &Err(Some(300)));
+    assert_row(&rt, "end", told(&plan), Err(Some(300)));
     let counts = (plan.pipes.len(), plan.reads.len(), plan.writes.len());
-    assert_row(&rt, &"counts", &counts, &(3, 3, 3));
+    assert_row(&rt, "counts", counts, (3, 3, 3));
     for (place, (_, end, carrier)) in ENDS.iter().enumerate() {
         let given = plan.pipes.get(place).and_then(dropped);
         let touched = (
             plan.reads.get(place).copied(),
             plan.writes.get(place).copied(),
         );
-        assert_row(&rt, &place, &given, &Some(*end));
-        assert_row(&rt, &place, &touched, &(Some(*carrier), Some(*carrier)));
+        assert_row(&rt, place, given, Some(*end));
+        assert_row(&rt, place, touched, (Some(*carrier), Some(*carrier)));
     }
     Ok(())
 }

@@ -1,9 +1,9 @@
 //! Writers that take all, little or nothing, and fail.
+use crate::asserting::assert_row;
 use console::{PumpFault, pump};
 use std::alloc::Global;
 use std::io::{self, Error, ErrorKind, Write};
 use std::process::Abort;
-use std::test::Fail;
 
 const TEXT: &[u8] = b"the text that goes out";
 
@@ -65,8 +65,9 @@ impl Write for Fake {
 fn expect_all<R: AllocGlobal + Abort>(rt: &R, at_once: usize, from: usize) {
     if let Some(rest) = TEXT.get(from..) {
         let mut writer = Fake::new(rt.alloc(), at_once, TEXT.len(), Full::Fails);
-        assert_eq!(rt; pump(&mut writer, TEXT, from), Ok(TEXT.len()));
-        assert_eq!(rt; writer.held.as_slice(), rest);
+        let pumped = pump(&mut writer, TEXT, from);
+        assert_row(rt, from, pumped, Ok(TEXT.len()));
+        assert_row(rt, from, writer.held.as_slice(), rest);
     }
 }
 
@@ -86,16 +87,17 @@ fn a_full_writer_is_a_fault(rt: HostRuntime) {
         for room in 0..TEXT.len() - from {
             let mut writer = Fake::new(rt.alloc(), 1, room, full);
             let upto = from + room;
-            assert_eq!(rt; pump(&mut writer, TEXT, from), Err(PumpFault { upto }));
-            assert_eq!(rt; writer.held.as_slice(), &TEXT[from..upto]);
+            let pumped = pump(&mut writer, TEXT, from);
+            assert_row(&rt, room, pumped, Err(PumpFault { upto }));
+            assert_row(&rt, room, writer.held.as_slice(), &TEXT[from..upto]);
         }
     }
 }
 
 #[test]
-fn a_vector_takes_all(rt: HostRuntime) -> Result<(), Fail> {
+fn a_vector_takes_all(rt: HostRuntime) {
     let mut writer = Vec::new(rt.alloc());
-    assert_eq!(rt; pump(&mut writer, TEXT, 4), Ok(22));
-    assert_eq!(rt; writer.as_slice(), b"text that goes out".as_slice());
-    Ok(())
+    assert_row(&rt, "upto", pump(&mut writer, TEXT, 4), Ok(22));
+    let text = b"text that goes out".as_slice();
+    assert_row(&rt, "taken", writer.as_slice(), text);
 }

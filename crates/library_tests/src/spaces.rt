@@ -3,10 +3,12 @@ ghost use Rattle.std.specs.Prelude.{◌≡◌, ◌+◌, ◌%◌, ◌^◌, ◌≤
 ghost use Rattle.machine_model.specs.Memory.{memory_of};
 ghost use Rattle.machine_model.specs.Access.{mapped};
 
+use crate::asserting::assert_row;
 use isa_table::Bus;
 use machine_model::{BusFault, Rights, Width};
 use memory::{CopyFault, Space};
 use std::alloc::{AllocError, Global};
+use std::process::Abort;
 use std::test::Fail;
 
 const READ_EXECUTE: Rights = Rights {
@@ -52,59 +54,66 @@ fn two_pages(
     Ok(space)
 }
 
-#[test]
-fn each_refusal(rt: HostRuntime) -> Result<(), Fail> {
-    let mut space = two_pages(rt.alloc(), READ_EXECUTE, WRITE, &[0x13; 4096])?;
-    for (at, load, fetch, store) in [
-        (
-            0x1000,
-            Ok(0x1313_1313),
-            Ok(0x1313_1313),
-            Err(BusFault::NoRight),
-        ),
-        (
-            0x1ffc,
-            Ok(0x1313_1313),
-            Ok(0x1313_1313),
-            Err(BusFault::NoRight),
-        ),
-        (
-            0x2000,
-            Err(BusFault::NoRight),
-            Err(BusFault::NoRight),
-            Ok(()),
-        ),
-        (
-            0x3000,
-            Err(BusFault::Unmapped),
-            Err(BusFault::Unmapped),
-            Err(BusFault::Unmapped),
-        ),
-        (
-            0x3002,
-            Err(BusFault::Misaligned),
-            Err(BusFault::Misaligned),
-            Err(BusFault::Misaligned),
-        ),
-    ] {
-        assert_eq!(rt; space.load(at, Width::Word), load);
-        assert_eq!(rt; space.fetch(at), fetch);
-        assert_eq!(rt; space.store_fault(at, Width::Word), store.err());
-        assert_eq!(rt; space.store(at, Width::Word, 1), store);
+/// What a load and a fetch give.
+type Loaded = Result<u32, BusFault>;
+
+const WORD: Loaded = Ok(0x1313_1313);
+
+/// Addresses, and what a load, a fetch and a store of a word give there, where the first page may be read and executed, and
+/// the second written.
+const ACCESSES: &[(u32, Loaded, Loaded, Result<(), BusFault>)] = &[
+    (0x1000, WORD, WORD, Err(BusFault::NoRight)),
+    (0x1ffc, WORD, WORD, Err(BusFault::NoRight)),
+    (
+        0x2000,
+        Err(BusFault::NoRight),
+        Err(BusFault::NoRight),
+        Ok(()),
+    ),
+    (
+        0x3000,
+        Err(BusFault::Unmapped),
+        Err(BusFault::Unmapped),
+        Err(BusFault::Unmapped),
+    ),
+    (
+        0x3002,
+        Err(BusFault::Misaligned),
+        Err(BusFault::Misaligned),
+        Err(BusFault::Misaligned),
+    ),
+];
+
+/// Addresses, numbers of bytes, and whether so many bytes from there on may be written.
+const WRITABLE: &[(u32, u32, bool)] = &[
+    (0x1000, 0x2000, true),
+    (0x1000, 0x2001, false),
+    (0xffff_ffff, 2, false),
+    (0xffff_ffff, 0, true),
+];
+
+fn assert_accesses(rt: &impl Abort, space: &mut Space) {
+    for &(at, load, fetch, store) in ACCESSES {
+        let loaded = [space.load(at, Width::Word), space.fetch(at)];
+        assert_row(rt, at, loaded, [load, fetch]);
+        let fault = space.store_fault(at, Width::Word);
+        let stored = space.store(at, Width::Word, 1);
+        assert_row(rt, at, (fault, stored), (store.err(), store));
     }
+}
+
+#[test]
+fn each_refusal(rt: HostRuntime) -> Result<(), AllocError> {
+    let mut space = two_pages(rt.alloc(), READ_EXECUTE, WRITE, &[0x13; 4096])?;
+    assert_accesses(&rt, &mut space);
     Ok(())
 }
 
 #[test]
-fn past_the_greatest_address(rt: HostRuntime) -> Result<(), Fail> {
+fn past_the_greatest_address(rt: HostRuntime) -> Result<(), AllocError> {
     let space = two_pages(rt.alloc(), READ_WRITE, READ_WRITE, &[0; 4096])?;
-    for (at, n, is_writable) in [
-        (0x1000, 0x2000, true),
-        (0x1000, 0x2001, false),
-        (0xffff_ffff, 2, false),
-        (0xffff_ffff, 0, true),
-    ] {
-        assert_eq!(rt; space.writable(at, n), is_writable);
+    for (row, &(at, n, is_writable)) in WRITABLE.iter().enumerate() {
+        assert_row(&rt, row, space.writable(at, n), is_writable);
     }
     assert!(rt;
         matches!(
@@ -115,32 +124,66 @@ fn past_the_greatest_address(rt: HostRuntime) -> Result<(), Fail> {
     Ok(())
 }
 
-#[test]
-fn copies_come_back(rt: HostRuntime) -> Result<(), Fail> {
-    let mut space = two_pages(rt.alloc(), READ_WRITE, READ_WRITE, &[0; 4096])?;
-    let clone = space.try_clone(rt.alloc())?;
-    assert_eq!(rt; space.copy_out(0x1ffe, &[1, 2, 3, 4, 5]), Ok(()));
+/// Bytes are copied out over both pages, and come back; past the pages nothing is copied.
+fn assert_copied(rt: &(impl Abort + AllocGlobal), space: &mut Space) -> Result<(), CopyFault> {
+    let written = space.copy_out(0x1ffe, &[1, 2, 3, 4, 5]);
+    assert_row(rt, "copied out", written, Ok(()));
     let copy = space.copy_in(rt.alloc(), 0x1ffd, 7)?;
-    assert_eq!(rt; copy.as_slice(), [0, 1, 2, 3, 4, 5, 0].as_slice());
-    assert_eq!(rt; space.load(0x2000, Width::Half), Ok(0x0403));
-    assert_eq!(rt; space.copy_out(0x2fff, &[9, 9]), Err(BusFault::Unmapped));
-    assert_eq!(rt; space.byte(0x2fff), Some(0));
-    assert_eq!(rt; clone.byte(0x1ffe), Some(0));
+    let wanted = [0, 1, 2, 3, 4, 5, 0].as_slice();
+    assert_row(rt, "copied in", copy.as_slice(), wanted);
+    assert_row(rt, "loaded", space.load(0x2000, Width::Half), Ok(0x0403));
+    let past = space.copy_out(0x2fff, &[9, 9]);
+    assert_row(rt, "past the pages", past, Err(BusFault::Unmapped));
+    assert_row(rt, "last byte", space.byte(0x2fff), Some(0));
     Ok(())
 }
 
 #[test]
-fn same_bytes_in_other_cuts(rt: HostRuntime) -> Result<(), Fail> {
-    let mut space = two_pages(rt.alloc(), READ_WRITE, READ_WRITE, &[7; 4096])?;
-    let whole = pages(rt.alloc(), READ_WRITE, &[7; 8192])?;
-    let other_rights = two_pages(rt.alloc(), READ_WRITE, READ_EXECUTE, &[7; 4096])?;
-    let shorter = pages(rt.alloc(), READ_WRITE, &[7; 4096])?;
-    assert!(rt; space.is_same(&whole));
-    assert!(rt; space.is_same(&space.try_clone(rt.alloc())?));
-    assert!(rt; !space.is_same(&other_rights));
-    assert!(rt; !space.is_same(&shorter));
-    assert!(rt; !shorter.is_same(&space));
-    assert_eq!(rt; space.store(0x2fff, Width::Byte, 8), Ok(()));
-    assert!(rt; !space.is_same(&whole));
+fn copies_come_back(rt: HostRuntime) -> Result<(), Fail> {
+    let mut space = two_pages(rt.alloc(), READ_WRITE, READ_WRITE, &[0; 4096])?;
+    let clone = space.try_clone(rt.alloc())?;
+    assert_copied(&rt, &mut space)?;
+    assert_row(&rt, "clone", clone.byte(0x1ffe), Some(0));
+    Ok(())
+}
+
+/// Whether a space is the same as two pages of sevens, of which the second has these rights, and whether those are the same
+/// as the space.
+fn are_same_as_two(alloc: Global, space: &Space, second: Rights) -> Result<[bool; 2], AllocError> {
+    let other = two_pages(alloc, READ_WRITE, second, &[7; 4096])?;
+    Ok([space.is_same(&other), other.is_same(space)])
+}
+
+/// The same of pages of these bytes that are mapped in one cut.
+fn are_same_as_one_cut(alloc: Global, space: &Space, bytes: &[u8]) -> Result<[bool; 2], AllocError>
+    requires whole { length bytes.now % 4096 ≡ 0 }
+    requires range { 4096 + length bytes.now ≤ 2 ^ 32 }
+{
+    let other = pages(alloc, READ_WRITE, bytes)?;
+    Ok([space.is_same(&other), other.is_same(space)])
+}
+
+/// Whether a space is the same as its clone.
+fn is_same_as_clone(alloc: Global, space: &Space) -> Result<bool, AllocError> {
+    let clone = space.try_clone(alloc)?;
+    Ok(space.is_same(&clone))
+}
+
+#[test]
+fn same_bytes_in_other_cuts(rt: HostRuntime) -> Result<(), AllocError> {
+    let alloc = rt.alloc();
+    let mut space = two_pages(alloc, READ_WRITE, READ_WRITE, &[7; 4096])?;
+    let whole = are_same_as_one_cut(alloc, &space, &[7; 8192]);
+    assert_row(&rt, "one cut", whole, Ok([true, true]));
+    let clone = is_same_as_clone(alloc, &space);
+    assert_row(&rt, "clone", clone, Ok(true));
+    let other_rights = are_same_as_two(alloc, &space, READ_EXECUTE);
+    assert_row(&rt, "other rights", other_rights, Ok([false, false]));
+    let shorter = are_same_as_one_cut(alloc, &space, &[7; 4096]);
+    assert_row(&rt, "shorter", shorter, Ok([false, false]));
+    let stored = space.store(0x2fff, Width::Byte, 8);
+    assert_row(&rt, "stored", stored, Ok(()));
+    let whole = are_same_as_one_cut(alloc, &space, &[7; 8192]);
+    assert_row(&rt, "another byte", whole, Ok([false, false]));
     Ok(())
 }

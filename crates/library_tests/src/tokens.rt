@@ -150,7 +150,7 @@ fn words_of(alloc: Global, source: &str) -> Result<Vec<u8>, TextFault> {
 fn sources(rt: HostRuntime) -> Result<(), TextFault> {
     for &(source, tokens) in TOKENS {
         let found = shown(rt.alloc(), source)?;
-        assert_row(&rt, &source, &found.as_str(), &tokens);
+        assert_row(&rt, source, found.as_str(), tokens);
     }
     Ok(())
 }
@@ -163,7 +163,7 @@ fn faults(rt: HostRuntime) {
             line,
             column,
         };
-        assert_row(&rt, &source, &fault_of(rt.alloc(), source), &Some(fault));
+        assert_row(&rt, source, fault_of(rt.alloc(), source), Some(fault));
     }
 }
 
@@ -177,14 +177,14 @@ fn texts(rt: HostRuntime) -> Result<(), TextFault> {
 #[test]
 fn long_sources(rt: HostRuntime) {
     for &(repeated, wanted) in LONG {
-        assert_row(&rt, &repeated.1, &counts(rt.alloc(), repeated), &Ok(wanted));
+        assert_row(&rt, repeated.1, counts(rt.alloc(), repeated), Ok(wanted));
     }
 }
 
 #[test]
 fn numbers_of_causes(rt: HostRuntime) -> Result<(), AllocError> {
-    assert_row(&rt, &"syntax", &Cause::Syntax.number(), &1);
-    assert_row(&rt, &"want of memory", &Cause::OutOfMemory.number(), &2);
+    assert_row(&rt, "syntax", Cause::Syntax.number(), 1);
+    assert_row(&rt, "want of memory", Cause::OutOfMemory.number(), 2);
     let fault = TextFault {
         why: Cause::Syntax,
         line: 2,
