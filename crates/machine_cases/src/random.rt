@@ -1,0 +1,144 @@
+//! Random programs, with much of what sequences of words are made of: jumps to near words, also into the middle of a sequence,
+//! accesses that pass the end of a page, that are not aligned, or that are forbidden.
+use crate::limits::check_each;
+use anyhow::{Error, bail};
+use machine::{Image, Machine};
+use std::alloc::{AllocError, Global};
+
+/// How many programs are tried.
+pub const PROGRAMS: u32 = 2_000;
+
+/// The words of a program.
+const WORDS: u32 = 40;
+
+/// The most instructions that a program does here.
+const STEPS: u32 = 120;
+
+/// The first words of each program: registers that hold the ends of pages of the stack and of the text.
+const START: [u32; 6] = [
+    // lui x8, 0x7fffd: the second page of the stack
+    0x7fff_d437,
+    // lui x9, 0x80000: where the stack ends
+    0x8000_04b7,
+    // addi x9, x9, -8
+    0xff84_8493,
+    // lui x10, 0x11: the end of the text's page
+    0x0001_1537,
+    // addi x11, x0, 3
+    0x0030_0593,
+    // lui x12, 0x7fffc: where the stack begins
+    0x7fff_c637,
+];
+
+/// What a program is made of: words without registers and numbers, and the bits that are filled in at random. Those of
+/// registers name x8 to x15.
+const PATTERNS: &[(u32, u32)] = &[
+    // addi, andi, xori, ori, slti, sltiu
+    (0x0004_0413, 0x0ff3_8380),
+    (0x0004_0413, 0x0003_8380),
+    (0x0004_7413, 0x0ff3_8380),
+    (0x0004_4413, 0xfff3_8380),
+    (0x0004_6413, 0x00f3_8380),
+    (0x0004_2413, 0xff03_8380),
+    (0x0004_3413, 0x00f3_8380),
+    // slli, srli, srai
+    (0x0004_1413, 0x0033_8380),
+    (0x0004_5413, 0x01f3_8380),
+    (0x4004_5413, 0x00f3_8380),
+    // add, sub, xor, or, and, srl, mul, remu, div, mulhu, of two registers
+    (0x0084_0433, 0x0073_8380),
+    (0x0084_0433, 0x0073_8380),
+    (0x4084_0433, 0x0073_8380),
+    (0x0084_4433, 0x0073_8380),
+    (0x0084_6433, 0x0073_8380),
+    (0x0084_7433, 0x0073_8380),
+    (0x0084_5433, 0x0073_8380),
+    (0x0284_0433, 0x0073_8380),
+    (0x0284_7433, 0x0073_8380),
+    (0x0284_4433, 0x0073_8380),
+    (0x0284_3433, 0x0073_8380),
+    // lw, lh, lbu, lb, lhu at small offsets from x8 to x12, the first of them aligned mostly
+    (0x0004_2403, 0x00c2_0380),
+    (0x0004_2403, 0xffc1_8380),
+    (0x0004_1403, 0xffe1_8380),
+    (0x0004_4403, 0x0073_8380),
+    (0x0004_0403, 0xfff0_8380),
+    (0x0004_5403, 0x00e1_8380),
+    // sw, sh, sb
+    (0x0084_2023, 0x0070_8600),
+    (0x0084_2023, 0xfe71_8e00),
+    (0x0084_1023, 0x0070_8700),
+    (0x0084_0023, 0x0071_8f80),
+    // beq, bne, blt, bge, bltu, bgeu: two words or so forward, or back
+    (0x0084_0463, 0x0073_8400),
+    (0x0084_1463, 0x0073_8400),
+    (0x0084_5463, 0x0073_8c00),
+    (0xfe84_6ce3, 0x0073_8400),
+    (0xfe84_1ae3, 0x0073_8400),
+    (0x0084_7463, 0x0073_8600),
+    // jal x0 and x8 to near words, jalr to a register, lui, auipc
+    (0x0080_006f, 0x0040_0000),
+    (0x0080_006f, 0x0040_0400),
+    (0xff9f_f0ef, 0x0040_0000),
+    (0x0005_0067, 0x0010_8000),
+    (0x0000_0437, 0x0000_7380),
+    (0x0000_0417, 0x0000_3380),
+    // addi x0, fence, ecall
+    (0x0010_0013, 0x00f0_0000),
+    (0x0ff0_000f, 0x0000_0000),
+    (0x0000_0073, 0x0000_0000),
+];
+
+/// Numbers that seem random, by xorshift.
+#[derive(Drop)]
+struct Numbers {
+    state: u32,
+}
+
+impl Numbers {
+    fn next(&mut self) -> u32 {
+        let mut state = self.state;
+        state ^= state << 13;
+        state ^= state >> 17;
+        state ^= state << 5;
+        self.state = state;
+        state
+    }
+
+    /// The word of a pattern with its free bits at random.
+    fn word(&mut self) -> u32 {
+        let chosen = self.next() as usize % PATTERNS.len();
+        let (fixed, free) = PATTERNS[chosen];
+        fixed ^ self.next() & free
+    }
+}
+
+/// The words of a program.
+fn program(alloc: Global, numbers: &mut Numbers) -> Result<Vec<u32>, AllocError> {
+    let mut words = Vec::from_slice(alloc, &START)?;
+    for _ in 0..WORDS {
+        words.push(numbers.word())?;
+    }
+    Ok(words)
+}
+
+/// Runs each program to each limit. Says how many limits there were.
+pub fn check_programs(alloc: Global) -> Result<u64, Error> {
+    let mut count = 0u64;
+    for seed in 1..PROGRAMS + 1 {
+        let mut numbers = Numbers {
+            state: seed * 0x9e37,
+        };
+        let words = program(alloc, &mut numbers)?;
+        if words.is_empty() || words.len() > 61_440 {
+            continue;
+        }
+        let image = Image::from_text(alloc, words.as_slice())?;
+        let first = Machine::load(alloc, &image)?;
+        match check_each(alloc, &first, STEPS) {
+            Ok(limits) => count = count.saturating_add(u64::from(limits)),
+            Err(error) => bail!("random program {seed}: {error}"),
+        }
+    }
+    Ok(count)
+}
