@@ -6,3 +6,5 @@ pub mod Limits
 pub mod Decoding
 pub mod Pages
 pub mod Loaded
+pub mod Ways
+pub mod Fused
