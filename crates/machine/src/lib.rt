@@ -15,7 +15,6 @@ mod op;
 mod sequences;
 mod stopped;
 mod table;
-mod words;
 
 pub use laws::segments_are_loaded;
 pub use machine::Machine;

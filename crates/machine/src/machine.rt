@@ -2,7 +2,7 @@
 ghost use Rattle.std.specs.Prelude.{◌≡◌, ◌≢◌, ◌↔◌, ℕ, ◌+◌, ◌%◌, ◌<◌, ◌≤◌, ◌^◌, true, length, Some, IfOk, IsTrue};
 ghost use Rattle.machine_model.specs.Access.{HoldsBytes, is_writable, put_bytes};
 ghost use Rattle.machine_model.specs.Effects.{reg as register};
-ghost use Rattle.machine_model.specs.States.{run as run_from, reached_at, stands_at, replied};
+ghost use Rattle.machine_model.specs.States.{run as run_from, hart, reached_at, stands_at, state, replied};
 ghost use Rattle.machine_model.specs.First.{first_state, first_registers};
 ghost use Rattle.machine.specs.Kept.{Kept};
 
@@ -56,6 +56,20 @@ impl Machine {
             space,
             count: 0,
             tables: Arc::new(alloc, tables)?,
+        })
+    }
+
+    /// The machine that begins at an address of a memory. No word is decoded before it is to be done, so that pages which
+    /// may be both written and executed do what the last store to them says.
+    pub fn with_space(alloc: Global, entry: u32, space: Space) -> Result<Machine, AllocError>
+        requires { entry % 4 ≡ 0 }
+        ensures { IfOk result (λ m. m ≡ state (hart first_registers entry space) 0) }
+    {
+        Ok(Machine {
+            regs: first_regs(entry),
+            space,
+            count: 0,
+            tables: Arc::new(alloc, Vec::new(alloc))?,
         })
     }
 

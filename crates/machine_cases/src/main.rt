@@ -1,11 +1,13 @@
-//! Runs machines at many limits, and compares where each comes to with single instructions: random programs (`random`), and
-//! the images that the words name, of programs in C (`data/c`).
+//! Runs machines at many limits, and compares where each comes to with single instructions: a page that
+//! writes over its own words (`written_code`), random programs (`random`), and the images that the words name, of programs in C
+//! (`data/c`).
 //!
 //! A line is printed for each. At the first difference the program ends with status 1, and says where it is.
 #![tactic(auto)]
 
 mod limits;
 mod random;
+mod written_code;
 
 use anyhow::Error;
 use machine::Machine;
@@ -18,6 +20,8 @@ const WHOLE: u32 = 1_000_000;
 
 fn main(rt: HostRuntime) -> Result<(), Error> {
     let words: Vec<String> = env::args(&rt)?.collect(rt.alloc())?;
+    written_code::check_page(rt.alloc())?;
+    println!(rt; "a page that writes over its words")?;
     let count = random::check_programs(rt.alloc())?;
     println!(rt; "{} random programs: {count} limits", random::PROGRAMS)?;
     for name in words.iter().skip(1) {
