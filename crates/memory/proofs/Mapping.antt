@@ -1,5 +1,5 @@
 -- Pages that are added to a memory.
-use Rattle.std.proofs.Common.{◌≡◌, ℕ, suc, zero, ◌+◌, ◌-◌, ◌*◌, ◌/◌, ◌%◌, ◌^◌, ◌<◌, ◌≤◌, Bool, true, false, cond, List, [], ◌∷◌, ◌++◌, length, drop, refl, sym, ap, ◌∙◌, arith}
+use Rattle.std.proofs.Common.{◌≡◌, ℕ, suc, zero, ◌+◌, ◌-◌, ◌*◌, ◌/◌, ◌%◌, ◌^◌, ◌<◌, ◌≤◌, Bool, true, false, cond, List, [], ◌∷◌, ◌++◌, length, drop, refl, sym, ap, ◌∙◌, arith, subst}
 use Rattle.std.specs.Prelude.{◌&&◌, nat_lt, nat_le, slice_index, slice_index_or, Option, Some, None, option_map}
 use Rattle.std.specs.Simd.{first_chunks}
 use Rattle.std.specs.FinMap.{get}
@@ -9,7 +9,7 @@ use Rattle.machine_model.specs.Access.{mapped, cell_with}
 use Rattle.machine_model.specs.declared.access.Rights.{Rights}
 use Rattle.machine_model.proofs.Memories.{get-memory_of, same_memory}
 use Rattle.memory.specs.Words.{Word, cell_of, cell_at, memory_of_words}
-use Rattle.memory.specs.Pages.{Pages, has_word, word_in, word_among, words_of, pages_of}
+use Rattle.memory.specs.Pages.{Pages, Adds, has_word, word_in, word_among, words_of, pages_of}
 use Rattle.memory.proofs.WordAccess.{get-words, get-word}
 use Rattle.memory.proofs.Places.{no_some, has_word-range}
 
@@ -26,30 +26,24 @@ among-free : (write : Bool) (parts : List Pages) (x y : Option Word) (n : ℕ) �
 among-free write [] x y n e = refl
 among-free write (q ∷ qs) x y n e = free-step (has_word q n) (word_in write q n) (word_among write qs x n) (word_among write qs y n) y (among-free write qs x y n) e
 
-after-free : (write : Bool) (parts : List Pages) (x : Option Word) (n : ℕ) → word_among write parts x n ≡ None → x ≡ None
-after-free write [] x n e = e
-after-free write (q ∷ qs) x n e = after-step (has_word q n) (word_in write q n) (word_among write qs x n) (after-free write qs x n) e
+-- a run that may be written is added after the others
+pub own-push : (own : List Pages) (p : Pages) → Adds own p (own ++ p ∷ [])
+own-push own p rest n free = among-push true own p rest n ∙ by (has_word p n) refl
   where
-    after-step : (b : Bool) (w : Word) (a : Option Word) → (a ≡ None → x ≡ None) → cond b (Some w) a ≡ None → x ≡ None
-    after-step true w a f e = absurd (no_some e)
-    after-step false w a f e = f e
-
--- a run that may be written is added
-pub own-push : (own shared : List Pages) (p : Pages) (n : ℕ) → (has_word p n ≡ true → words_of own shared n ≡ None) → words_of (own ++ p ∷ []) shared n ≡ cond (has_word p n) (Some (word_in true p n)) (words_of own shared n)
-own-push own shared p n free = among-push true own p (word_among false shared None n) n ∙ by (has_word p n) refl
-  where
-    by : (b : Bool) → has_word p n ≡ b → word_among true own (cond b (Some (word_in true p n)) (word_among false shared None n)) n ≡ cond b (Some (word_in true p n)) (words_of own shared n)
-    by true e = among-free true own (word_among false shared None n) (Some (word_in true p n)) n (free e)
+    by : (b : Bool) → has_word p n ≡ b → word_among true own (cond b (Some (word_in true p n)) rest) n ≡ cond b (Some (word_in true p n)) (word_among true own rest n)
+    by true e = among-free true own rest (Some (word_in true p n)) n (free e)
     by false e = refl
 
--- a run that may not be written is added
-pub shared-push : (own shared : List Pages) (p : Pages) (n : ℕ) → (has_word p n ≡ true → words_of own shared n ≡ None) → words_of own (shared ++ p ∷ []) n ≡ cond (has_word p n) (Some (word_in false p n)) (words_of own shared n)
-shared-push own shared p n free = ap (λ r. word_among true own r n) (among-push false shared p None n) ∙ by (has_word p n) refl
+-- the same of runs that equal these
+pub adds-as : (old own left new : List Pages) (p : Pages) → old ≡ own → left ≡ new → Adds old p left → Adds own p new
+adds-as old own left new p e f adds = subst (λ (ps : List Pages). Adds ps p new) e (subst (λ (ps : List Pages). Adds old p ps) f adds)
+
+-- a run that may not be written is added before the others that may not
+pub shared-front : (own shared : List Pages) (p : Pages) (n : ℕ) → (has_word p n ≡ true → words_of own shared n ≡ None) → words_of own (p ∷ shared) n ≡ cond (has_word p n) (Some (word_in false p n)) (words_of own shared n)
+shared-front own shared p n free = by (has_word p n) refl
   where
-    by : (b : Bool) → has_word p n ≡ b → word_among true own (word_among false shared (cond b (Some (word_in false p n)) None) n) n ≡ cond b (Some (word_in false p n)) (words_of own shared n)
-    by true e =
-        ap (λ r. word_among true own r n) (among-free false shared None (Some (word_in false p n)) n (after-free true own (word_among false shared None n) n (free e)))
-        ∙ among-free true own (word_among false shared None n) (Some (word_in false p n)) n (free e)
+    by : (b : Bool) → has_word p n ≡ b → word_among true own (cond b (Some (word_in false p n)) (word_among false shared None n)) n ≡ cond b (Some (word_in false p n)) (words_of own shared n)
+    by true e = among-free true own (word_among false shared None n) (Some (word_in false p n)) n (free e)
     by false e = refl
 
 none_mapped : (w : Option Word) → option_map (cell_of 0) w ≡ None → w ≡ None

@@ -1,5 +1,5 @@
 -- The run of pages that has a word.
-use Rattle.std.proofs.Common.{◌≡◌, ℕ, suc, zero, ◌+◌, ◌-◌, ◌<◌, ◌≤◌, Bool, true, false, cond, List, [], ◌∷◌, length, refl, sym, ap, ◌∙◌, arith, inl, inr}
+use Rattle.std.proofs.Common.{◌≡◌, ℕ, suc, zero, ◌+◌, ◌-◌, ◌<◌, ◌≤◌, Bool, true, false, cond, List, [], ◌∷◌, length, refl, sym, ap, ◌∙◌, arith, inl, inr, subst}
 use Rattle.std.specs.Prelude.{◌==◌, ◌≢◌, ◌&&◌, nat_lt, nat_le, slice_index_or, slice_set, Option, Some, None, map, position}
 use Rattle.std.specs.List.{position_from}
 use Rattle.std.proofs.lemmas.Iterator.Adapters.{position_from-zero}
@@ -10,7 +10,7 @@ use Rattle.std.proofs.lemmas.Grind.{common_steps}
 use Rattle.memory.specs.Words.{Word, word_fault}
 use Rattle.machine_model.specs.declared.access.BusFault.TheVariants.{NoRight}
 use Rattle.memory.proofs.WordStore.{with_word}
-use Rattle.memory.specs.Pages.{Pages, has_word, word_in, word_among}
+use Rattle.memory.specs.Pages.{Pages, MissesNear, has_word, word_in, word_among}
 
 pub has_word-range : (p : Pages) (n : ℕ) → has_word p n ≡ true → (p.first ≤ n) × (n < p.first + length p.words)
 has_word-range p n h = in_range p.first n (length p.words) h
@@ -54,6 +54,20 @@ among-none write (q ∷ qs) rest n k e = none-step (has_word q n) k _ (Some (wor
 
 pub among-missing : (write : Bool) (parts : List Pages) (rest : Option Word) (n : ℕ) → position (λ p. has_word p n) parts ≡ None → word_among write parts rest n ≡ rest
 among-missing write parts rest n e = among-none write parts rest n 0 (sym (position_from-zero (λ p. has_word p n) parts) ∙ e)
+
+-- what the first two runs lack stands in the others
+pub among-past : (write : Bool) (p q : Pages) (ps : List Pages) (rest : Option Word) (n : ℕ) → has_word p n ≡ false → has_word q n ≡ false → word_among write (p ∷ q ∷ ps) rest n ≡ word_among write ps rest n
+among-past write p q ps rest n e f = λ i. cond (e i) (Some (word_in write p n)) (cond (f i) (Some (word_in write q n)) (word_among write ps rest n))
+
+pub misses-near : (own : List Pages) (p q : Pages) (ps : List Pages) (n : ℕ) → p ∷ q ∷ ps ≡ own → MissesNear own n → (has_word p n ≡ false) × (has_word q n ≡ false)
+misses-near own p q ps n e m = subst (λ (os : List Pages). MissesNear os n) (sym e) m
+
+-- where there are no other runs, what the two lack stands after them
+pub only-near : (own : List Pages) (rest : Option Word) (n : ℕ) → length own ≡ 2 → MissesNear own n → word_among true own rest n ≡ rest
+only-near [] rest n e m = absurd (omega arith)
+only-near (p ∷ []) rest n e m = absurd (omega arith)
+only-near (p ∷ q ∷ []) rest n e m = among-past true p q [] rest n m.0 m.1
+only-near (p ∷ q ∷ r ∷ ps) rest n e m = absurd (omega arith)
 
 -- the same of parts after a view
 shared-none : {X : Type 0} (v : X → Pages) (write : Bool) (xs : List X) (rest : Option Word) (n k : ℕ) → position_from (λ x. has_word (v x) n) k xs ≡ None → word_among write (map v xs) rest n ≡ rest
@@ -125,3 +139,8 @@ among-set write (q ∷ qs) rest zero n d new h t b first len same m =
 among-set write (q ∷ qs) rest (suc i) n d new h t b first len same m =
     ap (cond (has_word q m) (Some (word_in write q m))) (among-set write qs rest i n d new (omega arith) t (λ k lt. b (suc k) (omega arith)) first len same m)
     ∙ set-step (m == n) (has_word q m) (Some (word_in write new n)) (Some (word_in write q m)) (word_among write qs rest m) (λ e. ap (has_word q) (at_eq m n e) ∙ b 0 (omega arith))
+
+-- the first of the shared runs, where the own runs have no word
+pub shared-first : {X : Type 0} (v : X → Pages) (xs : List X) (x : X) (rest : Option Word) (n : ℕ) → 1 ≤ length xs → x ≡ slice_index_or xs 0 x → has_word (v x) n ≡ true → word_among false (map v xs) rest n ≡ Some (word_in false (v x) n)
+shared-first v [] x rest n h e has = absurd (omega arith)
+shared-first v (y ∷ ys) x rest n h e has = ap (λ z. word_among false (v z ∷ map v ys) rest n) (sym e) ∙ (λ i. cond (has i) (Some (word_in false (v x) n)) (word_among false (map v ys) rest n))

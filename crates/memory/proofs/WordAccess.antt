@@ -1,16 +1,16 @@
 -- An access over a memory by its words.
-use Rattle.std.proofs.Common.{◌≡◌, ℕ, suc, zero, ◌+◌, ◌*◌, ◌/◌, ◌%◌, ◌^◌, ◌<◌, ◌≤◌, Bool, true, false, cond, refl, ap, ◌∙◌, arith}
+use Rattle.std.proofs.Common.{◌≡◌, ℕ, suc, zero, ◌+◌, ◌*◌, ◌/◌, ◌%◌, ◌^◌, ◌<◌, ◌≤◌, Bool, true, false, cond, List, refl, ap, ◌∙◌, arith}
 use Rattle.std.specs.Prelude.{◌==◌, nat_lt, Option, Some, None, option_map, Ok, Err}
 use Rattle.std.proofs.lemmas.Bool.Decides.{nat_tests}
 use Rattle.std.specs.FinMap.{get}
 use Rattle.machine_model.specs.Memory.{Cell}
 use Rattle.machine_model.proofs.Memories.{get-memory_of}
-use Rattle.machine_model.specs.Access.{size, range_fault, access_fault, value_at, or_fault, fetched, to_execute}
+use Rattle.machine_model.specs.Access.{size, range_fault, access_fault, value_at, or_fault, fetched, to_execute, to_read}
 use Rattle.machine_model.specs.declared.access.Rights.{Rights}
 use Rattle.machine_model.specs.declared.access.Width.{Width}
 use Rattle.machine_model.specs.declared.access.Width.TheVariants as width
 use Rattle.machine_model.specs.declared.access.BusFault.TheVariants.{NoRight}
-use Rattle.memory.specs.Words.{Word, cell_of, cell_at, memory_of_words, value_in, word_fault, word_taken}
+use Rattle.memory.specs.Words.{Word, IsReadable, cell_of, cell_at, memory_of_words, value_in, word_fault, word_taken}
 
 inside : (q : ℕ) (c : Option Cell) → q < 2 ^ 32 → cond (nat_lt q (2 ^ 32)) c None ≡ c
 inside q c h = grind (arith, nat_tests)
@@ -79,3 +79,8 @@ pub fetched-aligned : (words : ℕ → Option Word) (at : ℕ) (w : Option Word)
 fetched-aligned words at w h e is =
     let place : at % 4 ≡ 0 = eq_true _ _ e in
     taken-aligned to_execute words at width.Word w h e is ∙ ap (λ j. word_taken to_execute w j 4) place
+
+-- what a word that may be read gives
+pub taken-readable : (w : Option Word) (bytes : List ℕ) (j n : ℕ) → IsReadable w bytes → word_taken to_read w j n ≡ Ok (value_in bytes j n)
+taken-readable None bytes j n r = absurd r
+taken-readable (Some w) bytes j n r = λ i. cond (r.0 i) (Ok (value_in (r.1 i) j n)) (Err NoRight)

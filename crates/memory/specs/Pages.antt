@@ -1,6 +1,7 @@
 -- Where the pages of a process are kept: in runs of words.
-use Rattle.std.specs.Prelude.{ℕ, ◌-◌, ◌*◌, ◌&&◌, Bool, true, false, nat_lt, nat_le, if◌then◌else◌, ◌/◌, ◌%◌, List, [], ◌∷◌, length, slice_index_or, slice_set, Option, Some, None}
-use Rattle.memory.specs.Words.{Word, put_in}
+use Rattle.std.specs.Prelude.{◌≡◌, ℕ, ◌-◌, ◌*◌, ◌&&◌, Bool, true, false, nat_lt, nat_le, if◌then◌else◌, ◌/◌, ◌%◌, List, [], ◌∷◌, length, slice_index_or, slice_set, Option, Some, None}
+use Rattle.memory.specs.Words.{Word, put_in, word_fault, memory_of_words}
+use Rattle.machine_model.specs.Access.{put_bytes, to_write}
 use Rattle.std.specs.Simd.{first_chunks}
 use Rattle.machine_model.specs.declared.access.Rights.{Rights}
 
@@ -38,3 +39,22 @@ with_bytes p at bytes = record { first = p.first; read = p.read; execute = p.exe
 -- the run of pages from a page on that bytes fill
 abbrev pub pages_of : ℕ → Rights → List ℕ → Pages
 pages_of page rights bytes = record { first = page * 1024; read = rights.read; execute = rights.execute; words = first_chunks 4 (length bytes / 4) bytes }
+
+-- a run of no pages, which takes no word's place
+abbrev pub no_pages : Pages
+no_pages = record { first = 0; read = true; execute = false; words = [] }
+
+-- a process's own runs with one more: its words stand there, if none stood in their place, and all others stay
+abbrev pub Adds : List Pages → Pages → List Pages → Type 0
+Adds old p new = (rest : Option Word) (n : ℕ) → (has_word p n ≡ true → word_among true old rest n ≡ None) → word_among true new rest n ≡ (if has_word p n then Some (word_in true p n) else word_among true old rest n)
+
+-- neither of the first two runs has the word of a number
+abbrev pub MissesNear : List Pages → ℕ → Type 0
+MissesNear (p ∷ q ∷ ps) n = (has_word p n ≡ false) × (has_word q n ≡ false)
+MissesNear ps n = Unit {0}
+
+-- a process's own runs after a store of bytes at an address that they have, whatever else stands in the memory
+abbrev pub Stores : List Pages → ℕ → List ℕ → List Pages → Type 0
+Stores old at bytes new =
+    ((rest : Option Word) → word_fault to_write (word_among true old rest (at / 4)) ≡ None)
+    × ((rest : ℕ → Option Word) → memory_of_words (λ n. word_among true new (rest n) n) ≡ put_bytes (memory_of_words (λ n. word_among true old (rest n) n)) at bytes)

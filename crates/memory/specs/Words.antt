@@ -1,5 +1,5 @@
 -- A memory by its words: four bytes with the rights of their page.
-use Rattle.std.specs.Prelude.{ℕ, suc, zero, ◌+◌, ◌*◌, ◌/◌, ◌%◌, ◌^◌, Bool, if◌then◌else◌, List, [], ◌∷◌, slice_index, slice_set, Option, Some, None, option_map, Result, Ok, Err}
+use Rattle.std.specs.Prelude.{◌≡◌, ℕ, suc, zero, ◌+◌, ◌*◌, ◌/◌, ◌%◌, ◌^◌, Bool, true, if◌then◌else◌, List, [], ◌∷◌, slice_index, slice_set, Option, Some, None, option_map, Result, Ok, Err}
 use Rattle.machine_model.specs.Memory.{Memory, Cell, memory_of}
 use Rattle.machine_model.specs.declared.access.Rights.{Rights}
 use Rattle.machine_model.specs.declared.access.BusFault.{BusFault}
@@ -39,3 +39,8 @@ word_fault right (Some w) = if right w.rights then None else Some NoRight
 abbrev pub put_in : List ℕ → ℕ → List ℕ → List ℕ
 put_in bytes j [] = bytes
 put_in bytes j (b ∷ bs) = put_in (slice_set bytes j b) (j + 1) bs
+
+-- these are the bytes of a word that may be read
+abbrev pub IsReadable : Option Word → List ℕ → Type 0
+IsReadable None bytes = ⊥
+IsReadable (Some w) bytes = (w.rights.read ≡ true) × (w.bytes ≡ bytes)

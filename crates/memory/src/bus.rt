@@ -1,6 +1,6 @@
 //! Loads and stores.
 use crate::part::is_aligned;
-use crate::place::{part_of, place_of, place_of_shared};
+use crate::place::{part_of, place_of_shared};
 use crate::space::Space;
 use isa_table::Bus;
 use machine_model::{BusFault, Width};
@@ -13,7 +13,7 @@ impl Bus for Space {
         if !is_aligned(at, width) {
             return Err(BusFault::Misaligned);
         }
-        match part_of(self.own.as_slice(), self.shared.as_slice(), at / 4) {
+        match part_of(&self.own, self.shared.as_slice(), at / 4) {
             Some((part, _)) => part.load(at, width),
             None => Err(BusFault::Unmapped),
         }
@@ -24,8 +24,7 @@ impl Bus for Space {
         if !is_aligned(at, width) {
             return Err(BusFault::Misaligned);
         }
-        if let Some(i) = place_of(self.own.as_slice(), at / 4) {
-            self.own[i].store(at, width, value);
+        if self.own.store(at, width, value) {
             return Ok(());
         }
         match place_of_shared(self.shared.as_slice(), at / 4) {

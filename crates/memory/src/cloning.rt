@@ -12,20 +12,10 @@ impl Space {
         ensures { IfOk result (λ s. s ≡ self.now) }
     {
         Ok(Space {
-            own: copies_of(alloc, self.own.as_slice())?,
+            own: self.own.try_clone(alloc)?,
             shared: shares_of(alloc, self.shared.as_slice())?,
         })
     }
-}
-
-fn copies_of(alloc: Global, parts: &[Part]) -> Result<Vec<Part>, AllocError>
-    ensures { IfOk result (λ v. v.items ≡ parts.now) }
-{
-    let mut copies = Vec::with_capacity(alloc, parts.len())?;
-    for part in parts {
-        copies.push(part.try_clone(alloc)?)?;
-    }
-    Ok(copies)
 }
 
 fn shares_of(alloc: Global, parts: &[Arc<Part>]) -> Result<Vec<Arc<Part>>, AllocError>

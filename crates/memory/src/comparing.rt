@@ -13,7 +13,7 @@ impl Space {
     pub fn is_same(&self, other: &Space) -> bool
         ensures { IsTrue result ↔ (self.now ≡ other.now) }
     {
-        are_same(self.own.as_slice(), other.own.as_slice())
+        self.own.is_same(&other.own)
             && are_same_shared(self.shared.as_slice(), other.shared.as_slice())
             || self.is_within(other) && other.is_within(self)
     }
@@ -22,7 +22,11 @@ impl Space {
     fn is_within(&self, other: &Space) -> bool
         ensures { IsTrue result ↔ ((a : ℕ) → IsSome (get self.now a) → get self.now a ≡ get other.now a) }
     {
-        for part in &self.own {
+        let (near, next, more) = self.own.parts();
+        if !self.agrees_at(other, near) || !self.agrees_at(other, next) {
+            return false;
+        }
+        for part in more {
             if !self.agrees_at(other, part) {
                 return false;
             }
@@ -47,20 +51,6 @@ impl Space {
         }
         true
     }
-}
-
-fn are_same(parts: &[Part], others: &[Part]) -> bool
-    ensures { IsTrue result ↔ (parts.now ≡ others.now) }
-{
-    if parts.len() != others.len() {
-        return false;
-    }
-    for (part, other) in parts.iter().zip(others) {
-        if !part.is_same(other) {
-            return false;
-        }
-    }
-    true
 }
 
 fn are_same_shared(parts: &[Arc<Part>], others: &[Arc<Part>]) -> bool

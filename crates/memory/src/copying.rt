@@ -82,7 +82,7 @@ impl Space {
         ensures cell { option_map (λ c. record { byte = c.0; rights = c.1 }) result ≡ get self.now at }
         ensures within { IfSome result (λ _. at < 2 ^ 32) }
     {
-        let (own, shared) = (self.own.as_slice(), self.shared.as_slice());
+        let (own, shared) = (&self.own, self.shared.as_slice());
         let at = u32::try_from(at).ok()?;
         let (part, write) = part_of(own, shared, at / 4)?;
         let rights = Rights {

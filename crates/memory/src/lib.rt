@@ -6,6 +6,8 @@ mod cloning;
 mod comparing;
 mod copying;
 mod fault;
+mod near;
+mod own;
 mod part;
 mod place;
 mod space;

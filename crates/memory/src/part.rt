@@ -1,8 +1,8 @@
 //! A run of pages as words.
-ghost use Rattle.std.specs.Prelude.{◌≡◌, ◌+◌, ◌-◌, ◌*◌, ◌%◌, ◌/◌, ◌^◌, ◌<◌, ◌≤◌, ◌==◌, Bool, Some, IfOk, IsTrue, ◌↔◌, length, slice_index, true};
+ghost use Rattle.std.specs.Prelude.{◌≡◌, ◌+◌, ◌-◌, ◌*◌, ◌%◌, ◌/◌, ◌^◌, ◌<◌, ◌≤◌, ◌==◌, Bool, Some, IfOk, IfSome, IfNone, IsTrue, ◌↔◌, length, slice_index, true, false};
 ghost use Rattle.machine_model.specs.Access.{size, low_bytes, to_read, to_execute};
 ghost use Rattle.memory.specs.Words.{value_in, put_in, word_taken};
-ghost use Rattle.memory.specs.Pages.{has_word, bytes_of, word_in, with_bytes, pages_of};
+ghost use Rattle.memory.specs.Pages.{has_word, bytes_of, no_pages, word_in, with_bytes, pages_of};
 
 use machine_model::{BusFault, Rights, Width};
 use std::alloc::{AllocError, Global};
@@ -50,6 +50,25 @@ impl Part {
         })
     }
 
+    /// Pages that may be read, but none of them. Takes no memory.
+    pub fn empty(alloc: Global) -> Part
+        ensures { result ≡ no_pages }
+    {
+        Part {
+            first: 0,
+            read: true,
+            execute: false,
+            words: Vec::new(alloc),
+        }
+    }
+
+    /// Whether there are no pages.
+    pub fn is_empty(&self) -> bool
+        ensures { IsTrue result ↔ (length self.now.words ≡ 0) }
+    {
+        self.words.is_empty()
+    }
+
     /// A copy of these pages.
     pub fn try_clone(&self, alloc: Global) -> Result<Part, AllocError>
         ensures { IfOk result (λ p. p ≡ self.now) }
@@ -68,6 +87,20 @@ impl Part {
         ensures { result ≡ has_word self.now n }
     {
         (n.wrapping_sub(self.first) as usize) < self.words.len()
+    }
+
+    /// The bytes of the word of a number, whatever its rights.
+    #[inline]
+    pub fn word(&self, n: u32) -> Option<&[u8; 4]>
+        ensures here { IfSome result (λ w. has_word self.now n ≡ true) }
+        ensures bytes { IfSome result (λ w. w.now ≡ bytes_of self.now n) }
+        ensures missing { IfNone result (has_word self.now n ≡ false) }
+    {
+        let k = n.wrapping_sub(self.first) as usize;
+        if k < self.words.len() {
+            return Some(&self.words[k]);
+        }
+        None
     }
 
     /// The bytes at an address that is a multiple of the width.
@@ -150,7 +183,7 @@ pub fn is_aligned(at: u32, width: Width) -> bool
 
 /// The bytes of a word at a place, little-endian.
 #[inline]
-fn read_word(word: &[u8; 4], place: u32, width: Width) -> u32
+pub fn read_word(word: &[u8; 4], place: u32, width: Width) -> u32
     requires place { place < 4 }
     requires aligned { place % size width ≡ 0 }
     ensures { result ≡ value_in word.now place (size width) }

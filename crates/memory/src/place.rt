@@ -1,7 +1,9 @@
 //! Which part has a word.
 ghost use Rattle.std.specs.Prelude.{◌≡◌, Option, IfSome, map, option_map, position, true};
+ghost use Rattle.memory.specs.Words.{IsReadable};
 ghost use Rattle.memory.specs.Pages.{has_word, word_in, words_of};
 
+use crate::own::OwnParts;
 use crate::part::Part;
 use std::sync::Arc;
 
@@ -23,15 +25,30 @@ pub fn place_of_shared(parts: &[Arc<Part>], n: u32) -> Option<usize>
 
 /// The first part that has the word of a number, and whether it may be written.
 #[inline]
-pub fn part_of<'a>(own: &'a [Part], shared: &'a [Arc<Part>], n: u32) -> Option<(&'a Part, bool)>
+pub fn part_of<'a>(own: &'a OwnParts, shared: &'a [Arc<Part>], n: u32) -> Option<(&'a Part, bool)>
     ensures word { option_map (λ f. word_in f.1 f.0.now n) result ≡ words_of own.now (map (λ a. a.value) shared.now) n }
     ensures here { IfSome result (λ f. has_word f.0.now n ≡ true) }
 {
-    if let Some(i) = place_of(own, n) {
-        return Some((&own[i], true));
+    if let Some(part) = own.part_of(n) {
+        return Some((part, true));
     }
     if let Some(i) = place_of_shared(shared, n) {
         return Some((&shared[i], false));
     }
     None
+}
+
+/// The bytes of the word of a number, where it may be read and a run at hand has it: one of the two of a space's own, or,
+/// where a space has no others of its own, the first that is shared.
+#[inline]
+pub fn word_near<'a>(own: &'a OwnParts, shared: &'a [Arc<Part>], n: u32) -> Option<&'a [u8; 4]>
+    ensures { IfSome result (λ w. IsReadable (words_of own.now (map (λ a. a.value) shared.now) n) w.now) }
+{
+    if let Some(word) = own.word_near(n) {
+        return Some(word);
+    }
+    match shared {
+        [part, ..] if own.are_all_near() && part.read => part.word(n),
+        _ => None,
+    }
 }

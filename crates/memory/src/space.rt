@@ -4,6 +4,7 @@ ghost use Rattle.std.specs.FinMap.{get};
 ghost use Rattle.machine_model.specs.Memory.{memory_of};
 ghost use Rattle.machine_model.specs.Access.{access_fault, fetched, mapped, to_write};
 
+use crate::own::OwnParts;
 use crate::part::{Part, is_aligned};
 use crate::place::part_of;
 use machine_model::{BusFault, Rights, Width};
@@ -11,10 +12,12 @@ use std::alloc::{AllocError, Global};
 use std::marker::Model;
 use std::sync::Arc;
 
-/// The pages of a process, each with its rights and 4,096 bytes. Pages that may not be written are shared with clones.
+/// The pages of a process, each with its rights and 4,096 bytes. Pages that may not be written are shared with
+/// clones. Of these, what was mapped last is looked at first: an image is mapped from its last segment down, and constants
+/// stand in the lowest.
 #[derive(Drop)]
 pub struct Space {
-    pub(crate) own: Vec<Part>,
+    pub(crate) own: OwnParts,
     pub(crate) shared: Vec<Arc<Part>>,
 }
 
@@ -28,7 +31,7 @@ impl Model for Space {
 
     ghost coded = { memory_code };
 
-    ghost view = { λ s. memory_of_words (words_of s.own.items (map (λ a. a.value) s.shared.items)) };
+    ghost view = { λ s. memory_of_words (words_of s.own (map (λ a. a.value) s.shared.items)) };
 }
 
 impl Space {
@@ -37,7 +40,7 @@ impl Space {
         ensures { result ≡ memory_of (λ _. None) }
     {
         Space {
-            own: Vec::new(alloc),
+            own: OwnParts::new(alloc),
             shared: Vec::new(alloc),
         }
     }
@@ -58,9 +61,9 @@ impl Space {
     {
         let part = Part::new(alloc, first_page, rights, bytes)?;
         if rights.write {
-            self.own.push(part)?;
+            self.own.add(part)?;
         } else {
-            self.shared.push(Arc::new(alloc, part)?)?;
+            self.shared.insert(0, Arc::new(alloc, part)?)?;
         }
         Ok(())
     }
@@ -73,7 +76,7 @@ impl Space {
         if !is_aligned(at, Width::Word) {
             return Err(BusFault::Misaligned);
         }
-        match part_of(self.own.as_slice(), self.shared.as_slice(), at / 4) {
+        match part_of(&self.own, self.shared.as_slice(), at / 4) {
             Some((part, _)) => part.fetch(at / 4),
             None => Err(BusFault::Unmapped),
         }
@@ -86,7 +89,7 @@ impl Space {
         if !is_aligned(at, width) {
             return Some(BusFault::Misaligned);
         }
-        match part_of(self.own.as_slice(), self.shared.as_slice(), at / 4) {
+        match part_of(&self.own, self.shared.as_slice(), at / 4) {
             Some((_, true)) => None,
             Some((_, false)) => Some(BusFault::NoRight),
             None => Some(BusFault::Unmapped),

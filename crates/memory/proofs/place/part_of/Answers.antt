@@ -1,20 +1,14 @@
 -- The first part that has a word has the word of the memory.
-use Rattle.std.proofs.Common.{sym, ap, ◌∙◌, None, true, false, Some}
-use Rattle.memory.specs.Pages.{Pages, has_word, word_in}
-use Rattle.memory.proofs.Places.{among-found, among-missing, found-has, shared-found, shared-missing, shared-has}
+use Rattle.std.proofs.Common.{sym, ap, ◌∙◌, None, Some, map, false}
+use Rattle.memory.specs.Pages.{Pages, has_word, word_in, word_among}
+use Rattle.memory.proofs.Places.{shared-found, shared-missing, shared-has}
 use Rattle.memory.proofs.place.part_of.Goals as goal
-
-pub returns-in-Some-clause-word : goal.returns-in-Some-clause-word
-returns-in-Some-clause-word c = sym (among-found true c.args.own.now _ c.in-Some.i c.args.n c.index-own-i.result (sym c.in-Some.ensures) c.index-own-i.is)
-
-pub returns-in-Some-clause-here : goal.returns-in-Some-clause-here
-returns-in-Some-clause-here c = found-has c.args.own.now c.in-Some.i c.args.n c.index-own-i.result (sym c.in-Some.ensures) c.index-own-i.is
 
 pub returns-in-Some-place_of_shared-clause-word :
     goal.returns-in-Some-place_of_shared-clause-word
 returns-in-Some-place_of_shared-clause-word c =
     ap (λ (p : Pages). Some (word_in false p c.args.n)) c.deref.ensures
-    ∙ sym (among-missing true c.args.own.now _ c.args.n (sym c.place_of.ensures ∙ c.in_default.is)
+    ∙ sym (c.in_default.ensures.missing (word_among false (map (λ a. a.value) c.args.shared.now) None c.args.n)
     ∙ shared-found (λ a. a.value) false c.args.shared.now None c.in-Some-place_of_shared.i c.args.n c.index-shared-i.result (sym c.in-Some-place_of_shared.ensures) c.index-shared-i.is)
 
 pub returns-in-Some-place_of_shared-clause-here :
@@ -25,5 +19,5 @@ returns-in-Some-place_of_shared-clause-here c =
 
 pub returns-clause-word : goal.returns-clause-word
 returns-clause-word c =
-    sym (among-missing true c.args.own.now _ c.args.n (sym c.place_of.ensures ∙ c.in_default.is)
+    sym (c.in_default.ensures.missing (word_among false (map (λ a. a.value) c.args.shared.now) None c.args.n)
     ∙ shared-missing (λ a. a.value) false c.args.shared.now None c.args.n (sym c.place_of_shared.ensures ∙ c.in_default-place_of_shared.is))

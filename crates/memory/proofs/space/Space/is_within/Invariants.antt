@@ -6,7 +6,7 @@ use Rattle.memory.proofs.space.Space.is_within.Given as goal
 
 abbrev pub invariant-loop-part : goal.invariant-loop-part
 invariant-loop-part l =
-    (i : ℕ) (d : Pages) → i < l.part-index → (a : ℕ) → a < 2 ^ 32 → has_word (slice_index_or l.part-items i d) (a / 4) ≡ true → get l.self a ≡ get l.other a
+    (i : ℕ) (d : Pages) → i < l.part-index → (a : ℕ) → a < 2 ^ 32 → has_word (slice_index_or l.more i d) (a / 4) ≡ true → get l.self a ≡ get l.other a
 
 abbrev pub invariant-loop-part-2 : goal.invariant-loop-part-2
 invariant-loop-part-2 l =

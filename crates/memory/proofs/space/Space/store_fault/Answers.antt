@@ -8,10 +8,10 @@ use Rattle.memory.proofs.space.Space.store_fault.Goals as goal
 
 pub returns-in-Some-default-true : goal.returns-in-Some-default-true
 returns-in-Some-default-true c =
-    let words : ℕ → Option Word = words_of c.self.inside.own.items (map (λ a. a.value) c.self.inside.shared.items) in
+    let words : ℕ → Option Word = words_of c.self.inside.own (map (λ a. a.value) c.self.inside.shared.items) in
     let arm = c.in-Some-default-true in
     let found : words (c.args.at / 4) ≡ Some (word_in arm.field-0-1 arm.field-0-0.now (c.args.at / 4)) =
-    sym (arm.ensures.word ∙ (λ i. words_of (c.as_slice.ensures.value i) (map (λ a. a.value) (c.as_slice-2.ensures.value i)) (c.args.at / 4))) in
+    sym (arm.ensures.word ∙ (λ i. words_of c.self.inside.own (map (λ a. a.value) (c.as_slice.ensures.value i)) (c.args.at / 4))) in
     let aligned : (c.args.at % size c.args.width == 0) ≡ true = search rules in
     ap (λ b. word_fault to_write (Some (word_in b arm.field-0-0.now (c.args.at / 4)))) (sym arm.field-0-1-test)
     ∙ sym (access_fault-aligned to_write words c.args.at c.args.width _ (omega arith) aligned found)
@@ -19,10 +19,10 @@ returns-in-Some-default-true c =
 
 pub returns-in-Some-default-false : goal.returns-in-Some-default-false
 returns-in-Some-default-false c =
-    let words : ℕ → Option Word = words_of c.self.inside.own.items (map (λ a. a.value) c.self.inside.shared.items) in
+    let words : ℕ → Option Word = words_of c.self.inside.own (map (λ a. a.value) c.self.inside.shared.items) in
     let arm = c.in-Some-default-false in
     let found : words (c.args.at / 4) ≡ Some (word_in arm.field-0-1 arm.field-0-0.now (c.args.at / 4)) =
-    sym (arm.ensures.word ∙ (λ i. words_of (c.as_slice.ensures.value i) (map (λ a. a.value) (c.as_slice-2.ensures.value i)) (c.args.at / 4))) in
+    sym (arm.ensures.word ∙ (λ i. words_of c.self.inside.own (map (λ a. a.value) (c.as_slice.ensures.value i)) (c.args.at / 4))) in
     let aligned : (c.args.at % size c.args.width == 0) ≡ true = search rules in
     ap (λ b. word_fault to_write (Some (word_in b arm.field-0-0.now (c.args.at / 4)))) (sym arm.field-0-1-test)
     ∙ sym (access_fault-aligned to_write words c.args.at c.args.width _ (omega arith) aligned found)
@@ -30,9 +30,9 @@ returns-in-Some-default-false c =
 
 pub returns-in-None : goal.returns-in-None
 returns-in-None c =
-    let words : ℕ → Option Word = words_of c.self.inside.own.items (map (λ a. a.value) c.self.inside.shared.items) in
+    let words : ℕ → Option Word = words_of c.self.inside.own (map (λ a. a.value) c.self.inside.shared.items) in
     let missing : words (c.args.at / 4) ≡ None =
-    sym (c.in-None.ensures.word ∙ (λ i. words_of (c.as_slice.ensures.value i) (map (λ a. a.value) (c.as_slice-2.ensures.value i)) (c.args.at / 4))) in
+    sym (c.in-None.ensures.word ∙ (λ i. words_of c.self.inside.own (map (λ a. a.value) (c.as_slice.ensures.value i)) (c.args.at / 4))) in
     let aligned : (c.args.at % size c.args.width == 0) ≡ true = search rules in
     sym (access_fault-aligned to_write words c.args.at c.args.width None (omega arith) aligned missing)
     ∙ ap (λ m. access_fault to_write m c.args.at c.args.width) c.self.view_is
