@@ -36,11 +36,6 @@ found-has parts i n p at is =
     let f = position-Some (λ p. has_word p n) parts i p at in
     ap (λ (q : Pages). has_word q n) is ∙ f.1
 
-pub found-range : (parts : List Pages) (i n : ℕ) (p : Pages) → position (λ p. has_word p n) parts ≡ Some i → p ≡ slice_index_or parts i p → (p.first ≤ n) × (n < p.first + length p.words)
-found-range parts i n p at is =
-    let f = position-Some (λ p. has_word p n) parts i p at in
-    has_word-range p n (ap (λ (q : Pages). has_word q n) is ∙ f.1)
-
 pub no_some : {A : Type 0} {x : A} → Some x ≡ None → ⊥
 no_some e = cc
 
