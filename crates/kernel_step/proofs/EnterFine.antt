@@ -1,12 +1,12 @@
 -- An Enter that is not refused.
-use Rattle.std.proofs.Common.{◌≡◌, ℕ, suc, ◌+◌, ◌^◌, ◌<◌, Bool, true, false, ◌||◌, not, List, [], ◌∷◌, map, slice_get, Option, Some, None, is_some, is_none, nat_le, refl, sym, ap, ◌∙◌, arith}
+use Rattle.std.proofs.Common.{◌≡◌, ℕ, ◌+◌, ◌^◌, ◌<◌, Bool, true, false, ◌||◌, not, List, [], ◌∷◌, slice_get, Option, Some, None, is_some, is_none, nat_le, refl, sym, ap, ◌∙◌}
 use Rattle.std.proofs.lemmas.Bool.{leb-false}
 use Rattle.machine_model.specs.States.{stands_at}
 use Rattle.kernel_model.specs.declared.answer.Refused.{Refused}
-use Rattle.kernel_model.specs.State.{Process, process_at}
+use Rattle.kernel_model.specs.State.{Process}
 use Rattle.kernel_model.specs.declared.answer.Refused.TheVariants as refused
 use Rattle.kernel_model.specs.Answers.{first_of, ◌⇒◌, has_ended, is_stopped, count_at, enter_refusal, limit}
-use Rattle.kernel_step.specs.Tasks.{machine_of, out_of, process_of, lending_of, status_of}
+use Rattle.kernel_step.specs.Tasks.{machine_of, out_of, process_of, status_of}
 use Rattle.kernel_step.specs.Tests.{lent_of, enter_refusal_of}
 use Rattle.kernel_step.specs.declared.task.Task.{Task}
 use Rattle.kernel_step.proofs.Refusing.{or-false}

@@ -1,5 +1,5 @@
 -- A Turn that is not refused has its machine here.
-use Rattle.std.proofs.Common.{◌≡◌, ◌∙◌, ℕ, zero, suc, ◌<◌, Bool, true, List, [], ◌∷◌, length, slice_get, Some, None, is_some, refl, sym, subst, arith}
+use Rattle.std.proofs.Common.{◌≡◌, ◌∙◌, ℕ, Bool, true, List, slice_get, Some, None, is_some, sym, subst}
 use Rattle.std.proofs.lemmas.Bool.{false≢true}
 use Rattle.kernel_step.specs.Tasks.{out_of, process_of}
 use Rattle.kernel_step.specs.Tests.{turn_refusal_of, IsPlaceOf}
