@@ -7,6 +7,7 @@ mod cores;
 mod drain;
 mod halt;
 mod keeping;
+mod standing;
 mod sums;
 mod views;
 
@@ -15,6 +16,6 @@ pub use boot::BootFault;
 pub use cores::Core;
 pub use journal::DiskFault;
 pub use kernel_laws::{counts_never_fall, drains_are_events, interleavings, runs_go_on};
-pub use kernel_model::{Answer, Event, Outcome, Refused};
+pub use kernel_model::{Answer, Event, Outcome, Refused, Standing};
 pub use kernel_step::{Done, Loan, Program, Rejected};
 pub use simdisk::SimDisk;

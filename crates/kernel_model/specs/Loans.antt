@@ -1,5 +1,5 @@
 -- Machines that are lent out, and taken back.
-use Rattle.std.specs.Prelude.{◌≡◌, ℕ, suc, zero, ◌+◌, ◌-◌, ◌==◌, ◌&&◌, not, nat_lt, nat_le, Bool, true, false, if◌then◌else◌, List, [], ◌∷◌, ◌++◌, length, take, drop, find, slice_set, ◌*◌, Option, Some, None, is_some, option_map, Result, MatchResult, MatchOption}
+use Rattle.std.specs.Prelude.{◌≡◌, ℕ, suc, zero, ◌+◌, ◌-◌, ◌==◌, ◌&&◌, not, nat_lt, nat_le, Bool, true, false, if◌then◌else◌, List, [], ◌∷◌, ◌++◌, length, take, drop, find, slice_set, ◌*◌, Option, Some, None, is_some, is_none, option_map, Result, MatchResult, MatchOption}
 use Rattle.std.specs.List.{fold}
 use Rattle.disk_model.specs.Storage.{is_empty}
 use Rattle.machine_model.specs.States.{State, Ran, stands_at}
@@ -14,6 +14,8 @@ use Rattle.kernel_model.specs.declared.answer.Refused.{Refused}
 use Rattle.kernel_model.specs.declared.answer.Refused.TheVariants as refused
 use Rattle.kernel_model.specs.declared.event.Event.{Event}
 use Rattle.kernel_model.specs.declared.event.Event.TheVariants.{Turn, Enter}
+use Rattle.kernel_model.specs.declared.standing.Standing.{Standing}
+use Rattle.kernel_model.specs.declared.standing.Standing.TheVariants as standing
 
 -- whether process p waits after an entry, where it waited before so: an event that told a process something ends all
 -- waiting, and one of p that wrote nothing begins it
@@ -41,6 +43,18 @@ abbrev pub pick : Kernel → ℕ → Option ℕ
 pick k quantum =
     let all = numbers_to (length (now k).sync.processes) in
     find (is_lendable k quantum) (drop k.last_lent all ++ take k.last_lent all)
+
+-- nothing is lent, and no process is lendable for a quantum
+abbrev pub is_over : Kernel → ℕ → Bool
+is_over k quantum = loans_out k == 0 && is_none (pick k quantum)
+
+-- how process p stands, if it is there: the first of these that holds
+abbrev pub standing_of : Kernel → ℕ → Standing
+standing_of k p =
+    if has_ended (process_of k p) then standing.Ended
+    else if is_lent k p then standing.Lent
+    else if is_waiting p (now k).log then standing.Waits
+    else standing.Free
 
 -- there is no room for the two events of one more loan
 abbrev pub is_full_for_loan : Kernel → Bool

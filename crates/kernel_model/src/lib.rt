@@ -9,6 +9,7 @@ mod effect;
 mod event;
 mod laws;
 mod request;
+mod standing;
 
 pub use answer::{Answer, Outcome, Refused};
 pub use carrier::Carrier;
@@ -21,3 +22,4 @@ pub use laws::{
     first_ended_is_least, tables_keep_their_limits,
 };
 pub use request::{Request, Verdict};
+pub use standing::Standing;

@@ -61,7 +61,7 @@ count_out-lent quantum tasks place t u there here out =
     sum_by-set weight tasks place u t within in
     omega arith
 
-loans_out-is : (b : Boot) (history : List Event) (tasks : List Task) (last : ℕ) → loans_out (kernel_of b history tasks last) ≡ count_out tasks
+pub loans_out-is : (b : Boot) (history : List Event) (tasks : List Task) (last : ℕ) → loans_out (kernel_of b history tasks last) ≡ count_out tasks
 loans_out-is b history tasks last = sum_from-map lending_of (λ (l : Lending). cond (is_some l.out) 1 0) 0 tasks
 
 -- the refusal is that of the tasks
@@ -169,7 +169,7 @@ process-at : (b : Boot) (history : List Event) (tasks : List Task) (system : Sys
     → KeepsRun b history tasks system → slice_get tasks place ≡ Some t → IsProcessOf (run_of b history).sync.processes (suc place) t
 process-at b history tasks system place t h there = process-there (run_of b history) system.served tasks (suc place) place t h.mirrors.each (omega arith) there
 
-lending-there : (tasks : List Task) (place : ℕ) (t : Task) → slice_get tasks place ≡ Some t → lending_at (map lending_of tasks) (suc place) ≡ Some (lending_of t)
+pub lending-there : (tasks : List Task) (place : ℕ) (t : Task) → slice_get tasks place ≡ Some t → lending_at (map lending_of tasks) (suc place) ≡ Some (lending_of t)
 lending-there tasks place t there = slice_get-map lending_of tasks place ∙ ap (λ o. option_map lending_of o) there
 
 lendable-is : (b : Boot) (history : List Event) (tasks : List Task) (system : System) (last quantum place : ℕ) (t : Task)

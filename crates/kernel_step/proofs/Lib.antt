@@ -27,6 +27,7 @@ pub mod SettleAccepted
 pub mod SettleCore
 pub mod SettleWorld
 pub mod Settled
+pub mod Standings
 pub mod Telling
 pub mod Trying
 pub mod Turning

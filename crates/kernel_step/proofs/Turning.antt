@@ -92,7 +92,7 @@ process-there w served tasks pid place t h number there =
     (process-by w.sync.processes place t (ap (λ (ps : List Process). slice_get ps place) (sym h.processes) ∙ get-map process_of tasks place t there))
 
 -- what a refusal looks at of a process is not in the table of processes
-at-bare : (ps : List Process) (pid : ℕ) → process_at (map bare ps) pid ≡ option_map bare (process_at ps pid)
+pub at-bare : (ps : List Process) (pid : ℕ) → process_at (map bare ps) pid ≡ option_map bare (process_at ps pid)
 at-bare ps zero = refl
 at-bare ps (suc k) = slice_get-map bare ps k
 

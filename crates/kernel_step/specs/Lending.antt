@@ -1,5 +1,7 @@
 -- Which process is lent next, and what a loan does to its task.
-use Rattle.std.specs.Prelude.{◌≡◌, ℕ, ◌+◌, ◌-◌, ◌*◌, ◌^◌, ◌&&◌, not, nat_lt, nat_le, Bool, true, List, take, drop, Option, Some, None, is_some, MatchOption, position, slice_get, slice_set}
+use Rattle.std.specs.Prelude.{◌≡◌, ℕ, ◌+◌, ◌-◌, ◌*◌, ◌^◌, ◌&&◌, not, nat_lt, nat_le, Bool, true, if◌then◌else◌, List, take, drop, Option, Some, None, is_some, MatchOption, position, slice_get, slice_set}
+use Rattle.kernel_model.specs.declared.standing.Standing.{Standing}
+use Rattle.kernel_model.specs.declared.standing.Standing.TheVariants as standing
 use Rattle.kernel_step.specs.Tasks.{machine_of, out_of, status_of, count_out}
 use Rattle.kernel_step.specs.Waiting.{is_asleep}
 use Rattle.kernel_step.specs.declared.loan.Loan.{Loan}
@@ -15,6 +17,14 @@ abbrev pub is_fit : ℕ → ℕ → Task → Bool
 is_fit quantum served t =
     not (is_some (status_of t)) && not (is_some (out_of t)) && nat_le ((machine_of t).count + quantum + 1) (2 ^ 40)
     && not (is_asleep served t.waited)
+
+-- how the process of a task stands, where so many Enters were served
+abbrev pub standing_in : ℕ → Task → Standing
+standing_in served t =
+    if is_some (status_of t) then standing.Ended
+    else if is_some (out_of t) then standing.Lent
+    else if is_asleep served t.waited then standing.Waits
+    else standing.Free
 
 -- a place that is found from `from` on, counted from there, or else one that is found before it
 abbrev pub place_among : ℕ → Option ℕ → Option ℕ → Option ℕ

@@ -59,7 +59,7 @@ fn first_lendable_of(tasks: &[Task], count: usize, served: u64, quantum: u32) ->
 }
 
 /// The place of the next process after the first so many that may be lent, by rising place and round again.
-fn next_lendable(tasks: &[Task], from: usize, served: u64, quantum: u32) -> Option<usize>
+pub(crate) fn next_lendable(tasks: &[Task], from: usize, served: u64, quantum: u32) -> Option<usize>
     ensures { result ≡ next_fit quantum served from tasks.now }
 {
     match first_lendable_from(tasks, from, served, quantum) {

@@ -12,6 +12,7 @@ mod replies;
 mod room;
 mod running;
 mod settle;
+mod standing;
 mod storing;
 mod system;
 mod task;
@@ -21,6 +22,6 @@ mod views;
 mod whereabouts;
 
 pub use booting::Program;
-pub use kernel_model::{Answer, Event, Outcome, Refused};
+pub use kernel_model::{Answer, Event, Outcome, Refused, Standing};
 pub use loan::{Done, Loan, Rejected};
 pub use running::Running;

@@ -4,7 +4,7 @@ ghost use Rattle.withheld.specs.Withheld.{nothing};
 ghost use Rattle.kernel_model.specs.Answers.{turn_refusal, enter_refusal};
 
 use crate::whereabouts::Whereabouts;
-use kernel_model::Refused;
+use kernel_model::{Refused, Standing};
 use machine::Machine;
 use std::alloc::Global;
 use withheld::Trace;
@@ -29,6 +29,7 @@ pub struct Task {
 impl Task {
     ghost use Rattle.kernel_step.specs.Tasks.{machine_of, out_of, process_of};
     ghost use Rattle.kernel_step.specs.Waiting.{is_asleep};
+    ghost use Rattle.kernel_step.specs.Lending.{standing_in};
 
     /// A process as it is booted.
     pub fn new(alloc: Global, pid: u32, machine: Machine) -> Task
@@ -81,6 +82,21 @@ impl Task {
         match self.waited {
             Some(before) => before == served,
             None => false,
+        }
+    }
+
+    /// How the process stands, where so many Enters did not have to wait.
+    pub fn standing(&self, served: u64) -> Standing
+        ensures { result ≡ standing_in served self.now }
+    {
+        if self.trace.has_end() {
+            Standing::Ended
+        } else if self.is_out() {
+            Standing::Lent
+        } else if self.is_asleep(served) {
+            Standing::Waits
+        } else {
+            Standing::Free
         }
     }
 

@@ -1,0 +1,38 @@
+//! How processes stand.
+ghost use Rattle.std.specs.Prelude.{◌≡◌, None, true, is_some, IfOk, OnOk, IfErr};
+ghost use Rattle.kernel_model.specs.Answers.{process_of};
+ghost use Rattle.kernel_model.specs.Loans.{is_over, standing_of};
+ghost use Rattle.kernel_model.specs.World.{Boot};
+ghost use Rattle.kernel_model.specs.declared.answer.Refused.TheVariants.{NoProcess};
+ghost use Rattle.kernel_step.specs.Stands.{Stands, kernel_in};
+
+use crate::lend::next_lendable;
+use crate::running::Running;
+use crate::tasks::{count_out, place_of};
+use kernel_model::{Refused, Standing};
+
+impl Running {
+    /// Whether no process is out on loan, and none is lendable for a quantum.
+    pub fn over(&self, quantum: u32) -> bool
+        ensures { (b : Boot) → Stands b self.now → result ≡ is_over (kernel_in b self.now) quantum }
+    {
+        let from = self.last_lent as usize;
+        let next = next_lendable(&self.tasks, from, self.system.served, quantum);
+        count_out(&self.tasks) == 0 && next.is_none()
+    }
+
+    /// How a process stands. Refused: NoProcess.
+    pub fn standing(&self, pid: u32) -> Result<Standing, Refused>
+        ensures standing { IfOk result (λ standing. (b : Boot) → Stands b self.now → standing ≡ standing_of (kernel_in b self.now) pid) }
+        ensures there { OnOk result ((b : Boot) → Stands b self.now → is_some (process_of (kernel_in b self.now) pid) ≡ true) }
+        ensures none { IfErr result (λ why. (b : Boot) → Stands b self.now → (why ≡ NoProcess) × (process_of (kernel_in b self.now) pid ≡ None)) }
+    {
+        match place_of(&self.tasks, pid) {
+            Some(place) => {
+                let task = &self.tasks[place];
+                Ok(task.standing(self.system.served))
+            }
+            None => Err(Refused::NoProcess),
+        }
+    }
+}
