@@ -25,7 +25,7 @@ ENDS = {"J", "Jal", "Jr", "Jalr"}
 
 def kind(word):
     """The kind of operation that stands for a word (`crates/machine/src/op.rt`); None where it is left to the plain way."""
-    opcode, funct3, rd, rs1 = word & 127, word >> 12 & 7, word >> 7 & 31, word >> 15 & 31
+    opcode, funct3, rd = word & 127, word >> 12 & 7, word >> 7 & 31
     if opcode == 0x63:
         return BRANCHES.get(funct3)
     if opcode == 0x23:
@@ -36,7 +36,7 @@ def kind(word):
         return "Jalr" if rd else "Jr"
     if not rd:
         return None
-    if opcode in (0x37, 0x17) or (opcode == 0x13 and funct3 == 0 and rs1 == 0):
+    if opcode in (0x37, 0x17):
         return "Li"
     if opcode == 0x03:
         return LOADS.get(funct3)
