@@ -109,6 +109,28 @@ fn each_refusal(rt: HostRuntime) -> Result<(), AllocError> {
     Ok(())
 }
 
+/// Addresses, and what a load and a store by the runs nearest at hand give there, where the first page may be read and executed,
+/// and the second read and written.
+const NEAR: &[(u32, Option<u32>, bool)] = &[
+    (0x1000, Some(0x1313_1313), false),
+    (0x2002, None, false),
+    (0x2ffc, Some(0x1313_1313), true),
+    (0x3000, None, false),
+];
+
+#[test]
+fn near_at_hand(rt: HostRuntime) -> Result<(), AllocError> {
+    let mut space = two_pages(rt.alloc(), READ_EXECUTE, READ_WRITE, &[0x13; 4096])?;
+    for &(at, load, store) in NEAR {
+        let found = (
+            space.load_near(at, Width::Word),
+            space.store_near(at, Width::Word, 1),
+        );
+        assert_row(&rt, at, found, (load, store));
+    }
+    Ok(())
+}
+
 #[test]
 fn past_the_greatest_address(rt: HostRuntime) -> Result<(), AllocError> {
     let space = two_pages(rt.alloc(), READ_WRITE, READ_WRITE, &[0; 4096])?;
