@@ -55,6 +55,8 @@ class Program:
 
     def __init__(self, path):
         rows = [tuple(map(int, line.split())) for line in open(path)]
+        if not rows:
+            sys.exit(f"{path}: counts no words")
         first, count = rows[0][0], rows[-1][0] - rows[0][0] + 1
         runs, self.kinds, self.stays = [0] * count, [None] * count, [1.0] * count
         for number, word, ran, jumped in rows:
@@ -102,7 +104,7 @@ def main(longest, how_many, *files):
     now = left(chosen)
     # (what a sequence saves seldom grows, so those that once saved little are looked at last)
     heap = [(-1.0, sequence, -1) for sequence in candidates(programs, longest)]
-    for turn in range(int(how_many)):
+    for turn in range(min(int(how_many), len(heap))):
         saved, sequence, seen = heapq.heappop(heap)
         while seen != turn:
             heapq.heappush(heap, (left(chosen | {sequence}) - now, sequence, turn))

@@ -9,8 +9,9 @@ use kernel_model::{Refused, Standing};
 
 impl Core {
     /// Whether no process is out on loan, and none is lendable for a quantum, by the words of `lend`: so `lend` finds none, and no
-    /// result is to come after which it might. A quantum of 0 is one like any other. Room in the history, for want of which `lend`
-    /// is refused, is not asked. Takes no memory.
+    /// result is to come after which it might. A quantum of 0 is one like any other. Room in the history is not asked:
+    /// where `lend` is refused for want of it, it stays refused, so whoever lends until this holds ends there too. Takes no
+    /// memory.
     pub fn over(&self, quantum: u32) -> bool
         ensures { result ≡ is_over self.now quantum }
     {

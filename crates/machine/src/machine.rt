@@ -20,7 +20,7 @@ use std::marker::Model;
 use std::sync::Arc;
 
 /// A process's machine: its registers, its memory, and how many instructions it has done, at most 2^40. The words of each
-/// segment that may be executed are decoded once, and clones share them.
+/// segment that may be executed and not written are decoded once, when an image is loaded, and clones share them.
 #[derive(Drop)]
 pub struct Machine {
     regs: Regs,
@@ -59,8 +59,8 @@ impl Machine {
         })
     }
 
-    /// The machine that begins at an address of a memory. No word is decoded before it is to be done, so that pages which
-    /// may be both written and executed do what the last store to them says.
+    /// The machine that begins at an address of a memory. No word is decoded beforehand, so that it runs slowly, whatever
+    /// the rights of its pages.
     pub fn with_space(alloc: Global, entry: u32, space: Space) -> Result<Machine, AllocError>
         requires { entry % 4 ≡ 0 }
         ensures { IfOk result (λ m. m ≡ state (hart first_registers entry space) 0) }

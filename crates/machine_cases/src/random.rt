@@ -45,7 +45,7 @@ const PATTERNS: &[(u32, u32)] = &[
     (0x0004_1413, 0x0033_8380),
     (0x0004_5413, 0x01f3_8380),
     (0x4004_5413, 0x00f3_8380),
-    // add, sub, xor, or, and, srl, mul, remu, div, mulhu, of two registers
+    // add (twice as often), sub, xor, or, and, srl, mul, remu, div, mulhu, of two registers
     (0x0084_0433, 0x0073_8380),
     (0x0084_0433, 0x0073_8380),
     (0x4084_0433, 0x0073_8380),
@@ -57,6 +57,15 @@ const PATTERNS: &[(u32, u32)] = &[
     (0x0284_7433, 0x0073_8380),
     (0x0284_4433, 0x0073_8380),
     (0x0284_3433, 0x0073_8380),
+    // sll, slt, sltu, sra, mulh, mulhsu, divu, rem
+    (0x0084_1433, 0x0073_8380),
+    (0x0084_2433, 0x0073_8380),
+    (0x0084_3433, 0x0073_8380),
+    (0x4084_5433, 0x0073_8380),
+    (0x0284_1433, 0x0073_8380),
+    (0x0284_2433, 0x0073_8380),
+    (0x0284_5433, 0x0073_8380),
+    (0x0284_6433, 0x0073_8380),
     // lw, lh, lbu, lb, lhu at small offsets from x8 to x12, the first of them aligned mostly
     (0x0004_2403, 0x00c2_0380),
     (0x0004_2403, 0xffc1_8380),
@@ -69,8 +78,9 @@ const PATTERNS: &[(u32, u32)] = &[
     (0x0084_2023, 0xfe71_8e00),
     (0x0084_1023, 0x0070_8700),
     (0x0084_0023, 0x0071_8f80),
-    // beq, bne, blt, bge, bltu, bgeu: two words or so forward, or back
+    // beq, blt, bne, bge, bltu, bne, bgeu: two words or so forward, or back
     (0x0084_0463, 0x0073_8400),
+    (0x0084_4463, 0x0073_8400),
     (0x0084_1463, 0x0073_8400),
     (0x0084_5463, 0x0073_8c00),
     (0xfe84_6ce3, 0x0073_8400),
