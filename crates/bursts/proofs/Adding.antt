@@ -1,6 +1,6 @@
 -- What events add to the totals of a history.
-use Rattle.std.proofs.Common.{◌≡◌, ℕ, ◌+◌, ◌*◌, ◌<◌, ◌≤◌, ◌∙◌, refl, sym, ap, subst, List, [], ◌∷◌, ◌++◌, length, Bool, true, false, true≢false, is_some, Some, None, arith}
-use Rattle.std.specs.Prelude.{◌^◌, if◌then◌else◌}
+use Rattle.std.proofs.Common.{◌≡◌, ◌+◌, ◌∙◌, refl, sym, ap, subst, List, [], ◌∷◌, ◌++◌, length, Bool, true, false, true≢false, is_some, Some, None, arith}
+use Rattle.std.specs.Prelude.{if◌then◌else◌}
 use Rattle.std.proofs.lemmas.List.{length-append, append_assoc, append-nil}
 use Rattle.std.proofs.lemmas.List.Sums.{sum_by-append}
 use Rattle.machine_model.specs.States.{stands_at}
@@ -39,17 +39,17 @@ events_add : (k new : Kernel) (r : LoanResult) (b : Bool) → is_some (stands_at
 events_add k new r true at is ran =
     let events : events_of r ≡ Turn r.process r.reached.count ∷ Enter r.process ∷ [] = ap (λ (b : Bool). Turn r.process r.reached.count ∷ (if b then Enter r.process ∷ [] else [])) at in
     let answered : settled_answer k r ≡ Settled r.reached.count r.reached.stop (Some (outcome_after k r.process r.reached.count))
-        = ap (λ (b : Bool). Settled r.reached.count r.reached.stop (if b then Some (outcome_after k r.process r.reached.count) else None)) at in
+    = ap (λ (b : Bool). Settled r.reached.count r.reached.stop (if b then Some (outcome_after k r.process r.reached.count) else None)) at in
     ap (λ a. plus (history_totals k) (settled_totals r.process a)) answered
     ∙ adds k new (Turn r.process r.reached.count ∷ Enter r.process ∷ []) (record { events = 2; ran = r.reached.count; turns = r.process; enters = r.process })
-        (is ∙ ap (λ es. k.history ++ es) events) refl (omega arith) (omega arith) ran
+    (is ∙ ap (λ es. k.history ++ es) events) refl (omega arith) (omega arith) ran
 events_add k new r false at is ran =
     let events : events_of r ≡ Turn r.process r.reached.count ∷ [] = ap (λ (b : Bool). Turn r.process r.reached.count ∷ (if b then Enter r.process ∷ [] else [])) at in
     let answered : settled_answer k r ≡ Settled r.reached.count r.reached.stop None
-        = ap (λ (b : Bool). Settled r.reached.count r.reached.stop (if b then Some (outcome_after k r.process r.reached.count) else None)) at in
+    = ap (λ (b : Bool). Settled r.reached.count r.reached.stop (if b then Some (outcome_after k r.process r.reached.count) else None)) at in
     ap (λ a. plus (history_totals k) (settled_totals r.process a)) answered
     ∙ adds k new (Turn r.process r.reached.count ∷ []) (record { events = 1; ran = r.reached.count; turns = r.process; enters = 0 })
-        (is ∙ ap (λ es. k.history ++ es) events) refl (omega arith) (omega arith) ran
+    (is ∙ ap (λ es. k.history ++ es) events) refl (omega arith) (omega arith) ran
 
 -- a result that is taken back adds what its answer says
 pub result_adds : (k new : Kernel) (r : LoanResult) (a : Answer) (books by : Totals) → books ≡ history_totals k → new ≡ settled k r → a ≡ settled_answer k r

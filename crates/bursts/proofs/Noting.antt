@@ -1,14 +1,13 @@
 -- What a desk notes, and what its record says then.
 use Rattle.std.proofs.Common.{◌≡◌, ℕ, ◌∙◌, ap, List, [], ◌∷◌, ◌++◌, Some, None, Ok, Err}
-use Rattle.std.specs.Prelude.{Option, Result, IfOk}
+use Rattle.std.specs.Prelude.{Option, Result}
 use Rattle.std.proofs.lemmas.List.Sums.{fold_push}
 use Rattle.kernel_model.specs.Answers.{Kernel}
-use Rattle.kernel_model.specs.Loans.{LoanOut, LoanResult, Lends, settled_outcome, settled_answer}
-use Rattle.kernel_model.specs.declared.answer.Answer.{Answer}
+use Rattle.kernel_model.specs.Loans.{LoanOut, Lends}
 use Rattle.kernel_model.specs.declared.answer.Refused.{Refused}
 use Rattle.bursts.specs.declared.note.Note.{Note}
 use Rattle.bursts.specs.declared.totals.Totals.{Totals}
-use Rattle.bursts.specs.Records.{Calls, Record, Asked, TellsRun, no_calls, noted, calls_of, note_of}
+use Rattle.bursts.specs.Records.{Calls, Asked, no_calls, noted, calls_of, note_of}
 
 pub one_note : (now ns : List Note) (n : Note) → now ≡ ns ++ n ∷ [] → calls_of now ≡ noted (calls_of ns) n
 one_note now ns n is = ap calls_of is ∙ fold_push noted no_calls ns n
@@ -23,8 +22,3 @@ asked k new c d share (Err why) q lends is = ap (λ x. record { calls = x; share
 pub asks : (k new : Kernel) (c d : Calls) (share : Totals) (o : Result (Option LoanOut) Refused) (q : ℕ) (n : Note) → Lends k q new o → n ≡ note_of o → d ≡ noted c n
     → Asked (record { calls = c; share = share }) o q (record { calls = d; share = share })
 asks k new c d share o q n lends note is = asked k new c d share o q lends (is ∙ ap (noted c) note)
-
--- whatever core takes a result back, the answer has its count and its stop
-pub tells : {E : Type 0} (k : Kernel) (r : LoanResult) (result : Result Answer E) → IfOk result (λ a. a ≡ settled_answer k r) → IfOk result (TellsRun r)
-tells k r (Ok a) is = (settled_outcome k r, is)
-tells k r (Err e) is = tt

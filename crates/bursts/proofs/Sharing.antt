@@ -1,5 +1,5 @@
 -- What shares add up to, taken from the end of their list.
-use Rattle.std.proofs.Common.{◌≡◌, ℕ, ◌+◌, ◌∙◌, refl, sym, ap, List, [], ◌∷◌, ◌++◌, arith}
+use Rattle.std.proofs.Common.{◌≡◌, ◌+◌, ◌∙◌, refl, sym, ap, List, [], ◌∷◌, ◌++◌, arith}
 use Rattle.bursts.specs.declared.totals.Totals.{Totals}
 use Rattle.bursts.specs.Totals.{plus}
 use Rattle.bursts.specs.Holdings.{Holding, both, together, parts_in, sum_of}

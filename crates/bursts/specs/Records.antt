@@ -1,5 +1,5 @@
 -- What a desk's record says, and what each call adds to it.
-use Rattle.std.specs.Prelude.{◌≡◌, ℕ, ◌+◌, List, [], ◌∷◌, Option, Some, None, Result, Ok, Err, MatchResult, MatchOption}
+use Rattle.std.specs.Prelude.{◌≡◌, ℕ, ◌+◌, List, Option, Some, None, Result, Ok, Err, MatchResult, MatchOption}
 use Rattle.std.specs.List.{fold}
 use Rattle.kernel_model.specs.Loans.{LoanOut, LoanResult}
 use Rattle.kernel_model.specs.declared.answer.Answer.{Answer}

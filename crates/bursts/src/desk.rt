@@ -125,9 +125,7 @@ impl<'r, 'a, 'b, N: Naming, R: Wait> Desk for LockedDesk<'r, 'a, 'b, N, R> {
     }
 
     fn fail(&mut self, at: u32) -> Result<Answer, Refused> {
-        self.bench
-            .lock(self.rt)
-            .fail(self.rt, at, &mut self.share)
+        self.bench.lock(self.rt).fail(self.rt, at, &mut self.share)
     }
 
     fn in_flight(&mut self) -> Option<u32> {

@@ -3,7 +3,7 @@ ghost use Rattle.std.specs.Prelude.{◌≡◌};
 ghost use Rattle.kernel_model.specs.Answers.{now, committed as committed_in, changes as changes_in};
 
 use super::*;
-use kernel::{Answer, BootFault, Core, Program, SimDisk};
+use kernel::{Answer, Core, Program, SimDisk};
 use machine_model::Image;
 use std::alloc::Global;
 use std::marker::Brand;
@@ -13,15 +13,39 @@ use std::test::*;
 
 /// A program that creates a file `f`, writes 3 bytes to it, of which the first is `A`, writes that byte to its terminal, and exits.
 const WRITER: [u32; 19] = [
-    0x0660_0293, 0xfe51_2e23, 0xffc1_0513, 0x0010_0593, 0x0020_0613, 0x0040_0893, 0x0000_0073,
-    0x0410_0293, 0xfe51_2e23, 0xffc1_0593, 0x0030_0613, 0x0020_0893, 0x0000_0073, 0x0010_0513,
-    0x0010_0613, 0x0000_0073, 0x0000_0513, 0x0010_0893, 0x0000_0073,
+    0x0660_0293,
+    0xfe51_2e23,
+    0xffc1_0513,
+    0x0010_0593,
+    0x0020_0613,
+    0x0040_0893,
+    0x0000_0073,
+    0x0410_0293,
+    0xfe51_2e23,
+    0xffc1_0593,
+    0x0030_0613,
+    0x0020_0893,
+    0x0000_0073,
+    0x0010_0513,
+    0x0010_0613,
+    0x0000_0073,
+    0x0000_0513,
+    0x0010_0893,
+    0x0000_0073,
 ];
 
 /// A program that writes `B` to its terminal, and exits.
 const PRINTER: [u32; 10] = [
-    0x0420_0293, 0xfe51_2e23, 0x0010_0513, 0xffc1_0593, 0x0010_0613, 0x0020_0893, 0x0000_0073,
-    0x0000_0513, 0x0010_0893, 0x0000_0073,
+    0x0420_0293,
+    0xfe51_2e23,
+    0x0010_0513,
+    0xffc1_0593,
+    0x0010_0613,
+    0x0020_0893,
+    0x0000_0073,
+    0x0000_0513,
+    0x0010_0893,
+    0x0000_0073,
 ];
 
 /// A gate that holds nobody.
@@ -33,7 +57,7 @@ impl Gate for Open {
 }
 
 /// A core of both programs.
-fn boot(alloc: Global) -> Result<Core, BootFault> {
+fn boot(alloc: Global) -> Result<Core, Fail> {
     let writer = Program {
         image: Image::from_text(alloc, &WRITER)?,
         terminal: 0,
@@ -43,16 +67,13 @@ fn boot(alloc: Global) -> Result<Core, BootFault> {
         terminal: 1,
     };
     let programs = vec![in alloc; writer, printer]?;
-    Core::boot(alloc, SimDisk::zero(alloc)?, programs, Vec::new(alloc))
+    Ok(Core::boot(alloc, SimDisk::zero(alloc)?, programs, Vec::new(alloc))?)
 }
 
 /// How many turns of a worker settle a result, up to the first that is idle or fails, at most 10.
 fn turns<D: Desk>(desk: &mut D) -> u32 {
     for count in 0..10 {
-        if !matches!(
-            worker_turn(desk, &mut Open, 100),
-            Ok(Turned::Settled(_))
-        ) {
+        if !matches!(worker_turn(desk, &mut Open, 100), Ok(Turned::Settled(_))) {
             return count;
         }
     }

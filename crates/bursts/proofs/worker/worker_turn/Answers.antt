@@ -1,5 +1,5 @@
 -- The loan given is the loan of the result handed in.
-use Rattle.std.proofs.Common.{rules, ◌≡◌, ◌∙◌, sym, ap, refl}
+use Rattle.std.proofs.Common.{rules}
 use Rattle.bursts.specs.Records.{loan_id}
 use Rattle.bursts.proofs.worker.worker_turn.Goals as goal
 

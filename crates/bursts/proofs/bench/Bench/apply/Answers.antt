@@ -1,4 +1,5 @@
 -- The books grow by one event, and the pair does not fall.
+use Rattle.crossbeam_utils.specs.Seq.{cell_view}
 use Rattle.bursts.proofs.Adding.{disk_event_adds}
 use Rattle.bursts.proofs.Publishing.{event_rises}
 use Rattle.bursts.proofs.bench.Bench.apply.Goals as goal
@@ -15,5 +16,5 @@ publish-requires g c =
     record {
       board = c.self.invariant.0;
       publishes = c.self.invariant.1;
-      rises = event_rises law.committed law.changes _ c.self.inside.core _ c.args.event c.self.invariant.2 e.applies.2;
+      rises = event_rises law.committed law.changes (cell_view c.self.inside.writer.pass) c.self.inside.core _ c.args.event c.self.invariant.2 e.applies.2;
     }

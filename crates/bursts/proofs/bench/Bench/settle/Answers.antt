@@ -1,4 +1,5 @@
 -- The books grow by what the result adds, and the pair does not fall.
+use Rattle.crossbeam_utils.specs.Seq.{cell_view}
 use Rattle.kernel_step.specs.Loaned.{loan_result}
 use Rattle.bursts.proofs.Adding.{result_adds}
 use Rattle.bursts.proofs.Publishing.{result_rises}
@@ -16,5 +17,5 @@ publish-requires g c =
     record {
       board = c.self.invariant.0;
       publishes = c.self.invariant.1;
-      rises = result_rises law.committed law.changes _ c.self.inside.core _ (loan_result c.args.done) c.self.invariant.2 e.events;
+      rises = result_rises law.committed law.changes (cell_view c.self.inside.writer.pass) c.self.inside.core _ (loan_result c.args.done) c.self.invariant.2 e.events;
     }
