@@ -1,0 +1,4 @@
+pub mod Balance
+pub mod Takings
+pub mod Sums
+pub mod Advance
