@@ -1,5 +1,5 @@
 //! How the seats of a pool are made: all memory first, and then a part of the share for each.
-ghost use Rattle.std.specs.Prelude.{◌≡◌, ◌+◌, ◌<◌, ◌≤◌, length, vec_len, IfOk, OnOk, OnErr};
+ghost use Rattle.std.specs.Prelude.{◌≡◌, ◌+◌, ◌<◌, [], ◌∷◌, ◌++◌, length, vec_len, IfOk, OnOk, OnErr};
 ghost use Rattle.std.specs.List.{AllByRecursion};
 ghost use Rattle.bursts.specs.Totals.{none};
 ghost use Rattle.pool.specs.Hands.{no_hand};
@@ -70,13 +70,31 @@ impl<'b, N: Naming> Pool<'b, N> {
         let mut all = all_others(alloc, &deques)?;
         let mut seats = Vec::with_capacity(alloc, self.workers as usize)?;
         for _ in 0..self.workers {
-            let own = deques.pop().unwrap();
-            let others = all.pop().unwrap();
-            let part = share.split().unwrap();
-            seats.push_reserved(seat_at(self, own, others, part));
+            let own = last_of(&mut deques);
+            let others = last_of(&mut all);
+            seats.push_reserved(seat_at(self, own, others, part_of(share)));
         }
         Ok(seats)
     }
+}
+
+/// The last of a list, which leaves it.
+fn last_of<T>(list: &mut Vec<T>) -> T
+    requires { 0 < vec_len list.old }
+    ensures items { list.old.items ≡ list.new.items ++ result ∷ [] }
+    ensures len { vec_len list.new + 1 ≡ vec_len list.old }
+{
+    list.pop().unwrap()
+}
+
+/// A part of a share that has more.
+fn part_of<N: Naming>(share: &mut Share<N>) -> Share<N>
+    requires { 1 < share.old.parts }
+    ensures part { result ≡ record { parts = 1; totals = none } }
+    ensures parts { share.new.parts + 1 ≡ share.old.parts }
+    ensures totals { share.new.totals ≡ share.old.totals }
+{
+    share.split().unwrap()
 }
 
 /// A seat at which nothing was done yet.

@@ -1,7 +1,7 @@
 use Rattle.std.proofs.Common.{rules}
 use Rattle.pool.specs.Settled.{totals_in}
 use Rattle.pool.proofs.Advance.{fits_both, settled_after}
-use Rattle.pool.proofs.turning.Seat.settle_more.Goals as goal
+use Rattle.pool.proofs.seats.Seat.settle_more.Goals as goal
 
 pub then-both-requires-clause-fits : goal.then-both-requires-clause-fits
 then-both-requires-clause-fits g c = fits_both c.requires.share.0 c.args.self.now.share c.settle_all.new.self.share (totals_in c.args.earlier) (totals_in c.settle_all-next.result) c.requires.share.1 c.settle_all-next.ensures.settled.share c.fits.ensures
