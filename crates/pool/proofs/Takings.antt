@@ -1,11 +1,12 @@
 -- A fetch's one take is its answer.
 use Rattle.std.proofs.Common.{◌≡◌, ℕ, zero, suc, ◌∙◌, refl, sym, ap, List, [], ◌∷◌, ◌++◌, map, Ok, Some, ◌⊎◌, inl, inr}
-use Rattle.std.specs.Prelude.{slice_get, slice_set}
+use Rattle.std.specs.Prelude.{slice_get, slice_set, Option, None, Result, IfSome, option_map}
+use Rattle.kernel_model.specs.declared.answer.Refused.{Refused}
 use Rattle.kernel_step.specs.declared.loan.Loan.{Loan}
 use Rattle.pool.specs.declared.hand.Hand.{Hand}
 use Rattle.pool.specs.Tags.{loan_tag}
 use Rattle.pool.specs.Hands.{took}
-use Rattle.pool.specs.Fetching.{TookAt, takings, TakesItsAnswer}
+use Rattle.pool.specs.Fetching.{TookAt, takings, TakesItsAnswer, Answers}
 
 takings-get : (vs : List Hand) (i : ℕ) (v : Hand) → slice_get vs i ≡ Some v → slice_get (takings vs) i ≡ Some v.taken
 takings-get [] zero v at = absurd (cc)
@@ -30,3 +31,8 @@ other_answers v w os ns l same t = inr (
   refl,
   ap (λ (u : Hand). u.taken ∷ takings ns) same ∙ ap (λ ts. v.taken ∷ ts) (ap takings t.3 ∙ takings-set os t.0 (took t.1 (loan_tag l))),
 )
+
+-- a loan to spare is the answer
+pub spare_answers : (o : Option Loan) (r : Result (Option Loan) Refused) → IfSome o (λ l. r ≡ Ok (Some l)) → IfSome (option_map loan_tag o) (λ x. Answers r x)
+spare_answers None r h = tt
+spare_answers (Some l) r h = (l, h, refl)

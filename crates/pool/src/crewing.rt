@@ -53,13 +53,7 @@ struct Watch {
 /// stop. Refused with the fault of a turn that failed, of several that of the first pair, after the work was told to stop; and NoThread,
 /// before any other, where a thread could not be started, after the same. After a refusal there may still be loans at the seats, and
 /// results in the queue.
-pub fn pool_crew<
-    'p,
-    'b,
-    N: Naming + Send + Sync,
-    G: Gate + Send,
-    R: Threads + Wait + Sync,
->(
+pub fn pool_crew<'p, 'b, N: Naming + Send + Sync, G: Gate + Send, R: Threads + Wait + Sync>(
     rt: &R,
     work: &mut [(Seat<'p, 'b, N>, G)],
     quantum: u32,
@@ -94,7 +88,10 @@ fn start_all<N: Naming + Send + Sync, G: Gate + Send, R: Threads + Wait + Sync>(
 ) {
     thread::scope(thread::scope_env(), rt, |scope| {
         for _ in 0..count {
-            if scope.spawn(move || take_part(rt, team, quantum, watch)).is_err() {
+            if scope
+                .spawn(move || take_part(rt, team, quantum, watch))
+                .is_err()
+            {
                 watch.refused.store(true, Ordering::SeqCst);
                 take_part(rt, team, quantum, watch);
             }

@@ -9,8 +9,8 @@ mod hand;
 mod loans;
 mod pools;
 mod results;
-mod seats;
 mod seating;
+mod seats;
 mod settling;
 mod turning;
 

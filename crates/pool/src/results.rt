@@ -92,11 +92,7 @@ pub(crate) fn put_result<R: Wait>(
 }
 
 /// The next result, if there is one.
-pub(crate) fn take_result<R: Wait>(
-    rt: &R,
-    results: &Results,
-    pass: &mut ResultPass,
-) -> Option<Done>
+pub(crate) fn take_result<R: Wait>(rt: &R, results: &Results, pass: &mut ResultPass) -> Option<Done>
     requires { IsPassOf results.now pass.old }
     ensures queue { IsPassOf results.now pass.new }
     ensures taken { MatchOption result (view pass.new ≡ view pass.old) (λ d. view pass.new ≡ took (view pass.old) (done_tag d)) }

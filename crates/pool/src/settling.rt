@@ -12,7 +12,7 @@ ghost use Rattle.pool.specs.Tags.{done_tag};
 ghost use Rattle.pool.specs.Settled.{Settled, totals_in, more, after, no_settling};
 
 use crate::results::{ResultPass, Results, take_result};
-use bursts::{Bench, Totals, Naming, Rejected, Share};
+use bursts::{Bench, Naming, Rejected, Share, Totals};
 use kernel::Answer;
 use std::sync::Wait;
 

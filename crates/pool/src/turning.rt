@@ -110,7 +110,8 @@ impl<'p, 'b, N: Naming> Seat<'p, 'b, N> {
             Err(why) => return Err(WorkFault::Lend(why)),
         };
         gate.hold(loan.pid);
-        match self.hand_in_and_settle(rt, run_loan(loan)) {
+        let done = run_loan(loan);
+        match self.hand_in_and_settle(rt, done) {
             Ok(settling) => Ok(Pooled::Worked(settling)),
             Err(rejected) => Err(WorkFault::Settle(rejected)),
         }

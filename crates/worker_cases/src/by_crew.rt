@@ -69,9 +69,9 @@ fn line(alloc: Global, core: &Core, before: usize, shown: (u64, u64)) -> Result<
     let totals = totals_of(core);
     let first = hex::encode(alloc, core.shown(0))?;
     let second = hex::encode(alloc, core.shown(1))?;
-    Ok(
-        format!(in alloc; "two workers: {before} events, then {totals:?}; shown 0 {first}, shown 1 {second}; the board {shown:?}")?,
-    )
+    Ok(format!(in alloc;
+        "two workers: {before} events, then {totals:?}; shown 0 {first}, shown 1 {second}; the board {shown:?}"
+    )?)
 }
 
 /// The run, in a line.
