@@ -18,31 +18,37 @@ use std::thread::Threads;
 /// first leaves process 2 in its deque, and is held; so process 2 runs only where the other worker steals it.
 #[derive(Drop)]
 struct Held<'a> {
-    twos: &'a AtomicU64,
-    late: &'a AtomicBool,
+    calls: &'a Calls,
     held: bool,
+}
+
+/// How often process 2 was lent, and whether that came late.
+#[derive(Drop)]
+struct Calls {
+    twos: AtomicU64,
+    late: AtomicBool,
 }
 
 impl<'a> Gate for Held<'a> {
     fn hold(&mut self, pid: u32) {
         if pid == 2 {
-            self.twos.fetch_add(1, Ordering::SeqCst);
+            self.calls.twos.fetch_add(1, Ordering::SeqCst);
         } else if !self.held {
             self.held = true;
-            wait_for_two(self.twos, self.late);
+            wait_for_two(self.calls);
         }
     }
 }
 
 /// Polls until process 2 was lent twice. It is late where that has not come in 10,000,000 polls.
-fn wait_for_two(twos: &AtomicU64, late: &AtomicBool) {
+fn wait_for_two(calls: &Calls) {
     for _ in 0..10_000_000 {
-        if twos.load(Ordering::SeqCst) >= 2 {
+        if calls.twos.load(Ordering::SeqCst) >= 2 {
             return;
         }
         thread::yield_now();
     }
-    late.store(true, Ordering::SeqCst);
+    calls.late.store(true, Ordering::SeqCst);
 }
 
 /// Two workers run both programs to their ends. Answers how many instructions ran.
@@ -64,13 +70,15 @@ fn run<N: Naming + Send + Sync, R: Threads + Wait + Sync>(
     let Ok(pool) = Pool::new(alloc, bench, 2) else {
         bail!("no memory for the pool");
     };
-    let twos = AtomicU64::new(0);
-    let late = AtomicBool::new(false);
+    let calls = Calls {
+        twos: AtomicU64::new(0),
+        late: AtomicBool::new(false),
+    };
+    let seats = pool.seats(alloc, &mut share)?;
     let mut work = Vec::new(alloc);
-    for seat in pool.seats(alloc, &mut share)? {
+    for seat in seats {
         let gate = Held {
-            twos: &twos,
-            late: &late,
+            calls: &calls,
             held: false,
         };
         work.push((seat, gate))?;
@@ -78,10 +86,11 @@ fn run<N: Naming + Send + Sync, R: Threads + Wait + Sync>(
     if let Err(fault) = pool_crew(rt, work.as_mut_slice(), 100) {
         bail!("the crew stops: {fault}");
     }
-    if late.load(Ordering::SeqCst) {
+    if calls.late.load(Ordering::SeqCst) {
         bail!("the second worker was not at work while the first was held");
     }
-    Ok(pool.bench().lock(rt).core().ran())
+    let ran = pool.bench().lock(rt).core().ran();
+    Ok(ran)
 }
 
 /// The run, in a line.

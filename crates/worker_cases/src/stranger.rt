@@ -6,11 +6,26 @@ use crate::programs::{Open, boot, result_of_another};
 use anyhow::{Error, bail};
 use bursts::{Bench, Blanks, Board, Naming};
 use kernel::Core;
-use pool::{Pool, pool_crew};
+use pool::{Pool, Seat, pool_crew};
 use std::alloc::Global;
 use std::marker::Brand;
 use std::sync::Wait;
 use std::thread::Threads;
+
+/// Hands in the result of another core at this seat.
+fn hand_in_of_another<N: Naming, R: Wait>(
+    rt: &R,
+    alloc: Global,
+    seat: &mut Seat<'_, '_, N>,
+) -> Result<(), Error> {
+    let Some(done) = result_of_another(alloc)? else {
+        bail!("the other core lends nothing");
+    };
+    if seat.hand_in(rt, done).is_err() {
+        bail!("the queue is full");
+    }
+    Ok(())
+}
 
 /// A result of another core is handed in before two workers begin. Answers the number of the crew's fault, 0 for none, and whether
 /// the work is to stop.
@@ -32,26 +47,27 @@ fn run<N: Naming + Send + Sync, R: Threads + Wait + Sync>(
     let Ok(pool) = Pool::new(alloc, bench, 2) else {
         bail!("no memory for the pool");
     };
+    let mut seats = pool.seats(alloc, &mut share)?;
+    let Some(mut first) = seats.pop() else {
+        bail!("there is no seat");
+    };
+    hand_in_of_another(rt, alloc, &mut first)?;
     let mut work = Vec::new(alloc);
-    for seat in pool.seats(alloc, &mut share)? {
-        let mut seat = seat;
-        if let Some(done) = result_of_another(alloc)? {
-            if seat.hand_in(rt, done).is_err() {
-                bail!("the queue is full");
-            }
-        }
+    work.push((first, Open))?;
+    for seat in seats {
         work.push((seat, Open))?;
     }
     let fault = match pool_crew(rt, work.as_mut_slice(), 100) {
         Ok(()) => 0,
         Err(fault) => fault.number(),
     };
-    Ok((fault, pool.bench().lock(rt).is_stopped()))
+    let stopped = pool.bench().lock(rt).is_stopped();
+    Ok((fault, stopped))
 }
 
 /// The run, in a line.
 pub fn report<R: Threads + Wait + Sync>(rt: &R, alloc: Global) -> Result<String, Error> {
     let core = boot(alloc)?;
     let (fault, stopped) = run::<Brand, R>(rt, alloc, core, Blanks::new())?;
-    Ok(format!(in alloc; "results of another core: fault {fault}, stopped {stopped}")?)
+    Ok(format!(in alloc; "a result of another core: fault {fault}, stopped {stopped}")?)
 }
