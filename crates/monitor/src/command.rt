@@ -11,9 +11,19 @@ pub enum Task<'a> {
     /// Replay the script of a file.
     ReplayFile(&'a str),
     /// Assemble the source in a file to the image in another.
-    Assemble { source: &'a str, image: &'a str },
+    Assemble {
+        source: &'a str,
+        image: &'a str,
+    },
     /// List the words of the image in a file.
     List(&'a str),
+    /// Debug the image in a file, with the replies of the trace in another, or none.
+    Debug {
+        image: &'a str,
+        trace: Option<&'a str>,
+    },
+    /// List the files on the disk in a file.
+    Disk(&'a str),
 }
 
 /// An argument that has to be given.
@@ -21,6 +31,15 @@ fn argument<'a>(alloc: Global, name: &'a str, help: &'a str) -> Arg<'a> {
     Arg::new(alloc, name)
         .help(help)
         .required(true)
+        .action(ArgAction::Set)
+}
+
+/// An option with a value, that may be given once.
+fn option<'a>(alloc: Global, name: &'a str, value: &'a str, help: &'a str) -> Arg<'a> {
+    Arg::new(alloc, name)
+        .long(name)
+        .value_name(value)
+        .help(help)
         .action(ArgAction::Set)
 }
 
@@ -51,6 +70,21 @@ fn listing<'a>(alloc: Global) -> Result<Command<'a>, AllocError> {
         .arg(argument(alloc, "IMAGE", "the image's file"))
 }
 
+/// The command `debug`.
+fn debugging<'a>(alloc: Global) -> Result<Command<'a>, AllocError> {
+    Command::new(alloc, "debug")
+        .about("Debug an image, by commands on standard input")
+        .arg(argument(alloc, "IMAGE", "the image's file"))?
+        .arg(option(alloc, "trace", "FILE", "the replies that its calls take"))
+}
+
+/// The command `disk`.
+fn listing_files<'a>(alloc: Global) -> Result<Command<'a>, AllocError> {
+    Command::new(alloc, "disk")
+        .about("Print the files on a disk, and their lengths")
+        .arg(argument(alloc, "FILE", "the disk's file"))
+}
+
 /// The program without its commands. Its usage begins with its name, so that it can be pasted.
 fn program<'a>(alloc: Global) -> Result<Command<'a>, AllocError> {
     let bench = Command::new(alloc, "bench")
@@ -77,7 +111,9 @@ fn commands<'a>(alloc: Global) -> Result<Command<'a>, AllocError> {
     let bench = program(alloc)?;
     let bench = with(bench, replaying(alloc))?;
     let bench = with(bench, assembling(alloc))?;
-    with(bench, listing(alloc))
+    let bench = with(bench, listing(alloc))?;
+    let bench = with(bench, debugging(alloc))?;
+    with(bench, listing_files(alloc))
 }
 
 /// What the arguments of the command `asm` ask for.
@@ -88,12 +124,22 @@ fn assemble_task<'a>(matches: &ArgMatches<'a>) -> Option<Task<'a>> {
     })
 }
 
+/// What the arguments of the command `debug` ask for.
+fn debug_task<'a>(matches: &ArgMatches<'a>) -> Option<Task<'a>> {
+    Some(Task::Debug {
+        image: matches.get_str("IMAGE")?,
+        trace: matches.get_str("trace"),
+    })
+}
+
 /// What a command and its arguments ask for. None for a name that is not handled here.
 fn task_of<'a>(name: &str, matches: &ArgMatches<'a>) -> Option<Task<'a>> {
     match name {
         "replay" => matches.get_str("SCRIPT").map(|path| Task::ReplayFile(path)),
         "asm" => assemble_task(matches),
         "list" => matches.get_str("IMAGE").map(|path| Task::List(path)),
+        "debug" => debug_task(matches),
+        "disk" => matches.get_str("FILE").map(|path| Task::Disk(path)),
         _ => None,
     }
 }

@@ -2,9 +2,12 @@
 #![tactic(auto)]
 
 mod command;
+mod disk_file;
 mod fault;
+mod file_lines;
 mod list;
 mod program;
+mod reading;
 mod replay;
 mod script;
 mod setup;

@@ -1,11 +1,15 @@
 //! The whole program.
 use crate::command::{Task, parse};
 use crate::fault::Fault;
+use crate::file_lines::list_files;
 use crate::list::list;
-use crate::replay::{image_in, replay};
+use crate::reading::{image_in, trace_in};
+use crate::replay::replay;
 use crate::source::{Assembled, assemble_source};
 use clap::Error;
 use clap::error::ErrorKind;
+use debug_commands::debug;
+use machine_model::Reply;
 use std::io::{BufWriter, Read, Write};
 use std::rt::Files;
 use std::{fs, io};
@@ -58,6 +62,27 @@ fn list_file<R: Files + AllocGlobal, O: Write>(
     list(&image_in(rt, path)?, out)
 }
 
+/// The replies of the trace in a file, and none where no file is given.
+fn replies_in<R: Files + AllocGlobal>(rt: &R, path: Option<&str>) -> Result<Vec<Reply>, Fault> {
+    match path {
+        Some(path) => trace_in(rt, path),
+        None => Ok(Vec::new(rt.alloc())),
+    }
+}
+
+/// Debugs the image in a file, by the commands on the input.
+fn debug_file<R: Files + AllocGlobal, I: Read, O: Write>(
+    rt: &R,
+    image: &str,
+    trace: Option<&str>,
+    input: &mut I,
+    out: &mut O,
+) -> Result<(), Fault> {
+    let image = image_in(rt, image)?;
+    let replies = replies_in(rt, trace)?;
+    Ok(debug(rt.alloc(), image, replies, input, out)?)
+}
+
 /// Does a task.
 fn perform<R: Files + AllocGlobal, I: Read, O: Write>(
     rt: &R,
@@ -72,6 +97,8 @@ fn perform<R: Files + AllocGlobal, I: Read, O: Write>(
             write_assembled(rt, &assemble_file(rt, source)?, image, out)
         }
         Task::List(path) => list_file(rt, path, out),
+        Task::Debug { image, trace } => debug_file(rt, image, trace, input, out),
+        Task::Disk(path) => list_files(rt, path, out),
     }
 }
 
