@@ -1,10 +1,11 @@
 //! The command line.
+use crate::run_options::{RunOptions, run_options, running};
 use clap::error::ErrorKind;
 use clap::{Arg, ArgAction, ArgMatches, Command, Error};
 use std::alloc::{AllocError, Global};
 
 /// What the program is to do.
-#[derive(Clone, Copy)]
+#[derive(Drop)]
 pub enum Task<'a> {
     /// Replay the script on standard input.
     ReplayInput,
@@ -24,6 +25,8 @@ pub enum Task<'a> {
     },
     /// List the files on the disk in a file.
     Disk(&'a str),
+    /// Run images.
+    Run(RunOptions<'a>),
 }
 
 /// An argument that has to be given.
@@ -35,7 +38,7 @@ fn argument<'a>(alloc: Global, name: &'a str, help: &'a str) -> Arg<'a> {
 }
 
 /// An option with a value, that may be given once.
-fn option<'a>(alloc: Global, name: &'a str, value: &'a str, help: &'a str) -> Arg<'a> {
+pub fn option<'a>(alloc: Global, name: &'a str, value: &'a str, help: &'a str) -> Arg<'a> {
     Arg::new(alloc, name)
         .long(name)
         .value_name(value)
@@ -113,7 +116,8 @@ fn commands<'a>(alloc: Global) -> Result<Command<'a>, AllocError> {
     let bench = with(bench, assembling(alloc))?;
     let bench = with(bench, listing(alloc))?;
     let bench = with(bench, debugging(alloc))?;
-    with(bench, listing_files(alloc))
+    let bench = with(bench, listing_files(alloc))?;
+    with(bench, running(alloc))
 }
 
 /// What the arguments of the command `asm` ask for.
@@ -132,8 +136,13 @@ fn debug_task<'a>(matches: &ArgMatches<'a>) -> Option<Task<'a>> {
     })
 }
 
-/// What a command and its arguments ask for. None for a name that is not handled here.
-fn task_of<'a>(name: &str, matches: &ArgMatches<'a>) -> Option<Task<'a>> {
+/// What the arguments of the command `run` ask for.
+fn run_task<'a>(alloc: Global, matches: &ArgMatches<'a>) -> Result<Option<Task<'a>>, AllocError> {
+    Ok(run_options(alloc, matches)?.map(|options| Task::Run(options)))
+}
+
+/// What a command other than `run` and its arguments ask for. None for a name that is not handled here.
+fn file_task<'a>(name: &str, matches: &ArgMatches<'a>) -> Option<Task<'a>> {
     match name {
         "replay" => matches.get_str("SCRIPT").map(|path| Task::ReplayFile(path)),
         "asm" => assemble_task(matches),
@@ -141,6 +150,18 @@ fn task_of<'a>(name: &str, matches: &ArgMatches<'a>) -> Option<Task<'a>> {
         "debug" => debug_task(matches),
         "disk" => matches.get_str("FILE").map(|path| Task::Disk(path)),
         _ => None,
+    }
+}
+
+/// What a command and its arguments ask for. None for a name that is not handled here.
+fn task_of<'a>(
+    alloc: Global,
+    name: &str,
+    matches: &ArgMatches<'a>,
+) -> Result<Option<Task<'a>>, AllocError> {
+    match name {
+        "run" => run_task(alloc, matches),
+        name => Ok(file_task(name, matches)),
     }
 }
 
@@ -153,22 +174,33 @@ fn same_path(alloc: Global) -> Result<Error, AllocError> {
     )
 }
 
-/// Refuses an image that would be written over its own source.
-fn checked<'a>(alloc: Global, task: Task<'a>) -> Result<Task<'a>, Error> {
+/// Whether a task would write an image over its own source.
+fn overwrites_source(task: &Task<'_>) -> bool {
     match task {
-        Task::Assemble { source, image } if source == image => Err(same_path(alloc)?),
-        task => Ok(task),
+        Task::Assemble { source, image } => source == image,
+        _ => false,
     }
 }
 
-/// What the words ask for, if a command that is handled here is among them.
-fn asked<'a>(commands: &mut Command<'a>, words: &'a [String]) -> Result<Option<Task<'a>>, Error> {
-    let matches = commands.try_get_matches_from_mut(words)?;
-    let task = match matches.subcommand() {
-        Some((name, matches)) => task_of(name, matches),
-        None => None,
-    };
+/// Refuses an image that would be written over its own source.
+fn checked<'a>(alloc: Global, task: Task<'a>) -> Result<Task<'a>, Error> {
+    if overwrites_source(&task) {
+        return Err(same_path(alloc)?);
+    }
     Ok(task)
+}
+
+/// What the words ask for, if a command that is handled here is among them.
+fn asked<'a>(
+    alloc: Global,
+    commands: &mut Command<'a>,
+    words: &'a [String],
+) -> Result<Option<Task<'a>>, Error> {
+    let matches = commands.try_get_matches_from_mut(words)?;
+    match matches.subcommand() {
+        Some((name, matches)) => Ok(task_of(alloc, name, matches)?),
+        None => Ok(None),
+    }
 }
 
 /// What the words ask for, or why they ask for nothing.
@@ -177,7 +209,7 @@ fn read<'a>(
     commands: &mut Command<'a>,
     words: &'a [String],
 ) -> Result<Task<'a>, Error> {
-    match asked(commands, words)? {
+    match asked(alloc, commands, words)? {
         Some(task) => checked(alloc, task),
         None => Err(commands.error(ErrorKind::InvalidSubcommand, "no such command")?),
     }

@@ -2,6 +2,7 @@
 use assembler::{AsmFault, Cause};
 use debug_commands::SessionFault;
 use elf32::ElfFault;
+use executor::RunFault;
 use kernel::{BootFault, DiskFault};
 use simdisk::DiskRefusal;
 use std::alloc::{AllocError, AllocFailed};
@@ -32,6 +33,9 @@ pub enum Fault {
     /// A disk that cannot be read, and its first fault.
     #[error("bench: disk refused: {number} {fault:?}")]
     Disk { number: u8, fault: DiskFault },
+    /// A write of the disk has failed, so that no change is committed any more.
+    #[error("bench: disk failed")]
+    DiskFailed,
     #[error("bench: out of memory")]
     OutOfMemory,
     /// A file that cannot be read or is no text, or a stream that cannot be written.
@@ -49,6 +53,7 @@ impl Fault {
             | Fault::Image { .. }
             | Fault::Trace { .. } => 2,
             Fault::DiskLength | Fault::Disk { .. } => 3,
+            Fault::DiskFailed => 4,
             Fault::OutOfMemory => 5,
             Fault::InputOutput => 6,
         }
@@ -128,6 +133,16 @@ impl From<SessionFault> for Fault {
             SessionFault::Trace { line } => Fault::Trace { line },
             SessionFault::OutOfMemory => Fault::OutOfMemory,
             SessionFault::InputOutput => Fault::InputOutput,
+        }
+    }
+}
+
+impl From<RunFault> for Fault {
+    fn from(fault: RunFault) -> Fault {
+        match fault {
+            RunFault::OutOfMemory => Fault::OutOfMemory,
+            RunFault::DiskFailed => Fault::DiskFailed,
+            RunFault::Output => Fault::InputOutput,
         }
     }
 }

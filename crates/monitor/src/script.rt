@@ -15,7 +15,7 @@ const MOST_PROGRAMS: usize = 8;
 const MOST_WORDS: usize = 61440;
 
 /// The most bytes of a tape.
-const MOST_TAPE_BYTES: usize = 65536;
+pub const MOST_TAPE_BYTES: usize = 65536;
 
 /// The words of a program, 1 to 61,440, for the addresses from 0x00010000 on.
 #[derive(Drop)]
