@@ -1,9 +1,26 @@
-//! Bursts of instructions, run apart from the core, and what a history adds up to.
+//! Bursts of instructions, run apart from the core, and the desks by which many workers share one core.
 #![tactic(auto)]
 
-mod books;
+mod bench;
+mod board;
 mod burst;
+mod desk;
+mod naming;
+mod note;
+mod share;
+mod totals;
+mod worker;
 
-pub use books::{Books, books_of};
+pub use bench::{Bench, gather};
+pub use board::{Board, Pass, View, Writer};
 pub use burst::run_loan;
+pub use desk::{Desk, LockedDesk};
 pub use kernel::{Done, Loan, Rejected};
+pub use naming::Naming;
+pub use note::{LoanId, Note};
+pub use share::{Blanks, Share};
+pub use totals::{Totals, totals_of};
+pub use worker::{Gate, Turned, WorkFault, worker_turn};
+
+#[cfg(test)]
+mod tests;

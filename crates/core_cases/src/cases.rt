@@ -24,7 +24,7 @@
 //!   process, the number of the loan and how many instructions it ran;
 //! - `loans Q`: loans for a quantum of Q are run and taken back until no process is lent, and the line comes to their number;
 //! - `history`: the events; `last N`: the last N of them; `events`: their number;
-//! - `ran`: how many instructions ran; `books`: the four numbers of the history; `counts`: how many changes there are and how
+//! - `ran`: how many instructions ran; `totals`: the four numbers of the history; `counts`: how many changes there are and how
 //!   many are committed, and whether a cut is wanted; `in_flight`;
 //! - `shown T`, in HEX; `replied P`: the numbers that the process was replied; `ended P`.
 //!
@@ -142,7 +142,7 @@ fn look_or_run(
         "events" => text(alloc, core.history().len()),
         "last" => text(alloc, last_events(core, first as usize)),
         "ran" => text(alloc, core.ran()),
-        "books" => text(alloc, core.books()),
+        "totals" => text(alloc, core.totals()),
         "counts" => text(alloc, (core.changes(), core.committed(), core.wants_cut())),
         "in_flight" => text(alloc, core.in_flight()),
         "shown" => digits(alloc, core.shown(first)),

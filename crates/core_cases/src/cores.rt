@@ -4,7 +4,7 @@ ghost use Rattle.std.specs.List.{AllByRecursion};
 
 use anyhow::{Error, bail};
 use assembler::assemble;
-use bursts::{Books, Done, Rejected, books_of, run_loan};
+use bursts::{Done, Rejected, Totals, run_loan, totals_of};
 use byte_list::Bytes;
 use files::FileTable;
 use kernel::{Answer, BootFault, Core, DiskFault, Event, Program, Refused, SimDisk};
@@ -162,8 +162,8 @@ impl TestCore {
         self.core.ran()
     }
 
-    pub fn books(&self) -> Books {
-        books_of(&self.core)
+    pub fn totals(&self) -> Totals {
+        totals_of(&self.core)
     }
 
     pub fn wants_cut(&self) -> bool {

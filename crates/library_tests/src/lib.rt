@@ -11,6 +11,8 @@ mod bytes;
 #[cfg(test)]
 mod checkpoints;
 #[cfg(test)]
+mod debugging;
+#[cfg(test)]
 mod devices;
 #[cfg(test)]
 mod disks;

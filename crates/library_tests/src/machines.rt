@@ -160,3 +160,19 @@ fn replies_to_a_call(rt: HostRuntime) -> Result<(), AllocError> {
     assert_row(&rt, "copy", kept, (Some(Stop::Call), Some(0)));
     Ok(())
 }
+
+#[test]
+fn kept_machines_go_on(rt: HostRuntime) -> Result<(), AllocError> {
+    let alloc = rt.alloc();
+    let mut machine = machine_of(alloc, &[ADDI_T0_T0_1, JUMP_BACK_4])?;
+    let first = machine.keep(alloc, None)?;
+    assert_row(&rt, "run", machine.run(3), (3, Stop::Limit));
+    let second = machine.keep(alloc, Some(&first))?;
+    let counts = [first.count(), second.count()];
+    assert_row(&rt, "counts", counts, [0, 3]);
+    let (mut again, after) = (first.machine(alloc)?, second.machine(alloc)?);
+    assert_row(&rt, "run again", again.run(3), (3, Stop::Limit));
+    let same = [again.is_same(&machine), after.is_same(&machine)];
+    assert_row(&rt, "same", same, [true, true]);
+    Ok(())
+}

@@ -209,3 +209,21 @@ fn same_bytes_in_other_cuts(rt: HostRuntime) -> Result<(), AllocError> {
     assert_row(&rt, "another byte", whole, Ok([false, false]));
     Ok(())
 }
+
+/// What was kept of a space before and after a store in its second page, which is in the same run as its first.
+#[test]
+fn kept_spaces_come_back(rt: HostRuntime) -> Result<(), AllocError> {
+    let alloc = rt.alloc();
+    let mut space = pages(alloc, READ_WRITE, &[7; 8192])?;
+    let first = space.keep(alloc, None)?;
+    let stored = space.store(0x2fff, Width::Byte, 8);
+    assert_row(&rt, "stored", stored, Ok(()));
+    let second = space.keep(alloc, Some(&first))?;
+    let (before, after) = (first.space(alloc)?, second.space(alloc)?);
+    let same = [before.is_same(&space), after.is_same(&space)];
+    assert_row(&rt, "same", same, [false, true]);
+    assert_row(&rt, "before", before.byte(0x2fff), Some(7));
+    let takes = [after.takes(0x2ffe, &[1, 2]), after.takes(0x2fff, &[1, 2])];
+    assert_row(&rt, "takes", takes, [true, false]);
+    Ok(())
+}

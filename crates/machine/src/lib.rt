@@ -7,6 +7,7 @@ mod doing;
 mod fast;
 mod fusing;
 mod instruction;
+mod kept;
 mod kinds;
 mod laws;
 mod loading;
@@ -16,6 +17,7 @@ mod sequences;
 mod stopped;
 mod table;
 
+pub use kept::KeptMachine;
 pub use laws::segments_are_loaded;
 pub use machine::Machine;
 pub use machine_model::{Cause, Image, Reply, Segment, Stop};

@@ -23,10 +23,10 @@ use std::sync::Arc;
 /// segment that may be executed and not written are decoded once, when an image is loaded, and clones share them.
 #[derive(Drop)]
 pub struct Machine {
-    regs: Regs,
-    space: Space,
-    count: u64,
-    tables: Arc<Vec<Table>>,
+    pub(crate) regs: Regs,
+    pub(crate) space: Space,
+    pub(crate) count: u64,
+    pub(crate) tables: Arc<Vec<Table>>,
 }
 
 impl Model for Machine {

@@ -18,7 +18,7 @@ impl Space {
     }
 }
 
-fn shares_of(alloc: Global, parts: &[Arc<Part>]) -> Result<Vec<Arc<Part>>, AllocError>
+pub(crate) fn shares_of(alloc: Global, parts: &[Arc<Part>]) -> Result<Vec<Arc<Part>>, AllocError>
     ensures { IfOk result (λ v. map (λ a. a.value) v.items ≡ map (λ a. a.value) parts.now) }
 {
     let mut shares = Vec::with_capacity(alloc, parts.len())?;

@@ -48,6 +48,13 @@ impl Space {
         self.first_fault(Access::Write, at, n as usize).is_none()
     }
 
+    /// Whether these bytes may all be written from an address on, as many as they are.
+    pub fn takes(&self, at: u32, bytes: &[u8]) -> bool
+        ensures { result ≡ is_writable self.now at (length bytes.now) }
+    {
+        self.first_fault(Access::Write, at, bytes.len()).is_none()
+    }
+
     /// A copy of n bytes from an address on. Where one of them may not be read, the lowest such byte decides, and no
     /// memory is asked for.
     pub fn copy_in(&self, alloc: Global, at: u32, n: u32) -> Result<Bytes, CopyFault>

@@ -6,6 +6,9 @@ mod cloning;
 mod comparing;
 mod copying;
 mod fault;
+mod kept;
+mod kept_part;
+mod kept_parts;
 mod near;
 mod own;
 mod part;
@@ -13,5 +16,6 @@ mod place;
 mod space;
 
 pub use fault::CopyFault;
+pub use kept::KeptSpace;
 pub use machine_model::{BusFault, Rights};
 pub use space::Space;

@@ -163,7 +163,7 @@ impl Part {
 }
 
 /// Whether words are the same. Their bytes are compared as one slice, which is much faster than word by word.
-fn are_same_words(words: &[[u8; 4]], others: &[[u8; 4]]) -> bool
+pub(crate) fn are_same_words(words: &[[u8; 4]], others: &[[u8; 4]]) -> bool
     ensures { IsTrue result ↔ (words.now ≡ others.now) }
 {
     words.as_flattened() == others.as_flattened()

@@ -1,0 +1,88 @@
+-- What events add to the totals of a history.
+use Rattle.std.proofs.Common.{◌≡◌, ◌+◌, ◌∙◌, refl, sym, ap, subst, List, [], ◌∷◌, ◌++◌, length, Bool, true, false, true≢false, is_some, Some, None, arith}
+use Rattle.std.specs.Prelude.{if◌then◌else◌}
+use Rattle.std.proofs.lemmas.List.{length-append, append_assoc, append-nil}
+use Rattle.std.proofs.lemmas.List.Sums.{sum_by-append}
+use Rattle.machine_model.specs.States.{stands_at}
+use Rattle.kernel_model.specs.Answers.{Kernel, answer, with_event, with_events}
+use Rattle.kernel_model.specs.Loans.{LoanResult, returned, events_of, settled, settled_answer, outcome_after}
+use Rattle.kernel_model.specs.Ran.{ran_by_turns, ran_in}
+use Rattle.kernel_model.specs.declared.answer.Answer.{Answer}
+use Rattle.kernel_model.specs.declared.answer.Answer.TheVariants.{Settled}
+use Rattle.kernel_model.specs.declared.event.Event.{Event}
+use Rattle.kernel_model.specs.declared.event.Event.TheVariants.{Turn, Enter, Cut, Complete, Fail}
+use Rattle.kernel.specs.Keeping.{KeepsLimits}
+use Rattle.kernel.specs.Sums.{process_of_turn, process_of_enter, sum_of_turns, sum_of_enters}
+use Rattle.bursts.specs.declared.totals.Totals.{Totals}
+use Rattle.bursts.specs.Totals.{plus, history_totals, settled_totals, is_of_disk, one_event, Fit}
+
+not_so : false ≡ true → ⊥
+not_so e = true≢false (sym e)
+
+history-after : (k : Kernel) (es : List Event) → (with_events k es).history ≡ k.history ++ es
+history-after k [] = sym (append-nil k.history)
+history-after k (e ∷ es) = history-after (with_event k e) es ∙ append_assoc k.history (e ∷ []) es
+
+-- these events add so much, where they ran so many instructions
+adds : (k new : Kernel) (es : List Event) (by : Totals) → new.history ≡ k.history ++ es → length es ≡ by.events → sum_of_turns es ≡ by.turns
+    → sum_of_enters es ≡ by.enters → ran_by_turns new ≡ ran_by_turns k + by.ran → plus (history_totals k) by ≡ history_totals new
+adds k new es by is events turns enters ran = λ i. record {
+  events = (ap (λ n. length k.history + n) (sym events) ∙ sym (length-append k.history es) ∙ sym (ap (λ (xs : List Event). length xs) is)) i;
+  ran = sym ran i;
+  turns = (ap (λ n. sum_of_turns k.history + n) (sym turns) ∙ sym (sum_by-append process_of_turn k.history es) ∙ sym (ap sum_of_turns is)) i;
+  enters = (ap (λ n. sum_of_enters k.history + n) (sym enters) ∙ sym (sum_by-append process_of_enter k.history es) ∙ sym (ap sum_of_enters is)) i;
+}
+
+-- the events of a result, by whether the state reached stands at a call or a trap
+events_add : (k new : Kernel) (r : LoanResult) (b : Bool) → is_some (stands_at r.reached.state) ≡ b → new.history ≡ k.history ++ events_of r
+    → ran_by_turns new ≡ ran_by_turns k + r.reached.count → plus (history_totals k) (settled_totals r.process (settled_answer k r)) ≡ history_totals new
+events_add k new r true at is ran =
+    let events : events_of r ≡ Turn r.process r.reached.count ∷ Enter r.process ∷ [] = ap (λ (b : Bool). Turn r.process r.reached.count ∷ (if b then Enter r.process ∷ [] else [])) at in
+    let answered : settled_answer k r ≡ Settled r.reached.count r.reached.stop (Some (outcome_after k r.process r.reached.count))
+    = ap (λ (b : Bool). Settled r.reached.count r.reached.stop (if b then Some (outcome_after k r.process r.reached.count) else None)) at in
+    ap (λ a. plus (history_totals k) (settled_totals r.process a)) answered
+    ∙ adds k new (Turn r.process r.reached.count ∷ Enter r.process ∷ []) (record { events = 2; ran = r.reached.count; turns = r.process; enters = r.process })
+    (is ∙ ap (λ es. k.history ++ es) events) refl (omega arith) (omega arith) ran
+events_add k new r false at is ran =
+    let events : events_of r ≡ Turn r.process r.reached.count ∷ [] = ap (λ (b : Bool). Turn r.process r.reached.count ∷ (if b then Enter r.process ∷ [] else [])) at in
+    let answered : settled_answer k r ≡ Settled r.reached.count r.reached.stop None
+    = ap (λ (b : Bool). Settled r.reached.count r.reached.stop (if b then Some (outcome_after k r.process r.reached.count) else None)) at in
+    ap (λ a. plus (history_totals k) (settled_totals r.process a)) answered
+    ∙ adds k new (Turn r.process r.reached.count ∷ []) (record { events = 1; ran = r.reached.count; turns = r.process; enters = 0 })
+    (is ∙ ap (λ es. k.history ++ es) events) refl (omega arith) (omega arith) ran
+
+-- a result that is taken back adds what its answer says
+pub result_adds : (k new : Kernel) (r : LoanResult) (a : Answer) (books by : Totals) → books ≡ history_totals k → new ≡ settled k r → a ≡ settled_answer k r
+    → ran_by_turns new ≡ ran_by_turns k + r.reached.count → by ≡ settled_totals r.process a → plus books by ≡ history_totals new
+result_adds k new r a books by here is answered ran sum =
+    (λ i. plus (here i) ((sum ∙ ap (settled_totals r.process) answered) i))
+    ∙ events_add k new r (is_some (stands_at r.reached.state)) refl (ap (λ (x : Kernel). x.history) is ∙ history-after (returned k r.process) (events_of r)) ran
+
+-- an event that ran nothing and in which no process took part
+silent_adds : (k new : Kernel) (e : Event) (a : Answer) → process_of_turn e ≡ 0 → process_of_enter e ≡ 0 → ran_in (answer k e) ≡ 0 → a ≡ answer k e → new ≡ with_event k e
+    → ran_by_turns new ≡ ran_by_turns k + ran_in a → plus (history_totals k) one_event ≡ history_totals new
+silent_adds k new e a turn enter still answered is ran =
+    adds k new (e ∷ []) one_event (ap (λ (x : Kernel). x.history) is) refl (omega (arith, turn)) (omega (arith, enter))
+    (ran ∙ ap (λ n. ran_by_turns k + n) (ap ran_in answered ∙ still))
+
+disk_event : (k new : Kernel) (e : Event) (a : Answer) → is_of_disk e ≡ true → a ≡ answer k e → new ≡ with_event k e → ran_by_turns new ≡ ran_by_turns k + ran_in a
+    → plus (history_totals k) one_event ≡ history_totals new
+disk_event k new (Turn pid n) a of_disk answered is ran = absurd (not_so of_disk)
+disk_event k new (Enter pid) a of_disk answered is ran = absurd (not_so of_disk)
+disk_event k new Cut a of_disk answered is ran = silent_adds k new Cut a refl refl refl answered is ran
+disk_event k new (Complete at) a of_disk answered is ran = silent_adds k new (Complete at) a refl refl refl answered is ran
+disk_event k new (Fail at) a of_disk answered is ran = silent_adds k new (Fail at) a refl refl refl answered is ran
+
+-- an event of the disk adds one event
+pub disk_event_adds : (k new : Kernel) (e : Event) (a : Answer) (books by : Totals) → is_of_disk e ≡ true → books ≡ history_totals k → a ≡ answer k e → new ≡ with_event k e
+    → ran_by_turns new ≡ ran_by_turns k + ran_in a → by ≡ one_event → plus books by ≡ history_totals new
+disk_event_adds k new e a books by of_disk here answered is ran sum = (λ i. plus (here i) (sum i)) ∙ disk_event k new e a of_disk answered is ran
+
+history_fits : (k : Kernel) → KeepsLimits k → Fit (history_totals k)
+history_fits k h =
+    let room = h.room in let ran = h.ran in let sums = h.sums in
+    (omega (arith, room), omega (arith, ran), omega (arith, room, sums), omega (arith, room, sums))
+
+-- the totals of a core's history are u64s
+pub fits : (k : Kernel) (t : Totals) → KeepsLimits k → t ≡ history_totals k → Fit t
+fits k t h is = subst Fit (sym is) (history_fits k h)

@@ -1,0 +1,14 @@
+-- The loan given is the loan of the result handed in.
+use Rattle.std.proofs.Common.{rules}
+use Rattle.bursts.specs.Records.{loan_id}
+use Rattle.bursts.proofs.worker.worker_turn.Goals as goal
+
+pub returns-in-Ok : goal.returns-in-Ok
+returns-in-Ok g c =
+    let l = c.in-Ok-Some.loan in
+    record { loan = loan_id l.pid l.number l.quantum; quantum = search rules; calls = search rules; share_is = search rules }
+
+pub returns-in-Err-settle : goal.returns-in-Err-settle
+returns-in-Err-settle g c =
+    let l = c.in-Ok-Some.loan in
+    record { loan = loan_id l.pid l.number l.quantum; quantum = search rules; calls = search rules; share_is = search rules }

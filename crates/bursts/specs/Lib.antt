@@ -1,0 +1,6 @@
+-- The definitions.
+pub mod Totals
+pub mod Holdings
+pub mod Pairs
+pub mod Records
+pub mod Work

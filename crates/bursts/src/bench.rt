@@ -1,0 +1,275 @@
+//! The core that many workers share, with its board and its books.
+ghost use Rattle.std.specs.Prelude.{◌≡◌, ◌≢◌, ◌+◌, ◌≤◌, true, IfOk, IfErr, OnOk, OnErr};
+ghost use Rattle.crossbeam_utils.specs.Seq.{cell_view};
+ghost use Rattle.kernel_model.specs.Answers.{now, committed as committed_in, changes as changes_in, Applies, AllAccepted};
+ghost use Rattle.kernel_model.specs.Ran.{ran_by_turns};
+ghost use Rattle.kernel_model.specs.Loans.{Lends, IsOfLoan, is_over, returned, events_of, settled, settled_answer};
+ghost use Rattle.kernel_model.specs.declared.answer.Refused.TheVariants.{Stranger, OutOfMemory};
+ghost use Rattle.kernel_model.specs.declared.event.Event.{Event};
+ghost use Rattle.kernel_step.specs.Loaned.{lent_out, loan_result};
+ghost use Rattle.bursts.specs.Pairs.{publisher, pair_of};
+ghost use Rattle.bursts.specs.Totals.{none, history_totals, settled_totals, one_event as one_event_more, is_of_disk};
+ghost use Rattle.bursts.specs.Holdings.{parts_in, sum_of, GrowsBySettle, GrowsByOne};
+
+use crate::board::{Board, Writer};
+use crate::naming::Naming;
+use crate::share::{Blanks, Books, Share};
+use crate::totals::{Totals, totals_of};
+use kernel::{Answer, Core, Done, Event, Loan, Refused, Rejected, counts_never_fall};
+use std::marker::Model;
+use std::sync::Wait;
+
+/// A core to be put under a lock, the pass that publishes on its board, and the books of what all shares add up to. Its type keeps
+/// that the pair published last is that of the core, and that the books are the totals of the core's history.
+#[derive(Drop)]
+pub struct Bench<'a, N: Naming> {
+    core: Core,
+    board: &'a Board<N>,
+    writer: Writer,
+    books: Books<N>,
+    stopped: bool,
+}
+
+impl<'a, N: Naming> Model for Bench<'a, N> {
+    ghost use Rattle.kernel_model.specs.Answers.{Kernel};
+    ghost use Rattle.kernel_model.specs.Codes.{kernel_code};
+
+    ghost Value = { Kernel };
+
+    ghost coded = { kernel_code };
+
+    ghost use Rattle.std.specs.Prelude.{◌≡◌, true};
+    ghost use Rattle.crossbeam_utils.specs.Seq.{cell_view};
+    ghost use Rattle.kernel_model.specs.Answers.{now, committed, changes};
+    ghost use Rattle.bursts.specs.Pairs.{pair_of};
+    ghost use Rattle.bursts.specs.Totals.{history_totals};
+
+    ghost view = { λ b. b.core };
+
+    ghost invariant = { λ b. (b.writer.pass.table_id ≡ b.board.now.cell.table.shared.table_id)
+        × ((cell_view b.writer.pass).publishes ≡ true)
+        × (pair_of (cell_view b.writer.pass) ≡ (committed (now b.core), changes (now b.core)))
+        × (b.books ≡ history_totals b.core) };
+}
+
+impl<'a, N: Naming> Bench<'a, N> {
+    /// A bench of this core, with the board and the publishing pass that were made from it as it now stands, and four ledgers that no
+    /// run has yet; and the share, which has all 64 parts and stands at the totals of the core's history.
+    pub fn new(
+        core: Core,
+        board: &'a Board<N>,
+        writer: Writer,
+        blanks: Blanks,
+    ) -> (Bench<'a, N>, Share<N>)
+        requires board { writer.pass.table_id ≡ board.now.cell.table.shared.table_id }
+        requires writer { cell_view writer.pass ≡ publisher (committed_in (now core)) (changes_in (now core)) }
+        requires events { (blanks.events.name ≡ N.events) × (blanks.events.parts ≡ 64) }
+        requires ran { (blanks.ran.name ≡ N.ran) × (blanks.ran.parts ≡ 64) }
+        requires turns { (blanks.turns.name ≡ N.turns) × (blanks.turns.parts ≡ 64) }
+        requires enters { (blanks.enters.name ≡ N.enters) × (blanks.enters.parts ≡ 64) }
+        ensures core { result.0 ≡ core }
+        ensures share { (result.1.parts ≡ 64) × (result.1.totals ≡ history_totals core) }
+    {
+        let totals = totals_of(&core);
+        let (books, share) = Books::open(blanks, totals);
+        let bench = Bench {
+            core,
+            board,
+            writer,
+            books,
+            stopped: false,
+        };
+        (bench, share)
+    }
+
+    /// The core.
+    pub fn core(&self) -> &Core
+        ensures { result.now ≡ self.now }
+    {
+        &self.core
+    }
+
+    /// Lends, as `Core::lend` does. Neither the board nor the books change, so nothing is published.
+    pub fn lend(&mut self, quantum: u32) -> Result<Option<Loan>, Refused>
+        ensures { Lends self.old quantum self.new (lent_out result) }
+    {
+        self.core.lend(quantum)
+    }
+
+    /// Takes a loan's result back, as `Core::settle` does. The share grows by what its Turn and its Enter add, and the board shows
+    /// what is committed after them. May wait for a load of the board.
+    pub fn settle<R: Wait>(
+        &mut self,
+        rt: &R,
+        done: Done,
+        share: &mut Share<N>,
+    ) -> Result<Answer, Rejected>
+        ensures own { OnOk result (IsOfLoan self.old (loan_result done)) }
+        ensures fine { OnOk result (AllAccepted (returned self.old done.pid) (events_of (loan_result done))) }
+        ensures events { OnOk result (self.new ≡ settled self.old (loan_result done)) }
+        ensures answer { IfOk result (λ a. a ≡ settled_answer self.old (loan_result done)) }
+        ensures ran { OnOk result (ran_by_turns self.new ≡ ran_by_turns self.old + done.count) }
+        ensures stranger { IfErr result (λ r. r.why ≡ Stranger → ¬ (IsOfLoan self.old (loan_result done))) }
+        ensures own_only { IfErr result (λ r. r.why ≢ Stranger → (r.why ≡ OutOfMemory) × IsOfLoan self.old (loan_result done)) }
+        ensures back { IfErr result (λ r. r.done ≡ done) }
+        ensures err { OnErr result (self.new ≡ self.old) }
+        ensures share { GrowsBySettle done.pid share.old share.new result }
+    {
+        counts_never_fall();
+        let pid = done.pid;
+        let answer = self.core.settle(done)?;
+        self.books
+            .enter(share, totals_of_answer(pid, &answer), &self.core);
+        publish(rt, self.board, &mut self.writer, &self.core);
+        Ok(answer)
+    }
+
+    /// A Cut, as `Core::apply` does it. The share grows by one event. May wait for a load of the board.
+    pub fn cut<R: Wait>(&mut self, rt: &R, share: &mut Share<N>) -> Result<Answer, Refused>
+        ensures applies { Applies self.old Event.Cut self.new result }
+        ensures share { GrowsByOne share.old share.new result }
+    {
+        self.apply(rt, Event::Cut, share)
+    }
+
+    /// The completion of the write in flight that begins at this offset of the disk, as `Core::apply` does it. The share grows by one
+    /// event. May wait for a load of the board.
+    pub fn complete<R: Wait>(
+        &mut self,
+        rt: &R,
+        at: u32,
+        share: &mut Share<N>,
+    ) -> Result<Answer, Refused>
+        ensures applies { Applies self.old (Event.Complete at) self.new result }
+        ensures share { GrowsByOne share.old share.new result }
+    {
+        self.apply(rt, Event::Complete { at }, share)
+    }
+
+    /// The failure of the write in flight that begins at this offset of the disk, as `Core::apply` does it. The share grows by one
+    /// event. May wait for a load of the board.
+    pub fn fail<R: Wait>(
+        &mut self,
+        rt: &R,
+        at: u32,
+        share: &mut Share<N>,
+    ) -> Result<Answer, Refused>
+        ensures applies { Applies self.old (Event.Fail at) self.new result }
+        ensures share { GrowsByOne share.old share.new result }
+    {
+        self.apply(rt, Event::Fail { at }, share)
+    }
+
+    /// An event of the disk.
+    fn apply<R: Wait>(
+        &mut self,
+        rt: &R,
+        event: Event,
+        share: &mut Share<N>,
+    ) -> Result<Answer, Refused>
+        requires { is_of_disk event ≡ true }
+        ensures applies { Applies self.old event self.new result }
+        ensures share { GrowsByOne share.old share.new result }
+    {
+        counts_never_fall();
+        let answer = self.core.apply(event)?;
+        self.books.enter(share, one_event(), &self.core);
+        publish(rt, self.board, &mut self.writer, &self.core);
+        Ok(answer)
+    }
+}
+
+impl<'a, N: Naming> Bench<'a, N> {
+    /// Whether the work is over: the core is, by `Core::over`, or `stop` was called. Takes no memory.
+    pub fn over(&self, quantum: u32) -> bool
+        ensures { is_over self.now quantum ≡ true → result ≡ true }
+    {
+        self.stopped || self.core.over(quantum)
+    }
+
+    /// From now on `over` answers true.
+    pub fn stop(&mut self)
+        ensures { self.new ≡ self.old }
+    {
+        self.stopped = true;
+    }
+
+    /// Whether `stop` was called.
+    pub fn is_stopped(&self) -> bool {
+        self.stopped
+    }
+}
+
+/// The core of a bench; the shares are used up. Who gives all 64 parts learns that these shares add up to the totals of the core's
+/// history. Takes no memory.
+pub fn gather<'a, N: Naming>(bench: Bench<'a, N>, shares: Vec<Share<N>>) -> Core
+    ensures core { result ≡ bench.entry }
+    ensures shares { parts_in shares.items ≡ 64 → sum_of shares.items ≡ history_totals result }
+{
+    let Bench { core, books, .. } = bench;
+    books.close(shares);
+    core
+}
+
+/// What a loan's result adds that was taken back with this answer.
+fn totals_of_answer(pid: u32, answer: &Answer) -> Totals
+    ensures { result ≡ settled_totals pid answer.now }
+{
+    match answer {
+        Answer::Settled {
+            count,
+            outcome: None,
+            ..
+        } => Totals {
+            events: 1,
+            ran: u64::from(*count),
+            turns: u64::from(pid),
+            enters: 0,
+        },
+        Answer::Settled {
+            count,
+            outcome: Some(_),
+            ..
+        } => Totals {
+            events: 2,
+            ran: u64::from(*count),
+            turns: u64::from(pid),
+            enters: u64::from(pid),
+        },
+        _ => no_events(),
+    }
+}
+
+/// No events.
+fn no_events() -> Totals
+    ensures { result ≡ none }
+{
+    Totals {
+        events: 0,
+        ran: 0,
+        turns: 0,
+        enters: 0,
+    }
+}
+
+/// One event, in which no process took part.
+fn one_event() -> Totals
+    ensures { result ≡ one_event_more }
+{
+    Totals {
+        events: 1,
+        ..no_events()
+    }
+}
+
+/// Publishes the core's pair, neither number of which is below the one published last.
+fn publish<N: Naming, R: Wait>(rt: &R, board: &Board<N>, writer: &mut Writer, core: &Core)
+    requires board { writer.old.pass.table_id ≡ board.now.cell.table.shared.table_id }
+    requires publishes { (cell_view writer.old.pass).publishes ≡ true }
+    requires rises { ((cell_view writer.old.pass).committed ≤ committed_in (now core.now)) × ((cell_view writer.old.pass).changes ≤ changes_in (now core.now)) }
+    ensures board { writer.new.pass.table_id ≡ writer.old.pass.table_id }
+    ensures publishes { (cell_view writer.new.pass).publishes ≡ true }
+    ensures pair { pair_of (cell_view writer.new.pass) ≡ (committed_in (now core.now), changes_in (now core.now)) }
+{
+    board.publish(rt, writer, core.committed(), core.changes());
+}

@@ -1,0 +1,120 @@
+//! The board: how many changes are committed and how many there are, for any thread to read without the core's lock.
+ghost use Rattle.std.specs.Prelude.{◌≡◌, ◌+◌, ◌≤◌, true, IfOk};
+ghost use Rattle.crossbeam_utils.specs.Seq.{cell_view};
+ghost use Rattle.kernel_model.specs.Answers.{now, committed as committed_in, changes as changes_in};
+ghost use Rattle.bursts.specs.Pairs.{publisher, newcomer, pair_of};
+
+use crate::naming::Naming;
+use atomic_table::Split;
+use crossbeam_utils::atomic::seq_cell::{Pass as CellPass, RuledSeqCell};
+use crossbeam_utils::rule::{Outcome, Protocol};
+use kernel::Core;
+use std::alloc::{AllocError, Global};
+use std::marker::PhantomData;
+use std::sync::Wait;
+
+/// What a pass shows: whether it publishes, how many loads it made, and the pair that it published or loaded last. No value of it
+/// is made.
+pub struct View {
+    pub publishes: bool,
+    pub loads: u64,
+    pub committed: u64,
+    pub changes: u64,
+}
+
+/// The rule of the board of a run.
+pub struct Rule<N> {
+    of: PhantomData<N>,
+}
+
+impl<N: Naming> Protocol<[u64; 2], View> for Rule<N> {
+    ghost use Rattle.bursts.specs.Pairs.{publisher, Follows};
+
+    ghost holds = { Follows };
+
+    ghost first = { publisher N.committed N.changes };
+}
+
+/// What a load tells its pass.
+struct Loads;
+
+impl Outcome<[u64; 2], View> for Loads {
+    ghost use Rattle.bursts.specs.Pairs.{Loaded};
+
+    ghost then = { Loaded };
+}
+
+/// What a store tells the publishing pass.
+struct Publishes;
+
+impl Outcome<[u64; 2], View> for Publishes {
+    ghost use Rattle.bursts.specs.Pairs.{Published};
+
+    ghost then = { Published };
+}
+
+/// How a pass that loads comes from another pass, which keeps what it shows.
+struct Reading;
+
+impl Split<View> for Reading {
+    ghost use Rattle.bursts.specs.Pairs.{newcomer};
+
+    ghost left = { λ v. v };
+
+    ghost right = { λ v. newcomer };
+}
+
+/// A pass that loads. It has no bytes.
+pub type Pass = CellPass<[u64; 2], View>;
+
+/// The pass that publishes.
+#[derive(Drop)]
+pub struct Writer {
+    pub pass: Pass,
+}
+
+/// A pair of numbers, how many changes are committed and how many there are, which are read and written together.
+#[derive(Drop)]
+pub struct Board<N: Naming> {
+    pub cell: RuledSeqCell<[u64; 2], View, Rule<N>, 2>,
+}
+
+impl<N: Naming> Board<N> {
+    /// The board of this core, which opens with the core's pair, the pass that publishes, and a pass that loads.
+    pub fn new(alloc: Global, core: &Core) -> Result<(Board<N>, Writer, Pass), AllocError>
+        requires committed { committed_in (now core.now) ≡ N.committed }
+        requires changes { changes_in (now core.now) ≡ N.changes }
+        ensures writer { IfOk result (λ b. (b.1.pass.table_id ≡ b.0.cell.table.shared.table_id) × (cell_view b.1.pass ≡ publisher N.committed N.changes)) }
+        ensures pass { IfOk result (λ b. (b.2.table_id ≡ b.0.cell.table.shared.table_id) × (cell_view b.2 ≡ newcomer)) }
+    {
+        let (cell, mut pass) = RuledSeqCell::ruled(alloc, [core.committed(), core.changes()])?;
+        let reader = cell.split_pass::<Reading>(&mut pass);
+        Ok((Board { cell }, Writer { pass }, reader))
+    }
+
+    /// The committed changes and all changes, as they were last published. It takes no lock, and may wait for a store. The pass is of
+    /// this board, and shows one load more, and the pair.
+    pub fn seen<R: Wait>(&self, rt: &R, pass: &mut Pass) -> (u64, u64)
+        requires { pass.old.table_id ≡ self.now.cell.table.shared.table_id }
+        ensures same { pass.new.table_id ≡ pass.old.table_id }
+        ensures load { (cell_view pass.new).loads ≡ (cell_view pass.old).loads + 1 }
+        ensures pair { result ≡ pair_of (cell_view pass.new) }
+        ensures rises { ((cell_view pass.old).committed ≤ result.0) × ((cell_view pass.old).changes ≤ result.1) }
+    {
+        let pair = self.cell.load_as::<Loads, R>(rt, pass);
+        (pair[0], pair[1])
+    }
+
+    /// Publishes a pair, neither number of which is below the one published last.
+    pub fn publish<R: Wait>(&self, rt: &R, writer: &mut Writer, committed: u64, changes: u64)
+        requires board { writer.old.pass.table_id ≡ self.now.cell.table.shared.table_id }
+        requires publishes { (cell_view writer.old.pass).publishes ≡ true }
+        requires rises { ((cell_view writer.old.pass).committed ≤ committed) × ((cell_view writer.old.pass).changes ≤ changes) }
+        ensures same { writer.new.pass.table_id ≡ writer.old.pass.table_id }
+        ensures publishes { (cell_view writer.new.pass).publishes ≡ true }
+        ensures pair { pair_of (cell_view writer.new.pass) ≡ (committed, changes) }
+    {
+        self.cell
+            .swap_as::<Publishes, R>(rt, &mut writer.pass, [committed, changes]);
+    }
+}

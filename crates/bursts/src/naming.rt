@@ -1,0 +1,79 @@
+//! Which ledgers and which board a run has.
+ghost use Rattle.std.specs.Prelude.{ℕ};
+
+use std::marker::{Brand, PhantomData};
+use std::sync::ledger::Ledger;
+
+/// The names of a run's four ledgers, and the pair with which its board opens. These exist in proofs alone; whoever calls the one
+/// function that makes a run's board and bench picks them.
+pub trait Naming {
+    ghost events: { ℕ };
+
+    ghost ran: { ℕ };
+
+    ghost turns: { ℕ };
+
+    ghost enters: { ℕ };
+
+    ghost committed: { ℕ };
+
+    ghost changes: { ℕ };
+}
+
+impl Naming for Brand {
+    ghost events = { 0 };
+
+    ghost ran = { 0 };
+
+    ghost turns = { 0 };
+
+    ghost enters = { 0 };
+
+    ghost committed = { 0 };
+
+    ghost changes = { 0 };
+}
+
+/// The ledger of events.
+pub struct Events<N> {
+    of: PhantomData<N>,
+}
+
+impl<N: Naming> Ledger for Events<N> {
+    ghost name = { N.events };
+
+    ghost parts = { 64 };
+}
+
+/// The ledger of the instructions that Turns ran.
+pub struct Ran<N> {
+    of: PhantomData<N>,
+}
+
+impl<N: Naming> Ledger for Ran<N> {
+    ghost name = { N.ran };
+
+    ghost parts = { 64 };
+}
+
+/// The ledger of the process numbers of Turns.
+pub struct Turns<N> {
+    of: PhantomData<N>,
+}
+
+impl<N: Naming> Ledger for Turns<N> {
+    ghost name = { N.turns };
+
+    ghost parts = { 64 };
+}
+
+/// The ledger of the process numbers of Enters.
+pub struct Enters<N> {
+    of: PhantomData<N>,
+}
+
+impl<N: Naming> Ledger for Enters<N> {
+    ghost name = { N.enters };
+
+    ghost parts = { 64 };
+}

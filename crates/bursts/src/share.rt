@@ -1,0 +1,269 @@
+//! Shares of what the workers did, and the books in which they add up.
+ghost use Rattle.std.specs.Prelude.{◌≡◌, ◌+◌, ◌<◌, IfSome, IfNone};
+ghost use Rattle.bursts.specs.Totals.{none, plus, history_totals, Fit};
+ghost use Rattle.bursts.specs.Holdings.{both, together, parts_in, sum_of, grown};
+
+use crate::naming::{Enters, Events, Naming, Ran, Turns};
+use crate::totals::Totals;
+use kernel::Core;
+use std::marker::Model;
+use std::sync::ledger::{Blank, Book, Share as Mark};
+
+/// Four ledgers that no run has yet. They have no bytes.
+#[derive(Drop)]
+pub struct Blanks {
+    pub events: Blank,
+    pub ran: Blank,
+    pub turns: Blank,
+    pub enters: Blank,
+}
+
+impl Blanks {
+    pub fn new() -> Blanks
+        ensures { (result.events.parts ≡ 64) × (result.ran.parts ≡ 64) × (result.turns.parts ≡ 64) × (result.enters.parts ≡ 64) }
+    {
+        Blanks {
+            events: Blank::new(64),
+            ran: Blank::new(64),
+            turns: Blank::new(64),
+            enters: Blank::new(64),
+        }
+    }
+}
+
+/// What its holder did, in four numbers. All shares of a bench have 64 parts; who has them all knows that they add up to the history.
+#[derive(Drop)]
+pub struct Share<N: Naming> {
+    parts: u32,
+    totals: Totals,
+    events: Mark<Events<N>>,
+    ran: Mark<Ran<N>>,
+    turns: Mark<Turns<N>>,
+    enters: Mark<Enters<N>>,
+}
+
+impl<N: Naming> Model for Share<N> {
+    ghost use Rattle.bursts.specs.Holdings.{Holding};
+
+    ghost Value = { Holding };
+
+    ghost use Rattle.std.specs.Prelude.{◌≡◌, ◌<◌};
+
+    ghost view = { λ s. record { parts = s.parts; totals = s.totals } };
+
+    ghost invariant = { λ s. (0 < s.parts)
+        × (s.events.parts ≡ s.parts) × (s.ran.parts ≡ s.parts) × (s.turns.parts ≡ s.parts) × (s.enters.parts ≡ s.parts)
+        × (s.events.amount ≡ s.totals.events) × (s.ran.amount ≡ s.totals.ran)
+        × (s.turns.amount ≡ s.totals.turns) × (s.enters.amount ≡ s.totals.enters) };
+}
+
+impl<N: Naming> Share<N> {
+    /// How many of the 64 parts it has, at least one.
+    pub fn parts(&self) -> u32
+        ensures { result ≡ self.now.parts }
+    {
+        self.parts
+    }
+
+    /// Its four numbers.
+    pub fn totals(&self) -> Totals
+        ensures { result ≡ self.now.totals }
+    {
+        self.totals
+    }
+
+    /// One of its parts, with no numbers. None where it has only one. Takes no memory.
+    pub fn split(&mut self) -> Option<Share<N>>
+        ensures given { IfSome result (λ s. (s.parts ≡ 1) × (s.totals ≡ none)) }
+        ensures left { IfSome result (λ s. (self.new.parts + 1 ≡ self.old.parts) × (self.new.totals ≡ self.old.totals) × (1 < self.old.parts)) }
+        ensures none { IfNone result ((self.new ≡ self.old) × (self.old.parts ≡ 1)) }
+    {
+        if self.parts == 1 {
+            return None;
+        }
+        self.parts -= 1;
+        Some(Share {
+            parts: 1,
+            totals: Totals {
+                events: 0,
+                ran: 0,
+                turns: 0,
+                enters: 0,
+            },
+            events: self.events.split_off(1, 0),
+            ran: self.ran.split_off(1, 0),
+            turns: self.turns.split_off(1, 0),
+            enters: self.enters.split_off(1, 0),
+        })
+    }
+}
+
+/// What some shares add up to, which proofs alone read.
+#[derive(Drop)]
+pub(crate) struct Sum<N: Naming> {
+    events: Mark<Events<N>>,
+    ran: Mark<Ran<N>>,
+    turns: Mark<Turns<N>>,
+    enters: Mark<Enters<N>>,
+}
+
+impl<N: Naming> Model for Sum<N> {
+    ghost use Rattle.bursts.specs.Holdings.{Holding};
+
+    ghost Value = { Holding };
+
+    ghost use Rattle.std.specs.Prelude.{◌≡◌};
+
+    ghost view = { λ s. record { parts = s.events.parts; totals = record { events = s.events.amount; ran = s.ran.amount; turns = s.turns.amount; enters = s.enters.amount } } };
+
+    ghost invariant = { λ s. (s.ran.parts ≡ s.events.parts) × (s.turns.parts ≡ s.events.parts) × (s.enters.parts ≡ s.events.parts) };
+}
+
+impl<N: Naming> Sum<N> {
+    /// Takes a share in.
+    fn merge(&mut self, share: Share<N>)
+        ensures { self.new ≡ both self.old share }
+    {
+        let Share {
+            events,
+            ran,
+            turns,
+            enters,
+            ..
+        } = share;
+        self.events.merge(events);
+        self.ran.merge(ran);
+        self.turns.merge(turns);
+        self.enters.merge(enters);
+    }
+}
+
+/// What all shares of a bench add up to. They have no bytes.
+#[derive(Drop)]
+pub(crate) struct Books<N: Naming> {
+    nothing: Sum<N>,
+    events: Book<Events<N>>,
+    ran: Book<Ran<N>>,
+    turns: Book<Turns<N>>,
+    enters: Book<Enters<N>>,
+}
+
+impl<N: Naming> Model for Books<N> {
+    ghost use Rattle.bursts.specs.declared.totals.Totals.{Totals};
+
+    ghost Value = { Totals };
+
+    ghost use Rattle.std.specs.Prelude.{◌≡◌};
+    ghost use Rattle.bursts.specs.Totals.{none};
+
+    ghost view = { λ b. record { events = b.events.total; ran = b.ran.total; turns = b.turns.total; enters = b.enters.total } };
+
+    ghost invariant = { λ b. b.nothing ≡ record { parts = 0; totals = none } };
+}
+
+impl<N: Naming> Books<N> {
+    /// Books that stand at these totals, and the one share, which has all parts and stands there too.
+    pub(crate) fn open(blanks: Blanks, totals: Totals) -> (Books<N>, Share<N>)
+        requires events { (blanks.events.name ≡ N.events) × (blanks.events.parts ≡ 64) }
+        requires ran { (blanks.ran.name ≡ N.ran) × (blanks.ran.parts ≡ 64) }
+        requires turns { (blanks.turns.name ≡ N.turns) × (blanks.turns.parts ≡ 64) }
+        requires enters { (blanks.enters.name ≡ N.enters) × (blanks.enters.parts ≡ 64) }
+        ensures books { result.0 ≡ totals }
+        ensures share { result.1 ≡ record { parts = 64; totals = totals } }
+    {
+        let Blanks {
+            events,
+            ran,
+            turns,
+            enters,
+        } = blanks;
+        let (mut event_book, mut event_mark) = events.open::<Events<N>>();
+        let (mut ran_book, mut ran_mark) = ran.open::<Ran<N>>();
+        let (mut turn_book, mut turn_mark) = turns.open::<Turns<N>>();
+        let (mut enter_book, mut enter_mark) = enters.open::<Enters<N>>();
+        event_book.add(&mut event_mark, totals.events);
+        ran_book.add(&mut ran_mark, totals.ran);
+        turn_book.add(&mut turn_mark, totals.turns);
+        enter_book.add(&mut enter_mark, totals.enters);
+        let nothing = Sum {
+            events: event_mark.empty(),
+            ran: ran_mark.empty(),
+            turns: turn_mark.empty(),
+            enters: enter_mark.empty(),
+        };
+        let books = Books {
+            nothing,
+            events: event_book,
+            ran: ran_book,
+            turns: turn_book,
+            enters: enter_book,
+        };
+        let share = Share {
+            parts: 64,
+            totals,
+            events: event_mark,
+            ran: ran_mark,
+            turns: turn_mark,
+            enters: enter_mark,
+        };
+        (books, share)
+    }
+
+    /// A share grows, and the books with it, by what the core's last events add.
+    pub(crate) fn enter(&mut self, share: &mut Share<N>, by: Totals, core: &Core)
+        requires { plus self.old by ≡ history_totals core.now }
+        ensures books { self.new ≡ history_totals core.now }
+        ensures share { share.new ≡ grown share.old by }
+    {
+        core.keeps_limits();
+        self.grow(share, by);
+    }
+
+    /// A share grows, and the books with it.
+    fn grow(&mut self, share: &mut Share<N>, by: Totals)
+        requires { Fit (plus self.old by) }
+        ensures books { self.new ≡ plus self.old by }
+        ensures share { share.new ≡ grown share.old by }
+    {
+        self.events.audit(&mut share.events);
+        self.ran.audit(&mut share.ran);
+        self.turns.audit(&mut share.turns);
+        self.enters.audit(&mut share.enters);
+        self.events.add(&mut share.events, by.events);
+        self.ran.add(&mut share.ran, by.ran);
+        self.turns.add(&mut share.turns, by.turns);
+        self.enters.add(&mut share.enters, by.enters);
+        share.totals.events += by.events;
+        share.totals.ran += by.ran;
+        share.totals.turns += by.turns;
+        share.totals.enters += by.enters;
+    }
+
+    /// All shares together stand at what the books say.
+    pub(crate) fn close(self, shares: Vec<Share<N>>)
+        ensures { parts_in shares.items ≡ 64 → sum_of shares.items ≡ self }
+    {
+        let Books {
+            nothing,
+            mut events,
+            mut ran,
+            mut turns,
+            mut enters,
+        } = self;
+        let mut all = sum_all(nothing, shares);
+        events.audit(&mut all.events);
+        ran.audit(&mut all.ran);
+        turns.audit(&mut all.turns);
+        enters.audit(&mut all.enters);
+    }
+}
+
+/// What these shares add up to, with what was there.
+fn sum_all<N: Naming>(mut all: Sum<N>, mut shares: Vec<Share<N>>) -> Sum<N>
+    ensures { result ≡ together all shares.items }
+{
+    while let Some(share) = shares.pop() {
+        all.merge(share);
+    }
+    all
+}

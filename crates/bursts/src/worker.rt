@@ -1,0 +1,51 @@
+//! What a worker does at a desk.
+ghost use Rattle.bursts.specs.Work.{TurnsOut};
+
+use crate::burst::run_loan;
+use crate::desk::Desk;
+use kernel::{Answer, Refused, Rejected};
+
+/// What stands between a loan and its run. A test holds workers there, to have them at work at the same time.
+pub trait Gate {
+    /// Holds the worker, which has a loan of this process.
+    fn hold(&mut self, pid: u32);
+}
+
+/// What a worker's turn came to.
+#[derive(Drop)]
+pub enum Turned {
+    /// There was no loan.
+    Idle,
+    /// A loan's result was taken back, with this answer.
+    Settled(Answer),
+}
+
+/// Why a worker's turn failed.
+#[derive(Drop)]
+pub enum WorkFault {
+    /// The loan was refused.
+    Lend(Refused),
+    /// The loan's result was not taken back.
+    Settle(Rejected),
+}
+
+/// One turn of a worker: it asks for one loan, holds the gate, runs the loan, and hands the result in. Between the loan and the
+/// result it has no lock.
+pub fn worker_turn<D: Desk, G: Gate>(
+    desk: &mut D,
+    gate: &mut G,
+    quantum: u32,
+) -> Result<Turned, WorkFault>
+    ensures { TurnsOut (D.account desk.old) quantum (D.account desk.new) result }
+{
+    let loan = match desk.lend(quantum) {
+        Ok(Some(loan)) => loan,
+        Ok(None) => return Ok(Turned::Idle),
+        Err(why) => return Err(WorkFault::Lend(why)),
+    };
+    gate.hold(loan.pid);
+    match desk.settle(run_loan(loan)) {
+        Ok(answer) => Ok(Turned::Settled(answer)),
+        Err(rejected) => Err(WorkFault::Settle(rejected)),
+    }
+}

@@ -1,0 +1,118 @@
+-- Moves along a trace, one after the other.
+use Rattle.std.proofs.Common.{◌≡◌, ℕ, suc, zero, ◌+◌, ◌-◌, ◌<◌, ◌≤◌, Bool, true, false, cond, List, [], ◌∷◌, length, None, refl, sym, ap, subst, ◌∙◌, arith}
+use Rattle.machine_model.specs.Access.{is_writable}
+use Rattle.machine_model.specs.States.{State, Stepped, Goes, Halts, next, replied}
+use Rattle.machine_model.specs.declared.reply.Reply.{Reply}
+use Rattle.machine_model.specs.declared.stop.Stop.TheVariants.{Limit, Call, Trap}
+use Rattle.machine_model.proofs.Running.{next-count}
+use Rattle.debugger.specs.Traces.{Traced, traced, Next, Moves, Rests, next_at_call, next_by, next_of, by_next, along, halt_of}
+use Rattle.debugger.specs.declared.halt.Halt.{Halt}
+use Rattle.debugger.specs.declared.halt.Halt.TheVariants as halt
+use Rattle.debugger.specs.Ways.{Leads}
+
+same_move : (t u : Traced) → Moves t ≡ Moves u → t ≡ u
+same_move t u e = cc
+
+rests_not : (why : Halt) (u : Traced) → Rests why ≡ Moves u → ⊥
+rests_not why u e = cc
+
+call-count : (s : State) (left : List Reply) (u : Traced) → next_at_call s left ≡ Moves u → u.state.count ≡ s.count + 1
+call-count s [] u e = absurd (rests_not halt.EndOfTrace u e)
+call-count s (r ∷ rs) u e = by (is_writable s.hart.memory r.at (length r.bytes)) e
+  where
+    by : (b : Bool) → cond b (Moves (traced (replied s r) rs)) (Rests halt.EndOfTrace) ≡ Moves u → u.state.count ≡ s.count + 1
+    by true e = sym (ap (λ (v : Traced). v.state.count) (same_move (traced (replied s r) rs) u e))
+    by false e = absurd (rests_not halt.EndOfTrace u e)
+
+-- a move counts
+pub next_of-count : (t u : Traced) → next_of t ≡ Moves u → u.state.count ≡ t.state.count + 1
+unfolding next_of
+next_of-count t u = by (next t.state) refl
+  where
+    by : (x : Stepped) → next t.state ≡ x → next_by t x ≡ Moves u → u.state.count ≡ t.state.count + 1
+    by (Goes s) is e = sym (ap (λ (v : Traced). v.state.count) (same_move (traced s t.left) u e)) ∙ next-count t.state s is
+    by (Halts (Trap cause)) is e = absurd (rests_not (halt.Trap cause) u e)
+    by (Halts Call) is e = call-count t.state t.left u e
+    by (Halts Limit) is e = absurd (rests_not halt.EndOfTrace u e)
+
+pub along-zero : (t : Traced) → along zero t ≡ t
+unfolding along
+along-zero t = refl
+
+pub along-moves : (n : ℕ) (t u : Traced) → next_of t ≡ Moves u → along (suc n) t ≡ along n u
+unfolding along
+along-moves n t u e = ap (λ (x : Next). by_next x (λ v. along n v) t) e
+
+pub along-rests : (n : ℕ) (t : Traced) (why : Halt) → next_of t ≡ Rests why → along n t ≡ t
+unfolding along
+along-rests zero t why e = refl
+along-rests (suc n) t why e = ap (λ (x : Next). by_next x (λ v. along n v) t) e
+
+-- some moves, and then more
+pub along-add : (m n : ℕ) (t : Traced) → along (m + n) t ≡ along n (along m t)
+along-add zero n t =
+    let none : zero + n ≡ n = omega arith in
+    ap (λ (k : ℕ). along k t) none ∙ sym (ap (along n) (along-zero t))
+along-add (suc m) n t = by (λ u. along-add m n u) (next_of t) refl
+  where
+    later : suc m + n ≡ suc (m + n)
+    later = omega arith
+
+    by : ((u : Traced) → along (m + n) u ≡ along n (along m u)) → (x : Next) → next_of t ≡ x → along (suc m + n) t ≡ along n (along (suc m) t)
+    by rest (Moves u) is =
+        ap (λ (k : ℕ). along k t) later ∙ along-moves (m + n) t u is ∙ rest u ∙ sym (ap (along n) (along-moves m t u is))
+    by rest (Rests why) is =
+        along-rests (suc m + n) t why is ∙ sym (along-rests n t why is) ∙ sym (ap (along n) (along-rests (suc m) t why is))
+
+-- n moves count n at most
+pub along-within : (n : ℕ) (t : Traced) → (along n t).state.count ≤ t.state.count + n
+along-within zero t = let same : (along zero t).state.count ≡ t.state.count = ap (λ (v : Traced). v.state.count) (along-zero t) in omega arith
+along-within (suc n) t = by (λ u. along-within n u) (next_of t) refl
+  where
+    by : ((u : Traced) → (along n u).state.count ≤ u.state.count + n) → (x : Next) → next_of t ≡ x → (along (suc n) t).state.count ≤ t.state.count + suc n
+    by later (Moves u) is =
+        let same : (along (suc n) t).state.count ≡ (along n u).state.count = ap (λ (v : Traced). v.state.count) (along-moves n t u is) in
+        let more : u.state.count ≡ t.state.count + 1 = next_of-count t u is in
+        let rest : (along n u).state.count ≤ u.state.count + n = later u in
+        omega arith
+    by later (Rests why) is =
+        let same : (along (suc n) t).state.count ≡ t.state.count = ap (λ (v : Traced). v.state.count) (along-rests (suc n) t why is) in
+        omega arith
+
+-- where n moves count n, fewer count as many as they are
+pub along-front : (n k : ℕ) (t : Traced) → (along n t).state.count ≡ t.state.count + n → k ≤ n → (along k t).state.count ≡ t.state.count + k
+along-front n k t all few =
+    let split : n ≡ k + (n - k) = omega (arith, few) in
+    let same : (along n t).state.count ≡ (along (n - k) (along k t)).state.count = ap (λ (j : ℕ). (along j t).state.count) split ∙ ap (λ (v : Traced). v.state.count) (along-add k (n - k) t) in
+    let rest : (along (n - k) (along k t)).state.count ≤ (along k t).state.count + (n - k) = along-within (n - k) (along k t) in
+    let front : (along k t).state.count ≤ t.state.count + k = along-within k t in
+    omega arith
+
+-- and nothing keeps them from going on
+pub along-onward : (n k : ℕ) (t : Traced) → (along n t).state.count ≡ t.state.count + n → k < n → halt_of (next_of (along k t)) ≡ None
+along-onward n k t all few = by (next_of (along k t)) refl
+  where
+    by : (x : Next) → next_of (along k t) ≡ x → halt_of x ≡ None
+    by (Moves u) is = refl
+    by (Rests why) is =
+        let split : n ≡ k + (n - k) = omega (arith, few) in
+        let same : (along n t).state.count ≡ (along (n - k) (along k t)).state.count = ap (λ (j : ℕ). (along j t).state.count) split ∙ ap (λ (v : Traced). v.state.count) (along-add k (n - k) t) in
+        let stays : (along (n - k) (along k t)).state.count ≡ (along k t).state.count = ap (λ (v : Traced). v.state.count) (along-rests (n - k) (along k t) why is) in
+        let front : (along k t).state.count ≤ t.state.count + k = along-within k t in
+        absurd (omega arith)
+
+pub leads-none : (t : Traced) → Leads 0 t t
+leads-none t = record { moves = along-zero t; counts = omega arith }
+
+pub leads-one : (t u : Traced) → next_of t ≡ Moves u → Leads 1 t u
+leads-one t u e = record { moves = along-moves 0 t u e ∙ along-zero u; counts = next_of-count t u e }
+
+pub leads-then : (m n : ℕ) (f g h : Traced) → Leads m f g → Leads n g h → Leads (m + n) f h
+leads-then m n f g h a b =
+    let first : g.state.count ≡ f.state.count + m = a.counts in
+    let second : h.state.count ≡ g.state.count + n = b.counts in
+    record { moves = along-add m n f ∙ ap (along n) a.moves ∙ b.moves; counts = omega arith }
+
+-- as many in all
+pub leads-same : (m n : ℕ) (f g : Traced) → m ≡ n → Leads m f g → Leads n f g
+leads-same m n f g e a = subst (λ (k : ℕ). Leads k f g) e a

@@ -1,0 +1,143 @@
+-- Places of a program with its trace, by their counts.
+use Rattle.std.proofs.Common.{◌≡◌, ℕ, suc, zero, ◌+◌, ◌*◌, ◌<◌, ◌≤◌, List, [], ◌∷◌, ◌++◌, length, drop, Some, None, refl, sym, ap, subst, ◌∙◌, arith, inl, inr}
+use Rattle.std.specs.Prelude.{◌⊎◌, Option, slice_get}
+use Rattle.std.proofs.lemmas.Option.{same_Some, none-some}
+use Rattle.slab.specs.Slab.{Slab}
+use Rattle.machine_model.specs.First.{first_state}
+use Rattle.machine_model.specs.Images.{Program}
+use Rattle.machine_model.specs.States.{State}
+use Rattle.machine_model.specs.declared.reply.Reply.{Reply}
+use Rattle.debugger.specs.Traces.{Traced, traced, next_of, along, reached, halt_of}
+use Rattle.debugger.specs.Ways.{traced_at, Leads, Came}
+use Rattle.debugger.specs.Keeping.{session_of, IsAt, IsKept, AreKept, Advances}
+use Rattle.debugger.specs.declared.halt.Halt.{Halt}
+use Rattle.debugger.specs.declared.place.Place.{Place}
+use Rattle.debugger.proofs.Along.{along-zero, along-add, along-onward}
+
+reached-along : (p : Program) (rs : List Reply) (n : ℕ) → reached p rs n ≡ along n (traced (first_state p) rs)
+unfolding reached
+reached-along p rs n = refl
+
+-- after none it is at its first state
+pub reached-zero : (p : Program) (rs : List Reply) → reached p rs 0 ≡ traced (first_state p) rs
+reached-zero p rs = reached-along p rs 0 ∙ along-zero (traced (first_state p) rs)
+
+-- after some, and then more
+reached-add : (p : Program) (rs : List Reply) (m n : ℕ) → reached p rs (m + n) ≡ along n (reached p rs m)
+reached-add p rs m n =
+    reached-along p rs (m + n) ∙ along-add m n (traced (first_state p) rs) ∙ ap (along n) (sym (reached-along p rs m))
+
+-- the first place
+pub is_at-first : (p : Program) (rs : List Reply) (a : Place) → a.machine ≡ first_state p → a.taken ≡ 0 → IsAt p rs a
+is_at-first p rs a first none =
+    ap (λ (n : ℕ). reached p rs n) (ap (λ (s : State). s.count) first) ∙ reached-zero p rs
+    ∙ ap (λ (s : State). traced s rs) (sym first) ∙ ap (λ (n : ℕ). traced a.machine (drop n rs)) (sym none)
+
+-- a place that moves lead to
+pub is_at-leads : (p : Program) (rs : List Reply) (a b : Place) (n : ℕ) → IsAt p rs a → Leads n (traced_at rs a) (traced_at rs b) → IsAt p rs b
+is_at-leads p rs a b n at leads =
+    ap (λ (k : ℕ). reached p rs k) leads.counts ∙ reached-add p rs a.machine.count n ∙ ap (along n) at ∙ leads.moves
+
+-- a place that is the same
+pub is_at-same : (p : Program) (rs : List Reply) (a b : Place) → b ≡ a → IsAt p rs a → IsAt p rs b
+is_at-same p rs a b same at = subst (λ (c : Place). IsAt p rs c) (sym same) at
+
+first-count : (p : Program) (rs : List Reply) (a : Place) → IsAt p rs a → (along a.machine.count (traced (first_state p) rs)).state.count ≡ (traced (first_state p) rs).state.count + a.machine.count
+first-count p rs a at =
+    let same : (along a.machine.count (traced (first_state p) rs)).state.count ≡ a.machine.count = ap (λ (t : Traced). t.state.count) (sym (reached-along p rs a.machine.count) ∙ at) in
+    let from : (traced (first_state p) rs).state.count ≡ 0 = refl in
+    omega arith
+
+-- before a place nothing keeps the machine from going on
+pub onward-before : (p : Program) (rs : List Reply) (a : Place) (n : ℕ) → IsAt p rs a → n < a.machine.count → halt_of (next_of (reached p rs n)) ≡ None
+onward-before p rs a n at less =
+    ap (λ (t : Traced). halt_of (next_of t)) (reached-along p rs n) ∙ along-onward a.machine.count n (traced (first_state p) rs) (first-count p rs a at) less
+
+-- at a place it is what keeps that from going on
+pub halt-there : (p : Program) (rs : List Reply) (a : Place) → IsAt p rs a → halt_of (next_of (reached p rs a.machine.count)) ≡ halt_of (next_of (traced_at rs a))
+halt-there p rs a at = ap (λ (t : Traced). halt_of (next_of t)) at
+
+-- a session whose place went on
+pub advances-came : (p : Program) (rs : List Reply) (a b : Place) (breaks : Slab ℕ) (reran most max : ℕ) (halt : Option Halt) → IsAt p rs a → IsAt p rs b → 0 < most → most ≤ max → Came most (traced_at rs a) halt (traced_at rs b)
+    → Advances (session_of p rs a breaks reran) max halt (session_of p rs b breaks reran)
+advances-came p rs a b breaks reran most max halt from to some few came =
+    let counts : b.machine.count ≡ a.machine.count + came.done = came.leads.counts in
+    let within : came.done ≤ most = came.within in
+    record {
+      on = omega arith;
+      within = omega arith;
+      past = λ n _ less. onward-before p rs b n to less;
+      progress = λ none. (let all : came.done ≡ most = came.all none in omega arith);
+      short = λ not. (let less : came.done < most = came.short not in omega arith);
+      stands = λ why is. halt-there p rs b to ∙ came.stands why is;
+      rest = refl;
+    }
+
+-- a session that may not go on
+pub advances-rests : (p : Program) (rs : List Reply) (a : Place) (breaks : Slab ℕ) (reran max : ℕ) (why : Halt) → IsAt p rs a → 0 < max → halt_of (next_of (traced_at rs a)) ≡ Some why
+    → Advances (session_of p rs a breaks reran) max (Some why) (session_of p rs a breaks reran)
+advances-rests p rs a breaks reran max why at some is = record {
+  on = omega arith;
+  within = omega arith;
+  past = λ n above below. absurd (omega (arith, above, below));
+  progress = λ none. absurd (none-some why (sym none));
+  short = λ _. omega arith;
+  stands = λ other e. halt-there p rs a at ∙ is ∙ e;
+  rest = refl;
+}
+
+-- a session that went on by one
+pub advances-one : (p : Program) (rs : List Reply) (a b : Place) (breaks : Slab ℕ) (reran max : ℕ) → IsAt p rs b → 0 < max → Leads 1 (traced_at rs a) (traced_at rs b)
+    → Advances (session_of p rs a breaks reran) max None (session_of p rs b breaks reran)
+advances-one p rs a b breaks reran max to some leads =
+    let counts : b.machine.count ≡ a.machine.count + 1 = leads.counts in
+    record {
+      on = omega arith;
+      within = omega arith;
+      past = λ n _ less. onward-before p rs b n to less;
+      progress = λ _. omega arith;
+      short = λ not. absurd (not refl);
+      stands = λ why is. absurd (none-some why is);
+      rest = refl;
+    }
+
+-- a run that stays within the counts of the trace does all of it
+pub came-back : (p : Program) (rs : List Reply) (now kept b : Place) (most : ℕ) (halt : Option Halt) → IsAt p rs now → IsAt p rs kept → Came most (traced_at rs kept) halt (traced_at rs b) → kept.machine.count + most ≤ now.machine.count
+    → b.machine.count ≡ kept.machine.count + most
+came-back p rs now kept b most None at from came within = let all : came.done ≡ most = came.all refl in let counts : b.machine.count ≡ kept.machine.count + came.done = came.leads.counts in omega arith
+came-back p rs now kept b most (Some why) at from came within =
+    let less : came.done < most = came.short (λ e. none-some why (sym e)) in
+    let counts : b.machine.count ≡ kept.machine.count + came.done = came.leads.counts in
+    let before : b.machine.count < now.machine.count = omega arith in
+    let here : IsAt p rs b = is_at-leads p rs kept b came.done from came.leads in
+    absurd (none-some why (sym (onward-before p rs now b.machine.count at before) ∙ halt-there p rs b here ∙ came.stands why refl))
+
+-- a list with one more at its end
+slice_get-push : {X : Type 0} (xs : List X) (x y : X) (k : ℕ) → slice_get (xs ++ x ∷ []) k ≡ Some y → (slice_get xs k ≡ Some y) ⊎ ((k ≡ length xs) × (x ≡ y))
+slice_get-push [] x y zero e = inr (refl, same_Some x y e)
+slice_get-push [] x y (suc k) e = absurd (none-some y e)
+slice_get-push (z ∷ xs) x y zero e = inl e
+slice_get-push (z ∷ xs) x y (suc k) e =
+    elim (slice_get-push xs x y k e) [
+      | inl there ↦ inl there
+      | inr last ↦ inr (ap suc last.0, last.1)
+    ]
+
+-- one place is kept
+pub kept-first : (p : Program) (rs : List Reply) (a : Place) → a.machine.count ≡ 0 → IsAt p rs a → AreKept p rs (a ∷ [])
+kept-first p rs a counts at zero b e =
+    let same : a ≡ b = same_Some a b e in
+    subst (λ (c : Place). IsKept p rs 0 c) same (record { counts = counts; there = at })
+kept-first p rs a counts at (suc k) b e = absurd (none-some b e)
+
+-- one more is kept
+pub kept-push : (p : Program) (rs : List Reply) (kept : List Place) (a : Place) → AreKept p rs kept → a.machine.count ≡ 1024 * length kept → IsAt p rs a → AreKept p rs (kept ++ a ∷ [])
+kept-push p rs kept a are counts at k b e =
+    elim (slice_get-push kept a b k e) [
+      | inl there ↦ are k b there
+      | inr last ↦ (
+          let count : b.machine.count ≡ 1024 * k = ap (λ (c : Place). c.machine.count) (sym last.1) ∙ counts ∙ ap (λ (n : ℕ). 1024 * n) (sym last.0) in
+          let there : IsAt p rs b = subst (λ (c : Place). IsAt p rs c) last.1 at in
+          record { counts = count; there = there }
+          )
+    ]

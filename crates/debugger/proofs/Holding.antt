@@ -1,0 +1,78 @@
+-- What a debugger keeps, from call to call.
+use Rattle.std.proofs.Common.{◌≡◌, ℕ, ◌+◌, ◌*◌, ◌/◌, ◌%◌, ◌^◌, ◌<◌, ◌≤◌, List, [], ◌∷◌, ◌++◌, length, get_or, refl, sym, ap, subst, ◌∙◌, arith}
+use Rattle.std.specs.Prelude.{Option}
+use Rattle.std.proofs.lemmas.List.{length_push}
+use Rattle.std.proofs.lemmas.Option.{slice_get_read}
+use Rattle.slab.specs.Slab.{Slab, slab_len}
+use Rattle.machine_model.specs.First.{first_state}
+use Rattle.machine_model.specs.Images.{Program}
+use Rattle.machine_model.specs.States.{State}
+use Rattle.machine_model.specs.declared.reply.Reply.{Reply}
+use Rattle.debugger.specs.Ways.{traced_at, Leads, Came}
+use Rattle.debugger.specs.declared.halt.Halt.{Halt}
+use Rattle.debugger.specs.Keeping.{IsAt, IsKept, AreKept, Keeps}
+use Rattle.debugger.specs.declared.place.Place.{Place}
+use Rattle.debugger.proofs.Arriving.{is_at-first, is_at-leads, is_at-same, kept-first, kept-push, came-back}
+
+-- at its first place
+pub keeps-first : (p : Program) (rs : List Reply) (a b : Place) (kept : List Place) (breaks : Slab ℕ) → a.machine ≡ first_state p → a.taken ≡ 0 → b ≡ a → kept ≡ b ∷ [] → breaks.slots ≡ [] → 64 ≤ breaks.capacity → Keeps p rs a kept breaks
+keeps-first p rs a b kept breaks first none same one empty room =
+    let at : IsAt p rs a = is_at-first p rs a first none in
+    let counts : a.machine.count ≡ 0 = ap (λ (s : State). s.count) first in
+    let copy : b.machine.count ≡ 0 = ap (λ (c : Place). c.machine.count) same ∙ counts in
+    let long : length kept ≡ 1 = ap length one in
+    let set : slab_len breaks ≡ 0 = ap (λ (slots : List (Option ℕ)). slab_len (record breaks { slots = slots })) empty in
+    record {
+      there = at;
+      are_kept = subst (λ (places : List Place). AreKept p rs places) (sym one) (kept-first p rs b copy (is_at-same p rs a b same at));
+      enough = omega (arith, counts, long);
+      few = omega (arith, long);
+      budget = omega (arith, counts);
+      set = omega (arith, set);
+      room = room;
+    }
+
+-- at another place that some place leads to
+pub keeps-at : (p : Program) (rs : List Reply) (a b : Place) (kept : List Place) (breaks : Slab ℕ) → Keeps p rs a kept breaks → IsAt p rs b → b.machine.count < 1024 * length kept → b.machine.count ≤ 2 ^ 40 → Keeps p rs b kept breaks
+keeps-at p rs a b kept breaks k at enough budget =
+    record { there = at; are_kept = k.are_kept; enough = enough; few = k.few; budget = budget; set = k.set; room = k.room }
+
+-- with one more that is kept
+pub keeps-push : (p : Program) (rs : List Reply) (a b copy : Place) (kept more : List Place) (breaks : Slab ℕ) → Keeps p rs a kept breaks → Leads 1 (traced_at rs a) (traced_at rs b) → copy ≡ b → more ≡ kept ++ copy ∷ [] → a.machine.count + 1 ≡ 1024 * length kept → a.machine.count < 2 ^ 40 → Keeps p rs b more breaks
+keeps-push p rs a b copy kept more breaks k leads same one last budget =
+    let at : IsAt p rs b = is_at-leads p rs a b 1 k.there leads in
+    let counts : b.machine.count ≡ a.machine.count + 1 = leads.counts in
+    let copied : copy.machine.count ≡ b.machine.count = ap (λ (c : Place). c.machine.count) same in
+    let long : length more ≡ length kept + 1 = ap length one ∙ length_push kept copy in
+    record {
+      there = at;
+      are_kept = subst (λ (places : List Place). AreKept p rs places) (sym one) (kept-push p rs kept copy k.are_kept (omega arith) (is_at-same p rs b copy same at));
+      enough = omega arith;
+      few = omega arith;
+      budget = omega arith;
+      set = k.set;
+      room = k.room;
+    }
+
+-- with other breakpoints
+pub keeps-breaks : (p : Program) (rs : List Reply) (a : Place) (kept : List Place) (old new : Slab ℕ) → Keeps p rs a kept old → slab_len new ≤ 64 → 64 ≤ new.capacity → Keeps p rs a kept new
+keeps-breaks p rs a kept old new k set room =
+    record { there = k.there; are_kept = k.are_kept; enough = k.enough; few = k.few; budget = k.budget; set = set; room = room }
+
+-- the place that is kept at the greatest count not above another
+pub kept-found : (p : Program) (rs : List Reply) (a : Place) (kept : List Place) (breaks : Slab ℕ) (n : ℕ) (q b : Place) → Keeps p rs a kept breaks → n ≤ a.machine.count → q ≡ get_or kept (n / 1024) q → b ≡ q → IsKept p rs (n / 1024) b
+kept-found p rs a kept breaks n q b k small at same =
+    let enough : a.machine.count < 1024 * length kept = k.enough in
+    let below : n / 1024 < length kept = omega arith in
+    let found = k.are_kept (n / 1024) q (slice_get_read kept (length kept) (n / 1024) q refl below at) in
+    subst (λ (c : Place). IsKept p rs (n / 1024) c) (sym same) found
+
+-- from there it comes to that count
+pub kept-back : (p : Program) (rs : List Reply) (a b d : Place) (kept : List Place) (breaks : Slab ℕ) (n : ℕ) (halt : Option Halt) → Keeps p rs a kept breaks → n ≤ a.machine.count → IsKept p rs (n / 1024) b → Came (n % 1024) (traced_at rs b) halt (traced_at rs d)
+    → (d.machine.count ≡ n) × Keeps p rs d kept breaks
+kept-back p rs a b d kept breaks n halt k small from came =
+    let counts : b.machine.count ≡ 1024 * (n / 1024) = from.counts in
+    let back : d.machine.count ≡ b.machine.count + n % 1024 = came-back p rs a b d (n % 1024) halt k.there from.there came (omega arith) in
+    let enough : a.machine.count < 1024 * length kept = k.enough in
+    let budget : a.machine.count ≤ 2 ^ 40 = k.budget in
+    (omega arith, keeps-at p rs a d kept breaks k (is_at-leads p rs b d came.done from.there came.leads) (omega arith) (omega arith))

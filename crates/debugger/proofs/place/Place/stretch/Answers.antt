@@ -1,0 +1,47 @@
+-- Instructions of the machine, and a call that takes its reply.
+use Rattle.std.proofs.Common.{drop, Some, refl, sym, ap, subst, ◌∙◌}
+use Rattle.std.proofs.lemmas.Option.{none-some}
+use Rattle.machine_model.specs.declared.stop.Stop.{Stop}
+use Rattle.debugger.specs.Traces.{traced, next_of, halt_of}
+use Rattle.debugger.specs.Ways.{traced_at, Leads}
+use Rattle.debugger.specs.declared.place.Place.{Place}
+use Rattle.debugger.proofs.Along.{leads-one, leads-then}
+use Rattle.debugger.proofs.Onward.{reached-leads, trap-halt, call-next, trap-not_limit, call-not_limit}
+use Rattle.debugger.proofs.place.Place.stretch.Goals as goal
+
+pub returns-in-Limit-clause-leads : goal.returns-in-Limit-clause-leads
+returns-in-Limit-clause-leads c =
+    reached-leads c.args.max c.run-done.result.0 c.args.self.now.machine c.run-done.new.self c.run-done.result.1 (drop c.args.self.now.taken c.args.replies.now) c.run-done.ensures.run
+
+pub returns-in-Trap-clause-leads : goal.returns-in-Trap-clause-leads
+returns-in-Trap-clause-leads c =
+    reached-leads c.args.max c.run-done.result.0 c.args.self.now.machine c.run-done.new.self c.run-done.result.1 (drop c.args.self.now.taken c.args.replies.now) c.run-done.ensures.run
+
+pub returns-in-Trap-clause-stands : goal.returns-in-Trap-clause-stands
+returns-in-Trap-clause-stands c = λ why e.
+    trap-halt (traced c.run-done.new.self (drop c.args.self.now.taken c.args.replies.now)) c.in-Trap.cause
+    (c.run-done.ensures.standing (λ limit. trap-not_limit c.in-Trap.cause (sym c.in-Trap.is ∙ limit)) ∙ ap (λ (stop : Stop). Some stop) c.in-Trap.is)
+    ∙ e
+
+pub returns-in-Some-clause-leads : goal.returns-in-Some-clause-leads
+returns-in-Some-clause-leads c =
+    let same = c.in-Some.ensures.left (λ e. none-some c.in-Some.halt (sym e)) in
+    subst (λ (place : Place). Leads c.run-done.result.0 (traced_at c.args.replies.now c.args.self.now) (traced_at c.args.replies.now place)) (sym same)
+    (reached-leads c.args.max c.run-done.result.0 c.args.self.now.machine c.run-done.new.self c.run-done.result.1 (drop c.args.self.now.taken c.args.replies.now) c.run-done.ensures.run)
+
+pub returns-in-Some-clause-stands : goal.returns-in-Some-clause-stands
+returns-in-Some-clause-stands c = λ why e.
+    let same = c.in-Some.ensures.left (λ e. none-some c.in-Some.halt (sym e)) in
+    ap (λ (place : Place). halt_of (next_of (traced_at c.args.replies.now place))) same
+    ∙ ap halt_of (call-next (traced c.run-done.new.self (drop c.args.self.now.taken c.args.replies.now))
+    (c.run-done.ensures.standing (λ limit. call-not_limit (sym c.in-Call.is ∙ limit)) ∙ ap (λ (stop : Stop). Some stop) c.in-Call.is))
+    ∙ sym c.in-Some.ensures.halt ∙ e
+
+pub returns-in-None-clause-leads : goal.returns-in-None-clause-leads
+returns-in-None-clause-leads c =
+    let left = drop c.args.self.now.taken c.args.replies.now in
+    leads-then c.run-done.result.0 1 (traced_at c.args.replies.now c.args.self.now) (traced c.run-done.new.self left) (traced_at c.args.replies.now c.take_reply.new.self)
+    (reached-leads c.args.max c.run-done.result.0 c.args.self.now.machine c.run-done.new.self c.run-done.result.1 left c.run-done.ensures.run)
+    (leads-one (traced c.run-done.new.self left) (traced_at c.args.replies.now c.take_reply.new.self)
+    (call-next (traced c.run-done.new.self left) (c.run-done.ensures.standing (λ limit. call-not_limit (sym c.in-Call.is ∙ limit)) ∙ ap (λ (stop : Stop). Some stop) c.in-Call.is)
+    ∙ c.in-None.ensures.taken refl))

@@ -1,0 +1,216 @@
+//! The debugger.
+ghost use Rattle.std.specs.Prelude.{◌≡◌, ◌≢◌, ℕ, ◌+◌, ◌%◌, ◌^◌, ◌<◌, ◌≤◌, Ok, None, Some, IfOk, IfErr, OnOk, OnErr, IsTrue, ◌↔◌};
+ghost use Rattle.debugger.specs.Edits.{Changes};
+ghost use Rattle.debugger.specs.Keeping.{Advances};
+ghost use Rattle.debugger.specs.Sessions.{begins, break_count, break_of, halt_at, place_at};
+ghost use Rattle.debugger.specs.Stops.{after_step, answer_of, least_from};
+ghost use Rattle.debugger.specs.declared.fault.DebugFault.TheVariants.{BreakTableFull, NoSuchBreak, OutOfMemory, PastTrace};
+ghost use Rattle.debugger.specs.declared.stops.Stepped.TheVariants.{Went};
+
+use crate::breakpoints::least_at;
+use crate::fault::DebugFault;
+use crate::halt::Halt;
+use crate::kept::KeptPlace;
+use crate::place::Place;
+use crate::stops::{Stepped, stepped_by};
+use machine::{Image, Machine, Reply};
+use slab::Slab;
+use std::alloc::Global;
+use std::marker::Model;
+
+/// The most instructions that a machine does: 2^40.
+pub const MOST: u64 = 1 << 40;
+
+/// The places at counts that are multiples of this are kept.
+const SPAN: u64 = 1024;
+
+/// The most breakpoints that are set at a time.
+const MOST_BREAKS: usize = 64;
+
+/// A program's machine that goes forwards and back along a trace: its calls take the replies of the trace in order, each
+/// counting as one instruction. The trace ends at a call for which no reply is left, and at one whose reply has bytes that may
+/// not be written. Its state is kept at each count that is a multiple of 1,024.
+#[derive(Drop)]
+pub struct Debugger {
+    alloc: Global,
+    image: Image,
+    replies: Vec<Reply>,
+    place: Place,
+    /// The places at the counts that are multiples of 1,024, in order: all up to the present one, and those beyond that were
+    /// reached before a rewind. Each shares with the one before it the pages that did not change.
+    kept: Vec<KeptPlace>,
+    breaks: Slab<u32>,
+    reran: u64,
+}
+
+impl Model for Debugger {
+    ghost use Rattle.debugger.specs.Sessions.{Session, session_code};
+
+    ghost Value = { Session };
+
+    ghost coded = { session_code };
+
+    ghost use Rattle.debugger.specs.Keeping.{Keeps, session_of};
+
+    ghost view = { λ d. session_of d.image d.replies.items d.place d.breaks d.reran };
+
+    ghost invariant = { λ d. Keeps d.image d.replies.items d.place d.kept.items d.breaks };
+}
+
+impl Debugger {
+    /// A program at its first state, with the replies that its calls will take, and no breakpoints.
+    pub fn new(alloc: Global, image: Image, replies: Vec<Reply>) -> Result<Debugger, DebugFault>
+        ensures first { IfOk result (λ debugger. debugger ≡ begins image replies.items) }
+        ensures memory { IfErr result (λ why. why ≡ OutOfMemory) }
+    {
+        let place = Place {
+            machine: Machine::load(alloc, &image)?,
+            taken: 0,
+        };
+        let kept = vec![in alloc; place.keep(alloc, None)?]?;
+        let breaks = Slab::with_capacity(alloc, MOST_BREAKS)?;
+        Ok(Debugger {
+            alloc,
+            image,
+            replies,
+            place,
+            kept,
+            breaks,
+            reran: 0,
+        })
+    }
+
+    /// The machine as it stands.
+    pub fn state(&self) -> &Machine
+        ensures state { result.now ≡ (place_at self.now self.now.count).state }
+        ensures count { result.now.count ≡ self.now.count }
+    {
+        &self.place.machine
+    }
+
+    /// Does one instruction; a call takes the next reply. Where the machine stands at a trap it answers that, and nothing
+    /// changes. Refused, with nothing changed: Budget, where the count is 2^40, which is tested first; PastTrace, where the
+    /// trace ends here; OutOfMemory, only on the way to a count that is a multiple of 1,024.
+    pub fn step(&mut self) -> Result<Stepped, DebugFault>
+        ensures answer { IfOk result (λ how. answer_of self.old ≡ Ok how) }
+        ensures refused { IfErr result (λ why. why ≢ OutOfMemory → answer_of self.old ≡ Err why) }
+        ensures memory { IfErr result (λ why. why ≡ OutOfMemory → (answer_of self.old ≡ Ok Went) × ((self.old.count + 1) % 1024 ≡ 0)) }
+        ensures after { self.new ≡ after_step self.old result }
+    {
+        if self.count() == MOST {
+            return Err(DebugFault::Budget);
+        }
+        let halt = self.go(1)?;
+        stepped_by(halt)
+    }
+
+    /// Sets a breakpoint at an address, and answers its number. Takes no memory. Refused: BreakTableFull, where 64 are set.
+    pub fn break_at(&mut self, at: u32) -> Result<usize, DebugFault>
+        ensures free { IfOk result (λ number. break_of self.old number ≡ None) }
+        ensures set { IfOk result (λ number. Changes self.old number (Some at) self.new) }
+        ensures full { IfErr result (λ why. (why ≡ BreakTableFull) × (break_count self.old ≡ 64)) }
+        ensures few { OnOk result (break_count self.old < 64) }
+        ensures same { OnErr result (self.new ≡ self.old) }
+    {
+        if self.breaks.len() == MOST_BREAKS {
+            return Err(DebugFault::BreakTableFull);
+        }
+        Ok(self.breaks.insert_reserved(at))
+    }
+
+    /// Frees the number of a breakpoint. Refused: NoSuchBreak, where none has it.
+    pub fn clear(&mut self, number: usize) -> Result<(), DebugFault>
+        ensures there { OnOk result (break_of self.old number ≢ None) }
+        ensures freed { OnOk result (Changes self.old number None self.new) }
+        ensures none { IfErr result (λ why. (why ≡ NoSuchBreak) × (break_of self.old number ≡ None)) }
+        ensures same { OnErr result (self.new ≡ self.old) }
+    {
+        match self.breaks.try_remove(number) {
+            Some(_) => Ok(()),
+            None => Err(DebugFault::NoSuchBreak),
+        }
+    }
+
+    /// Takes the machine back to its state after n instructions, which runs again from the greatest kept count not above n.
+    /// Refused, with nothing changed: PastTrace, where n is above the present count; OutOfMemory.
+    pub fn rewind(&mut self, n: u64) -> Result<(), DebugFault>
+        ensures back { OnOk result (self.new ≡ record self.old { count = n; reran = n % 1024 }) }
+        ensures within { OnOk result (n ≤ self.old.count) }
+        ensures past { IfErr result (λ why. why ≢ OutOfMemory → (why ≡ PastTrace) × (self.old.count < n)) }
+        ensures memory { IfErr result (λ why. why ≡ OutOfMemory → n ≤ self.old.count) }
+        ensures same { OnErr result (self.new ≡ self.old) }
+    {
+        if self.place.machine.count() < n {
+            return Err(DebugFault::PastTrace);
+        }
+        let kept = &self.kept[(n / SPAN) as usize];
+        let mut place = kept.place(self.alloc)?;
+        let from = place.machine.count();
+        let _ = place.advance(self.replies.as_slice(), (n % SPAN) as u32);
+        self.reran = place.machine.count() - from;
+        self.place = place;
+        Ok(())
+    }
+
+    /// How many instructions the last successful rewind ran again: n modulo 1,024 after `rewind(n)`, and 0 before any.
+    pub fn reran(&self) -> u64
+        ensures { result ≡ self.now.reran }
+    {
+        self.reran
+    }
+
+    /// At which count the machine stands.
+    pub(crate) fn count(&self) -> u64
+        ensures value { result ≡ self.now.count }
+        ensures within { result ≤ 2 ^ 40 }
+    {
+        self.place.machine.count()
+    }
+
+    /// The least number of a breakpoint where the machine stands.
+    pub(crate) fn break_here(&self) -> Option<usize>
+        ensures { result ≡ least_from 0 self.now.breaks (place_at self.now self.now.count).state.hart.pc }
+    {
+        least_at(&self.breaks, self.place.machine.pc())
+    }
+
+    /// How many instructions may be done before the breakpoints are looked at, up to a count: one where some are set.
+    pub(crate) fn stretch(&self, limit: u64) -> u64
+        requires { self.now.count < limit }
+        ensures some { 0 < result }
+        ensures within { self.now.count + result ≤ limit }
+        ensures unbroken { result ≢ 1 → (address : ℕ) → least_from 0 self.now.breaks address ≡ None }
+    {
+        if self.breaks.is_empty() {
+            limit - self.place.machine.count()
+        } else {
+            1
+        }
+    }
+
+    /// Goes on by at most `max` instructions, and at least one where nothing keeps the machine from going on. Refused, with nothing
+    /// changed: OutOfMemory, on the way to a count that is a multiple of 1,024.
+    pub(crate) fn go(&mut self, max: u64) -> Result<Option<Halt>, DebugFault>
+        requires some { 0 < max }
+        requires budget { self.old.count + max ≤ 2 ^ 40 }
+        ensures advances { IfOk result (λ halt. Advances self.old max halt self.new) }
+        ensures cause { IfErr result (λ why. why ≡ OutOfMemory) }
+        ensures onward { OnErr result (halt_at self.old self.old.count ≡ None) }
+        ensures kept { OnErr result ((self.old.count + 1) % 1024 ≡ 0) }
+        ensures same { OnErr result (self.new ≡ self.old) }
+    {
+        let room = SPAN * self.kept.len() as u64 - 1 - self.place.machine.count();
+        if room == 0 {
+            if let Some(halt) = self.place.halt(self.replies.as_slice()) {
+                return Ok(Some(halt));
+            }
+            let next = self.place.next(self.alloc, self.replies.as_slice())?;
+            let kept = next.keep(self.alloc, self.kept.last())?;
+            self.kept.push(kept)?;
+            self.place = next;
+            return Ok(None);
+        }
+        let few = max.min(room).min(u64::from(u32::MAX)) as u32;
+        Ok(self.place.advance(self.replies.as_slice(), few))
+    }
+}

@@ -1,0 +1,46 @@
+//! Places as they were.
+ghost use Rattle.std.specs.Prelude.{◌≡◌, IfOk};
+
+use crate::place::Place;
+use machine::KeptMachine;
+use std::alloc::{AllocError, Global};
+use std::marker::Model;
+
+/// A place as it was. It shares with the one that was kept before it each page whose bytes did not change.
+#[derive(Drop)]
+pub struct KeptPlace {
+    machine: KeptMachine,
+    taken: usize,
+}
+
+impl Model for KeptPlace {
+    ghost use Rattle.debugger.specs.declared.place.Place.{Place};
+
+    ghost Value = { Place };
+
+    ghost view = { λ k. record { machine = k.machine; taken = k.taken } };
+}
+
+impl Place {
+    /// This place as it is now.
+    pub fn keep(&self, alloc: Global, before: Option<&KeptPlace>) -> Result<KeptPlace, AllocError>
+        ensures { IfOk result (λ kept. kept ≡ self.now) }
+    {
+        Ok(KeptPlace {
+            machine: self.machine.keep(alloc, before.map(|kept| &kept.machine))?,
+            taken: self.taken,
+        })
+    }
+}
+
+impl KeptPlace {
+    /// A place that is as that one was.
+    pub fn place(&self, alloc: Global) -> Result<Place, AllocError>
+        ensures { IfOk result (λ place. place ≡ self.now) }
+    {
+        Ok(Place {
+            machine: self.machine.machine(alloc)?,
+            taken: self.taken,
+        })
+    }
+}

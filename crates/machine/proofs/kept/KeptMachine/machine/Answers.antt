@@ -1,0 +1,11 @@
+-- The tables match the machine's memory too.
+use Rattle.std.proofs.Common.{List, sym, ap, subst}
+use Rattle.machine_model.specs.Memory.{Memory}
+use Rattle.machine.specs.declared.table.Table.{Table}
+use Rattle.machine.specs.Tables.{AllMatch}
+use Rattle.machine.proofs.kept.KeptMachine.machine.Goals as goal
+
+pub invariant_of-result : goal.invariant_of-result
+invariant_of-result c =
+    subst (λ (m : Memory). AllMatch c.in_ok-try_clone.field-0.value.items m) (sym c.in_ok-space.ensures)
+    (subst (λ (tables : List Table). AllMatch tables c.self.inside.space) (sym (ap (λ v. v.items) c.in_ok-try_clone.ensures)) c.self.invariant)

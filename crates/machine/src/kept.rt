@@ -1,0 +1,73 @@
+//! A machine as it was at a moment.
+ghost use Rattle.std.specs.Prelude.{◌≡◌, IfOk};
+
+use crate::machine::Machine;
+use crate::table::Table;
+use isa_table::Regs;
+use memory::KeptSpace;
+use std::alloc::{AllocError, Global};
+use std::marker::Model;
+use std::sync::Arc;
+
+/// A machine as it was at a moment. It shares with the one that was kept before it each page of 4,096 bytes that was the
+/// same then, and with the machine what a clone would share.
+#[derive(Drop)]
+pub struct KeptMachine {
+    regs: Regs,
+    space: KeptSpace,
+    count: u64,
+    tables: Arc<Vec<Table>>,
+}
+
+impl Model for KeptMachine {
+    ghost use Rattle.machine_model.specs.States.{State, state_code, state, hart};
+    ghost use Rattle.machine.specs.Tables.{AllMatch};
+
+    ghost Value = { State };
+
+    ghost coded = { state_code };
+
+    ghost view = { λ m. state (hart m.regs.x m.regs.pc m.space) m.count };
+
+    ghost invariant = { λ m. AllMatch m.tables.value.items m.space };
+}
+
+impl Machine {
+    /// This machine as it is now. Of the pages that may be written only those are copied that differ from what stands in
+    /// their place in the one that was kept before.
+    pub fn keep(
+        &self,
+        alloc: Global,
+        before: Option<&KeptMachine>,
+    ) -> Result<KeptMachine, AllocError>
+        ensures { IfOk result (λ k. k ≡ self.now) }
+    {
+        Ok(KeptMachine {
+            regs: self.regs,
+            space: self.space.keep(alloc, before.map(|kept| &kept.space))?,
+            count: self.count,
+            tables: Arc::try_clone(&self.tables)?,
+        })
+    }
+}
+
+impl KeptMachine {
+    /// A machine in that state. Pages that may be written are copied, the others and the decoded words shared.
+    pub fn machine(&self, alloc: Global) -> Result<Machine, AllocError>
+        ensures { IfOk result (λ m. m ≡ self.now) }
+    {
+        Ok(Machine {
+            regs: self.regs,
+            space: self.space.space(alloc)?,
+            count: self.count(),
+            tables: Arc::try_clone(&self.tables)?,
+        })
+    }
+
+    /// How many instructions were done.
+    pub fn count(&self) -> u64
+        ensures { result ≡ self.now.count }
+    {
+        self.count
+    }
+}

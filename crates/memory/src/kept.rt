@@ -1,0 +1,56 @@
+//! A space as it was at a moment.
+ghost use Rattle.std.specs.Prelude.{◌≡◌, IfOk, map};
+
+use crate::cloning::shares_of;
+use crate::kept_parts::KeptParts;
+use crate::part::Part;
+use crate::space::Space;
+use std::alloc::{AllocError, Global};
+use std::marker::Model;
+use std::sync::Arc;
+
+/// A space as it was at a moment. It shares with the one that was kept before it each page whose bytes were the same then,
+/// and with the space the pages that may not be written.
+#[derive(Drop)]
+pub struct KeptSpace {
+    own: KeptParts,
+    shared: Vec<Arc<Part>>,
+}
+
+impl Model for KeptSpace {
+    ghost use Rattle.std.specs.Prelude.{map};
+    ghost use Rattle.machine_model.specs.Memory.{Memory, memory_code};
+    ghost use Rattle.memory.specs.Words.{memory_of_words};
+    ghost use Rattle.memory.specs.Pages.{words_of};
+
+    ghost Value = { Memory };
+
+    ghost coded = { memory_code };
+
+    ghost view = { λ s. memory_of_words (words_of s.own (map (λ a. a.value) s.shared.items)) };
+}
+
+impl Space {
+    /// This space as it is now. Of the pages that may be written only those are copied whose bytes differ from what stands
+    /// in their place in the one that was kept before.
+    pub fn keep(&self, alloc: Global, before: Option<&KeptSpace>) -> Result<KeptSpace, AllocError>
+        ensures { IfOk result (λ k. k ≡ self.now) }
+    {
+        Ok(KeptSpace {
+            own: self.own.keep(alloc, before.map(|kept| &kept.own))?,
+            shared: shares_of(alloc, self.shared.as_slice())?,
+        })
+    }
+}
+
+impl KeptSpace {
+    /// A space that is as that one was. Pages that may be written are copied, the others shared.
+    pub fn space(&self, alloc: Global) -> Result<Space, AllocError>
+        ensures { IfOk result (λ s. s ≡ self.now) }
+    {
+        Ok(Space {
+            own: self.own.parts(alloc)?,
+            shared: shares_of(alloc, self.shared.as_slice())?,
+        })
+    }
+}

@@ -1,0 +1,105 @@
+//! A run of pages as it was at a moment.
+ghost use Rattle.std.specs.Prelude.{◌≡◌, IfOk, map};
+ghost use Rattle.std.specs.List.{flat_map};
+
+use crate::part::{Part, are_same_words};
+use std::alloc::{AllocError, Global};
+use std::marker::Model;
+use std::sync::Arc;
+
+/// The words of a page.
+const PAGE: usize = 1024;
+
+/// A run of pages as it was at a moment, in pages that it shares with what was kept before and after it.
+#[derive(Drop)]
+pub struct KeptPart {
+    first: u32,
+    read: bool,
+    execute: bool,
+    pages: Vec<Arc<Vec<[u8; 4]>>>,
+}
+
+impl Model for KeptPart {
+    ghost use Rattle.std.specs.Prelude.{◌+◌, ◌^◌, ◌≤◌, length};
+    ghost use Rattle.std.specs.List.{flat_map};
+    ghost use Rattle.memory.specs.Pages.{Pages};
+
+    ghost Value = { Pages };
+
+    ghost view = { λ p. record { first = p.first; read = p.read; execute = p.execute; words = flat_map (λ a. a.value.items) p.pages.items } };
+
+    ghost invariant = { λ p. p.first + length (flat_map (λ a. a.value.items) p.pages.items) ≤ 2 ^ 30 };
+}
+
+impl Part {
+    /// This run as it is now. Each page is shared with the one that was kept before, where its bytes in that place are the
+    /// same.
+    pub fn keep(&self, alloc: Global, before: Option<&KeptPart>) -> Result<KeptPart, AllocError>
+        ensures { IfOk result (λ k. k ≡ self.now) }
+    {
+        let before: &[Arc<Vec<[u8; 4]>>] = match before {
+            Some(part) => part.pages.as_slice(),
+            None => &[],
+        };
+        Ok(KeptPart {
+            first: self.first,
+            read: self.read,
+            execute: self.execute,
+            pages: kept_pages(alloc, self.words.as_slice(), before)?,
+        })
+    }
+}
+
+impl KeptPart {
+    /// A run that is as that one was.
+    pub fn part(&self, alloc: Global) -> Result<Part, AllocError>
+        ensures { IfOk result (λ p. p ≡ self.now) }
+    {
+        Ok(Part {
+            first: self.first,
+            read: self.read,
+            execute: self.execute,
+            words: words_of(alloc, self.pages.as_slice())?,
+        })
+    }
+}
+
+/// Words in pages.
+fn kept_pages(
+    alloc: Global,
+    words: &[[u8; 4]],
+    before: &[Arc<Vec<[u8; 4]>>],
+) -> Result<Vec<Arc<Vec<[u8; 4]>>>, AllocError>
+    ensures { IfOk result (λ v. flat_map (λ a. a.value.items) v.items ≡ words.now) }
+{
+    let mut pages = Vec::with_capacity(alloc, words.len().div_ceil(PAGE))?;
+    for (i, page) in words.chunks(PAGE).enumerate() {
+        pages.push(kept_page(alloc, page, before.get(i))?)?;
+    }
+    Ok(pages)
+}
+
+/// The words of a page: shared with the one that was kept before, where they are the same.
+fn kept_page(
+    alloc: Global,
+    words: &[[u8; 4]],
+    before: Option<&Arc<Vec<[u8; 4]>>>,
+) -> Result<Arc<Vec<[u8; 4]>>, AllocError>
+    ensures { IfOk result (λ a. a.value.items ≡ words.now) }
+{
+    match before {
+        Some(page) if are_same_words(page.as_slice(), words) => Arc::try_clone(page),
+        _ => Ok(Arc::new(alloc, Vec::from_slice(alloc, words)?)?),
+    }
+}
+
+/// The words of pages, one after another.
+fn words_of(alloc: Global, pages: &[Arc<Vec<[u8; 4]>>]) -> Result<Vec<[u8; 4]>, AllocError>
+    ensures { IfOk result (λ v. v.items ≡ flat_map (λ a. a.value.items) pages.now) }
+{
+    let mut words = Vec::with_capacity(alloc, pages.len().saturating_mul(PAGE))?;
+    for page in pages {
+        words.extend_from_slice(page.as_slice())?;
+    }
+    Ok(words)
+}

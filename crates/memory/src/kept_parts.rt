@@ -1,0 +1,82 @@
+//! The runs that may be written, as they were at a moment.
+ghost use Rattle.std.specs.Prelude.{◌≡◌, IfOk};
+
+use crate::kept_part::KeptPart;
+use crate::own::OwnParts;
+use crate::part::Part;
+use std::alloc::{AllocError, Global};
+use std::marker::Model;
+
+/// The runs of a space that may be written, as they were at a moment.
+#[derive(Drop)]
+pub struct KeptParts {
+    near: KeptPart,
+    next: KeptPart,
+    more: Vec<KeptPart>,
+}
+
+impl Model for KeptParts {
+    ghost use Rattle.std.specs.Prelude.{◌≡◌, ◌∷◌, List, true};
+    ghost use Rattle.memory.specs.Pages.{Pages};
+
+    ghost Value = { List Pages };
+
+    ghost view = { λ o. o.near ∷ o.next ∷ o.more.items };
+
+    ghost invariant = { λ o. (o.near.read ≡ true) × (o.next.read ≡ true) };
+}
+
+impl OwnParts {
+    /// These runs as they are now. Each page is shared with the one that was kept before, where its bytes in that place are
+    /// the same.
+    pub fn keep(&self, alloc: Global, before: Option<&KeptParts>) -> Result<KeptParts, AllocError>
+        ensures { IfOk result (λ k. k ≡ self.now) }
+    {
+        let more: &[KeptPart] = match before {
+            Some(parts) => parts.more.as_slice(),
+            None => &[],
+        };
+        Ok(KeptParts {
+            near: self.near.keep(alloc, before.map(|parts| &parts.near))?,
+            next: self.next.keep(alloc, before.map(|parts| &parts.next))?,
+            more: kept_parts(alloc, self.more.as_slice(), more)?,
+        })
+    }
+}
+
+impl KeptParts {
+    /// Runs that are as those were.
+    pub fn parts(&self, alloc: Global) -> Result<OwnParts, AllocError>
+        ensures { IfOk result (λ o. o ≡ self.now) }
+    {
+        Ok(OwnParts {
+            near: self.near.part(alloc)?,
+            next: self.next.part(alloc)?,
+            more: parts_of(alloc, self.more.as_slice())?,
+        })
+    }
+}
+
+fn kept_parts(
+    alloc: Global,
+    parts: &[Part],
+    before: &[KeptPart],
+) -> Result<Vec<KeptPart>, AllocError>
+    ensures { IfOk result (λ v. v.items ≡ parts.now) }
+{
+    let mut kept = Vec::with_capacity(alloc, parts.len())?;
+    for (i, part) in parts.iter().enumerate() {
+        kept.push(part.keep(alloc, before.get(i))?)?;
+    }
+    Ok(kept)
+}
+
+fn parts_of(alloc: Global, kept: &[KeptPart]) -> Result<Vec<Part>, AllocError>
+    ensures { IfOk result (λ v. v.items ≡ kept.now) }
+{
+    let mut parts = Vec::with_capacity(alloc, kept.len())?;
+    for part in kept {
+        parts.push(part.part(alloc)?)?;
+    }
+    Ok(parts)
+}

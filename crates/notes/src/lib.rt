@@ -1,0 +1,6 @@
+//! Lists that exist in proofs alone.
+#![tactic(auto)]
+
+mod notes;
+
+pub use notes::Notes;
