@@ -5,4 +5,5 @@ pub mod Sessions
 pub mod Stops
 pub mod Edits
 pub mod Ways
+pub mod Places
 pub mod Keeping

@@ -14,9 +14,12 @@ pub struct KeptPlace {
 }
 
 impl Model for KeptPlace {
+    ghost use Rattle.debugger.specs.Places.{place_code};
     ghost use Rattle.debugger.specs.declared.place.Place.{Place};
 
     ghost Value = { Place };
+
+    ghost coded = { place_code };
 
     ghost view = { λ k. record { machine = k.machine; taken = k.taken } };
 }

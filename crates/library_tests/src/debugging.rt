@@ -32,12 +32,7 @@ const WRITER: [u32; 19] = [
 ];
 
 /// A loop that writes how often it went round to the stack.
-const LOOP: [u32; 4] = [
-    0x0012_8293,
-    0xfe51_2e23,
-    0x0013_0313,
-    0xff5f_f06f,
-];
+const LOOP: [u32; 4] = [0x0012_8293, 0xfe51_2e23, 0x0013_0313, 0xff5f_f06f];
 
 const EBREAK: u32 = 0x0010_0073;
 
@@ -95,12 +90,22 @@ fn goes_to_the_end_of_the_trace(rt: HostRuntime) -> Result<(), Fail> {
     assert_row(&rt, "run", stopped, Ok(Stopped::EndOfTrace));
     assert_row(&rt, "end", state_of(&debugger), (18, 0x0001_0048, 0));
     assert_row(&rt, "step", debugger.step(), Err(DebugFault::PastTrace));
-    assert_row(&rt, "above", debugger.rewind(19), Err(DebugFault::PastTrace));
+    assert_row(
+        &rt,
+        "above",
+        debugger.rewind(19),
+        Err(DebugFault::PastTrace),
+    );
     assert_row(&rt, "still", state_of(&debugger), (18, 0x0001_0048, 0));
     assert_row(&rt, "after the call", debugger.rewind(7), Ok(()));
     assert_row(&rt, "seven", state_of(&debugger), (7, 0x0001_001c, 2));
     assert_row(&rt, "before the call", debugger.rewind(6), Ok(()));
-    assert_row(&rt, "six", state_of(&debugger), (6, 0x0001_0018, 0x7fff_fffc));
+    assert_row(
+        &rt,
+        "six",
+        state_of(&debugger),
+        (6, 0x0001_0018, 0x7fff_fffc),
+    );
     assert_row(&rt, "over the call", debugger.step(), Ok(Stepped::Went));
     assert_row(&rt, "again", state_of(&debugger), (7, 0x0001_001c, 2));
     Ok(())
@@ -113,16 +118,41 @@ fn stops_at_breakpoints(rt: HostRuntime) -> Result<(), Fail> {
     let call = debugger.break_at(0x0001_0018)?;
     let same = debugger.break_at(0x0001_0018)?;
     assert_row(&rt, "numbers", (far, call, same), (0, 1, 2));
-    assert_row(&rt, "call", debugger.run_to_break(100), Ok(Stopped::Break(1)));
+    assert_row(
+        &rt,
+        "call",
+        debugger.run_to_break(100),
+        Ok(Stopped::Break(1)),
+    );
     assert_row(&rt, "six", state_of(&debugger).0, 6);
     debugger.clear(call)?;
-    assert_row(&rt, "limit", debugger.run_to_break(10), Ok(Stopped::Break(0)));
+    assert_row(
+        &rt,
+        "limit",
+        debugger.run_to_break(10),
+        Ok(Stopped::Break(0)),
+    );
     assert_row(&rt, "sixteen", state_of(&debugger).0, 16);
     debugger.clear(far)?;
-    assert_row(&rt, "freed", debugger.clear(far), Err(DebugFault::NoSuchBreak));
+    assert_row(
+        &rt,
+        "freed",
+        debugger.clear(far),
+        Err(DebugFault::NoSuchBreak),
+    );
     debugger.rewind(0)?;
-    assert_row(&rt, "the other", debugger.run_to_break(100), Ok(Stopped::Break(2)));
-    assert_row(&rt, "away from it", debugger.run_to_break(3), Ok(Stopped::Limit));
+    assert_row(
+        &rt,
+        "the other",
+        debugger.run_to_break(100),
+        Ok(Stopped::Break(2)),
+    );
+    assert_row(
+        &rt,
+        "away from it",
+        debugger.run_to_break(3),
+        Ok(Stopped::Limit),
+    );
     assert_row(&rt, "none", debugger.run_to_break(0), Ok(Stopped::Limit));
     assert_row(&rt, "nine", state_of(&debugger).0, 9);
     Ok(())
@@ -143,7 +173,12 @@ fn has_room_for_64_breakpoints(rt: HostRuntime) -> Result<(), Fail> {
     assert_row(&rt, "full", full, Err(DebugFault::BreakTableFull));
     debugger.clear(7)?;
     assert_row(&rt, "free", debugger.break_at(ENTRY), Ok(7));
-    assert_row(&rt, "none", debugger.clear(64), Err(DebugFault::NoSuchBreak));
+    assert_row(
+        &rt,
+        "none",
+        debugger.clear(64),
+        Err(DebugFault::NoSuchBreak),
+    );
     Ok(())
 }
 
@@ -164,16 +199,41 @@ fn is_same(alloc: Global, debugger: &Debugger, count: u64) -> Result<bool, Debug
 fn goes_back(rt: HostRuntime) -> Result<(), Fail> {
     let mut debugger = looped(rt.alloc(), 5000)?;
     assert_row(&rt, "5000", state_of(&debugger).0, 5000);
-    assert_row(&rt, "before any", seen(&debugger, WRITTEN), (Some(0xe2), 0x8000_0000, 0));
+    assert_row(
+        &rt,
+        "before any",
+        seen(&debugger, WRITTEN),
+        (Some(0xe2), 0x8000_0000, 0),
+    );
     debugger.rewind(2047)?;
     assert_row(&rt, "2047", state_of(&debugger).0, 2047);
     assert_row(&rt, "again", debugger.reran(), 1023);
-    assert_row(&rt, "the same", is_same(rt.alloc(), &debugger, 2047), Ok(true));
+    assert_row(
+        &rt,
+        "the same",
+        is_same(rt.alloc(), &debugger, 2047),
+        Ok(true),
+    );
     debugger.rewind(0)?;
     assert_row(&rt, "0", state_of(&debugger), (0, ENTRY, 0));
-    assert_row(&rt, "first", seen(&debugger, WRITTEN), (Some(0), 0x8000_0000, 0));
-    assert_row(&rt, "forwards", debugger.run_to_break(3000), Ok(Stopped::Limit));
-    assert_row(&rt, "the same again", is_same(rt.alloc(), &debugger, 3000), Ok(true));
+    assert_row(
+        &rt,
+        "first",
+        seen(&debugger, WRITTEN),
+        (Some(0), 0x8000_0000, 0),
+    );
+    assert_row(
+        &rt,
+        "forwards",
+        debugger.run_to_break(3000),
+        Ok(Stopped::Limit),
+    );
+    assert_row(
+        &rt,
+        "the same again",
+        is_same(rt.alloc(), &debugger, 3000),
+        Ok(true),
+    );
     Ok(())
 }
 
@@ -196,14 +256,19 @@ fn misplaced(alloc: Global) -> Result<Vec<Reply>, AllocError> {
         at: ENTRY,
         bytes: Bytes::copy_of(alloc, &[1])?,
     };
-    vec![in alloc; reply]
+    Ok(vec![in alloc; reply]?)
 }
 
 #[test]
 fn a_reply_that_may_not_be_placed_counts_as_none(rt: HostRuntime) -> Result<(), Fail> {
     let mut debugger = one_word(rt.alloc(), ECALL, misplaced(rt.alloc())?)?;
     assert_row(&rt, "step", debugger.step(), Err(DebugFault::PastTrace));
-    assert_row(&rt, "run", debugger.run_to_break(1), Ok(Stopped::EndOfTrace));
+    assert_row(
+        &rt,
+        "run",
+        debugger.run_to_break(1),
+        Ok(Stopped::EndOfTrace),
+    );
     assert_row(&rt, "count", debugger.state().count(), 0);
     Ok(())
 }

@@ -9,8 +9,8 @@ use Rattle.debugger.proofs.Arriving.{is_at-leads, advances-came, advances-one}
 use Rattle.debugger.proofs.Holding.{keeps-at, keeps-push}
 use Rattle.debugger.proofs.debugger.Debugger.go.Goals as goal
 
-pub invariant_of-self-in_err-push : goal.invariant_of-self-in_err-push
-invariant_of-self-in_err-push c =
+pub invariant_of-self : goal.invariant_of-self
+invariant_of-self c =
     subst (λ (places : List Place). Keeps c.self.inside.image c.self.inside.replies.items c.self.inside.place places c.self.inside.breaks) (sym c.in_err-push.ensures.items) c.self.invariant
 
 pub invariant_of-self-then-room-eq0 : goal.invariant_of-self-then-room-eq0
@@ -22,8 +22,8 @@ invariant_of-self-then-room-eq0 c =
     let enough : c.self.inside.place.machine.count < 1024 * length c.self.inside.kept.items = c.self.invariant.enough in
     let leads : Leads 1 (traced_at c.self.inside.replies.items c.self.inside.place) (traced_at c.self.inside.replies.items c.in_ok-next.next) =
     subst (λ (rs : List Reply). Leads 1 (traced_at rs c.self.inside.place) (traced_at rs c.in_ok-next.next)) c.as_slice-then-room-eq0.ensures.value c.in_ok-next.ensures in
-    keeps-push c.self.inside.image c.self.inside.replies.items c.self.inside.place c.in_ok-next.next c.in_ok-keep.field-0 c.self.inside.kept.items c.push.new.self.items c.self.inside.breaks
-    c.self.invariant leads c.in_ok-keep.ensures c.in_ok-push.ensures.items (omega (arith, c.if-room-eq0.true)) (omega (arith, c.requires.some, c.requires.budget))
+    keeps-push c.self.inside.image c.self.inside.replies.items c.self.inside.place c.in_ok-next.next c.in_ok-kept.kept c.self.inside.kept.items c.push.new.self.items c.self.inside.breaks
+    c.self.invariant leads c.in_ok-kept.ensures c.in_ok-push.ensures.items (omega (arith, c.if-room-eq0.true)) (omega (arith, c.requires.some, c.requires.budget))
 
 pub returns-then-room-eq0-clause-advances : goal.returns-then-room-eq0-clause-advances
 returns-then-room-eq0-clause-advances c =

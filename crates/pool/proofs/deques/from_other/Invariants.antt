@@ -1,0 +1,7 @@
+-- It is a pass of this deque, which has taken nothing yet.
+use Rattle.std.proofs.Common.{◌≡◌}
+use Rattle.crossbeam_deque.specs.Handles.{view, IsPassOf, stealer_deque}
+use Rattle.pool.proofs.deques.from_other.Given as goal
+
+abbrev pub invariant-loop : goal.invariant-loop
+invariant-loop g l = IsPassOf (stealer_deque l.thief) l.pass × (view l.pass ≡ view l.initial.pass)

@@ -1,0 +1,9 @@
+use Rattle.std.proofs.Common.{rules}
+use Rattle.pool.proofs.Takings.{own_answers, other_answers}
+use Rattle.pool.proofs.fetching.fetch.Goals as goal
+
+pub returns-in-Some-next_loan-clause-takes : goal.returns-in-Some-next_loan-clause-takes
+returns-in-Some-next_loan-clause-takes g c = own_answers c.args.own.now c.next_loan.new.self c.args.others.now.items c.in-Some-next_loan.loan (search rules)
+
+pub returns-in-Some-steal_round-clause-takes : goal.returns-in-Some-steal_round-clause-takes
+returns-in-Some-steal_round-clause-takes g c = other_answers c.args.own.now c.next_loan.new.self c.args.others.now.items c.steal_round.new.others.items c.in-Some-steal_round.loan (search rules) (search rules)

@@ -1,0 +1,35 @@
+-- What a pass of a queue or of a deque shows: what it put in and what it took, each by its process and its number among the loans
+-- of that process.
+use Rattle.std.specs.Prelude.{◌≡◌, ℕ, ◌+◌, List, [], ◌∷◌, ◌++◌, map}
+use Rattle.pool.specs.declared.hand.Hand.{Hand}
+
+abbrev pub hand : List (ℕ × ℕ) → List (ℕ × ℕ) → Hand
+hand put taken = record { put = put; taken = taken }
+
+-- nothing was put in or taken
+abbrev pub no_hand : Hand
+no_hand = hand [] []
+
+-- one thing more was put in
+abbrev pub gave : Hand → ℕ × ℕ → Hand
+gave v x = hand (v.put ++ x ∷ []) v.taken
+
+-- one thing more was taken
+abbrev pub took : Hand → ℕ × ℕ → Hand
+took v x = hand v.put (v.taken ++ x ∷ [])
+
+-- the weights of some things, added up
+abbrev pub weigh : (ℕ × ℕ → ℕ) → List (ℕ × ℕ) → ℕ
+weigh h [] = 0
+weigh h (x ∷ xs) = h x + weigh h xs
+
+-- a number of each pass, added up
+abbrev pub total : (Hand → ℕ) → List Hand → ℕ
+total f [] = 0
+total f (v ∷ vs) = f v + total f vs
+
+-- What went in has come out once or is still there: what all passes put in is what they took and what is there, however the
+-- things are weighed. (With 1 for one pair and 0 for the others these are the numbers of times that this pair was put in, was
+-- taken and stands there.)
+abbrev pub Balanced : {T : Type 0} → (T → ℕ × ℕ) → List T → List Hand → Type 0
+Balanced tag items views = (h : ℕ × ℕ → ℕ) → total (λ v. weigh h v.put) views ≡ total (λ v. weigh h v.taken) views + weigh h (map tag items)

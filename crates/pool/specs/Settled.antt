@@ -1,0 +1,59 @@
+-- What a settling says.
+use Rattle.std.specs.Prelude.{◌≡◌, ℕ, ◌+◌, ◌≤◌, List, [], ◌∷◌, ◌++◌, length, Option, Some, None}
+use Rattle.kernel_step.specs.declared.loan.Rejected.{Rejected}
+use Rattle.bursts.specs.Holdings.{Holding, grown}
+use Rattle.bursts.specs.declared.totals.Totals.{Totals}
+use Rattle.pool.specs.declared.hand.Hand.{Hand}
+use Rattle.pool.specs.declared.settling.Settling.{Settling}
+use Rattle.pool.specs.Tags.{done_tag}
+use Rattle.pool.specs.Hands.{hand}
+
+-- what a settling adds to a share
+abbrev pub totals_in : Settling → Totals
+totals_in s = record { events = s.events; ran = s.ran; turns = s.turns; enters = s.enters }
+
+-- the one result that was not taken back, if there was one
+abbrev pub rejected_in : Option Rejected → List (ℕ × ℕ)
+rejected_in None = []
+rejected_in (Some r) = done_tag r.done ∷ []
+
+-- the process numbers, added up
+abbrev pub sum_of_processes : List (ℕ × ℕ) → ℕ
+sum_of_processes [] = 0
+sum_of_processes (x ∷ xs) = x.0 + sum_of_processes xs
+
+-- The pass took as many results as were settled, of these process numbers, and beside them the one rejected, if there was one. The
+-- share grew by what the settling says.
+pub record Settled (v : Hand) (h : Holding) (s : Settling) (w : Hand) (k : Holding) : Type 0 where
+  pub done : List (ℕ × ℕ)
+  pub taken : w ≡ hand v.put (v.taken ++ (done ++ rejected_in s.rejected))
+  pub settled : length done ≡ s.settled
+  pub turns : sum_of_processes done ≡ s.turns
+  pub events : s.settled ≤ s.events
+  pub share : k ≡ grown h (totals_in s)
+
+-- nothing was settled
+abbrev pub no_settling : Settling
+no_settling = record { settled = 0; events = 0; ran = 0; turns = 0; enters = 0; rejected = None }
+
+-- one result more was settled, which added this
+abbrev pub more : Settling → Totals → Settling
+more s c = record {
+  settled = s.settled + 1;
+  events = s.events + c.events;
+  ran = s.ran + c.ran;
+  turns = s.turns + c.turns;
+  enters = s.enters + c.enters;
+  rejected = s.rejected;
+}
+
+-- two settlings, one after the other
+abbrev pub after : Settling → Settling → Settling
+after s t = record {
+  settled = s.settled + t.settled;
+  events = s.events + t.events;
+  ran = s.ran + t.ran;
+  turns = s.turns + t.turns;
+  enters = s.enters + t.enters;
+  rejected = t.rejected;
+}

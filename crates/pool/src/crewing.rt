@@ -1,0 +1,178 @@
+//! A crew: a thread for each seat and its gate.
+use crate::fault::CrewFault;
+use crate::seats::Seat;
+use crate::turning::Pooled;
+use bursts::{Gate, Naming, WorkFault};
+use std::slice::IterMut;
+use std::sync::atomic::{AtomicBool, Ordering};
+use std::sync::{Mutex, Wait};
+use std::thread;
+use std::thread::{Parker, Threads};
+use std::time::Duration;
+
+/// How many times in a row a worker that finds no loan asks again at once.
+const HASTY: u32 = 64;
+
+/// How many microseconds it waits before it asks again after that.
+const PAUSE: u64 = 100;
+
+/// The pairs that no thread has taken yet, and how many were taken.
+#[derive(Drop)]
+struct Team<'x, 'p, 'b, N: Naming, G> {
+    rest: IterMut<'x, (Seat<'p, 'b, N>, G)>,
+    taken: usize,
+}
+
+/// The fault of the first pair that had one, with its place.
+#[derive(Drop)]
+struct First {
+    fault: Option<(usize, WorkFault)>,
+}
+
+impl First {
+    /// Keeps a fault, unless one of a pair before it is kept.
+    fn keep(&mut self, place: usize, fault: WorkFault) {
+        let is_first = match &self.fault {
+            Some((kept, _)) => place < *kept,
+            None => true,
+        };
+        if is_first {
+            self.fault = Some((place, fault));
+        }
+    }
+}
+
+/// What the threads of a crew share.
+#[derive(Drop)]
+struct Watch {
+    first: Mutex<First>,
+    refused: AtomicBool,
+}
+
+/// One thread for each pair takes turns at its seat until the work is over: no process is lent and none lendable, or the work is to
+/// stop. Refused with the fault of a turn that failed, of several that of the first pair, after the work was told to stop; and NoThread,
+/// before any other, where a thread could not be started, after the same. After a refusal there may still be loans at the seats, and
+/// results in the queue.
+pub fn pool_crew<'p, 'b, N: Naming + Send + Sync, G: Gate + Send, R: Threads + Wait + Sync>(
+    rt: &R,
+    work: &mut [(Seat<'p, 'b, N>, G)],
+    quantum: u32,
+) -> Result<(), CrewFault> {
+    let watch = Watch {
+        first: Mutex::new(First { fault: None }),
+        refused: AtomicBool::new(false),
+    };
+    let count = work.len();
+    let team = Mutex::new(Team {
+        rest: work.iter_mut(),
+        taken: 0,
+    });
+    start_all(rt, &team, count, quantum, &watch);
+    let Watch { first, refused } = watch;
+    if refused.load(Ordering::SeqCst) {
+        return Err(CrewFault::NoThread);
+    }
+    match first.into_inner().fault {
+        Some((_, fault)) => Err(CrewFault::Work(fault)),
+        None => Ok(()),
+    }
+}
+
+/// Starts a thread for each pair, and waits for all of them. Where one cannot be started, the caller takes its place, to say stop.
+fn start_all<N: Naming + Send + Sync, G: Gate + Send, R: Threads + Wait + Sync>(
+    rt: &R,
+    team: &Mutex<Team<'_, '_, '_, N, G>>,
+    count: usize,
+    quantum: u32,
+    watch: &Watch,
+) {
+    thread::scope(thread::scope_env(), rt, |scope| {
+        for _ in 0..count {
+            if scope
+                .spawn(move || take_part(rt, team, quantum, watch))
+                .is_err()
+            {
+                watch.refused.store(true, Ordering::SeqCst);
+                take_part(rt, team, quantum, watch);
+            }
+        }
+    });
+}
+
+/// What one thread of a crew does: it takes the next pair, and works.
+fn take_part<N: Naming, G: Gate, R: Wait>(
+    rt: &R,
+    team: &Mutex<Team<'_, '_, '_, N, G>>,
+    quantum: u32,
+    watch: &Watch,
+) {
+    if let Some((place, pair)) = next_pair(rt, team) {
+        serve(rt, pair, quantum, place, watch);
+    }
+}
+
+/// The next pair of a team, with its place.
+fn next_pair<'x, 'p, 'b, N: Naming, G, R: Wait>(
+    rt: &R,
+    team: &Mutex<Team<'x, 'p, 'b, N, G>>,
+) -> Option<(usize, &'x mut (Seat<'p, 'b, N>, G))> {
+    let mut team = team.lock(rt);
+    let place = team.taken;
+    team.taken = place.wrapping_add(1);
+    let pair = team.rest.next()?;
+    Some((place, pair))
+}
+
+/// Works at a seat, and says stop where a turn failed, or where a thread was refused before.
+fn serve<N: Naming, G: Gate, R: Wait>(
+    rt: &R,
+    pair: &mut (Seat<'_, '_, N>, G),
+    quantum: u32,
+    place: usize,
+    watch: &Watch,
+) {
+    let (seat, gate) = pair;
+    if watch.refused.load(Ordering::SeqCst) {
+        seat.stop(rt);
+        return;
+    }
+    if let Some(fault) = work_on(rt, seat, gate, quantum) {
+        seat.stop(rt);
+        watch.first.lock(rt).keep(place, fault);
+    }
+}
+
+/// Takes turns until the work is over, and answers the fault of a turn that failed.
+fn work_on<N: Naming, G: Gate, R: Wait>(
+    rt: &R,
+    seat: &mut Seat<'_, '_, N>,
+    gate: &mut G,
+    quantum: u32,
+) -> Option<WorkFault> {
+    let parker = Parker::new();
+    let mut idle = 0u32;
+    for _ in rt.forever() {
+        match seat.turn(rt, gate, quantum) {
+            Ok(Pooled::Worked(_)) => idle = 0,
+            Ok(Pooled::Idle) => match seat.is_over(rt, quantum) {
+                Ok(true) => return None,
+                Ok(false) => {
+                    rest(rt, &parker, idle);
+                    idle = idle.saturating_add(1);
+                }
+                Err(rejected) => return Some(WorkFault::Settle(rejected)),
+            },
+            Err(fault) => return Some(fault),
+        }
+    }
+    unreachable!()
+}
+
+/// Leaves the processor to others, for a while where the worker has found no loan for long.
+fn rest<R: Wait>(rt: &R, parker: &Parker, idle: u32) {
+    if idle < HASTY {
+        thread::yield_now();
+    } else {
+        parker.park_timeout(rt, Duration::from_micros(PAUSE));
+    }
+}

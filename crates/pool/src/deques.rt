@@ -1,0 +1,108 @@
+//! Deques of loans, and their rule.
+ghost use Rattle.std.specs.Prelude.{◌≡◌, IfOk, MatchOption, MatchResult};
+ghost use Rattle.crossbeam_deque.specs.Handles.{view, IsPassOf, SameWorker, worker_view, worker_flavor, worker_deque, worker_capacity, stealer_deque};
+ghost use Rattle.pool.specs.Hands.{no_hand, gave, took};
+ghost use Rattle.pool.specs.Tags.{loan_tag};
+
+use crate::hand::Hand;
+use bursts::Loan;
+use crossbeam_deque::protocol::{Outcome, Protocol};
+use crossbeam_deque::{Pass, Steal, Stealer, Worker};
+use std::alloc::{AllocError, Global};
+use std::sync::Wait;
+
+/// For how many loans a deque has room at first.
+const ROOM: usize = 8;
+
+/// What went in has come out once, or is still there.
+pub(crate) struct FairLoans;
+
+impl Protocol<Loan, Hand> for FairLoans {
+    ghost use Rattle.pool.specs.Tags.{loan_tag};
+    ghost use Rattle.pool.specs.Hands.{no_hand, Balanced};
+
+    ghost holds = { Balanced loan_tag };
+
+    ghost first = { no_hand };
+
+    ghost guest = { no_hand };
+}
+
+/// Loans are put in.
+struct Puts;
+
+impl Outcome<Loan, Hand> for Puts {
+    ghost use Rattle.std.specs.Prelude.{◌≡◌, ◌++◌, map};
+    ghost use Rattle.pool.specs.Tags.{loan_tag};
+    ghost use Rattle.pool.specs.Hands.{hand};
+
+    ghost then = { λ v xs w. w ≡ hand (v.put ++ map loan_tag xs) v.taken };
+}
+
+/// Loans are taken.
+struct Takes;
+
+impl Outcome<Loan, Hand> for Takes {
+    ghost use Rattle.std.specs.Prelude.{◌≡◌, ◌++◌, map};
+    ghost use Rattle.pool.specs.Tags.{loan_tag};
+    ghost use Rattle.pool.specs.Hands.{hand};
+
+    ghost then = { λ v xs w. w ≡ hand v.put (v.taken ++ map loan_tag xs) };
+}
+
+/// A deque, in the hands of the worker that owns it.
+pub(crate) type Owner = Worker<Loan, Global, Hand, FairLoans>;
+
+/// A deque, in the hands of another worker.
+pub(crate) type Thief = Stealer<Loan, Global, Hand, FairLoans>;
+
+/// What another worker took from a deque. It has no bytes.
+pub(crate) type LoanPass = Pass<Loan, Hand>;
+
+/// An empty deque, first in, first out.
+pub(crate) fn empty_deque(alloc: Global) -> Result<Owner, AllocError>
+    ensures flavor { IfOk result (λ w. worker_flavor w ≡ 0) }
+    ensures view { IfOk result (λ w. worker_view w ≡ no_hand) }
+{
+    Owner::fifo_as(alloc, ROOM)
+}
+
+/// A pass for another worker, which has taken nothing.
+pub(crate) fn guest(thief: &Thief) -> LoanPass
+    ensures { IsPassOf (stealer_deque thief.now) result × (view result ≡ no_hand) }
+{
+    thief.pass()
+}
+
+/// Keeps a loan in the worker's own deque. It comes back where there is no room.
+pub(crate) fn keep(owner: &mut Owner, loan: Loan) -> Result<(), Loan>
+    ensures same { SameWorker owner.old owner.new }
+    ensures put { MatchResult result (λ _. worker_view owner.new ≡ gave (worker_view owner.old) (loan_tag loan)) (λ l. (l ≡ loan) × (worker_view owner.new ≡ worker_view owner.old)) }
+{
+    owner.push_as::<Puts>(loan)
+}
+
+/// The next loan of the worker's own deque.
+pub(crate) fn from_own(owner: &mut Owner) -> Option<Loan>
+    requires { worker_flavor owner.old ≡ 0 }
+    ensures same { SameWorker owner.old owner.new }
+    ensures taken { MatchOption result (worker_view owner.new ≡ worker_view owner.old) (λ l. worker_view owner.new ≡ took (worker_view owner.old) (loan_tag l)) }
+{
+    owner.pop_as::<Takes>()
+}
+
+/// A loan stolen from another worker's deque, if it has one.
+pub(crate) fn from_other<R: Wait>(rt: &R, thief: &Thief, pass: &mut LoanPass) -> Option<Loan>
+    requires { IsPassOf (stealer_deque thief.now) pass.old }
+    ensures pass { IsPassOf (stealer_deque thief.now) pass.new }
+    ensures taken { MatchOption result (view pass.new ≡ view pass.old) (λ l. view pass.new ≡ took (view pass.old) (loan_tag l)) }
+{
+    for _ in rt.forever() {
+        match thief.steal_as::<Takes>(pass) {
+            Steal::Success(loan) => return Some(loan),
+            Steal::Empty => return None,
+            Steal::Retry => {}
+        }
+    }
+    unreachable!()
+}

@@ -1,0 +1,101 @@
+//! The queue of results, and its rule.
+ghost use Rattle.std.specs.Prelude.{◌≡◌, IfOk, IfNone, IfSome, MatchOption, MatchResult};
+ghost use Rattle.crossbeam_queue.specs.Passes.{view, IsPassOf, ruled_capacity};
+ghost use Rattle.pool.specs.Hands.{no_hand, gave, took};
+ghost use Rattle.pool.specs.Tags.{done_tag};
+
+use crate::hand::Hand;
+use bursts::Done;
+use crossbeam_queue::protocol::{Lesson, Outcome, Protocol};
+use crossbeam_queue::{Pass, RuledArrayQueue};
+use std::alloc::{AllocError, Global};
+use std::sync::Wait;
+
+/// How many results the queue has room for.
+const ROOM: usize = 1024;
+
+/// What went in has come out once, or is still there.
+pub(crate) struct FairResults;
+
+impl Protocol<Done, Hand> for FairResults {
+    ghost use Rattle.pool.specs.Tags.{done_tag};
+    ghost use Rattle.pool.specs.Hands.{no_hand, Balanced};
+
+    ghost holds = { Balanced done_tag };
+
+    ghost first = { no_hand };
+}
+
+/// A result is put in.
+struct Puts;
+
+impl Outcome<Done, Hand> for Puts {
+    ghost use Rattle.std.specs.Prelude.{◌≡◌};
+    ghost use Rattle.pool.specs.Tags.{done_tag};
+    ghost use Rattle.pool.specs.Hands.{gave};
+
+    ghost then = { λ v x w. w ≡ gave v (done_tag x) };
+}
+
+impl Lesson<Done, Hand> for Puts {
+    ghost fact = { λ v items. Unit {0} };
+}
+
+/// A result is taken.
+struct Takes;
+
+impl Outcome<Done, Hand> for Takes {
+    ghost use Rattle.std.specs.Prelude.{◌≡◌};
+    ghost use Rattle.pool.specs.Tags.{done_tag};
+    ghost use Rattle.pool.specs.Hands.{took};
+
+    ghost then = { λ v x w. w ≡ took v (done_tag x) };
+}
+
+impl Lesson<Done, Hand> for Takes {
+    ghost fact = { λ v items. Unit {0} };
+}
+
+/// The queue of results.
+pub(crate) type Results = RuledArrayQueue<Done, Hand, FairResults>;
+
+/// What one worker put into the queue and took from it. It has no bytes.
+pub(crate) type ResultPass = Pass<Done, Hand>;
+
+/// An empty queue.
+pub(crate) fn empty_queue(alloc: Global) -> Result<Results, AllocError>
+    ensures { IfOk result (λ q. ruled_capacity q ≡ 1024) }
+{
+    let (results, _pass) = Results::ruled(alloc, ROOM)?;
+    Ok(results)
+}
+
+/// A pass that has put in and taken nothing.
+pub(crate) fn new_pass(results: &Results) -> ResultPass
+    ensures { IsPassOf results.now result × (view result ≡ no_hand) }
+{
+    results.pass()
+}
+
+/// Puts a result in. It comes back only where the queue was full.
+pub(crate) fn put_result<R: Wait>(
+    rt: &R,
+    results: &Results,
+    pass: &mut ResultPass,
+    done: Done,
+) -> Result<(), Done>
+    requires { IsPassOf results.now pass.old }
+    ensures queue { IsPassOf results.now pass.new }
+    ensures put { MatchResult result (λ _. view pass.new ≡ gave (view pass.old) (done_tag done)) (λ d. (d ≡ done) × (view pass.new ≡ view pass.old)) }
+{
+    results.push_as::<Puts, R>(rt, pass, done)
+}
+
+/// The next result, if there is one.
+pub(crate) fn take_result<R: Wait>(rt: &R, results: &Results, pass: &mut ResultPass) -> Option<Done>
+    requires { IsPassOf results.now pass.old }
+    ensures queue { IsPassOf results.now pass.new }
+    ensures taken { MatchOption result (view pass.new ≡ view pass.old) (λ d. view pass.new ≡ took (view pass.old) (done_tag d)) }
+{
+    results.pop_as::<Takes, R>(rt, pass)
+}

@@ -1,0 +1,121 @@
+//! How the seats of a pool are made: all memory first, and then a part of the share for each.
+ghost use Rattle.std.specs.Prelude.{◌≡◌, ◌+◌, ◌<◌, [], ◌∷◌, ◌++◌, length, vec_len, IfOk, OnOk, OnErr};
+ghost use Rattle.std.specs.List.{AllByRecursion};
+ghost use Rattle.bursts.specs.Totals.{none};
+ghost use Rattle.pool.specs.Hands.{no_hand};
+ghost use Rattle.pool.specs.Seats.{AreOthers, IsNew};
+
+use crate::loans::{Other, Own};
+use crate::pools::Pool;
+use crate::results::new_pass;
+use crate::seats::Seat;
+use bursts::{Naming, Share};
+use std::alloc::{AllocError, Global};
+
+/// An empty deque for each worker. The last is the first worker's, the one before it the next worker's, and so on.
+fn deques_for(alloc: Global, workers: u32) -> Result<Vec<Own>, AllocError>
+    ensures len { IfOk result (λ deques. vec_len deques ≡ workers) }
+    ensures empty { IfOk result (λ deques. AllByRecursion (λ v. v ≡ no_hand) deques.items) }
+{
+    let mut deques = Vec::new(alloc);
+    for _ in 0..workers {
+        deques.push(Own::new(alloc)?)?;
+    }
+    Ok(deques)
+}
+
+/// The deques of the others, as the worker of this deque has them: from the next worker on, and round again.
+fn others_of(alloc: Global, deques: &[Own], place: usize) -> Result<Vec<Other>, AllocError>
+    requires { place < length deques.now }
+    ensures { IfOk result (λ others. AreOthers (length deques.now) others.items) }
+{
+    let mut others = Vec::new(alloc);
+    for step in 0..place {
+        others.push(deques[place - 1 - step].other()?)?;
+    }
+    for step in 0..deques.len() - 1 - place {
+        others.push(deques[deques.len() - 1 - step].other()?)?;
+    }
+    Ok(others)
+}
+
+/// The deques of the others, for the worker of each of these deques.
+fn all_others(alloc: Global, deques: &[Own]) -> Result<Vec<Vec<Other>>, AllocError>
+    ensures len { IfOk result (λ all. vec_len all ≡ length deques.now) }
+    ensures others { IfOk result (λ all. AllByRecursion (λ others. AreOthers (length deques.now) others.items) all.items) }
+{
+    let mut all = Vec::new(alloc);
+    for place in 0..deques.len() {
+        all.push(others_of(alloc, deques, place)?)?;
+    }
+    Ok(all)
+}
+
+impl<'b, N: Naming> Pool<'b, N> {
+    /// A seat for each worker, with one part of the share each. The share has more parts than there are workers; it has them all
+    /// again where there was no memory for the seats.
+    pub fn seats<'p>(
+        &'p self,
+        alloc: Global,
+        share: &mut Share<N>,
+    ) -> Result<Vec<Seat<'p, 'b, N>>, AllocError>
+        requires { self.now.workers < share.old.parts }
+        ensures len { IfOk result (λ seats. vec_len seats ≡ self.now.workers) }
+        ensures fresh { IfOk result (λ seats. AllByRecursion (IsNew self.now.workers) seats.items) }
+        ensures parts { OnOk result (share.new.parts + self.now.workers ≡ share.old.parts) }
+        ensures totals { OnOk result (share.new.totals ≡ share.old.totals) }
+        ensures refused { OnErr result (share.new ≡ share.old) }
+    {
+        let mut deques = deques_for(alloc, self.workers)?;
+        let mut all = all_others(alloc, &deques)?;
+        let mut seats = Vec::with_capacity(alloc, self.workers as usize)?;
+        for _ in 0..self.workers {
+            let own = last_of(&mut deques);
+            let others = last_of(&mut all);
+            seats.push_reserved(seat_at(self, own, others, part_of(share)));
+        }
+        Ok(seats)
+    }
+}
+
+/// The last of a list, which leaves it.
+fn last_of<T>(list: &mut Vec<T>) -> T
+    requires { 0 < vec_len list.old }
+    ensures items { list.old.items ≡ list.new.items ++ result ∷ [] }
+    ensures len { vec_len list.new + 1 ≡ vec_len list.old }
+{
+    list.pop().unwrap()
+}
+
+/// A part of a share that has more.
+fn part_of<N: Naming>(share: &mut Share<N>) -> Share<N>
+    requires { 1 < share.old.parts }
+    ensures part { result ≡ record { parts = 1; totals = none } }
+    ensures parts { share.new.parts + 1 ≡ share.old.parts }
+    ensures totals { share.new.totals ≡ share.old.totals }
+{
+    share.split().unwrap()
+}
+
+/// A seat at which nothing was done yet.
+fn seat_at<'p, 'b, N: Naming>(
+    pool: &'p Pool<'b, N>,
+    own: Own,
+    others: Vec<Other>,
+    share: Share<N>,
+) -> Seat<'p, 'b, N>
+    requires own { own ≡ no_hand }
+    requires others { AreOthers pool.now.workers others.items }
+    requires share { share ≡ record { parts = 1; totals = none } }
+    ensures { IsNew pool.now.workers result }
+{
+    let pass = new_pass(&pool.results);
+    Seat {
+        pool,
+        own,
+        others,
+        spare: None,
+        pass,
+        share,
+    }
+}

@@ -1,0 +1,100 @@
+//! A worker's seat at a pool.
+ghost use Rattle.std.specs.Prelude.{◌≡◌, ◌∷◌, IfSome, MatchResult};
+ghost use Rattle.crossbeam_queue.specs.Passes.{view, IsPassOf};
+ghost use Rattle.pool.specs.Hands.{gave};
+ghost use Rattle.pool.specs.Tags.{done_tag};
+ghost use Rattle.pool.specs.Fetching.{TakesItsAnswer, Answers};
+ghost use Rattle.pool.specs.Settled.{Settled};
+ghost use Rattle.pool.specs.Seats.{with_results, with_settled};
+
+use crate::fetching::fetch;
+use crate::loans::{Other, Own};
+use crate::pools::Pool;
+use crate::results::{ResultPass, put_result};
+use crate::settling::{Settling, settle_all};
+use bursts::{Done, Loan, Naming, Share};
+use kernel::Refused;
+use std::marker::Model;
+use std::sync::Wait;
+
+/// A worker's seat at a pool: its own deque of loans, those of the others from the next worker on and round again, room for one loan
+/// to spare, and one part of a share. Contracts see what its passes show.
+#[derive(Drop)]
+pub struct Seat<'p, 'b, N: Naming> {
+    pub(crate) pool: &'p Pool<'b, N>,
+    pub(crate) own: Own,
+    pub(crate) others: Vec<Other>,
+    pub(crate) spare: Option<Loan>,
+    pub(crate) pass: ResultPass,
+    pub(crate) share: Share<N>,
+}
+
+impl<'p, 'b, N: Naming> Model for Seat<'p, 'b, N> {
+    ghost use Rattle.pool.specs.Seats.{Seated};
+
+    ghost Value = { Seated };
+
+    ghost use Rattle.std.specs.Prelude.{option_map};
+    ghost use Rattle.crossbeam_queue.specs.Passes.{view as view_of, IsPassOf};
+    ghost use Rattle.pool.specs.Tags.{loan_tag};
+
+    ghost view = { λ s. record { own = s.own; others = s.others.items; spare = option_map loan_tag s.spare; results = view_of s.pass; share = s.share } };
+
+    ghost invariant = { λ s. IsPassOf s.pool.now.results s.pass };
+}
+
+impl<'p, 'b, N: Naming> Seat<'p, 'b, N> {
+    /// A loan: the one to spare; else the next of its own deque; else one stolen from the first of the others, from the next worker on
+    /// and round again, that has one; else, under the lock, the first of up to eight that are lent, of which the others go to its own
+    /// deque. One that finds no room there becomes the one to spare, and no more are lent. None where nothing is lendable, and once the
+    /// work is to stop. Refused where the first lending is.
+    pub fn fetch<R: Wait>(&mut self, rt: &R, quantum: u32) -> Result<Option<Loan>, Refused>
+        ensures takes { TakesItsAnswer (self.old.own ∷ self.old.others) (self.new.own ∷ self.new.others) result }
+        ensures spare { IfSome self.old.spare (λ x. Answers result x) }
+        ensures results { self.new.results ≡ self.old.results }
+        ensures share { self.new.share ≡ self.old.share }
+    {
+        let pool = self.pool;
+        fetch(
+            rt,
+            &pool.bench,
+            &mut self.own,
+            &mut self.others,
+            &mut self.spare,
+            quantum,
+        )
+    }
+
+    /// Hands a result in. It comes back only where the queue was full. Takes no memory.
+    pub fn hand_in<R: Wait>(&mut self, rt: &R, done: Done) -> Result<(), Done>
+        ensures { MatchResult result (λ _. self.new ≡ with_results self.old (gave self.old.results (done_tag done))) (λ d. (d ≡ done) × (self.new ≡ self.old)) }
+    {
+        let pool = self.pool;
+        put_result(rt, &pool.results, &mut self.pass, done)
+    }
+
+    /// Settles the results that are in the queue, of whichever worker, under the lock: at most 1,024, in their order, up to the first
+    /// that is not taken back, which is dropped from the queue.
+    pub fn settle_all<R: Wait>(&mut self, rt: &R) -> Settling
+        ensures settled { Settled self.old.results self.old.share result self.new.results self.new.share }
+        ensures others { self.new ≡ with_settled self.old self.new.results self.new.share }
+    {
+        let pool = self.pool;
+        let mut guard = pool.bench.lock(rt);
+        settle_all(
+            rt,
+            &mut *guard,
+            &pool.results,
+            &mut self.pass,
+            &mut self.share,
+        )
+    }
+
+    /// Its share. Loans that are still at the seat are dropped; after a `pool_crew` without fault there are none.
+    pub fn end(self) -> Share<N>
+        ensures { result ≡ self.entry.share }
+    {
+        let Seat { share, .. } = self;
+        share
+    }
+}

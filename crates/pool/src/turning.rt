@@ -1,0 +1,131 @@
+//! What a worker does at its seat.
+ghost use Rattle.std.specs.Prelude.{◌≡◌, ◌∷◌, ◌≤◌, [], None, Some, IfOk, IfErr, MatchResult};
+ghost use Rattle.bursts.specs.Totals.{Fit};
+ghost use Rattle.bursts.specs.Holdings.{Holding, grown};
+ghost use Rattle.pool.specs.declared.settling.Settling.{Settling};
+ghost use Rattle.pool.specs.Tags.{done_tag};
+ghost use Rattle.pool.specs.Settled.{totals_in, after};
+ghost use Rattle.pool.specs.Turns.{Advances, Grows, TurnsOut};
+
+use crate::seats::Seat;
+use crate::settling::Settling;
+use bursts::{Done, Gate, Naming, Rejected, WorkFault, run_loan};
+use std::sync::Wait;
+
+/// What a turn at a seat came to.
+#[derive(Drop)]
+pub enum Pooled {
+    /// There was no loan.
+    Idle,
+    /// A loan was run and its result handed in, and these results were settled.
+    Worked(Settling),
+}
+
+/// The settling, or the result that was not taken back.
+fn accepted(settling: Settling) -> Result<Settling, Rejected>
+    ensures ok { IfOk result (λ s. (s ≡ settling) × (s.rejected ≡ None)) }
+    ensures err { IfErr result (λ r. settling.rejected ≡ Some r) }
+{
+    let Settling {
+        settled,
+        events,
+        ran,
+        turns,
+        enters,
+        rejected,
+    } = settling;
+    match rejected {
+        None => Ok(Settling {
+            settled,
+            events,
+            ran,
+            turns,
+            enters,
+            rejected: None,
+        }),
+        Some(rejected) => Err(rejected),
+    }
+}
+
+impl<'p, 'b, N: Naming> Seat<'p, 'b, N> {
+    /// The numbers of its share are each a u64.
+    fn fits(&self)
+        ensures { Fit self.now.share.totals }
+    {
+        let _totals = self.share.totals();
+    }
+
+    /// Settles what is in the queue, after an earlier settling, and adds the two up. Refused where a result is not taken back.
+    fn settle_more<R: Wait>(&mut self, rt: &R, earlier: Settling) -> Result<Settling, Rejected>
+        requires share { (h : Holding) × (self.old.share ≡ grown h (totals_in earlier)) }
+        requires settled { earlier.settled ≤ earlier.events }
+        ensures { MatchResult result (λ s. (t : Settling) × Advances self.old self.new [] t × (s ≡ after earlier t)) (λ _. Grows self.old self.new) }
+    {
+        let next = self.settle_all(rt);
+        self.fits();
+        let both = earlier.then(next);
+        accepted(both)
+    }
+
+    /// Hands a result in. Wherever the queue is full, what is in it is settled first; that is the answer.
+    fn hand_in_at_last<R: Wait>(&mut self, rt: &R, done: Done) -> Result<Settling, Rejected>
+        ensures { MatchResult result (λ s. Advances self.old self.new (done_tag done ∷ []) s) (λ _. Grows self.old self.new) }
+    {
+        let mut left = done;
+        let mut settling = Settling::none();
+        for _ in rt.forever() {
+            match self.hand_in(rt, left) {
+                Ok(()) => return Ok(settling),
+                Err(back) => {
+                    left = back;
+                    settling = self.settle_more(rt, settling)?;
+                }
+            }
+        }
+        unreachable!()
+    }
+
+    /// Hands a result in, and settles what is in the queue.
+    fn hand_in_and_settle<R: Wait>(&mut self, rt: &R, done: Done) -> Result<Settling, Rejected>
+        ensures { MatchResult result (λ s. Advances self.old self.new (done_tag done ∷ []) s) (λ _. Grows self.old self.new) }
+    {
+        let settling = self.hand_in_at_last(rt, done)?;
+        self.settle_more(rt, settling)
+    }
+
+    /// Fetches a loan, holds the gate, runs the loan, hands its result in, and settles what is in the queue. Where the queue is full,
+    /// what is in it is settled before, and the answer adds all up. Refused where the lending is, and where a result, of whichever worker,
+    /// is not taken back; this loan's own, where it was not handed in yet, is then dropped.
+    pub fn turn<G: Gate, R: Wait>(
+        &mut self,
+        rt: &R,
+        gate: &mut G,
+        quantum: u32,
+    ) -> Result<Pooled, WorkFault>
+        ensures { TurnsOut self.old self.new result }
+    {
+        let loan = match self.fetch(rt, quantum) {
+            Ok(Some(loan)) => loan,
+            Ok(None) => return Ok(Pooled::Idle),
+            Err(why) => return Err(WorkFault::Lend(why)),
+        };
+        gate.hold(loan.pid);
+        let done = run_loan(loan);
+        match self.hand_in_and_settle(rt, done) {
+            Ok(settling) => Ok(Pooled::Worked(settling)),
+            Err(rejected) => Err(WorkFault::Settle(rejected)),
+        }
+    }
+
+    /// Settles what is in the queue, and answers whether the work is over: no process is lent and none lendable, or the work is to
+    /// stop. Refused where a result is not taken back.
+    pub(crate) fn is_over<R: Wait>(&mut self, rt: &R, quantum: u32) -> Result<bool, Rejected> {
+        accepted(self.settle_all(rt))?;
+        Ok(self.pool.bench().lock(rt).over(quantum))
+    }
+
+    /// Says at the bench that the work is to stop.
+    pub(crate) fn stop<R: Wait>(&self, rt: &R) {
+        self.pool.bench().lock(rt).stop();
+    }
+}
