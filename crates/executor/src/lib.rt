@@ -4,11 +4,11 @@
 mod disk;
 mod fault;
 mod rest;
-mod run;
 mod screen;
 mod settings;
+mod threading;
 mod watch;
 
 pub use fault::RunFault;
-pub use run::run;
 pub use settings::Settings;
+pub use threading::run;

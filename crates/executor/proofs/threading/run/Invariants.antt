@@ -1,6 +1,6 @@
 -- The names of the run's ledgers, and the pair with which its board opens.
 use Rattle.kernel_model.specs.Answers.{now, committed, changes}
-use Rattle.executor.proofs.run.run.Given as goal
+use Rattle.executor.proofs.threading.run.Given as goal
 
 abbrev pub ghosts-core : goal.ghosts-core
 ghosts-core g a = record {
