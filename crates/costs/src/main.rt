@@ -49,13 +49,12 @@ fn print_commits(rt: &HostRuntime) -> Result<(), Error> {
 }
 
 /// What many workers gain.
-fn print_workers(
-    rt: &HostRuntime,
-    does: &str,
-    ratios: &workers::Ratios,
-) -> Result<(), Error> {
+fn print_workers(rt: &HostRuntime, does: &str, ratios: &workers::Ratios) -> Result<(), Error> {
     println!(rt; "8 programs that {does}, in thousandths:")?;
-    println!(rt; "  one worker takes {} of the time of machines alone", ratios.one)?;
+    println!(rt;
+        "  one worker takes {} of the time of machines alone",
+        ratios.one
+    )?;
     println!(rt; "  two workers take {} of the time of one", ratios.two)?;
     println!(rt; "  four workers take {} of the time of one", ratios.four)?;
     Ok(())

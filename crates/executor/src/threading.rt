@@ -59,8 +59,7 @@ pub fn run<R: Threads + Wait + Sync, O: Write>(
     out: &mut O,
 ) -> Result<Core, RunFault> {
     let mut screen = Screen::new(out, settings.terminal);
-    let mut core =
-        run_named::<Brand, R, O>(rt, alloc, core, Blanks::new(), settings, &mut screen)?;
+    let mut core = run_named::<Brand, R, O>(rt, alloc, core, Blanks::new(), settings, &mut screen)?;
     core.drain()?;
     screen.finish(core.shown(settings.terminal))?;
     Ok(core)
