@@ -87,12 +87,14 @@ fn run_named<N: Naming + Send + Sync, R: Threads + Wait + Sync, O: Write>(
         return Err(RunFault::OutOfMemory);
     };
     let mut workers = workers_of(alloc, &pool, &mut share)?;
-    let desk = LockedDesk::new(rt, pool.bench(), share);
-    let disk = DiskThread::new(&board, pass, pool.bench(), desk);
+    let bench = pool.bench();
+    let desk = LockedDesk::new(rt, bench, share);
+    let disk = DiskThread::new(&board, pass, bench, desk);
+    let seats = workers.as_mut_slice();
     let threading = Threading {
-        bench: pool.bench(),
+        bench,
         crew: Mutex::new(Crew {
-            workers: Some(workers.as_mut_slice()),
+            workers: Some(seats),
         }),
         disk: Mutex::new(disk),
         watch: Watch::new(),
