@@ -80,12 +80,12 @@ along-within (suc n) t = by (λ u. along-within n u) (next_of t) refl
         omega arith
 
 -- where n moves count n, fewer count as many as they are
-pub along-front : (n k : ℕ) (t : Traced) → (along n t).state.count ≡ t.state.count + n → k ≤ n → (along k t).state.count ≡ t.state.count + k
-along-front n k t all few =
+pub along-fewer : (n k : ℕ) (t : Traced) → (along n t).state.count ≡ t.state.count + n → k ≤ n → (along k t).state.count ≡ t.state.count + k
+along-fewer n k t all few =
     let split : n ≡ k + (n - k) = omega (arith, few) in
     let same : (along n t).state.count ≡ (along (n - k) (along k t)).state.count = ap (λ (j : ℕ). (along j t).state.count) split ∙ ap (λ (v : Traced). v.state.count) (along-add k (n - k) t) in
     let rest : (along (n - k) (along k t)).state.count ≤ (along k t).state.count + (n - k) = along-within (n - k) (along k t) in
-    let front : (along k t).state.count ≤ t.state.count + k = along-within k t in
+    let most : (along k t).state.count ≤ t.state.count + k = along-within k t in
     omega arith
 
 -- and nothing keeps them from going on
@@ -98,7 +98,7 @@ along-onward n k t all few = by (next_of (along k t)) refl
         let split : n ≡ k + (n - k) = omega (arith, few) in
         let same : (along n t).state.count ≡ (along (n - k) (along k t)).state.count = ap (λ (j : ℕ). (along j t).state.count) split ∙ ap (λ (v : Traced). v.state.count) (along-add k (n - k) t) in
         let stays : (along (n - k) (along k t)).state.count ≡ (along k t).state.count = ap (λ (v : Traced). v.state.count) (along-rests (n - k) (along k t) why is) in
-        let front : (along k t).state.count ≤ t.state.count + k = along-within k t in
+        let most : (along k t).state.count ≤ t.state.count + k = along-within k t in
         absurd (omega arith)
 
 pub leads-none : (t : Traced) → Leads 0 t t
