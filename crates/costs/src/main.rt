@@ -1,8 +1,9 @@
-//! What a loan, a write and a commit cost, as ratios of two times of one run.
+//! What a loan, a write, a commit and workers cost, as ratios of two times of one run.
 #![tactic(auto)]
 
 mod commits;
 mod loans;
+mod workers;
 mod writes;
 
 use anyhow::Error;
@@ -47,12 +48,30 @@ fn print_commits(rt: &HostRuntime) -> Result<(), Error> {
     Ok(())
 }
 
+/// What many workers gain.
+fn print_workers(rt: &HostRuntime, does: &str, ratios: &workers::Ratios) -> Result<(), Error> {
+    println!(rt; "8 programs that {does}, in thousandths:")?;
+    println!(rt;
+        "  one worker takes {} of the time of machines alone",
+        ratios.one
+    )?;
+    println!(rt; "  two workers take {} of the time of one", ratios.two)?;
+    println!(rt; "  four workers take {} of the time of one", ratios.four)?;
+    Ok(())
+}
+
 fn main(rt: HostRuntime) -> Result<(), Error> {
     let words: Vec<String> = env::args(&rt)?.collect(rt.alloc())?;
     match words.get(1).map(|word| word.as_str()) {
         Some("loans") => print_loans(&rt),
         Some("writes") => print_writes(&rt),
         Some("commits") => print_commits(&rt),
+        Some("workers") => {
+            for load in &workers::LOADS {
+                print_workers(&rt, load.does, &workers::ratios_of(&rt, load)?)?;
+            }
+            Ok(())
+        }
         _ => {
             println!(rt;
                 "costs loans: what lend and settle cost beside the run of {} instructions",
@@ -66,6 +85,9 @@ fn main(rt: HostRuntime) -> Result<(), Error> {
             println!(rt;
                 "costs commits: what {} groups cost beside the same in plain code, and a recovery beside one reading",
                 commits::GROUPS
+            )?;
+            println!(rt;
+                "costs workers: what two and four workers gain over one, and one costs beside machines alone"
             )?;
             Ok(())
         }

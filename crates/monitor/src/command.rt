@@ -1,19 +1,32 @@
 //! The command line.
+use crate::run_options::{RunOptions, run_options, running};
 use clap::error::ErrorKind;
 use clap::{Arg, ArgAction, ArgMatches, Command, Error};
 use std::alloc::{AllocError, Global};
 
 /// What the program is to do.
-#[derive(Clone, Copy)]
+#[derive(Drop)]
 pub enum Task<'a> {
     /// Replay the script on standard input.
     ReplayInput,
     /// Replay the script of a file.
     ReplayFile(&'a str),
     /// Assemble the source in a file to the image in another.
-    Assemble { source: &'a str, image: &'a str },
+    Assemble {
+        source: &'a str,
+        image: &'a str,
+    },
     /// List the words of the image in a file.
     List(&'a str),
+    /// Debug the image in a file, with the replies of the trace in another, or none.
+    Debug {
+        image: &'a str,
+        trace: Option<&'a str>,
+    },
+    /// List the files on the disk in a file.
+    Disk(&'a str),
+    /// Run images.
+    Run(RunOptions<'a>),
 }
 
 /// An argument that has to be given.
@@ -21,6 +34,15 @@ fn argument<'a>(alloc: Global, name: &'a str, help: &'a str) -> Arg<'a> {
     Arg::new(alloc, name)
         .help(help)
         .required(true)
+        .action(ArgAction::Set)
+}
+
+/// An option with a value, that may be given once.
+pub fn option<'a>(alloc: Global, name: &'a str, value: &'a str, help: &'a str) -> Arg<'a> {
+    Arg::new(alloc, name)
+        .long(name)
+        .value_name(value)
+        .help(help)
         .action(ArgAction::Set)
 }
 
@@ -51,6 +73,21 @@ fn listing<'a>(alloc: Global) -> Result<Command<'a>, AllocError> {
         .arg(argument(alloc, "IMAGE", "the image's file"))
 }
 
+/// The command `debug`.
+fn debugging<'a>(alloc: Global) -> Result<Command<'a>, AllocError> {
+    Command::new(alloc, "debug")
+        .about("Debug an image, by commands on standard input")
+        .arg(argument(alloc, "IMAGE", "the image's file"))?
+        .arg(option(alloc, "trace", "FILE", "the replies that its calls take"))
+}
+
+/// The command `disk`.
+fn listing_files<'a>(alloc: Global) -> Result<Command<'a>, AllocError> {
+    Command::new(alloc, "disk")
+        .about("Print the files on a disk, and their lengths")
+        .arg(argument(alloc, "FILE", "the disk's file"))
+}
+
 /// The program without its commands. Its usage begins with its name, so that it can be pasted.
 fn program<'a>(alloc: Global) -> Result<Command<'a>, AllocError> {
     let bench = Command::new(alloc, "bench")
@@ -77,7 +114,10 @@ fn commands<'a>(alloc: Global) -> Result<Command<'a>, AllocError> {
     let bench = program(alloc)?;
     let bench = with(bench, replaying(alloc))?;
     let bench = with(bench, assembling(alloc))?;
-    with(bench, listing(alloc))
+    let bench = with(bench, listing(alloc))?;
+    let bench = with(bench, debugging(alloc))?;
+    let bench = with(bench, listing_files(alloc))?;
+    with(bench, running(alloc))
 }
 
 /// What the arguments of the command `asm` ask for.
@@ -88,13 +128,40 @@ fn assemble_task<'a>(matches: &ArgMatches<'a>) -> Option<Task<'a>> {
     })
 }
 
-/// What a command and its arguments ask for. None for a name that is not handled here.
-fn task_of<'a>(name: &str, matches: &ArgMatches<'a>) -> Option<Task<'a>> {
+/// What the arguments of the command `debug` ask for.
+fn debug_task<'a>(matches: &ArgMatches<'a>) -> Option<Task<'a>> {
+    Some(Task::Debug {
+        image: matches.get_str("IMAGE")?,
+        trace: matches.get_str("trace"),
+    })
+}
+
+/// What the arguments of the command `run` ask for.
+fn run_task<'a>(alloc: Global, matches: &ArgMatches<'a>) -> Result<Option<Task<'a>>, AllocError> {
+    Ok(run_options(alloc, matches)?.map(|options| Task::Run(options)))
+}
+
+/// What a command other than `run` and its arguments ask for. None for a name that is not handled here.
+fn file_task<'a>(name: &str, matches: &ArgMatches<'a>) -> Option<Task<'a>> {
     match name {
         "replay" => matches.get_str("SCRIPT").map(|path| Task::ReplayFile(path)),
         "asm" => assemble_task(matches),
         "list" => matches.get_str("IMAGE").map(|path| Task::List(path)),
+        "debug" => debug_task(matches),
+        "disk" => matches.get_str("FILE").map(|path| Task::Disk(path)),
         _ => None,
+    }
+}
+
+/// What a command and its arguments ask for. None for a name that is not handled here.
+fn task_of<'a>(
+    alloc: Global,
+    name: &str,
+    matches: &ArgMatches<'a>,
+) -> Result<Option<Task<'a>>, AllocError> {
+    match name {
+        "run" => run_task(alloc, matches),
+        name => Ok(file_task(name, matches)),
     }
 }
 
@@ -107,22 +174,33 @@ fn same_path(alloc: Global) -> Result<Error, AllocError> {
     )
 }
 
-/// Refuses an image that would be written over its own source.
-fn checked<'a>(alloc: Global, task: Task<'a>) -> Result<Task<'a>, Error> {
+/// Whether a task would write an image over its own source.
+fn overwrites_source(task: &Task<'_>) -> bool {
     match task {
-        Task::Assemble { source, image } if source == image => Err(same_path(alloc)?),
-        task => Ok(task),
+        Task::Assemble { source, image } => source == image,
+        _ => false,
     }
 }
 
-/// What the words ask for, if a command that is handled here is among them.
-fn asked<'a>(commands: &mut Command<'a>, words: &'a [String]) -> Result<Option<Task<'a>>, Error> {
-    let matches = commands.try_get_matches_from_mut(words)?;
-    let task = match matches.subcommand() {
-        Some((name, matches)) => task_of(name, matches),
-        None => None,
-    };
+/// Refuses an image that would be written over its own source.
+fn checked<'a>(alloc: Global, task: Task<'a>) -> Result<Task<'a>, Error> {
+    if overwrites_source(&task) {
+        return Err(same_path(alloc)?);
+    }
     Ok(task)
+}
+
+/// What the words ask for, if a command that is handled here is among them.
+fn asked<'a>(
+    alloc: Global,
+    commands: &mut Command<'a>,
+    words: &'a [String],
+) -> Result<Option<Task<'a>>, Error> {
+    let matches = commands.try_get_matches_from_mut(words)?;
+    match matches.subcommand() {
+        Some((name, matches)) => Ok(task_of(alloc, name, matches)?),
+        None => Ok(None),
+    }
 }
 
 /// What the words ask for, or why they ask for nothing.
@@ -131,7 +209,7 @@ fn read<'a>(
     commands: &mut Command<'a>,
     words: &'a [String],
 ) -> Result<Task<'a>, Error> {
-    match asked(commands, words)? {
+    match asked(alloc, commands, words)? {
         Some(task) => checked(alloc, task),
         None => Err(commands.error(ErrorKind::InvalidSubcommand, "no such command")?),
     }

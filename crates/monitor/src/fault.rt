@@ -1,6 +1,8 @@
 //! Why the program ends early.
 use assembler::{AsmFault, Cause};
+use debug_commands::SessionFault;
 use elf32::ElfFault;
+use executor::RunFault;
 use kernel::{BootFault, DiskFault};
 use simdisk::DiskRefusal;
 use std::alloc::{AllocError, AllocFailed};
@@ -22,9 +24,18 @@ pub enum Fault {
     /// A file that holds no image, and the first check that it fails.
     #[error("bench: image refused: {number} {fault}")]
     Image { number: u8, fault: ElfFault },
+    /// The first line of a trace that is no reply.
+    #[error("bench: trace refused at line {line}")]
+    Trace { line: usize },
+    /// A disk of another length than a disk's.
+    #[error("bench: disk refused: 4 BadLength")]
+    DiskLength,
     /// A disk that cannot be read, and its first fault.
     #[error("bench: disk refused: {number} {fault:?}")]
     Disk { number: u8, fault: DiskFault },
+    /// A write of the disk has failed, so that no change is committed any more.
+    #[error("bench: disk failed")]
+    DiskFailed,
     #[error("bench: out of memory")]
     OutOfMemory,
     /// A file that cannot be read or is no text, or a stream that cannot be written.
@@ -37,8 +48,12 @@ impl Fault {
     pub fn status(&self) -> u8 {
         match self {
             Fault::Argument => 1,
-            Fault::Script { .. } | Fault::Source { .. } | Fault::Image { .. } => 2,
-            Fault::Disk { .. } => 3,
+            Fault::Script { .. }
+            | Fault::Source { .. }
+            | Fault::Image { .. }
+            | Fault::Trace { .. } => 2,
+            Fault::DiskLength | Fault::Disk { .. } => 3,
+            Fault::DiskFailed => 4,
             Fault::OutOfMemory => 5,
             Fault::InputOutput => 6,
         }
@@ -102,10 +117,33 @@ impl From<ElfFault> for Fault {
     }
 }
 
-/// A disk of zeros, the only one that is made here, is refused for want of memory alone.
+/// The disks that are made here are zeros, or those of a file.
 impl From<DiskRefusal> for Fault {
-    fn from(_refusal: DiskRefusal) -> Fault {
-        Fault::OutOfMemory
+    fn from(refusal: DiskRefusal) -> Fault {
+        match refusal {
+            DiskRefusal::BadLength => Fault::DiskLength,
+            _ => Fault::OutOfMemory,
+        }
+    }
+}
+
+impl From<SessionFault> for Fault {
+    fn from(fault: SessionFault) -> Fault {
+        match fault {
+            SessionFault::Trace { line } => Fault::Trace { line },
+            SessionFault::OutOfMemory => Fault::OutOfMemory,
+            SessionFault::InputOutput => Fault::InputOutput,
+        }
+    }
+}
+
+impl From<RunFault> for Fault {
+    fn from(fault: RunFault) -> Fault {
+        match fault {
+            RunFault::OutOfMemory => Fault::OutOfMemory,
+            RunFault::DiskFailed => Fault::DiskFailed,
+            RunFault::Output => Fault::InputOutput,
+        }
     }
 }
 

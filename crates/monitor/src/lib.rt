@@ -2,10 +2,16 @@
 #![tactic(auto)]
 
 mod command;
+mod disk_file;
 mod fault;
+mod file_lines;
 mod list;
+mod process_lines;
 mod program;
+mod reading;
 mod replay;
+mod run_options;
+mod running;
 mod script;
 mod setup;
 mod source;

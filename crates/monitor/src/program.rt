@@ -1,13 +1,20 @@
 //! The whole program.
 use crate::command::{Task, parse};
 use crate::fault::Fault;
+use crate::file_lines::list_files;
 use crate::list::list;
-use crate::replay::{image_in, replay};
+use crate::reading::{image_in, trace_in};
+use crate::replay::replay;
+use crate::running::run_images;
 use crate::source::{Assembled, assemble_source};
 use clap::Error;
 use clap::error::ErrorKind;
+use debug_commands::debug;
+use machine_model::Reply;
 use std::io::{BufWriter, Read, Write};
 use std::rt::Files;
+use std::sync::Wait;
+use std::thread::Threads;
 use std::{fs, io};
 
 /// Replays the script on the input.
@@ -58,12 +65,34 @@ fn list_file<R: Files + AllocGlobal, O: Write>(
     list(&image_in(rt, path)?, out)
 }
 
+/// The replies of the trace in a file, and none where no file is given.
+fn replies_in<R: Files + AllocGlobal>(rt: &R, path: Option<&str>) -> Result<Vec<Reply>, Fault> {
+    match path {
+        Some(path) => trace_in(rt, path),
+        None => Ok(Vec::new(rt.alloc())),
+    }
+}
+
+/// Debugs the image in a file, by the commands on the input.
+fn debug_file<R: Files + AllocGlobal, I: Read, O: Write>(
+    rt: &R,
+    image: &str,
+    trace: Option<&str>,
+    input: &mut I,
+    out: &mut O,
+) -> Result<(), Fault> {
+    let image = image_in(rt, image)?;
+    let replies = replies_in(rt, trace)?;
+    Ok(debug(rt.alloc(), image, replies, input, out)?)
+}
+
 /// Does a task.
-fn perform<R: Files + AllocGlobal, I: Read, O: Write>(
+fn perform<R: Files + AllocGlobal + Threads + Wait + Sync, I: Read, O: Write, E: Write>(
     rt: &R,
     task: Task<'_>,
     input: &mut I,
     out: &mut O,
+    err: &mut E,
 ) -> Result<(), Fault> {
     match task {
         Task::ReplayInput => replay_input(rt, input, out),
@@ -72,17 +101,21 @@ fn perform<R: Files + AllocGlobal, I: Read, O: Write>(
             write_assembled(rt, &assemble_file(rt, source)?, image, out)
         }
         Task::List(path) => list_file(rt, path, out),
+        Task::Debug { image, trace } => debug_file(rt, image, trace, input, out),
+        Task::Disk(path) => list_files(rt, path, out),
+        Task::Run(options) => run_images(rt, &options, out, err),
     }
 }
 
 /// Does a task. What it printed goes out, also where a fault ends it early.
-fn run<R: Files + AllocGlobal, I: Read, O: Write>(
+fn run<R: Files + AllocGlobal + Threads + Wait + Sync, I: Read, O: Write, E: Write>(
     rt: &R,
     task: Task<'_>,
     input: &mut I,
     out: &mut O,
+    err: &mut E,
 ) -> Result<(), Fault> {
-    let done = perform(rt, task, input, out);
+    let done = perform(rt, task, input, out, err);
     let flushed = out.flush();
     done?;
     flushed?;
@@ -129,7 +162,7 @@ pub fn end_without_arguments<E: Write>(error: &io::Error, err: &mut E) -> u8 {
 }
 
 /// Does what the words ask for, and answers the exit status.
-fn obey<R: Files + AllocGlobal, I: Read, O: Write, E: Write>(
+fn obey<R: Files + AllocGlobal + Threads + Wait + Sync, I: Read, O: Write, E: Write>(
     rt: &R,
     words: &[String],
     input: &mut I,
@@ -138,7 +171,7 @@ fn obey<R: Files + AllocGlobal, I: Read, O: Write, E: Write>(
 ) -> u8 {
     match parse(rt.alloc(), words) {
         Err(error) => end_usage(&error, out, err),
-        Ok(task) => match run(rt, task, input, out) {
+        Ok(task) => match run(rt, task, input, out, err) {
             Ok(()) => 0,
             Err(fault) => end(fault, err),
         },
@@ -148,7 +181,7 @@ fn obey<R: Files + AllocGlobal, I: Read, O: Write, E: Write>(
 /// The whole program: does what the words, the program's name aside, ask for, and answers the exit status. No words:
 /// replays the script on the input. What it prints goes to `out`, through a buffer that has gone out before anything is
 /// written to `err` and before the status is answered; one line on `err` says why it ended early.
-pub fn bench<R: Files + AllocGlobal, I: Read, O: Write, E: Write>(
+pub fn bench<R: Files + AllocGlobal + Threads + Wait + Sync, I: Read, O: Write, E: Write>(
     rt: &R,
     words: &[String],
     input: &mut I,

@@ -1,20 +1,15 @@
 //! The run of a script.
 use crate::fault::Fault;
+use crate::file_lines::print_files;
 use crate::script::{Action, Script, Step, Terminal};
 use crate::setup::Setup;
 use files::FileTable;
 use kernel::{Answer, Core, Event, Refused};
-use machine_model::{Image, Reply, Stop};
+use machine_model::{Reply, Stop};
 use std::alloc::Global;
+use std::fmt;
 use std::io::Write;
 use std::rt::Files;
-use std::{fmt, fs};
-
-/// The image in a file of the host.
-pub fn image_in<R: Files + AllocGlobal>(rt: &R, path: &str) -> Result<Image, Fault> {
-    let file = fs::read(rt, path)?;
-    Ok(elf32::parse(rt.alloc(), &file)?)
-}
 
 /// Where a Turn stopped, as it is printed.
 #[derive(Drop)]
@@ -119,16 +114,11 @@ fn print_trace<O: Write>(alloc: Global, core: &Core, pid: u32, out: &mut O) -> R
     }
 }
 
-/// The files that the disk held at boot, a line each, in order of creation.
-fn print_files<O: Write>(files: &FileTable, out: &mut O) -> Result<(), Fault> {
+/// Prints how many files the disk held at boot, and then a line for each.
+fn print_boot_files<O: Write>(files: &FileTable, out: &mut O) -> Result<(), Fault> {
     let count = files.count();
     writeln!(out, "files {count}")?;
-    for place in 0..count {
-        let length = files.length(place);
-        out.write_all(files.name(place))?;
-        writeln!(out, " {length}")?;
-    }
-    Ok(())
+    print_files(files, out)
 }
 
 /// Applies an event, and prints its answer or its refusal.
@@ -175,7 +165,7 @@ fn act<O: Write>(alloc: Global, core: &mut Core, action: Action, out: &mut O) ->
         Action::Drain => print_drain(core, out),
         Action::Shown(terminal) => print_shown(alloc, core, terminal, out),
         Action::Trace(pid) => print_trace(alloc, core, pid, out),
-        Action::Files => print_files(core.boot_files(), out),
+        Action::Files => print_boot_files(core.boot_files(), out),
     }
 }
 

@@ -3,9 +3,9 @@ ghost use Rattle.std.specs.Prelude.{◌≡◌, ◌<◌, ◌≤◌, IfOk, IfSome,
 
 use crate::fault::Fault;
 use byte_list::Bytes;
-use hex::{FromHex, FromHexError};
 use kernel::Event;
 use kernel_model::{TAPES, TERMINALS};
+use line_words::{bytes_of, hexadecimal};
 use std::alloc::{AllocError, Global};
 
 /// The most programs of a script.
@@ -15,7 +15,7 @@ const MOST_PROGRAMS: usize = 8;
 const MOST_WORDS: usize = 61440;
 
 /// The most bytes of a tape.
-const MOST_TAPE_BYTES: usize = 65536;
+pub const MOST_TAPE_BYTES: usize = 65536;
 
 /// The words of a program, 1 to 61,440, for the addresses from 0x00010000 on.
 #[derive(Drop)]
@@ -111,17 +111,7 @@ enum Line {
 
 /// A decimal number below 2^32. Leading zeros are allowed, a sign is not.
 fn decimal(word: &str) -> Option<u32> {
-    if word.bytes().all(|byte| byte.is_ascii_digit()) {
-        word.parse::<u32>().ok()
-    } else {
-        None
-    }
-}
-
-/// A word of eight hexadecimal digits, the highest first.
-fn hexadecimal(word: &str) -> Option<u32> {
-    let bytes = <[u8; 4] as FromHex>::from_hex(word).ok()?;
-    Some(u32::from_be_bytes(bytes))
+    u32::try_from(line_words::decimal(word)?).ok()
 }
 
 /// A terminal's number, in decimal.
@@ -189,19 +179,6 @@ fn image_of(alloc: Global, words: &[&str]) -> Result<Option<Line>, AllocError> {
             source: Source::Image(String::from_str(alloc, path)?),
         }))),
         _ => Ok(None),
-    }
-}
-
-/// The bytes of a word of pairs of hexadecimal digits, or none for `-`. None where it has no such form.
-fn bytes_of(alloc: Global, word: &str) -> Result<Option<Bytes>, AllocError> {
-    match word {
-        "" => Ok(None),
-        "-" => Ok(Some(Bytes::empty(alloc))),
-        digits => match hex::decode(alloc, digits) {
-            Ok(bytes) => Ok(Some(Bytes::new(bytes))),
-            Err(FromHexError::OutOfMemory) => Err(AllocError),
-            Err(_) => Ok(None),
-        },
     }
 }
 

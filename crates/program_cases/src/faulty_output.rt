@@ -2,6 +2,8 @@
 use anyhow::{Error, ensure};
 use std::io::{self, ErrorKind, Write};
 use std::rt::Files;
+use std::sync::Wait;
+use std::thread::Threads;
 
 /// An output that takes so many writes, and then fails.
 #[derive(Drop)]
@@ -30,7 +32,7 @@ const SCRIPT: &[u8] =
 
 /// Runs the program with this word, if it is one, on the script: it fills the output's room, and ends with this status
 /// and this text on standard error.
-fn check_room<R: Files + AllocGlobal>(
+fn check_room<R: Files + AllocGlobal + Threads + Wait + Sync>(
     rt: &R,
     word: &str,
     room: usize,
@@ -56,7 +58,7 @@ fn check_room<R: Files + AllocGlobal>(
 }
 
 /// One write is enough for all output, of a script and of help; where there is none, the status is 6.
-pub fn check<R: Files + AllocGlobal>(rt: &R) -> Result<(), Error> {
+pub fn check<R: Files + AllocGlobal + Threads + Wait + Sync>(rt: &R) -> Result<(), Error> {
     for word in ["", "--help"] {
         check_room(rt, word, 1, 0, "")?;
         check_room(rt, word, 0, 6, "bench: input or output failed\n")?;

@@ -27,6 +27,8 @@ use anyhow::{Error, bail, ensure};
 use std::alloc::{AllocError, Global};
 use std::fs;
 use std::rt::Files;
+use std::sync::Wait;
+use std::thread::Threads;
 
 /// A case: its script so far, what is to be printed, the replies of its programs, and its image's file.
 #[derive(Drop)]
@@ -247,7 +249,10 @@ fn read_case(alloc: Global, text: &str) -> Result<Case, Error> {
 }
 
 /// Runs a case's script, beside its image's file, if it has one.
-fn run_case<R: Files + AllocGlobal>(rt: &R, case: &Case) -> Result<Ran, Error> {
+fn run_case<R: Files + AllocGlobal + Threads + Wait + Sync>(
+    rt: &R,
+    case: &Case,
+) -> Result<Ran, Error> {
     if case.file.is_empty() {
         return Ok(run(rt, "", case.script.as_bytes())?);
     }
@@ -267,7 +272,10 @@ fn compare_run(alloc: Global, ran: &Ran, wanted: &str) -> Result<(), Error> {
 }
 
 /// Runs a case, and compares what it prints.
-pub fn check<R: Files + AllocGlobal>(rt: &R, text: &str) -> Result<(), Error> {
+pub fn check<R: Files + AllocGlobal + Threads + Wait + Sync>(
+    rt: &R,
+    text: &str,
+) -> Result<(), Error> {
     let case = read_case(rt.alloc(), text)?;
     let ran = run_case(rt, &case)?;
     compare_run(rt.alloc(), &ran, case.printed.as_str())

@@ -17,10 +17,16 @@ mod sessions;
 
 use anyhow::{Error, bail};
 use std::rt::Files;
+use std::sync::Wait;
+use std::thread::Threads;
 use std::{env, fs};
 
 /// Runs a case, in the notation that the name of its file ends with.
-fn check_case<R: Files + AllocGlobal>(rt: &R, name: &str, case: &str) -> Result<(), Error> {
+fn check_case<R: Files + AllocGlobal + Threads + Wait + Sync>(
+    rt: &R,
+    name: &str,
+    case: &str,
+) -> Result<(), Error> {
     if name.ends_with(".calls") {
         kernel_calls::check(rt, case)
     } else {
@@ -29,7 +35,10 @@ fn check_case<R: Files + AllocGlobal>(rt: &R, name: &str, case: &str) -> Result<
 }
 
 /// Runs the cases of a file, and answers how many they are.
-fn check_file<R: Files + AllocGlobal>(rt: &R, name: &str) -> Result<usize, Error> {
+fn check_file<R: Files + AllocGlobal + Threads + Wait + Sync>(
+    rt: &R,
+    name: &str,
+) -> Result<usize, Error> {
     let text = fs::read_to_string(rt, name)?;
     let mut count = 0usize;
     for case in text.as_str().split("\n== ").skip(1) {

@@ -1,6 +1,8 @@
 //! Runs of the whole program, over text in memory.
 use std::alloc::AllocError;
 use std::rt::Files;
+use std::sync::Wait;
+use std::thread::Threads;
 
 /// What a run wrote, and its exit status.
 #[derive(Drop)]
@@ -11,7 +13,11 @@ pub struct Ran {
 }
 
 /// Runs the program with these words, parted by blanks, on an input.
-pub fn run<R: Files + AllocGlobal>(rt: &R, words: &str, input: &[u8]) -> Result<Ran, AllocError> {
+pub fn run<R: Files + AllocGlobal + Threads + Wait + Sync>(
+    rt: &R,
+    words: &str,
+    input: &[u8],
+) -> Result<Ran, AllocError> {
     let mut list = Vec::new(rt.alloc());
     for word in words.split_whitespace() {
         list.push(String::from_str(rt.alloc(), word)?)?;

@@ -18,6 +18,8 @@ use anyhow::{Error, bail, ensure};
 use std::alloc::Global;
 use std::fs;
 use std::rt::Files;
+use std::sync::Wait;
+use std::thread::Threads;
 
 /// What stands for bytes that a line does not show, and the byte, each after a backslash.
 const ESCAPES: [(&str, u8); 4] = [("t", b'\t'), ("r", b'\r'), ("s", b' '), ("xff", 0xFF)];
@@ -150,7 +152,7 @@ impl Run {
     }
 
     /// Runs the program, and compares.
-    fn check<R: Files + AllocGlobal>(&self, rt: &R) -> Result<(), Error> {
+    fn check<R: Files + AllocGlobal + Threads + Wait + Sync>(&self, rt: &R) -> Result<(), Error> {
         let ran = run(rt, self.words.as_str(), self.input.as_slice())?;
         match self.compare(&ran) {
             Ok(()) => Ok(()),
@@ -215,7 +217,7 @@ enum Reading {
 
 impl Reading {
     /// Does what was read.
-    fn end<R: Files + AllocGlobal>(&self, rt: &R) -> Result<(), Error> {
+    fn end<R: Files + AllocGlobal + Threads + Wait + Sync>(&self, rt: &R) -> Result<(), Error> {
         match self {
             Reading::Nothing => Ok(()),
             Reading::Run(run) => run.check(rt),
@@ -261,7 +263,7 @@ fn parted(line: &str) -> (&str, &str) {
 }
 
 /// Reads a line of a case.
-fn read_line<R: Files + AllocGlobal>(
+fn read_line<R: Files + AllocGlobal + Threads + Wait + Sync>(
     rt: &R,
     reading: &mut Reading,
     line: &str,
@@ -275,7 +277,10 @@ fn read_line<R: Files + AllocGlobal>(
 }
 
 /// Runs a case, whose first line is its title.
-pub fn check<R: Files + AllocGlobal>(rt: &R, case: &str) -> Result<(), Error> {
+pub fn check<R: Files + AllocGlobal + Threads + Wait + Sync>(
+    rt: &R,
+    case: &str,
+) -> Result<(), Error> {
     let mut reading = Reading::Nothing;
     for line in case.lines().skip(1) {
         if !line.is_empty() && !line.starts_with('#') {

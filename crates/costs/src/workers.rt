@@ -1,0 +1,190 @@
+//! What many workers gain: the time of eight programs by one worker, by two and by four, beside the time of the same instructions
+//! by machines alone, one after the other.
+ghost use Rattle.std.specs.Prelude.{◌≡◌, ◌≤◌, ◌<◌, length, vec_len, IfOk};
+ghost use Rattle.std.specs.List.{AllByRecursion};
+
+use anyhow::{Error, bail};
+use assembler::assemble;
+use byte_list::Bytes;
+use executor::{Settings, run};
+use formats::Reg;
+use kernel::{Core, Program, SimDisk};
+use machine::Machine;
+use machine_model::{Image, Reply, Stop};
+use std::alloc::Global;
+use std::io::sink;
+use std::sync::Wait;
+use std::thread::Threads;
+use std::time::{Clock, Duration, Instant};
+
+/// How many programs run side by side.
+const PROGRAMS: u32 = 8;
+
+/// The call by which a program ends.
+const EXIT: u32 = 1;
+
+/// The most instructions of a loan.
+const QUANTUM: u32 = 10_000;
+
+/// Computes, some 20 million instructions, and ends.
+const COMPUTES: &str = "
+_start: li t0,4000000
+loop:   addi t1,t1,3
+        xor t2,t2,t1
+        add t3,t3,t2
+        addi t0,t0,-1
+        bne t0,zero,loop
+        li a0,0
+        li a7,1
+        ecall
+";
+
+/// Writes a byte to its terminal after every 1,000 instructions, 5,000 times, and ends.
+const WRITES: &str = "
+_start: li s0,5000
+        addi a1,sp,-4
+        li a2,1
+        li a7,2
+again:  li t0,331
+loop:   xor t2,t2,t1
+        addi t0,t0,-1
+        bne t0,zero,loop
+        li a0,1
+        ecall
+        addi s0,s0,-1
+        bne s0,zero,again
+        li a0,0
+        li a7,1
+        ecall
+";
+
+/// What the programs do.
+pub struct Load {
+    pub does: &'static str,
+    source: &'static str,
+}
+
+pub const LOADS: [Load; 2] = [
+    Load {
+        does: "compute",
+        source: COMPUTES,
+    },
+    Load {
+        does: "write in every 1000 instructions",
+        source: WRITES,
+    },
+];
+
+/// The image of a load's program.
+fn image_of(alloc: Global, load: &Load) -> Result<Image, Error> {
+    let (image, _listing) = assemble(alloc, load.source)?;
+    Ok(image)
+}
+
+/// The programs of a load, each with a terminal of its own.
+fn programs_of(alloc: Global, load: &Load) -> Result<Vec<Program>, Error>
+    ensures len { IfOk result (λ programs. length programs.items ≡ 8) }
+    ensures terminals { IfOk result (λ programs. AllByRecursion (λ p. p.terminal < 8) programs.items) }
+{
+    let mut programs = Vec::new(alloc);
+    for terminal in 0..PROGRAMS {
+        let image = image_of(alloc, load)?;
+        programs.push(Program { image, terminal })?;
+    }
+    Ok(programs)
+}
+
+/// A core of the programs of a load.
+fn boot(alloc: Global, load: &Load) -> Result<Core, Error> {
+    let programs = programs_of(alloc, load)?;
+    let device = SimDisk::zero(alloc)?;
+    Ok(Core::boot(alloc, device, programs, Vec::new(alloc))?)
+}
+
+/// The time that so many workers take.
+fn time_of<R: AllocGlobal + Clock + Threads + Wait + Sync>(
+    rt: &R,
+    load: &Load,
+    workers: u32,
+) -> Result<Duration, Error>
+    requires some { 1 ≤ workers }
+    requires few { workers ≤ 16 }
+{
+    let settings = Settings {
+        workers,
+        quantum: QUANTUM,
+        terminal: 0,
+    };
+    let core = boot(rt.alloc(), load)?;
+    let start = Instant::now(rt)?;
+    if run(rt, rt.alloc(), core, settings, &mut sink()).is_err() {
+        bail!("the run ended early");
+    }
+    Ok(start.elapsed(rt)?)
+}
+
+/// How many instructions one machine may do, all in all.
+const ENOUGH: u64 = 1 << 39;
+
+/// Runs a machine to the end of its program, with 1 as the reply to each of its calls but the last.
+fn run_alone(alloc: Global, machine: &mut Machine) {
+    let reply = Reply {
+        a0: 1,
+        at: 0,
+        bytes: Bytes::empty(alloc),
+    };
+    for _ in 0..u32::MAX {
+        if machine.count() >= ENOUGH {
+            return;
+        }
+        let (_count, stop) = machine.run(u32::MAX);
+        if stop != Stop::Call || machine.reg(Reg::new(17)) == EXIT {
+            return;
+        }
+        machine.reply(&reply);
+    }
+}
+
+/// The time of the programs of a load by machines alone, one after the other.
+fn time_alone<R: AllocGlobal + Clock>(rt: &R, load: &Load) -> Result<Duration, Error> {
+    let alloc = rt.alloc();
+    let image = image_of(alloc, load)?;
+    let start = Instant::now(rt)?;
+    for _ in 0..PROGRAMS {
+        let mut machine = Machine::load(alloc, &image)?;
+        run_alone(alloc, &mut machine);
+    }
+    Ok(start.elapsed(rt)?)
+}
+
+/// A time beside another, in thousandths.
+fn ratio(time: Duration, other: Duration) -> u128 {
+    time.as_nanos().saturating_mul(1000) / other.as_nanos().max(1)
+}
+
+/// What a load takes of the time of another run, in thousandths.
+#[derive(Clone, Copy)]
+pub struct Ratios {
+    /// One worker, beside the machines alone.
+    pub one: u128,
+    /// Two workers, beside one.
+    pub two: u128,
+    /// Four workers, beside one.
+    pub four: u128,
+}
+
+/// Measures a load.
+pub fn ratios_of<R: AllocGlobal + Clock + Threads + Wait + Sync>(
+    rt: &R,
+    load: &Load,
+) -> Result<Ratios, Error> {
+    let alone = time_alone(rt, load)?;
+    let one = time_of(rt, load, 1)?;
+    let two = time_of(rt, load, 2)?;
+    let four = time_of(rt, load, 4)?;
+    Ok(Ratios {
+        one: ratio(one, alone),
+        two: ratio(two, one),
+        four: ratio(four, one),
+    })
+}

@@ -1,0 +1,18 @@
+//! The commands of a debugger, read from a person and answered in text: `debug` is a whole session, `read_trace` the replies that the
+//! program's calls take in it.
+#![tactic(auto)]
+
+mod changes;
+mod command;
+mod fault;
+mod moving;
+mod refusal;
+mod registers;
+mod session;
+mod standing;
+mod trace;
+mod writable;
+
+pub use fault::SessionFault;
+pub use session::debug;
+pub use trace::read_trace;

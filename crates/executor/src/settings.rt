@@ -1,0 +1,16 @@
+//! How a run is done.
+ghost use Rattle.std.specs.Prelude.{◌<◌, ◌≤◌};
+
+/// How a run is done.
+#[derive(Clone, Copy)]
+pub struct Settings {
+    /// How many worker threads there are, 1 to 16.
+    pub workers: u32,
+    /// The most instructions of a loan.
+    pub quantum: u32,
+    /// The terminal whose bytes are written out, 0 to 7.
+    pub terminal: u32,
+    ghost some: { 1 ≤ workers },
+    ghost few: { workers ≤ 16 },
+    ghost there: { terminal < 8 },
+}

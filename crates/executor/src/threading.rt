@@ -1,0 +1,208 @@
+//! The run of a core.
+ghost use Rattle.std.specs.Prelude.{◌≡◌, ◌≤◌, ◌<◌};
+ghost use Rattle.kernel_model.specs.Answers.{now, committed as committed_in, changes as changes_in};
+
+use crate::disk::DiskThread;
+use crate::fault::RunFault;
+use crate::rest::Rest;
+use crate::screen::Screen;
+use crate::settings::Settings;
+use crate::watch::Watch;
+use bursts::{Bench, Blanks, Board, Gate, LockedDesk, Naming, Share, gather};
+use kernel::Core;
+use pool::{Pool, Seat, pool_crew};
+use std::alloc::{AllocError, Global};
+use std::io::Write;
+use std::marker::Brand;
+use std::sync::{Mutex, Wait};
+use std::thread;
+use std::thread::Threads;
+
+/// A gate that holds nobody.
+#[derive(Drop)]
+struct Open;
+
+impl Gate for Open {
+    fn hold(&mut self, _pid: u32) {}
+}
+
+/// A worker: its seat, and its gate.
+type Worker<'p, 'b, N> = (Seat<'p, 'b, N>, Open);
+
+/// The workers, until the thread that leads them takes them.
+#[derive(Drop)]
+struct Crew<'x, 'p, 'b, N: Naming> {
+    workers: Option<&'x mut [Worker<'p, 'b, N>]>,
+}
+
+/// What the threads of a run share.
+#[derive(Drop)]
+struct Threading<'x, 'r, 'p, 'b, N: Naming, R: Wait> {
+    bench: &'p Mutex<Bench<'b, N>>,
+    crew: Mutex<Crew<'x, 'p, 'b, N>>,
+    disk: Mutex<DiskThread<'r, 'p, 'b, N, R>>,
+    watch: Watch,
+    quantum: u32,
+}
+
+/// Runs a core until every process has ended, or nothing is lent and nothing is lendable: worker threads run the processes, one
+/// thread commits what output waits for, and what a terminal shows is written out at once. Then all changes are committed,
+/// and the rest is written. Answers the core as it then stands.
+///
+/// OutOfMemory: memory, a thread, or room in the history could not be had. Output: what the terminal shows could not be written.
+/// Either ends the run; what was written stays.
+pub fn run<R: Threads + Wait + Sync, O: Write>(
+    rt: &R,
+    alloc: Global,
+    core: Core,
+    settings: Settings,
+    out: &mut O,
+) -> Result<Core, RunFault> {
+    let mut screen = Screen::new(out, settings.terminal);
+    let mut core = run_named::<Brand, R, O>(rt, alloc, core, Blanks::new(), settings, &mut screen)?;
+    core.drain()?;
+    screen.finish(core.shown(settings.terminal))?;
+    Ok(core)
+}
+
+/// The run up to where no worker works any more, with the names of its ledgers and its board.
+fn run_named<N: Naming + Send + Sync, R: Threads + Wait + Sync, O: Write>(
+    rt: &R,
+    alloc: Global,
+    core: Core,
+    blanks: Blanks,
+    settings: Settings,
+    screen: &mut Screen<'_, O>,
+) -> Result<Core, RunFault>
+    requires committed { committed_in (now core) ≡ N.committed }
+    requires changes { changes_in (now core) ≡ N.changes }
+    requires events { (blanks.events.name ≡ N.events) × (blanks.events.parts ≡ 64) }
+    requires ran { (blanks.ran.name ≡ N.ran) × (blanks.ran.parts ≡ 64) }
+    requires turns { (blanks.turns.name ≡ N.turns) × (blanks.turns.parts ≡ 64) }
+    requires enters { (blanks.enters.name ≡ N.enters) × (blanks.enters.parts ≡ 64) }
+{
+    let (board, writer, pass) = Board::<N>::new(alloc, &core)?;
+    let (bench, mut share) = Bench::new(core, &board, writer, blanks);
+    let Ok(pool) = Pool::new(alloc, bench, settings.workers) else {
+        return Err(RunFault::OutOfMemory);
+    };
+    let mut workers = workers_of(alloc, &pool, &mut share)?;
+    let bench = pool.bench();
+    let desk = LockedDesk::new(rt, bench, share);
+    let disk = DiskThread::new(&board, pass, bench, desk);
+    let seats = workers.as_mut_slice();
+    let threading = Threading {
+        bench,
+        crew: Mutex::new(Crew {
+            workers: Some(seats),
+        }),
+        disk: Mutex::new(disk),
+        watch: Watch::new(),
+        quantum: settings.quantum,
+    };
+    run_threads(rt, alloc, &threading, screen);
+    threading.result()?;
+    drop(workers);
+    Ok(gather(pool.end(), Vec::new(alloc)))
+}
+
+/// A worker for each seat of a pool.
+fn workers_of<'p, 'b, N: Naming>(
+    alloc: Global,
+    pool: &'p Pool<'b, N>,
+    share: &mut Share<N>,
+) -> Result<Vec<Worker<'p, 'b, N>>, AllocError>
+    requires { pool.now.workers < share.old.parts }
+{
+    let mut workers = Vec::new(alloc);
+    for seat in pool.seats(alloc, share)? {
+        workers.push((seat, Open))?;
+    }
+    Ok(workers)
+}
+
+/// Starts the threads, and writes what the terminal shows until no worker works any more; then waits for the threads.
+fn run_threads<N: Naming + Send + Sync, R: Threads + Wait + Sync, O: Write>(
+    rt: &R,
+    alloc: Global,
+    threading: &Threading<'_, '_, '_, '_, N, R>,
+    screen: &mut Screen<'_, O>,
+) {
+    let screen = Mutex::new(screen);
+    let screen = &screen;
+    thread::scope(thread::scope_env(), rt, |scope| {
+        let is_led = scope.spawn(move || lead(rt, threading)).is_ok();
+        let is_served = scope.spawn(move || commit(rt, threading)).is_ok();
+        if !is_led {
+            threading.watch.end();
+        }
+        if !is_led || !is_served {
+            threading.give_up(rt, RunFault::OutOfMemory);
+        }
+        show(rt, alloc, threading, screen);
+    });
+}
+
+/// What the thread does that leads the workers.
+fn lead<N: Naming + Send + Sync, R: Threads + Wait + Sync>(
+    rt: &R,
+    threading: &Threading<'_, '_, '_, '_, N, R>,
+) {
+    if let Some(workers) = workers_in(rt, &threading.crew) {
+        if let Err(fault) = pool_crew(rt, workers, threading.quantum) {
+            threading.watch.note(rt, RunFault::from(fault));
+        }
+    }
+    threading.watch.end();
+}
+
+/// The workers, the first time.
+fn workers_in<'x, 'p, 'b, N: Naming, R: Wait>(
+    rt: &R,
+    crew: &Mutex<Crew<'x, 'p, 'b, N>>,
+) -> Option<&'x mut [Worker<'p, 'b, N>]> {
+    crew.lock(rt).workers.take()
+}
+
+/// What the disk's thread does.
+fn commit<N: Naming, R: Wait>(rt: &R, threading: &Threading<'_, '_, '_, '_, N, R>) {
+    let mut disk = threading.disk.lock(rt);
+    disk.serve(rt, &threading.watch);
+}
+
+/// Writes what the terminal shows, until no worker works any more, or until it cannot be written.
+fn show<N: Naming, R: Wait, O: Write>(
+    rt: &R,
+    alloc: Global,
+    threading: &Threading<'_, '_, '_, '_, N, R>,
+    screen: &Mutex<&mut Screen<'_, O>>,
+) {
+    let mut screen = screen.lock(rt);
+    let mut rest = Rest::new();
+    for _ in rt.forever() {
+        let is_over = threading.watch.is_over();
+        match screen.refresh(rt, alloc, threading.bench) {
+            Ok(true) => rest.end(),
+            Ok(false) if is_over => return,
+            Ok(false) => rest.take(rt),
+            Err(fault) => {
+                threading.give_up(rt, fault);
+                return;
+            }
+        }
+    }
+}
+
+impl<N: Naming, R: Wait> Threading<'_, '_, '_, '_, N, R> {
+    /// The first fault, if one came. What the threads shared goes.
+    fn result(self) -> Result<(), RunFault> {
+        let Threading { watch, .. } = self;
+        watch.result()
+    }
+
+    /// Keeps the fault, and has the workers stop.
+    fn give_up<W: Wait>(&self, rt: &W, fault: RunFault) {
+        self.watch.note(rt, fault);
+        self.bench.lock(rt).stop();
+    }
+}

@@ -1,0 +1,45 @@
+//! How processes stand at the end of a run.
+use crate::fault::Fault;
+use kernel::{Core, Refused, Standing};
+use std::io::Write;
+
+/// The most processes of a run.
+const MOST_PROCESSES: u32 = 1024;
+
+/// Prints the status with which a process ended, where it is handed out.
+fn print_end<E: Write>(
+    pid: u32,
+    status: Result<Option<u32>, Refused>,
+    err: &mut E,
+) -> Result<(), Fault> {
+    match status {
+        Ok(Some(status)) => writeln!(err, "process {pid} ended {status}")?,
+        _ => writeln!(err, "process {pid} held")?,
+    }
+    Ok(())
+}
+
+/// Prints how a process stands.
+fn print_process<E: Write>(
+    core: &Core,
+    pid: u32,
+    standing: Standing,
+    err: &mut E,
+) -> Result<(), Fault> {
+    match standing {
+        Standing::Ended => print_end(pid, core.ended(pid), err),
+        Standing::Waits => Ok(writeln!(err, "process {pid} waits")?),
+        Standing::Free | Standing::Lent => Ok(writeln!(err, "process {pid} stopped")?),
+    }
+}
+
+/// Prints a line for each process, by rising number.
+pub fn print_processes<E: Write>(core: &Core, err: &mut E) -> Result<(), Fault> {
+    for pid in 1..=MOST_PROCESSES {
+        match core.standing(pid) {
+            Ok(standing) => print_process(core, pid, standing, err)?,
+            Err(_) => return Ok(()),
+        }
+    }
+    Ok(())
+}

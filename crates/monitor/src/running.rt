@@ -1,0 +1,94 @@
+//! Runs of images by many workers.
+ghost use Rattle.std.specs.Prelude.{◌≡◌, ◌≤◌, ◌<◌, true, length, IfOk};
+ghost use Rattle.std.specs.List.{AllByRecursion};
+ghost use Rattle.disk_model.specs.Storage.{is_quiet};
+
+use crate::disk_file::{disk_or_zeros, keep, zeros};
+use crate::fault::Fault;
+use crate::process_lines::print_processes;
+use crate::reading::{bytes_in, image_in};
+use crate::run_options::RunOptions;
+use crate::script::MOST_TAPE_BYTES;
+use byte_list::Bytes;
+use executor::run;
+use kernel::{Core, Program, SimDisk};
+use std::io::Write;
+use std::rt::Files;
+use std::sync::Wait;
+use std::thread::Threads;
+
+/// The tape in a file.
+fn tape_in<R: Files + AllocGlobal>(rt: &R, path: &str) -> Result<Bytes, Fault> {
+    let bytes = bytes_in(rt, path, MOST_TAPE_BYTES)?;
+    if bytes.len() > MOST_TAPE_BYTES {
+        return Err(Fault::InputOutput);
+    }
+    Ok(Bytes::new(bytes))
+}
+
+/// The tapes of a run: the first one, from a file, or none.
+fn tapes_in<R: Files + AllocGlobal>(rt: &R, path: Option<&str>) -> Result<Vec<Bytes>, Fault>
+    ensures { IfOk result (λ tapes. length tapes.items ≤ 8) }
+{
+    let alloc = rt.alloc();
+    match path {
+        Some(path) => Ok(vec![in alloc; tape_in(rt, path)?]?),
+        None => Ok(Vec::new(alloc)),
+    }
+}
+
+/// The programs of images, each with the terminal of its place.
+fn programs_in<R: Files + AllocGlobal>(rt: &R, paths: &[&str]) -> Result<Vec<Program>, Fault>
+    requires few { length paths.now ≤ 8 }
+    ensures len { IfOk result (λ programs. length programs.items ≡ length paths.now) }
+    ensures terminals { IfOk result (λ programs. AllByRecursion (λ p. p.terminal < 8) programs.items) }
+{
+    let mut programs = Vec::new(rt.alloc());
+    for path in paths {
+        let terminal = programs.len() as u32;
+        let image = image_in(rt, path)?;
+        programs.push(Program { image, terminal })?;
+    }
+    Ok(programs)
+}
+
+/// The disk of a run: that of a file, or zeros.
+fn device_in<R: Files + AllocGlobal>(rt: &R, path: Option<&str>) -> Result<SimDisk, Fault>
+    ensures { IfOk result (λ device. is_quiet device ≡ true) }
+{
+    match path {
+        Some(path) => disk_or_zeros(rt, path),
+        None => zeros(rt.alloc()),
+    }
+}
+
+/// The core of a run. The tape is read first, then the images by their place, then the disk.
+fn boot<R: Files + AllocGlobal>(rt: &R, options: &RunOptions<'_>) -> Result<Core, Fault> {
+    let tapes = tapes_in(rt, options.tape)?;
+    let programs = programs_in(rt, options.images.as_slice())?;
+    let device = device_in(rt, options.disk)?;
+    Ok(Core::boot(rt.alloc(), device, programs, tapes)?)
+}
+
+/// Keeps the disk that a run leaves, if it is to be kept.
+fn keep_disk<R: Files + AllocGlobal>(rt: &R, path: Option<&str>, core: Core) -> Result<(), Fault> {
+    match path {
+        Some(path) => keep(rt, path, &core.halt(&[])),
+        None => Ok(()),
+    }
+}
+
+/// Runs images to their end. What the terminal shows is printed as it is shown; then, on `err`, how each process stands; and then
+/// the disk is kept, if it is to be.
+pub fn run_images<R: Files + AllocGlobal + Threads + Wait + Sync, O: Write, E: Write>(
+    rt: &R,
+    options: &RunOptions<'_>,
+    out: &mut O,
+    err: &mut E,
+) -> Result<(), Fault> {
+    let core = boot(rt, options)?;
+    let core = run(rt, rt.alloc(), core, options.settings, out)?;
+    out.flush()?;
+    print_processes(&core, err)?;
+    keep_disk(rt, options.disk, core)
+}

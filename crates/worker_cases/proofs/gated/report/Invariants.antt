@@ -1,0 +1,13 @@
+-- The run is named by its own ledgers and its core's pair.
+use Rattle.kernel_model.specs.Answers.{now, committed, changes}
+use Rattle.worker_cases.proofs.gated.report.Given as goal
+
+abbrev pub ghosts-run : goal.ghosts-run
+ghosts-run g a = record {
+  events = a.blanks.events.name;
+  ran = a.blanks.ran.name;
+  turns = a.blanks.turns.name;
+  enters = a.blanks.enters.name;
+  committed = committed (now a.core);
+  changes = changes (now a.core);
+}

@@ -1,0 +1,73 @@
+//! The two programs, and a gate that holds nobody.
+use anyhow::Error;
+use bursts::{Done, Gate, run_loan};
+use kernel::{Core, Program, SimDisk};
+use machine_model::Image;
+use std::alloc::Global;
+
+/// A program that creates a file `f`, writes 3 bytes to it, of which the first is `A`, writes that byte to its terminal, and exits.
+const WRITER: [u32; 19] = [
+    0x0660_0293,
+    0xfe51_2e23,
+    0xffc1_0513,
+    0x0010_0593,
+    0x0020_0613,
+    0x0040_0893,
+    0x0000_0073,
+    0x0410_0293,
+    0xfe51_2e23,
+    0xffc1_0593,
+    0x0030_0613,
+    0x0020_0893,
+    0x0000_0073,
+    0x0010_0513,
+    0x0010_0613,
+    0x0000_0073,
+    0x0000_0513,
+    0x0010_0893,
+    0x0000_0073,
+];
+
+/// A program that writes `B` to its terminal, and exits.
+const PRINTER: [u32; 10] = [
+    0x0420_0293,
+    0xfe51_2e23,
+    0x0010_0513,
+    0xffc1_0593,
+    0x0010_0613,
+    0x0020_0893,
+    0x0000_0073,
+    0x0000_0513,
+    0x0010_0893,
+    0x0000_0073,
+];
+
+/// A gate that holds nobody.
+#[derive(Drop)]
+pub struct Open;
+
+impl Gate for Open {
+    fn hold(&mut self, _pid: u32) {}
+}
+
+/// A core of both programs, on terminals 0 and 1.
+pub fn boot(alloc: Global) -> Result<Core, Error> {
+    let writer = Program {
+        image: Image::from_text(alloc, &WRITER)?,
+        terminal: 0,
+    };
+    let printer = Program {
+        image: Image::from_text(alloc, &PRINTER)?,
+        terminal: 1,
+    };
+    let programs = vec![in alloc; writer, printer]?;
+    let device = SimDisk::zero(alloc)?;
+    Ok(Core::boot(alloc, device, programs, Vec::new(alloc))?)
+}
+
+/// The result of the first loan of another core of these programs, for a quantum of its own.
+pub fn result_of_another(alloc: Global) -> Result<Option<Done>, Error> {
+    let mut core = boot(alloc)?;
+    let loan = core.lend(50)?;
+    Ok(loan.map(|loan| run_loan(loan)))
+}
