@@ -82,14 +82,15 @@ fn run_named<N: Naming + Send + Sync, R: Threads + Wait + Sync, O: Write>(
     requires enters { (blanks.enters.name ≡ N.enters) × (blanks.enters.parts ≡ 64) }
 {
     let (board, writer, pass) = Board::<N>::new(alloc, &core)?;
-    let (bench, mut share) = Bench::new(core, &board, writer, blanks);
+    let board = &board;
+    let (bench, mut share) = Bench::new(core, board, writer, blanks);
     let Ok(pool) = Pool::new(alloc, bench, settings.workers) else {
         return Err(RunFault::OutOfMemory);
     };
     let mut workers = workers_of(alloc, &pool, &mut share)?;
     let bench = pool.bench();
     let desk = LockedDesk::new(rt, bench, share);
-    let disk = DiskThread::new(&board, pass, bench, desk);
+    let disk = DiskThread::new(board, pass, bench, desk);
     let seats = workers.as_mut_slice();
     let threading = Threading {
         bench,
