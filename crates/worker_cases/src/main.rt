@@ -4,10 +4,13 @@
 #![tactic(auto)]
 
 mod by_crew;
+mod case;
+mod fault;
 mod gated;
 mod programs;
 mod stranger;
 mod turns;
+mod workers;
 
 use anyhow::Error;
 

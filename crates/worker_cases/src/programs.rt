@@ -43,7 +43,7 @@ const PRINTER: [u32; 10] = [
 ];
 
 /// A gate that holds nobody.
-#[derive(Drop)]
+#[derive(Clone, Copy)]
 pub struct Open;
 
 impl Gate for Open {
