@@ -5,8 +5,7 @@ use crate::case::{Case, Found, Played, play as play_case};
 use crate::fault::Fault;
 use crate::programs::Open;
 use crate::workers::work;
-use anyhow::Error;
-use bursts::{Bench, Desk, LockedDesk, Naming, Share, totals_of};
+use bursts::{Bench, Desk, LockedDesk, Naming, Share};
 use pool::Pool;
 use std::alloc::{AllocError, Global};
 use std::sync::{Mutex, Wait};
@@ -64,19 +63,7 @@ fn commit<D: Desk>(desk: &mut D) -> Result<(), Fault> {
 }
 
 /// The case, in a line.
-pub fn report<R: Threads + Wait + Sync>(rt: &R, alloc: Global) -> Result<String, Error> {
-    let played = play_case(rt, alloc, Case::ByCrew)?;
-    line(alloc, &played)
-}
-
-/// What the case comes to, in a line.
-fn line(alloc: Global, played: &Played) -> Result<String, Error> {
-    let found = &played.found;
-    let shown = played.shown;
-    let totals = totals_of(&played.core);
-    let first = hex::encode(alloc, played.core.shown(0))?;
-    let second = hex::encode(alloc, played.core.shown(1))?;
-    Ok(format!(in alloc;
-        "two workers: {found}, then {totals:?}; shown 0 {first}, shown 1 {second}; the board {shown:?}"
-    )?)
+pub fn report<R: Threads + Wait + Sync>(rt: &R, alloc: Global) -> Result<String, Fault> {
+    let Played { found, core, shown } = play_case(rt, alloc, Case::ByCrew)?;
+    Ok(format!(in alloc; "two workers: {found}, then {core}; the board {shown:?}")?)
 }

@@ -5,11 +5,10 @@ ghost use Rattle.kernel_model.specs.Answers.{now, committed as committed_in, cha
 use crate::fault::Fault;
 use crate::programs::boot;
 use crate::{by_crew, gated, stranger, turns};
-use anyhow::Error;
-use bursts::{Bench, Blanks, Board, Done, Naming, Share, gather};
+use bursts::{Bench, Blanks, Board, Naming, Share, gather, totals_of};
 use kernel::Core;
 use pool::Pool;
-use std::alloc::Global;
+use std::alloc::{AllocError, Global};
 use std::marker::Brand;
 use std::sync::Wait;
 use std::thread::Threads;
@@ -18,7 +17,7 @@ use std::thread::Threads;
 pub const QUANTUM: u32 = 100;
 
 /// What is done at a pool.
-#[derive(Drop)]
+#[derive(Clone, Copy)]
 pub enum Case {
     /// Two workers run both programs to their ends; then a third desk commits.
     ByCrew,
@@ -26,13 +25,13 @@ pub enum Case {
     Gated,
     /// One turn at a desk, and then turns at the one seat until it is idle; and at the end a crew of nobody.
     Turns,
-    /// This result of another core is handed in before two workers begin.
-    Stranger(Done),
+    /// A result of another core is handed in before two workers begin.
+    Stranger,
 }
 
 impl Case {
     /// For how many workers its pool is.
-    fn workers(&self) -> u32
+    fn workers(self) -> u32
         ensures { (1 ≤ result) × (result ≤ 16) }
     {
         match self {
@@ -47,9 +46,9 @@ impl Case {
 pub struct Played {
     /// What was found at the pool, in words.
     pub found: String,
-    /// The core at the end.
-    pub core: Core,
-    /// What its board shows at the end.
+    /// What the core came to, in words.
+    pub core: String,
+    /// What its board showed at the end.
     pub shown: (u64, u64),
 }
 
@@ -57,10 +56,9 @@ pub struct Played {
 pub type Found<N> = (String, Vec<Share<N>>);
 
 /// Plays a case over a core of both programs.
-pub fn play<R: Threads + Wait + Sync>(rt: &R, alloc: Global, case: Case) -> Result<Played, Error> {
+pub fn play<R: Threads + Wait + Sync>(rt: &R, alloc: Global, case: Case) -> Result<Played, Fault> {
     let core = boot(alloc)?;
-    let played = play_named::<Brand, R>(rt, alloc, core, Blanks::new(), case)?;
-    Ok(played)
+    play_named::<Brand, R>(rt, alloc, core, Blanks::new(), case)
 }
 
 /// Plays a case over this core, with the names of the ledgers and the board.
@@ -86,21 +84,35 @@ fn play_named<N: Naming + Send + Sync, R: Threads + Wait + Sync>(
     Ok(Played { found, core, shown })
 }
 
-/// Plays a case at a pool over this bench, with its one share. Answers what was found, and the core.
+/// Plays a case at a pool over this bench, with its one share. Answers what was found, and what the core came to.
 fn play_over<N: Naming + Send + Sync, R: Threads + Wait + Sync>(
     rt: &R,
     alloc: Global,
     bench: Bench<'_, N>,
     share: Share<N>,
     case: Case,
-) -> Result<(String, Core), Fault>
+) -> Result<(String, String), Fault>
     requires { share.parts ≡ 64 }
 {
-    let Ok(pool) = Pool::new(alloc, bench, case.workers()) else {
-        return Err(Fault::OutOfMemory);
-    };
+    match Pool::new(alloc, bench, case.workers()) {
+        Ok(pool) => play_in(rt, alloc, pool, share, case),
+        Err(_) => Err(Fault::OutOfMemory),
+    }
+}
+
+/// Plays a case at this pool, which then ends.
+fn play_in<N: Naming + Send + Sync, R: Threads + Wait + Sync>(
+    rt: &R,
+    alloc: Global,
+    pool: Pool<'_, N>,
+    share: Share<N>,
+    case: Case,
+) -> Result<(String, String), Fault>
+    requires { pool.workers < share.parts }
+{
     let (found, shares) = play_at(rt, alloc, &pool, share, case)?;
-    Ok((found, gather(pool.end(), shares)))
+    let core = words(alloc, gather(pool.end(), shares))?;
+    Ok((found, core))
 }
 
 /// Plays a case at this pool.
@@ -117,6 +129,19 @@ fn play_at<N: Naming + Send + Sync, R: Threads + Wait + Sync>(
         Case::ByCrew => by_crew::play(rt, alloc, pool, share),
         Case::Gated => gated::play(rt, alloc, pool, share),
         Case::Turns => turns::play(rt, alloc, pool, share),
-        Case::Stranger(done) => stranger::play(rt, alloc, pool, share, done),
+        Case::Stranger => stranger::play(rt, alloc, pool, share),
     }
+}
+
+/// What a core came to, which then ends, in words.
+fn words(alloc: Global, core: Core) -> Result<String, AllocError> {
+    words_of(alloc, &core)
+}
+
+/// What a core came to, in words: its totals, and what its terminals show.
+fn words_of(alloc: Global, core: &Core) -> Result<String, AllocError> {
+    let totals = totals_of(core);
+    let first = hex::encode(alloc, core.shown(0))?;
+    let second = hex::encode(alloc, core.shown(1))?;
+    format!(in alloc; "{totals:?}; shown 0 {first}, shown 1 {second}")
 }

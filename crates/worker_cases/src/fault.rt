@@ -1,5 +1,5 @@
 //! Why a case ends early.
-use kernel::Refused;
+use kernel::{BootFault, Refused};
 use pool::CrewFault;
 use std::alloc::{AllocError, AllocFailed};
 use thiserror::Error;
@@ -10,9 +10,15 @@ pub enum Fault {
     /// Memory could not be had.
     #[error("out of memory")]
     OutOfMemory,
-    /// An event of the disk is refused.
-    #[error("an event of the disk is refused: {0}")]
-    Disk(Refused),
+    /// The core is not booted.
+    #[error("the core is not booted: {0}")]
+    Boot(BootFault),
+    /// The core refuses a loan or an event.
+    #[error("refused: {0}")]
+    Refused(Refused),
+    /// The other core lends nothing.
+    #[error("the other core lends nothing")]
+    NothingLent,
     /// No write is in flight where one was to complete.
     #[error("no write is in flight")]
     NoWrite,
@@ -45,9 +51,15 @@ impl<T: Drop> From<AllocFailed<T>> for Fault {
     }
 }
 
+impl From<BootFault> for Fault {
+    fn from(why: BootFault) -> Fault {
+        Fault::Boot(why)
+    }
+}
+
 impl From<Refused> for Fault {
     fn from(why: Refused) -> Fault {
-        Fault::Disk(why)
+        Fault::Refused(why)
     }
 }
 

@@ -4,7 +4,6 @@ ghost use Rattle.std.specs.Prelude.{◌<◌};
 use crate::case::{Case, Found, play as play_case};
 use crate::fault::Fault;
 use crate::workers::work;
-use anyhow::Error;
 use bursts::{Bench, Gate, Naming, Share};
 use pool::Pool;
 use std::alloc::{AllocError, Global};
@@ -99,8 +98,7 @@ fn work_held<N: Naming + Send + Sync, R: Threads + Wait + Sync>(
 }
 
 /// The case, in a line.
-pub fn report<R: Threads + Wait + Sync>(rt: &R, alloc: Global) -> Result<String, Error> {
-    let played = play_case(rt, alloc, Case::Gated)?;
-    let found = &played.found;
+pub fn report<R: Threads + Wait + Sync>(rt: &R, alloc: Global) -> Result<String, Fault> {
+    let found = play_case(rt, alloc, Case::Gated)?.found;
     Ok(format!(in alloc; "one worker held while the other steals: {found}")?)
 }

@@ -1,9 +1,9 @@
 //! The two programs, and a gate that holds nobody.
-use anyhow::Error;
+use crate::fault::Fault;
 use bursts::{Done, Gate, run_loan};
 use kernel::{Core, Program, SimDisk};
 use machine_model::Image;
-use std::alloc::Global;
+use std::alloc::{AllocError, Global};
 
 /// A program that creates a file `f`, writes 3 bytes to it, of which the first is `A`, writes that byte to its terminal, and exits.
 const WRITER: [u32; 19] = [
@@ -51,7 +51,17 @@ impl Gate for Open {
 }
 
 /// A core of both programs, on terminals 0 and 1.
-pub fn boot(alloc: Global) -> Result<Core, Error> {
+pub fn boot(alloc: Global) -> Result<Core, Fault> {
+    let Ok(device) = SimDisk::zero(alloc) else {
+        return Err(Fault::OutOfMemory);
+    };
+    let programs = programs(alloc)?;
+    let core = Core::boot(alloc, device, programs, Vec::new(alloc))?;
+    Ok(core)
+}
+
+/// Both programs.
+fn programs(alloc: Global) -> Result<Vec<Program>, AllocError> {
     let writer = Program {
         image: Image::from_text(alloc, &WRITER)?,
         terminal: 0,
@@ -60,14 +70,14 @@ pub fn boot(alloc: Global) -> Result<Core, Error> {
         image: Image::from_text(alloc, &PRINTER)?,
         terminal: 1,
     };
-    let programs = vec![in alloc; writer, printer]?;
-    let device = SimDisk::zero(alloc)?;
-    Ok(Core::boot(alloc, device, programs, Vec::new(alloc))?)
+    Ok(vec![in alloc; writer, printer]?)
 }
 
 /// The result of the first loan of another core of these programs, for a quantum of its own.
-pub fn result_of_another(alloc: Global) -> Result<Option<Done>, Error> {
+pub fn result_of_another(alloc: Global) -> Result<Done, Fault> {
     let mut core = boot(alloc)?;
-    let loan = core.lend(50)?;
-    Ok(loan.map(|loan| run_loan(loan)))
+    match core.lend(50)? {
+        Some(loan) => Ok(run_loan(loan)),
+        None => Err(Fault::NothingLent),
+    }
 }

@@ -5,8 +5,7 @@ use crate::case::{Case, Found, QUANTUM, play as play_case};
 use crate::fault::Fault;
 use crate::programs::{Open, result_of_another};
 use crate::workers::{Worker, shares_of, workers_of};
-use anyhow::{Error, bail};
-use bursts::{Bench, Done, Naming, Share};
+use bursts::{Bench, Naming, Share};
 use pool::{Pool, Seat, pool_crew};
 use std::alloc::{AllocError, Global};
 use std::sync::{Mutex, Wait};
@@ -19,13 +18,12 @@ pub fn play<N: Naming + Send + Sync, R: Threads + Wait + Sync>(
     alloc: Global,
     pool: &Pool<'_, N>,
     share: Share<N>,
-    done: Done,
 ) -> Result<Found<N>, Fault>
     requires { pool.now.workers < share.parts }
 {
     let mut share = share;
     let mut workers = workers_of(alloc, pool, &mut share, Open)?;
-    hand_in_first(rt, workers.as_mut_slice(), done)?;
+    hand_in_at_first(rt, alloc, workers.as_mut_slice())?;
     let fault = fault_of(rt, workers.as_mut_slice());
     let found = words(alloc, fault, is_stopped(rt, pool.bench()))?;
     let mut shares = shares_of(alloc, workers)?;
@@ -38,27 +36,30 @@ fn words(alloc: Global, fault: u8, stopped: bool) -> Result<String, AllocError> 
     format!(in alloc; "fault {fault}, stopped {stopped}")
 }
 
-/// Hands a result in at the seat of the first of these workers.
-fn hand_in_first<N: Naming, R: Wait>(
+/// Hands a result of another core in at the seat of the first of these workers.
+fn hand_in_at_first<N: Naming, R: Wait>(
     rt: &R,
+    alloc: Global,
     workers: &mut [Worker<'_, '_, N, Open>],
-    done: Done,
 ) -> Result<(), Fault> {
-    match workers.first_mut() {
-        Some((seat, _gate)) => hand_in(rt, seat, done),
-        None => Err(Fault::NoSeat),
-    }
+    let Some(first) = workers.first_mut() else {
+        return Err(Fault::NoSeat);
+    };
+    let (seat, _gate) = first;
+    hand_in_of_another(rt, alloc, seat)
 }
 
-/// Hands a result in at this seat.
-fn hand_in<N: Naming, R: Wait>(
+/// Hands a result of another core in at this seat.
+fn hand_in_of_another<N: Naming, R: Wait>(
     rt: &R,
+    alloc: Global,
     seat: &mut Seat<'_, '_, N>,
-    done: Done,
 ) -> Result<(), Fault> {
-    match seat.hand_in(rt, done) {
-        Ok(()) => Ok(()),
-        Err(_) => Err(Fault::QueueFull),
+    let done = result_of_another(alloc)?;
+    if seat.hand_in(rt, done).is_ok() {
+        Ok(())
+    } else {
+        Err(Fault::QueueFull)
     }
 }
 
@@ -79,11 +80,7 @@ fn is_stopped<N: Naming, R: Wait>(rt: &R, bench: &Mutex<Bench<'_, N>>) -> bool {
 }
 
 /// The case, in a line.
-pub fn report<R: Threads + Wait + Sync>(rt: &R, alloc: Global) -> Result<String, Error> {
-    let Some(done) = result_of_another(alloc)? else {
-        bail!("the other core lends nothing");
-    };
-    let played = play_case(rt, alloc, Case::Stranger(done))?;
-    let found = &played.found;
+pub fn report<R: Threads + Wait + Sync>(rt: &R, alloc: Global) -> Result<String, Fault> {
+    let found = play_case(rt, alloc, Case::Stranger)?.found;
     Ok(format!(in alloc; "a result of another core: {found}")?)
 }

@@ -5,8 +5,7 @@ use crate::case::{Case, Found, QUANTUM, play as play_case};
 use crate::fault::Fault;
 use crate::programs::Open;
 use crate::workers::{Worker, crew, shares_of, workers_of};
-use anyhow::Error;
-use bursts::{Bench, Desk, LockedDesk, Naming, Share, Turned, worker_turn};
+use bursts::{Bench, Desk, LockedDesk, Naming, Share, Turned, WorkFault, worker_turn};
 use pool::{Pool, Pooled, Seat};
 use std::alloc::{AllocError, Global};
 use std::sync::{Mutex, Wait};
@@ -26,7 +25,7 @@ pub fn play<N: Naming + Send + Sync, R: Threads + Wait + Sync>(
     let mut workers = workers_of(alloc, pool, &mut share, Open)?;
     let share = turn_from(rt, pool.bench(), share)?;
     let count = turns_at_first(rt, workers.as_mut_slice())?;
-    crew::<N, Open, R>(rt, &mut [])?;
+    crew_of_nobody(rt, workers.as_mut_slice())?;
     let mut shares = shares_of(alloc, workers)?;
     shares.push(share)?;
     Ok((words(alloc, count)?, shares))
@@ -50,10 +49,17 @@ fn turn_from<N: Naming, R: Wait>(
 
 /// One turn at a desk, which settles a result.
 fn turn_at<D: Desk>(desk: &mut D) -> Result<(), Fault> {
-    match worker_turn(desk, &mut Open, QUANTUM) {
-        Ok(Turned::Settled(_)) => Ok(()),
-        _ => Err(Fault::NothingSettled),
+    let turned = worker_turn(desk, &mut Open, QUANTUM);
+    if settles(&turned) {
+        Ok(())
+    } else {
+        Err(Fault::NothingSettled)
     }
+}
+
+/// Whether a turn at a desk settled a result.
+fn settles(turned: &Result<Turned, WorkFault>) -> bool {
+    matches!(turned, Ok(Turned::Settled(_)))
 }
 
 /// Turns at the seat of the first of these workers.
@@ -61,33 +67,43 @@ fn turns_at_first<N: Naming, R: Wait>(
     rt: &R,
     workers: &mut [Worker<'_, '_, N, Open>],
 ) -> Result<u32, Fault> {
-    match workers.first_mut() {
-        Some((seat, _gate)) => Ok(turns_at(rt, seat)),
-        None => Err(Fault::NoSeat),
-    }
+    let Some(first) = workers.first_mut() else {
+        return Err(Fault::NoSeat);
+    };
+    let (seat, _gate) = first;
+    Ok(turns_at(rt, seat))
 }
 
 /// How many turns at a seat settle one result each, up to the first that is idle, or settles another number of results.
 fn turns_at<N: Naming, R: Wait>(rt: &R, seat: &mut Seat<'_, '_, N>) -> u32 {
     for count in 0..10 {
-        if !settles_one(rt, seat) {
+        let turned = seat.turn(rt, &mut Open, QUANTUM);
+        if !settles_one(&turned) {
             return count;
         }
     }
     10
 }
 
-/// Whether a turn at a seat settles one result.
-fn settles_one<N: Naming, R: Wait>(rt: &R, seat: &mut Seat<'_, '_, N>) -> bool {
-    match seat.turn(rt, &mut Open, QUANTUM) {
+/// Whether a turn at a seat settled one result.
+fn settles_one(turned: &Result<Pooled, WorkFault>) -> bool {
+    match turned {
         Ok(Pooled::Worked(settling)) => settling.settled == 1,
         _ => false,
     }
 }
 
+/// A crew of none of these workers.
+fn crew_of_nobody<N: Naming + Send + Sync, R: Threads + Wait + Sync>(
+    rt: &R,
+    workers: &mut [Worker<'_, '_, N, Open>],
+) -> Result<(), Fault> {
+    let nobody = &mut workers[..0];
+    crew(rt, nobody)
+}
+
 /// The case, in a line.
-pub fn report<R: Threads + Wait + Sync>(rt: &R, alloc: Global) -> Result<String, Error> {
-    let played = play_case(rt, alloc, Case::Turns)?;
-    let found = &played.found;
+pub fn report<R: Threads + Wait + Sync>(rt: &R, alloc: Global) -> Result<String, Fault> {
+    let found = play_case(rt, alloc, Case::Turns)?.found;
     Ok(format!(in alloc; "a turn at a desk, and {found}, each settle one result")?)
 }
