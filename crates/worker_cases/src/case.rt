@@ -4,7 +4,7 @@ ghost use Rattle.kernel_model.specs.Answers.{now, committed as committed_in, cha
 
 use crate::fault::Fault;
 use crate::programs::boot;
-use crate::{by_crew, gated, stranger, turns};
+use crate::{by_crew, gated, stealing, stranger, turns};
 use bursts::{Bench, Blanks, Board, Naming, Share, gather, totals_of};
 use kernel::Core;
 use pool::Pool;
@@ -23,6 +23,8 @@ pub enum Case {
     ByCrew,
     /// Two workers run both programs to their ends, and one is held until the other has stolen its loan.
     Gated,
+    /// One of two seats fetches a loan, and then the other.
+    Stealing,
     /// One turn at a desk, and then turns at the one seat until it is idle; and at the end a crew of nobody.
     Turns,
     /// A result of another core is handed in before two workers begin.
@@ -128,6 +130,7 @@ fn play_at<N: Naming + Send + Sync, R: Threads + Wait + Sync>(
     match case {
         Case::ByCrew => by_crew::play(rt, alloc, pool, share),
         Case::Gated => gated::play(rt, alloc, pool, share),
+        Case::Stealing => stealing::play(rt, alloc, pool, share),
         Case::Turns => turns::play(rt, alloc, pool, share),
         Case::Stranger => stranger::play(rt, alloc, pool, share),
     }

@@ -16,8 +16,8 @@ pub enum Fault {
     /// The core refuses a loan or an event.
     #[error("refused: {0}")]
     Refused(Refused),
-    /// The other core lends nothing.
-    #[error("the other core lends nothing")]
+    /// Nothing is lent where a loan was to be had.
+    #[error("nothing is lent")]
     NothingLent,
     /// No write is in flight where one was to complete.
     #[error("no write is in flight")]
