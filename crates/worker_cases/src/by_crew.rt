@@ -46,8 +46,10 @@ fn commit_from<N: Naming, R: Wait>(
     share: Share<N>,
 ) -> Result<Share<N>, Fault> {
     let mut third = LockedDesk::new(rt, bench, share);
-    commit(&mut third)?;
-    Ok(third.end())
+    let committed = commit(&mut third);
+    let share = third.end();
+    committed?;
+    Ok(share)
 }
 
 /// A Cut and the completion of its two writes.

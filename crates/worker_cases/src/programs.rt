@@ -3,7 +3,7 @@ use crate::fault::Fault;
 use bursts::{Done, Gate, run_loan};
 use kernel::{Core, Program, SimDisk};
 use machine_model::Image;
-use std::alloc::{AllocError, Global};
+use std::alloc::Global;
 
 /// A program that creates a file `f`, writes 3 bytes to it, of which the first is `A`, writes that byte to its terminal, and exits.
 const WRITER: [u32; 19] = [
@@ -52,16 +52,6 @@ impl Gate for Open {
 
 /// A core of both programs, on terminals 0 and 1.
 pub fn boot(alloc: Global) -> Result<Core, Fault> {
-    let Ok(device) = SimDisk::zero(alloc) else {
-        return Err(Fault::OutOfMemory);
-    };
-    let programs = programs(alloc)?;
-    let core = Core::boot(alloc, device, programs, Vec::new(alloc))?;
-    Ok(core)
-}
-
-/// Both programs.
-fn programs(alloc: Global) -> Result<Vec<Program>, AllocError> {
     let writer = Program {
         image: Image::from_text(alloc, &WRITER)?,
         terminal: 0,
@@ -70,14 +60,24 @@ fn programs(alloc: Global) -> Result<Vec<Program>, AllocError> {
         image: Image::from_text(alloc, &PRINTER)?,
         terminal: 1,
     };
-    Ok(vec![in alloc; writer, printer]?)
+    let programs = vec![in alloc; writer, printer]?;
+    let Ok(device) = SimDisk::zero(alloc) else {
+        return Err(Fault::OutOfMemory);
+    };
+    Ok(Core::boot(alloc, device, programs, Vec::new(alloc))?)
 }
 
 /// The result of the first loan of another core of these programs, for a quantum of its own.
 pub fn result_of_another(alloc: Global) -> Result<Done, Fault> {
     let mut core = boot(alloc)?;
-    match core.lend(50)? {
-        Some(loan) => Ok(run_loan(loan)),
-        None => Err(Fault::NothingLent),
+    next_result(&mut core)
+}
+
+/// The result of the next loan of this core, of at most 50 instructions.
+fn next_result(core: &mut Core) -> Result<Done, Fault> {
+    match core.lend(50) {
+        Ok(Some(loan)) => Ok(run_loan(loan)),
+        Ok(None) => Err(Fault::NothingLent),
+        Err(why) => Err(Fault::Refused(why)),
     }
 }

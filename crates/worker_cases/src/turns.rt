@@ -43,8 +43,10 @@ fn turn_from<N: Naming, R: Wait>(
     share: Share<N>,
 ) -> Result<Share<N>, Fault> {
     let mut desk = LockedDesk::new(rt, bench, share);
-    turn_at(&mut desk)?;
-    Ok(desk.end())
+    let turned = turn_at(&mut desk);
+    let share = desk.end();
+    turned?;
+    Ok(share)
 }
 
 /// One turn at a desk, which settles a result.
@@ -77,12 +79,17 @@ fn turns_at_first<N: Naming, R: Wait>(
 /// How many turns at a seat settle one result each, up to the first that is idle, or settles another number of results.
 fn turns_at<N: Naming, R: Wait>(rt: &R, seat: &mut Seat<'_, '_, N>) -> u32 {
     for count in 0..10 {
-        let turned = seat.turn(rt, &mut Open, QUANTUM);
-        if !settles_one(&turned) {
+        if !turns_one(rt, seat) {
             return count;
         }
     }
     10
+}
+
+/// One turn at a seat. Answers whether it settled one result.
+fn turns_one<N: Naming, R: Wait>(rt: &R, seat: &mut Seat<'_, '_, N>) -> bool {
+    let turned = seat.turn(rt, &mut Open, QUANTUM);
+    settles_one(&turned)
 }
 
 /// Whether a turn at a seat settled one result.
