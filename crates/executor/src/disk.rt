@@ -4,19 +4,38 @@ ghost use Rattle.std.specs.Prelude.{◌≡◌};
 use crate::fault::RunFault;
 use crate::rest::Rest;
 use crate::watch::Watch;
-use bursts::{Bench, Board, Desk, LockedDesk, Naming, Pass};
+use bursts::{Bench, Board, Desk, LockedDesk, Naming, Pass, Share};
 use kernel::Refused;
 use std::sync::{Mutex, Wait};
 
-/// What the disk's thread has: the board with a pass, by which it sees without the lock whether there is something to commit,
-/// and a desk, by which it commits.
+/// The board with a pass, by which the disk's thread sees without the lock whether there is something to commit.
 #[derive(Drop)]
-pub(crate) struct DiskThread<'r, 'a, 'b, N: Naming, R: Wait> {
-    board: &'b Board<N>,
+pub(crate) struct BoardReader<'c, N: Naming> {
+    board: &'c Board<N>,
     pass: Pass,
+    ghost of_board: { pass.table_id ≡ board.now.cell.table.shared.table_id },
+}
+
+impl<'c, N: Naming> BoardReader<'c, N> {
+    pub fn new(board: &'c Board<N>, pass: Pass) -> BoardReader<'c, N>
+        requires { pass.table_id ≡ board.now.cell.table.shared.table_id }
+    {
+        BoardReader { board, pass }
+    }
+
+    /// Whether some change is not committed.
+    fn sees_uncommitted<W: Wait>(&mut self, rt: &W) -> bool {
+        let (committed, changes) = self.board.seen(rt, &mut self.pass);
+        committed != changes
+    }
+}
+
+/// What the disk's thread has: a reader of the board, and a desk, by which it commits.
+#[derive(Drop)]
+pub(crate) struct DiskThread<'r, 'a, 'b, 'c, N: Naming, R: Wait> {
+    reader: BoardReader<'c, N>,
     bench: &'a Mutex<Bench<'b, N>>,
     desk: LockedDesk<'r, 'a, 'b, N, R>,
-    ghost of_board: { pass.table_id ≡ board.now.cell.table.shared.table_id },
 }
 
 /// Whether a byte of a terminal waits for a commit that is not on its way.
@@ -24,18 +43,16 @@ fn wants_cut<N: Naming, R: Wait>(rt: &R, bench: &Mutex<Bench<'_, N>>) -> bool {
     bench.lock(rt).core().wants_cut()
 }
 
-impl<'r, 'a, 'b, N: Naming, R: Wait> DiskThread<'r, 'a, 'b, N, R> {
+impl<'r, 'a, 'b, 'c, N: Naming, R: Wait> DiskThread<'r, 'a, 'b, 'c, N, R> {
     pub fn new(
-        board: &'b Board<N>,
-        pass: Pass,
+        rt: &'r R,
+        reader: BoardReader<'c, N>,
         bench: &'a Mutex<Bench<'b, N>>,
-        desk: LockedDesk<'r, 'a, 'b, N, R>,
-    ) -> DiskThread<'r, 'a, 'b, N, R>
-        requires { pass.table_id ≡ board.now.cell.table.shared.table_id }
-    {
+        share: Share<N>,
+    ) -> DiskThread<'r, 'a, 'b, 'c, N, R> {
+        let desk = LockedDesk::new(rt, bench, share);
         DiskThread {
-            board,
-            pass,
+            reader,
             bench,
             desk,
         }
@@ -44,8 +61,7 @@ impl<'r, 'a, 'b, N: Naming, R: Wait> DiskThread<'r, 'a, 'b, N, R> {
     /// Completes the write in flight that begins first on the disk; where there is none, cuts a group if output waits for it.
     /// Answers whether there was something to do.
     fn turn<W: Wait>(&mut self, rt: &W) -> Result<bool, Refused> {
-        let (committed, changes) = self.board.seen(rt, &mut self.pass);
-        if committed == changes {
+        if !self.reader.sees_uncommitted(rt) {
             return Ok(false);
         }
         if let Some(at) = self.desk.in_flight() {

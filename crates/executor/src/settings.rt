@@ -6,11 +6,12 @@ ghost use Rattle.std.specs.Prelude.{◌<◌, ◌≤◌};
 pub struct Settings {
     /// How many worker threads there are, 1 to 16.
     pub workers: u32,
-    /// The most instructions of a loan.
+    /// The most instructions of a loan, from 1 on.
     pub quantum: u32,
     /// The terminal whose bytes are written out, 0 to 7.
     pub terminal: u32,
     ghost some: { 1 ≤ workers },
     ghost few: { workers ≤ 16 },
+    ghost moves: { 1 ≤ quantum },
     ghost there: { terminal < 8 },
 }

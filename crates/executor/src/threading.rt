@@ -2,7 +2,7 @@
 ghost use Rattle.std.specs.Prelude.{◌≡◌, ◌≤◌, ◌<◌};
 ghost use Rattle.kernel_model.specs.Answers.{now, committed as committed_in, changes as changes_in};
 
-use crate::disk::DiskThread;
+use crate::disk::{BoardReader, DiskThread};
 use crate::fault::RunFault;
 use crate::rest::Rest;
 use crate::screen::Screen;
@@ -37,10 +37,10 @@ struct Crew<'x, 'p, 'b, N: Naming> {
 
 /// What the threads of a run share.
 #[derive(Drop)]
-struct Threading<'x, 'r, 'p, 'b, N: Naming, R: Wait> {
+struct Threading<'x, 'r, 'p, 'b, 'c, N: Naming, R: Wait> {
     bench: &'p Mutex<Bench<'b, N>>,
     crew: Mutex<Crew<'x, 'p, 'b, N>>,
-    disk: Mutex<DiskThread<'r, 'p, 'b, N, R>>,
+    disk: Mutex<DiskThread<'r, 'p, 'b, 'c, N, R>>,
     watch: Watch,
     quantum: u32,
 }
@@ -82,15 +82,32 @@ fn run_named<N: Naming + Send + Sync, R: Threads + Wait + Sync, O: Write>(
     requires enters { (blanks.enters.name ≡ N.enters) × (blanks.enters.parts ≡ 64) }
 {
     let (board, writer, pass) = Board::<N>::new(alloc, &core)?;
-    let (bench, mut share) = Bench::new(core, &board, writer, blanks);
+    let board = &board;
+    let (bench, share) = Bench::new(core, board, writer, blanks);
     let Ok(pool) = Pool::new(alloc, bench, settings.workers) else {
         return Err(RunFault::OutOfMemory);
     };
-    let mut workers = workers_of(alloc, &pool, &mut share)?;
-    let bench = pool.bench();
-    let desk = LockedDesk::new(rt, bench, share);
-    let disk = DiskThread::new(&board, pass, bench, desk);
+    let reader = BoardReader::new(board, pass);
+    run_pool(rt, alloc, &pool, share, reader, settings.quantum, screen)?;
+    Ok(gather(pool.end(), Vec::new(alloc)))
+}
+
+/// The run of a pool.
+fn run_pool<N: Naming + Send + Sync, R: Threads + Wait + Sync, O: Write>(
+    rt: &R,
+    alloc: Global,
+    pool: &Pool<'_, N>,
+    mut share: Share<N>,
+    reader: BoardReader<'_, N>,
+    quantum: u32,
+    screen: &mut Screen<'_, O>,
+) -> Result<(), RunFault>
+    requires { pool.now.workers < share.parts }
+{
+    let mut workers = workers_of(alloc, pool, &mut share)?;
     let seats = workers.as_mut_slice();
+    let bench = pool.bench();
+    let disk = DiskThread::new(rt, reader, bench, share);
     let threading = Threading {
         bench,
         crew: Mutex::new(Crew {
@@ -98,12 +115,10 @@ fn run_named<N: Naming + Send + Sync, R: Threads + Wait + Sync, O: Write>(
         }),
         disk: Mutex::new(disk),
         watch: Watch::new(),
-        quantum: settings.quantum,
+        quantum,
     };
     run_threads(rt, alloc, &threading, screen);
-    threading.result()?;
-    drop(workers);
-    Ok(gather(pool.end(), Vec::new(alloc)))
+    threading.result()
 }
 
 /// A worker for each seat of a pool.
@@ -125,7 +140,7 @@ fn workers_of<'p, 'b, N: Naming>(
 fn run_threads<N: Naming + Send + Sync, R: Threads + Wait + Sync, O: Write>(
     rt: &R,
     alloc: Global,
-    threading: &Threading<'_, '_, '_, '_, N, R>,
+    threading: &Threading<'_, '_, '_, '_, '_, N, R>,
     screen: &mut Screen<'_, O>,
 ) {
     let screen = Mutex::new(screen);
@@ -146,7 +161,7 @@ fn run_threads<N: Naming + Send + Sync, R: Threads + Wait + Sync, O: Write>(
 /// What the thread does that leads the workers.
 fn lead<N: Naming + Send + Sync, R: Threads + Wait + Sync>(
     rt: &R,
-    threading: &Threading<'_, '_, '_, '_, N, R>,
+    threading: &Threading<'_, '_, '_, '_, '_, N, R>,
 ) {
     if let Some(workers) = workers_in(rt, &threading.crew) {
         if let Err(fault) = pool_crew(rt, workers, threading.quantum) {
@@ -165,7 +180,7 @@ fn workers_in<'x, 'p, 'b, N: Naming, R: Wait>(
 }
 
 /// What the disk's thread does.
-fn commit<N: Naming, R: Wait>(rt: &R, threading: &Threading<'_, '_, '_, '_, N, R>) {
+fn commit<N: Naming, R: Wait>(rt: &R, threading: &Threading<'_, '_, '_, '_, '_, N, R>) {
     let mut disk = threading.disk.lock(rt);
     disk.serve(rt, &threading.watch);
 }
@@ -174,7 +189,7 @@ fn commit<N: Naming, R: Wait>(rt: &R, threading: &Threading<'_, '_, '_, '_, N, R
 fn show<N: Naming, R: Wait, O: Write>(
     rt: &R,
     alloc: Global,
-    threading: &Threading<'_, '_, '_, '_, N, R>,
+    threading: &Threading<'_, '_, '_, '_, '_, N, R>,
     screen: &Mutex<&mut Screen<'_, O>>,
 ) {
     let mut screen = screen.lock(rt);
@@ -193,7 +208,7 @@ fn show<N: Naming, R: Wait, O: Write>(
     }
 }
 
-impl<N: Naming, R: Wait> Threading<'_, '_, '_, '_, N, R> {
+impl<N: Naming, R: Wait> Threading<'_, '_, '_, '_, '_, N, R> {
     /// The first fault, if one came. What the threads shared goes.
     fn result(self) -> Result<(), RunFault> {
         let Threading { watch, .. } = self;

@@ -39,17 +39,9 @@ pub struct RunOptions<'a> {
     pub images: ImagePaths<'a>,
 }
 
-/// An option with a number in a range, and the number where it is not given.
-fn number<'a>(
-    alloc: Global,
-    name: &'a str,
-    range: ValueParser<'a>,
-    default: &'a str,
-    help: &'a str,
-) -> Arg<'a> {
-    option(alloc, name, "N", help)
-        .value_parser(range)
-        .default_value(default)
+/// The option of a number in a range, and the number where it is not given.
+fn number<'a>(option: Arg<'a>, range: ValueParser<'a>, default: &'a str) -> Arg<'a> {
+    option.value_parser(range).default_value(default)
 }
 
 /// The images of a run.
@@ -63,25 +55,18 @@ fn images<'a>(alloc: Global) -> Arg<'a> {
 
 /// The command `run`.
 pub fn running<'a>(alloc: Global) -> Result<Command<'a>, AllocError> {
-    let workers = ValueParser::unsigned(1, 16);
-    let quantum = ValueParser::unsigned(1, 1_000_000);
-    let terminal = ValueParser::unsigned(0, 7);
+    let workers = option(alloc, "workers", "N", "how many workers there are, 1 to 16");
+    let quantum = option(
+        alloc,
+        "quantum",
+        "Q",
+        "the most instructions that a worker runs at a time, 1 to 1000000",
+    );
+    let terminal = option(alloc, "term", "T", "the terminal that is printed, 0 to 7");
     Command::new(alloc, "run")
         .about("Run images by worker threads, and print what a terminal shows")
-        .arg(number(
-            alloc,
-            "workers",
-            workers,
-            "4",
-            "how many workers there are, 1 to 16",
-        ))?
-        .arg(number(
-            alloc,
-            "quantum",
-            quantum,
-            "10000",
-            "the most instructions that a worker runs at a time, 1 to 1000000",
-        ))?
+        .arg(number(workers, ValueParser::unsigned(1, 16), "4"))?
+        .arg(number(quantum, ValueParser::unsigned(1, 1_000_000), "10000"))?
         .arg(option(
             alloc,
             "disk",
@@ -94,19 +79,13 @@ pub fn running<'a>(alloc: Global) -> Result<Command<'a>, AllocError> {
             "FILE",
             "what the first image's program may read",
         ))?
-        .arg(number(
-            alloc,
-            "term",
-            terminal,
-            "0",
-            "the terminal that is printed, 0 to 7",
-        ))?
+        .arg(number(terminal, ValueParser::unsigned(0, 7), "0"))?
         .arg(images(alloc))
 }
 
 /// The settings of these numbers. None where one is out of range.
 fn settings(workers: u32, quantum: u32, terminal: u32) -> Option<Settings> {
-    if workers >= 1 && workers <= 16 && terminal < 8 {
+    if workers >= 1 && workers <= 16 && quantum >= 1 && terminal < 8 {
         Some(Settings {
             workers,
             quantum,

@@ -79,7 +79,7 @@ fn keep_disk<R: Files + AllocGlobal>(rt: &R, path: Option<&str>, core: Core) -> 
 }
 
 /// Runs images to their end. What the terminal shows is printed as it is shown; then, on `err`, how each process stands; and then
-/// the disk is kept, if it is to be.
+/// the disk is kept, if it is to be, also where `err` took no line.
 pub fn run_images<R: Files + AllocGlobal + Threads + Wait + Sync, O: Write, E: Write>(
     rt: &R,
     options: &RunOptions<'_>,
@@ -89,6 +89,7 @@ pub fn run_images<R: Files + AllocGlobal + Threads + Wait + Sync, O: Write, E: W
     let core = boot(rt, options)?;
     let core = run(rt, rt.alloc(), core, options.settings, out)?;
     out.flush()?;
-    print_processes(&core, err)?;
-    keep_disk(rt, options.disk, core)
+    let told = print_processes(&core, err);
+    keep_disk(rt, options.disk, core)?;
+    told
 }
