@@ -1,5 +1,7 @@
 //! Outputs that take few writes: what the program printed goes out at once, and its status says where it could not.
+use crate::running::{run, words_of};
 use anyhow::{Error, ensure};
+use std::fs;
 use std::io::{self, ErrorKind, Write};
 use std::rt::Files;
 use std::sync::Wait;
@@ -30,19 +32,19 @@ impl Write for Output {
 const SCRIPT: &[u8] =
     b"program 0 00100073\nturn 1 0\nturn 1 0\nshown 0\ntrace 1\ncut\nturn 1 5\nenter 1\nshown 1\n";
 
-/// Runs the program with this word, if it is one, on the script: it fills the output's room, and ends with this status
+/// What is said where the output fails.
+const FAILED: &str = "bench: input or output failed\n";
+
+/// Runs the program with these words, parted by blanks, on the script: it fills the output's room, and ends with this status
 /// and this text on standard error.
 fn check_room<R: Files + AllocGlobal + Threads + Wait + Sync>(
     rt: &R,
-    word: &str,
+    line: &str,
     room: usize,
     status: u8,
     said: &str,
 ) -> Result<(), Error> {
-    let mut words = Vec::new(rt.alloc());
-    if !word.is_empty() {
-        words.push(String::from_str(rt.alloc(), word)?)?;
-    }
+    let words = words_of(rt.alloc(), line)?;
     let mut input = SCRIPT;
     let mut out = Output { writes: 0, room };
     let mut err = Vec::new(rt.alloc());
@@ -59,9 +61,23 @@ fn check_room<R: Files + AllocGlobal + Threads + Wait + Sync>(
 
 /// One write is enough for all output, of a script and of help; where there is none, the status is 6.
 pub fn check<R: Files + AllocGlobal + Threads + Wait + Sync>(rt: &R) -> Result<(), Error> {
-    for word in ["", "--help"] {
-        check_room(rt, word, 1, 0, "")?;
-        check_room(rt, word, 0, 6, "bench: input or output failed\n")?;
+    for line in ["", "--help"] {
+        check_room(rt, line, 1, 0, "")?;
+        check_room(rt, line, 0, 6, FAILED)?;
     }
+    Ok(())
+}
+
+/// A program that writes a byte which rests on a change, and then never ends. Its run ends only since that byte goes out while
+/// the program runs, and cannot be written.
+pub fn check_endless<R: Files + AllocGlobal + Threads + Wait + Sync>(rt: &R) -> Result<(), Error> {
+    let assembled = run(rt, "asm endless.s endless", b"")?;
+    ensure!(
+        assembled.status == 0,
+        "endless.s: status {}",
+        assembled.status
+    );
+    check_room(rt, "run endless", 0, 6, FAILED)?;
+    fs::remove_file(rt, "endless")?;
     Ok(())
 }

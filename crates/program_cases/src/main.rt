@@ -59,6 +59,8 @@ fn main(rt: HostRuntime) -> Result<(), Error> {
     }
     faulty_output::check(&rt)?;
     println!(rt; "outputs that take one write or none")?;
+    faulty_output::check_endless(&rt)?;
+    println!(rt; "a run without end whose output fails")?;
     damaged_disk::check(rt.alloc())?;
     println!(rt; "a disk that cannot be read")?;
     lost_arguments::check(rt.alloc())?;

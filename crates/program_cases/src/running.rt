@@ -1,5 +1,5 @@
 //! Runs of the whole program, over text in memory.
-use std::alloc::AllocError;
+use std::alloc::{AllocError, Global};
 use std::rt::Files;
 use std::sync::Wait;
 use std::thread::Threads;
@@ -12,16 +12,22 @@ pub struct Ran {
     pub status: u8,
 }
 
+/// The words of a line, which are parted by blanks.
+pub fn words_of(alloc: Global, line: &str) -> Result<Vec<String>, AllocError> {
+    let mut words = Vec::new(alloc);
+    for word in line.split_whitespace() {
+        words.push(String::from_str(alloc, word)?)?;
+    }
+    Ok(words)
+}
+
 /// Runs the program with these words, parted by blanks, on an input.
 pub fn run<R: Files + AllocGlobal + Threads + Wait + Sync>(
     rt: &R,
     words: &str,
     input: &[u8],
 ) -> Result<Ran, AllocError> {
-    let mut list = Vec::new(rt.alloc());
-    for word in words.split_whitespace() {
-        list.push(String::from_str(rt.alloc(), word)?)?;
-    }
+    let list = words_of(rt.alloc(), words)?;
     let mut out = Vec::new(rt.alloc());
     let mut err = Vec::new(rt.alloc());
     let mut input = input;

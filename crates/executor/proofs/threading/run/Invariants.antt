@@ -2,8 +2,8 @@
 use Rattle.kernel_model.specs.Answers.{now, committed, changes}
 use Rattle.executor.proofs.threading.run.Given as goal
 
-abbrev pub ghosts-core : goal.ghosts-core
-ghosts-core g a = record {
+abbrev pub ghosts-run_named : goal.ghosts-run_named
+ghosts-run_named g a = record {
   events = a.blanks.events.name;
   ran = a.blanks.ran.name;
   turns = a.blanks.turns.name;
