@@ -1,7 +1,7 @@
 #!/bin/sh
-# many-runs.sh [RUNS]: runs programs that fix what they write, again and again (200 times where no number is given), by 1 to 16
-# workers and with quanta of 1, 7 and 10000 instructions, and compares each run with the first. The last line says how many were
-# compared; at the first difference the script ends with status 1.
+# many-runs.sh [RUNS]: runs each example, and eight of them side by side, again and again (200 times where no number is given), by
+# 1 to 16 workers and with quanta of 1, 7 and 10000 instructions, and compares each run with the first. The last line says how many
+# were compared; at the first difference, or a run that fails, the script ends with status 1.
 #
 # Eight programs side by side fix what each terminal shows, how many processes there are and how each ends, but not which
 # number a process gets: so the numbers are left out there.
@@ -12,21 +12,35 @@ runs=${1:-200}
 work=$(mktemp -d)
 trap 'rm -rf "$work"' EXIT
 
-for name in primes sum; do
-    "$bench" asm "$here/examples/$name.s" "$work/$name" >"$work/said"
+names=
+for source in "$here"/examples/*.s; do
+    name=$(basename "$source" .s)
+    "$bench" asm "$source" "$work/$name" >"$work/said"
+    names="$names $name"
 done
 cp "$here/examples/c/hello.image" "$work/hello"
+names="$names hello"
 cd "$work"
+
+# Runs the program with these words; what it prints and says is kept. A run that fails ends the script.
+ran() {
+    "$bench" run "$@" >printed 2>said || {
+        echo "run $* failed:" >&2
+        cat said >&2
+        exit 1
+    }
+}
 
 # What one program prints, and what is said of its processes.
 alone() {
-    "$bench" run --workers "$1" --quantum "$2" "$3" >printed 2>said
+    ran --workers "$1" --quantum "$2" "$3"
 }
 
 # What the terminal $3 of eight programs shows, and how their processes end.
 together() {
-    "$bench" run --workers "$1" --quantum "$2" --term "$3" primes sum primes hello primes sum primes hello >printed 2>lines
-    cut -d ' ' -f 3- lines | sort >said
+    ran --workers "$1" --quantum "$2" --term "$3" primes sum primes hello primes first primes stars
+    cut -d ' ' -f 3- said | sort >sorted
+    mv sorted said
 }
 
 # The first run of a name is kept; each further one is compared with it.
@@ -42,6 +56,7 @@ compare() {
     done
 }
 
+# Each terminal has sixteen runs in a row, so that it meets each number of workers.
 run=0
 while [ "$run" -lt "$runs" ]; do
     workers=$((run % 16 + 1))
@@ -50,11 +65,11 @@ while [ "$run" -lt "$runs" ]; do
     1) quantum=7 ;;
     *) quantum=1 ;;
     esac
-    for name in primes sum hello; do
+    for name in $names; do
         alone "$workers" "$quantum" "$name"
         compare "$name"
     done
-    terminal=$((run % 8))
+    terminal=$((run / 16 % 8))
     together "$workers" "$quantum" "$terminal"
     compare "terminal $terminal"
     run=$((run + 1))

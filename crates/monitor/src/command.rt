@@ -136,9 +136,19 @@ fn debug_task<'a>(matches: &ArgMatches<'a>) -> Option<Task<'a>> {
     })
 }
 
+/// The refusal of more images than a run has terminals.
+fn too_many_images(alloc: Global) -> Result<Error, AllocError> {
+    let mut run = running(alloc)?;
+    run.error(ErrorKind::TooManyValues, "there are more than 8 images")
+}
+
 /// What the arguments of the command `run` ask for.
-fn run_task<'a>(alloc: Global, matches: &ArgMatches<'a>) -> Result<Option<Task<'a>>, AllocError> {
-    Ok(run_options(alloc, matches)?.map(|options| Task::Run(options)))
+fn run_task<'a>(alloc: Global, matches: &ArgMatches<'a>) -> Result<Task<'a>, Error> {
+    match run_options(alloc, matches)? {
+        Some(options) => Ok(Task::Run(options)),
+        // All else is refused by the command itself; but it does not count images before and after an option together.
+        None => Err(too_many_images(alloc)?),
+    }
 }
 
 /// What a command other than `run` and its arguments ask for. None for a name that is not handled here.
@@ -158,9 +168,9 @@ fn task_of<'a>(
     alloc: Global,
     name: &str,
     matches: &ArgMatches<'a>,
-) -> Result<Option<Task<'a>>, AllocError> {
+) -> Result<Option<Task<'a>>, Error> {
     match name {
-        "run" => run_task(alloc, matches),
+        "run" => Ok(Some(run_task(alloc, matches)?)),
         name => Ok(file_task(name, matches)),
     }
 }
@@ -198,7 +208,7 @@ fn asked<'a>(
 ) -> Result<Option<Task<'a>>, Error> {
     let matches = commands.try_get_matches_from_mut(words)?;
     match matches.subcommand() {
-        Some((name, matches)) => Ok(task_of(alloc, name, matches)?),
+        Some((name, matches)) => task_of(alloc, name, matches),
         None => Ok(None),
     }
 }

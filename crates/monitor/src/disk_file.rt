@@ -50,14 +50,20 @@ fn write_through<R: Files>(rt: &R, path: &str, bytes: &[u8]) -> io::Result<()> {
     file.sync_all()
 }
 
+/// Writes a file whole beside another one, whose place it then takes.
+fn replace<R: Files>(rt: &R, path: &str, beside: &str, bytes: &[u8]) -> io::Result<()> {
+    write_through(rt, beside, bytes)?;
+    fs::rename(rt, beside, path)
+}
+
 /// Keeps a disk in a file. It is written to a file beside it, of the same path with `.new` after it, which then takes its place: so
 /// whenever the program is killed, the file is whole, as it was or as it is to be.
 pub fn keep<R: Files + AllocGlobal>(rt: &R, path: &str, device: &SimDisk) -> Result<(), Fault> {
     let beside = format!(in rt.alloc(); "{path}.new")?;
-    if let Err(error) = write_through(rt, beside.as_str(), device.bytes()) {
-        // What was written of it is of no use; where it cannot be removed either, it stays.
+    if let Err(error) = replace(rt, path, beside.as_str(), device.bytes()) {
+        // What was written beside it is of no use; where it cannot be removed either, it stays.
         let _ = fs::remove_file(rt, beside.as_str());
         return Err(Fault::from(error));
     }
-    Ok(fs::rename(rt, beside.as_str(), path)?)
+    Ok(())
 }

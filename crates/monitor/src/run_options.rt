@@ -53,7 +53,7 @@ fn images<'a>(alloc: Global) -> Arg<'a> {
         .action(ArgAction::Append)
 }
 
-/// The command `run`.
+/// The command `run`, under its whole name.
 pub fn running<'a>(alloc: Global) -> Result<Command<'a>, AllocError> {
     let workers = option(alloc, "workers", "N", "how many workers there are, 1 to 16");
     let quantum = option(
@@ -64,6 +64,7 @@ pub fn running<'a>(alloc: Global) -> Result<Command<'a>, AllocError> {
     );
     let terminal = option(alloc, "term", "T", "the terminal that is printed, 0 to 7");
     Command::new(alloc, "run")
+        .bin_name("bench run")?
         .about("Run images by worker threads, and print what a terminal shows")
         .arg(number(workers, ValueParser::unsigned(1, 16), "4"))?
         .arg(number(quantum, ValueParser::unsigned(1, 1_000_000), "10000"))?
@@ -119,7 +120,8 @@ fn images_of<'a>(
     Ok(Some(ImagePaths { paths }))
 }
 
-/// What the arguments of the command ask for. None where one of them is missing or out of range, which the command itself refuses.
+/// What the arguments of the command ask for. None where there are more than 8 images, or where an argument is missing or out of
+/// range, which the command itself refuses.
 pub fn run_options<'a>(
     alloc: Global,
     matches: &ArgMatches<'a>,
