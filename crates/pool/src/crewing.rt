@@ -13,8 +13,11 @@ use std::time::Duration;
 /// How many times in a row a worker that finds no loan asks again at once.
 const HASTY: u32 = 64;
 
-/// How many microseconds it waits before it asks again after that.
+/// How many microseconds it waits before it asks again after that, at first. Each time it waits for as long again more.
 const PAUSE: u64 = 100;
+
+/// How many times that it waits at most.
+const MOST_PAUSES: u32 = 20;
 
 /// The pairs that no thread has taken yet, and how many were taken.
 #[derive(Drop)]
@@ -168,11 +171,13 @@ fn work_on<N: Naming, G: Gate, R: Wait>(
     unreachable!()
 }
 
-/// Leaves the processor to others, for a while where the worker has found no loan for long.
+/// Leaves the processor to others, for a while where the worker has found no loan for long, and for longer and longer, up to two
+/// milliseconds.
 fn rest<R: Wait>(rt: &R, parker: &Parker, idle: u32) {
     if idle < HASTY {
         thread::yield_now();
     } else {
-        parker.park_timeout(rt, Duration::from_micros(PAUSE));
+        let pauses = (idle - HASTY + 1).min(MOST_PAUSES);
+        parker.park_timeout(rt, Duration::from_micros(PAUSE * u64::from(pauses)));
     }
 }

@@ -4,6 +4,7 @@ ghost use Rattle.pool.specs.Tags.{loan_tag};
 ghost use Rattle.pool.specs.Fetching.{TookAt, TakesItsAnswer};
 
 use crate::loans::{Other, Own};
+use crate::locking::lock_soon;
 use bursts::{Bench, Loan, Naming};
 use kernel::Refused;
 use std::sync::{Mutex, Wait};
@@ -81,6 +82,6 @@ pub(crate) fn fetch<N: Naming, R: Wait>(
     if let Some(loan) = steal_round(rt, others) {
         return Ok(Some(loan));
     }
-    let mut guard = lock.lock(rt);
+    let mut guard = lock_soon(rt, lock);
     lend_some(&mut *guard, own, spare, quantum)
 }

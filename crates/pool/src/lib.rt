@@ -7,6 +7,7 @@ mod fault;
 mod fetching;
 mod hand;
 mod loans;
+mod locking;
 mod pools;
 mod results;
 mod seating;

@@ -9,6 +9,7 @@ ghost use Rattle.pool.specs.Seats.{with_results, with_settled};
 
 use crate::fetching::fetch;
 use crate::loans::{Other, Own};
+use crate::locking::lock_soon;
 use crate::pools::Pool;
 use crate::results::{ResultPass, put_result};
 use crate::settling::{Settling, settle_all};
@@ -80,7 +81,7 @@ impl<'p, 'b, N: Naming> Seat<'p, 'b, N> {
         ensures others { self.new ≡ with_settled self.old self.new.results self.new.share }
     {
         let pool = self.pool;
-        let mut guard = pool.bench.lock(rt);
+        let mut guard = lock_soon(rt, &pool.bench);
         settle_all(
             rt,
             &mut *guard,

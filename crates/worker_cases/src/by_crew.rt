@@ -1,82 +1,71 @@
 //! Both programs run to their ends by two workers, and committed from a third desk.
-ghost use Rattle.std.specs.Prelude.{◌≡◌};
-ghost use Rattle.kernel_model.specs.Answers.{now, committed as committed_in, changes as changes_in};
+ghost use Rattle.std.specs.Prelude.{◌<◌};
 
-use crate::programs::{Open, boot};
-use anyhow::{Error, bail};
-use bursts::{Bench, Blanks, Board, Desk, LockedDesk, Naming, gather, totals_of};
-use kernel::Core;
-use pool::{Pool, pool_crew};
-use std::alloc::Global;
-use std::marker::Brand;
-use std::sync::Wait;
+use crate::case::{Case, Found, Played, play as play_case};
+use crate::fault::Fault;
+use crate::programs::Open;
+use crate::workers::work;
+use bursts::{Bench, Desk, LockedDesk, Naming, Share};
+use pool::Pool;
+use std::alloc::{AllocError, Global};
+use std::sync::{Mutex, Wait};
 use std::thread::Threads;
 
+/// Two workers run both programs to their ends; then a third desk commits. It finds how many events there were before that.
+pub fn play<N: Naming + Send + Sync, R: Threads + Wait + Sync>(
+    rt: &R,
+    alloc: Global,
+    pool: &Pool<'_, N>,
+    share: Share<N>,
+) -> Result<Found<N>, Fault>
+    requires { pool.now.workers < share.parts }
+{
+    let mut share = share;
+    let mut shares = work(rt, alloc, pool, &mut share, Open)?;
+    let bench = pool.bench();
+    let found = words(alloc, events_at(rt, bench))?;
+    let share = commit_from(rt, bench, share)?;
+    shares.push(share)?;
+    Ok((found, shares))
+}
+
+/// How many events the core at this bench has in its history.
+fn events_at<N: Naming, R: Wait>(rt: &R, bench: &Mutex<Bench<'_, N>>) -> usize {
+    bench.lock(rt).core().history().len()
+}
+
+/// So many events, in words.
+fn words(alloc: Global, events: usize) -> Result<String, AllocError> {
+    format!(in alloc; "{events} events")
+}
+
+/// A third desk with this share commits. Answers the share.
+fn commit_from<N: Naming, R: Wait>(
+    rt: &R,
+    bench: &Mutex<Bench<'_, N>>,
+    share: Share<N>,
+) -> Result<Share<N>, Fault> {
+    let mut third = LockedDesk::new(rt, bench, share);
+    let committed = commit(&mut third);
+    let share = third.end();
+    committed?;
+    Ok(share)
+}
+
 /// A Cut and the completion of its two writes.
-fn commit<D: Desk>(desk: &mut D) -> Result<(), Error> {
+fn commit<D: Desk>(desk: &mut D) -> Result<(), Fault> {
     desk.cut()?;
     for _ in 0..2 {
         let Some(at) = desk.in_flight() else {
-            bail!("no write is in flight");
+            return Err(Fault::NoWrite);
         };
         desk.complete(at)?;
     }
     Ok(())
 }
 
-/// Two workers run both programs to their ends; then a third desk commits. Answers the core, how many events there were before the
-/// third desk, and what the board shows at the end.
-fn run<N: Naming + Send + Sync, R: Threads + Wait + Sync>(
-    rt: &R,
-    alloc: Global,
-    core: Core,
-    blanks: Blanks,
-) -> Result<(Core, usize, (u64, u64)), Error>
-    requires committed { committed_in (now core) ≡ N.committed }
-    requires changes { changes_in (now core) ≡ N.changes }
-    requires events { (blanks.events.name ≡ N.events) × (blanks.events.parts ≡ 64) }
-    requires ran { (blanks.ran.name ≡ N.ran) × (blanks.ran.parts ≡ 64) }
-    requires turns { (blanks.turns.name ≡ N.turns) × (blanks.turns.parts ≡ 64) }
-    requires enters { (blanks.enters.name ≡ N.enters) × (blanks.enters.parts ≡ 64) }
-{
-    let (board, writer, mut pass) = Board::<N>::new(alloc, &core)?;
-    let (bench, mut share) = Bench::new(core, &board, writer, blanks);
-    let Ok(pool) = Pool::new(alloc, bench, 2) else {
-        bail!("no memory for the pool");
-    };
-    let seats = pool.seats(alloc, &mut share)?;
-    let mut work = Vec::new(alloc);
-    for seat in seats {
-        work.push((seat, Open))?;
-    }
-    if let Err(fault) = pool_crew(rt, work.as_mut_slice(), 100) {
-        bail!("the crew stops: {fault}");
-    }
-    let before = pool.bench().lock(rt).core().history().len();
-    let mut third = LockedDesk::new(rt, pool.bench(), share);
-    commit(&mut third)?;
-    let shown = board.seen(rt, &mut pass);
-    let mut shares = Vec::new(alloc);
-    shares.push(third.end())?;
-    for (seat, _open) in work {
-        shares.push(seat.end())?;
-    }
-    Ok((gather(pool.end(), shares), before, shown))
-}
-
-/// What the core comes to, in a line.
-fn line(alloc: Global, core: &Core, before: usize, shown: (u64, u64)) -> Result<String, Error> {
-    let totals = totals_of(core);
-    let first = hex::encode(alloc, core.shown(0))?;
-    let second = hex::encode(alloc, core.shown(1))?;
-    Ok(format!(in alloc;
-        "two workers: {before} events, then {totals:?}; shown 0 {first}, shown 1 {second}; the board {shown:?}"
-    )?)
-}
-
-/// The run, in a line.
-pub fn report<R: Threads + Wait + Sync>(rt: &R, alloc: Global) -> Result<String, Error> {
-    let core = boot(alloc)?;
-    let (core, before, shown) = run::<Brand, R>(rt, alloc, core, Blanks::new())?;
-    line(alloc, &core, before, shown)
+/// The case, in a line.
+pub fn report<R: Threads + Wait + Sync>(rt: &R, alloc: Global) -> Result<String, Fault> {
+    let Played { found, core, shown } = play_case(rt, alloc, Case::ByCrew)?;
+    Ok(format!(in alloc; "two workers: {found}, then {core}; the board {shown:?}")?)
 }

@@ -1,32 +1,30 @@
 //! Two workers at work at once: one is held until the other, which has to steal its loan from it, has had two.
-ghost use Rattle.std.specs.Prelude.{◌≡◌};
-ghost use Rattle.kernel_model.specs.Answers.{now, committed as committed_in, changes as changes_in};
+ghost use Rattle.std.specs.Prelude.{◌<◌};
 
-use crate::programs::boot;
-use anyhow::{Error, bail};
-use bursts::{Bench, Blanks, Board, Gate, Naming};
-use kernel::Core;
-use pool::{Pool, pool_crew};
-use std::alloc::Global;
-use std::marker::Brand;
-use std::sync::Wait;
+use crate::case::{Case, Found, play as play_case};
+use crate::fault::Fault;
+use crate::workers::work;
+use bursts::{Bench, Gate, Naming, Share};
+use pool::Pool;
+use std::alloc::{AllocError, Global};
 use std::sync::atomic::{AtomicBool, AtomicU64, Ordering};
+use std::sync::{Mutex, Wait};
 use std::thread;
 use std::thread::Threads;
-
-/// A gate that holds the first loan of process 1 until process 2 was lent twice, for a bounded number of polls. The worker that lends
-/// first leaves process 2 in its deque, and is held; so process 2 runs only where the other worker steals it.
-#[derive(Drop)]
-struct Held<'a> {
-    calls: &'a Calls,
-    held: bool,
-}
 
 /// How often process 2 was lent, and whether that came late.
 #[derive(Drop)]
 struct Calls {
     twos: AtomicU64,
     late: AtomicBool,
+}
+
+/// A gate that holds the first loan of process 1 until process 2 was lent twice, for a bounded number of polls. The worker that lends
+/// first leaves process 2 in its deque, and is held; so process 2 runs only where the other worker steals it.
+#[derive(Clone, Copy)]
+struct Held<'a> {
+    calls: &'a Calls,
+    held: bool,
 }
 
 impl<'a> Gate for Held<'a> {
@@ -51,51 +49,56 @@ fn wait_for_two(calls: &Calls) {
     calls.late.store(true, Ordering::SeqCst);
 }
 
-/// Two workers run both programs to their ends. Answers how many instructions ran.
-fn run<N: Naming + Send + Sync, R: Threads + Wait + Sync>(
+/// Two workers with such gates run both programs to their ends. It finds how many instructions ran.
+pub fn play<N: Naming + Send + Sync, R: Threads + Wait + Sync>(
     rt: &R,
     alloc: Global,
-    core: Core,
-    blanks: Blanks,
-) -> Result<u64, Error>
-    requires committed { committed_in (now core) ≡ N.committed }
-    requires changes { changes_in (now core) ≡ N.changes }
-    requires events { (blanks.events.name ≡ N.events) × (blanks.events.parts ≡ 64) }
-    requires ran { (blanks.ran.name ≡ N.ran) × (blanks.ran.parts ≡ 64) }
-    requires turns { (blanks.turns.name ≡ N.turns) × (blanks.turns.parts ≡ 64) }
-    requires enters { (blanks.enters.name ≡ N.enters) × (blanks.enters.parts ≡ 64) }
+    pool: &Pool<'_, N>,
+    share: Share<N>,
+) -> Result<Found<N>, Fault>
+    requires { pool.now.workers < share.parts }
 {
-    let (board, writer, _pass) = Board::<N>::new(alloc, &core)?;
-    let (bench, mut share) = Bench::new(core, &board, writer, blanks);
-    let Ok(pool) = Pool::new(alloc, bench, 2) else {
-        bail!("no memory for the pool");
-    };
+    let mut share = share;
+    let mut shares = work_held(rt, alloc, pool, &mut share)?;
+    let found = words(alloc, ran_at(rt, pool.bench()))?;
+    shares.push(share)?;
+    Ok((found, shares))
+}
+
+/// How many instructions of the core at this bench ran.
+fn ran_at<N: Naming, R: Wait>(rt: &R, bench: &Mutex<Bench<'_, N>>) -> u64 {
+    bench.lock(rt).core().ran()
+}
+
+/// So many instructions, in words.
+fn words(alloc: Global, ran: u64) -> Result<String, AllocError> {
+    format!(in alloc; "{ran} instructions")
+}
+
+/// Workers with such gates work at all seats of a pool. Answers their shares. Late where the gate was.
+fn work_held<N: Naming + Send + Sync, R: Threads + Wait + Sync>(
+    rt: &R,
+    alloc: Global,
+    pool: &Pool<'_, N>,
+    share: &mut Share<N>,
+) -> Result<Vec<Share<N>>, Fault>
+    requires { pool.now.workers < share.old.parts }
+{
     let calls = Calls {
         twos: AtomicU64::new(0),
         late: AtomicBool::new(false),
     };
-    let seats = pool.seats(alloc, &mut share)?;
-    let mut work = Vec::new(alloc);
-    for seat in seats {
-        let gate = Held {
-            calls: &calls,
-            held: false,
-        };
-        work.push((seat, gate))?;
-    }
-    if let Err(fault) = pool_crew(rt, work.as_mut_slice(), 100) {
-        bail!("the crew stops: {fault}");
-    }
+    let calls = &calls;
+    let gate = Held { calls, held: false };
+    let shares = work(rt, alloc, pool, share, gate)?;
     if calls.late.load(Ordering::SeqCst) {
-        bail!("the second worker was not at work while the first was held");
+        return Err(Fault::Late);
     }
-    let ran = pool.bench().lock(rt).core().ran();
-    Ok(ran)
+    Ok(shares)
 }
 
-/// The run, in a line.
-pub fn report<R: Threads + Wait + Sync>(rt: &R, alloc: Global) -> Result<String, Error> {
-    let core = boot(alloc)?;
-    let ran = run::<Brand, R>(rt, alloc, core, Blanks::new())?;
-    Ok(format!(in alloc; "one worker held while the other steals: {ran} instructions")?)
+/// The case, in a line.
+pub fn report<R: Threads + Wait + Sync>(rt: &R, alloc: Global) -> Result<String, Fault> {
+    let found = play_case(rt, alloc, Case::Gated)?.found;
+    Ok(format!(in alloc; "one worker held while the other steals: {found}")?)
 }

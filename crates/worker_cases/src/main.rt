@@ -4,10 +4,14 @@
 #![tactic(auto)]
 
 mod by_crew;
+mod case;
+mod fault;
 mod gated;
 mod programs;
+mod stealing;
 mod stranger;
 mod turns;
+mod workers;
 
 use anyhow::Error;
 
@@ -15,6 +19,7 @@ fn main(rt: HostRuntime) -> Result<(), Error> {
     let alloc = rt.alloc();
     println!(rt; "{}", by_crew::report(&rt, alloc)?)?;
     println!(rt; "{}", gated::report(&rt, alloc)?)?;
+    println!(rt; "{}", stealing::report(&rt, alloc)?)?;
     println!(rt; "{}", turns::report(&rt, alloc)?)?;
     println!(rt; "{}", stranger::report(&rt, alloc)?)?;
     Ok(())

@@ -1,5 +1,5 @@
 //! The two programs, and a gate that holds nobody.
-use anyhow::Error;
+use crate::fault::Fault;
 use bursts::{Done, Gate, run_loan};
 use kernel::{Core, Program, SimDisk};
 use machine_model::Image;
@@ -43,7 +43,7 @@ const PRINTER: [u32; 10] = [
 ];
 
 /// A gate that holds nobody.
-#[derive(Drop)]
+#[derive(Clone, Copy)]
 pub struct Open;
 
 impl Gate for Open {
@@ -51,7 +51,7 @@ impl Gate for Open {
 }
 
 /// A core of both programs, on terminals 0 and 1.
-pub fn boot(alloc: Global) -> Result<Core, Error> {
+pub fn boot(alloc: Global) -> Result<Core, Fault> {
     let writer = Program {
         image: Image::from_text(alloc, &WRITER)?,
         terminal: 0,
@@ -61,13 +61,23 @@ pub fn boot(alloc: Global) -> Result<Core, Error> {
         terminal: 1,
     };
     let programs = vec![in alloc; writer, printer]?;
-    let device = SimDisk::zero(alloc)?;
+    let Ok(device) = SimDisk::zero(alloc) else {
+        return Err(Fault::OutOfMemory);
+    };
     Ok(Core::boot(alloc, device, programs, Vec::new(alloc))?)
 }
 
 /// The result of the first loan of another core of these programs, for a quantum of its own.
-pub fn result_of_another(alloc: Global) -> Result<Option<Done>, Error> {
+pub fn result_of_another(alloc: Global) -> Result<Done, Fault> {
     let mut core = boot(alloc)?;
-    let loan = core.lend(50)?;
-    Ok(loan.map(|loan| run_loan(loan)))
+    next_result(&mut core)
+}
+
+/// The result of the next loan of this core, of at most 50 instructions.
+fn next_result(core: &mut Core) -> Result<Done, Fault> {
+    match core.lend(50) {
+        Ok(Some(loan)) => Ok(run_loan(loan)),
+        Ok(None) => Err(Fault::NothingLent),
+        Err(why) => Err(Fault::Refused(why)),
+    }
 }

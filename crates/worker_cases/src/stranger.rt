@@ -1,73 +1,86 @@
 //! A crew that stops, since a result in the queue is of no loan that is out.
-ghost use Rattle.std.specs.Prelude.{◌≡◌};
-ghost use Rattle.kernel_model.specs.Answers.{now, committed as committed_in, changes as changes_in};
+ghost use Rattle.std.specs.Prelude.{◌<◌};
 
-use crate::programs::{Open, boot, result_of_another};
-use anyhow::{Error, bail};
-use bursts::{Bench, Blanks, Board, Naming};
-use kernel::Core;
+use crate::case::{Case, Found, QUANTUM, play as play_case};
+use crate::fault::Fault;
+use crate::programs::{Open, result_of_another};
+use crate::workers::{Worker, shares_of, workers_of};
+use bursts::{Bench, Naming, Share};
 use pool::{Pool, Seat, pool_crew};
-use std::alloc::Global;
-use std::marker::Brand;
-use std::sync::Wait;
+use std::alloc::{AllocError, Global};
+use std::sync::{Mutex, Wait};
 use std::thread::Threads;
 
-/// Hands in the result of another core at this seat.
+/// A result of another core is handed in before two workers begin. It finds the number of the crew's fault, 0 for none, and whether
+/// the work is to stop.
+pub fn play<N: Naming + Send + Sync, R: Threads + Wait + Sync>(
+    rt: &R,
+    alloc: Global,
+    pool: &Pool<'_, N>,
+    share: Share<N>,
+) -> Result<Found<N>, Fault>
+    requires { pool.now.workers < share.parts }
+{
+    let mut share = share;
+    let mut workers = workers_of(alloc, pool, &mut share, Open)?;
+    hand_in_at_first(rt, alloc, workers.as_mut_slice())?;
+    let fault = fault_of(rt, workers.as_mut_slice());
+    let found = words(alloc, fault, is_stopped(rt, pool.bench()))?;
+    let mut shares = shares_of(alloc, workers)?;
+    shares.push(share)?;
+    Ok((found, shares))
+}
+
+/// The number of a fault, and whether the work is to stop, in words.
+fn words(alloc: Global, fault: u8, stopped: bool) -> Result<String, AllocError> {
+    format!(in alloc; "fault {fault}, stopped {stopped}")
+}
+
+/// Hands a result of another core in at the seat of the first of these workers.
+fn hand_in_at_first<N: Naming, R: Wait>(
+    rt: &R,
+    alloc: Global,
+    workers: &mut [Worker<'_, '_, N, Open>],
+) -> Result<(), Fault> {
+    let Some(first) = workers.first_mut() else {
+        return Err(Fault::NoSeat);
+    };
+    let (seat, _gate) = first;
+    hand_in_of_another(rt, alloc, seat)
+}
+
+/// Hands a result of another core in at this seat.
 fn hand_in_of_another<N: Naming, R: Wait>(
     rt: &R,
     alloc: Global,
     seat: &mut Seat<'_, '_, N>,
-) -> Result<(), Error> {
-    let Some(done) = result_of_another(alloc)? else {
-        bail!("the other core lends nothing");
-    };
-    if seat.hand_in(rt, done).is_err() {
-        bail!("the queue is full");
+) -> Result<(), Fault> {
+    let done = result_of_another(alloc)?;
+    if seat.hand_in(rt, done).is_ok() {
+        Ok(())
+    } else {
+        Err(Fault::QueueFull)
     }
-    Ok(())
 }
 
-/// A result of another core is handed in before two workers begin. Answers the number of the crew's fault, 0 for none, and whether
-/// the work is to stop.
-fn run<N: Naming + Send + Sync, R: Threads + Wait + Sync>(
+/// The number of the fault with which these workers stop, 0 for none.
+fn fault_of<N: Naming + Send + Sync, R: Threads + Wait + Sync>(
     rt: &R,
-    alloc: Global,
-    core: Core,
-    blanks: Blanks,
-) -> Result<(u8, bool), Error>
-    requires committed { committed_in (now core) ≡ N.committed }
-    requires changes { changes_in (now core) ≡ N.changes }
-    requires events { (blanks.events.name ≡ N.events) × (blanks.events.parts ≡ 64) }
-    requires ran { (blanks.ran.name ≡ N.ran) × (blanks.ran.parts ≡ 64) }
-    requires turns { (blanks.turns.name ≡ N.turns) × (blanks.turns.parts ≡ 64) }
-    requires enters { (blanks.enters.name ≡ N.enters) × (blanks.enters.parts ≡ 64) }
-{
-    let (board, writer, _pass) = Board::<N>::new(alloc, &core)?;
-    let (bench, mut share) = Bench::new(core, &board, writer, blanks);
-    let Ok(pool) = Pool::new(alloc, bench, 2) else {
-        bail!("no memory for the pool");
-    };
-    let mut seats = pool.seats(alloc, &mut share)?;
-    let Some(mut first) = seats.pop() else {
-        bail!("there is no seat");
-    };
-    hand_in_of_another(rt, alloc, &mut first)?;
-    let mut work = Vec::new(alloc);
-    work.push((first, Open))?;
-    for seat in seats {
-        work.push((seat, Open))?;
-    }
-    let fault = match pool_crew(rt, work.as_mut_slice(), 100) {
+    workers: &mut [Worker<'_, '_, N, Open>],
+) -> u8 {
+    match pool_crew(rt, workers, QUANTUM) {
         Ok(()) => 0,
         Err(fault) => fault.number(),
-    };
-    let stopped = pool.bench().lock(rt).is_stopped();
-    Ok((fault, stopped))
+    }
 }
 
-/// The run, in a line.
-pub fn report<R: Threads + Wait + Sync>(rt: &R, alloc: Global) -> Result<String, Error> {
-    let core = boot(alloc)?;
-    let (fault, stopped) = run::<Brand, R>(rt, alloc, core, Blanks::new())?;
-    Ok(format!(in alloc; "a result of another core: fault {fault}, stopped {stopped}")?)
+/// Whether the work at this bench is to stop.
+fn is_stopped<N: Naming, R: Wait>(rt: &R, bench: &Mutex<Bench<'_, N>>) -> bool {
+    bench.lock(rt).is_stopped()
+}
+
+/// The case, in a line.
+pub fn report<R: Threads + Wait + Sync>(rt: &R, alloc: Global) -> Result<String, Fault> {
+    let found = play_case(rt, alloc, Case::Stranger)?.found;
+    Ok(format!(in alloc; "a result of another core: {found}")?)
 }

@@ -1,71 +1,116 @@
 //! Turns one after the other, at a seat and at a desk.
-ghost use Rattle.std.specs.Prelude.{◌≡◌};
-ghost use Rattle.kernel_model.specs.Answers.{now, committed as committed_in, changes as changes_in};
+ghost use Rattle.std.specs.Prelude.{◌<◌};
 
-use crate::programs::{Open, boot};
-use anyhow::{Error, bail};
-use bursts::{Bench, Blanks, Board, LockedDesk, Naming, Turned, worker_turn};
-use kernel::Core;
-use pool::{Pool, Pooled, Seat, pool_crew};
-use std::alloc::Global;
-use std::marker::Brand;
-use std::sync::Wait;
+use crate::case::{Case, Found, QUANTUM, play as play_case};
+use crate::fault::Fault;
+use crate::programs::Open;
+use crate::workers::{Worker, crew, shares_of, workers_of};
+use bursts::{Bench, Desk, LockedDesk, Naming, Share, Turned, WorkFault, worker_turn};
+use pool::{Pool, Pooled, Seat};
+use std::alloc::{AllocError, Global};
+use std::sync::{Mutex, Wait};
 use std::thread::Threads;
 
+/// One turn at a desk, and then turns at the one seat until it is idle; and at the end a crew of nobody. It finds how many turns at the
+/// seat settled one result each.
+pub fn play<N: Naming + Send + Sync, R: Threads + Wait + Sync>(
+    rt: &R,
+    alloc: Global,
+    pool: &Pool<'_, N>,
+    share: Share<N>,
+) -> Result<Found<N>, Fault>
+    requires { pool.now.workers < share.parts }
+{
+    let mut share = share;
+    let mut workers = workers_of(alloc, pool, &mut share, Open)?;
+    let share = turn_from(rt, pool.bench(), share)?;
+    let count = turns_at_first(rt, workers.as_mut_slice())?;
+    crew_of_nobody(rt, workers.as_mut_slice())?;
+    let mut shares = shares_of(alloc, workers)?;
+    shares.push(share)?;
+    Ok((words(alloc, count)?, shares))
+}
+
+/// So many turns, in words.
+fn words(alloc: Global, count: u32) -> Result<String, AllocError> {
+    format!(in alloc; "{count} at a seat")
+}
+
+/// One turn at a desk with this share. Answers the share.
+fn turn_from<N: Naming, R: Wait>(
+    rt: &R,
+    bench: &Mutex<Bench<'_, N>>,
+    share: Share<N>,
+) -> Result<Share<N>, Fault> {
+    let mut desk = LockedDesk::new(rt, bench, share);
+    let turned = turn_at(&mut desk);
+    let share = desk.end();
+    turned?;
+    Ok(share)
+}
+
+/// One turn at a desk, which settles a result.
+fn turn_at<D: Desk>(desk: &mut D) -> Result<(), Fault> {
+    let turned = worker_turn(desk, &mut Open, QUANTUM);
+    if settles(&turned) {
+        Ok(())
+    } else {
+        Err(Fault::NothingSettled)
+    }
+}
+
+/// Whether a turn at a desk settled a result.
+fn settles(turned: &Result<Turned, WorkFault>) -> bool {
+    matches!(turned, Ok(Turned::Settled(_)))
+}
+
+/// Turns at the seat of the first of these workers.
+fn turns_at_first<N: Naming, R: Wait>(
+    rt: &R,
+    workers: &mut [Worker<'_, '_, N, Open>],
+) -> Result<u32, Fault> {
+    let Some(first) = workers.first_mut() else {
+        return Err(Fault::NoSeat);
+    };
+    let (seat, _gate) = first;
+    Ok(turns_at(rt, seat))
+}
+
 /// How many turns at a seat settle one result each, up to the first that is idle, or settles another number of results.
-fn turns<N: Naming, R: Wait>(rt: &R, seat: &mut Seat<'_, '_, N>) -> u32 {
+fn turns_at<N: Naming, R: Wait>(rt: &R, seat: &mut Seat<'_, '_, N>) -> u32 {
     for count in 0..10 {
-        match seat.turn(rt, &mut Open, 100) {
-            Ok(Pooled::Worked(settling)) => {
-                if settling.settled != 1 {
-                    return count;
-                }
-            }
-            _ => return count,
+        if !turns_one(rt, seat) {
+            return count;
         }
     }
     10
 }
 
-/// One turn at a desk, and then turns at the one seat until it is idle; and at the end a crew of nobody. Answers how many turns
-/// at the seat settled one result each.
-fn run<N: Naming + Send + Sync, R: Threads + Wait + Sync>(
-    rt: &R,
-    alloc: Global,
-    core: Core,
-    blanks: Blanks,
-) -> Result<u32, Error>
-    requires committed { committed_in (now core) ≡ N.committed }
-    requires changes { changes_in (now core) ≡ N.changes }
-    requires events { (blanks.events.name ≡ N.events) × (blanks.events.parts ≡ 64) }
-    requires ran { (blanks.ran.name ≡ N.ran) × (blanks.ran.parts ≡ 64) }
-    requires turns { (blanks.turns.name ≡ N.turns) × (blanks.turns.parts ≡ 64) }
-    requires enters { (blanks.enters.name ≡ N.enters) × (blanks.enters.parts ≡ 64) }
-{
-    let (board, writer, _pass) = Board::<N>::new(alloc, &core)?;
-    let (bench, mut share) = Bench::new(core, &board, writer, blanks);
-    let Ok(pool) = Pool::new(alloc, bench, 1) else {
-        bail!("no memory for the pool");
-    };
-    let mut seats = pool.seats(alloc, &mut share)?;
-    let mut desk = LockedDesk::new(rt, pool.bench(), share);
-    let Ok(Turned::Settled(_)) = worker_turn(&mut desk, &mut Open, 100) else {
-        bail!("a turn at the desk settles nothing");
-    };
-    let Some(mut seat) = seats.pop() else {
-        bail!("there is no seat");
-    };
-    let count = turns(rt, &mut seat);
-    let mut nobody: Vec<(Seat<'_, '_, N>, Open)> = Vec::new(alloc);
-    if pool_crew(rt, nobody.as_mut_slice(), 100).is_err() {
-        bail!("a crew of nobody stops");
-    }
-    Ok(count)
+/// One turn at a seat. Answers whether it settled one result.
+fn turns_one<N: Naming, R: Wait>(rt: &R, seat: &mut Seat<'_, '_, N>) -> bool {
+    let turned = seat.turn(rt, &mut Open, QUANTUM);
+    settles_one(&turned)
 }
 
-/// The run, in a line.
-pub fn report<R: Threads + Wait + Sync>(rt: &R, alloc: Global) -> Result<String, Error> {
-    let core = boot(alloc)?;
-    let count = run::<Brand, R>(rt, alloc, core, Blanks::new())?;
-    Ok(format!(in alloc; "a turn at a desk, and {count} at a seat, each settle one result")?)
+/// Whether a turn at a seat settled one result.
+fn settles_one(turned: &Result<Pooled, WorkFault>) -> bool {
+    match turned {
+        Ok(Pooled::Worked(settling)) => settling.settled == 1,
+        _ => false,
+    }
+}
+
+/// A crew of none of these workers.
+fn crew_of_nobody<N: Naming + Send + Sync, R: Threads + Wait + Sync>(
+    rt: &R,
+    workers: &mut [Worker<'_, '_, N, Open>],
+) -> Result<(), Fault> {
+    let nobody = &mut workers[..0];
+    crew(rt, nobody)
+}
+
+/// The case, in a line.
+pub fn report<R: Threads + Wait + Sync>(rt: &R, alloc: Global) -> Result<String, Fault> {
+    let found = play_case(rt, alloc, Case::Turns)?.found;
+    Ok(format!(in alloc; "a turn at a desk, and {found}, each settle one result")?)
 }

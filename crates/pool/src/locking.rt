@@ -1,0 +1,22 @@
+//! How a worker comes to the lock.
+use bursts::{Bench, Naming};
+use std::hint::spin_loop;
+use std::sync::{Mutex, MutexGuard, Wait};
+
+/// How often a worker tries for the lock before it sleeps until it is free.
+const TRIES: u32 = 1000;
+
+/// The bench, under its lock. It is held for a few microseconds at a time, and to be woken takes longer: so a worker tries for a
+/// while before it sleeps.
+pub(crate) fn lock_soon<'m, 'b, N: Naming, R: Wait>(
+    rt: &R,
+    lock: &'m Mutex<Bench<'b, N>>,
+) -> MutexGuard<'m, Bench<'b, N>> {
+    for _ in 0..TRIES {
+        if let Some(guard) = lock.try_lock() {
+            return guard;
+        }
+        spin_loop();
+    }
+    lock.lock(rt)
+}
