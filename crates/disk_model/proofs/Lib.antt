@@ -1,5 +1,6 @@
 -- The lemmas, lowest first.
 pub mod Lists
+pub mod Naming
 pub mod Tidy
 pub mod Places
 pub mod Reading

@@ -6,7 +6,7 @@ use Rattle.std.specs.Int.{w16, w32, from_le_bytes, to_le_bytes}
 use Rattle.std.proofs.lemmas.List.{take_at, drop_at, ext_get_or, get_or_append_left}
 use Rattle.std.proofs.lemmas.Nat.{from_le_bytes-to_le_bytes_2, from_le_bytes-to_le_bytes_4}
 use Rattle.disk_model.specs.declared.change.Change.{Change}
-use Rattle.disk_model.specs.declared.change.Change.TheVariants.{Create, Write, Empty}
+use Rattle.disk_model.specs.declared.change.Change.TheVariants.{Create, Write, Empty, Remove, Rename}
 use Rattle.disk_model.specs.declared.change.NamedFile.{NamedFile}
 use Rattle.disk_model.specs.Files.{IsFormed, Follow, changed, files_after}
 use Rattle.disk_model.specs.Spelling.{spelling, body_of, sized_body, gate_after}
@@ -55,6 +55,19 @@ write_same m n i j bytes others x y f g same =
 empty_same : (m n : ℕ) (x y : List ℕ) → m < 2 ^ 16 → n < 2 ^ 16 → to_le_bytes w16 m ++ x ≡ to_le_bytes w16 n ++ y → (Empty m ≡ Empty n) × (x ≡ y)
 empty_same m n x y mlt nlt same = let p = two_same m n x y mlt nlt same in (ap Empty p.0, p.1)
 
+remove_same : (m n : ℕ) (x y : List ℕ) → m < 2 ^ 16 → n < 2 ^ 16 → to_le_bytes w16 m ++ x ≡ to_le_bytes w16 n ++ y → (Remove m ≡ Remove n) × (x ≡ y)
+remove_same m n x y mlt nlt same = let p = two_same m n x y mlt nlt same in (ap Remove p.0, p.1)
+
+rename_same : (m n : ℕ) (name other x y : List ℕ) → m < 2 ^ 16 → n < 2 ^ 16
+    → to_le_bytes w16 m ++ (length name ∷ (name ++ x)) ≡ to_le_bytes w16 n ++ (length other ∷ (other ++ y)) → (Rename m name ≡ Rename n other) × (x ≡ y)
+rename_same m n name other x y mlt nlt same =
+    let p = two_same m n (length name ∷ (name ++ x)) (length other ∷ (other ++ y)) mlt nlt same in
+    let after : length name ∷ (name ++ x) ≡ length other ∷ (other ++ y) = p.1 in
+    let size : length name ≡ length other = cc in
+    let rest : name ++ x ≡ other ++ y = cc in
+    let q = prefixes_same name other x y size rest in
+    (ap (λ (k : ℕ). Rename k name) p.0 ∙ ap (Rename n) q.0, q.1)
+
 -- two changes of different kinds
 kinds_differ : {A : Type 0} (k l : ℕ) (x y : List ℕ) → (k ≡ l → ⊥) → k ∷ x ≡ l ∷ y → A
 kinds_differ k l x y differ same = let kind : k ≡ l = cc in absurd (differ kind)
@@ -64,17 +77,35 @@ change_once : (c e : Change) (x y : List ℕ) → IsFormed c → IsFormed e → 
 change_once (Create name) (Create other) x y f g same = create_same name other x y cc
 change_once (Create name) (Write n j others) x y f g same = kinds_differ 1 2 _ _ (λ h. omega arith) same
 change_once (Create name) (Empty n) x y f g same = kinds_differ 1 3 _ _ (λ h. omega arith) same
+change_once (Create name) (Remove n) x y f g same = kinds_differ 1 4 _ _ (λ h. omega arith) same
+change_once (Create name) (Rename n other) x y f g same = kinds_differ 1 5 _ _ (λ h. omega arith) same
 change_once (Write m i bytes) (Create other) x y f g same = kinds_differ 2 1 _ _ (λ h. omega arith) same
 change_once (Write m i bytes) (Write n j others) x y f g same = write_same m n i j bytes others x y f g cc
 change_once (Write m i bytes) (Empty n) x y f g same = kinds_differ 2 3 _ _ (λ h. omega arith) same
+change_once (Write m i bytes) (Remove n) x y f g same = kinds_differ 2 4 _ _ (λ h. omega arith) same
+change_once (Write m i bytes) (Rename n other) x y f g same = kinds_differ 2 5 _ _ (λ h. omega arith) same
 change_once (Empty m) (Create other) x y f g same = kinds_differ 3 1 _ _ (λ h. omega arith) same
 change_once (Empty m) (Write n j others) x y f g same = kinds_differ 3 2 _ _ (λ h. omega arith) same
 change_once (Empty m) (Empty n) x y f g same = empty_same m n x y f g cc
+change_once (Empty m) (Remove n) x y f g same = kinds_differ 3 4 _ _ (λ h. omega arith) same
+change_once (Empty m) (Rename n other) x y f g same = kinds_differ 3 5 _ _ (λ h. omega arith) same
+change_once (Remove m) (Create other) x y f g same = kinds_differ 4 1 _ _ (λ h. omega arith) same
+change_once (Remove m) (Write n j others) x y f g same = kinds_differ 4 2 _ _ (λ h. omega arith) same
+change_once (Remove m) (Empty n) x y f g same = kinds_differ 4 3 _ _ (λ h. omega arith) same
+change_once (Remove m) (Remove n) x y f g same = remove_same m n x y f g cc
+change_once (Remove m) (Rename n other) x y f g same = kinds_differ 4 5 _ _ (λ h. omega arith) same
+change_once (Rename m name) (Create other) x y f g same = kinds_differ 5 1 _ _ (λ h. omega arith) same
+change_once (Rename m name) (Write n j others) x y f g same = kinds_differ 5 2 _ _ (λ h. omega arith) same
+change_once (Rename m name) (Empty n) x y f g same = kinds_differ 5 3 _ _ (λ h. omega arith) same
+change_once (Rename m name) (Remove n) x y f g same = kinds_differ 5 4 _ _ (λ h. omega arith) same
+change_once (Rename m name) (Rename n other) x y f g same = rename_same m n name other x y f.0 g.0 cc
 
 spelling_some : (c : Change) (x : List ℕ) → 1 ≤ length (spelling c ++ x)
 spelling_some (Create name) x = omega arith
 spelling_some (Write place offset bytes) x = omega arith
 spelling_some (Empty place) x = omega arith
+spelling_some (Remove place) x = omega arith
+spelling_some (Rename place name) x = omega arith
 
 -- a text is the body of at most one list of changes
 body_once : (cs es : List Change) → AllByRecursion IsFormed cs → AllByRecursion IsFormed es → body_of cs ≡ body_of es → cs ≡ es

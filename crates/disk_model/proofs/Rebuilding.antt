@@ -12,7 +12,8 @@ use Rattle.disk_model.specs.Spelling.{body_of, spelling, gate_after}
 use Rattle.disk_model.specs.Held.{start_of, end_of}
 use Rattle.disk_model.specs.Rebuild.{rebuild, rebuild_from, changes_making, writes_from, CanBeRebuilt}
 use Rattle.disk_model.proofs.Reading.{files_after-append, follow_both}
-use Rattle.disk_model.proofs.Tidy.{IsTidy, IsTidyFile, tidy_after, Distinct, names, IsByte}
+use Rattle.disk_model.proofs.Naming.{Distinct, names}
+use Rattle.disk_model.proofs.Tidy.{IsTidy, IsTidyFile, tidy_after, IsByte}
 use Rattle.disk_model.proofs.Lists.{each_take, each_drop}
 
 body_append : (xs ys : List Change) → length (body_of (xs ++ ys)) ≡ length (body_of xs) + length (body_of ys)

@@ -1,9 +1,10 @@
 -- Files, and what a change does to them.
 use Rattle.std.specs.Prelude.{◌≡◌, ℕ, ◌+◌, ◌-◌, ◌<◌, ◌≤◌, ◌^◌, List, [], ◌∷◌, ◌++◌, length, take, drop, replicate, slice_get, slice_set, Option, Some, None}
-use Rattle.std.specs.List.{AllByRecursion}
+use Rattle.std.specs.Str.{bytes_eq}
+use Rattle.std.specs.List.{AllByRecursion, position, remove}
 use Rattle.disk_model.specs.declared.change.NamedFile.{NamedFile}
 use Rattle.disk_model.specs.declared.change.Change.{Change}
-use Rattle.disk_model.specs.declared.change.Change.TheVariants.{Create, Write, Empty}
+use Rattle.disk_model.specs.declared.change.Change.TheVariants.{Create, Write, Empty, Remove, Rename}
 
 -- the old bytes with these from the offset on; a gap between the old end and the offset is zeros
 abbrev pub patched : List ℕ → ℕ → List ℕ → List ℕ
@@ -14,11 +15,28 @@ abbrev pub with_bytes : List NamedFile → ℕ → Option NamedFile → (List �
 with_bytes files place None f = files
 with_bytes files place (Some file) f = slice_set files place (record { name = file.name; bytes = f file.bytes })
 
--- the files after a change; one that names a file that is not there changes nothing
+-- the files where the file at this place, if there is one, has this name
+abbrev pub with_name : List NamedFile → ℕ → Option NamedFile → List ℕ → List NamedFile
+with_name files place None name = files
+with_name files place (Some file) name = slice_set files place (record { name = name; bytes = file.bytes })
+
+-- the place of the first file of this name
+abbrev pub place_named : List NamedFile → List ℕ → Option ℕ
+place_named files name = position (λ (f : NamedFile). bytes_eq f.name name) files
+
+-- the list without what stands at this place, if a place is given; what came after it moves down by one
+abbrev pub without : {A : Type 0} → List A → Option ℕ → List A
+without xs None = xs
+without xs (Some place) = remove xs place
+
+-- The files after a change. Each names a file by its place among those that live before it. A file that is renamed keeps its
+-- place, and a file that had the new name is gone. A change that names a file that is not there changes nothing.
 abbrev pub changed : List NamedFile → Change → List NamedFile
 changed files (Create name) = files ++ record { name = name; bytes = [] } ∷ []
 changed files (Write place offset bytes) = with_bytes files place (slice_get files place) (λ old. patched old offset bytes)
 changed files (Empty place) = with_bytes files place (slice_get files place) (λ old. [])
+changed files (Remove place) = without files (Some place)
+changed files (Rename place name) = without (with_name files place (slice_get files place) name) (place_named files name)
 
 -- the files after these changes, the first of them first
 abbrev pub files_after : List NamedFile → List Change → List NamedFile
@@ -29,17 +47,26 @@ files_after files (c ∷ cs) = files_after (changed files c) cs
 abbrev pub IsNameByte : ℕ → Type 0
 IsNameByte b = (33 ≤ b) × (b ≤ 126) × (b ≡ 47 → ⊥)
 
+-- a name: 1 to 32 bytes of names
+abbrev pub IsName : List ℕ → Type 0
+IsName name = (1 ≤ length name) × (length name ≤ 32) × AllByRecursion IsNameByte name
+
 -- a change that a record may spell, whatever files there are: a name has 1 to 32 bytes, a write 1 to 1,024
 abbrev pub IsFormed : Change → Type 0
-IsFormed (Create name) = (1 ≤ length name) × (length name ≤ 32) × AllByRecursion IsNameByte name
+IsFormed (Create name) = IsName name
 IsFormed (Write place offset bytes) = (place < 2 ^ 16) × (offset < 2 ^ 32) × (1 ≤ length bytes) × (length bytes ≤ 1024) × AllByRecursion (λ b. b < 256) bytes
 IsFormed (Empty place) = place < 2 ^ 16
+IsFormed (Remove place) = place < 2 ^ 16
+IsFormed (Rename place name) = (place < 2 ^ 16) × IsName name
 
--- a change that is possible with these files: a new name among at most 32, a file that is there, a file of at most 16,384 bytes
+-- a change that is possible with these files: a new name among at most 32, a file that is there, a file of at most 16,384 bytes,
+-- another name than the file has
 abbrev pub MayCome : List NamedFile → Change → Type 0
 MayCome files (Create name) = AllByRecursion (λ (f : NamedFile). f.name ≡ name → ⊥) files × (length files < 32)
 MayCome files (Write place offset bytes) = (place < length files) × (offset + length bytes ≤ 16384)
 MayCome files (Empty place) = place < length files
+MayCome files (Remove place) = place < length files
+MayCome files (Rename place name) = (place < length files) × ((f : NamedFile) → slice_get files place ≡ Some f → f.name ≡ name → ⊥)
 
 -- each of these changes is formed, and possible where it comes
 abbrev pub Follow : List NamedFile → List Change → Type 0

@@ -1,5 +1,6 @@
 -- The definitions, lowest first.
 pub mod Files
+pub mod Numbers
 pub mod Spelling
 pub mod Held
 pub mod Rebuild

@@ -2,13 +2,15 @@
 use Rattle.std.specs.Prelude.{ℕ, ◌+◌, List, [], ◌∷◌, ◌++◌, length}
 use Rattle.std.specs.Int.{w16, w32, to_le_bytes}
 use Rattle.disk_model.specs.declared.change.Change.{Change}
-use Rattle.disk_model.specs.declared.change.Change.TheVariants.{Create, Write, Empty}
+use Rattle.disk_model.specs.declared.change.Change.TheVariants.{Create, Write, Empty, Remove, Rename}
 
 -- the bytes of a change: its kind, and then its fields, numbers with their lowest byte first
 abbrev pub spelling : Change → List ℕ
 spelling (Create name) = 1 ∷ length name ∷ name
 spelling (Write place offset bytes) = 2 ∷ (to_le_bytes w16 place ++ to_le_bytes w32 offset ++ to_le_bytes w16 (length bytes) ++ bytes)
 spelling (Empty place) = 3 ∷ to_le_bytes w16 place
+spelling (Remove place) = 4 ∷ to_le_bytes w16 place
+spelling (Rename place name) = 5 ∷ (to_le_bytes w16 place ++ length name ∷ name)
 
 -- the body of a record: the changes one after the other
 unfoldable pub body_of : List Change → List ℕ

@@ -1,7 +1,7 @@
 //! Changes of files, files, and pieces of a disk.
 use byte_list::Bytes;
 
-/// One change of the files. A file's number is its place in order of creation, from 0.
+/// One change of the files. It names a file by its place, from 0, among those that live before the change, in order of creation.
 #[derive(Debug, Drop)]
 pub enum Change {
     /// A new and empty file of this name.
@@ -14,6 +14,13 @@ pub enum Change {
     },
     /// A file loses all its bytes.
     Empty(u16),
+    /// A file is gone, and those after it move down by one place.
+    Remove(u16),
+    /// A file gets this name, and keeps its place. A file that had the name is gone, and those after it move down by one place.
+    Rename {
+        file: u16,
+        name: Bytes,
+    },
 }
 
 /// A file: its name and its bytes.
