@@ -1,7 +1,7 @@
 -- Lists of different names: one of them is taken away, or becomes another one.
-use Rattle.std.proofs.Common.{◌≡◌, ℕ, zero, suc, ◌+◌, ◌<◌, true, false, cond, List, [], ◌∷◌, ◌++◌, length, take, drop, set, Option, Some, None, refl, sym, ap, subst, ◌∙◌, arith}
+use Rattle.std.proofs.Common.{◌≡◌, ℕ, zero, suc, ◌+◌, true, false, cond, List, [], ◌∷◌, take, drop, set, Option, Some, None, refl, sym, ap, subst, arith}
 use Rattle.std.specs.Prelude.{slice_get}
-use Rattle.std.specs.List.{AllByRecursion, position, position_from, remove}
+use Rattle.std.specs.List.{AllByRecursion, position_from, remove}
 use Rattle.std.specs.Str.{bytes_eq}
 use Rattle.std.proofs.lemmas.Iterator.Adapters.{position_from-zero}
 use Rattle.std.proofs.lemmas.Slice.Eq.{bytes_eq-Decides}
@@ -64,7 +64,6 @@ distinct_moved (m ∷ ns) (suc l) (suc p) name e n d = (
 )
 
 -- ---- the place of a name
-
 
 differs : (a b : List ℕ) → bytes_eq a b ≡ false → a ≡ b → ⊥
 differs a b h e = let same : bytes_eq a b ≡ true = (bytes_eq-Decides a b).1 e in cc

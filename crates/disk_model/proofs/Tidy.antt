@@ -6,9 +6,9 @@ use Rattle.std.proofs.lemmas.List.{length-take, length-drop, length-set, length-
 use Rattle.disk_model.specs.declared.change.Change.{Change}
 use Rattle.disk_model.specs.declared.change.Change.TheVariants.{Create, Write, Empty, Remove, Rename}
 use Rattle.disk_model.specs.declared.change.NamedFile.{NamedFile}
-use Rattle.disk_model.specs.Files.{IsFormed, IsName, MayCome, Follow, IsMade, IsNameByte, FilesHoldBytes, changed, files_after, with_bytes, with_name, without, place_named, patched}
+use Rattle.disk_model.specs.Files.{IsFormed, IsName, MayCome, Follow, IsMade, IsNameByte, FilesHoldBytes, changed, files_after, with_bytes, with_name, without, place_named, loser, patched}
 use Rattle.disk_model.proofs.Lists.{each_get, each_set, each_append, each_take, each_drop}
-use Rattle.disk_model.proofs.Naming.{names, Distinct, IsOther, Finds, finds, names_set, names_remove, each_remove, distinct_remove, distinct_set, distinct_moved}
+use Rattle.disk_model.proofs.Naming.{names, Distinct, Finds, finds, names_set, names_remove, each_remove, distinct_remove, distinct_set, distinct_moved}
 
 abbrev pub IsByte : ℕ → Type 0
 IsByte b = b < 256
@@ -114,7 +114,7 @@ moved_tidy fs n f name good t e other (Some at) h =
     named_once (x ∷ gs) (suc k) g m a b = named_once gs k g m a b
 
 renamed_tidy : (fs : List NamedFile) (n : ℕ) (name : List ℕ) → IsName name → IsTidy fs → ((f : NamedFile) → slice_get fs n ≡ Some f → f.name ≡ name → ⊥) → n < length fs
-    → (o : Option NamedFile) → slice_get fs n ≡ o → IsTidy (without (with_name fs n o name) (place_named fs name))
+    → (o : Option NamedFile) → slice_get fs n ≡ o → IsTidy (without (with_name fs n o name) (loser fs o name))
 renamed_tidy fs n name good t other there None e = absurd (get_none fs n there e)
   where
     get_none : (gs : List NamedFile) (k : ℕ) → k < length gs → slice_get gs k ≡ None → ⊥

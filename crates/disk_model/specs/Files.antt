@@ -29,6 +29,11 @@ abbrev pub without : {A : Type 0} → List A → Option ℕ → List A
 without xs None = xs
 without xs (Some place) = remove xs place
 
+-- the place of the file that loses its name, if one does, where a file that may be there gets this name
+abbrev pub loser : List NamedFile → Option NamedFile → List ℕ → Option ℕ
+loser files None name = None
+loser files (Some file) name = place_named files name
+
 -- The files after a change. Each names a file by its place among those that live before it. A file that is renamed keeps its
 -- place, and a file that had the new name is gone. A change that names a file that is not there changes nothing.
 abbrev pub changed : List NamedFile → Change → List NamedFile
@@ -36,7 +41,7 @@ changed files (Create name) = files ++ record { name = name; bytes = [] } ∷ []
 changed files (Write place offset bytes) = with_bytes files place (slice_get files place) (λ old. patched old offset bytes)
 changed files (Empty place) = with_bytes files place (slice_get files place) (λ old. [])
 changed files (Remove place) = without files (Some place)
-changed files (Rename place name) = without (with_name files place (slice_get files place) name) (place_named files name)
+changed files (Rename place name) = without (with_name files place (slice_get files place) name) (loser files (slice_get files place) name)
 
 -- the files after these changes, the first of them first
 abbrev pub files_after : List NamedFile → List Change → List NamedFile

@@ -4,7 +4,7 @@ use Rattle.std.specs.List.{position}
 use Rattle.disk_model.specs.declared.change.NamedFile.{NamedFile}
 use Rattle.disk_model.specs.declared.change.Change.{Change}
 use Rattle.disk_model.specs.declared.change.Change.TheVariants.{Create, Write, Empty, Remove, Rename}
-use Rattle.disk_model.specs.Files.{changed, place_named, without}
+use Rattle.disk_model.specs.Files.{changed, loser, without}
 
 -- the files that live, in order of creation; the number of each; and how many files were made so far, which is the next number
 pub record Numbered : Type 0 where
@@ -44,7 +44,7 @@ numbers_after files (Create name) = files.numbers ++ files.made ∷ []
 numbers_after files (Write place offset bytes) = files.numbers
 numbers_after files (Empty place) = files.numbers
 numbers_after files (Remove place) = without files.numbers (Some place)
-numbers_after files (Rename place name) = without files.numbers (place_named files.living name)
+numbers_after files (Rename place name) = without files.numbers (loser files.living (slice_get files.living place) name)
 
 -- how many files were made, after a change
 abbrev pub made_after : ℕ → Change → ℕ

@@ -1,2 +1,3 @@
 -- The lemmas.
 pub mod Patching
+pub mod Numbering

@@ -1,0 +1,271 @@
+//! Files by numbers that are never used again.
+ghost use Rattle.std.specs.Prelude.{IfOk, IfSome, List, [], ◌≡◌, ◌<◌, ◌≤◌, ◌+◌, ◌^◌, ℕ, OnOk, OnErr, IsOk, length, slice_get, slice_index_or, slice_index, take, drop, option_map};
+ghost use Rattle.disk_model.specs.declared.change.NamedFile.{NamedFile};
+ghost use Rattle.disk_model.specs.declared.change.Change.TheVariants.{Create, Write, Empty, Remove, Rename};
+ghost use Rattle.disk_model.specs.Files.{place_named};
+ghost use Rattle.disk_model.specs.Numbers.{changed_numbered, lives, numbered, place_of};
+
+use crate::list::FileList;
+use byte_list::Bytes;
+use disk_model::{Change, NamedFile};
+use std::alloc::{AllocError, Global};
+use std::marker::Model;
+
+/// The files that live, in order of creation, each with a number that no other file of the table ever had. A file's place, from 0,
+/// is what a change names it by; it moves down when a file before it is gone, and the number stays. The table has no limits of its
+/// own: how many files there may be, and how long and how named, is its caller's to keep.
+#[derive(Drop)]
+pub struct FileTable {
+    alloc: Global,
+    list: FileList,
+    numbers: Vec<u64>,
+    made: u64,
+}
+
+impl Model for FileTable {
+    ghost use Rattle.std.specs.Prelude.{◌≡◌, length};
+    ghost use Rattle.disk_model.specs.Numbers.{Numbered};
+
+    ghost Value = { Numbered };
+
+    ghost view = { λ t. record { living = t.list; numbers = t.numbers.items; made = t.made } };
+
+    ghost invariant = { λ t. length t.numbers.items ≡ length t.list };
+}
+
+impl FileTable {
+    /// No files, and none was ever made. Takes no memory.
+    pub fn new(alloc: Global) -> FileTable
+        ensures { result ≡ numbered [] }
+    {
+        FileTable {
+            alloc,
+            list: FileList::new(alloc),
+            numbers: Vec::new(alloc),
+            made: 0,
+        }
+    }
+
+    /// These files, numbered by their places. Takes memory for the numbers, and none where there are no files.
+    pub fn numbered(alloc: Global, list: FileList) -> Result<FileTable, AllocError>
+        ensures ok { IfOk result (λ t. t ≡ numbered list) }
+        ensures none { list ≡ [] → IsOk result }
+    {
+        let made = list.count() as u64;
+        let mut numbers = Vec::new(alloc);
+        for number in 0..made {
+            numbers.push(number)?;
+        }
+        Ok(FileTable {
+            alloc,
+            list,
+            numbers,
+            made,
+        })
+    }
+
+    /// The files by their places alone.
+    pub fn list(&self) -> &FileList
+        ensures { result.now ≡ self.now.living }
+    {
+        &self.list
+    }
+
+    /// How many files live.
+    pub fn count(&self) -> usize
+        ensures { result ≡ length self.now.living }
+    {
+        self.list.count()
+    }
+
+    /// How many files were ever made: the number of the next one.
+    pub fn made(&self) -> u64
+        ensures { result ≡ self.now.made }
+    {
+        self.made
+    }
+
+    /// The place of the first file of this name.
+    pub fn find(&self, name: &[u8]) -> Option<usize>
+        ensures place { result ≡ place_named self.now.living name.now }
+        ensures there { IfSome result (λ place. place < length self.now.living) }
+    {
+        self.list.find(name)
+    }
+
+    /// The number of the file at a place.
+    pub fn number(&self, place: usize) -> u64
+        requires { place < length self.now.living }
+        ensures { result ≡ slice_index self.now.numbers place }
+    {
+        self.numbers[place]
+    }
+
+    /// The place of the file of this number; None where it does not live.
+    pub fn place(&self, number: u64) -> Option<usize>
+        ensures place { result ≡ place_of self.now number }
+        ensures there { IfSome result (λ place. place < length self.now.living) }
+    {
+        self.numbers.iter().position(|other| *other == number)
+    }
+
+    /// Whether the file of this number lives: it was made, and has a name.
+    pub fn alive(&self, number: u64) -> bool
+        ensures { result ≡ lives self.now number }
+    {
+        self.place(number).is_some()
+    }
+
+    /// The name of the file at a place.
+    pub fn name(&self, place: usize) -> &[u8]
+        requires { place < length self.now.living }
+        ensures { (d : NamedFile) → result.now ≡ (slice_index_or self.now.living place d).name }
+    {
+        self.list.name(place)
+    }
+
+    /// The bytes of the file at a place.
+    pub fn bytes(&self, place: usize) -> &[u8]
+        requires { place < length self.now.living }
+        ensures { (d : NamedFile) → result.now ≡ (slice_index_or self.now.living place d).bytes }
+    {
+        self.list.bytes(place)
+    }
+
+    /// How many bytes the file at a place has.
+    pub fn length(&self, place: usize) -> usize
+        requires { place < length self.now.living }
+        ensures { (d : NamedFile) → result ≡ length (slice_index_or self.now.living place d).bytes }
+    {
+        self.list.length(place)
+    }
+
+    /// At most n bytes of the file at a place, from an offset on: fewer where it ends before, and none past its end. None
+    /// where there is no file at the place.
+    pub fn read(&self, place: usize, offset: usize, n: usize) -> Option<&[u8]>
+        ensures { option_map (λ bytes. bytes.now) result
+            ≡ option_map (λ f. take n (drop offset f.bytes)) (slice_get self.now.living place) }
+    {
+        self.list.read(place, offset, n)
+    }
+
+    /// A new and empty file of this name, after the others, with the next number. Where memory runs out nothing has changed.
+    pub fn create(&mut self, name: Bytes) -> Result<(), AllocError>
+        requires { self.old.made + 1 < 2 ^ 64 }
+        ensures ok { OnOk result (self.new ≡ changed_numbered self.old (Create name)) }
+        ensures err { OnErr result (self.new ≡ self.old) }
+    {
+        self.numbers.reserve(1)?;
+        self.list.create(name)?;
+        self.numbers.push(self.made).unwrap();
+        self.made += 1;
+        Ok(())
+    }
+
+    /// These bytes at this offset of the file at a place; a gap between its old end and the offset is zeros. Takes memory for
+    /// what the file grows by, and none inside the file. Where memory runs out nothing has changed.
+    pub fn write(&mut self, place: usize, offset: usize, bytes: &[u8]) -> Result<(), AllocError>
+        requires { place < length self.old.living }
+        ensures ok { OnOk result (self.new ≡ changed_numbered self.old (Write place offset bytes.now)) }
+        ensures err { OnErr result (self.new ≡ self.old) }
+        ensures inside { (d : NamedFile) → offset + length bytes.now ≤ length (slice_index_or self.old.living place d).bytes → IsOk result }
+    {
+        self.list.write(place, offset, bytes)
+    }
+
+    /// The file at a place loses all its bytes. Takes no memory.
+    pub fn empty(&mut self, place: usize)
+        requires { place < length self.old.living }
+        ensures { self.new ≡ changed_numbered self.old (Empty place) }
+    {
+        self.list.empty(place);
+    }
+
+    /// The file at a place loses its name, and is gone: no file has its number any more. Those after it move down by one place.
+    /// Takes no memory.
+    pub fn unlink(&mut self, place: usize)
+        requires { place < length self.old.living }
+        ensures { self.new ≡ changed_numbered self.old (Remove place) }
+    {
+        self.list.remove(place);
+        self.numbers.remove(place);
+    }
+
+    /// The file at a place gets this name, and keeps its place and its number; a file that had the name is gone, and those after
+    /// it move down by one place. Takes no memory.
+    pub fn rename(&mut self, place: usize, name: Bytes)
+        requires { place < length self.old.living }
+        ensures { self.new ≡ changed_numbered self.old (Rename place name) }
+    {
+        let loser = self.find(name.as_slice());
+        self.list.rename(place, name);
+        if let Some(loser) = loser {
+            self.numbers.remove(loser);
+        }
+    }
+
+    /// Does a change. One that names a file that is not there changes nothing. Takes memory for a name, and for what a file grows
+    /// by, and for nothing else. Where memory runs out nothing has changed.
+    pub fn change(&mut self, change: &Change) -> Result<(), AllocError>
+        requires { self.old.made + 1 < 2 ^ 64 }
+        ensures ok { OnOk result (self.new ≡ changed_numbered self.old change.now) }
+        ensures err { OnErr result (self.new ≡ self.old) }
+        ensures empties { (place : ℕ) → change.now ≡ Empty place → IsOk result }
+        ensures removes { (place : ℕ) → change.now ≡ Remove place → IsOk result }
+        ensures inside { (place offset : ℕ) (bytes : List ℕ) → change.now ≡ Write place offset bytes
+            → IfSome (slice_get self.old.living place) (λ (f : NamedFile). offset + length bytes ≤ length f.bytes) → IsOk result }
+    {
+        match change {
+            Change::Create(name) => {
+                let name = name.try_clone(self.alloc)?;
+                self.create(name)
+            }
+            Change::Write {
+                file,
+                offset,
+                bytes,
+            } => {
+                let place = usize::from(*file);
+                if place < self.list.count() {
+                    self.write(place, *offset as usize, bytes.as_slice())?;
+                }
+                Ok(())
+            }
+            Change::Empty(file) => {
+                let place = usize::from(*file);
+                if place < self.list.count() {
+                    self.empty(place);
+                }
+                Ok(())
+            }
+            Change::Remove(file) => {
+                let place = usize::from(*file);
+                if place < self.list.count() {
+                    self.unlink(place);
+                }
+                Ok(())
+            }
+            Change::Rename { file, name } => {
+                let place = usize::from(*file);
+                if place < self.list.count() {
+                    self.rename(place, name.try_clone(self.alloc)?);
+                }
+                Ok(())
+            }
+        }
+    }
+
+    /// The same files with the same numbers, in memory of their own.
+    pub fn try_clone(&self) -> Result<FileTable, AllocError>
+        ensures { IfOk result (λ t. t ≡ self.now) }
+    {
+        let mut numbers = Vec::new(self.alloc);
+        numbers.extend_from_slice(&self.numbers)?;
+        Ok(FileTable {
+            alloc: self.alloc,
+            list: self.list.try_clone()?,
+            numbers,
+            made: self.made,
+        })
+    }
+}
