@@ -25,18 +25,18 @@ numbered files = record { living = files; numbers = numbers_from 0 files; made =
 abbrev pub place_of : Numbered → ℕ → Option ℕ
 place_of files number = position (λ n. n == number) files.numbers
 
--- the file at a place, if a place is given and a file is there
-abbrev pub file_at : List NamedFile → Option ℕ → Option NamedFile
-file_at files None = None
-file_at files (Some place) = slice_get files place
+-- what stands at a place, if a place is given and something stands there
+abbrev pub at_place : {A : Type 0} → List A → Option ℕ → Option A
+at_place xs None = None
+at_place xs (Some place) = slice_get xs place
 
 -- the file of this number, if it lives
 abbrev pub file_of : Numbered → ℕ → Option NamedFile
-file_of files number = file_at files.living (place_of files number)
+file_of files number = at_place files.living (place_of files number)
 
 -- the file of this number lives
 abbrev pub lives : Numbered → ℕ → Bool
-lives files number = is_some (place_of files number)
+lives files number = is_some (file_of files number)
 
 -- the numbers of the files that live after a change
 abbrev pub numbers_after : Numbered → Change → List ℕ

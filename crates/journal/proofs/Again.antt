@@ -1,6 +1,6 @@
 -- What was spelled is read again.
 use Rattle.std.proofs.Common.{◌≡◌, ℕ, zero, suc, ◌+◌, ◌^◌, ◌<◌, ◌≤◌, Bool, true, false, cond, ltb, List, [], ◌∷◌, ◌++◌, length, Option, Some, None, Result, Ok, refl, ap, ◌∙◌, arith}
-use Rattle.std.specs.Prelude.{is_none, ◌&&◌, not, nat_le, nat_lt, ◌==◌}
+use Rattle.std.specs.Prelude.{is_none, slice_get, ◌&&◌, not, nat_le, nat_lt, ◌==◌}
 use Rattle.std.specs.List.{AllByRecursion}
 use Rattle.std.specs.Int.{Width, w16, w32, byte_len, from_le_bytes, to_le_bytes}
 use Rattle.std.proofs.lemmas.Bool.{le-ltb, eqb-true, false≢true, and_parts}
@@ -8,13 +8,13 @@ use Rattle.std.proofs.lemmas.Bool.Decides.{nat_tests}
 use Rattle.std.proofs.lemmas.List.{take_at, drop_at, length-append}
 use Rattle.std.proofs.lemmas.Nat.{from_le_bytes-to_le_bytes_2, from_le_bytes-to_le_bytes_4}
 use Rattle.disk_model.specs.declared.change.Change.{Change}
-use Rattle.disk_model.specs.declared.change.Change.TheVariants.{Create, Write, Empty}
+use Rattle.disk_model.specs.declared.change.Change.TheVariants.{Create, Write, Empty, Remove, Rename}
 use Rattle.disk_model.specs.declared.change.NamedFile.{NamedFile}
-use Rattle.disk_model.specs.Files.{IsFormed, IsNameByte, MayCome, Follow, changed, files_after}
+use Rattle.disk_model.specs.Files.{IsFormed, IsName, IsNameByte, MayCome, Follow, changed, files_after}
 use Rattle.disk_model.specs.Spelling.{spelling, body_of}
 use Rattle.journal.specs.declared.fault.DiskFault.{DiskFault}
-use Rattle.journal.proofs.Names.{none_found}
-use Rattle.journal.specs.Reading.{◌>>=◌, number_at, text_at, create_at, write_at, empty_at, change_at, changes_at, all_changed, is_unnamed, may_come, is_name_byte, all_name_bytes}
+use Rattle.journal.proofs.Names.{none_found, not_called}
+use Rattle.journal.specs.Reading.{◌>>=◌, number_at, text_at, name_at, create_at, write_at, empty_at, remove_at, rename_at, change_at, changes_at, all_changed, is_unnamed, is_called, may_come, is_name_byte, all_name_bytes}
 
 text_again : (text rest : List ℕ) → text_at (length text) (text ++ rest) ≡ Ok (text, rest)
 text_again text rest =
@@ -53,12 +53,16 @@ names_true : (name : List ℕ) → AllByRecursion IsNameByte name → all_name_b
 names_true [] h = refl
 names_true (b ∷ name) h = and_true (is_name_byte b) (all_name_bytes name) (and_true (nat_le 33 b && nat_le b 126) (not (b == 47)) (and_true (nat_le 33 b) (nat_le b 126) (le_true 33 b h.0.0) (le_true b 126 h.0.1)) (not_true (b == 47) (differs b 47 h.0.2))) (names_true name h.1)
 
-create_again : (name rest : List ℕ) → IsFormed (Create name) → create_at (length name ∷ name ++ rest) ≡ Ok (Create name, rest)
-unfolding create_at
-create_again name rest f =
+name_again : (name rest : List ℕ) → IsName name → name_at (length name ∷ name ++ rest) ≡ Ok (name, rest)
+unfolding name_at
+name_again name rest f =
     let good : (nat_le 1 (length name) && nat_le (length name) 32 && all_name_bytes name) ≡ true =
     and_true (nat_le 1 (length name) && nat_le (length name) 32) (all_name_bytes name) (and_true (nat_le 1 (length name)) (nat_le (length name) 32) (le_true 1 (length name) f.0) (le_true (length name) 32 f.1)) (names_true name f.2) in
     rw (text_again name rest, good) refl
+
+create_again : (name rest : List ℕ) → IsFormed (Create name) → create_at (length name ∷ name ++ rest) ≡ Ok (Create name, rest)
+unfolding create_at
+create_again name rest f = rw (name_again name rest f) refl
 
 write_again : (file offset : ℕ) (bytes rest : List ℕ) → IsFormed (Write file offset bytes)
     → write_at (to_le_bytes w16 file ++ (to_le_bytes w32 offset ++ (to_le_bytes w16 (length bytes) ++ (bytes ++ rest)))) ≡ Ok (Write file offset bytes, rest)
@@ -72,16 +76,28 @@ empty_again : (file : ℕ) (rest : List ℕ) → IsFormed (Empty file) → empty
 unfolding empty_at
 empty_again file rest f = rw (two_again file rest f) refl
 
+remove_again : (file : ℕ) (rest : List ℕ) → IsFormed (Remove file) → remove_at (to_le_bytes w16 file ++ rest) ≡ Ok (Remove file, rest)
+unfolding remove_at
+remove_again file rest f = rw (two_again file rest f) refl
+
+rename_again : (file : ℕ) (name rest : List ℕ) → IsFormed (Rename file name) → rename_at (to_le_bytes w16 file ++ (length name ∷ (name ++ rest))) ≡ Ok (Rename file name, rest)
+unfolding rename_at
+rename_again file name rest f = rw (two_again file (length name ∷ (name ++ rest)) f.0, name_again name rest f.1) refl
+
 pub change_again : (c : Change) (rest : List ℕ) → IsFormed c → change_at (spelling c ++ rest) ≡ Ok (c, rest)
 unfolding change_at
 change_again (Create name) rest f = create_again name rest f
 change_again (Write file offset bytes) rest f = write_again file offset bytes rest f
 change_again (Empty file) rest f = empty_again file rest f
+change_again (Remove file) rest f = remove_again file rest f
+change_again (Rename file name) rest f = rename_again file name rest f
 
 spelling_some : (c : Change) → 1 ≤ length (spelling c)
 spelling_some (Create name) = omega arith
 spelling_some (Write file offset bytes) = omega arith
 spelling_some (Empty file) = omega arith
+spelling_some (Remove file) = omega arith
+spelling_some (Rename file name) = omega arith
 
 changes_step : (k : ℕ) (bytes : List ℕ) → 1 ≤ length bytes → changes_at (suc k) bytes ≡ (change_at bytes >>= λ first. changes_at k first.1 >>= λ others. Ok (first.0 ∷ others))
 unfolding changes_at
@@ -112,6 +128,9 @@ may_true files (Create name) m =
     and_true (is_unnamed files name) (nat_lt (length files) 32) (none_found files name m.0) (lt_true (length files) 32 m.1)
 may_true files (Write n offset bytes) m = and_true (nat_lt n (length files)) (nat_le (offset + length bytes) 16384) (lt_true n (length files) m.0) (le_true (offset + length bytes) 16384 m.1)
 may_true files (Empty n) m = lt_true n (length files) m
+may_true files (Remove n) m = lt_true n (length files) m
+may_true files (Rename n name) m =
+    and_true (nat_lt n (length files)) (not (is_called (slice_get files n) name)) (lt_true n (length files) m.0) (not_called (slice_get files n) name m.1)
 
 pub changed_again : (files : List NamedFile) (cs : List Change) → Follow files cs → all_changed files cs ≡ Ok (files_after files cs)
 unfolding all_changed

@@ -5,14 +5,14 @@ use Rattle.std.specs.Int.{Width, byte_len, w16, w32, from_le_bytes, to_le_bytes}
 use Rattle.std.proofs.lemmas.Bool.{ltb-false, leb-true, ltb-true}
 use Rattle.std.proofs.lemmas.List.{take_at, length-take, length-drop, get_or-drop, get_or-take, ext_get_or}
 use Rattle.disk_model.specs.declared.change.Change.{Change}
-use Rattle.disk_model.specs.declared.change.Change.TheVariants.{Create, Write}
+use Rattle.disk_model.specs.declared.change.Change.TheVariants.{Write}
 use Rattle.disk_model.specs.declared.change.NamedFile.{NamedFile}
 use Rattle.disk_model.specs.Files.{Follow, changed, files_after}
 use Rattle.disk_model.specs.Spelling.{body_of, sized_body, gate_after}
 use Rattle.disk_model.specs.Held.{Stands, IsRecord, Records, joined, selected_half, start_of, end_of}
 use Rattle.journal.specs.declared.fault.DiskFault.{DiskFault}
 use Rattle.journal.specs.declared.fault.DiskFault.TheVariants.{BadRecord, BadChange, PastHalf, OutOfMemory}
-use Rattle.journal.specs.Reading.{◌>>=◌, number_at, text_at, create_at, write_at, empty_at, change_at, changes_at, all_changed, may_come, step_at, body_at, record_at, records_at, opened, on_some, all_name_bytes}
+use Rattle.journal.specs.Reading.{◌>>=◌, number_at, text_at, name_at, create_at, write_at, empty_at, remove_at, rename_at, change_at, changes_at, all_changed, may_come, step_at, body_at, record_at, records_at, opened, on_some, all_name_bytes}
 use Rattle.journal.proofs.Found.{IsBytes}
 use Rattle.journal.proofs.Again.{changes_again, changed_again}
 use Rattle.std.proofs.lemmas.List.{length-append, get_or_append_left, get_or-append-add}
@@ -54,13 +54,17 @@ number_err w bytes d e = plain_err (ltb (length bytes) (byte_len w)) (from_le_by
 text_err : (n : ℕ) (bytes : List ℕ) (d : DiskFault) → text_at n bytes ≡ Err d → IsBad d
 text_err n bytes d e = plain_err (ltb (length bytes) n) (take n bytes, drop n bytes) BadRecord d e
 
+name_err : (bytes : List ℕ) (d : DiskFault) → name_at bytes ≡ Err d → IsBad d
+unfolding name_at
+name_err [] d e = cc
+name_err (n ∷ rest) d e = elim (bind_err (text_at n rest) _ d e) [
+  | inl h ↦ text_err n rest d h
+  | inr (x, h, g) ↦ test_err (nat_le 1 n && nat_le n 32 && all_name_bytes x.0) (x.0, x.1) BadRecord d g
+]
+
 create_err : (bytes : List ℕ) (d : DiskFault) → create_at bytes ≡ Err d → IsBad d
 unfolding create_at
-create_err [] d e = cc
-create_err (n ∷ rest) d e = elim (bind_err (text_at n rest) _ d e) [
-  | inl h ↦ text_err n rest d h
-  | inr (x, h, g) ↦ test_err (nat_le 1 n && nat_le n 32 && all_name_bytes x.0) (Create x.0, x.1) BadRecord d g
-]
+create_err bytes d e = elim (bind_err (name_at bytes) _ d e) [ inl h ↦ name_err bytes d h | inr (name, h, g) ↦ absurd (ok_err _ d g) ]
 
 write_err : (bytes : List ℕ) (d : DiskFault) → write_at bytes ≡ Err d → IsBad d
 unfolding write_at
@@ -82,6 +86,17 @@ empty_err : (bytes : List ℕ) (d : DiskFault) → empty_at bytes ≡ Err d → 
 unfolding empty_at
 empty_err bytes d e = elim (bind_err (number_at w16 bytes) _ d e) [ inl h ↦ number_err w16 bytes d h | inr (file, h, g) ↦ absurd (ok_err _ d g) ]
 
+remove_err : (bytes : List ℕ) (d : DiskFault) → remove_at bytes ≡ Err d → IsBad d
+unfolding remove_at
+remove_err bytes d e = elim (bind_err (number_at w16 bytes) _ d e) [ inl h ↦ number_err w16 bytes d h | inr (file, h, g) ↦ absurd (ok_err _ d g) ]
+
+rename_err : (bytes : List ℕ) (d : DiskFault) → rename_at bytes ≡ Err d → IsBad d
+unfolding rename_at
+rename_err bytes d e = elim (bind_err (number_at w16 bytes) _ d e) [
+  | inl h ↦ number_err w16 bytes d h
+  | inr (file, h1, e1) ↦ elim (bind_err (name_at file.1) _ d e1) [ inl h ↦ name_err file.1 d h | inr (name, h2, e2) ↦ absurd (ok_err _ d e2) ]
+]
+
 change_err : (bytes : List ℕ) (d : DiskFault) → change_at bytes ≡ Err d → IsBad d
 unfolding change_at
 change_err [] d e = cc
@@ -89,7 +104,9 @@ change_err (zero ∷ rest) d e = cc
 change_err (suc zero ∷ rest) d e = create_err rest d e
 change_err (suc (suc zero) ∷ rest) d e = write_err rest d e
 change_err (suc (suc (suc zero)) ∷ rest) d e = empty_err rest d e
-change_err (suc (suc (suc (suc b))) ∷ rest) d e = cc
+change_err (suc (suc (suc (suc zero))) ∷ rest) d e = remove_err rest d e
+change_err (suc (suc (suc (suc (suc zero)))) ∷ rest) d e = rename_err rest d e
+change_err (suc (suc (suc (suc (suc (suc b))))) ∷ rest) d e = cc
 
 pub changes_err : (n : ℕ) (bytes : List ℕ) (d : DiskFault) → changes_at n bytes ≡ Err d → IsBad d
 unfolding changes_at

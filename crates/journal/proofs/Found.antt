@@ -7,12 +7,12 @@ use Rattle.std.proofs.lemmas.Bool.{cases_lt, ltb-false, leb-true, eqb-false, and
 use Rattle.std.proofs.lemmas.List.{take-append-drop, length-take, get_or-drop, get_or-take, get_or_past}
 use Rattle.std.proofs.lemmas.Nat.{le_bytes_2, le_bytes_4}
 use Rattle.disk_model.specs.declared.change.Change.{Change}
-use Rattle.disk_model.specs.declared.change.Change.TheVariants.{Create, Write}
-use Rattle.disk_model.specs.Files.{IsFormed, IsNameByte}
+use Rattle.disk_model.specs.declared.change.Change.TheVariants.{Write}
+use Rattle.disk_model.specs.Files.{IsFormed, IsName, IsNameByte}
 use Rattle.disk_model.specs.Spelling.{spelling, body_of}
 use Rattle.journal.specs.declared.fault.DiskFault.{DiskFault}
 use Rattle.journal.specs.declared.fault.DiskFault.TheVariants.{BadRecord}
-use Rattle.journal.specs.Reading.{◌>>=◌, number_at, text_at, create_at, write_at, empty_at, change_at, changes_at, is_name_byte, all_name_bytes}
+use Rattle.journal.specs.Reading.{◌>>=◌, number_at, text_at, name_at, create_at, write_at, empty_at, remove_at, rename_at, change_at, changes_at, is_name_byte, all_name_bytes}
 
 abbrev pub IsBytes : List ℕ → Type 0
 IsBytes bytes = (i : ℕ) → get_or bytes i 0 < 256
@@ -91,19 +91,27 @@ names_are (b ∷ name) h =
     let r = and_parts (nat_le 33 b) (nat_le b 126) q.0 in
     ((leb-true 33 b r.0, leb-true b 126 r.1, eqb-false b 47 (not-true (b == 47) q.1)), names_are name p.1)
 
-create_takes : (bytes : List ℕ) (x : Change × List ℕ) → IsBytes bytes → create_at bytes ≡ Ok x → Takes (1 ∷ bytes) (spelling x.0) x.1 × IsFormed x.0
-unfolding create_at
-create_takes [] x fits e = absurd cc
-create_takes (n ∷ rest) x fits e =
-    let b = bind_ok (text_at n rest) (λ name. cond (nat_le 1 n && nat_le n 32 && all_name_bytes name.0) (Ok (Create name.0, name.1)) (Err BadRecord)) x e in
+name_takes : (bytes : List ℕ) (x : List ℕ × List ℕ) → IsBytes bytes → name_at bytes ≡ Ok x → Takes bytes (length x.0 ∷ x.0) x.1 × IsName x.0
+unfolding name_at
+name_takes [] x fits e = absurd cc
+name_takes (n ∷ rest) x fits e =
+    let b = bind_ok (text_at n rest) (λ name. cond (nat_le 1 n && nat_le n 32 && all_name_bytes name.0) (Ok (name.0, name.1)) (Err BadRecord)) x e in
     let name = b.0 in
     let t = text_takes n rest name (bytes_rest n rest fits) b.1 in
-    let g = test_ok (nat_le 1 n && nat_le n 32 && all_name_bytes name.0) BadRecord (Ok (Create name.0, name.1)) x b.2 in
+    let g = test_ok (nat_le 1 n && nat_le n 32 && all_name_bytes name.0) BadRecord (Ok (name.0, name.1)) x b.2 in
     let p = and_parts (nat_le 1 n && nat_le n 32) (all_name_bytes name.0) g.0 in
     let q = and_parts (nat_le 1 n) (nat_le n 32) p.0 in
     let low = leb-true 1 n q.0 in let high = leb-true n 32 q.1 in let len = t.1 in
-    subst (λ (y : Change × List ℕ). Takes (1 ∷ n ∷ rest) (spelling y.0) y.1 × IsFormed y.0) (ok_is _ _ g.1)
-    (record { parts = ap (λ (l : List ℕ). 1 ∷ n ∷ l) t.0.parts ∙ ap (λ (k : ℕ). 1 ∷ k ∷ (name.0 ++ name.1)) (sym t.1); fine = t.0.fine }, (omega arith, omega arith, names_are name.0 p.1))
+    subst (λ (y : List ℕ × List ℕ). Takes (n ∷ rest) (length y.0 ∷ y.0) y.1 × IsName y.0) (ok_is _ _ g.1)
+    (record { parts = ap (λ (l : List ℕ). n ∷ l) t.0.parts ∙ ap (λ (k : ℕ). k ∷ (name.0 ++ name.1)) (sym t.1); fine = t.0.fine }, (omega arith, omega arith, names_are name.0 p.1))
+
+create_takes : (bytes : List ℕ) (x : Change × List ℕ) → IsBytes bytes → create_at bytes ≡ Ok x → Takes (1 ∷ bytes) (spelling x.0) x.1 × IsFormed x.0
+unfolding create_at
+create_takes bytes x fits e =
+    let b = bind_ok (name_at bytes) _ x e in
+    let t = name_takes bytes b.0 fits b.1 in
+    subst (λ (y : Change × List ℕ). Takes (1 ∷ bytes) (spelling y.0) y.1 × IsFormed y.0) (ok_is _ _ b.2)
+    (record { parts = ap (λ (l : List ℕ). 1 ∷ l) t.0.parts; fine = t.0.fine }, t.1)
 
 write_takes : (bytes : List ℕ) (x : Change × List ℕ) → IsBytes bytes → write_at bytes ≡ Ok x → Takes (2 ∷ bytes) (spelling x.0) x.1 × IsFormed x.0
 unfolding write_at
@@ -133,6 +141,25 @@ empty_takes bytes x fits e =
     subst (λ (y : Change × List ℕ). Takes (3 ∷ bytes) (spelling y.0) y.1 × IsFormed y.0) (ok_is _ _ b.2)
     (record { parts = ap (λ (l : List ℕ). 3 ∷ l) t.0.parts; fine = t.0.fine }, t.1)
 
+remove_takes : (bytes : List ℕ) (x : Change × List ℕ) → IsBytes bytes → remove_at bytes ≡ Ok x → Takes (4 ∷ bytes) (spelling x.0) x.1 × IsFormed x.0
+unfolding remove_at
+remove_takes bytes x fits e =
+    let b = bind_ok (number_at w16 bytes) _ x e in
+    let t = number_takes w16 (2 ^ 16) wide2 bytes b.0 fits b.1 in
+    subst (λ (y : Change × List ℕ). Takes (4 ∷ bytes) (spelling y.0) y.1 × IsFormed y.0) (ok_is _ _ b.2)
+    (record { parts = ap (λ (l : List ℕ). 4 ∷ l) t.0.parts; fine = t.0.fine }, t.1)
+
+rename_takes : (bytes : List ℕ) (x : Change × List ℕ) → IsBytes bytes → rename_at bytes ≡ Ok x → Takes (5 ∷ bytes) (spelling x.0) x.1 × IsFormed x.0
+unfolding rename_at
+rename_takes bytes x fits e =
+    let b1 = bind_ok (number_at w16 bytes) _ x e in
+    let file = b1.0 in let t1 = number_takes w16 (2 ^ 16) wide2 bytes file fits b1.1 in
+    let b2 = bind_ok (name_at file.1) _ x b1.2 in
+    let name = b2.0 in let t2 = name_takes file.1 name t1.0.fine b2.1 in
+    let both = takes_then bytes _ file.1 _ name.1 t1.0 t2.0 in
+    subst (λ (y : Change × List ℕ). Takes (5 ∷ bytes) (spelling y.0) y.1 × IsFormed y.0) (ok_is _ _ b2.2)
+    (record { parts = ap (λ (l : List ℕ). 5 ∷ l) both.parts; fine = both.fine }, (t1.1, t2.1))
+
 pub change_takes : (bytes : List ℕ) (x : Change × List ℕ) → IsBytes bytes → change_at bytes ≡ Ok x → Takes bytes (spelling x.0) x.1 × IsFormed x.0
 unfolding change_at
 change_takes [] x fits e = absurd cc
@@ -140,7 +167,9 @@ change_takes (zero ∷ rest) x fits e = absurd cc
 change_takes (suc zero ∷ rest) x fits e = create_takes rest x (bytes_rest 1 rest fits) e
 change_takes (suc (suc zero) ∷ rest) x fits e = write_takes rest x (bytes_rest 2 rest fits) e
 change_takes (suc (suc (suc zero)) ∷ rest) x fits e = empty_takes rest x (bytes_rest 3 rest fits) e
-change_takes (suc (suc (suc (suc b))) ∷ rest) x fits e = absurd cc
+change_takes (suc (suc (suc (suc zero))) ∷ rest) x fits e = remove_takes rest x (bytes_rest 4 rest fits) e
+change_takes (suc (suc (suc (suc (suc zero)))) ∷ rest) x fits e = rename_takes rest x (bytes_rest 5 rest fits) e
+change_takes (suc (suc (suc (suc (suc (suc b))))) ∷ rest) x fits e = absurd cc
 
 pub changes_takes : (n : ℕ) (bytes : List ℕ) (cs : List Change) → IsBytes bytes → changes_at n bytes ≡ Ok cs → (bytes ≡ body_of cs) × AllByRecursion IsFormed cs
 unfolding changes_at body_of

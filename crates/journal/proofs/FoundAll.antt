@@ -1,21 +1,21 @@
 -- The records that are read stand on the disk.
 use Rattle.std.proofs.Common.{◌≡◌, ℕ, zero, suc, ◌+◌, ◌-◌, ◌<◌, ◌≤◌, Bool, true, false, cond, List, [], ◌∷◌, ◌++◌, length, get_or, take, drop, Option, Some, None, Result, Ok, refl, sym, ap, subst, ◌∙◌, append_assoc, arith, inl, inr, ◌⊎◌}
-use Rattle.std.specs.Prelude.{nat_le, nat_lt, ◌==◌, slice_index}
+use Rattle.std.specs.Prelude.{nat_le, nat_lt, not, ◌==◌, slice_get, slice_index}
 use Rattle.std.specs.List.{AllByRecursion}
 use Rattle.std.specs.Int.{w32, from_le_bytes, to_le_bytes}
 use Rattle.std.proofs.lemmas.Bool.{ltb-false, leb-true, leb-false, ltb-true, eqb-true, eq-eqb, ne_eqb, and_parts}
 use Rattle.std.proofs.lemmas.List.{drop_at, take-append-drop, length-append, length-take, length-drop, get_or-drop, get_or-take, get_or_append_left, drop-drop}
 use Rattle.std.proofs.lemmas.Nat.{le_bytes_4}
 use Rattle.disk_model.specs.declared.change.Change.{Change}
-use Rattle.disk_model.specs.declared.change.Change.TheVariants.{Create, Write, Empty}
+use Rattle.disk_model.specs.declared.change.Change.TheVariants.{Create, Write, Empty, Remove, Rename}
 use Rattle.disk_model.specs.declared.change.NamedFile.{NamedFile}
 use Rattle.disk_model.specs.Files.{IsFormed, MayCome, Follow, changed, files_after}
 use Rattle.disk_model.specs.Spelling.{body_of, sized_body, gate_after}
 use Rattle.disk_model.specs.Held.{IsRecord, Records, joined, Reads, IsHeldTo, selected_half, start_of, end_of}
 use Rattle.journal.specs.declared.fault.DiskFault.{DiskFault}
 use Rattle.journal.specs.declared.fault.DiskFault.TheVariants.{BadRecord, BadChange, PastHalf, OutOfMemory}
-use Rattle.journal.specs.Reading.{◌>>=◌, body_at, changes_at, all_changed, is_unnamed, may_come, step_at, record_at, records_at, opened, on_some, selected, recovered, Fails}
-use Rattle.journal.proofs.Names.{none_has}
+use Rattle.journal.specs.Reading.{◌>>=◌, body_at, changes_at, all_changed, is_unnamed, is_called, may_come, step_at, record_at, records_at, opened, on_some, selected, recovered, Fails}
+use Rattle.journal.proofs.Names.{none_has, called_otherwise}
 use Rattle.journal.proofs.Found.{IsBytes, bytes_drop, bytes_take, bind_ok, guard_ok, test_ok, ok_is, changes_takes}
 use Rattle.journal.proofs.Whole.{tail, tail_cons, half_facts, held_read}
 
@@ -25,6 +25,10 @@ may_is files (Create name) h =
     (none_has files name p.0, ltb-true (length files) 32 p.1)
 may_is files (Write n offset bytes) h = let p = and_parts (nat_lt n (length files)) (nat_le (offset + length bytes) 16384) h in (ltb-true n (length files) p.0, leb-true (offset + length bytes) 16384 p.1)
 may_is files (Empty n) h = ltb-true n (length files) h
+may_is files (Remove n) h = ltb-true n (length files) h
+may_is files (Rename n name) h =
+    let p = and_parts (nat_lt n (length files)) (not (is_called (slice_get files n) name)) h in
+    (ltb-true n (length files) p.0, called_otherwise (slice_get files n) name p.1)
 
 follow_is : (files : List NamedFile) (cs : List Change) (later : List NamedFile) → AllByRecursion IsFormed cs → all_changed files cs ≡ Ok later → Follow files cs × (later ≡ files_after files cs)
 unfolding all_changed

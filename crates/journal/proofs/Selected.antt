@@ -7,7 +7,8 @@ use Rattle.journal.specs.declared.fault.DiskFault.{DiskFault}
 use Rattle.journal.specs.declared.fault.DiskFault.TheVariants.{OutOfMemory}
 use Rattle.journal.specs.Reading.{records_at, opened, selected, Fails}
 use Rattle.journal.specs.Faults.{TellsFault}
-use Rattle.journal.proofs.Found.{IsBytes}
+use Rattle.journal.proofs.Found.{IsBytes, ok_is}
+use Rattle.journal.proofs.Gates.{is_shut}
 use Rattle.journal.proofs.FoundAll.{recovered_held, held_recovered, only_memory, half_shut}
 use Rattle.journal.proofs.Faulty.{tells}
 
@@ -49,3 +50,8 @@ tells_in d end half e fits size i f = tells d e fits size (subst (λ (l : List �
 
 pub shut_in : (d : List ℕ) (end : ℕ) (half : List ℕ) → length d ≡ 2097152 → IsHalf d end half → (slice_index d (start_of (selected_half (slice_index d 0))) ≡ 1 → ⊥) → opened half ≡ None
 shut_in d end half size i shut = ap opened i.whole ∙ half_shut d size shut
+
+pub none_in : (d : List ℕ) (end : ℕ) (half : List ℕ) (files : List NamedFile) (rest : List ℕ) → length d ≡ 2097152 → IsHalf d end half → (slice_index d (start_of (selected_half (slice_index d 0))) ≡ 1 → ⊥)
+    → records_at (length half) [] half ≡ Ok (files, rest) → files ≡ []
+none_in d end half files rest size i shut e =
+    ap (λ (x : List NamedFile × List ℕ). x.0) (ok_is (files, rest) ([], half) (is_shut (length half) [] half (Ok (files, rest)) (shut_in d end half size i shut) e))

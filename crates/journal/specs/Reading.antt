@@ -1,10 +1,10 @@
 -- Reading a half from left to right, with the first fault that is met. Only the private functions of this crate speak of it.
-use Rattle.std.specs.Prelude.{◌≡◌, ℕ, zero, suc, ◌+◌, ◌&&◌, List, [], ◌∷◌, length, take, drop, Option, Some, None, Result, Ok, Err, nat_lt, nat_le, is_none, slice_index, ◌==◌, not, Bool, true, if◌then◌else◌}
+use Rattle.std.specs.Prelude.{◌≡◌, ℕ, zero, suc, ◌+◌, ◌&&◌, List, [], ◌∷◌, length, take, drop, Option, Some, None, Result, Ok, Err, nat_lt, nat_le, is_none, slice_get, slice_index, ◌==◌, not, Bool, true, false, if◌then◌else◌}
 use Rattle.std.specs.Int.{Width, w16, w32, byte_len, from_le_bytes}
 use Rattle.std.specs.List.{position}
 use Rattle.std.specs.Str.{bytes_eq}
 use Rattle.disk_model.specs.declared.change.Change.{Change}
-use Rattle.disk_model.specs.declared.change.Change.TheVariants.{Create, Write, Empty}
+use Rattle.disk_model.specs.declared.change.Change.TheVariants.{Create, Write, Empty, Remove, Rename}
 use Rattle.disk_model.specs.declared.change.NamedFile.{NamedFile}
 use Rattle.disk_model.specs.Files.{changed}
 use Rattle.disk_model.specs.Held.{selected_half, start_of, end_of}
@@ -46,12 +46,18 @@ abbrev pub all_name_bytes : List ℕ → Bool
 all_name_bytes [] = true
 all_name_bytes (b ∷ bytes) = is_name_byte b && all_name_bytes bytes
 
+-- a name after its length, and the bytes after it
+unfoldable pub name_at : List ℕ → Result (List ℕ × List ℕ) DiskFault
+name_at [] = Err BadRecord
+name_at (n ∷ rest) = do
+  name ← text_at n rest
+  if nat_le 1 n && nat_le n 32 && all_name_bytes name.0 then Ok (name.0, name.1) else Err BadRecord
+
 -- a creation, from the bytes after its kind, and the bytes after it
 unfoldable pub create_at : List ℕ → Result (Change × List ℕ) DiskFault
-create_at [] = Err BadRecord
-create_at (n ∷ rest) = do
-  name ← text_at n rest
-  if nat_le 1 n && nat_le n 32 && all_name_bytes name.0 then Ok (Create name.0, name.1) else Err BadRecord
+create_at bytes = do
+  name ← name_at bytes
+  Ok (Create name.0, name.1)
 
 -- a write, from the bytes after its kind, and the bytes after it
 unfoldable pub write_at : List ℕ → Result (Change × List ℕ) DiskFault
@@ -68,6 +74,19 @@ empty_at bytes = do
   file ← number_at w16 bytes
   Ok (Empty file.0, file.1)
 
+-- a removal, from the bytes after its kind, and the bytes after it
+unfoldable pub remove_at : List ℕ → Result (Change × List ℕ) DiskFault
+remove_at bytes = do
+  file ← number_at w16 bytes
+  Ok (Remove file.0, file.1)
+
+-- a renaming, from the bytes after its kind, and the bytes after it
+unfoldable pub rename_at : List ℕ → Result (Change × List ℕ) DiskFault
+rename_at bytes = do
+  file ← number_at w16 bytes
+  name ← name_at file.1
+  Ok (Rename file.0 name.0, name.1)
+
 -- a change, and the bytes after it
 unfoldable pub change_at : List ℕ → Result (Change × List ℕ) DiskFault
 change_at [] = Err BadRecord
@@ -75,7 +94,9 @@ change_at (zero ∷ rest) = Err BadRecord
 change_at (suc zero ∷ rest) = create_at rest
 change_at (suc (suc zero) ∷ rest) = write_at rest
 change_at (suc (suc (suc zero)) ∷ rest) = empty_at rest
-change_at (suc (suc (suc (suc b))) ∷ rest) = Err BadRecord
+change_at (suc (suc (suc (suc zero))) ∷ rest) = remove_at rest
+change_at (suc (suc (suc (suc (suc zero)))) ∷ rest) = rename_at rest
+change_at (suc (suc (suc (suc (suc (suc b))))) ∷ rest) = Err BadRecord
 
 -- all changes of a body; the number is at least its length
 unfoldable pub changes_at : ℕ → List ℕ → Result (List Change) DiskFault
@@ -90,11 +111,18 @@ changes_at (suc n) (b ∷ bytes) = do
 unfoldable pub is_unnamed : List NamedFile → List ℕ → Bool
 is_unnamed files name = is_none (position (λ (f : NamedFile). bytes_eq f.name name) files)
 
+-- the file, if one is there, has this name
+abbrev pub is_called : Option NamedFile → List ℕ → Bool
+is_called None name = false
+is_called (Some file) name = bytes_eq file.name name
+
 -- the change is possible with these files
 abbrev pub may_come : List NamedFile → Change → Bool
 may_come files (Create name) = is_unnamed files name && nat_lt (length files) 32
 may_come files (Write place offset bytes) = nat_lt place (length files) && nat_le (offset + length bytes) 16384
 may_come files (Empty place) = nat_lt place (length files)
+may_come files (Remove place) = nat_lt place (length files)
+may_come files (Rename place name) = nat_lt place (length files) && not (is_called (slice_get files place) name)
 
 -- the files after a change, where it is possible
 abbrev pub step_at : List NamedFile → Change → Result (List NamedFile) DiskFault

@@ -13,8 +13,8 @@ pub enum DiskFault {
     /// A body that is no list of changes, or has a bad byte in a name.
     #[error("a record's body is no list of changes")]
     BadRecord = 1,
-    /// A change that is not possible where it comes: a name that is there, a 33rd file, a file that is not there, or a
-    /// write that ends past 16,384 bytes.
+    /// A change that is not possible where it comes: a creation of a name that is there or of a 33rd file, a change of a file
+    /// that is not there, a write that ends past 16,384 bytes, or a renaming to the name that the file has.
     #[error("a record has a change that is not possible")]
     BadChange = 2,
     /// The gate after a record would lie outside the half.

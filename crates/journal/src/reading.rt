@@ -1,7 +1,7 @@
 //! Reading the body of a record.
 ghost use Rattle.std.specs.Prelude.{◌≡◌, length};
 ghost use Rattle.std.specs.Int.{w16, w32};
-ghost use Rattle.journal.specs.Reading.{Gives, number_at, text_at, create_at, write_at, empty_at, change_at, changes_at, body_at, all_name_bytes};
+ghost use Rattle.journal.specs.Reading.{Gives, number_at, text_at, name_at, create_at, write_at, empty_at, remove_at, rename_at, change_at, changes_at, body_at, all_name_bytes};
 
 use crate::fault::DiskFault;
 use byte_list::Bytes;
@@ -55,10 +55,10 @@ fn are_name_bytes(bytes: &[u8]) -> bool
     true
 }
 
-/// A creation, from the bytes after its kind.
-#[tactic(auto, unfolding(crate::specs::Reading::create_at))]
-fn create_of(alloc: Global, bytes: &[u8]) -> Result<(Change, &[u8]), DiskFault>
-    ensures { Gives (λ x. (x.0, x.1.now)) result (create_at bytes.now) }
+/// A name of 1 to 32 bytes after its length, which is one byte, and the bytes after it.
+#[tactic(auto, unfolding(crate::specs::Reading::name_at))]
+fn name_of(alloc: Global, bytes: &[u8]) -> Result<(Bytes, &[u8]), DiskFault>
+    ensures { Gives (λ x. (x.0, x.1.now)) result (name_at bytes.now) }
 {
     match bytes {
         [] => Err(DiskFault::BadRecord),
@@ -68,9 +68,18 @@ fn create_of(alloc: Global, bytes: &[u8]) -> Result<(Change, &[u8]), DiskFault>
             if n < 1 || n > 32 || !are_name_bytes(name.as_slice()) {
                 return Err(DiskFault::BadRecord);
             }
-            Ok((Change::Create(name), rest))
+            Ok((name, rest))
         }
     }
+}
+
+/// A creation, from the bytes after its kind.
+#[tactic(auto, unfolding(crate::specs::Reading::create_at))]
+fn create_of(alloc: Global, bytes: &[u8]) -> Result<(Change, &[u8]), DiskFault>
+    ensures { Gives (λ x. (x.0, x.1.now)) result (create_at bytes.now) }
+{
+    let (name, rest) = name_of(alloc, bytes)?;
+    Ok((Change::Create(name), rest))
 }
 
 /// A write, from the bytes after its kind.
@@ -102,6 +111,25 @@ fn empty_of(bytes: &[u8]) -> Result<(Change, &[u8]), DiskFault>
     Ok((Change::Empty(file), rest))
 }
 
+/// A removal, from the bytes after its kind.
+#[tactic(auto, unfolding(crate::specs::Reading::remove_at))]
+fn remove_of(bytes: &[u8]) -> Result<(Change, &[u8]), DiskFault>
+    ensures { Gives (λ x. (x.0, x.1.now)) result (remove_at bytes.now) }
+{
+    let (file, rest) = u16_at(bytes)?;
+    Ok((Change::Remove(file), rest))
+}
+
+/// A renaming, from the bytes after its kind.
+#[tactic(auto, unfolding(crate::specs::Reading::rename_at))]
+fn rename_of(alloc: Global, bytes: &[u8]) -> Result<(Change, &[u8]), DiskFault>
+    ensures { Gives (λ x. (x.0, x.1.now)) result (rename_at bytes.now) }
+{
+    let (file, rest) = u16_at(bytes)?;
+    let (name, rest) = name_of(alloc, rest)?;
+    Ok((Change::Rename { file, name }, rest))
+}
+
 /// A change, and the bytes after it.
 #[tactic(auto, unfolding(crate::specs::Reading::change_at))]
 fn change_of(alloc: Global, bytes: &[u8]) -> Result<(Change, &[u8]), DiskFault>
@@ -111,6 +139,8 @@ fn change_of(alloc: Global, bytes: &[u8]) -> Result<(Change, &[u8]), DiskFault>
         [1, rest @ ..] => create_of(alloc, rest),
         [2, rest @ ..] => write_of(alloc, rest),
         [3, rest @ ..] => empty_of(rest),
+        [4, rest @ ..] => remove_of(rest),
+        [5, rest @ ..] => rename_of(alloc, rest),
         _ => Err(DiskFault::BadRecord),
     }
 }

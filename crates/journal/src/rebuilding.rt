@@ -38,12 +38,12 @@ fn push_writes(
     Ok(())
 }
 
-/// The changes that make these files from nothing: for each file in order its creation, and then writes of 1,024 bytes, the
-/// last shorter.
+/// The changes that make the files that live from nothing: for each in order its creation, and then writes of 1,024 bytes, the
+/// last shorter. The changes name a file by its place, and tell nothing of its number.
 pub fn rebuild(alloc: Global, files: &FileTable) -> Result<Vec<Change>, AllocError>
-    requires few { length files.now ≤ 32 }
-    requires short { AllByRecursion (λ (f : NamedFile). length f.bytes ≤ 16384) files.now }
-    ensures { IfOk result (λ v. v.items ≡ checkpoint_changes files.now) }
+    requires few { length files.now.living ≤ 32 }
+    requires short { AllByRecursion (λ (f : NamedFile). length f.bytes ≤ 16384) files.now.living }
+    ensures { IfOk result (λ v. v.items ≡ checkpoint_changes files.now.living) }
 {
     let mut changes = Vec::new(alloc);
     for place in 0..files.count() {

@@ -1,23 +1,31 @@
 //! Reading the records of a half.
-ghost use Rattle.std.specs.Prelude.{◌≡◌, [], length, option_map, None, IsOk};
-ghost use Rattle.journal.specs.Reading.{is_unnamed, Gives, GivesNew, GivesBoth, step_at, all_changed, record_at, records_at, opened};
+ghost use Rattle.std.specs.Prelude.{◌≡◌, ◌<◌, [], length, slice_get, option_map, None, IsOk};
+ghost use Rattle.journal.specs.Reading.{is_unnamed, is_called, Gives, GivesNew, GivesBoth, step_at, all_changed, record_at, records_at, opened};
 
 use crate::fault::DiskFault;
 use crate::reading::{body_in, read_changes};
 use disk_model::{Change, LONGEST_FILE, MOST_FILES};
-use files::FileTable;
+use files::FileList;
 use std::alloc::Global;
 
 /// Whether no file has this name.
 #[tactic(auto, unfolding(crate::specs::Reading::is_unnamed))]
-fn is_unnamed(files: &FileTable, name: &[u8]) -> bool
+fn is_unnamed(files: &FileList, name: &[u8]) -> bool
     ensures { result ≡ is_unnamed files.now name.now }
 {
     files.find(name).is_none()
 }
 
+/// Whether the file at a place has this name.
+fn is_called(files: &FileList, place: usize, name: &[u8]) -> bool
+    requires { place < length files.now }
+    ensures { result ≡ is_called (slice_get files.now place) name.now }
+{
+    files.name(place) == name
+}
+
 /// Does a change, where it is possible.
-fn apply(alloc: Global, files: &mut FileTable, change: &Change) -> Result<(), DiskFault>
+fn apply(alloc: Global, files: &mut FileList, change: &Change) -> Result<(), DiskFault>
     ensures { GivesNew result files.new (step_at files.old change.now) }
 {
     match change {
@@ -48,12 +56,28 @@ fn apply(alloc: Global, files: &mut FileTable, change: &Change) -> Result<(), Di
             files.empty(place);
             Ok(())
         }
+        Change::Remove(file) => {
+            let place = *file as usize;
+            if place >= files.count() {
+                return Err(DiskFault::BadChange);
+            }
+            files.remove(place);
+            Ok(())
+        }
+        Change::Rename { file, name } => {
+            let place = *file as usize;
+            if place >= files.count() || is_called(files, place, name.as_slice()) {
+                return Err(DiskFault::BadChange);
+            }
+            files.rename(place, name.try_clone(alloc)?);
+            Ok(())
+        }
     }
 }
 
 /// Does these changes in order.
 #[tactic(auto, unfolding(crate::specs::Reading::all_changed))]
-fn apply_all(alloc: Global, files: &mut FileTable, changes: &[Change]) -> Result<(), DiskFault>
+fn apply_all(alloc: Global, files: &mut FileList, changes: &[Change]) -> Result<(), DiskFault>
     ensures { GivesNew result files.new (all_changed files.old changes.now) }
 {
     for change in changes {
@@ -66,7 +90,7 @@ fn apply_all(alloc: Global, files: &mut FileTable, changes: &[Change]) -> Result
 #[tactic(auto, unfolding(crate::specs::Reading::record_at))]
 fn record_of<'a>(
     alloc: Global,
-    files: &mut FileTable,
+    files: &mut FileList,
     bytes: &'a [u8],
 ) -> Result<&'a [u8], DiskFault>
     ensures { GivesBoth (λ x. x.now) result files.new (record_at files.old bytes.now) }
@@ -88,11 +112,11 @@ fn after_open_gate(rest: &[u8]) -> Option<&[u8]>
 }
 
 /// The files that the records of a half make, and what is left of it from the first gate on that is not open.
-pub fn records_of(alloc: Global, half: &[u8]) -> Result<(FileTable, &[u8]), DiskFault>
+pub fn records_of(alloc: Global, half: &[u8]) -> Result<(FileList, &[u8]), DiskFault>
     ensures exact { Gives (λ x. (x.0, x.1.now)) result (records_at (length half.now) [] half.now) }
     ensures closed { opened half.now ≡ None → IsOk result }
 {
-    let mut files = FileTable::new(alloc);
+    let mut files = FileList::new(alloc);
     let mut rest = half;
     for _ in 0..half.len() {
         let Some(bytes) = after_open_gate(rest) else {

@@ -35,6 +35,17 @@ fn push_change(out: &mut Vec<u8>, change: &Change) -> Result<(), AllocError>
             out.push(3)?;
             out.extend_from_slice(&file.to_le_bytes())?;
         }
+        Change::Remove(file) => {
+            out.push(4)?;
+            out.extend_from_slice(&file.to_le_bytes())?;
+        }
+        Change::Rename { file, name } => {
+            let name = name.as_slice();
+            out.push(5)?;
+            out.extend_from_slice(&file.to_le_bytes())?;
+            out.push(name.len() as u8)?;
+            out.extend_from_slice(name)?;
+        }
     }
     Ok(())
 }

@@ -1,6 +1,7 @@
 -- How large the tables of a state may be, and that what they name is there.
-use Rattle.std.specs.Prelude.{◌≡◌, ℕ, ◌<◌, ◌≤◌, Bool, List, [], ◌∷◌, length, slice_get, Option, Some, None, is_some, IsTrue, MatchOption}
+use Rattle.std.specs.Prelude.{◌≡◌, ℕ, ◌+◌, ◌<◌, ◌≤◌, Bool, List, [], ◌∷◌, length, slice_get, Option, Some, None, is_some, IsTrue, MatchOption}
 use Rattle.std.specs.List.{Contains}
+use Rattle.disk_model.specs.Numbers.{Numbered}
 use Rattle.disk_model.specs.declared.change.NamedFile.{NamedFile}
 use Rattle.kernel_model.specs.Requests.{longest_name}
 use Rattle.kernel_model.specs.Rows.{EndedChild, descriptor_at, status_in, longest_file, most_files, most_pipes, pipe_size}
@@ -16,12 +17,17 @@ abbrev pub RiseWithin : ℕ → ℕ → List ℕ → Type 0
 RiseWithin low high [] = Unit {0}
 RiseWithin low high (n ∷ ns) = (low < n) × (n ≤ high) × RiseWithin n high ns
 
+-- these numbers rise: the first is at least `low`, each other one above the one before it, and each is below `high`
+abbrev pub RiseFrom : ℕ → ℕ → List ℕ → Type 0
+RiseFrom low high [] = Unit {0}
+RiseFrom low high (n ∷ ns) = (low ≤ n) × (n < high) × RiseFrom (n + 1) high ns
+
 -- process pid, which is p, in a state
 pub record IsInPlace (s : SyncState) (pid : ℕ) (p : Process) : Type 0 where
   -- it has 16 descriptors
   pub descriptors : length p.descriptors ≡ descriptor_count
-  -- each of them that stands for a file stands for one that is there
-  pub named : (fd file offset : ℕ) (writes : Bool) → descriptor_at p.descriptors fd ≡ Some (File file offset writes) → file < length s.files
+  -- each of them that stands for a file stands for one that was made
+  pub named : (fd file offset : ℕ) (writes : Bool) → descriptor_at p.descriptors fd ≡ Some (File file offset writes) → file < s.files.made
   -- its children stand by rising number, each above its own, and each is there
   pub children : RiseWithin pid (length s.processes) p.children
 
@@ -32,12 +38,21 @@ pub record IsInBounds (p : PipeState) : Type 0 where
   -- it holds at most 4,096 bytes
   pub held : length (unread p) ≤ pipe_size
 
--- the processes and the pipes of a state
+-- numbers of files
+pub record AreNumbered (files : Numbered) : Type 0 where
+  -- each file that lives has one
+  pub each : length files.numbers ≡ length files.living
+  -- they rise, so no two are one, and each is below the next one
+  pub rise : RiseFrom 0 files.made files.numbers
+
+-- the processes, the pipes and the files of a state
 pub record KeepLimits (s : SyncState) : Type 0 where
   -- each process is in place
   pub processes : (pid : ℕ) (p : Process) → process_at s.processes pid ≡ Some p → IsInPlace s pid p
   -- there are at most 1,024 pipes
   pub pipes : length s.pipes ≤ most_pipes
+  -- the files are numbered
+  pub numbered : AreNumbered s.files
   -- each pipe is in bounds
   pub held : (k : ℕ) (p : PipeState) → slice_get s.pipes k ≡ Some p → IsInBounds p
 

@@ -1,10 +1,10 @@
 -- What a machine that stands at a call asks for.
-use Rattle.std.specs.Prelude.{ℕ, ◌==◌, ◌&&◌, ◌||◌, nat_le, is_none, Bool, if◌then◌else◌, List, slice_index, Option, Some, None}
+use Rattle.std.specs.Prelude.{ℕ, ◌+◌, ◌==◌, ◌&&◌, ◌||◌, nat_le, is_none, Bool, if◌then◌else◌, List, slice_index, Option, Some, None}
 use Rattle.machine_model.specs.Memory.{Memory}
 use Rattle.machine_model.specs.Access.{bytes_at, range_fault, to_read, to_write}
 use Rattle.machine_model.specs.States.{State}
 use Rattle.kernel_model.specs.declared.request.Request.{Request}
-use Rattle.kernel_model.specs.declared.request.Request.TheVariants.{Exit, Write, Read, Open, Close, Pipe, Fork, Wait, GetPid, Seek, Sync, Unknown}
+use Rattle.kernel_model.specs.declared.request.Request.TheVariants.{Exit, Write, Read, Open, Close, Pipe, Fork, Wait, GetPid, Seek, Sync, Unlink, Rename, Unknown}
 
 -- n bytes from an address on, where they are at most so many and each may be read
 abbrev pub read_bytes : Memory → ℕ → ℕ → ℕ → Option (List ℕ)
@@ -23,6 +23,10 @@ most_bytes = 1024
 -- the most bytes of a file's name
 abbrev pub longest_name : ℕ
 longest_name = 32
+
+-- the most bytes of two names
+abbrev pub longest_names : ℕ
+longest_names = 64
 
 -- the bytes of two words, as which a pipe's descriptors are written
 abbrev pub pair_size : ℕ
@@ -46,6 +50,8 @@ request_by number a0 a1 a2 memory =
     else if number == 9 then GetPid
     else if number == 10 then Seek a0 a1
     else if number == 11 then Sync
+    else if number == 12 then Unlink a1 (read_bytes memory longest_name a0 a1)
+    else if number == 13 then Rename a1 a2 (read_bytes memory longest_names a0 (a1 + a2))
     else Unknown
 
 -- the call at which a machine stands: its number is in a7, its arguments in a0, a1 and a2

@@ -1,12 +1,11 @@
 -- The table of calls: what each request comes to, its tests in their order. No run of at most 8 programs comes to an answer for a
--- file, a tape or a pipe that is not there: `kernel_model::tables_keep_their_limits`, and of pipes `kernel_model::ends_are_counted`.
+-- tape or a pipe that is not there, or for a file that was never made: `kernel_model::tables_keep_their_limits`, and of pipes `kernel_model::ends_are_counted`.
 use Rattle.std.specs.Prelude.{ℕ, zero, suc, ◌+◌, ◌-◌, ◌^◌, ◌%◌, ◌==◌, ◌&&◌, ◌++◌, ◌||◌, not, Bool, true, false, if◌then◌else◌, nat_lt, nat_le, List, [], ◌∷◌, length, slice_get, map, filter_map, take, drop, Option, Some, None, is_none, option_map, unwrap_or}
 use Rattle.std.specs.List.{list_all, position}
 use Rattle.std.specs.Str.{bytes_eq}
 use Rattle.std.specs.Int.{w32, to_le_bytes}
-use Rattle.disk_model.specs.declared.change.Change.{Change}
-use Rattle.disk_model.specs.declared.change.Change.TheVariants as change
 use Rattle.disk_model.specs.declared.change.NamedFile.{NamedFile}
+use Rattle.disk_model.specs.Numbers.{Numbered, at_place, file_of, lives}
 use Rattle.kernel_model.specs.Requests.{most_bytes, longest_name}
 use Rattle.kernel_model.specs.State.{Shared, TapeState, PipeState, unread}
 use Rattle.kernel_model.specs.declared.carrier.Carrier.{Carrier}
@@ -25,14 +24,23 @@ use Rattle.kernel_model.specs.declared.request.Request.TheVariants as request
 use Rattle.kernel_model.specs.declared.request.Verdict.{Verdict}
 use Rattle.kernel_model.specs.declared.request.Verdict.TheVariants.{Waits, Replies, Ends}
 
+-- an edit of a file by its number: a new one of a name is made; bytes are written at an offset; all its bytes are gone; it loses its
+-- name; or it gets this one
+pub data FileEdit : Type 0 where
+  Creates : List ℕ → FileEdit
+  Writes : ℕ → ℕ → List ℕ → FileEdit
+  Empties : ℕ → FileEdit
+  Removes : ℕ → FileEdit
+  Renames : ℕ → List ℕ → FileEdit
+
 -- What a call comes to: what the caller is told, the carriers that it reads and writes beside the caller's own, and the
--- edits that it makes: a change of the files, bytes for a terminal, bytes read from a tape, steps of pipes, descriptors of the
--- caller, and of its children one that is made or one that is collected, by its number.
+-- edits that it makes: of a file, bytes for a terminal, bytes read from a tape, steps of pipes, descriptors of the caller, and of its
+-- children one that is made or one that is collected, by its number.
 pub record Effect : Type 0 where
   pub verdict : Verdict
   pub reads : List Carrier
   pub writes : List Carrier
-  pub change : Option Change
+  pub edit : Option FileEdit
   pub output : Option Output
   pub tape : Option TapeRead
   pub pipes : List PipeStep
@@ -42,7 +50,7 @@ pub record Effect : Type 0 where
 
 -- the caller is told this, and nothing else comes of it
 abbrev pub only : Verdict → Effect
-only verdict = record { verdict = verdict; reads = []; writes = []; change = None; output = None; tape = None; pipes = []; slots = []; child = None; collects = None }
+only verdict = record { verdict = verdict; reads = []; writes = []; edit = None; output = None; tape = None; pipes = []; slots = []; child = None; collects = None }
 
 -- a reply of a number, without bytes
 abbrev pub number : ℕ → Verdict
@@ -144,6 +152,20 @@ closing ends verdict = record (only verdict) {
 abbrev pub on_pipe : ℕ → Verdict → List PipeStep → Effect
 on_pipe k verdict steps = record (only verdict) { reads = carrier.Pipe k ∷ []; writes = carrier.Pipe k ∷ []; pipes = steps }
 
+-- ---- files that descriptors stand for
+
+-- the file for which a descriptor stands, if it stands for one, as a carrier
+abbrev pub file_carriers : Option Descriptor → List Carrier
+file_carriers (Some (descriptor.File file offset writes)) = carrier.File file ∷ []
+file_carriers (Some (descriptor.Tape t)) = []
+file_carriers (Some (descriptor.Terminal t)) = []
+file_carriers (Some (descriptor.Pipe end)) = []
+file_carriers None = []
+
+-- an effect of a call that looks whether the file for which a descriptor stands, if it stands for one, still lives
+abbrev pub looking_at : Option Descriptor → Effect → Effect
+looking_at d e = record e { reads = file_carriers d ++ e.reads }
+
 -- ---- exit
 
 -- the end of a process with these descriptors and a status, by a call or a trap: all its descriptors are closed
@@ -155,22 +177,21 @@ abbrev pub descriptor_at : List (Option Descriptor) → ℕ → Option Descripto
 descriptor_at ds fd = unwrap_or (slice_get ds fd) None
 
 -- bytes may be written through a descriptor
-abbrev pub may_write : Option Descriptor → Bool
-may_write (Some (descriptor.Terminal t)) = true
-may_write (Some (descriptor.File file offset writes)) = writes
-may_write (Some (descriptor.Tape t)) = false
-may_write (Some (descriptor.Pipe (pipe_end.Read k))) = false
-may_write (Some (descriptor.Pipe (pipe_end.Write k))) = true
-may_write None = false
+abbrev pub may_write : Numbered → Option Descriptor → Bool
+may_write files (Some (descriptor.Terminal t)) = true
+may_write files (Some (descriptor.File file offset writes)) = writes && lives files file
+may_write files (Some (descriptor.Tape t)) = false
+may_write files (Some (descriptor.Pipe (pipe_end.Read k))) = false
+may_write files (Some (descriptor.Pipe (pipe_end.Write k))) = true
+may_write files None = false
 
 -- write, of these bytes to a file at an offset, through the descriptor fd
 abbrev pub write_file : ℕ → ℕ → ℕ → List ℕ → Effect
 write_file fd file offset bytes =
     if nat_lt longest_file (offset + length bytes) then failure file_too_large
     else record (only (number (length bytes))) {
-      reads = carrier.File file ∷ [];
       writes = carrier.File file ∷ [];
-      change = Some (change.Write file offset bytes);
+      edit = Some (Writes file offset bytes);
       slots = record { fd = fd; holds = Some (descriptor.File file (offset + length bytes) true) } ∷ [];
     }
 
@@ -181,7 +202,7 @@ put_some k bytes room =
 
 -- write, of these bytes to a pipe: refused where none can read it any more, and waiting where it is full
 abbrev pub write_pipe : ℕ → List ℕ → Option PipeState → Effect
-write_pipe k bytes None = failure bad_descriptor
+write_pipe k bytes None = record (failure bad_descriptor) { reads = carrier.Pipe k ∷ [] }
 write_pipe k bytes (Some p) =
     if p.readers == 0 then on_pipe k (minus no_reader) []
     else if nat_le pipe_size (length (unread p)) then on_pipe k Waits []
@@ -205,23 +226,24 @@ write_read s d fd (Some bytes) = write_to s d fd bytes
 -- write, of n bytes through the descriptor fd, which stands for d
 abbrev pub row_write : Shared → Option Descriptor → ℕ → ℕ → Option (List ℕ) → Effect
 row_write s d fd n bytes =
-    if not (may_write d) then failure bad_descriptor
+    looking_at d (
+    if not (may_write s.files d) then failure bad_descriptor
     else if nat_lt most_bytes n then failure bad_argument
     else if n == 0 then only (number 0)
-    else write_read s d fd bytes
+    else write_read s d fd bytes)
 
 -- bytes may be read through a descriptor
-abbrev pub may_read : Option Descriptor → Bool
-may_read (Some (descriptor.Terminal t)) = false
-may_read (Some (descriptor.File file offset writes)) = not writes
-may_read (Some (descriptor.Tape t)) = true
-may_read (Some (descriptor.Pipe (pipe_end.Read k))) = true
-may_read (Some (descriptor.Pipe (pipe_end.Write k))) = false
-may_read None = false
+abbrev pub may_read : Numbered → Option Descriptor → Bool
+may_read files (Some (descriptor.Terminal t)) = false
+may_read files (Some (descriptor.File file offset writes)) = not writes && lives files file
+may_read files (Some (descriptor.Tape t)) = true
+may_read files (Some (descriptor.Pipe (pipe_end.Read k))) = true
+may_read files (Some (descriptor.Pipe (pipe_end.Write k))) = false
+may_read files None = false
 
 -- read, of at most n bytes of a tape, to a place
 abbrev pub read_tape : ℕ → ℕ → ℕ → Option TapeState → Effect
-read_tape t at n None = failure bad_descriptor
+read_tape t at n None = record (failure bad_descriptor) { reads = carrier.Tape t ∷ [] }
 read_tape t at n (Some tape) =
     let bytes = take n (drop tape.place tape.bytes) in
     record (only (with_bytes (length bytes) at bytes)) {
@@ -237,7 +259,6 @@ read_file fd file offset at n None = failure bad_descriptor
 read_file fd file offset at n (Some f) =
     let bytes = take n (drop offset f.bytes) in
     record (only (with_bytes (length bytes) at bytes)) {
-      reads = carrier.File file ∷ [];
       slots = record { fd = fd; holds = Some (descriptor.File file (offset + length bytes) false) } ∷ [];
     }
 
@@ -249,7 +270,7 @@ take_some k at n held =
 -- read, of at most n bytes of a pipe, to a place: none where it holds none and none can write it any more, and waiting where
 -- some still can
 abbrev pub read_pipe : ℕ → ℕ → ℕ → Option PipeState → Effect
-read_pipe k at n None = failure bad_descriptor
+read_pipe k at n None = record (failure bad_descriptor) { reads = carrier.Pipe k ∷ [] }
 read_pipe k at n (Some p) =
     if nat_lt 0 (length (unread p)) then take_some k at n (unread p)
     else if p.writers == 0 then on_pipe k (number 0) []
@@ -258,7 +279,7 @@ read_pipe k at n (Some p) =
 -- read, of at most n bytes to a place through the descriptor fd, by what it stands for
 abbrev pub read_from : Shared → Option Descriptor → ℕ → ℕ → ℕ → Effect
 read_from s (Some (descriptor.Tape t)) fd at n = read_tape t at n (slice_get s.tapes t)
-read_from s (Some (descriptor.File file offset false)) fd at n = read_file fd file offset at n (slice_get s.files file)
+read_from s (Some (descriptor.File file offset false)) fd at n = read_file fd file offset at n (file_of s.files file)
 read_from s (Some (descriptor.File file offset true)) fd at n = failure bad_descriptor
 read_from s (Some (descriptor.Pipe (pipe_end.Read k))) fd at n = read_pipe k at n (slice_get s.pipes k)
 read_from s (Some (descriptor.Pipe (pipe_end.Write k))) fd at n = failure bad_descriptor
@@ -268,38 +289,66 @@ read_from s None fd at n = failure bad_descriptor
 -- read, of at most n bytes to a place through the descriptor fd, which stands for d; they may be too many for the place
 abbrev pub row_read : Shared → Option Descriptor → ℕ → ℕ → ℕ → Bool → Effect
 row_read s d fd at n fits =
-    if not (may_read d) then failure bad_descriptor
+    looking_at d (
+    if not (may_read s.files d) then failure bad_descriptor
     else if nat_lt most_bytes n then failure bad_argument
     else if n == 0 then only (number 0)
     else if not fits then failure bad_address
-    else read_from s d fd at n
+    else read_from s d fd at n)
 
 -- close, of the descriptor fd, which stands for d
 abbrev pub row_close : Option Descriptor → ℕ → Effect
 row_close None fd = failure bad_descriptor
 row_close (Some d) fd = record (closing (ends_of (Some d ∷ [])) (number 0)) { slots = record { fd = fd; holds = None } ∷ [] }
 
--- seek, to an offset through the descriptor fd, by what it stands for
-abbrev pub row_seek : Option Descriptor → ℕ → ℕ → Effect
-row_seek (Some (descriptor.File file old writes)) fd offset =
-    if nat_lt longest_file offset then failure bad_argument
+-- seek, to an offset through the descriptor fd, which stands for a file that may live
+abbrev pub seek_file : ℕ → ℕ → Bool → ℕ → Bool → Effect
+seek_file fd file writes offset alive =
+    if not alive then failure bad_descriptor
+    else if nat_lt longest_file offset then failure bad_argument
     else record (only (number offset)) { slots = record { fd = fd; holds = Some (descriptor.File file offset writes) } ∷ [] }
-row_seek (Some (descriptor.Tape t)) fd offset = failure bad_descriptor
-row_seek (Some (descriptor.Terminal t)) fd offset = failure bad_descriptor
-row_seek (Some (descriptor.Pipe end)) fd offset = failure bad_descriptor
-row_seek None fd offset = failure bad_descriptor
+
+-- seek, to an offset through the descriptor fd, by what it stands for
+abbrev pub seek_to : Numbered → Option Descriptor → ℕ → ℕ → Effect
+seek_to files (Some (descriptor.File file old writes)) fd offset = seek_file fd file writes offset (lives files file)
+seek_to files (Some (descriptor.Tape t)) fd offset = failure bad_descriptor
+seek_to files (Some (descriptor.Terminal t)) fd offset = failure bad_descriptor
+seek_to files (Some (descriptor.Pipe end)) fd offset = failure bad_descriptor
+seek_to files None fd offset = failure bad_descriptor
+
+-- seek, to an offset through the descriptor fd, which stands for d
+abbrev pub row_seek : Numbered → Option Descriptor → ℕ → ℕ → Effect
+row_seek files d fd offset = looking_at d (seek_to files d fd offset)
 
 -- the least free descriptor
 abbrev pub free_descriptor : List (Option Descriptor) → Option ℕ
 free_descriptor ds = position is_none ds
 
--- the number of the file of a name, among the files' names
-abbrev pub file_named : List (List ℕ) → List ℕ → Option ℕ
-file_named names name = position (λ other. bytes_eq other name) names
+-- what the names of files tell: of each file that lives its name and its number, in order of creation, and the next number
+pub record Directory : Type 0 where
+  pub names : List (List ℕ)
+  pub numbers : List ℕ
+  pub next : ℕ
+
+-- the names of the files
+abbrev pub names_of : List NamedFile → List (List ℕ)
+names_of files = map (λ f. f.name) files
+
+-- what the names of these files tell
+abbrev pub directory : Numbered → Directory
+directory files = record { names = names_of files.living; numbers = files.numbers; next = files.made }
+
+-- the number of the file of a name
+abbrev pub number_named : Directory → List ℕ → Option ℕ
+number_named dir name = at_place dir.numbers (position (λ other. bytes_eq other name) dir.names)
 
 -- a byte of a name: 0x21 to 0x7E, without the slash
 abbrev pub is_name_byte : ℕ → Bool
 is_name_byte b = nat_le 33 b && nat_le b 126 && not (b == 47)
+
+-- a name has another length than 1 to 32 bytes
+abbrev pub is_bad_length : ℕ → Bool
+is_bad_length n = (n == 0) || nat_lt longest_name n
 
 -- the descriptor fd stands for the start of a file
 abbrev pub opened : ℕ → ℕ → Bool → List Slot
@@ -310,7 +359,7 @@ abbrev pub open_emptied : ℕ → ℕ → Effect
 open_emptied fd file = record (only (number fd)) {
   reads = carrier.Names ∷ carrier.File file ∷ [];
   writes = carrier.File file ∷ [];
-  change = Some (change.Empty file);
+  edit = Some (Empties file);
   slots = opened fd file true;
 }
 
@@ -323,39 +372,95 @@ abbrev pub open_new : ℕ → ℕ → List ℕ → Effect
 open_new fd file name = record (only (number fd)) {
   reads = carrier.Names ∷ carrier.File file ∷ [];
   writes = carrier.Names ∷ carrier.File file ∷ [];
-  change = Some (change.Create name);
+  edit = Some (Creates name);
   slots = opened fd file true;
 }
 
--- open by mode 2 of a name that is not there, where there are so many files
-abbrev pub open_made : ℕ → ℕ → List ℕ → Effect
-open_made fd count name =
-    if nat_le most_files count then record (failure table_full) { reads = carrier.Names ∷ []; writes = carrier.Names ∷ [] }
-    else open_new fd count name
+-- open by mode 2 of a name that is not there
+abbrev pub open_made : Directory → ℕ → List ℕ → Effect
+open_made dir fd name =
+    if nat_le most_files (length dir.names) then record (failure table_full) { reads = carrier.Names ∷ []; writes = carrier.Names ∷ [] }
+    else open_new fd dir.next name
 
 -- open of a good name by a free descriptor, by mode and by whether there is a file of the name
-abbrev pub open_file : ℕ → ℕ → ℕ → List ℕ → Option ℕ → Effect
-open_file count fd mode name (Some file) = if mode == 2 then open_emptied fd file else open_there fd file (mode == 1)
-open_file count fd mode name None =
-    if mode == 2 then open_made fd count name else record (failure no_such_file) { reads = carrier.Names ∷ [] }
+abbrev pub open_file : Directory → ℕ → ℕ → List ℕ → Option ℕ → Effect
+open_file dir fd mode name (Some file) = if mode == 2 then open_emptied fd file else open_there fd file (mode == 1)
+open_file dir fd mode name None =
+    if mode == 2 then open_made dir fd name else record (failure no_such_file) { reads = carrier.Names ∷ [] }
 
 -- open of a good name, where a descriptor may be free
-abbrev pub open_free : List (List ℕ) → Option ℕ → ℕ → List ℕ → Effect
-open_free names None mode name = failure too_many_descriptors
-open_free names (Some fd) mode name = open_file (length names) fd mode name (file_named names name)
+abbrev pub open_free : Directory → Option ℕ → ℕ → List ℕ → Effect
+open_free dir None mode name = failure too_many_descriptors
+open_free dir (Some fd) mode name = open_file dir fd mode name (number_named dir name)
 
 -- open of a name that may be None
-abbrev pub open_named : List (List ℕ) → List (Option Descriptor) → ℕ → Option (List ℕ) → Effect
-open_named names ds mode None = failure bad_address
-open_named names ds mode (Some name) =
-    if not (list_all is_name_byte name) then failure bad_argument else open_free names (free_descriptor ds) mode name
+abbrev pub open_named : Directory → List (Option Descriptor) → ℕ → Option (List ℕ) → Effect
+open_named dir ds mode None = failure bad_address
+open_named dir ds mode (Some name) =
+    if not (list_all is_name_byte name) then failure bad_argument else open_free dir (free_descriptor ds) mode name
 
--- open of a name of n bytes by a mode, where the files have these names
-abbrev pub row_open : List (List ℕ) → List (Option Descriptor) → ℕ → ℕ → Option (List ℕ) → Effect
-row_open names ds n mode name =
+-- open of a name of n bytes by a mode, in this directory
+abbrev pub row_open : Directory → List (Option Descriptor) → ℕ → ℕ → Option (List ℕ) → Effect
+row_open dir ds n mode name =
     if nat_lt 2 mode then failure bad_argument
-    else if (n == 0) || nat_lt longest_name n then failure bad_argument
-    else open_named names ds mode name
+    else if is_bad_length n then failure bad_argument
+    else open_named dir ds mode name
+
+-- ---- unlink and rename
+
+-- unlink, of the file of a name, if there is one
+abbrev pub unlink_file : Option ℕ → Effect
+unlink_file None = record (failure no_such_file) { reads = carrier.Names ∷ [] }
+unlink_file (Some file) = record (only (number 0)) {
+  reads = carrier.Names ∷ carrier.File file ∷ [];
+  writes = carrier.Names ∷ carrier.File file ∷ [];
+  edit = Some (Removes file);
+}
+
+-- unlink, of a name that may be None
+abbrev pub unlink_named : Directory → Option (List ℕ) → Effect
+unlink_named dir None = failure bad_address
+unlink_named dir (Some name) = if not (list_all is_name_byte name) then failure bad_argument else unlink_file (number_named dir name)
+
+-- unlink, of a name of n bytes, in this directory
+abbrev pub row_unlink : Directory → ℕ → Option (List ℕ) → Effect
+row_unlink dir n name = if is_bad_length n then failure bad_argument else unlink_named dir name
+
+-- the file that loses its name, if one does, as a carrier
+abbrev pub loser_carriers : Option ℕ → List Carrier
+loser_carriers None = []
+loser_carriers (Some file) = carrier.File file ∷ []
+
+-- rename, of a file to a new name, which another file may have: that one loses it
+abbrev pub rename_to : ℕ → List ℕ → Option ℕ → Effect
+rename_to file new loser = record (only (number 0)) {
+  reads = carrier.Names ∷ carrier.File file ∷ loser_carriers loser;
+  writes = carrier.Names ∷ carrier.File file ∷ loser_carriers loser;
+  edit = Some (Renames file new);
+}
+
+-- rename, of the file of an old name, if there is one, to a new name
+abbrev pub rename_file : Directory → List ℕ → List ℕ → Option ℕ → Effect
+rename_file dir old new None = record (failure no_such_file) { reads = carrier.Names ∷ [] }
+rename_file dir old new (Some file) =
+    if bytes_eq old new then record (only (number 0)) { reads = carrier.Names ∷ [] } else rename_to file new (number_named dir new)
+
+-- rename, of an old name and a new one
+abbrev pub rename_named : Directory → List ℕ → List ℕ → Effect
+rename_named dir old new =
+    if not (list_all is_name_byte old && list_all is_name_byte new) then failure bad_argument
+    else rename_file dir old new (number_named dir old)
+
+-- rename, of names that may be None: the first n bytes are the old name, those after them the new one
+abbrev pub rename_read : Directory → ℕ → Option (List ℕ) → Effect
+rename_read dir n None = failure bad_address
+rename_read dir n (Some names) = rename_named dir (take n names) (drop n names)
+
+-- rename, of a name of n bytes to one of m bytes, in this directory
+abbrev pub row_rename : Directory → ℕ → ℕ → Option (List ℕ) → Effect
+row_rename dir n m names = if is_bad_length n || is_bad_length m then failure bad_argument else rename_read dir n names
+
+-- ---- pipe, fork and wait
 
 -- the least free descriptor after one that may be there
 abbrev pub free_after : List (Option Descriptor) → Option ℕ → Option ℕ
@@ -437,21 +542,19 @@ row_wait statuses children at fits =
     else if length children == 0 then failure no_child
     else wait_ended at children (first_ended statuses children)
 
--- the names of the files
-abbrev pub names_of : List NamedFile → List (List ℕ)
-names_of files = map (λ f. f.name) files
-
 -- the table: a row for each request of process p with these descriptors and these children left to collect
 abbrev pub row : Shared → ℕ → List (Option Descriptor) → List ℕ → Request → Effect
 row s p ds children (request.Exit status) = row_end ds (status % 256)
 row s p ds children (request.Write fd n bytes) = row_write s (descriptor_at ds fd) fd n bytes
 row s p ds children (request.Read fd at n fits) = row_read s (descriptor_at ds fd) fd at n fits
-row s p ds children (request.Open n mode name) = row_open (names_of s.files) ds n mode name
+row s p ds children (request.Open n mode name) = row_open (directory s.files) ds n mode name
 row s p ds children (request.Close fd) = row_close (descriptor_at ds fd) fd
 row s p ds children (request.Pipe at fits) = row_pipe (length s.pipes) ds at fits
 row s p ds children request.Fork = row_fork (length s.statuses) ds
 row s p ds children (request.Wait at fits) = row_wait s.statuses children at fits
 row s p ds children request.GetPid = only (number p)
-row s p ds children (request.Seek fd offset) = row_seek (descriptor_at ds fd) fd offset
+row s p ds children (request.Seek fd offset) = row_seek s.files (descriptor_at ds fd) fd offset
 row s p ds children request.Sync = only (number 0)
+row s p ds children (request.Unlink n name) = row_unlink (directory s.files) n name
+row s p ds children (request.Rename n m names) = row_rename (directory s.files) n m names
 row s p ds children request.Unknown = failure no_such_call

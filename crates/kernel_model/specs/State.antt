@@ -1,8 +1,7 @@
 -- The state of a kernel that stores each change of the files within its call.
 use Rattle.std.specs.Prelude.{map, ℕ, ◌+◌, ◌-◌, ◌∷◌, ◌++◌, [], drop, zero, suc, List, slice_get, slice_set, Option, Some, None}
 use Rattle.disk_model.specs.declared.change.Change.{Change}
-use Rattle.disk_model.specs.declared.change.NamedFile.{NamedFile}
-use Rattle.disk_model.specs.Files.{changed}
+use Rattle.disk_model.specs.Numbers.{Numbered, changed_numbered}
 use Rattle.machine_model.specs.States.{State}
 use Rattle.kernel_model.specs.declared.descriptor.Descriptor.{Descriptor}
 use Rattle.kernel_model.specs.declared.descriptor.PipeEnd.{PipeEnd}
@@ -35,17 +34,17 @@ pub record PipeState : Type 0 where
 abbrev pub unread : PipeState → List ℕ
 unread p = drop p.taken p.written
 
--- The whole state. Process p stands at place p - 1; a file, a pipe and a tape at its number.
+-- The whole state. Process p stands at place p - 1; a pipe and a tape at its number.
 pub record SyncState : Type 0 where
   pub processes : List Process
-  pub files : List NamedFile
+  pub files : Numbered
   pub pipes : List PipeState
   pub tapes : List TapeState
 
 -- what a call may look at beside its own process: how each process has ended, if it has, and no machine of another
 pub record Shared : Type 0 where
   pub statuses : List (Option ℕ)
-  pub files : List NamedFile
+  pub files : Numbered
   pub pipes : List PipeState
   pub tapes : List TapeState
 
@@ -68,9 +67,9 @@ abbrev pub with_process : SyncState → ℕ → Process → SyncState
 with_process s pid p = record s { processes = put_process s.processes pid p }
 
 -- the files after a change, if there is one
-abbrev pub changed_by : List NamedFile → Option Change → List NamedFile
+abbrev pub changed_by : Numbered → Option Change → Numbered
 changed_by files None = files
-changed_by files (Some c) = changed files c
+changed_by files (Some c) = changed_numbered files c
 
 -- a tape, if it is there, from which so many more bytes were read
 abbrev pub with_place : List TapeState → ℕ → ℕ → Option TapeState → List TapeState

@@ -1,5 +1,8 @@
 -- What each event does to the synchronous state.
-use Rattle.std.specs.Prelude.{ℕ, ◌+◌, ◌==◌, not, Bool, false, if◌then◌else◌, List, [], ◌∷◌, ◌++◌, map, filter, slice_set, Option, Some, None, is_some, option_to_list}
+use Rattle.std.specs.Prelude.{ℕ, ◌+◌, ◌==◌, not, Bool, false, if◌then◌else◌, List, [], ◌∷◌, ◌++◌, map, filter, slice_set, Option, Some, None, is_some, option_map, option_to_list}
+use Rattle.disk_model.specs.Numbers.{Numbered, place_of}
+use Rattle.disk_model.specs.declared.change.Change.{Change}
+use Rattle.disk_model.specs.declared.change.Change.TheVariants as change
 use Rattle.machine_model.specs.declared.reply.Reply.{Reply}
 use Rattle.machine_model.specs.declared.stop.Stop.{Stop}
 use Rattle.machine_model.specs.declared.stop.Stop.TheVariants.{Limit, Call, Trap}
@@ -8,7 +11,7 @@ use Rattle.kernel_model.specs.Entries.{Entry, Got, End}
 use Rattle.kernel_model.specs.State.{SyncState, Shared, shared, Process, process_at, put_process, with_process, changed_by, read_by, all_stepped}
 use Rattle.kernel_model.specs.Requests.{request_of}
 use Rattle.machine_model.specs.Numbers.{cause_number}
-use Rattle.kernel_model.specs.Rows.{Effect, row, row_end}
+use Rattle.kernel_model.specs.Rows.{Effect, FileEdit, Creates, Writes, Empties, Removes, Renames, row, row_end}
 use Rattle.kernel_model.specs.declared.carrier.Carrier.TheVariants.{Proc}
 use Rattle.kernel_model.specs.declared.descriptor.Descriptor.{Descriptor}
 use Rattle.kernel_model.specs.declared.effect.Slot.{Slot}
@@ -92,6 +95,19 @@ forked p (Some child) = record { state = replied p.state zero_reply; descriptors
 abbrev pub after_end : Process → ℕ → Process
 after_end p status = record p { descriptors = map (λ d. None) p.descriptors; status = Some status }
 
+-- the change by which an edit of a file is made: it names the file by its place. None where the file does not live
+abbrev pub change_of : Numbered → FileEdit → Option Change
+change_of files (Creates name) = Some (change.Create name)
+change_of files (Writes file offset bytes) = option_map (λ place. change.Write place offset bytes) (place_of files file)
+change_of files (Empties file) = option_map change.Empty (place_of files file)
+change_of files (Removes file) = option_map change.Remove (place_of files file)
+change_of files (Renames file name) = option_map (λ place. change.Rename place name) (place_of files file)
+
+-- the same of an edit, if there is one
+abbrev pub change_by : Numbered → Option FileEdit → Option Change
+change_by files None = None
+change_by files (Some edit) = change_of files edit
+
 -- what an effect does, where the caller is told this
 abbrev pub after_effect : SyncState → ℕ → Process → Effect → Verdict → Transition
 after_effect s pid p e Waits = record {
@@ -101,7 +117,7 @@ after_effect s pid p e Waits = record {
 after_effect s pid p e (Replies r) = record {
   state = record {
     processes = put_process s.processes pid (after_reply p e r) ++ forked p e.child;
-    files = changed_by s.files e.change;
+    files = changed_by s.files (change_by s.files e.edit);
     pipes = all_stepped s.pipes e.pipes;
     tapes = read_by s.tapes e.tape;
   };
@@ -109,7 +125,7 @@ after_effect s pid p e (Replies r) = record {
     process = pid;
     reads = Proc pid ∷ e.reads;
     writes = Proc pid ∷ e.writes;
-    change = e.change;
+    change = change_by s.files e.edit;
     output = e.output;
     item = Some (Got r);
     child = e.child;

@@ -3,6 +3,7 @@ use Rattle.std.specs.Prelude.{ℕ, zero, suc, ◌+◌, List, [], ◌∷◌, ◌+
 use Rattle.disk_model.specs.declared.change.Change.{Change}
 use Rattle.disk_model.specs.declared.change.NamedFile.{NamedFile}
 use Rattle.disk_model.specs.Held.{IsHeldTo}
+use Rattle.disk_model.specs.Numbers.{numbered}
 use Rattle.disk_model.specs.Storage.{Storage, cut, completed, failed}
 use Rattle.disk_model.specs.Runs.{first_storage}
 use Rattle.machine_model.specs.States.{State}
@@ -34,7 +35,7 @@ abbrev pub happens : World → Event → World
 happens w e = record {
   sync = (step w.sync e).state;
   log = w.log ++ (step w.sync e).entry ∷ [];
-  storage = stored w.storage (changes_in_log w.log) w.sync.files e;
+  storage = stored w.storage (changes_in_log w.log) w.sync.files.living e;
 }
 
 -- the run after these events, the first of them first
@@ -90,7 +91,7 @@ tape_count = 8
 -- the run before any event
 abbrev pub first_world : Boot → World
 first_world b = record {
-  sync = record { processes = processes_from 0 b.programs; files = b.files; pipes = []; tapes = tapes_of tape_count b.tapes };
+  sync = record { processes = processes_from 0 b.programs; files = numbered b.files; pipes = []; tapes = tapes_of tape_count b.tapes };
   log = [];
   storage = first_storage b.disk b.gate;
 }

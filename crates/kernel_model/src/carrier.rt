@@ -5,9 +5,9 @@
 pub enum Carrier {
     /// A process, by its number.
     Proc(u32),
-    /// A file's bytes, by the file's number.
-    File(u16),
-    /// The names of the files.
+    /// A file's bytes, and whether it lives, by the file's number.
+    File(u64),
+    /// The names of the files, and the number of the next one.
     Names,
     /// A pipe, by its number.
     Pipe(u32),

@@ -19,7 +19,7 @@ pub enum Descriptor {
     Terminal(u32),
     /// A file, by its number, with the offset at which it is read or written next.
     File {
-        file: u16,
+        file: u64,
         offset: u32,
         writes: bool,
     },

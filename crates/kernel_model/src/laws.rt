@@ -20,7 +20,7 @@ pub fn durable_is()
 /// A law: the files of the synchronous state are those of the boot after all changes of the log.
 pub fn files_are_folded()
     ensures { (b : Boot) (es : List Event)
-        → (after (first_world b) es).sync.files ≡ files_after b.files (changes_in_log (after (first_world b) es).log) }
+        → (after (first_world b) es).sync.files.living ≡ files_after b.files (changes_in_log (after (first_world b) es).log) }
 {}
 
 /// A law: what the numbers of a pipe's ends are. Whatever events come, the number of ends to read that a pipe has is exactly
@@ -58,8 +58,9 @@ pub fn ended_hold_nothing()
 {}
 
 /// A law: whatever events come, the tables keep their limits, and what they name is there. Each process has 16 descriptors, of
-/// which none stands for a file that is not there, and its children stand by rising number. There are at most 1,024 pipes, and
-/// each holds at most 4,096 bytes. Where the boot has at most 1,024 programs, there are at most 1,024 processes; where it has
+/// which none stands for a file that was never made, and its children stand by rising number. The numbers of the files that live
+/// rise, so each file has its own, and each is below that of the next file. There are at most 1,024 pipes, and each holds at most
+/// 4,096 bytes. Where the boot has at most 1,024 programs, there are at most 1,024 processes; where it has
 /// at most 8, no descriptor stands for a tape that is not there; and where its disk holds its files, there are at most 32
 /// files, each of at most 16,384 bytes. (Of pipes `ends_are_counted` says that each end that is named is there.)
 pub fn tables_keep_their_limits()
@@ -67,7 +68,7 @@ pub fn tables_keep_their_limits()
     ensures processes { (b : Boot) (es : List Event) → length b.programs ≤ most_processes
         → length (after (first_world b) es).sync.processes ≤ most_processes }
     ensures tapes { (b : Boot) (es : List Event) → length b.programs ≤ tape_count → TapesAreThere (after (first_world b) es).sync }
-    ensures files { (b : Boot) (es : List Event) → HoldsItsFiles b → AreFewAndShort (after (first_world b) es).sync.files }
+    ensures files { (b : Boot) (es : List Event) → HoldsItsFiles b → AreFewAndShort (after (first_world b) es).sync.files.living }
 {}
 
 /// A law: of a process's children, the first that has ended is the least by number that has. So that is the one that a wait

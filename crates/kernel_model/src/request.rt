@@ -57,6 +57,17 @@ pub enum Request {
     },
     /// The process asks that its changes of files be stored.
     Sync,
+    /// The file with a name of n bytes loses it.
+    Unlink {
+        n: u32,
+        name: Option<Bytes>,
+    },
+    /// The file with a name of n bytes gets a name of m bytes; `names` is both, the old one first.
+    Rename {
+        n: u32,
+        m: u32,
+        names: Option<Bytes>,
+    },
     /// A call of no number of the table.
     Unknown,
 }

@@ -1,7 +1,7 @@
 use Rattle.std.proofs.Common.{arith}
 use Rattle.std.proofs.lemmas.Bool.{false≢true}
 use Rattle.std.proofs.lemmas.Result.{err_from_is_err_and}
-use Rattle.journal.proofs.Selected.{is_half, held_at, only_in, tells_in, shut_in}
+use Rattle.journal.proofs.Selected.{is_half, held_at, only_in, tells_in, shut_in, none_in}
 use Rattle.journal.proofs.disk.read.Goals as goal
 
 pub returns-in_err-files-clause-only : goal.returns-in_err-files-clause-only
@@ -36,3 +36,8 @@ returns-clause-gate c =
     let i = is_half c.args.bytes.now c.half_of-half.result c.first_gate.result c.half_end-end.result c.part.result.now c.half_of-half.ensures c.first_gate.ensures c.half_end-end.ensures c.part.ensures in
     let h = held_at c.args.bytes.now c.half_end-end.result c.part.result.now c.in_ok-files.files c.in_ok-files.rest.now (λ k. omega (arith, c.type_inv.bytes k)) c.requires i c.in_ok-files.ensures.exact in
     (h.from, h.within)
+
+pub returns-clause-none : goal.returns-clause-none
+returns-clause-none c shut =
+    let i = is_half c.args.bytes.now c.half_of-half.result c.first_gate.result c.half_end-end.result c.part.result.now c.half_of-half.ensures c.first_gate.ensures c.half_end-end.ensures c.part.ensures in
+    none_in c.args.bytes.now c.half_end-end.result c.part.result.now c.in_ok-files.files c.in_ok-files.rest.now c.requires i shut c.in_ok-files.ensures.exact
