@@ -191,9 +191,9 @@ impl Committer {
         changes: &[Change],
         files: &FileTable,
     ) -> Result<(u64, u64), CommitRefusal>
-        requires possible { IsMade files.now }
+        requires possible { IsMade files.now.living }
         requires formed { AllByRecursion IsFormed changes.now }
-        ensures ok { OnOk result (self.new ≡ cut self.old changes.now files.now) }
+        ensures ok { OnOk result (self.new ≡ cut self.old changes.now files.now.living) }
         ensures changes { IfOk result (λ r. self.new.next_committed ≡ self.old.committed + r.0) }
         ensures writes { IfOk result (λ r. r.1 ≡ length self.new.device.in_flight + length_all self.new.stages) }
         ensures err { OnErr result (self.new ≡ self.old) }
@@ -224,10 +224,10 @@ impl Committer {
         changes: &[Change],
         files: &FileTable,
     ) -> Result<Plan, CommitRefusal>
-        requires possible { IsMade files.now }
+        requires possible { IsMade files.now.living }
         requires formed { AllByRecursion IsFormed changes.now }
         requires counted { self.now.committed + length changes.now < 2 ^ 64 }
-        ensures ok { IfOk result (Begins self.now (group_or_checkpoint self.now changes.now files.now)) }
+        ensures ok { IfOk result (Begins self.now (group_or_checkpoint self.now changes.now files.now.living)) }
         ensures cause { IfErr result (λ e. e ≡ OutOfMemory) }
     {
         let group = first_changes(changes);

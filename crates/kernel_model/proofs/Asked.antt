@@ -7,9 +7,9 @@ use Rattle.std.proofs.lemmas.Bool.{and_parts}
 use Rattle.machine_model.specs.Access.{HoldsBytes, bytes_at, range_fault, is_writable, to_read}
 use Rattle.machine_model.specs.Memory.{Memory}
 use Rattle.machine_model.specs.States.{State}
-use Rattle.kernel_model.specs.Requests.{read_bytes, most_bytes, longest_name, pair_size, word_size, request_by, request_of}
+use Rattle.kernel_model.specs.Requests.{read_bytes, most_bytes, longest_name, longest_names, pair_size, word_size, request_by, request_of}
 use Rattle.kernel_model.specs.declared.request.Request.{Request}
-use Rattle.kernel_model.specs.declared.request.Request.TheVariants.{Write, Read, Open, Pipe, Wait}
+use Rattle.kernel_model.specs.declared.request.Request.TheVariants.{Write, Read, Open, Pipe, Wait, Unlink, Rename}
 
 pub length-bytes_at : (memory : Memory) (at n : ℕ) → length (bytes_at memory at n) ≡ n
 length-bytes_at memory at zero = refl
@@ -28,6 +28,8 @@ abbrev pub IsAsked : Memory → Request → Type 0
 IsAsked memory (Write fd n bytes) = AreRead memory n bytes
 IsAsked memory (Read fd at n fits) = fits ≡ true → is_writable memory at n ≡ true
 IsAsked memory (Open n mode name) = AreRead memory n name
+IsAsked memory (Unlink n name) = AreRead memory n name
+IsAsked memory (Rename n m names) = AreRead memory (n + m) names
 IsAsked memory (Pipe at fits) = fits ≡ true → is_writable memory at 8 ≡ true
 IsAsked memory (Wait at fits) = fits ≡ true → (at == 0) ≡ false → is_writable memory at 4 ≡ true
 IsAsked memory _ = Unit {0}
@@ -57,7 +59,9 @@ is_asked number a0 a1 a2 memory =
     (and_parts (nat_le word_size word_size) (is_writable memory a0 4) (other (a0 == 0) (nat_le word_size word_size && is_writable memory a0 4) fits some)).1) (
     by (number == 9) _ _ tt (
     by (number == 10) _ _ tt (
-    by (number == 11) _ _ tt tt))))))))))
+    by (number == 11) _ _ tt (
+    by (number == 12) _ _ (are_read memory longest_name a0 a1) (
+    by (number == 13) _ _ (are_read memory longest_names a0 (a1 + a2)) tt))))))))))))
   where
     by : (b : Bool) (x y : Request) → IsAsked memory x → IsAsked memory y → IsAsked memory (if b then x else y)
     by true x y f g = f

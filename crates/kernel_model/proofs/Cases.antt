@@ -1,16 +1,17 @@
 -- The table of calls, walked once: what holds of each effect that a row may have holds of the row.
-use Rattle.std.proofs.Common.{◌≡◌, ℕ, ◌+◌, ◌-◌, ◌%◌, ◌<◌, ◌≤◌, ◌==◌, ◌||◌, nat_lt, nat_le, Bool, true, false, not, List, [], ◌∷◌, length, map, slice_get, Option, Some, None, IfSome, refl}
+use Rattle.std.proofs.Common.{◌≡◌, ℕ, ◌+◌, ◌-◌, ◌%◌, ◌<◌, ◌≤◌, ◌==◌, ◌||◌, nat_lt, nat_le, ◌&&◌, Bool, true, false, not, List, [], ◌∷◌, ◌++◌, length, take, drop, map, slice_get, Option, Some, None, IfSome, refl}
 use Rattle.std.specs.Prelude.{if◌then◌else◌}
 use Rattle.std.specs.List.{list_all}
-use Rattle.std.proofs.lemmas.Bool.{leb-false, ltb-false, not-false, or_parts}
-use Rattle.disk_model.specs.declared.change.Change.TheVariants as change
+use Rattle.std.specs.Str.{bytes_eq}
+use Rattle.std.proofs.lemmas.Bool.{and_parts, leb-false, ltb-false, not-false, or_parts}
 use Rattle.disk_model.specs.declared.change.NamedFile.{NamedFile}
+use Rattle.disk_model.specs.Numbers.{Numbered, file_of, lives}
 use Rattle.disk_model.proofs.Lists.{some_of}
 use Rattle.machine_model.specs.declared.stop.Stop.{Stop}
 use Rattle.machine_model.specs.declared.stop.Stop.TheVariants.{Limit, Call, Trap}
 use Rattle.kernel_model.specs.Requests.{most_bytes, longest_name, request_of}
 use Rattle.machine_model.specs.Numbers.{cause_number}
-use Rattle.kernel_model.specs.Rows.{Effect, EndedChild, only, number, failure, bad_address, carrier_of, ends_of, row, row_end, row_write, write_read, write_to, write_file, write_pipe, put_some, may_write, row_read, read_from, read_file, read_tape, read_pipe, take_some, may_read, row_close, row_seek, row_open, open_named, open_free, open_file, open_there, open_emptied, open_new, row_pipe, pipe_free, pipe_made, row_fork, row_wait, wait_ended, first_ended, free_descriptor, free_after, file_named, is_name_byte, names_of, descriptor_at, longest_file, most_files, most_pipes, most_processes, pipe_size}
+use Rattle.kernel_model.specs.Rows.{Effect, Writes, looking_at, Directory, directory, number_named, is_bad_length, seek_file, seek_to, open_made, row_unlink, unlink_named, unlink_file, row_rename, rename_read, rename_named, rename_file, rename_to, EndedChild, only, number, failure, bad_address, carrier_of, ends_of, row, row_end, row_write, write_read, write_to, write_file, write_pipe, put_some, may_write, row_read, read_from, read_file, read_tape, read_pipe, take_some, may_read, row_close, row_seek, row_open, open_named, open_free, open_file, open_there, open_emptied, open_new, row_pipe, pipe_free, pipe_made, row_fork, row_wait, wait_ended, first_ended, free_descriptor, free_after, is_name_byte, descriptor_at, longest_file, most_files, most_pipes, most_processes, pipe_size}
 use Rattle.kernel_model.specs.State.{Process, Shared, PipeState, TapeState, unread}
 use Rattle.kernel_model.specs.Steps.{effect_at}
 use Rattle.kernel_model.specs.declared.carrier.Carrier.{Carrier}
@@ -42,13 +43,20 @@ abbrev pub to_file : ℕ → ℕ → ℕ → List ℕ → Effect
 to_file fd file offset bytes = record (only (number (length bytes))) {
   reads = carrier.File file ∷ [];
   writes = carrier.File file ∷ [];
-  change = Some (change.Write file offset bytes);
+  edit = Some (Writes file offset bytes);
   slots = record { fd = fd; holds = Some (descriptor.File file (offset + length bytes) true) } ∷ [];
 }
 
--- a descriptor that stands for something else from now on
-abbrev pub to_slot : ℕ → ℕ → Option Descriptor → Effect
-to_slot k fd holds = record (only (number k)) { slots = record { fd = fd; holds = holds } ∷ [] }
+-- bytes of a file
+abbrev pub from_file : ℕ → ℕ → ℕ → ℕ → ℕ → NamedFile → Effect
+from_file fd file offset at n f = looking_at (Some (descriptor.File file offset false)) (read_file fd file offset at n (Some f))
+
+-- another offset of a file
+abbrev pub to_offset : ℕ → ℕ → ℕ → Bool → Effect
+to_offset fd file offset writes = record (only (number offset)) {
+  reads = carrier.File file ∷ [];
+  slots = record { fd = fd; holds = Some (descriptor.File file offset writes) } ∷ [];
+}
 
 -- the process of this number is made, by a caller with these descriptors
 abbrev pub child_made : ℕ → List (Option Descriptor) → Effect
@@ -66,13 +74,22 @@ pub record GoesToFile (ds : List (Option Descriptor)) (fd n file offset : ℕ) (
   pub most : n ≤ 1024
   pub fits : offset + length bytes ≤ 16384
 
--- when a file is made by a name of n bytes, where the files have these names
-pub record IsMadeNew (names : List (List ℕ)) (n : ℕ) (name : List ℕ) : Type 0 where
+-- when a file is made by a name of n bytes, in this directory
+pub record IsMadeNew (dir : Directory) (n : ℕ) (name : List ℕ) : Type 0 where
   pub some : 1 ≤ n
   pub most : n ≤ 32
   pub good : list_all is_name_byte name ≡ true
-  pub new : file_named names name ≡ None
-  pub room : length names < 32
+  pub new : number_named dir name ≡ None
+  pub room : length dir.names < 32
+
+-- when a file gets a name of m bytes in place of one of n bytes, in this directory
+pub record IsRenamed (dir : Directory) (n m : ℕ) (old new : List ℕ) (file : ℕ) : Type 0 where
+  pub named : number_named dir old ≡ Some file
+  pub first : n ≤ 32
+  pub some : 1 ≤ m
+  pub most : m ≤ 32
+  pub good : list_all is_name_byte new ≡ true
+  pub differs : bytes_eq old new ≡ false
 
 -- What has to hold of each effect that a row may have, of a request of a caller with these descriptors and these children left to
 -- collect. Each field is one effect, after what is so where it comes.
@@ -90,18 +107,24 @@ pub record OfEach (P : Effect → Type 0) (s : Shared) (ds : List (Option Descri
   pub played : (fd at n t : ℕ) (tape : TapeState) → r ≡ request.Read fd at n true → slice_get s.tapes t ≡ Some tape
       → P (read_tape t at n (Some tape))
   pub copied : (fd at n file offset : ℕ) (f : NamedFile) → r ≡ request.Read fd at n true
-      → descriptor_at ds fd ≡ Some (descriptor.File file offset false) → slice_get s.files file ≡ Some f → P (read_file fd file offset at n (Some f))
+      → descriptor_at ds fd ≡ Some (descriptor.File file offset false) → file_of s.files file ≡ Some f → P (from_file fd file offset at n f)
   pub taken : (fd at n k : ℕ) (p : PipeState) → r ≡ request.Read fd at n true → slice_get s.pipes k ≡ Some p → P (take_some k at n (unread p))
   -- an open of a file that is there, as it stands or emptied, and of a new one
-  pub there : (fd file : ℕ) (name : List ℕ) (writes : Bool) → free_descriptor ds ≡ Some fd → file_named (names_of s.files) name ≡ Some file
+  pub there : (fd file : ℕ) (name : List ℕ) (writes : Bool) → free_descriptor ds ≡ Some fd → number_named (directory s.files) name ≡ Some file
       → P (open_there fd file writes)
-  pub emptied : (fd file : ℕ) (name : List ℕ) → free_descriptor ds ≡ Some fd → file_named (names_of s.files) name ≡ Some file → P (open_emptied fd file)
+  pub emptied : (fd file : ℕ) (name : List ℕ) → free_descriptor ds ≡ Some fd → number_named (directory s.files) name ≡ Some file → P (open_emptied fd file)
   pub made : (fd n mode : ℕ) (name : List ℕ) → r ≡ request.Open n mode (Some name) → free_descriptor ds ≡ Some fd
-      → IsMadeNew (names_of s.files) n name → P (open_new fd (length (names_of s.files)) name)
+      → IsMadeNew (directory s.files) n name → P (open_new fd s.files.made name)
+  -- a file that loses its name, and one that gets another
+  pub unlinked : (file n : ℕ) (name : List ℕ) → r ≡ request.Unlink n (Some name) → number_named (directory s.files) name ≡ Some file
+      → P (unlink_file (Some file))
+  pub renamed : (file n m : ℕ) (names : List ℕ) → r ≡ request.Rename n m (Some names)
+      → IsRenamed (directory s.files) n m (take n names) (drop n names) file
+      → P (rename_to file (drop n names) (number_named (directory s.files) (drop n names)))
   -- a close, and a seek
   pub closed : (fd : ℕ) (d : Descriptor) → descriptor_at ds fd ≡ Some d → P (row_close (Some d) fd)
   pub moved : (fd file old offset : ℕ) (writes : Bool) → descriptor_at ds fd ≡ Some (descriptor.File file old writes)
-      → P (to_slot offset fd (Some (descriptor.File file offset writes)))
+      → P (to_offset fd file offset writes)
   -- a new pipe, a new process, and a child that is collected
   pub piped : (at reader writer : ℕ) → r ≡ request.Pipe at true → free_descriptor ds ≡ Some reader → free_after ds (Some reader) ≡ Some writer
       → length s.pipes < 1024 → P (pipe_made (length s.pipes) at reader writer)
@@ -118,120 +141,172 @@ module _ (P : Effect → Type 0) (s : Shared) (ds : List (Option Descriptor)) (c
   by_test true x y p q = p refl
   by_test false x y p q = q refl
 
+  -- the same of what looks at what a descriptor stands for
+  by_look : (d : Option Descriptor) (b : Bool) (x y : Effect) → (b ≡ true → P (looking_at d x)) → (b ≡ false → P (looking_at d y))
+      → P (looking_at d (if b then x else y))
+  by_look d true x y p q = p refl
+  by_look d false x y p q = q refl
+
   -- write
   write_file_is : (fd n file offset : ℕ) (bytes : List ℕ) → r ≡ request.Write fd n (Some bytes)
-      → descriptor_at ds fd ≡ Some (descriptor.File file offset true) → 1 ≤ n → n ≤ 1024 → P (write_file fd file offset bytes)
+      → descriptor_at ds fd ≡ Some (descriptor.File file offset true) → 1 ≤ n → n ≤ 1024
+      → P (looking_at (Some (descriptor.File file offset true)) (write_file fd file offset bytes))
   write_file_is fd n file offset bytes is stands some most =
-      by_test (nat_lt longest_file (offset + length bytes)) _ _ (λ _. of.told _ [] []) (λ h.
+      by_look (Some (descriptor.File file offset true)) (nat_lt longest_file (offset + length bytes)) _ _ (λ _. of.told _ _ _) (λ h.
       of.filed fd n file offset bytes is (record { stands = stands; some = some; most = most; fits = ltb-false longest_file (offset + length bytes) h }))
 
   write_pipe_is : (fd n k : ℕ) (bytes : List ℕ) (o : Option PipeState) → r ≡ request.Write fd n (Some bytes) → slice_get s.pipes k ≡ o
       → P (write_pipe k bytes o)
-  write_pipe_is fd n k bytes None is found = of.told _ [] []
+  write_pipe_is fd n k bytes None is found = of.told _ _ _
   write_pipe_is fd n k bytes (Some p) is found =
       by_test (p.readers == 0) _ _ (λ _. of.told _ _ _) (λ _.
       by_test (nat_le pipe_size (length (unread p))) _ _ (λ _. of.waits _ _) (λ h. of.put fd n k bytes p is found (leb-false pipe_size (length (unread p)) h)))
 
   write_to_is : (d : Option Descriptor) (fd n : ℕ) (bytes : List ℕ) → r ≡ request.Write fd n (Some bytes) → descriptor_at ds fd ≡ d
-      → 1 ≤ n → n ≤ 1024 → P (write_to s d fd bytes)
+      → 1 ≤ n → n ≤ 1024 → P (looking_at d (write_to s d fd bytes))
   write_to_is (Some (descriptor.Terminal t)) fd n bytes is stands some most = of.shown t bytes
   write_to_is (Some (descriptor.File file offset true)) fd n bytes is stands some most = write_file_is fd n file offset bytes is stands some most
-  write_to_is (Some (descriptor.File file offset false)) fd n bytes is stands some most = of.told _ [] []
+  write_to_is (Some (descriptor.File file offset false)) fd n bytes is stands some most = of.told _ _ _
   write_to_is (Some (descriptor.Pipe (pipe_end.Write k))) fd n bytes is stands some most = write_pipe_is fd n k bytes (slice_get s.pipes k) is refl
-  write_to_is (Some (descriptor.Pipe (pipe_end.Read k))) fd n bytes is stands some most = of.told _ [] []
-  write_to_is (Some (descriptor.Tape t)) fd n bytes is stands some most = of.told _ [] []
-  write_to_is None fd n bytes is stands some most = of.told _ [] []
+  write_to_is (Some (descriptor.Pipe (pipe_end.Read k))) fd n bytes is stands some most = of.told _ _ _
+  write_to_is (Some (descriptor.Tape t)) fd n bytes is stands some most = of.told _ _ _
+  write_to_is None fd n bytes is stands some most = of.told _ _ _
 
-  write_read_is : (fd n : ℕ) (o : Option (List ℕ)) → r ≡ request.Write fd n o → 1 ≤ n → n ≤ 1024 → P (write_read s (descriptor_at ds fd) fd o)
-  write_read_is fd n None is some most = of.told _ [] []
+  write_read_is : (fd n : ℕ) (o : Option (List ℕ)) → r ≡ request.Write fd n o → 1 ≤ n → n ≤ 1024
+      → P (looking_at (descriptor_at ds fd) (write_read s (descriptor_at ds fd) fd o))
+  write_read_is fd n None is some most = of.told _ _ _
   write_read_is fd n (Some bytes) is some most = write_to_is (descriptor_at ds fd) fd n bytes is refl some most
 
   row_write_is : (fd n : ℕ) (o : Option (List ℕ)) → r ≡ request.Write fd n o → P (row_write s (descriptor_at ds fd) fd n o)
   row_write_is fd n o is =
-      by_test (not (may_write (descriptor_at ds fd))) _ _ (λ _. of.told _ [] []) (λ _.
-      by_test (nat_lt most_bytes n) _ _ (λ _. of.told _ [] []) (λ most.
-      by_test (n == 0) _ _ (λ _. of.told _ [] []) (λ some.
+      by_look (descriptor_at ds fd) (not (may_write s.files (descriptor_at ds fd))) _ _ (λ _. of.told _ _ _) (λ _.
+      by_look (descriptor_at ds fd) (nat_lt most_bytes n) _ _ (λ _. of.told _ _ _) (λ most.
+      by_look (descriptor_at ds fd) (n == 0) _ _ (λ _. of.told _ _ _) (λ some.
       write_read_is fd n o is (some_of (n == 0) n refl some) (ltb-false most_bytes n most))))
 
   -- read
   read_tape_is : (fd at n t : ℕ) (o : Option TapeState) → r ≡ request.Read fd at n true → slice_get s.tapes t ≡ o → P (read_tape t at n o)
-  read_tape_is fd at n t None is found = of.told _ [] []
+  read_tape_is fd at n t None is found = of.told _ _ _
   read_tape_is fd at n t (Some tape) is found = of.played fd at n t tape is found
 
   read_file_is : (fd at n file offset : ℕ) (o : Option NamedFile) → r ≡ request.Read fd at n true
-      → descriptor_at ds fd ≡ Some (descriptor.File file offset false) → slice_get s.files file ≡ o → P (read_file fd file offset at n o)
-  read_file_is fd at n file offset None is stands found = of.told _ [] []
+      → descriptor_at ds fd ≡ Some (descriptor.File file offset false) → file_of s.files file ≡ o
+      → P (looking_at (Some (descriptor.File file offset false)) (read_file fd file offset at n o))
+  read_file_is fd at n file offset None is stands found = of.told _ _ _
   read_file_is fd at n file offset (Some f) is stands found = of.copied fd at n file offset f is stands found
 
   read_pipe_is : (fd at n k : ℕ) (o : Option PipeState) → r ≡ request.Read fd at n true → slice_get s.pipes k ≡ o → P (read_pipe k at n o)
-  read_pipe_is fd at n k None is found = of.told _ [] []
+  read_pipe_is fd at n k None is found = of.told _ _ _
   read_pipe_is fd at n k (Some p) is found =
       by_test (nat_lt 0 (length (unread p))) _ _ (λ _. of.taken fd at n k p is found) (λ _.
       by_test (p.writers == 0) _ _ (λ _. of.told _ _ _) (λ _. of.waits _ _))
 
-  read_from_is : (d : Option Descriptor) (fd at n : ℕ) → r ≡ request.Read fd at n true → descriptor_at ds fd ≡ d → P (read_from s d fd at n)
+  read_from_is : (d : Option Descriptor) (fd at n : ℕ) → r ≡ request.Read fd at n true → descriptor_at ds fd ≡ d → P (looking_at d (read_from s d fd at n))
   read_from_is (Some (descriptor.Tape t)) fd at n is stands = read_tape_is fd at n t (slice_get s.tapes t) is refl
-  read_from_is (Some (descriptor.File file offset false)) fd at n is stands = read_file_is fd at n file offset (slice_get s.files file) is stands refl
-  read_from_is (Some (descriptor.File file offset true)) fd at n is stands = of.told _ [] []
+  read_from_is (Some (descriptor.File file offset false)) fd at n is stands = read_file_is fd at n file offset (file_of s.files file) is stands refl
+  read_from_is (Some (descriptor.File file offset true)) fd at n is stands = of.told _ _ _
   read_from_is (Some (descriptor.Pipe (pipe_end.Read k))) fd at n is stands = read_pipe_is fd at n k (slice_get s.pipes k) is refl
-  read_from_is (Some (descriptor.Pipe (pipe_end.Write k))) fd at n is stands = of.told _ [] []
-  read_from_is (Some (descriptor.Terminal t)) fd at n is stands = of.told _ [] []
-  read_from_is None fd at n is stands = of.told _ [] []
+  read_from_is (Some (descriptor.Pipe (pipe_end.Write k))) fd at n is stands = of.told _ _ _
+  read_from_is (Some (descriptor.Terminal t)) fd at n is stands = of.told _ _ _
+  read_from_is None fd at n is stands = of.told _ _ _
 
   read_placed_is : (fd at n : ℕ) (fits : Bool) → r ≡ request.Read fd at n fits
-      → P (if not fits then failure bad_address else read_from s (descriptor_at ds fd) fd at n)
+      → P (looking_at (descriptor_at ds fd) (if not fits then failure bad_address else read_from s (descriptor_at ds fd) fd at n))
   read_placed_is fd at n true is = read_from_is (descriptor_at ds fd) fd at n is refl
-  read_placed_is fd at n false is = of.told _ [] []
+  read_placed_is fd at n false is = of.told _ _ _
 
   row_read_is : (fd at n : ℕ) (fits : Bool) → r ≡ request.Read fd at n fits → P (row_read s (descriptor_at ds fd) fd at n fits)
   row_read_is fd at n fits is =
-      by_test (not (may_read (descriptor_at ds fd))) _ _ (λ _. of.told _ [] []) (λ _.
-      by_test (nat_lt most_bytes n) _ _ (λ _. of.told _ [] []) (λ _.
-      by_test (n == 0) _ _ (λ _. of.told _ [] []) (λ _. read_placed_is fd at n fits is)))
+      by_look (descriptor_at ds fd) (not (may_read s.files (descriptor_at ds fd))) _ _ (λ _. of.told _ _ _) (λ _.
+      by_look (descriptor_at ds fd) (nat_lt most_bytes n) _ _ (λ _. of.told _ _ _) (λ _.
+      by_look (descriptor_at ds fd) (n == 0) _ _ (λ _. of.told _ _ _) (λ _. read_placed_is fd at n fits is)))
+
+  -- names
+  good_length : (n : ℕ) → is_bad_length n ≡ false → (1 ≤ n) × (n ≤ 32)
+  good_length n h = let both = or_parts (n == 0) (nat_lt longest_name n) h in (some_of (n == 0) n refl both.0, ltb-false longest_name n both.1)
 
   -- open
   open_file_is : (fd n mode : ℕ) (name : List ℕ) (o : Option ℕ) → r ≡ request.Open n mode (Some name) → free_descriptor ds ≡ Some fd
-      → 1 ≤ n → n ≤ 32 → list_all is_name_byte name ≡ true → file_named (names_of s.files) name ≡ o
-      → P (open_file (length (names_of s.files)) fd mode name o)
+      → 1 ≤ n → n ≤ 32 → list_all is_name_byte name ≡ true → number_named (directory s.files) name ≡ o
+      → P (open_file (directory s.files) fd mode name o)
   open_file_is fd n mode name (Some file) is free some most good found =
       by_test (mode == 2) _ _ (λ _. of.emptied fd file name free found) (λ _. of.there fd file name (mode == 1) free found)
   open_file_is fd n mode name None is free some most good found =
       by_test (mode == 2) _ _
-      (λ _. by_test (nat_le most_files (length (names_of s.files))) _ _ (λ _. of.told _ _ _) (λ h.
-      of.made fd n mode name is free (record { some = some; most = most; good = good; new = found; room = leb-false most_files (length (names_of s.files)) h })))
+      (λ _. by_test (nat_le most_files (length (directory s.files).names)) _ _ (λ _. of.told _ _ _) (λ h.
+      of.made fd n mode name is free (record { some = some; most = most; good = good; new = found; room = leb-false most_files (length (directory s.files).names) h })))
       (λ _. of.told _ _ _)
 
   open_free_is : (o : Option ℕ) (n mode : ℕ) (name : List ℕ) → r ≡ request.Open n mode (Some name) → free_descriptor ds ≡ o
-      → 1 ≤ n → n ≤ 32 → list_all is_name_byte name ≡ true → P (open_free (names_of s.files) o mode name)
-  open_free_is None n mode name is free some most good = of.told _ [] []
+      → 1 ≤ n → n ≤ 32 → list_all is_name_byte name ≡ true → P (open_free (directory s.files) o mode name)
+  open_free_is None n mode name is free some most good = of.told _ _ _
   open_free_is (Some fd) n mode name is free some most good =
-      open_file_is fd n mode name (file_named (names_of s.files) name) is free some most good refl
+      open_file_is fd n mode name (number_named (directory s.files) name) is free some most good refl
 
-  open_named_is : (n mode : ℕ) (o : Option (List ℕ)) → r ≡ request.Open n mode o → 1 ≤ n → n ≤ 32 → P (open_named (names_of s.files) ds mode o)
-  open_named_is n mode None is some most = of.told _ [] []
+  open_named_is : (n mode : ℕ) (o : Option (List ℕ)) → r ≡ request.Open n mode o → 1 ≤ n → n ≤ 32 → P (open_named (directory s.files) ds mode o)
+  open_named_is n mode None is some most = of.told _ _ _
   open_named_is n mode (Some name) is some most =
-      by_test (not (list_all is_name_byte name)) _ _ (λ _. of.told _ [] []) (λ h.
+      by_test (not (list_all is_name_byte name)) _ _ (λ _. of.told _ _ _) (λ h.
       open_free_is (free_descriptor ds) n mode name is refl some most (not-false (list_all is_name_byte name) h))
 
-  row_open_is : (n mode : ℕ) (o : Option (List ℕ)) → r ≡ request.Open n mode o → P (row_open (names_of s.files) ds n mode o)
+  row_open_is : (n mode : ℕ) (o : Option (List ℕ)) → r ≡ request.Open n mode o → P (row_open (directory s.files) ds n mode o)
   row_open_is n mode o is =
-      by_test (nat_lt 2 mode) _ _ (λ _. of.told _ [] []) (λ _.
-      by_test ((n == 0) || nat_lt longest_name n) _ _ (λ _. of.told _ [] []) (λ h.
-      let both = or_parts (n == 0) (nat_lt longest_name n) h in
-      open_named_is n mode o is (some_of (n == 0) n refl both.0) (ltb-false longest_name n both.1)))
+      by_test (nat_lt 2 mode) _ _ (λ _. of.told _ _ _) (λ _.
+      by_test (is_bad_length n) _ _ (λ _. of.told _ _ _) (λ h. let long = good_length n h in open_named_is n mode o is long.0 long.1))
+
+  -- unlink and rename
+  unlink_file_is : (n : ℕ) (name : List ℕ) (o : Option ℕ) → r ≡ request.Unlink n (Some name) → number_named (directory s.files) name ≡ o → P (unlink_file o)
+  unlink_file_is n name None is found = of.told _ _ _
+  unlink_file_is n name (Some file) is found = of.unlinked file n name is found
+
+  unlink_named_is : (n : ℕ) (o : Option (List ℕ)) → r ≡ request.Unlink n o → P (unlink_named (directory s.files) o)
+  unlink_named_is n None is = of.told _ _ _
+  unlink_named_is n (Some name) is =
+      by_test (not (list_all is_name_byte name)) _ _ (λ _. of.told _ _ _) (λ _. unlink_file_is n name (number_named (directory s.files) name) is refl)
+
+  row_unlink_is : (n : ℕ) (o : Option (List ℕ)) → r ≡ request.Unlink n o → P (row_unlink (directory s.files) n o)
+  row_unlink_is n o is = by_test (is_bad_length n) _ _ (λ _. of.told _ _ _) (λ _. unlink_named_is n o is)
+
+  rename_file_is : (n m : ℕ) (names : List ℕ) (o : Option ℕ) → r ≡ request.Rename n m (Some names) → n ≤ 32 → 1 ≤ m → m ≤ 32
+      → list_all is_name_byte (drop n names) ≡ true → number_named (directory s.files) (take n names) ≡ o
+      → P (rename_file (directory s.files) (take n names) (drop n names) o)
+  rename_file_is n m names None is first some most good found = of.told _ _ _
+  rename_file_is n m names (Some file) is first some most good found =
+      by_test (bytes_eq (take n names) (drop n names)) _ _ (λ _. of.told _ _ _) (λ h.
+      of.renamed file n m names is (record { named = found; first = first; some = some; most = most; good = good; differs = h }))
+
+  rename_read_is : (n m : ℕ) (o : Option (List ℕ)) → r ≡ request.Rename n m o → n ≤ 32 → 1 ≤ m → m ≤ 32 → P (rename_read (directory s.files) n o)
+  rename_read_is n m None is first some most = of.told _ _ _
+  rename_read_is n m (Some names) is first some most =
+      by_test (not (list_all is_name_byte (take n names) && list_all is_name_byte (drop n names))) _ _ (λ _. of.told _ _ _) (λ h.
+      let both = and_parts (list_all is_name_byte (take n names)) (list_all is_name_byte (drop n names)) (not-false _ h) in
+      rename_file_is n m names (number_named (directory s.files) (take n names)) is first some most both.1 refl)
+
+  row_rename_is : (n m : ℕ) (o : Option (List ℕ)) → r ≡ request.Rename n m o → P (row_rename (directory s.files) n m o)
+  row_rename_is n m o is =
+      by_test (is_bad_length n || is_bad_length m) _ _ (λ _. of.told _ _ _) (λ h.
+      let both = or_parts (is_bad_length n) (is_bad_length m) h in
+      let old = good_length n both.0 in
+      let new = good_length m both.1 in
+      rename_read_is n m o is old.1 new.0 new.1)
 
   -- close and seek
   row_close_is : (o : Option Descriptor) (fd : ℕ) → descriptor_at ds fd ≡ o → P (row_close o fd)
   row_close_is None fd stands = of.told _ [] []
   row_close_is (Some d) fd stands = of.closed fd d stands
 
-  row_seek_is : (d : Option Descriptor) (fd offset : ℕ) → descriptor_at ds fd ≡ d → P (row_seek d fd offset)
-  row_seek_is (Some (descriptor.File file old writes)) fd offset stands =
-      by_test (nat_lt longest_file offset) _ _ (λ _. of.told _ [] []) (λ _. of.moved fd file old offset writes stands)
-  row_seek_is (Some (descriptor.Tape t)) fd offset stands = of.told _ [] []
-  row_seek_is (Some (descriptor.Terminal t)) fd offset stands = of.told _ [] []
-  row_seek_is (Some (descriptor.Pipe end)) fd offset stands = of.told _ [] []
-  row_seek_is None fd offset stands = of.told _ [] []
+  seek_file_is : (fd file old offset : ℕ) (writes alive : Bool) → descriptor_at ds fd ≡ Some (descriptor.File file old writes)
+      → P (looking_at (Some (descriptor.File file old writes)) (seek_file fd file writes offset alive))
+  seek_file_is fd file old offset writes alive stands =
+      by_look (Some (descriptor.File file old writes)) (not alive) _ _ (λ _. of.told _ _ _) (λ _.
+      by_look (Some (descriptor.File file old writes)) (nat_lt longest_file offset) _ _ (λ _. of.told _ _ _) (λ _. of.moved fd file old offset writes stands))
+
+  seek_to_is : (d : Option Descriptor) (fd offset : ℕ) → descriptor_at ds fd ≡ d → P (looking_at d (seek_to s.files d fd offset))
+  seek_to_is (Some (descriptor.File file old writes)) fd offset stands = seek_file_is fd file old offset writes (lives s.files file) stands
+  seek_to_is (Some (descriptor.Tape t)) fd offset stands = of.told _ _ _
+  seek_to_is (Some (descriptor.Terminal t)) fd offset stands = of.told _ _ _
+  seek_to_is (Some (descriptor.Pipe end)) fd offset stands = of.told _ _ _
+  seek_to_is None fd offset stands = of.told _ _ _
 
   -- pipe, fork and wait
   pipe_free_is : (at : ℕ) (reader writer : Option ℕ) → r ≡ request.Pipe at true → free_descriptor ds ≡ reader → free_after ds reader ≡ writer
@@ -267,8 +342,10 @@ module _ (P : Effect → Type 0) (s : Shared) (ds : List (Option Descriptor)) (c
   row_is p request.Fork is = row_fork_is
   row_is p (request.Wait at fits) is = row_wait_is at fits is
   row_is p request.GetPid is = of.told p [] []
-  row_is p (request.Seek fd offset) is = row_seek_is (descriptor_at ds fd) fd offset refl
+  row_is p (request.Seek fd offset) is = seek_to_is (descriptor_at ds fd) fd offset refl
   row_is p request.Sync is = of.told 0 [] []
+  row_is p (request.Unlink n name) is = row_unlink_is n name is
+  row_is p (request.Rename n m names) is = row_rename_is n m names is
   row_is p request.Unknown is = of.told _ [] []
 
   -- it holds of the row

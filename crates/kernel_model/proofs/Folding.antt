@@ -2,7 +2,8 @@
 use Rattle.std.proofs.Common.{◌≡◌, ℕ, List, [], ◌∷◌, ◌++◌, Option, Some, None, refl, sym, ap, ◌∙◌}
 use Rattle.disk_model.specs.declared.change.Change.{Change}
 use Rattle.disk_model.specs.declared.change.NamedFile.{NamedFile}
-use Rattle.disk_model.specs.Files.{files_after}
+use Rattle.disk_model.specs.Files.{changed, files_after}
+use Rattle.disk_model.specs.Numbers.{Numbered}
 use Rattle.kernel_model.specs.Entries.{Entry}
 use Rattle.kernel_model.proofs.Transitions.{each_event, of_step}
 use Rattle.kernel_model.specs.State.{SyncState, Process, changed_by}
@@ -14,19 +15,28 @@ use Rattle.kernel_model.specs.declared.event.Event.{Event}
 use Rattle.kernel_model.specs.declared.request.Verdict.{Verdict}
 use Rattle.kernel_model.specs.declared.request.Verdict.TheVariants.{Waits, Replies, Ends}
 
+-- the files that live after a change, if there is one
+abbrev pub living_by : List NamedFile → Option Change → List NamedFile
+living_by files None = files
+living_by files (Some c) = changed files c
+
+pub living_changed : (files : Numbered) (o : Option Change) → (changed_by files o).living ≡ living_by files.living o
+living_changed files None = refl
+living_changed files (Some c) = refl
+
 -- a change, if there is one, comes first
-after_with : (files : List NamedFile) (o : Option Change) (cs : List Change) → files_after files (with_change o cs) ≡ files_after (changed_by files o) cs
+after_with : (files : List NamedFile) (o : Option Change) (cs : List Change) → files_after files (with_change o cs) ≡ files_after (living_by files o) cs
 after_with files None cs = refl
 after_with files (Some c) cs = refl
 
 -- the files after the changes of one more entry
 files_after-entry : (files : List NamedFile) (log : List Entry) (e : Entry)
-    → files_after files (changes_in_log (log ++ e ∷ [])) ≡ changed_by (files_after files (changes_in_log log)) e.change
+    → files_after files (changes_in_log (log ++ e ∷ [])) ≡ living_by (files_after files (changes_in_log log)) e.change
 files_after-entry files [] e = after_with files e.change []
 files_after-entry files (x ∷ xs) e =
     after_with files x.change (changes_in_log (xs ++ e ∷ []))
-    ∙ files_after-entry (changed_by files x.change) xs e
-    ∙ ap (λ (fs : List NamedFile). changed_by fs e.change) (sym (after_with files x.change (changes_in_log xs)))
+    ∙ files_after-entry (living_by files x.change) xs e
+    ∙ ap (λ (fs : List NamedFile). living_by fs e.change) (sym (after_with files x.change (changes_in_log xs)))
 
 -- a transition changes the files by its entry's change alone
 abbrev ChangesByEntry : SyncState → Transition → Type 0
@@ -44,12 +54,13 @@ step_changes s e = of_step (ChangesByEntry s) s refl
 
 -- the files of a run are those that its log's changes make of these
 abbrev pub IsFoldOf : List NamedFile → World → Type 0
-IsFoldOf files w = w.sync.files ≡ files_after files (changes_in_log w.log)
+IsFoldOf files w = w.sync.files.living ≡ files_after files (changes_in_log w.log)
 
 pub happens_folded : (files : List NamedFile) (w : World) (e : Event) → IsFoldOf files w → IsFoldOf files (happens w e)
 happens_folded files w e h =
-    step_changes w.sync e
-    ∙ ap (λ (fs : List NamedFile). changed_by fs (step w.sync e).entry.change) h
+    ap (λ (fs : Numbered). fs.living) (step_changes w.sync e)
+    ∙ living_changed w.sync.files (step w.sync e).entry.change
+    ∙ ap (λ (fs : List NamedFile). living_by fs (step w.sync e).entry.change) h
     ∙ sym (files_after-entry files w.log (step w.sync e).entry)
 
 pub after_folded : (files : List NamedFile) (es : List Event) (w : World) → IsFoldOf files w → IsFoldOf files (after w es)

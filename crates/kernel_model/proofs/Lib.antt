@@ -10,6 +10,7 @@ pub mod Ends
 pub mod EndRows
 pub mod EndRuns
 pub mod ChildRows
+pub mod Numbering
 pub mod Limits
 pub mod LimitRows
 pub mod LimitRuns

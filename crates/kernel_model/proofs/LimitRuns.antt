@@ -9,17 +9,19 @@ use Rattle.disk_model.proofs.Lists.{each_get, each_more}
 use Rattle.disk_model.proofs.Tidy.{IsTidyFile, tidy_after}
 use Rattle.machine_model.specs.declared.reply.Reply.{Reply}
 use Rattle.machine_model.specs.States.{stands_at, replied}
-use Rattle.kernel_model.specs.Limits.{KeepLimits, TapesAreThere, AreFewAndShort, RiseWithin, descriptor_count}
+use Rattle.disk_model.specs.Numbers.{Numbered}
+use Rattle.kernel_model.specs.Limits.{AreNumbered, KeepLimits, TapesAreThere, AreFewAndShort, RiseWithin, descriptor_count}
 use Rattle.kernel_model.specs.Rows.{Effect, most_processes}
 use Rattle.kernel_model.specs.State.{SyncState, Process, TapeState, process_at, put_process, with_process, shared, changed_by, read_by, with_place}
-use Rattle.kernel_model.specs.Steps.{Transition, after_run, is_collected, after_reply, forked, after_end, after_effect, step, zero_reply}
+use Rattle.kernel_model.specs.Steps.{Transition, change_by, after_run, is_collected, after_reply, forked, after_end, after_effect, step, zero_reply}
 use Rattle.kernel_model.specs.World.{World, Boot, BootProgram, HoldsItsFiles, first_process, processes_from, tapes_of, tape_count, first_world, happens, after}
 use Rattle.kernel_model.specs.declared.descriptor.Descriptor.{Descriptor}
 use Rattle.kernel_model.specs.declared.effect.TapeRead.{TapeRead}
 use Rattle.kernel_model.specs.declared.event.Event.{Event}
 use Rattle.kernel_model.specs.declared.request.Verdict.{Verdict}
 use Rattle.kernel_model.specs.declared.request.Verdict.TheVariants.{Waits, Replies, Ends}
-use Rattle.kernel_model.proofs.Limits.{put_length, at_put, at_append, at_below, rise_higher, rise_filter, rise_more, IsThere, AreThere, are_there_more, free_there, closed_there, there_at, set_there, slots_length, IsHeld, IsBrief, FilesStand, LeavesFew, changed_by_grows, changed_stand}
+use Rattle.kernel_model.proofs.Limits.{put_length, at_put, at_append, at_below, rise_higher, rise_filter, rise_more, IsThere, AreThere, are_there_more, free_there, closed_there, there_at, set_there, slots_length, IsHeld, IsBrief, FilesStand, LeavesFew, changed_stand}
+use Rattle.kernel_model.proofs.Numbering.{made_grows, numbered_first, numbered_changed}
 use Rattle.kernel_model.proofs.ChildRows.{IsNoneOrNextProcess}
 use Rattle.kernel_model.proofs.Transitions.{each_event, of_step}
 use Rattle.kernel_model.proofs.LimitRows.{PipesFit, Keeps, effect_keeps}
@@ -32,15 +34,16 @@ pub record Stands (files tapes processes pid : ℕ) (p : Process) : Type 0 where
 
 -- all processes, the pipes and how many tapes there are, where descriptors stand for tapes of numbers below `named`
 pub record AllStand (named : ℕ) (s : SyncState) : Type 0 where
-  pub each : (pid : ℕ) (p : Process) → process_at s.processes pid ≡ Some p → Stands (length s.files) named (length s.processes) pid p
+  pub each : (pid : ℕ) (p : Process) → process_at s.processes pid ≡ Some p → Stands s.files.made named (length s.processes) pid p
   pub pipes : PipesFit s.pipes
   pub tapes : length s.tapes ≡ tape_count
+  pub numbered : AreNumbered s.files
 
 -- what an event keeps
 pub record Kept (tapes : ℕ) (s t : SyncState) : Type 0 where
   pub stand : AllStand tapes t
   pub few : length s.processes ≤ most_processes → length t.processes ≤ most_processes
-  pub files : FilesStand s.files → FilesStand t.files
+  pub files : FilesStand s.files.living → FilesStand t.files.living
 
 same_kept : (tapes : ℕ) (s : SyncState) → AllStand tapes s → Kept tapes s s
 same_kept tapes s all = record { stand = all; few = λ h. h; files = λ h. h }
@@ -63,9 +66,9 @@ read_length : (tapes : List TapeState) (o : Option TapeRead) → length (read_by
 read_length tapes None = refl
 read_length tapes (Some r) = place_length tapes r.tape r.count (slice_get tapes r.tape)
 
-by_stand : (files : List NamedFile) (o : Option Change) → IfSome o (LeavesFew files) → FilesStand files → FilesStand (changed_by files o)
+by_stand : (files : Numbered) (o : Option Change) → IfSome o (LeavesFew files.living) → FilesStand files.living → FilesStand (changed_by files o).living
 by_stand files None leaves h = h
-by_stand files (Some c) leaves h = changed_stand files c leaves h
+by_stand files (Some c) leaves h = changed_stand files.living c leaves h
 
 -- how many processes are made
 abbrev made : Option ℕ → ℕ
@@ -93,15 +96,15 @@ children_stand children collects (Some child) pid count le next h =
 
 -- Below, a process that stands there.
 module _ (tapes : ℕ) (s : SyncState) (all : AllStand tapes s) (pid : ℕ) (p : Process) (at : process_at s.processes pid ≡ Some p) where
-  own : Stands (length s.files) tapes (length s.processes) pid p
+  own : Stands s.files.made tapes (length s.processes) pid p
   own = all.each pid p at
 
   -- the process is now another, where all else stays
-  put_each : (q : Process) → Stands (length s.files) tapes (length s.processes) pid q → (j : ℕ) (x : Process)
-      → process_at (put_process s.processes pid q) j ≡ Some x → Stands (length s.files) tapes (length s.processes) j x
+  put_each : (q : Process) → Stands s.files.made tapes (length s.processes) pid q → (j : ℕ) (x : Process)
+      → process_at (put_process s.processes pid q) j ≡ Some x → Stands s.files.made tapes (length s.processes) j x
   put_each q new j x e = elim (at_put s.processes pid j q x e) [
-    | inl t ↦ subst (λ (y : Process). Stands (length s.files) tapes (length s.processes) j y) t.1
-        (subst (λ (i : ℕ). Stands (length s.files) tapes (length s.processes) i q) (sym t.0) new)
+    | inl t ↦ subst (λ (y : Process). Stands s.files.made tapes (length s.processes) j y) t.1
+        (subst (λ (i : ℕ). Stands s.files.made tapes (length s.processes) i q) (sym t.0) new)
     | inr t ↦ all.each j x t
   ]
 
@@ -110,49 +113,51 @@ module _ (tapes : ℕ) (s : SyncState) (all : AllStand tapes s) (pid : ℕ) (p :
       let count = put_length s.processes pid (after_run n p) in
       record {
         stand = record {
-          each = λ j x is. stands_more (length s.files) (length s.files) tapes (length s.processes) (length (put_process s.processes pid (after_run n p))) j x (omega arith) (omega (arith, count))
+          each = λ j x is. stands_more s.files.made s.files.made tapes (length s.processes) (length (put_process s.processes pid (after_run n p))) j x (omega arith) (omega (arith, count))
               (put_each (after_run n p) (record { count = own.count; there = own.there; children = own.children }) j x is);
           pipes = all.pipes;
           tapes = all.tapes;
+          numbered = all.numbered;
         };
         few = λ h. omega (arith, count, h);
         files = λ h. h;
       }
 
-  end_kept : (e : Effect) (status : ℕ) → Keeps (shared s) tapes (all.pipes) e → Kept tapes s (after_effect s pid p e (Ends status)).state
+  end_kept : (e : Effect) (status : ℕ) → Keeps (shared s) tapes all.pipes all.numbered e → Kept tapes s (after_effect s pid p e (Ends status)).state
   end_kept e status keeps =
       let count = put_length s.processes pid (after_end p status) in
       record {
         stand = record {
-          each = λ j x is. stands_more (length s.files) (length s.files) tapes (length s.processes) (length (put_process s.processes pid (after_end p status))) j x (omega arith) (omega (arith, count))
+          each = λ j x is. stands_more s.files.made s.files.made tapes (length s.processes) (length (put_process s.processes pid (after_end p status))) j x (omega arith) (omega (arith, count))
               (put_each (after_end p status) (record {
                 count = length-map p.descriptors (λ (d : Option Descriptor). None) ∙ own.count;
-                there = closed_there (length s.files) tapes p.descriptors;
+                there = closed_there s.files.made tapes p.descriptors;
                 children = own.children;
               }) j x is);
           pipes = keeps.pipes;
           tapes = all.tapes;
+          numbered = all.numbered;
         };
         few = λ h. omega (arith, count, h);
         files = λ h. h;
       }
 
   -- Below, an effect that keeps the limits, and a reply.
-  module _ (e : Effect) (r : Reply) (keeps : Keeps (shared s) tapes all.pipes e) where
+  module _ (e : Effect) (r : Reply) (keeps : Keeps (shared s) tapes all.pipes all.numbered e) where
     next : IsNoneOrNextProcess (length s.processes) e.child
     next = subst (λ (n : ℕ). IsNoneOrNextProcess n e.child) (length-map s.processes (λ (q : Process). q.status)) keeps.child
 
-    grows : length s.files ≤ length (changed_by s.files e.change)
-    grows = changed_by_grows s.files e.change
+    grows : s.files.made ≤ (changed_by s.files (change_by s.files e.edit)).made
+    grows = made_grows s.files (change_by s.files e.edit)
 
     abbrev Then : ℕ → Process → Type 0
-    Then j x = Stands (length (changed_by s.files e.change)) tapes (length s.processes + made e.child) j x
+    Then j x = Stands (changed_by s.files (change_by s.files e.edit)).made tapes (length s.processes + made e.child) j x
 
     replied_stands : Then pid (after_reply p e r)
     replied_stands = record {
       count = slots_length e.slots p.descriptors ∙ own.count;
-      there = set_there (length (changed_by s.files e.change)) tapes e.slots p.descriptors keeps.slots
-          (are_there_more (length s.files) (length (changed_by s.files e.change)) tapes grows p.descriptors own.there);
+      there = set_there (changed_by s.files (change_by s.files e.edit)).made tapes e.slots p.descriptors keeps.slots
+          (are_there_more s.files.made (changed_by s.files (change_by s.files e.edit)).made tapes grows p.descriptors own.there);
       children = children_stand p.children (λ child. not (is_collected e.collects child)) e.child pid (length s.processes) (at_below s.processes pid p at) next own.children;
     }
 
@@ -163,7 +168,7 @@ module _ (tapes : ℕ) (s : SyncState) (all : AllStand tapes s) (pid : ℕ) (p :
         let same : new ≡ x = cc in
         subst (λ (y : Process). Then j y) same (record {
           count = own.count;
-          there = are_there_more (length s.files) (length (changed_by s.files e.change)) tapes grows p.descriptors own.there;
+          there = are_there_more s.files.made (changed_by s.files (change_by s.files e.edit)).made tapes grows p.descriptors own.there;
           children = tt;
         })
     forked_stands j (suc k) x (Some child) is = absurd (let no : ⊥ = cc in no)
@@ -172,7 +177,7 @@ module _ (tapes : ℕ) (s : SyncState) (all : AllStand tapes s) (pid : ℕ) (p :
     each_stands j x is = elim (at_append (put_process s.processes pid (after_reply p e r)) (forked p e.child) j x is) [
       | inl there ↦ elim (at_put s.processes pid j (after_reply p e r) x there) [
         | inl t ↦ subst (λ (y : Process). Then j y) t.1 (subst (λ (i : ℕ). Then i (after_reply p e r)) (sym t.0) replied_stands)
-        | inr t ↦ stands_more (length s.files) (length (changed_by s.files e.change)) tapes (length s.processes) (length s.processes + made e.child) j x grows (omega arith) (all.each j x t)
+        | inr t ↦ stands_more s.files.made (changed_by s.files (change_by s.files e.edit)).made tapes (length s.processes) (length s.processes + made e.child) j x grows (omega arith) (all.each j x t)
       ]
       | inr t ↦ forked_stands j t.0 x e.child t.1
     ]
@@ -188,15 +193,16 @@ module _ (tapes : ℕ) (s : SyncState) (all : AllStand tapes s) (pid : ℕ) (p :
     reply_kept : Kept tapes s (after_effect s pid p e (Replies r)).state
     reply_kept = record {
       stand = record {
-        each = λ j x is. subst (λ (n : ℕ). Stands (length (changed_by s.files e.change)) tapes n j x) (sym total) (each_stands j x is);
+        each = λ j x is. subst (λ (n : ℕ). Stands (changed_by s.files (change_by s.files e.edit)).made tapes n j x) (sym total) (each_stands j x is);
         pipes = keeps.pipes;
         tapes = read_length s.tapes e.tape ∙ all.tapes;
+        numbered = numbered_changed s.files (change_by s.files e.edit) all.numbered;
       };
       few = λ h. omega (arith, total, few_made (length s.processes) e.child next h);
-      files = λ h. by_stand s.files e.change keeps.change h;
+      files = λ h. by_stand s.files (change_by s.files e.edit) keeps.change h;
     }
 
-  told_kept : (e : Effect) (v : Verdict) → Keeps (shared s) tapes all.pipes e → Kept tapes s (after_effect s pid p e v).state
+  told_kept : (e : Effect) (v : Verdict) → Keeps (shared s) tapes all.pipes all.numbered e → Kept tapes s (after_effect s pid p e v).state
   told_kept e Waits keeps = same_kept tapes s all
   told_kept e (Replies r) keeps = reply_kept e r keeps
   told_kept e (Ends status) keeps = end_kept e status keeps
@@ -207,8 +213,8 @@ pub step_kept : (tapes : ℕ) (s : SyncState) (e : Event) → AllStand tapes s �
 step_kept tapes s e all = of_step (λ (t : Transition). Kept tapes s t.state) s (same_kept tapes s all)
     (λ pid. each_event (λ (t : Transition). Kept tapes s t.state) s pid (same_kept tapes s all)
     (λ n p at lives. run_kept tapes s all pid p at n)
-    (λ p f at lives is. told_kept tapes s all pid p at f f.verdict (subst (λ (o : Option Effect). IfSome o (Keeps (shared s) tapes all.pipes)) is
-    (effect_keeps (shared s) tapes all.pipes pid p (stands_at p.state) (all.each pid p at).there)))) e
+    (λ p f at lives is. told_kept tapes s all pid p at f f.verdict (subst (λ (o : Option Effect). IfSome o (Keeps (shared s) tapes all.pipes all.numbered)) is
+    (effect_keeps (shared s) tapes all.pipes all.numbered pid p (stands_at p.state) (all.each pid p at).there)))) e
 
 -- ---- runs
 
@@ -245,6 +251,7 @@ first_world_stand b = record {
   each = λ pid p is. first_at (length b.files) (length b.programs) (length (processes_from 0 b.programs)) pid b.programs p (omega arith) is;
   pipes = record { few = omega arith; held = tt };
   tapes = tapes_length tape_count b.tapes;
+  numbered = numbered_first b.files;
 }
 
 run_kept_all : (b : Boot) (es : List Event) → Kept (length b.programs) (first_world b).sync (after (first_world b) es).sync
@@ -262,10 +269,11 @@ stand_limits tapes s all = record {
       let own = all.each pid p at in
       record {
         descriptors = own.count;
-        named = λ fd file offset writes is. subst (IsThere (length s.files) tapes) is (there_at (length s.files) tapes p.descriptors fd own.there);
+        named = λ fd file offset writes is. subst (IsThere s.files.made tapes) is (there_at s.files.made tapes p.descriptors fd own.there);
         children = own.children;
       };
   pipes = all.pipes.few;
+  numbered = all.numbered;
   held = λ k p at.
       let own = each_get IsHeld s.pipes k p all.pipes.held at in
       record { taken = own.taken; held = omega (arith, own.taken, own.most, length-drop p.taken p.written) };
@@ -277,8 +285,8 @@ run_limits b es = stand_limits (length b.programs) (after (first_world b) es).sy
 pub run_tapes : (b : Boot) (es : List Event) → length b.programs ≤ tape_count → TapesAreThere (after (first_world b) es).sync
 run_tapes b es le pid fd t p at is =
     let all = (run_kept_all b es).stand in
-    let below : t < length b.programs = subst (IsThere (length (after (first_world b) es).sync.files) (length b.programs)) is
-    (there_at (length (after (first_world b) es).sync.files) (length b.programs) p.descriptors fd (all.each pid p at).there) in
+    let below : t < length b.programs = subst (IsThere (after (first_world b) es).sync.files.made (length b.programs)) is
+    (there_at (after (first_world b) es).sync.files.made (length b.programs) p.descriptors fd (all.each pid p at).there) in
     omega (arith, below, le, all.tapes)
 
 -- files that a disk holds are few and short
@@ -286,13 +294,13 @@ booted_files : (b : Boot) → HoldsItsFiles b → FilesStand b.files
 booted_files b held = subst FilesStand (sym held.reads.makes) (
     let tidy = tidy_after (joined held.reads.groups) held.reads.possible in record { few = tidy.few; each = each_more IsTidyFile IsBrief (λ f h. record { some = h.name.0; name = h.name.1; bytes = h.short }) _ tidy.each })
 
-pub run_files : (b : Boot) (es : List Event) → HoldsItsFiles b → AreFewAndShort (after (first_world b) es).sync.files
+pub run_files : (b : Boot) (es : List Event) → HoldsItsFiles b → AreFewAndShort (after (first_world b) es).sync.files.living
 run_files b es held =
     let files = (run_kept_all b es).files (booted_files b held) in
     record {
       few = files.few;
       short = λ place f at.
-          let own = each_get IsBrief (after (first_world b) es).sync.files place f files.each at in
+          let own = each_get IsBrief (after (first_world b) es).sync.files.living place f files.each at in
           record { some = own.some; name = own.name; bytes = own.bytes };
     }
 

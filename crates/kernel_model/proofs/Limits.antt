@@ -3,17 +3,17 @@ use Rattle.std.proofs.Common.{◌≡◌, ℕ, zero, suc, ◌+◌, ◌-◌, ◌<�
 use Rattle.std.specs.List.{AllByRecursion}
 use Rattle.std.proofs.lemmas.Option.{slice_get_within}
 use Rattle.std.proofs.lemmas.List.{length-take, length-drop, length-set}
-use Rattle.disk_model.specs.Files.{changed, patched, with_bytes}
+use Rattle.disk_model.specs.Files.{changed, loser, patched, with_bytes, with_name, without}
 use Rattle.disk_model.specs.declared.change.Change.{Change}
 use Rattle.disk_model.specs.declared.change.Change.TheVariants as change
 use Rattle.disk_model.specs.declared.change.NamedFile.{NamedFile}
 pub use Rattle.disk_model.proofs.Lists.{each_get, each_more, each_append}
-use Rattle.disk_model.proofs.Lists.{set_same, each_set}
-use Rattle.disk_model.proofs.Tidy.{changed_grows, patched_short}
+use Rattle.disk_model.proofs.Lists.{set_same, each_set, each_take, each_drop}
+use Rattle.disk_model.proofs.Tidy.{patched_short}
 use Rattle.kernel_model.proofs.Ends.{with_length}
 use Rattle.kernel_model.specs.Limits.{RiseWithin}
 use Rattle.kernel_model.specs.Rows.{descriptor_at}
-use Rattle.kernel_model.specs.State.{Process, PipeState, process_at, put_process, changed_by, new_pipe, with_pipe, with_end, without_end, stepped, all_stepped}
+use Rattle.kernel_model.specs.State.{Process, PipeState, process_at, put_process, new_pipe, with_pipe, with_end, without_end, stepped, all_stepped}
 use Rattle.kernel_model.specs.Steps.{set_slots}
 use Rattle.kernel_model.specs.declared.descriptor.Descriptor.{Descriptor}
 use Rattle.kernel_model.specs.declared.descriptor.Descriptor.TheVariants.{Tape, Terminal, File, Pipe}
@@ -244,11 +244,6 @@ take_stands count pipes k n p e h =
 
 -- ---- files
 
--- no change takes a file away
-pub changed_by_grows : (files : List NamedFile) (o : Option Change) → length files ≤ length (changed_by files o)
-changed_by_grows files None = omega arith
-changed_by_grows files (Some c) = changed_grows files c
-
 pub record IsBrief (f : NamedFile) : Type 0 where
   pub some : 1 ≤ length f.name
   pub name : length f.name ≤ 32
@@ -264,6 +259,8 @@ abbrev pub LeavesFew : List NamedFile → Change → Type 0
 LeavesFew files (change.Create name) = (1 ≤ length name) × (length name ≤ 32) × (length files < 32)
 LeavesFew files (change.Write place offset bytes) = offset + length bytes ≤ 16384
 LeavesFew files (change.Empty place) = Unit {0}
+LeavesFew files (change.Remove place) = Unit {0}
+LeavesFew files (change.Rename place name) = (1 ≤ length name) × (length name ≤ 32)
 
 with_brief : (files : List NamedFile) (place : ℕ) (o : Option NamedFile) (f : List ℕ → List ℕ) → slice_get files place ≡ o
     → ((old : List ℕ) → length old ≤ 16384 → length (f old) ≤ 16384) → FilesStand files → FilesStand (with_bytes files place o f)
@@ -276,6 +273,24 @@ with_brief files place (Some file) f e short h =
       each = each_set IsBrief files place new (record { some = one.some; name = one.name; bytes = short file.bytes one.bytes }) h.each;
     }
 
+without_brief : (files : List NamedFile) (o : Option ℕ) → FilesStand files → FilesStand (without files o)
+without_brief files None h = h
+without_brief files (Some k) h = record {
+  few = omega (arith, h.few, length-append (take k files) (drop (suc k) files), length-take k files, length-drop (suc k) files);
+  each = each_append IsBrief (take k files) (drop (suc k) files) (each_take IsBrief k files h.each) (each_drop IsBrief (suc k) files h.each);
+}
+
+named_brief : (files : List NamedFile) (place : ℕ) (o : Option NamedFile) (name : List ℕ) → slice_get files place ≡ o
+    → 1 ≤ length name → length name ≤ 32 → FilesStand files → FilesStand (with_name files place o name)
+named_brief files place None name e some most h = h
+named_brief files place (Some file) name e some most h =
+    let one = each_get IsBrief files place file h.each e in
+    let new : NamedFile = record { name = name; bytes = file.bytes } in
+    record {
+      few = omega (arith, h.few, length-set files place new);
+      each = each_set IsBrief files place new (record { some = some; name = most; bytes = one.bytes }) h.each;
+    }
+
 pub changed_stand : (files : List NamedFile) (c : Change) → LeavesFew files c → FilesStand files → FilesStand (changed files c)
 changed_stand files (change.Create name) few h = record {
   few = omega (arith, few.2, length-append files (record { name = name; bytes = [] } ∷ []));
@@ -284,3 +299,7 @@ changed_stand files (change.Create name) few h = record {
 changed_stand files (change.Write place offset bytes) fits h =
     with_brief files place (slice_get files place) (λ old. patched old offset bytes) refl (λ old short. patched_short old offset bytes fits short) h
 changed_stand files (change.Empty place) fits h = with_brief files place (slice_get files place) (λ old. []) refl (λ old short. omega arith) h
+changed_stand files (change.Remove place) none h = without_brief files (Some place) h
+changed_stand files (change.Rename place name) short h =
+    let o = slice_get files place in
+    without_brief (with_name files place o name) (loser files o name) (named_brief files place o name refl short.0 short.1 h)

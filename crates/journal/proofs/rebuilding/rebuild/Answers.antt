@@ -11,19 +11,19 @@ none : NamedFile
 none = record { name = []; bytes = [] }
 
 pub loop-place-init : goal.loop-place-init
-loop-place-init c = ap (λ (cs : List Change). cs ++ rebuild_from 0 (drop 0 c.args.files.now)) c.new-changes.ensures.items ∙ file_first c.args.files.now
+loop-place-init c = ap (λ (cs : List Change). cs ++ rebuild_from 0 (drop 0 c.args.files.now.living)) c.new-changes.ensures.items ∙ file_first c.args.files.now.living
 
 pub push_writes-requires : goal.push_writes-requires
 push_writes-requires c =
-    subst (λ (l : List ℕ). length l ≤ 16384) (sym (c.bytes.ensures none)) (short_at c.args.files.now c.loop-place.place none c.requires.short (let e = c.count-place-end.ensures in let lt = c.loop-place-test.true in omega arith))
+    subst (λ (l : List ℕ). length l ≤ 16384) (sym (c.bytes.ensures none)) (short_at c.args.files.now.living c.loop-place.place none c.requires.short (let e = c.count-place-end.ensures in let lt = c.loop-place-test.true in omega arith))
 
 pub loop-place-preserved : goal.loop-place-preserved
 loop-place-preserved c =
     let place = c.loop-place.place in
-    let lt : place < length c.args.files.now = (let e = c.count-place-end.ensures in let t = c.loop-place-test.true in omega arith) in
-    ap (λ (cs : List Change). cs ++ rebuild_from (place + 1) (drop (place + 1) c.args.files.now))
+    let lt : place < length c.args.files.now.living = (let e = c.count-place-end.ensures in let t = c.loop-place-test.true in omega arith) in
+    ap (λ (cs : List Change). cs ++ rebuild_from (place + 1) (drop (place + 1) c.args.files.now.living))
     (c.in_ok-push_writes.ensures
     ∙ ap (λ (cs : List Change). cs ++ writes_from (length c.bytes.result.now) 1024 place 0 c.bytes.result.now) c.in_ok-push.ensures.items
     ∙ ap (λ (l : List ℕ). c.loop-place.changes.items ++ Create l ∷ [] ++ writes_from (length c.bytes.result.now) 1024 place 0 c.bytes.result.now) (c.in_ok-name.ensures ∙ c.name.ensures none)
-    ∙ ap (λ (l : List ℕ). c.loop-place.changes.items ++ Create (get_or c.args.files.now place none).name ∷ [] ++ writes_from (length l) 1024 place 0 l) (c.bytes.ensures none))
-    ∙ file_more c.loop-place.changes.items c.args.files.now place none (rebuild c.args.files.now) lt c.loop-place.invariant
+    ∙ ap (λ (l : List ℕ). c.loop-place.changes.items ++ Create (get_or c.args.files.now.living place none).name ∷ [] ++ writes_from (length l) 1024 place 0 l) (c.bytes.ensures none))
+    ∙ file_more c.loop-place.changes.items c.args.files.now.living place none (rebuild c.args.files.now.living) lt c.loop-place.invariant

@@ -12,7 +12,7 @@ body_of-requires c = subst (λ (cs : List Change). AllByRecursion IsFormed cs) (
 
 pub checkpoint_plan-requires-clause-formed : goal.checkpoint_plan-requires-clause-formed
 checkpoint_plan-requires-clause-formed c =
-    let whole = c.checkpoints_fit.ensures c.args.files.now c.requires.possible in
+    let whole = c.checkpoints_fit.ensures c.args.files.now.living c.requires.possible in
     subst (λ (cs : List Change). AllByRecursion IsFormed cs) (sym (c.deref-2.ensures.value ∙ c.in_ok-all.ensures)) (formed_all _ _ whole.possible)
 
 pub group_plan-requires-clause-counted : goal.group_plan-requires-clause-counted
