@@ -45,9 +45,9 @@ fn read(alloc: Global, bytes: &[u8]) -> Result<(FileList, u32), DiskFault>
 pub fn open(alloc: Global, device: &SimDisk) -> Result<(FileTable, u32), DiskFault>
     // What is found is held.
     ensures found { IfOk result (λ x. IsHeldTo device.now.disk x.1 x.0.living) }
+    ensures gate { let h = selected_half (slice_index device.now.disk 0) in IfOk result (λ x. (start_of h ≤ x.1) × (x.1 < end_of h)) }
     // Their numbers are their places.
     ensures numbered { IfOk result (λ x. x.0 ≡ numbered x.0.living) }
-    ensures gate { let h = selected_half (slice_index device.now.disk 0) in IfOk result (λ x. (start_of h ≤ x.1) × (x.1 < end_of h)) }
     // Where files are held, only want of memory is a refusal.
     ensures only { (gate : ℕ) (files : List NamedFile) → IsHeldTo device.now.disk gate files → IfErr result (λ e. e ≡ OutOfMemory) }
     // A fault is the first one.

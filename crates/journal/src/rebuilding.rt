@@ -38,8 +38,8 @@ fn push_writes(
     Ok(())
 }
 
-/// The changes that make the files that live from nothing: for each in order its creation, and then writes of 1,024 bytes, the
-/// last shorter. The changes name a file by its place, and tell nothing of its number.
+/// The changes that make the living files from nothing: for each in order its creation, and then writes of 1,024 bytes, the
+/// last shorter. They name a file by its place, and keep nothing of its number.
 pub fn rebuild(alloc: Global, files: &FileTable) -> Result<Vec<Change>, AllocError>
     requires few { length files.now.living ≤ 32 }
     requires short { AllByRecursion (λ (f : NamedFile). length f.bytes ≤ 16384) files.now.living }
