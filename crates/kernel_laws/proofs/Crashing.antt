@@ -36,7 +36,7 @@ happens_possible laws b w e h =
     let entry = (step w.sync e).entry in
     let goes = step_fit laws w.sync e (stand_limits (length b.programs) w.sync h.stand) h.fit in
     let follows : Follow (files_after b.files (changes_in_log w.log)) (option_to_list entry.change) =
-    subst (λ (fs : List NamedFile). Follow fs (option_to_list entry.change)) h.folded (one_follows w.sync.files entry.change goes.possible) in
+    subst (λ (fs : List NamedFile). Follow fs (option_to_list entry.change)) h.folded (one_follows w.sync.files.living entry.change goes.possible) in
     record {
       stand = (step_kept (length b.programs) w.sync e h.stand).stand;
       fit = goes.fit;

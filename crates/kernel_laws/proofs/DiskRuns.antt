@@ -77,7 +77,7 @@ event_runs files w (Enter pid) folded =
     ∙ ap (λ (cs : List Change). record { changes = cs; storage = w.storage }) (sym (changes_in_log-entry w.log (step w.sync (Enter pid)).entry))
 event_runs files w Cut folded =
     ap (λ (fs : List NamedFile). record { changes = changes_in_log w.log; storage = cut w.storage (drop w.storage.committed (changes_in_log w.log)) fs }) (sym folded)
-    ∙ ap (λ (cs : List Change). record { changes = cs; storage = cut w.storage (drop w.storage.committed (changes_in_log w.log)) w.sync.files }) (sym (same_changes w.log))
+    ∙ ap (λ (cs : List Change). record { changes = cs; storage = cut w.storage (drop w.storage.committed (changes_in_log w.log)) w.sync.files.living }) (sym (same_changes w.log))
 event_runs files w (Complete at) folded =
     ap (λ (cs : List Change). record { changes = cs; storage = completed w.storage at }) (sym (same_changes w.log))
 event_runs files w (Fail at) folded =

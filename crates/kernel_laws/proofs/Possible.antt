@@ -1,20 +1,23 @@
 -- The change that a row of the table of calls makes is possible where it comes, and what it tells and puts into pipes are bytes.
-use Rattle.std.proofs.Common.{◌≡◌, ℕ, ◌-◌, ◌<◌, ◌≤◌, ◌==◌, Bool, true, false, List, [], ◌∷◌, length, map, take, drop, Option, Some, IfSome, subst, arith}
-use Rattle.std.specs.Prelude.{if◌then◌else◌}
+use Rattle.std.proofs.Common.{◌≡◌, ℕ, ◌+◌, ◌-◌, ◌<◌, ◌≤◌, ◌==◌, Bool, true, false, List, [], ◌∷◌, length, map, take, drop, Option, Some, None, IfSome, refl, sym, ◌∙◌, subst, arith}
+use Rattle.std.specs.Prelude.{if◌then◌else◌, option_map}
 use Rattle.std.specs.Int.{w32, to_le_bytes}
 use Rattle.std.specs.List.{AllByRecursion}
-use Rattle.std.proofs.lemmas.List.{length-map}
+use Rattle.std.proofs.lemmas.List.{length-drop, length-map}
 use Rattle.disk_model.specs.Files.{IsFormed, MayCome, FileHoldsBytes, FilesHoldBytes}
+use Rattle.disk_model.specs.Numbers.{Numbered, place_of}
 use Rattle.disk_model.specs.declared.change.Change.{Change}
+use Rattle.disk_model.specs.declared.change.Change.TheVariants as change
 use Rattle.disk_model.specs.declared.change.NamedFile.{NamedFile}
 use Rattle.disk_model.proofs.Lists.{each_get, each_append, each_take, each_drop}
 use Rattle.machine_model.specs.Access.{HoldsBytes}
 use Rattle.machine_model.specs.Memory.{Memory}
 use Rattle.machine_model.specs.declared.stop.Stop.{Stop}
 use Rattle.kernel_model.specs.Requests.{request_of}
-use Rattle.kernel_model.specs.Rows.{Effect, number, with_bytes as placed, ends_of, descriptor_at, pipe_size}
+use Rattle.kernel_model.specs.Rows.{Effect, number, with_bytes as placed, ends_of, pipe_size}
 use Rattle.kernel_model.specs.State.{Process, Shared, PipeState, TapeState, unread}
-use Rattle.kernel_model.specs.Steps.{effect_at}
+use Rattle.kernel_model.specs.Limits.{AreNumbered}
+use Rattle.kernel_model.specs.Steps.{change_by, effect_at}
 use Rattle.kernel_model.specs.declared.descriptor.Descriptor.{Descriptor}
 use Rattle.kernel_model.specs.declared.descriptor.Descriptor.TheVariants as descriptor
 use Rattle.kernel_model.specs.declared.descriptor.PipeEnd.{PipeEnd}
@@ -25,7 +28,7 @@ use Rattle.kernel_model.specs.declared.request.Verdict.{Verdict}
 use Rattle.kernel_model.specs.declared.request.Verdict.TheVariants.{Waits, Replies, Ends}
 use Rattle.kernel_model.proofs.Asked.{IsAsked, asked_by}
 use Rattle.kernel_model.proofs.Cases.{OfEach, of_effect}
-use Rattle.kernel_model.proofs.Names.{named_there, name_bytes, name_new}
+use Rattle.kernel_model.proofs.Names.{at_some, differs, name_bytes, name_new, number_has_name, place_there}
 use Rattle.kernel_laws.proofs.Bytes.{AreBytes}
 
 -- ---- what calls look at
@@ -38,10 +41,11 @@ TapeHoldsBytes tape = AreBytes tape.bytes
 abbrev pub PipeHoldsBytes : PipeState → Type 0
 PipeHoldsBytes p = AreBytes p.written
 
--- there are few files, and files, pipes and tapes hold bytes
+-- there are few files, which are numbered, and files, pipes and tapes hold bytes
 pub record IsReadable (s : Shared) : Type 0 where
-  pub few : length s.files ≤ 32
-  pub files : FilesHoldBytes s.files
+  pub few : length s.files.living ≤ 32
+  pub numbered : AreNumbered s.files
+  pub files : FilesHoldBytes s.files.living
   pub pipes : AllByRecursion PipeHoldsBytes s.pipes
   pub tapes : AllByRecursion TapeHoldsBytes s.tapes
 
@@ -68,8 +72,8 @@ abbrev pub PutBytes : List PipeStep → Type 0
 PutBytes steps = AllByRecursion PutsBytes steps
 
 -- The change is possible, and what is told and what is put into pipes are bytes.
-pub record IsSound (files : List NamedFile) (e : Effect) : Type 0 where
-  pub change : IfSome e.change (IsPossible files)
+pub record IsSound (files : Numbered) (e : Effect) : Type 0 where
+  pub change : IfSome (change_by files e.edit) (IsPossible files.living)
   pub verdict : TellsBytes e.verdict
   pub pipes : PutBytes e.pipes
 
@@ -105,9 +109,21 @@ some_told n place at bytes are =
 
 -- ---- rows
 
--- Below, what a call may look at, a machine's memory, and its caller's descriptors: those for files stand for files that are there.
-module _ (s : Shared) (ready : IsReadable s) (memory : Memory) (holds : HoldsBytes memory) (ds : List (Option Descriptor))
-    (named : (fd file offset : ℕ) (writes : Bool) → descriptor_at ds fd ≡ Some (descriptor.File file offset writes) → file < length s.files) where
+-- a change of a file that lives, by its place
+at_its_place : (files : Numbered) (P : Change → Type 0) (f : ℕ → Change) (number : ℕ) → ((place : ℕ) → place_of files number ≡ Some place → P (f place))
+    → IfSome (option_map f (place_of files number)) P
+at_its_place files P f number each = go (place_of files number) refl
+  where
+    go : (o : Option ℕ) → place_of files number ≡ o → IfSome (option_map f o) P
+    go None is = tt
+    go (Some place) is = each place is
+
+-- Below, what a call may look at, a machine's memory, and its caller's descriptors.
+module _ (s : Shared) (ready : IsReadable s) (memory : Memory) (holds : HoldsBytes memory) (ds : List (Option Descriptor)) where
+  -- the place of a file that lives
+  within : (number place : ℕ) → place_of s.files number ≡ Some place → place < length s.files.living
+  within number place is = omega (arith, (place_there s.files number place is).0, ready.numbered.each)
+
   each_sound : (children : List ℕ) (r : Request) → IsAsked memory r → OfEach (IsSound s.files) s ds children r
   each_sound children r asked = record {
     told = λ _ _ _. record { change = tt; verdict = tt; pipes = tt };
@@ -115,12 +131,12 @@ module _ (s : Shared) (ready : IsReadable s) (memory : Memory) (holds : HoldsByt
     shown = λ _ _. record { change = tt; verdict = tt; pipes = tt };
     filed = λ fd n file offset bytes is goes.
         let read = subst (IsAsked memory) is asked in
-        let there = named fd file offset true goes.stands in
         record {
-          change = (
-            (omega (arith, ready.few, there), omega (arith, goes.fits), omega (arith, read.0, goes.some), omega (arith, read.0, goes.most), read.1 holds),
-            (there, goes.fits),
-          );
+          change = at_its_place s.files (IsPossible s.files.living) (λ (place : ℕ). change.Write place offset bytes) file (λ place at.
+              let there = within file place at in (
+                (omega (arith, ready.few, there), omega (arith, goes.fits), omega (arith, read.0, goes.some), omega (arith, read.0, goes.most), read.1 holds),
+                (there, goes.fits),
+              ));
           verdict = tt;
           pipes = tt;
         };
@@ -134,7 +150,8 @@ module _ (s : Shared) (ready : IsReadable s) (memory : Memory) (holds : HoldsByt
     };
     copied = λ fd at n file offset f is stands found. record {
       change = tt;
-      verdict = some_told n offset at f.bytes (each_get FileHoldsBytes s.files file f ready.files found).1;
+      verdict = let place = at_some s.files.living (place_of s.files file) f found in
+          some_told n offset at f.bytes (each_get FileHoldsBytes s.files.living place.0 f ready.files place.2).1;
       pipes = tt;
     };
     taken = λ fd at n k p is found. record {
@@ -144,16 +161,39 @@ module _ (s : Shared) (ready : IsReadable s) (memory : Memory) (holds : HoldsByt
     };
     there = λ _ _ _ _ _ _. record { change = tt; verdict = tt; pipes = tt };
     emptied = λ fd file name free found.
-        let there = named_there s.files name file found in
-        record { change = (omega (arith, ready.few, there), there); verdict = tt; pipes = tt };
+        record {
+          change = at_its_place s.files (IsPossible s.files.living) change.Empty file
+              (λ place at. let there = within file place at in (omega (arith, ready.few, there), there));
+          verdict = tt;
+          pipes = tt;
+        };
     made = λ fd n mode name is free new.
         let size : length name ≡ n = (subst (IsAsked memory) is asked).0 in
-        let count = length-map s.files (λ (f : NamedFile). f.name) in
+        let count = length-map s.files.living (λ (f : NamedFile). f.name) in
         record {
           change = (
             (omega (arith, new.some, size), omega (arith, new.most, size), name_bytes name new.good),
-            (name_new s.files name new.new, omega (arith, new.room, count)),
+            (name_new s.files name ready.numbered.each new.new, omega (arith, new.room, count)),
           );
+          verdict = tt;
+          pipes = tt;
+        };
+    unlinked = λ file n name is found. record {
+      change = at_its_place s.files (IsPossible s.files.living) change.Remove file
+          (λ place at. let there = within file place at in (omega (arith, ready.few, there), there));
+      verdict = tt;
+      pipes = tt;
+    };
+    renamed = λ file n m names is new.
+        let size : length names ≡ n + m = (subst (IsAsked memory) is asked).0 in
+        let rest = length-drop n names in
+        record {
+          change = at_its_place s.files (IsPossible s.files.living) (λ (place : ℕ). change.Rename place (drop n names)) file (λ place at.
+              let there = within file place at in (
+                (omega (arith, ready.few, there), (omega (arith, size, rest, new.some), omega (arith, size, rest, new.most), name_bytes (drop n names) new.good)),
+                (there, (λ f is_there same.
+                  differs (take n names) (drop n names) new.differs (sym (number_has_name s.files (take n names) file place f ready.numbered new.named at is_there) ∙ same))),
+              ));
           verdict = tt;
           pipes = tt;
         };
@@ -171,8 +211,7 @@ module _ (s : Shared) (ready : IsReadable s) (memory : Memory) (holds : HoldsByt
 
 -- what comes of a call or a trap is sound
 pub effect_sound : (s : Shared) (pid : ℕ) (p : Process) (stop : Option Stop) → IsReadable s
-    → ((fd file offset : ℕ) (writes : Bool) → descriptor_at p.descriptors fd ≡ Some (descriptor.File file offset writes) → file < length s.files)
     → HoldsBytes p.state.hart.memory → IfSome (effect_at s pid p stop) (IsSound s.files)
-effect_sound s pid p stop ready named holds =
+effect_sound s pid p stop ready holds =
     of_effect (IsSound s.files) s pid p stop
-    (each_sound s ready p.state.hart.memory holds p.descriptors named p.children (request_of p.state) (asked_by p.state))
+    (each_sound s ready p.state.hart.memory holds p.descriptors p.children (request_of p.state) (asked_by p.state))

@@ -61,7 +61,7 @@ committed-rises : (w : World) (e : Event) → IsOrderly (run_of w) → committed
 committed-rises w (Turn pid n) h = omega arith
 committed-rises w (Enter pid) h = omega arith
 committed-rises w Cut h =
-    let same = cut-keeps w.storage (drop w.storage.committed (changes_in_log w.log)) w.sync.files in omega (arith, same)
+    let same = cut-keeps w.storage (drop w.storage.committed (changes_in_log w.log)) w.sync.files.living in omega (arith, same)
 committed-rises w (Complete at) h = completion-keeps w at h
 committed-rises w (Fail at) h = let same = failure-keeps w.storage at (piece_at w.storage.device.in_flight at) in omega (arith, same)
 

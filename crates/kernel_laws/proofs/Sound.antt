@@ -2,7 +2,7 @@
 use Rattle.std.proofs.Common.{◌≡◌, ℕ, zero, suc, ◌+◌, ◌<◌, List, [], ◌∷◌, slice_get, Option, Some, None, IfSome, refl, subst}
 use Rattle.std.specs.List.{AllByRecursion}
 use Rattle.disk_model.specs.declared.change.Change.{Change}
-use Rattle.disk_model.specs.declared.change.NamedFile.{NamedFile}
+use Rattle.disk_model.specs.Numbers.{Numbered}
 use Rattle.disk_model.specs.Files.{IsMade}
 use Rattle.disk_model.proofs.Lists.{each_get, each_set, each_append}
 use Rattle.machine_model.specs.Access.{HoldsBytes}
@@ -11,7 +11,7 @@ use Rattle.kernel_model.specs.Bytes.{ProgramsHoldBytes, TapesHoldBytes}
 use Rattle.kernel_model.specs.Limits.{KeepLimits}
 use Rattle.kernel_model.specs.Rows.{Effect}
 use Rattle.kernel_model.specs.State.{SyncState, PipeState, TapeState, Process, put_process, with_process, shared, changed_by, with_place, read_by, new_pipe, with_pipe, stepped, all_stepped}
-use Rattle.kernel_model.specs.Steps.{Transition, after_run, after_reply, zero_reply, forked, after_end, after_effect, step}
+use Rattle.kernel_model.specs.Steps.{Transition, change_by, after_run, after_reply, zero_reply, forked, after_end, after_effect, step}
 use Rattle.kernel_model.specs.World.{BootProgram, Boot, processes_from, tapes_of, tape_count, first_world}
 use Rattle.kernel_model.specs.declared.descriptor.PipeEnd.TheVariants.{Read, Write}
 use Rattle.kernel_model.specs.declared.effect.PipeStep.{PipeStep}
@@ -32,19 +32,25 @@ IsFit p = HoldsBytes p.state.hart.memory
 
 -- a state of which each memory does, with files that possible changes made, and pipes and tapes that hold bytes
 pub record AreFit (s : SyncState) : Type 0 where
-  pub made : IsMade s.files
+  pub made : IsMade s.files.living
   pub pipes : AllByRecursion PipeHoldsBytes s.pipes
   pub tapes : AllByRecursion TapeHoldsBytes s.tapes
   pub each : AllByRecursion IsFit s.processes
 
 -- the files of a state that is fit are few, and hold bytes
-readable : DiskLaws → (s : SyncState) → AreFit s → IsReadable (shared s)
-readable laws s h = record { few = (laws.rebuilt s.files h.made).few; files = laws.bytes s.files h.made; pipes = h.pipes; tapes = h.tapes }
+readable : DiskLaws → (s : SyncState) → KeepLimits s → AreFit s → IsReadable (shared s)
+readable laws s limits h = record {
+  few = (laws.rebuilt s.files.living h.made).few;
+  numbered = limits.numbered;
+  files = laws.bytes s.files.living h.made;
+  pipes = h.pipes;
+  tapes = h.tapes;
+}
 
 -- ---- the files after a change that is possible
-made_changed : DiskLaws → (files : List NamedFile) (o : Option Change) → IsMade files → IfSome o (IsPossible files) → IsMade (changed_by files o)
+made_changed : DiskLaws → (files : Numbered) (o : Option Change) → IsMade files.living → IfSome o (IsPossible files.living) → IsMade (changed_by files o).living
 made_changed laws files None made possible = made
-made_changed laws files (Some c) made possible = laws.change files c made possible.0 possible.1
+made_changed laws files (Some c) made possible = laws.change files.living c made possible.0 possible.1
 
 -- ---- the tapes after a read
 
@@ -82,7 +88,7 @@ steps_hold (step ∷ steps) pipes puts h = steps_hold steps (stepped pipes step)
 -- the state after it is fit, and its change was possible
 pub record GoesFit (s : SyncState) (t : Transition) : Type 0 where
   pub fit : AreFit t.state
-  pub possible : IfSome t.entry.change (IsPossible s.files)
+  pub possible : IfSome t.entry.change (IsPossible s.files.living)
 
 put_goes : (s : SyncState) (pid : ℕ) (p : Process) → AreFit s → IsFit p → AreFit (with_process s pid p)
 put_goes s pid p h f = record { made = h.made; pipes = h.pipes; tapes = h.tapes; each = each_put IsFit s.processes pid p f h.each }
@@ -97,7 +103,7 @@ effect_fit : DiskLaws → (s : SyncState) (pid : ℕ) (p : Process) (e : Effect)
 effect_fit laws s pid p e Waits h f sound tells = record { fit = h; possible = tt }
 effect_fit laws s pid p e (Replies r) h f sound tells = record {
   fit = record {
-    made = made_changed laws s.files e.change h.made sound.change;
+    made = made_changed laws s.files (change_by s.files e.edit) h.made sound.change;
     pipes = steps_hold e.pipes s.pipes sound.pipes h.pipes;
     tapes = read_holds s.tapes e.tape h.tapes;
     each = each_append IsFit (put_process s.processes pid (after_reply p e r)) (forked p e.child)
@@ -123,7 +129,7 @@ step_fit laws s e limits h = of_step (GoesFit s) s (record { fit = h; possible =
     (λ p f at lives is.
     let holds = each_process IsFit s.processes pid p h.each at in
     let sound = subst (λ (o : Option Effect). IfSome o (IsSound s.files)) is
-    (effect_sound (shared s) pid p (stands_at p.state) (readable laws s h) (limits.processes pid p at).named holds) in
+    (effect_sound (shared s) pid p (stands_at p.state) (readable laws s limits h) holds) in
     effect_fit laws s pid p f f.verdict h holds sound sound.verdict)) e
 
 -- ---- before any event

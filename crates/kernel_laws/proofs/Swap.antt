@@ -45,9 +45,9 @@ log_alike xs ys d e h same = telling-append xs (d ∷ []) ∙ ap (λ zs. zs ++ t
 pub alike_happens : (a b : World) (e : Event) → Alike a b → Alike (happens a e) (happens b e)
 alike_happens a b e h = record {
   sync = ap (λ (s : SyncState). (step s e).state) h.sync;
-  storage = ap (λ (st : Storage). stored st (changes_in_log a.log) a.sync.files e) h.storage
-      ∙ ap (λ (cs : List Change). stored b.storage cs a.sync.files e) (changes_alike a.log b.log h.log)
-      ∙ ap (λ (s : SyncState). stored b.storage (changes_in_log b.log) s.files e) h.sync;
+  storage = ap (λ (st : Storage). stored st (changes_in_log a.log) a.sync.files.living e) h.storage
+      ∙ ap (λ (cs : List Change). stored b.storage cs a.sync.files.living e) (changes_alike a.log b.log h.log)
+      ∙ ap (λ (s : SyncState). stored b.storage (changes_in_log b.log) s.files.living e) h.sync;
   log = log_alike a.log b.log (step a.sync e).entry (step b.sync e).entry h.log (ap (λ (s : SyncState). (step s e).entry) h.sync);
 }
 
@@ -70,8 +70,8 @@ swap w p y e at running ne =
     let d = (step w.sync e).entry in
     record {
       sync = ap (λ (d : Transition). d.state) next_is ∙ sym (ap (λ (d : Transition). d.state) last);
-      storage = ap (λ (t : Transition). stored w.storage (changes_in_log (w.log ++ (step w.sync (Turn p 1)).entry ∷ [])) t.state.files e) first
-          ∙ ap (λ (cs : List Change). stored w.storage cs w.sync.files e) (changes_alike (w.log ++ (step w.sync (Turn p 1)).entry ∷ []) w.log
+      storage = ap (λ (t : Transition). stored w.storage (changes_in_log (w.log ++ (step w.sync (Turn p 1)).entry ∷ [])) t.state.files.living e) first
+          ∙ ap (λ (cs : List Change). stored w.storage cs w.sync.files.living e) (changes_alike (w.log ++ (step w.sync (Turn p 1)).entry ∷ []) w.log
           (ap (λ (d : Transition). telling (w.log ++ d.entry ∷ [])) first ∙ own_untold w.log p));
       log =
           log_alike (w.log ++ (step w.sync (Turn p 1)).entry ∷ []) w.log (step (step w.sync (Turn p 1)).state e).entry d

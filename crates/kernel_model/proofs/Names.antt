@@ -1,5 +1,5 @@
 -- Files by their names: the file that has a name is there, and a name that is not found is new.
-use Rattle.std.proofs.Common.{◌≡◌, ℕ, zero, suc, ◌+◌, ◌<◌, ◌≤◌, Bool, true, false, cond, List, [], ◌∷◌, length, slice_get, Option, Some, None, refl, sym, ◌∙◌, arith}
+use Rattle.std.proofs.Common.{◌≡◌, ℕ, zero, suc, ◌+◌, ◌<◌, ◌≤◌, ◌==◌, Bool, true, false, cond, List, [], ◌∷◌, length, slice_get, Option, Some, None, refl, sym, ap, ◌∙◌, get_or, arith}
 use Rattle.std.specs.List.{AllByRecursion, list_all, position, position_from}
 use Rattle.std.specs.Str.{bytes_eq}
 use Rattle.std.proofs.lemmas.Bool.Decides.{nat_tests}
@@ -9,12 +9,12 @@ use Rattle.std.proofs.lemmas.List.Quantifiers.{position-Some}
 use Rattle.std.proofs.lemmas.Slice.Eq.{bytes_eq-Decides}
 use Rattle.disk_model.specs.Files.{IsNameByte}
 use Rattle.disk_model.specs.declared.change.NamedFile.{NamedFile}
-use Rattle.disk_model.specs.Numbers.{Numbered, at_place}
+use Rattle.disk_model.specs.Numbers.{Numbered, at_place, place_of}
 use Rattle.kernel_model.specs.Limits.{AreNumbered, RiseFrom}
 use Rattle.kernel_model.specs.Rows.{directory, number_named, is_name_byte, names_of}
 
 -- what stands at a place that is given is one of the list
-at_some : {A : Type 0} (xs : List A) (o : Option ℕ) (x : A) → at_place xs o ≡ Some x → (place : ℕ) × (o ≡ Some place) × (slice_get xs place ≡ Some x)
+pub at_some : {A : Type 0} (xs : List A) (o : Option ℕ) (x : A) → at_place xs o ≡ Some x → (place : ℕ) × (o ≡ Some place) × (slice_get xs place ≡ Some x)
 at_some xs None x e = absurd (let no : ⊥ = cc in no)
 at_some xs (Some place) x e = (place, refl, e)
 
@@ -38,7 +38,7 @@ pub name_bytes : (name : List ℕ) → list_all is_name_byte name ≡ true → A
 name_bytes [] h = tt
 name_bytes (b ∷ bs) h = (name_byte b (grind (arith, nat_tests)), name_bytes bs (grind (arith, nat_tests)))
 
-differs : (a b : List ℕ) → bytes_eq a b ≡ false → a ≡ b → ⊥
+pub differs : (a b : List ℕ) → bytes_eq a b ≡ false → a ≡ b → ⊥
 differs a b h e = let same : bytes_eq a b ≡ true = (bytes_eq-Decides a b).1 e in cc
 
 none_from : (n : ℕ) (files : List NamedFile) (name : List ℕ) → position_from (λ other. bytes_eq other name) n (names_of files) ≡ None
@@ -49,6 +49,51 @@ none_from n (f ∷ fs) name h =
       | true ↦ λ is e. absurd (let no : ⊥ = cc in no)
       | false ↦ λ is e. (differs f.name name is, none_from (n + 1) fs name e)
     ] refl h
+
+-- ---- numbers and places
+
+there_get : {A : Type 0} (xs : List A) (i : ℕ) (d : A) → i < length xs → slice_get xs i ≡ Some (get_or xs i d)
+there_get [] i d h = absurd (let no : ⊥ = omega arith in no)
+there_get (x ∷ xs) zero d h = refl
+there_get (x ∷ xs) (suc i) d h = there_get xs i d (omega arith)
+
+-- the number of a file stands at its place, among the numbers of the files that live
+pub place_there : (files : Numbered) (number place : ℕ) → place_of files number ≡ Some place
+    → (place < length files.numbers) × (slice_get files.numbers place ≡ Some number)
+place_there files number place e =
+    let found = position-Some (λ (n : ℕ). n == number) files.numbers place 0 e in
+    let is : get_or files.numbers place 0 ≡ number = first_of (grind (arith, nat_tests), cc) in
+    (found.0, there_get files.numbers place 0 found.0 ∙ ap Some is)
+
+-- numbers that rise differ
+rise_least : (low high : ℕ) (ns : List ℕ) (k n : ℕ) → RiseFrom low high ns → slice_get ns k ≡ Some n → low ≤ n
+rise_least low high [] k n h e = absurd (let no : ⊥ = cc in no)
+rise_least low high (m ∷ ns) zero n h e = let same : m ≡ n = cc in omega (arith, same, h.0)
+rise_least low high (m ∷ ns) (suc k) n h e = omega (arith, rise_least (m + 1) high ns k n h.2 e, h.0)
+
+rise_once : (low high : ℕ) (ns : List ℕ) (i j n : ℕ) → RiseFrom low high ns → slice_get ns i ≡ Some n → slice_get ns j ≡ Some n → i ≡ j
+rise_once low high [] i j n h a b = absurd (let no : ⊥ = cc in no)
+rise_once low high (m ∷ ns) zero zero n h a b = refl
+rise_once low high (m ∷ ns) zero (suc j) n h a b = let same : m ≡ n = cc in absurd (let no : ⊥ = omega (arith, rise_least (m + 1) high ns j n h.2 b, same) in no)
+rise_once low high (m ∷ ns) (suc i) zero n h a b = let same : m ≡ n = cc in absurd (let no : ⊥ = omega (arith, rise_least (m + 1) high ns i n h.2 a, same) in no)
+rise_once low high (m ∷ ns) (suc i) (suc j) n h a b = ap suc (rise_once (m + 1) high ns i j n h.2 a b)
+
+name_at : (files : List NamedFile) (place : ℕ) (f : NamedFile) → slice_get files place ≡ Some f → get_or (names_of files) place [] ≡ f.name
+name_at [] place f e = absurd (let no : ⊥ = cc in no)
+name_at (g ∷ files) zero f e = let same : g ≡ f = cc in ap (λ (h : NamedFile). h.name) same
+name_at (g ∷ files) (suc place) f e = name_at files place f e
+
+-- the file of a name's number has that name
+pub number_has_name : (files : Numbered) (name : List ℕ) (number place : ℕ) (f : NamedFile) → AreNumbered files → number_named (directory files) name ≡ Some number
+    → place_of files number ≡ Some place → slice_get files.living place ≡ Some f → f.name ≡ name
+number_has_name files name number place f are named is at =
+    let found = at_some files.numbers (position (λ other. bytes_eq other name) (names_of files.living)) number named in
+    let there = place_there files number place is in
+    let same : found.0 ≡ place = rise_once 0 files.made files.numbers found.0 place number are.rise found.2 there.1 in
+    let has = position-Some (λ other. bytes_eq other name) (names_of files.living) found.0 [] found.1 in
+    sym (name_at files.living place f at) ∙ ap (λ (k : ℕ). get_or (names_of files.living) k []) (sym same) ∙ (bytes_eq-Decides (get_or (names_of files.living) found.0 []) name).0 has.1
+
+-- ---- names
 
 -- a place among as many
 at_none : {A B : Type 0} (xs : List A) (ys : List B) (test : B → Bool) → length xs ≡ length ys → at_place xs (position test ys) ≡ None → position test ys ≡ None
