@@ -9,11 +9,12 @@ use Rattle.machine_model.specs.declared.stop.Stop.{Stop}
 use Rattle.kernel_model.specs.Requests.{request_of}
 use Rattle.disk_model.specs.declared.change.Change.TheVariants as change
 use Rattle.kernel_model.specs.Limits.{AreNumbered}
-use Rattle.kernel_model.specs.Rows.{Effect, Writes, Empties, only, ends_of, descriptor_at, most_pipes}
+use Rattle.kernel_model.specs.Rows.{Effect, only, ends_of, descriptor_at, most_pipes}
 use Rattle.kernel_model.specs.State.{Process, Shared, PipeState, changed_by, all_stepped}
 use Rattle.kernel_model.specs.Steps.{change_by, effect_at}
 use Rattle.kernel_model.specs.declared.descriptor.Descriptor.{Descriptor}
 use Rattle.kernel_model.specs.declared.descriptor.Descriptor.TheVariants as descriptor
+use Rattle.kernel_model.specs.declared.effect.FileEdit.TheVariants as edit
 use Rattle.kernel_model.specs.declared.request.Request.{Request}
 use Rattle.kernel_model.proofs.Asked.{IsAsked, asked_by}
 use Rattle.kernel_model.proofs.Cases.{OfEach, of_effect}
@@ -68,7 +69,7 @@ module _ (s : Shared) (tapes : ℕ) (before : PipesFit s.pipes) (numbered : AreN
       filed = λ fd n file offset bytes is goes. record {
         pipes = before;
         change = mapped (LeavesFew s.files.living) (λ (place : ℕ). change.Write place offset bytes) (place_of s.files file) (λ _. goes.fits);
-        slots = (omega (arith, file_there fd file offset true goes.stands, made_grows s.files (change_by s.files (Some (Writes file offset bytes)))), tt);
+        slots = (omega (arith, file_there fd file offset true goes.stands, made_grows s.files (change_by s.files (Some (edit.Write file offset bytes)))), tt);
         child = tt;
       };
       put = λ fd n k bytes p is found room. record {
@@ -89,7 +90,7 @@ module _ (s : Shared) (tapes : ℕ) (before : PipesFit s.pipes) (numbered : AreN
       emptied = λ fd file name free found. record {
         pipes = before;
         change = mapped (LeavesFew s.files.living) change.Empty (place_of s.files file) (λ _. tt);
-        slots = (omega (arith, named_made s.files name file numbered found, made_grows s.files (change_by s.files (Some (Empties file)))), tt);
+        slots = (omega (arith, named_made s.files name file numbered found, made_grows s.files (change_by s.files (Some (edit.Empty file)))), tt);
         child = tt;
       };
       made = λ fd n mode name is free new.

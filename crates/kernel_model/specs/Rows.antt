@@ -14,6 +14,8 @@ use Rattle.kernel_model.specs.declared.descriptor.Descriptor.{Descriptor}
 use Rattle.kernel_model.specs.declared.descriptor.Descriptor.TheVariants as descriptor
 use Rattle.kernel_model.specs.declared.descriptor.PipeEnd.{PipeEnd}
 use Rattle.kernel_model.specs.declared.descriptor.PipeEnd.TheVariants as pipe_end
+use Rattle.kernel_model.specs.declared.effect.FileEdit.{FileEdit}
+use Rattle.kernel_model.specs.declared.effect.FileEdit.TheVariants as edit
 use Rattle.kernel_model.specs.declared.effect.Output.{Output}
 use Rattle.kernel_model.specs.declared.effect.PipeStep.{PipeStep}
 use Rattle.kernel_model.specs.declared.effect.PipeStep.TheVariants as pipe_step
@@ -23,15 +25,6 @@ use Rattle.kernel_model.specs.declared.request.Request.{Request}
 use Rattle.kernel_model.specs.declared.request.Request.TheVariants as request
 use Rattle.kernel_model.specs.declared.request.Verdict.{Verdict}
 use Rattle.kernel_model.specs.declared.request.Verdict.TheVariants.{Waits, Replies, Ends}
-
--- an edit of a file by its number: a new one of a name is made; bytes are written at an offset; all its bytes are gone; it loses its
--- name; or it gets this one
-pub data FileEdit : Type 0 where
-  Creates : List ℕ → FileEdit
-  Writes : ℕ → ℕ → List ℕ → FileEdit
-  Empties : ℕ → FileEdit
-  Removes : ℕ → FileEdit
-  Renames : ℕ → List ℕ → FileEdit
 
 -- What a call comes to: what the caller is told, the carriers that it reads and writes beside the caller's own, and the
 -- edits that it makes: of a file, bytes for a terminal, bytes read from a tape, steps of pipes, descriptors of the caller, and of its
@@ -191,7 +184,7 @@ write_file fd file offset bytes =
     if nat_lt longest_file (offset + length bytes) then failure file_too_large
     else record (only (number (length bytes))) {
       writes = carrier.File file ∷ [];
-      edit = Some (Writes file offset bytes);
+      edit = Some (edit.Write file offset bytes);
       slots = record { fd = fd; holds = Some (descriptor.File file (offset + length bytes) true) } ∷ [];
     }
 
@@ -359,7 +352,7 @@ abbrev pub open_emptied : ℕ → ℕ → Effect
 open_emptied fd file = record (only (number fd)) {
   reads = carrier.Names ∷ carrier.File file ∷ [];
   writes = carrier.File file ∷ [];
-  edit = Some (Empties file);
+  edit = Some (edit.Empty file);
   slots = opened fd file true;
 }
 
@@ -372,7 +365,7 @@ abbrev pub open_new : ℕ → ℕ → List ℕ → Effect
 open_new fd file name = record (only (number fd)) {
   reads = carrier.Names ∷ carrier.File file ∷ [];
   writes = carrier.Names ∷ carrier.File file ∷ [];
-  edit = Some (Creates name);
+  edit = Some (edit.Create name);
   slots = opened fd file true;
 }
 
@@ -414,7 +407,7 @@ unlink_file None = record (failure no_such_file) { reads = carrier.Names ∷ [] 
 unlink_file (Some file) = record (only (number 0)) {
   reads = carrier.Names ∷ carrier.File file ∷ [];
   writes = carrier.Names ∷ carrier.File file ∷ [];
-  edit = Some (Removes file);
+  edit = Some (edit.Remove file);
 }
 
 -- unlink, of a name that may be None
@@ -436,7 +429,7 @@ abbrev pub rename_to : ℕ → List ℕ → Option ℕ → Effect
 rename_to file new loser = record (only (number 0)) {
   reads = carrier.Names ∷ carrier.File file ∷ loser_carriers loser;
   writes = carrier.Names ∷ carrier.File file ∷ loser_carriers loser;
-  edit = Some (Renames file new);
+  edit = Some (edit.Rename file new);
 }
 
 -- rename, of the file of an old name, if there is one, to a new name

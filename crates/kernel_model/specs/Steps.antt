@@ -11,9 +11,11 @@ use Rattle.kernel_model.specs.Entries.{Entry, Got, End}
 use Rattle.kernel_model.specs.State.{SyncState, Shared, shared, Process, process_at, put_process, with_process, changed_by, read_by, all_stepped}
 use Rattle.kernel_model.specs.Requests.{request_of}
 use Rattle.machine_model.specs.Numbers.{cause_number}
-use Rattle.kernel_model.specs.Rows.{Effect, FileEdit, Creates, Writes, Empties, Removes, Renames, row, row_end}
+use Rattle.kernel_model.specs.Rows.{Effect, row, row_end}
 use Rattle.kernel_model.specs.declared.carrier.Carrier.TheVariants.{Proc}
 use Rattle.kernel_model.specs.declared.descriptor.Descriptor.{Descriptor}
+use Rattle.kernel_model.specs.declared.effect.FileEdit.{FileEdit}
+use Rattle.kernel_model.specs.declared.effect.FileEdit.TheVariants as edit
 use Rattle.kernel_model.specs.declared.effect.Slot.{Slot}
 use Rattle.kernel_model.specs.declared.event.Event.{Event}
 use Rattle.kernel_model.specs.declared.event.Event.TheVariants.{Turn, Enter, Cut, Complete, Fail}
@@ -97,11 +99,11 @@ after_end p status = record p { descriptors = map (λ d. None) p.descriptors; st
 
 -- the change by which an edit of a file is made: it names the file by its place. None where the file does not live
 abbrev pub change_of : Numbered → FileEdit → Option Change
-change_of files (Creates name) = Some (change.Create name)
-change_of files (Writes file offset bytes) = option_map (λ place. change.Write place offset bytes) (place_of files file)
-change_of files (Empties file) = option_map change.Empty (place_of files file)
-change_of files (Removes file) = option_map change.Remove (place_of files file)
-change_of files (Renames file name) = option_map (λ place. change.Rename place name) (place_of files file)
+change_of files (edit.Create name) = Some (change.Create name)
+change_of files (edit.Write file offset bytes) = option_map (λ place. change.Write place offset bytes) (place_of files file)
+change_of files (edit.Empty file) = option_map change.Empty (place_of files file)
+change_of files (edit.Remove file) = option_map change.Remove (place_of files file)
+change_of files (edit.Rename file name) = option_map (λ place. change.Rename place name) (place_of files file)
 
 -- the same of an edit, if there is one
 abbrev pub change_by : Numbered → Option FileEdit → Option Change

@@ -9,6 +9,28 @@ pub struct Output {
     pub bytes: Bytes,
 }
 
+/// An edit of a file, by its number.
+#[derive(Debug, Drop)]
+pub enum FileEdit {
+    /// A new and empty file of this name is made, with the next number.
+    Create(Bytes),
+    /// These bytes are written at this offset.
+    Write {
+        file: u64,
+        offset: u32,
+        bytes: Bytes,
+    },
+    /// It loses all its bytes.
+    Empty(u64),
+    /// It loses its name.
+    Remove(u64),
+    /// It gets this name.
+    Rename {
+        file: u64,
+        name: Bytes,
+    },
+}
+
 /// What a descriptor stands for from now on; one that stands for nothing is free.
 #[derive(Clone, Copy, Debug, PartialEq, Eq)]
 pub struct Slot {

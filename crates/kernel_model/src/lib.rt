@@ -15,7 +15,7 @@ pub use answer::{Answer, Outcome, Refused};
 pub use carrier::Carrier;
 pub use counts::{TAPES, TERMINALS};
 pub use descriptor::{Descriptor, PipeEnd};
-pub use effect::{Output, PipeStep, Slot, TapeRead};
+pub use effect::{FileEdit, Output, PipeStep, Slot, TapeRead};
 pub use event::Event;
 pub use laws::{
     durable_is, ended_hold_nothing, ends_are_counted, ends_stay_closed, files_are_folded,
