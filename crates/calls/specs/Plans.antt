@@ -2,15 +2,18 @@
 use Rattle.std.specs.Prelude.{◌≡◌, ℕ, ◌+◌, ◌<◌, ◌≤◌, ◌⊎◌, true, List, [], ◌∷◌, length, drop, slice_get, Option, Some, None, IfSome}
 use Rattle.std.specs.List.{AllByRecursion}
 use Rattle.disk_model.specs.declared.change.Change.{Change}
-use Rattle.disk_model.specs.declared.change.Change.TheVariants as change
 use Rattle.disk_model.specs.declared.change.NamedFile.{NamedFile}
 use Rattle.disk_model.specs.Files.{IsFormed, MayCome}
+use Rattle.disk_model.specs.Numbers.{Numbered}
 use Rattle.machine_model.specs.Access.{is_writable}
 use Rattle.machine_model.specs.Memory.{Memory}
 use Rattle.kernel_model.specs.Rows.{Effect, most_processes}
 use Rattle.kernel_model.specs.State.{TapeState}
+use Rattle.kernel_model.specs.Steps.{change_by}
 use Rattle.kernel_model.specs.declared.descriptor.Descriptor.{Descriptor}
 use Rattle.kernel_model.specs.declared.descriptor.Descriptor.TheVariants as descriptor
+use Rattle.kernel_model.specs.declared.effect.FileEdit.{FileEdit}
+use Rattle.kernel_model.specs.declared.effect.FileEdit.TheVariants as edit
 use Rattle.kernel_model.specs.declared.effect.PipeStep.{PipeStep}
 use Rattle.kernel_model.specs.declared.effect.PipeStep.TheVariants as pipe_step
 use Rattle.kernel_model.specs.declared.effect.Slot.{Slot}
@@ -20,27 +23,43 @@ use Rattle.kernel_model.specs.declared.request.Verdict.TheVariants.{Waits, Repli
 use Rattle.pipes.specs.Seen.{Seen}
 use Rattle.pipes.specs.Stepping.{seen_after, MayStep}
 use Rattle.calls.specs.declared.plan.Plan.{Plan}
+use Rattle.calls.specs.declared.row.Row.{Row}
 
--- the plan says the same as this row of the table
-pub record IsPlan (plan : Plan) (effect : Effect) : Type 0 where
-  pub verdict : plan.verdict ≡ effect.verdict
-  pub reads : plan.reads.items ≡ effect.reads
-  pub writes : plan.writes.items ≡ effect.writes
-  pub change : plan.change ≡ effect.change
-  pub output : plan.output ≡ effect.output
-  pub tape : plan.tape ≡ effect.tape
-  pub pipes : plan.pipes.items ≡ effect.pipes
-  pub slots : plan.slots.items ≡ effect.slots
-  pub child : plan.child ≡ effect.child
-  pub collects : plan.collects ≡ effect.collects
+-- what the code finds is this row of the table
+pub record IsRow (row : Row) (effect : Effect) : Type 0 where
+  pub verdict : row.verdict ≡ effect.verdict
+  pub reads : row.reads.items ≡ effect.reads
+  pub writes : row.writes.items ≡ effect.writes
+  pub edit : row.edit ≡ effect.edit
+  pub output : row.output ≡ effect.output
+  pub tape : row.tape ≡ effect.tape
+  pub pipes : row.pipes.items ≡ effect.pipes
+  pub slots : row.slots.items ≡ effect.slots
+  pub child : row.child ≡ effect.child
+  pub collects : row.collects ≡ effect.collects
 
--- what a plan says, as a row of the table
-abbrev pub effect_of : Plan → Effect
-effect_of plan = record {
+-- what the code finds, as a row of the table
+abbrev pub effect_of : Row → Effect
+effect_of row = record {
+  verdict = row.verdict;
+  reads = row.reads.items;
+  writes = row.writes.items;
+  edit = row.edit;
+  output = row.output;
+  tape = row.tape;
+  pipes = row.pipes.items;
+  slots = row.slots.items;
+  child = row.child;
+  collects = row.collects;
+}
+
+-- what a plan says, as a row of the table with this edit of a file
+abbrev pub effect_with : Plan → Option FileEdit → Effect
+effect_with plan edit = record {
   verdict = plan.verdict;
   reads = plan.reads.items;
   writes = plan.writes.items;
-  change = plan.change;
+  edit = edit;
   output = plan.output;
   tape = plan.tape;
   pipes = plan.pipes.items;
@@ -49,7 +68,12 @@ effect_of plan = record {
   collects = plan.collects;
 }
 
--- a descriptor that stands for a file stands for one of so many
+-- the plan says what this row of the table says, with its change in place of the row's edit of a file: a file by its place
+pub record Says (files : Numbered) (plan : Plan) (effect : Effect) : Type 0 where
+  pub row : effect_with plan effect.edit ≡ effect
+  pub change : plan.change ≡ change_by files effect.edit
+
+-- a descriptor that stands for a file stands for one of the first so many that were made
 abbrev pub NamesFile : ℕ → Option Descriptor → Type 0
 NamesFile count (Some (descriptor.File file offset writes)) = file < count
 NamesFile count (Some (descriptor.Tape tape)) = Unit {0}
@@ -57,7 +81,7 @@ NamesFile count (Some (descriptor.Terminal terminal)) = Unit {0}
 NamesFile count (Some (descriptor.Pipe end)) = Unit {0}
 NamesFile count None = Unit {0}
 
--- each of these descriptors that stands for a file stands for one of so many
+-- each of these descriptors that stands for a file stands for one of the first so many
 abbrev pub NamesFiles : ℕ → List (Option Descriptor) → Type 0
 NamesFiles count ds = AllByRecursion (NamesFile count) ds
 
@@ -76,10 +100,12 @@ abbrev pub IsNext : ℕ → ℕ → Type 0
 IsNext count child = (child ≡ count + 1) × (count < most_processes)
 
 -- the numbers that a write carries are bytes
-abbrev pub CarriesBytes : Change → Type 0
-CarriesBytes (change.Create name) = Unit {0}
-CarriesBytes (change.Write file offset bytes) = AllByRecursion (λ b. b < 256) bytes
-CarriesBytes (change.Empty file) = Unit {0}
+abbrev pub CarriesBytes : FileEdit → Type 0
+CarriesBytes (edit.Create name) = Unit {0}
+CarriesBytes (edit.Write file offset bytes) = AllByRecursion (λ b. b < 256) bytes
+CarriesBytes (edit.Empty file) = Unit {0}
+CarriesBytes (edit.Remove file) = Unit {0}
+CarriesBytes (edit.Rename file name) = Unit {0}
 
 -- a change that a record may spell, and that is possible with these files
 abbrev pub IsPossible : List NamedFile → Change → Type 0

@@ -1,8 +1,8 @@
 -- Requests whose bytes are as many as they say.
-use Rattle.std.specs.Prelude.{◌≡◌, ℕ, ◌≤◌, length, List, Option, None, IfSome}
-use Rattle.kernel_model.specs.Requests.{most_bytes, longest_name}
+use Rattle.std.specs.Prelude.{◌≡◌, ℕ, ◌+◌, ◌≤◌, length, List, Option, None, IfSome}
+use Rattle.kernel_model.specs.Requests.{most_bytes, longest_name, longest_names}
 use Rattle.kernel_model.specs.declared.request.Request.{Request}
-use Rattle.kernel_model.specs.declared.request.Request.TheVariants.{Exit, Write, Read, Open, Close, Pipe, Fork, Wait, GetPid, Seek, Sync, Unknown}
+use Rattle.kernel_model.specs.declared.request.Request.TheVariants.{Exit, Write, Read, Open, Close, Pipe, Fork, Wait, GetPid, Seek, Sync, Unlink, Rename, Unknown}
 
 -- bytes that are there are n, and n is at most so many
 abbrev pub AreWhole : ℕ → ℕ → Option (List ℕ) → Type 0
@@ -21,9 +21,11 @@ IsWhole (Wait at fits) = Unit {0}
 IsWhole GetPid = Unit {0}
 IsWhole (Seek fd offset) = Unit {0}
 IsWhole Sync = Unit {0}
+IsWhole (Unlink n name) = AreWhole longest_name n name
+IsWhole (Rename n m names) = AreWhole longest_names (n + m) names
 IsWhole Unknown = Unit {0}
 
--- no bytes come with the request: it is no write and no open, or its bytes are too many or may not be read
+-- no bytes come with the request: it is no write and names no file, or its bytes are too many or may not be read
 abbrev pub HoldsNone : Request → Type 0
 HoldsNone (Exit status) = Unit {0}
 HoldsNone (Write fd n bytes) = bytes ≡ None
@@ -36,4 +38,6 @@ HoldsNone (Wait at fits) = Unit {0}
 HoldsNone GetPid = Unit {0}
 HoldsNone (Seek fd offset) = Unit {0}
 HoldsNone Sync = Unit {0}
+HoldsNone (Unlink n name) = name ≡ None
+HoldsNone (Rename n m names) = names ≡ None
 HoldsNone Unknown = Unit {0}
