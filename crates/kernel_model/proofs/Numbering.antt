@@ -30,6 +30,15 @@ numbers_length : (low : ℕ) (files : List NamedFile) → length (numbers_from l
 numbers_length low [] = refl
 numbers_length low (f ∷ fs) = ap suc (numbers_length (low + 1) fs)
 
+-- nor does it rise by more than one
+pub made_by_one : (files : Numbered) (o : Option Change) → (changed_by files o).made ≤ files.made + 1
+made_by_one files None = omega arith
+made_by_one files (Some (change.Create name)) = omega arith
+made_by_one files (Some (change.Write place offset bytes)) = omega arith
+made_by_one files (Some (change.Empty place)) = omega arith
+made_by_one files (Some (change.Remove place)) = omega arith
+made_by_one files (Some (change.Rename place name)) = omega arith
+
 -- files are numbered as a run begins
 pub numbered_first : (files : List NamedFile) → AreNumbered (numbered files)
 numbered_first files =

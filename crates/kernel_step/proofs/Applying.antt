@@ -56,7 +56,7 @@ same-core b history history' tasks tasks' s d same_history same_tasks same_marks
     (record {
       mirrors = record {
         each = h.mirrors.each;
-        changes = record { changes = h.mirrors.changes.changes; formed = h.mirrors.changes.formed; files = h.mirrors.changes.files; made = h.mirrors.changes.made };
+        changes = record { changes = h.mirrors.changes.changes; formed = h.mirrors.changes.formed; files = h.mirrors.changes.files; made = h.mirrors.changes.made; numbered = h.mirrors.changes.numbered; fresh = h.mirrors.changes.fresh };
         tapes = h.mirrors.tapes;
         parts = h.mirrors.parts;
         pipes = h.mirrors.pipes;
@@ -114,7 +114,7 @@ turned-core b history history' old new s d pid n a h grown t =
         each = ran-tasks w s.served old new pid n t.place t.count t.stop h.mirrors.each t.placed.number t.ran fine.running few;
         changes = changes-part w (happens w (Turn pid n)) s (record s { dependencies = d }) (own_entry pid) (own-silent pid) log files refl refl h.mirrors.changes;
         tapes = h.mirrors.tapes ∙ sym (ap (λ (v : World). v.sync.tapes) next);
-        parts = parts-quiet w (happens w (Turn pid n)) s.processes.parts s.processes.parts (ap (λ (v : World). length v.sync.files) next)
+        parts = parts-quiet w (happens w (Turn pid n)) s.processes.parts s.processes.parts (ap (λ (v : World). v.sync.files.made) next)
             (ap (λ (v : World). map part_of v.sync.processes) next ∙ turn-parts w.sync.processes pid n of.process of.there) refl h.mirrors.parts;
         pipes = pipes-quiet w (happens w (Turn pid n)) s.pipes s.pipes (own_entry pid) log (ap (λ (v : World). v.sync.pipes) next) refl h.mirrors.pipes;
         counted = counted-quiet w (happens w (Turn pid n)) s.served s.served (own_entry pid) log (omega arith) h.mirrors.counted;

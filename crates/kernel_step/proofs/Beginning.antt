@@ -16,6 +16,9 @@ use Rattle.machine_model.specs.Access.{HoldsBytes}
 use Rattle.machine_model.specs.States.{State}
 use Rattle.machine_model.specs.First.{first_state}
 use Rattle.disk_model.specs.declared.change.NamedFile.{NamedFile}
+use Rattle.disk_model.specs.Numbers.{numbered}
+use Rattle.disk_model.proofs.Tidy.{tidy_after}
+use Rattle.kernel_model.proofs.Numbering.{numbered_first}
 use Rattle.kernel_step.specs.Booting.{program_of, boot_with, nothing_lent}
 use Rattle.kernel_step.specs.Stands.{KeepsRun}
 use Rattle.kernel_step.specs.First.{IsFirst, AreFirst, parts_from, AreEmpty}
@@ -168,10 +171,14 @@ first-screens screens h = record {
   each = λ t s there. subst (λ (w : Withheld ℕ). Withholds 0 [] w) (sym (h.each t s there)) (record { marked = tt; committed = refl });
 }
 
+-- there are few files
+few-made : (files : List NamedFile) → IsMade files → length files ≤ 32 + 0
+few-made files made = let few : length files ≤ 32 = subst (λ (fs : List NamedFile). length fs ≤ 32) (sym made.2) (tidy_after made.0 made.1).few in omega arith
+
 -- ---- all parts
 pub first-core : (programs : List Program) (tapes : List (List ℕ)) (files : List NamedFile) (disk : List ℕ) (gate : ℕ) (tasks : List Task) (s : System)
     → IsMade files → AreFirst programs tasks → AreEmpty 8 s.screens.items
-    → Keeps [] s.dependencies.marks → s.changes.items ≡ [] → s.files ≡ files → s.tapes ≡ tapes_of tape_count tapes
+    → Keeps [] s.dependencies.marks → s.changes.items ≡ [] → s.files ≡ numbered files → s.tapes ≡ tapes_of tape_count tapes
     → s.processes.parts ≡ parts_from 0 programs → s.pipes ≡ [] → s.served ≡ 0 → s.committer ≡ first_storage disk gate
     → KeepsRun (boot_with programs tapes files disk gate) [] tasks s
 first-core programs tapes files disk gate tasks s made first empty keeps changes same_files same_tapes parts pipes served committer = record {
@@ -183,7 +190,7 @@ first-core programs tapes files disk gate tasks s made first empty keeps changes
           (one.0, one.1, first-process i one.0 t one.2 ∙ ap (λ j. bare (first_process j (program_of one.0))) (sym place)));
       each = λ i t there. let one = first.each i t there in first-task (boot_with programs tapes files disk gate) s.served i one.0 t one.2;
     };
-    changes = record { changes = changes; formed = tt; files = same_files; made = made };
+    changes = record { changes = changes; formed = tt; files = same_files; made = made; numbered = numbered_first files; fresh = few-made files made };
     tapes = same_tapes;
     parts = record {
       same = parts ∙ parts-first 0 programs;

@@ -16,7 +16,7 @@ use Rattle.kernel_model.specs.declared.effect.PipeStep.{PipeStep}
 use Rattle.kernel_step.specs.Entering.{descriptors_after, part_after, process_after, born, parts_after, planned}
 use Rattle.kernel_step.specs.Mirrors.{IsPart, AreParts, ArePipes}
 use Rattle.kernel_step.proofs.EnterPlans.{part-seen}
-use Rattle.kernel_model.proofs.Limits.{changed_by_grows}
+use Rattle.kernel_model.proofs.Numbering.{made_grows}
 use Rattle.kernel_step.proofs.EnterTasks.{world_after, names-more}
 use Rattle.kernel_step.proofs.Lists.{length-snoc}
 
@@ -54,16 +54,16 @@ after-parts parts (suc k) n m part plan e more named h =
     (born-parts n m part plan.child more one))
 
 pub parts-planned : (w : World) (parts parts' : List Part) (pid : ℕ) (p : Process) (plan : Plan) → AreParts w parts → process_at w.sync.processes pid ≡ Some p
-    → NamesFiles (length (changed_by w.sync.files plan.change)) (descriptors_after p.descriptors plan.verdict plan.slots.items)
+    → NamesFiles (changed_by w.sync.files plan.change).made (descriptors_after p.descriptors plan.verdict plan.slots.items)
     → parts' ≡ parts_after parts pid plan → AreParts (world_after w (planned w.sync pid p plan)) parts'
 parts-planned w parts parts' pid p plan h there named is =
     let at : part_at parts pid ≡ Some (part_of p) = ap (λ (xs : List Part). part_at xs pid) h.same ∙ part-seen w.sync.processes pid p there in
     record {
       same = is ∙ ap (λ (xs : List Part). parts_after xs pid plan) h.same ∙ parts-same w.sync.processes pid p plan there;
       each =
-          subst (λ (xs : List Part). AllByRecursion (IsPart (length (changed_by w.sync.files plan.change))) xs) (sym is)
-          (after-parts parts pid (length w.sync.files) (length (changed_by w.sync.files plan.change)) (part_of p) plan at
-          (changed_by_grows w.sync.files plan.change) named h.each);
+          subst (λ (xs : List Part). AllByRecursion (IsPart (changed_by w.sync.files plan.change).made) xs) (sym is)
+          (after-parts parts pid w.sync.files.made (changed_by w.sync.files plan.change).made (part_of p) plan at
+          (made_grows w.sync.files plan.change) named h.each);
     }
 
 -- ---- the pipes
@@ -112,13 +112,13 @@ pipes-quiet w v seen seen' e log pipes same h =
           (few-more (16 * length w.log) (16 * length v.log) w.sync.pipes (omega (arith, longer, size)) h.few);
     }
 
-pub parts-quiet : (w v : World) (parts parts' : List Part) → length v.sync.files ≡ length w.sync.files → map part_of v.sync.processes ≡ map part_of w.sync.processes
+pub parts-quiet : (w v : World) (parts parts' : List Part) → v.sync.files.made ≡ w.sync.files.made → map part_of v.sync.processes ≡ map part_of w.sync.processes
     → parts' ≡ parts → AreParts w parts → AreParts v parts'
 parts-quiet w v parts parts' files processes same h = record {
   same = same ∙ h.same ∙ sym processes;
   each =
       subst (λ (n : ℕ). AllByRecursion (IsPart n) parts') (sym files)
-      (subst (λ (xs : List Part). AllByRecursion (IsPart (length w.sync.files)) xs) (sym same) h.each);
+      (subst (λ (xs : List Part). AllByRecursion (IsPart w.sync.files.made) xs) (sym same) h.each);
 }
 
 pub counted-quiet : (w v : World) (served served' : ℕ) (e : Entry) → v.log ≡ w.log ++ e ∷ [] → served' ≤ served + 1 → served ≤ length w.log → served' ≤ length v.log

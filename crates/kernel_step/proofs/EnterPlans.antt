@@ -7,7 +7,7 @@ use Rattle.machine_model.specs.declared.stop.Stop.{Stop}
 use Rattle.machine_model.specs.declared.stop.Stop.TheVariants.{Limit, Call, Trap}
 use Rattle.machine_model.specs.declared.stop.Cause.{Cause}
 use Rattle.machine_model.proofs.Halting.{next-not_limit}
-use Rattle.calls.specs.Plans.{effect_of, IsPossible, NamesFiles, AreLeft, OpensAlone, MayBePlaced, EditsAs, EditsPipesAlone, IsNext, MayAllStep}
+use Rattle.calls.specs.Plans.{effect_with, Says, IsPossible, NamesFiles, AreLeft, OpensAlone, MayBePlaced, EditsAs, EditsPipesAlone, IsNext, MayAllStep}
 use Rattle.calls.specs.Sights.{Sight, IsSightOfShared, PlansCall}
 use Rattle.calls.specs.declared.plan.Plan.{Plan}
 use Rattle.processes.specs.Parts.{Part, part_of, part_at, descriptors_in, children_in, statuses_of}
@@ -15,9 +15,10 @@ use Rattle.kernel_model.specs.State.{SyncState, Shared as Seen, PipeState, Proce
 use Rattle.kernel_model.specs.Requests.{request_of}
 use Rattle.machine_model.specs.Numbers.{cause_number}
 use Rattle.kernel_model.specs.Rows.{Effect, row, row_end, number}
-use Rattle.kernel_model.specs.Steps.{Transition, step, after_enter, impossible, effect_at, set_slots, children_after, is_collected, forked, after_effect, after_effect_if}
+use Rattle.kernel_model.specs.Steps.{Transition, change_by, step, after_enter, impossible, effect_at, set_slots, children_after, is_collected, forked, after_effect, after_effect_if}
 use Rattle.kernel_model.specs.declared.carrier.Carrier.TheVariants.{Proc}
 use Rattle.kernel_model.specs.declared.descriptor.Descriptor.{Descriptor}
+use Rattle.kernel_model.specs.declared.effect.FileEdit.{FileEdit}
 use Rattle.kernel_model.specs.declared.effect.Output.{Output}
 use Rattle.kernel_model.specs.declared.effect.PipeStep.{PipeStep}
 use Rattle.kernel_model.specs.declared.effect.Slot.{Slot}
@@ -36,7 +37,7 @@ planned_told s pid p plan verdict = record {
     processes = put_process s.processes pid (record {
       state = machine_after p.state verdict;
       descriptors = descriptors_after p.descriptors verdict plan.slots.items;
-      children = children_after p.children (effect_of plan);
+      children = children_after p.children (effect_with plan None);
       status = status_after verdict p.status;
     }) ++ forked p plan.child;
     files = changed_by s.files plan.change;
@@ -96,9 +97,10 @@ pipes-alone s pid p plan verdict pipes h steps =
     ∙ ap (λ c. edited s pid p plan verdict plan.change plan.output plan.tape plan.pipes.items c None) (sym h.child)
     ∙ ap (λ c. edited s pid p plan verdict plan.change plan.output plan.tape plan.pipes.items plan.child c) (sym h.collects)
 
-told-planned : (s : SyncState) (pid : ℕ) (p : Process) (plan : Plan) (verdict : Verdict) → EditsAs verdict plan → process_at s.processes pid ≡ Some p → p.status ≡ None
-    → after_effect s pid p (effect_of plan) verdict ≡ planned_told s pid p plan verdict
-told-planned s pid p plan Waits edits there running =
+told-planned : (s : SyncState) (pid : ℕ) (p : Process) (plan : Plan) (edit : Option FileEdit) (verdict : Verdict) → plan.change ≡ change_by s.files edit
+    → EditsAs verdict plan → process_at s.processes pid ≡ Some p → p.status ≡ None
+    → after_effect s pid p (effect_with plan edit) verdict ≡ planned_told s pid p plan verdict
+told-planned s pid p plan edit Waits placed edits there running =
     let same : put_process s.processes pid (record p { children = filter (λ other. not (is_collected None other)) p.children ++ [] }) ++ [] ≡ s.processes =
     append-nil (put_process s.processes pid (record p { children = filter (λ other. not (is_collected None other)) p.children ++ [] }))
     ∙ ap (λ (cs : List ℕ). put_process s.processes pid (record p { children = cs })) (children-kept p.children)
@@ -108,16 +110,20 @@ told-planned s pid p plan Waits edits there running =
       entry = record { process = pid; reads = Proc pid ∷ plan.reads.items; writes = []; change = None; output = None; item = None; child = None };
     }) (sym same)
     ∙ pipes-alone s pid p plan Waits [] edits.0 edits.1
-told-planned s pid p plan (Replies r) edits there running =
-    ap (λ (o : Option ℕ). record {
+told-planned s pid p plan edit (Replies r) placed edits there running =
+    ap (λ (c : Option Change). replied_as None c) (sym placed) ∙ ap (λ (o : Option ℕ). replied_as o plan.change) (sym running)
+  where
+    -- the state and the entry after a reply, with this status and this change
+    replied_as : Option ℕ → Option Change → Transition
+    replied_as o c = record {
       state = record {
         processes = put_process s.processes pid (record {
           state = replied p.state r;
           descriptors = set_slots p.descriptors plan.slots.items;
-          children = children_after p.children (effect_of plan);
+          children = children_after p.children (effect_with plan None);
           status = o;
         }) ++ forked p plan.child;
-        files = changed_by s.files plan.change;
+        files = changed_by s.files c;
         pipes = all_stepped s.pipes plan.pipes.items;
         tapes = read_by s.tapes plan.tape;
       };
@@ -125,13 +131,13 @@ told-planned s pid p plan (Replies r) edits there running =
         process = pid;
         reads = Proc pid ∷ plan.reads.items;
         writes = Proc pid ∷ plan.writes.items;
-        change = plan.change;
+        change = c;
         output = plan.output;
         item = item_of (Replies r);
         child = plan.child;
       };
-    }) (sym running)
-told-planned s pid p plan (Ends status) edits there running =
+    }
+told-planned s pid p plan edit (Ends status) placed edits there running =
     let ended : List ℕ → Process = λ cs. record { state = p.state; descriptors = map (λ d. None) p.descriptors; children = cs; status = Some status } in
     let same : put_process s.processes pid (ended (filter (λ other. not (is_collected None other)) p.children ++ [])) ++ [] ≡ put_process s.processes pid (ended p.children) =
     append-nil (put_process s.processes pid (ended (filter (λ other. not (is_collected None other)) p.children ++ [])))
@@ -151,14 +157,14 @@ told-planned s pid p plan (Ends status) edits there running =
     ∙ pipes-alone s pid p plan (Ends status) plan.pipes.items edits refl
 
 -- the step of a process that is there and has not ended
-step-by : (s : SyncState) (pid : ℕ) (p : Process) (plan : Plan) (e : Effect) → effect_of plan ≡ e → EditsAs plan.verdict plan
+step-by : (s : SyncState) (pid : ℕ) (p : Process) (plan : Plan) (e : Effect) → Says s.files plan e → EditsAs plan.verdict plan
     → process_at s.processes pid ≡ Some p → p.status ≡ None → effect_at (shared s) pid p (stands_at p.state) ≡ Some e
     → step s (Enter pid) ≡ planned s pid p plan
-step-by s pid p plan e is edits there running at =
+step-by s pid p plan e says edits there running at =
     ap (λ (o : Option Process). after_enter s pid o) there
     ∙ ap (λ (o : Option ℕ). if is_some o then impossible pid s else after_effect_if s pid p (effect_at (shared s) pid p (stands_at p.state))) running
-    ∙ ap (λ (o : Option Effect). after_effect_if s pid p o) (at ∙ ap (λ (x : Effect). Some x) (sym is))
-    ∙ told-planned s pid p plan plan.verdict edits there running
+    ∙ ap (λ (o : Option Effect). after_effect_if s pid p o) (at ∙ ap (λ (x : Effect). Some x) (sym says.row))
+    ∙ told-planned s pid p plan e.edit plan.verdict says.change edits there running
 
 -- ---- what is seen of the process
 pub part-seen : (ps : List Process) (pid : ℕ) (p : Process) → process_at ps pid ≡ Some p → part_at (map part_of ps) pid ≡ Some (part_of p)
@@ -220,7 +226,7 @@ call-plans seen pid s plan stands ends calls =
     record {
       goes = λ state p sight there state_is running.
           let part : part_at seen.parts pid ≡ Some (part_of p) = part-at state seen pid p sight there in
-          step-by state pid p plan (row (shared state) pid ds (children_in (part_at seen.parts pid)) (request_of s)) (calls.effect (shared state) (kept state seen sight)) calls.edits there running
+          step-by state pid p plan (row (shared state) pid ds (children_in (part_at seen.parts pid)) (request_of s)) (calls.says (shared state) (kept state seen sight)) calls.edits there running
           (ap (λ (o : Option Stop). effect_at (shared state) pid p o) (ap stands_at state_is ∙ stands)
           ∙ ap (λ (o : Option Part). Some (row (shared state) pid (descriptors_in o) (children_in o) (request_of p.state))) (sym part)
           ∙ ap (λ (t : State). Some (row (shared state) pid ds (children_in (part_at seen.parts pid)) (request_of t))) state_is);
@@ -229,7 +235,7 @@ call-plans seen pid s plan stands ends calls =
       one_child = calls.one_entry.child_or_collects;
       possible = calls.possible;
       left = calls.left;
-      named = names-after (length (changed_by seen.files plan.change)) 0 ds plan.verdict plan.slots.items calls.named (λ r waits. waits-nothing plan plan.verdict calls.edits waits);
+      named = names-after (changed_by seen.files plan.change).made 0 ds plan.verdict plan.slots.items calls.named (λ r waits. waits-nothing plan plan.verdict calls.edits waits);
       steps = record { kind = calls.opens; few = calls.few };
       may = calls.steps x ends.most look ends.few ends.room;
       child = calls.child;
@@ -238,26 +244,26 @@ call-plans seen pid s plan stands ends calls =
 -- ---- at a trap
 pub trap-plans : (seen : Sight) (pid : ℕ) (s : State) (plan : Plan) (cause : Cause) (status : ℕ)
     → stands_at s ≡ Some (Trap cause) → status ≡ 256 + cause_number cause
-    → effect_of plan ≡ row_end (descriptors_in (part_at seen.parts pid)) status
+    → effect_with plan None ≡ row_end (descriptors_in (part_at seen.parts pid)) status → plan.change ≡ None
     → EditsAs plan.verdict plan → OpensAlone plan.pipes.items → length plan.pipes.items ≤ 16 → MayAllStep seen.pipes plan.pipes.items
     → PlansEnter seen pid s plan
-trap-plans seen pid s plan cause status stands number is edits opens few may =
+trap-plans seen pid s plan cause status stands number is none edits opens few may =
     let ds : List (Option Descriptor) = descriptors_in (part_at seen.parts pid) in
     record {
       goes = λ state p sight there state_is running.
           let part : part_at seen.parts pid ≡ Some (part_of p) = part-at state seen pid p sight there in
-          step-by state pid p plan (row_end ds status) is edits there running
+          step-by state pid p plan (row_end ds status) (record { row = is; change = none }) edits there running
           (ap (λ (o : Option Stop). effect_at (shared state) pid p o) (ap stands_at state_is ∙ stands)
           ∙ ap (λ (o : Option Part). Some (row_end (descriptors_in o) (256 + cause_number cause))) (sym part)
           ∙ ap (λ n. Some (row_end ds n)) (sym number));
       verdict = subst (λ (v : Verdict). MayBeTold s v) (sym (ap (λ (e : Effect). e.verdict) is)) tt;
       edits = edits;
       one_child = inl (ap (λ (e : Effect). e.child) is);
-      possible = subst (λ (o : Option Change). IfSome o (IsPossible seen.files)) (sym (ap (λ (e : Effect). e.change) is)) tt;
+      possible = subst (λ (o : Option Change). IfSome o (IsPossible seen.files.living)) (sym none) tt;
       left = subst (λ (o : Option TapeRead). IfSome o (AreLeft seen.tapes)) (sym (ap (λ (e : Effect). e.tape) is)) tt;
       named =
-          subst (λ (v : Verdict). NamesFiles (length (changed_by seen.files plan.change)) (descriptors_after ds v plan.slots.items)) (sym (ap (λ (e : Effect). e.verdict) is))
-          (closed-names (length (changed_by seen.files plan.change)) ds);
+          subst (λ (v : Verdict). NamesFiles (changed_by seen.files plan.change).made (descriptors_after ds v plan.slots.items)) (sym (ap (λ (e : Effect). e.verdict) is))
+          (closed-names (changed_by seen.files plan.change).made ds);
       steps = record { kind = opens; few = few };
       may = may;
       child = subst (λ (o : Option ℕ). IfSome o (IsNext (length seen.parts))) (sym (ap (λ (e : Effect). e.child) is)) tt;
@@ -265,14 +271,15 @@ trap-plans seen pid s plan cause status stands number is edits opens few may =
 
 pub trap-result : {E : Type 0} (seen : Sight) (pid : ℕ) (s : State) (r : Result Plan E) (cause : Cause) (status : ℕ)
     → stands_at s ≡ Some (Trap cause) → status ≡ 256 + cause_number cause
-    → IfOk r (λ plan. effect_of plan ≡ row_end (descriptors_in (part_at seen.parts pid)) status)
+    → IfOk r (λ plan. effect_with plan None ≡ row_end (descriptors_in (part_at seen.parts pid)) status)
+    → IfOk r (λ plan. plan.change ≡ None)
     → IfOk r (λ plan. EditsAs plan.verdict plan)
     → IfOk r (λ plan. OpensAlone plan.pipes.items)
     → IfOk r (λ plan. length plan.pipes.items ≤ 16)
     → IfOk r (λ plan. MayAllStep seen.pipes plan.pipes.items)
     → IfOk r (λ plan. PlansEnter seen pid s plan)
-trap-result seen pid s (Ok plan) cause status stands number is edits opens few may = trap-plans seen pid s plan cause status stands number is edits opens few may
-trap-result seen pid s (Err e) cause status stands number is edits opens few may = tt
+trap-result seen pid s (Ok plan) cause status stands number is none edits opens few may = trap-plans seen pid s plan cause status stands number is none edits opens few may
+trap-result seen pid s (Err e) cause status stands number is none edits opens few may = tt
 
 -- a state that stands somewhere, and at no trap, stands at a call
 pub stands-call : (s : State) (stop : Stop) → stands_at s ≡ Some stop → ((c : Cause) → stop ≡ Trap c → ⊥) → stop ≡ Call

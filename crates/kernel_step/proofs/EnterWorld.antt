@@ -4,6 +4,9 @@ use Rattle.std.proofs.lemmas.List.{length-map, map-append}
 use Rattle.std.specs.List.{AllByRecursion}
 use Rattle.disk_model.specs.declared.change.Change.{Change}
 use Rattle.disk_model.specs.declared.change.NamedFile.{NamedFile}
+use Rattle.disk_model.specs.Numbers.{Numbered}
+use Rattle.kernel_model.specs.Limits.{AreNumbered}
+use Rattle.kernel_model.proofs.Numbering.{made_by_one, numbered_changed}
 use Rattle.disk_model.specs.Files.{IsFormed, IsMade, MayCome, changed}
 use Rattle.disk_model.specs.Rebuild.{CanBeRebuilt}
 use Rattle.disk_model.proofs.Lists.{each_get, each_append}
@@ -79,16 +82,20 @@ pub part-there : (w : World) (tasks : List Task) (s : System) (pid : ℕ) (t : T
     → part_at s.processes.parts pid ≡ Some (part_of of.process)
 part-there w tasks s pid t h of = ap (λ (xs : List Part). part_at xs pid) h.parts.same ∙ part-seen w.sync.processes pid of.process of.there
 
+-- one more file may be counted
+pub fresh-files : (w : World) (s : System) → AreChanges w s → length w.log ≤ 2 ^ 40 → s.files.made + 1 < 2 ^ 64
+fresh-files w s h short = omega (arith, h.fresh, ap (λ (fs : Numbered). fs.made) h.files, short)
+
 pub may-plan : RebuiltLaw → (w : World) (tasks : List Task) (s : System) (pid place : ℕ) (t : Task) → Mirrors w tasks s → length w.log ≤ 2 ^ 40
     → pid ≡ place + 1 → slice_get tasks place ≡ Some t → MayPlan (sight_in s) pid
 may-plan law w tasks s pid place t h short number there =
-    let made : IsMade s.files = subst (λ (fs : List NamedFile). IsMade fs) (sym h.changes.files) h.changes.made in
-    let rebuilt : CanBeRebuilt s.files = law s.files made in
+    let made : IsMade s.files.living = subst (λ (fs : Numbered). IsMade fs.living) (sym h.changes.files) h.changes.made in
+    let rebuilt : CanBeRebuilt s.files.living = law s.files.living made in
     let of : IsProcessOf w.sync.processes pid t = process-there w s.served tasks pid place t h.each number there in
     let at : part_at s.processes.parts pid ≡ Some (part_of of.process) = part-there w tasks s pid t h of in
     let next : pid ≡ suc place = omega arith in
-    let part : IsPart (length w.sync.files) (part_of of.process) =
-    each_get (IsPart (length w.sync.files)) s.processes.parts place (part_of of.process) h.parts.each (ap (λ (k : ℕ). part_at s.processes.parts k) (sym next) ∙ at) in
+    let part : IsPart w.sync.files.made (part_of of.process) =
+    each_get (IsPart w.sync.files.made) s.processes.parts place (part_of of.process) h.parts.each (ap (λ (k : ℕ). part_at s.processes.parts k) (sym next) ∙ at) in
     let within : place < length tasks = get-within tasks place t there in
     let size : length tasks ≡ length s.processes.parts = as-many w tasks s h in
     record {
@@ -97,9 +104,10 @@ may-plan law w tasks s pid place t h short number there =
         there = omega (arith, number, within, size);
         few = rebuilt.few;
         short = rebuilt.short;
+        numbered = subst AreNumbered (sym h.changes.files) h.changes.numbered;
         named =
-            subst (λ (o : Option Part). NamesFiles (length s.files) (descriptors_in o)) (sym at)
-            (subst (λ (fs : List NamedFile). NamesFiles (length fs) of.process.descriptors) (sym h.changes.files) part.named);
+            subst (λ (o : Option Part). NamesFiles s.files.made (descriptors_in o)) (sym at)
+            (subst (λ (fs : Numbered). NamesFiles fs.made of.process.descriptors) (sym h.changes.files) part.named);
       };
       ends = record { pipes = w.sync.pipes; most = 16 * length w.log; shown = h.pipes.shown; few = h.pipes.few; room = omega (arith, short) };
     }
@@ -115,9 +123,9 @@ pub enter-happens : (w : World) (pid : ℕ) (t : Transition) → step w.sync (En
 enter-happens w pid t goes = ap (λ (x : Transition). world_after w x) goes
 
 -- ---- the changes
-made-one : ChangeLaw → (files : List NamedFile) (o : Option Change) → IfSome o (IsPossible files) → IsMade files → IsMade (changed_by files o)
+made-one : ChangeLaw → (files : Numbered) (o : Option Change) → IfSome o (IsPossible files.living) → IsMade files.living → IsMade (changed_by files o).living
 made-one law files None h made = made
-made-one law files (Some c) h made = law files c made h.0 h.1
+made-one law files (Some c) h made = law files.living c made h.0 h.1
 
 formed-one : (files : List NamedFile) (o : Option Change) → IfSome o (IsPossible files) → AllByRecursion IsFormed (option_to_list o)
 formed-one files None h = tt
@@ -125,22 +133,30 @@ formed-one files (Some c) h = (h.0, tt)
 
 changes-more : ChangeLaw → (w : World) (t : Transition) (s s' : System) (change : Option Change)
     → t.entry.change ≡ change → t.state.files ≡ changed_by w.sync.files change
-    → IfSome change (IsPossible s.files)
+    → IfSome change (IsPossible s.files.living)
     → s'.changes.items ≡ s.changes.items ++ option_to_list change → s'.files ≡ changed_by s.files change
     → AreChanges w s → AreChanges (world_after w t) s'
 changes-more law w t s s' change makes files possible more new h =
     let one : List Change = option_to_list change in
     let all : changes_in_log (w.log ++ t.entry ∷ []) ≡ changes_in_log w.log ++ one =
     changes_in_log-entry w.log t.entry ∙ ap (λ (o : Option Change). changes_in_log w.log ++ option_to_list o) makes in
-    let same : s'.files ≡ t.state.files = new ∙ ap (λ (fs : List NamedFile). changed_by fs change) h.files ∙ sym files in
-    let made : IsMade s.files = subst (λ (fs : List NamedFile). IsMade fs) (sym h.files) h.made in
+    let same : s'.files ≡ t.state.files = new ∙ ap (λ (fs : Numbered). changed_by fs change) h.files ∙ sym files in
+    let made : IsMade s.files.living = subst (λ (fs : Numbered). IsMade fs.living) (sym h.files) h.made in
     record {
       changes = more ∙ ap (λ (cs : List Change). cs ++ one) h.changes ∙ sym all;
       formed =
           subst (λ (cs : List Change). AllByRecursion IsFormed cs) (sym all)
-          (each_append IsFormed (changes_in_log w.log) one h.formed (formed-one s.files change possible));
+          (each_append IsFormed (changes_in_log w.log) one h.formed (formed-one s.files.living change possible));
       files = same;
-      made = subst (λ (fs : List NamedFile). IsMade fs) (sym new ∙ same) (made-one law s.files change possible made);
+      made = subst (λ (fs : Numbered). IsMade fs.living) (sym new ∙ same) (made-one law s.files change possible made);
+      numbered = subst AreNumbered (sym files) (numbered_changed w.sync.files change h.numbered);
+      fresh = omega (
+        arith,
+        h.fresh,
+        ap (λ (fs : Numbered). fs.made) files,
+        made_by_one w.sync.files change,
+        length-append w.log (t.entry ∷ []),
+      );
     }
 
 -- the lendings stay
@@ -207,8 +223,8 @@ done-runs laws w tasks s s' pid place full t t' outcome child h number there fin
         tapes = done.system.tapes ∙ ap (λ (ts : List TapeState). read_by ts plan.tape) h.tapes;
         parts =
             parts-planned w s.processes.parts s'.processes.parts pid of.process plan h.parts of.there
-            (subst (λ (fs : List NamedFile). NamesFiles (length (changed_by fs plan.change)) (descriptors_after of.process.descriptors plan.verdict plan.slots.items)) h.changes.files
-            (subst (λ (o : Option Part). NamesFiles (length (changed_by s.files plan.change)) (descriptors_after (descriptors_in o) plan.verdict plan.slots.items)) at done.plans.named))
+            (subst (λ (fs : Numbered). NamesFiles (changed_by fs plan.change).made (descriptors_after of.process.descriptors plan.verdict plan.slots.items)) h.changes.files
+            (subst (λ (o : Option Part). NamesFiles (changed_by s.files plan.change).made (descriptors_after (descriptors_in o) plan.verdict plan.slots.items)) at done.plans.named))
             done.system.parts;
         pipes =
             subst (λ (y : List Seen). ArePipes v y) (sym done.system.pipes)

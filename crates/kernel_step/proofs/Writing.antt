@@ -11,6 +11,7 @@ use Rattle.disk_model.specs.Rebuild.{rebuild}
 use Rattle.disk_model.proofs.Lists.{each_drop}
 use Rattle.disk_model.specs.declared.change.Change.{Change}
 use Rattle.disk_model.specs.declared.change.NamedFile.{NamedFile}
+use Rattle.disk_model.specs.Numbers.{Numbered}
 use Rattle.kernel_model.specs.Answers.{Refuses, Applies, refusal, cut_refusal, write_refusal, is_full, Lending, changes_to_commit, writes_to_come}
 use Rattle.kernel_model.specs.Entries.{Entry, Item}
 use Rattle.kernel_model.specs.Paths.{changes_in_log}
@@ -292,8 +293,8 @@ pub changes-formed : (w : World) (s : System) (n : ℕ) → AreChanges w s → A
 changes-formed w s n h = subst (λ (cs : List Change). AllByRecursion IsFormed (drop n cs)) (sym h.changes)
     (each_drop IsFormed n (changes_in_log w.log) h.formed)
 
-pub files-made : (w : World) (s : System) → AreChanges w s → IsMade s.files
-files-made w s h = subst (λ (fs : List NamedFile). IsMade fs) (sym h.files) h.made
+pub files-made : (w : World) (s : System) → AreChanges w s → IsMade s.files.living
+files-made w s h = subst (λ (fs : Numbered). IsMade fs.living) (sym h.files) h.made
 
 pub cut-refusal-is : (b : Boot) (history : List Event) (tasks : List Task) (s : System) (last : ℕ) (full : Bool) → KeepsRun b history tasks s
     → full ≡ full_of (length history) tasks
@@ -309,22 +310,22 @@ cut-fine st cs full h = (none-of-four full (not (is_empty st.device.failed)) (no
 
 -- the storage after a Cut of the kernel is that of the run
 cut-same : (w : World) (s : System) → AreChanges w s → s.committer ≡ w.storage
-    → cut s.committer (drop s.committer.committed s.changes.items) s.files ≡ cut w.storage (drop w.storage.committed (changes_in_log w.log)) w.sync.files
+    → cut s.committer (drop s.committer.committed s.changes.items) s.files.living ≡ cut w.storage (drop w.storage.committed (changes_in_log w.log)) w.sync.files.living
 cut-same w s h committer =
-    ap (λ (st : Storage). cut st (drop st.committed s.changes.items) s.files) committer
-    ∙ ap (λ (cs : List Change). cut w.storage (drop w.storage.committed cs) s.files) h.changes
-    ∙ ap (λ (fs : List NamedFile). cut w.storage (drop w.storage.committed (changes_in_log w.log)) fs) h.files
+    ap (λ (st : Storage). cut st (drop st.committed s.changes.items) s.files.living) committer
+    ∙ ap (λ (cs : List Change). cut w.storage (drop w.storage.committed cs) s.files.living) h.changes
+    ∙ ap (λ (fs : Numbered). cut w.storage (drop w.storage.committed (changes_in_log w.log)) fs.living) h.files
 
 pub cut-core : SilentLaw → (b : Boot) (history history' : List Event) (tasks : List Task) (s : System) (d : Storage) (full : Bool) (r : Result Answer Refused)
     → KeepsRun b history tasks s → full ≡ full_of (length history) tasks
-    → IfOk r (WasCut s.committer d s.changes.items s.files full history history')
+    → IfOk r (WasCut s.committer d s.changes.items s.files.living full history history')
     → OnErr r (IsUncut s.committer d history history')
     → KeepsRun b history' tasks (record s { committer = d })
 cut-core law b history history' tasks s d full (Ok a) h is done x =
     let w : World = run_of b history in
-    let st : Storage = cut w.storage (drop w.storage.committed (changes_in_log w.log)) w.sync.files in
+    let st : Storage = cut w.storage (drop w.storage.committed (changes_in_log w.log)) w.sync.files.living in
     let same : d ≡ st = done.committer ∙ cut-same w s h.mirrors.changes h.mirrors.committer in
-    let none : st.committed ≡ w.storage.committed = cut-committed w.storage (drop w.storage.committed (changes_in_log w.log)) w.sync.files in
+    let none : st.committed ≡ w.storage.committed = cut-committed w.storage (drop w.storage.committed (changes_in_log w.log)) w.sync.files.living in
     stored-core b history history' tasks tasks s (record s { committer = d }) Cut st full h is (cut-fine s.committer (drop s.committer.committed s.changes.items) full done.fine) done.history refl
     (subst (λ (c : ℕ). AreMoved c tasks tasks) (sym none) (tasks-still w s.served tasks h.mirrors.each))
     (still-mirrors law w st d tasks s h.mirrors same none)
@@ -332,7 +333,7 @@ cut-core law b history history' tasks s d full (Err why) h is done x = same-stor
 
 pub cut-applies : (b : Boot) (history history' : List Event) (tasks : List Task) (s : System) (d : Storage) (last : ℕ) (full : Bool) (r : Result Answer Refused)
     → KeepsRun b history tasks s → full ≡ full_of (length history) tasks
-    → IfOk r (WasCut s.committer d s.changes.items s.files full history history')
+    → IfOk r (WasCut s.committer d s.changes.items s.files.living full history history')
     → IfErr r (Refuses (cut_refusal s.committer (drop s.committer.committed s.changes.items) full)) → OnErr r (IsUncut s.committer d history history')
     → Applies (kernel_of b history tasks last) Cut (kernel_of b history' tasks last) r
 cut-applies b history history' tasks s d last full (Ok a) h is done why x =

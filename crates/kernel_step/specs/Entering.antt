@@ -6,7 +6,7 @@ use Rattle.disk_model.specs.declared.change.NamedFile.{NamedFile}
 use Rattle.machine_model.specs.Access.{is_writable}
 use Rattle.machine_model.specs.States.{State, stands_at, replied}
 use Rattle.machine_model.specs.declared.stop.Stop.TheVariants.{Call}
-use Rattle.calls.specs.Plans.{effect_of, IsPossible, NamesFiles, AreLeft, EditsAs, IsNext, MayAllStep, OpensAlone, OpensNone, all_seen}
+use Rattle.calls.specs.Plans.{effect_with, IsPossible, NamesFiles, AreLeft, EditsAs, IsNext, MayAllStep, OpensAlone, OpensNone, all_seen}
 use Rattle.calls.specs.Sights.{Sight, MayPlanCall}
 use Rattle.calls.specs.declared.plan.Plan.{Plan}
 use Rattle.commit_deps.specs.Keeps.{Keeps}
@@ -119,7 +119,7 @@ entry_of pid plan = record {
 abbrev pub part_after : Part → Plan → Part
 part_after part plan = record {
   descriptors = descriptors_after part.descriptors plan.verdict plan.slots.items;
-  children = children_after part.children (effect_of plan);
+  children = children_after part.children (effect_with plan None);
   status = status_after plan.verdict part.status;
 }
 
@@ -134,7 +134,7 @@ process_after p plan = record {
 
 -- the process's part once it has made a child of this number or collected this one
 abbrev pub family_of : Part → Plan → Part
-family_of part plan = record part { children = children_after part.children (effect_of plan) }
+family_of part plan = record part { children = children_after part.children (effect_with plan None) }
 
 -- the part of the process that is made, if one is
 abbrev pub born : Option Part → Option ℕ → List Part
@@ -175,9 +175,9 @@ pub record PlansEnter (seen : Sight) (pid : ℕ) (s : State) (plan : Plan) : Typ
   pub verdict : MayBeTold s plan.verdict
   pub edits : EditsAs plan.verdict plan
   pub one_child : (plan.child ≡ None) ⊎ (plan.collects ≡ None)
-  pub possible : IfSome plan.change (IsPossible seen.files)
+  pub possible : IfSome plan.change (IsPossible seen.files.living)
   pub left : IfSome plan.tape (AreLeft seen.tapes)
-  pub named : NamesFiles (length (changed_by seen.files plan.change)) (descriptors_after (descriptors_in (part_at seen.parts pid)) plan.verdict plan.slots.items)
+  pub named : NamesFiles (changed_by seen.files plan.change).made (descriptors_after (descriptors_in (part_at seen.parts pid)) plan.verdict plan.slots.items)
   pub steps : AreSteps plan.pipes.items
   pub may : MayAllStep seen.pipes plan.pipes.items
   pub child : IfSome plan.child (IsNext (length seen.parts))

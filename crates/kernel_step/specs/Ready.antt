@@ -19,13 +19,14 @@ use Rattle.kernel_step.specs.declared.system.System.{System}
 use Rattle.kernel_step.specs.declared.task.Task.{Task}
 
 -- Process pid may enter by this machine and with this trace: it stands at a call or a trap, may do one more instruction, and has
--- not ended; a plan may be made for it, and one more Enter may be counted.
+-- not ended; a plan may be made for it, and one more Enter and one more file may be counted.
 pub record MayEnter (s : System) (pid : ℕ) (m : State) (trace : Withheld Item) : Type 0 where
   pub stands : is_some (stands_at m) ≡ true
   pub budget : m.count < 2 ^ 40
   pub running : end_in (whats trace.items) ≡ None
   pub plan : MayPlan (sight_in s) pid
   pub few : s.served < 2 ^ 63
+  pub fresh : s.files.made + 1 < 2 ^ 64
 
 -- ---- room
 
@@ -82,6 +83,7 @@ pub record MayChangeSystem (s : System) (pid : ℕ) (plan : Plan) (pipe : Option
   pub spare : IsSpare plan.pipes.items pipe
   pub may : MayAllStep s.pipes plan.pipes.items
   pub few : s.served < 2 ^ 63
+  pub fresh : s.files.made + 1 < 2 ^ 64
 
 -- the rest of an Enter may be done
 pub record IsReady (t : Task) (s : System) (e : Entering) : Type 0 where

@@ -2,6 +2,7 @@
 ghost use Rattle.std.specs.Prelude.{ℕ, List, ◌≡◌, ◌<◌, ◌≤◌, [], length, map, IfOk};
 ghost use Rattle.std.specs.List.{AllByRecursion};
 ghost use Rattle.disk_model.specs.Files.{IsMade};
+ghost use Rattle.disk_model.specs.Numbers.{numbered};
 ghost use Rattle.disk_model.specs.Runs.{first_storage};
 ghost use Rattle.kernel_model.specs.World.{Boot};
 ghost use Rattle.kernel_model.specs.Bytes.{ProgramsHoldBytes, TapesHoldBytes};
@@ -43,14 +44,15 @@ impl Running {
         committer: Committer,
     ) -> Result<Running, AllocError>
         requires few { length programs.now ≤ 8 }
-        requires made { IsMade files }
+        requires made { IsMade files.living }
+        requires numbered { files ≡ numbered files.living }
         ensures stands { IfOk result (λ r. (disk : List ℕ) (gate : ℕ) → committer ≡ first_storage disk gate
-            → Stands (boot_with programs.now tapes.value.items files disk gate) r) }
+            → Stands (boot_with programs.now tapes.value.items files.living disk gate) r) }
         ensures history { IfOk result (λ r. (b : Boot) → (kernel_in b r).history ≡ []) }
         ensures lendings { IfOk result (λ r. (b : Boot) → (kernel_in b r).lendings ≡ map nothing_lent programs.now) }
         ensures last_lent { IfOk result (λ r. (b : Boot) → (kernel_in b r).last_lent ≡ 0) }
-        ensures bytes { IfOk result (λ r. (disk : List ℕ) (gate : ℕ) → ProgramsHoldBytes (boot_with programs.now tapes.value.items files disk gate)) }
-        ensures tapes { IfOk result (λ r. (disk : List ℕ) (gate : ℕ) → TapesHoldBytes (boot_with programs.now tapes.value.items files disk gate)) }
+        ensures bytes { IfOk result (λ r. (disk : List ℕ) (gate : ℕ) → ProgramsHoldBytes (boot_with programs.now tapes.value.items files.living disk gate)) }
+        ensures tapes { IfOk result (λ r. (disk : List ℕ) (gate : ℕ) → TapesHoldBytes (boot_with programs.now tapes.value.items files.living disk gate)) }
     {
         hold_bytes(&tapes);
         let tasks = first_tasks(alloc, programs)?;

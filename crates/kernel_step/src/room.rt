@@ -1,5 +1,5 @@
 //! The memory for an Enter, taken before anything of it is done.
-ghost use Rattle.std.specs.Prelude.{◌≡◌, ◌<◌, ◌≤◌, length, IfOk, OnOk, OnErr};
+ghost use Rattle.std.specs.Prelude.{◌≡◌, ◌+◌, ◌^◌, ◌<◌, ◌≤◌, length, IfOk, OnOk, OnErr};
 ghost use Rattle.kernel_model.specs.State.{changed_by};
 ghost use Rattle.withheld.specs.Withheld.{IsSame};
 ghost use Rattle.kernel_step.specs.Entering.{HasSpaceFor, StayScreens, IsSameSystem, IsSystemWith};
@@ -37,6 +37,7 @@ fn reserve_output(
 
 /// Does a change of the files, if there is one. Where memory runs out nothing has changed.
 fn change_files(files: &mut FileTable, change: &Option<Change>) -> Result<(), AllocError>
+    requires { files.old.made + 1 < 2 ^ 64 }
     ensures ok { OnOk result (files.new ≡ changed_by files.old change.now) }
     ensures err { OnErr result (files.new ≡ files.old) }
 {
@@ -51,6 +52,7 @@ fn change_files(files: &mut FileTable, change: &Option<Change>) -> Result<(), Al
 fn ready(system: &mut System, pid: u32, plan: &Plan) -> Result<(), AllocError>
     requires from_1 { 0 < pid }
     requires there { pid ≤ length system.old.processes.parts }
+    requires fresh { system.old.files.made + 1 < 2 ^ 64 }
     ensures holds { OnOk result (HasRoomForPlan system.new pid plan.now) }
     ensures room { system.old.dependencies.room ≤ system.new.dependencies.room }
     ensures done { OnOk result (IsSystemWith (changed_by system.old.files plan.now.change) system.old system.new) }
@@ -72,6 +74,7 @@ fn take_room(
 ) -> Result<(), AllocError>
     requires from_1 { 0 < entering.now.pid }
     requires there { entering.now.pid ≤ length system.old.processes.parts }
+    requires fresh { system.old.files.made + 1 < 2 ^ 64 }
     ensures history { history.new.items ≡ history.old.items }
     ensures trace { IsSame trace.old trace.new }
     ensures holds { OnOk result (HasRoomForEnter history.new trace.new system.new entering.now) }

@@ -39,9 +39,9 @@ fn cut_refused(committer: &Committer, changes: &[Change], full: bool) -> Option<
 /// A group of the first uncommitted changes, or a checkpoint, is submitted to the disk. Refused, with nothing changed:
 /// Budget, where the history is full; DiskFailed; GroupInFlight; NothingToCut; OutOfMemory.
 pub fn cut(history: &mut Vec<Event>, system: &mut System, full: bool) -> Result<Answer, Refused>
-    requires possible { IsMade system.old.files }
+    requires possible { IsMade system.old.files.living }
     requires formed { AllByRecursion IsFormed (drop system.old.committer.committed system.old.changes.items) }
-    ensures done { IfOk result (WasCut system.old.committer system.new.committer system.old.changes.items system.old.files full history.old.items history.new.items) }
+    ensures done { IfOk result (WasCut system.old.committer system.new.committer system.old.changes.items system.old.files.living full history.old.items history.new.items) }
     ensures refused { IfErr result (Refuses (cut_refusal system.old.committer (drop system.old.committer.committed system.old.changes.items) full)) }
     ensures same { OnErr result (IsUncut system.old.committer system.new.committer history.old.items history.new.items) }
     ensures only { system.new ≡ record system.old { committer = system.new.committer } }

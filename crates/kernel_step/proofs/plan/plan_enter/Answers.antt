@@ -1,6 +1,6 @@
 -- A plan, at a trap and at a call.
-use Rattle.std.proofs.Common.{◌≡◌, ◌∙◌, ap, Some, sym, subst, List, Option, IfOk}
-use Rattle.calls.specs.Plans.{effect_of}
+use Rattle.std.proofs.Common.{◌≡◌, ◌∙◌, ap, Some, None, sym, subst, List, Option, IfOk}
+use Rattle.calls.specs.Plans.{effect_with}
 use Rattle.calls.specs.Sights.{Sight, MayPlanCall, PlansCall}
 use Rattle.kernel_model.specs.Rows.{row_end}
 use Rattle.kernel_model.specs.declared.descriptor.Descriptor.{Descriptor}
@@ -15,7 +15,8 @@ returns-in-Trap c =
     trap-result (sight_in c.args.system.now) c.args.pid c.args.machine.now c.plan_end.result c.in-Trap.cause c.trap_status.result
     (c.requires.stands ∙ ap (λ (s : Stop). Some s) c.in-Trap.is)
     c.trap_status.ensures
-    (subst (λ (ds : List (Option Descriptor)). IfOk c.plan_end.result (λ plan. effect_of plan ≡ row_end ds c.trap_status.result)) c.descriptors_of-descriptors.ensures c.plan_end.ensures.row)
+    (subst (λ (ds : List (Option Descriptor)). IfOk c.plan_end.result (λ plan. effect_with plan None ≡ row_end ds c.trap_status.result)) c.descriptors_of-descriptors.ensures c.plan_end.ensures.row)
+    c.plan_end.ensures.change
     c.plan_end.ensures.edits
     c.plan_end.ensures.opens
     c.plan_end.ensures.few

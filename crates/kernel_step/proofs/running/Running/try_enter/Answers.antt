@@ -13,7 +13,7 @@ use Rattle.kernel_step.specs.declared.system.System.{System}
 use Rattle.kernel_step.specs.declared.task.Task.{Task}
 use Rattle.kernel_step.proofs.EnterFine.{IsFineTask, fine-task}
 use Rattle.kernel_step.proofs.EnterResults.{on-err-any}
-use Rattle.kernel_step.proofs.EnterWorld.{IsRun, may-plan, done-runs, same-mirrors, same-lendings}
+use Rattle.kernel_step.proofs.EnterWorld.{IsRun, fresh-files, may-plan, done-runs, same-mirrors, same-lendings}
 use Rattle.kernel_step.proofs.Lists.{get-reserved}
 use Rattle.kernel_step.proofs.running.Running.try_enter.Goals as goal
 use Rattle.kernel_step.proofs.running.Running.try_enter.Goals.{After-index_mut-task}
@@ -50,6 +50,7 @@ enter_task-requires-clause-fine c =
           may-plan c.checkpoints_fit.ensures c.requires.world c.args.self.now.tasks.items c.args.self.now.system c.args.pid c.in_ok-place.place c.index_mut-task.result.now
           c.requires.mirrors c.requires.short (placed t).number (there t);
       few = omega (arith, served, short);
+      fresh = fresh-files c.requires.world c.args.self.now.system c.requires.mirrors.changes c.requires.short;
     }
 
 -- the run after it
