@@ -78,7 +78,7 @@ happens-within w e h =
     let more : length (changes_in_log (happens w e).log) ≡ length (changes_in_log w.log) + length _ =
     ap (λ (cs : List Change). length cs) (changes_in_log-entry w.log (step w.sync e).entry) ∙ length-append (changes_in_log w.log) _ in
     within-more (changes w) (changes (happens w e)) (happens w e).storage (omega (arith, more))
-    (stored-within (changes w) w.storage (changes_in_log w.log) w.sync.files e refl h)
+    (stored-within (changes w) w.storage (changes_in_log w.log) w.sync.files.living e refl h)
 
 after-within : (w : World) (es : List Event) → IsWithin (changes w) w.storage → IsWithin (changes (after w es)) (after w es).storage
 after-within w [] h = h
@@ -115,7 +115,7 @@ completed-sound st at (Some p) = advanced-sound (record st { device = with_compl
 
 stays-sound : (k : Kernel) (o : Option ℕ) → (now (with_event k (completion_or_cut o))).storage.device.failed ≡ (now k).storage.device.failed
 stays-sound k None =
-    ap (λ (w : World). w.storage.device.failed) (now-with_event k Cut) ∙ cut-sound (now k).storage (uncommitted (now k)) (now k).sync.files
+    ap (λ (w : World). w.storage.device.failed) (now-with_event k Cut) ∙ cut-sound (now k).storage (uncommitted (now k)) (now k).sync.files.living
 stays-sound k (Some at) =
     ap (λ (w : World). w.storage.device.failed) (now-with_event k (Complete at))
     ∙ completed-sound (now k).storage at (piece_at (now k).storage.device.in_flight at)

@@ -92,7 +92,7 @@ impl Core {
 
     /// The files that the disk held at boot.
     pub fn boot_files(&self) -> &FileTable
-        ensures { result.now ≡ self.now.boot.files }
+        ensures { result.now.living ≡ self.now.boot.files }
     {
         &self.booted.files
     }

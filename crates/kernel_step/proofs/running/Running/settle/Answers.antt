@@ -12,7 +12,7 @@ use Rattle.kernel_step.specs.declared.task.Task.{Task}
 use Rattle.kernel_step.proofs.Counting.{counted-few}
 use Rattle.kernel_step.proofs.Lists.{get-there}
 use Rattle.kernel_step.proofs.EnterCore.{log-short, served-few}
-use Rattle.kernel_step.proofs.EnterWorld.{may-plan}
+use Rattle.kernel_step.proofs.EnterWorld.{fresh-files, may-plan}
 use Rattle.kernel_step.proofs.SettleCore.{loan-own, not-there, get-one}
 use Rattle.kernel_step.proofs.Settled.{turn-settles, call-settles}
 use Rattle.kernel_step.proofs.SettleWorld.{out-running}
