@@ -1,10 +1,11 @@
 -- The marks of carriers stay those of the log.
-use Rattle.std.proofs.Common.{◌≡◌, ℕ, zero, suc, ◌+◌, ◌<◌, ◌≤◌, Bool, true, false, if◌then◌else◌, List, [], ◌∷◌, ◌++◌, length, Option, Some, None, is_some, IfSome, unwrap_or, not, nat_lt, nat_le, ◌||◌, ◌&&◌, max, refl, sym, ap, subst, ◌∙◌, arith, take, drop, get_or, set}
-use Rattle.std.specs.List.{find, list_any, position, position_or_len, AllByRecursion}
+use Rattle.std.proofs.Common.{◌≡◌, ℕ, ◌+◌, ◌<◌, ◌≤◌, Bool, true, false, if◌then◌else◌, List, [], ◌∷◌, ◌++◌, length, Option, Some, None, is_some, IfSome, unwrap_or, not, nat_lt, nat_le, ◌||◌, ◌&&◌, max, refl, sym, ap, subst, ◌∙◌, arith, take, drop, get_or}
+use Rattle.std.specs.List.{find, AllByRecursion}
+use Rattle.std.specs.Map.{lookup, set_value}
+use Rattle.indexmap.specs.IndexMap.{insert_entry}
 use Rattle.std.specs.Option.{option_map}
-use Rattle.std.proofs.lemmas.Bool.{false≢true, eqb-true, eq-eqb, leb-true, le-leb, ltb-true, lt-ltb, and_parts, and_from, or_parts}
+use Rattle.std.proofs.lemmas.Bool.{false≢true, eqb-true, eq-eqb, leb-true, le-leb, ltb-true, lt-ltb, and_parts, and_from}
 use Rattle.std.proofs.lemmas.List.{take_more}
-use Rattle.std.proofs.lemmas.List.Quantifiers.{position-Some}
 use Rattle.std.proofs.lemmas.List.Folds.{list_any-append}
 use Rattle.std.proofs.lemmas.List.Sums.{count_by-le-length, sum_by-cons, sum_by-drop_more}
 use Rattle.std.proofs.Math.Bool.{and-true, and_assoc, and_comm, or-true, or-false}
@@ -14,7 +15,7 @@ use Rattle.kernel_model.specs.Entries.{Entry, is_same, is_among, meets}
 use Rattle.kernel_model.specs.Paths.{is_durable, change_count, changes_in_log, with_change}
 use Rattle.kernel_model.proofs.Paths.{count_of}
 use Rattle.disk_model.specs.declared.change.Change.{Change}
-use Rattle.commit_deps.specs.declared.dependencies.Marked.{Marked}
+use Rattle.commit_deps.specs.Kept.{Marked}
 use Rattle.commit_deps.specs.Marks.{IsMarkOf, reader, change_number}
 use Rattle.commit_deps.specs.Kept.{Kept}
 use Rattle.commit_deps.specs.Keeps.{mark_at, mark_or_none, is_written, Keeps, mark_of_change, greatest_mark, noted, noted_all, unwritten_count}
@@ -56,29 +57,29 @@ abbrev pub joined_at : Bool → Option ℕ → ℕ → Option ℕ
 joined_at b o m = if b then Some (max (unwrap_or o 0) m) else o
 
 -- the first mark, where it is of that carrier or not
-cons-at : (y : Carrier) (k : Marked) (ks : List Marked) (d : Bool) → is_same k.carrier y ≡ d
-    → mark_at y (k ∷ ks) ≡ (if d then Some k.mark else mark_at y ks)
-cons-at y k ks true h = ap (λ (b : Bool). option_map (λ (j : Marked). j.mark) (if b then Some k else find (λ (j : Marked). is_same j.carrier y) ks)) h
-cons-at y k ks false h = ap (λ (b : Bool). option_map (λ (j : Marked). j.mark) (if b then Some k else find (λ (j : Marked). is_same j.carrier y) ks)) h
+cons-at : (y : Carrier) (k : Marked) (ks : List Marked) (d : Bool) → is_same k.0 y ≡ d
+    → mark_at y (k ∷ ks) ≡ (if d then Some k.1 else mark_at y ks)
+cons-at y k ks true h = ap (λ (b : Bool). option_map (λ (j : Marked). j.1) (if b then Some k else find (λ (j : Marked). is_same j.0 y) ks)) h
+cons-at y k ks false h = ap (λ (b : Bool). option_map (λ (j : Marked). j.1) (if b then Some k else find (λ (j : Marked). is_same j.0 y) ks)) h
 
 -- where the first mark is of x or not, and of y or not
-noted-step : (x y : Carrier) (m : ℕ) (k : Marked) (ks : List Marked) (b d : Bool) → is_same k.carrier x ≡ b → is_same k.carrier y ≡ d
+noted-step : (x y : Carrier) (m : ℕ) (k : Marked) (ks : List Marked) (b d : Bool) → is_same k.0 x ≡ b → is_same k.0 y ≡ d
     → mark_at y (noted x m ks) ≡ joined_at (is_same x y) (mark_at y ks) m
-    → mark_at y (if b then record { carrier = k.carrier; mark = max k.mark m } ∷ ks else k ∷ noted x m ks) ≡ joined_at (is_same x y) (mark_at y (k ∷ ks)) m
+    → mark_at y (if b then (k.0, max k.1 m) ∷ ks else k ∷ noted x m ks) ≡ joined_at (is_same x y) (mark_at y (k ∷ ks)) m
 noted-step x y m k ks true true h g rest =
-    let same : is_same x y ≡ true = subst (λ (z : Carrier). is_same z y ≡ true) (same-true k.carrier x h) g in
-    cons-at y (record { carrier = k.carrier; mark = max k.mark m }) ks true g
+    let same : is_same x y ≡ true = subst (λ (z : Carrier). is_same z y ≡ true) (same-true k.0 x h) g in
+    cons-at y ((k.0, max k.1 m)) ks true g
     ∙ sym (ap (λ (v : Bool). joined_at v (mark_at y (k ∷ ks)) m) same ∙ ap (λ (o : Option ℕ). joined_at true o m) (cons-at y k ks true g))
 noted-step x y m k ks true false h g rest =
-    let same : is_same x y ≡ false = subst (λ (z : Carrier). is_same z y ≡ false) (same-true k.carrier x h) g in
-    cons-at y (record { carrier = k.carrier; mark = max k.mark m }) ks false g
+    let same : is_same x y ≡ false = subst (λ (z : Carrier). is_same z y ≡ false) (same-true k.0 x h) g in
+    cons-at y ((k.0, max k.1 m)) ks false g
     ∙ sym (ap (λ (v : Bool). joined_at v (mark_at y (k ∷ ks)) m) same ∙ cons-at y k ks false g)
 noted-step x y m k ks false true h g rest =
     cons-at y k (noted x m ks) true g
     ∙ sym (ap (λ (v : Bool). joined_at v (mark_at y (k ∷ ks)) m) (other (is_same x y) refl) ∙ cons-at y k ks true g)
   where
     other : (v : Bool) → is_same x y ≡ v → is_same x y ≡ false
-    other true e = absurd (false≢true (sym h ∙ ap (λ (z : Carrier). is_same k.carrier z) (same-true x y e) ∙ g))
+    other true e = absurd (false≢true (sym h ∙ ap (λ (z : Carrier). is_same k.0 z) (same-true x y e) ∙ g))
     other false e = e
 noted-step x y m k ks false false h g rest =
     cons-at y k (noted x m ks) false g ∙ rest ∙ sym (ap (λ (o : Option ℕ). joined_at (is_same x y) o m) (cons-at y k ks false g))
@@ -86,10 +87,10 @@ noted-step x y m k ks false false h g rest =
 pub mark_at-noted : (x y : Carrier) (m : ℕ) (ks : List Marked) → mark_at y (noted x m ks) ≡ joined_at (is_same x y) (mark_at y ks) m
 mark_at-noted x y m [] = one (is_same x y) refl
   where
-    one : (d : Bool) → is_same x y ≡ d → mark_at y (record { carrier = x; mark = m } ∷ []) ≡ joined_at (is_same x y) None m
-    one true h = cons-at y (record { carrier = x; mark = m }) [] true h ∙ ap (λ (n : ℕ). Some n) (omega arith) ∙ sym (ap (λ (v : Bool). joined_at v None m) h)
-    one false h = cons-at y (record { carrier = x; mark = m }) [] false h ∙ sym (ap (λ (v : Bool). joined_at v None m) h)
-mark_at-noted x y m (k ∷ ks) = noted-step x y m k ks (is_same k.carrier x) (is_same k.carrier y) refl refl (mark_at-noted x y m ks)
+    one : (d : Bool) → is_same x y ≡ d → mark_at y ((x, m) ∷ []) ≡ joined_at (is_same x y) None m
+    one true h = cons-at y ((x, m)) [] true h ∙ ap (λ (n : ℕ). Some n) (omega arith) ∙ sym (ap (λ (v : Bool). joined_at v None m) h)
+    one false h = cons-at y ((x, m)) [] false h ∙ sym (ap (λ (v : Bool). joined_at v None m) h)
+mark_at-noted x y m (k ∷ ks) = noted-step x y m k ks (is_same k.0 x) (is_same k.0 y) refl refl (mark_at-noted x y m ks)
 
 -- joined twice is joined once
 joined-twice : (a b : Bool) (o : Option ℕ) (m : ℕ) → joined_at a (joined_at b o m) m ≡ joined_at (b || a) o m
@@ -227,75 +228,53 @@ keeps-silent log marks e silent keeps = record {
 }
 
 -- ---- one mark is written
--- the mark at the carrier's place is joined
-set-found : (x : Carrier) (m : ℕ) (ks : List Marked) (i : ℕ) (k : Marked) → i < length ks
-    → is_same (get_or ks i k).carrier x ≡ true → ((j : ℕ) → j < i → is_same (get_or ks j k).carrier x ≡ false)
-    → k ≡ get_or ks i k → set ks i (record { carrier = k.carrier; mark = max k.mark m }) ≡ noted x m ks
-set-found x m [] i k h here before e = absurd (omega arith)
-set-found x m (y ∷ ys) zero k h here before e =
-    ap (λ (z : Marked). record { carrier = z.carrier; mark = max z.mark m } ∷ ys) e
-    ∙ sym (ap (λ (b : Bool). if b then record { carrier = y.carrier; mark = max y.mark m } ∷ ys else y ∷ noted x m ys) here)
-set-found x m (y ∷ ys) (suc i) k h here before e =
-    ap (λ (zs : List Marked). y ∷ zs) (set-found x m ys i k (omega arith) here (λ j g. before (suc j) (omega arith)) e)
-    ∙ sym (ap (λ (b : Bool). if b then record { carrier = y.carrier; mark = max y.mark m } ∷ ys else y ∷ noted x m ys) (before 0 (omega arith)))
+-- where a carrier is looked up, its mark is found
+pub found-mark : (eq : Carrier → Bool) (x : Carrier) (ks : List Marked) → ((y : Carrier) → eq y ≡ is_same x y) → lookup eq ks ≡ mark_at x ks
+found-mark eq x [] same = refl
+found-mark eq x (k ∷ ks) same =
+    ap (λ (b : Bool). if b then Some k.1 else lookup eq ks) (same k.0 ∙ same-sym x k.0)
+    ∙ ap (λ (o : Option ℕ). if is_same k.0 x then Some k.1 else o) (found-mark eq x ks same)
+    ∙ sym (cons-at x k ks (is_same k.0 x) refl)
 
-pub noted-found : (x : Carrier) (m : ℕ) (ks : List Marked) (i : ℕ) (k : Marked)
-    → position (λ (j : Marked). is_same j.carrier x) ks ≡ Some i
-    → k ≡ get_or ks i k → set ks i (record { carrier = k.carrier; mark = max k.mark m }) ≡ noted x m ks
-noted-found x m ks i k h e =
-    let found = position-Some (λ (j : Marked). is_same j.carrier x) ks i k h in
-    set-found x m ks i k found.0 found.1 found.2 e
+set-by : (x : Carrier) (m : ℕ) (k : Marked) (ks : List Marked) (kept : ℕ) (rest : List Marked) (b : Bool) → is_same k.0 x ≡ b
+    → mark_at x (k ∷ ks) ≡ Some kept → (mark_at x ks ≡ Some kept → rest ≡ noted x m ks)
+    → (if b then (k.0, max kept m) ∷ ks else k ∷ rest) ≡ (if b then (k.0, max k.1 m) ∷ ks else k ∷ noted x m ks)
+set-by x m k ks kept rest true h is later =
+    let here : k.1 ≡ kept = (let one : Some k.1 ≡ Some kept = sym (cons-at x k ks true h) ∙ is in cc) in
+    ap (λ (n : ℕ). (k.0, max n m) ∷ ks) (sym here)
+set-by x m k ks kept rest false h is later = ap (λ (ns : List Marked). k ∷ ns) (later (sym (cons-at x k ks false h) ∙ is))
 
--- where the carrier has no place the mark comes last
-append-absent : (x : Carrier) (m : ℕ) (ks : List Marked) → list_any (λ (j : Marked). is_same j.carrier x) ks ≡ false
-    → ks ++ record { carrier = x; mark = m } ∷ [] ≡ noted x m ks
-append-absent x m [] h = refl
-append-absent x m (y ∷ ys) h =
-    let both = or_parts (is_same y.carrier x) (list_any (λ (j : Marked). is_same j.carrier x) ys) h in
-    ap (λ (zs : List Marked). y ∷ zs) (append-absent x m ys both.1)
-    ∙ sym (ap (λ (b : Bool). if b then record { carrier = y.carrier; mark = max y.mark m } ∷ ys else y ∷ noted x m ys) both.0)
+last-by : (x : Carrier) (m : ℕ) (k : Marked) (ks rest : List Marked) (b : Bool) → is_same k.0 x ≡ b
+    → mark_at x (k ∷ ks) ≡ None → (mark_at x ks ≡ None → rest ≡ noted x m ks)
+    → (if b then (k.0, m) ∷ ks else k ∷ rest) ≡ (if b then (k.0, max k.1 m) ∷ ks else k ∷ noted x m ks)
+last-by x m k ks rest true h is later = let one : Some k.1 ≡ None = sym (cons-at x k ks true h) ∙ is in absurd (let no : ⊥ = cc in no)
+last-by x m k ks rest false h is later = ap (λ (ns : List Marked). k ∷ ns) (later (sym (cons-at x k ks false h) ∙ is))
 
--- some mark passes where there is a place
-any-place : (p : Marked → Bool) (ks : List Marked) → list_any p ks ≡ nat_lt (position_or_len p ks) (length ks)
-any-place p [] = refl
-any-place p (k ∷ ks) = elim (p k) as (λ b. (b || list_any p ks) ≡ nat_lt (if not b then 1 + position_or_len p ks else 0) (length (k ∷ ks))) [
-  | true ↦ sym (lt-ltb 0 (length (k ∷ ks)) (omega arith))
-  | false ↦ any-place p ks ∙ both_pass (nat_lt (position_or_len p ks) (length ks)) (nat_lt (1 + position_or_len p ks) (length (k ∷ ks)))
-      (λ h. let less : position_or_len p ks < length ks = ltb-true (position_or_len p ks) (length ks) h in lt-ltb (1 + position_or_len p ks) (length (k ∷ ks)) (omega arith))
-      (λ h. let less : 1 + position_or_len p ks < length (k ∷ ks) = ltb-true (1 + position_or_len p ks) (length (k ∷ ks)) h in lt-ltb (position_or_len p ks) (length ks) (omega arith))
-]
+-- a mark that is there is joined at its carrier
+pub set-found : (eq : Carrier → Bool) (x : Carrier) (m : ℕ) (ks : List Marked) (kept : ℕ) → ((y : Carrier) → eq y ≡ is_same x y) → mark_at x ks ≡ Some kept
+    → set_value eq ks (max kept m) ≡ noted x m ks
+set-found eq x m [] kept same is = absurd (let no : ⊥ = cc in no)
+set-found eq x m (k ∷ ks) kept same is =
+    ap (λ (b : Bool). if b then (k.0, max kept m) ∷ ks else k ∷ set_value eq ks (max kept m)) (same k.0 ∙ same-sym x k.0)
+    ∙ set-by x m k ks kept (set_value eq ks (max kept m)) (is_same k.0 x) refl is (λ later. set-found eq x m ks kept same later)
 
-no-place : (b : Bool) (n : ℕ) → (if b then Some n else None) ≡ None → b ≡ false
-no-place true n h = cc
-no-place false n h = refl
-
-pub noted-absent : (x : Carrier) (m : ℕ) (ks : List Marked) → position (λ (j : Marked). is_same j.carrier x) ks ≡ None
-    → ks ++ record { carrier = x; mark = m } ∷ [] ≡ noted x m ks
-noted-absent x m ks h = append-absent x m ks
-    (any-place (λ (j : Marked). is_same j.carrier x) ks ∙ no-place (nat_lt (position_or_len (λ (j : Marked). is_same j.carrier x) ks) (length ks)) (position_or_len (λ (j : Marked). is_same j.carrier x) ks) h)
+-- one that is not there comes last
+pub set-last : (eq : Carrier → Carrier → Bool) (x : Carrier) (m : ℕ) (ks : List Marked) → ((y : Carrier) → eq x y ≡ is_same x y) → mark_at x ks ≡ None
+    → insert_entry eq ks x m ≡ noted x m ks
+set-last eq x m [] same is = refl
+set-last eq x m (k ∷ ks) same is =
+    ap (λ (b : Bool). if b then (k.0, m) ∷ ks else k ∷ insert_entry eq ks x m) (same k.0 ∙ same-sym x k.0)
+    ∙ last-by x m k ks (insert_entry eq ks x m) (is_same k.0 x) refl is (λ later. set-last eq x m ks same later)
 
 -- ---- the carriers that no event wrote
--- a carrier has a mark where it has a place
-marked-placed : (x : Carrier) (ks : List Marked) → is_some (mark_at x ks) ≡ list_any (λ (j : Marked). is_same j.carrier x) ks
-marked-placed x [] = refl
-marked-placed x (k ∷ ks) =
-    ap (λ (o : Option ℕ). is_some o) (cons-at x k ks (is_same k.carrier x) refl)
-    ∙ elim (is_same k.carrier x) as (λ b. is_some (if b then Some k.mark else mark_at x ks) ≡ (b || list_any (λ (j : Marked). is_same j.carrier x) ks)) [
-      | true ↦ refl
-      | false ↦ marked-placed x ks
-    ]
-
 -- one, or none
 abbrev pub ones : Bool → ℕ
 ones b = if b then 1 else 0
 
--- one that has no place is one that no event wrote
-pub absent-unwritten : (x : Carrier) (ks : List Marked) → position (λ (j : Marked). is_same j.carrier x) ks ≡ None → unwritten_count (x ∷ []) ks ≡ 1
+-- one that has no mark is one that no event wrote
+pub absent-unwritten : (x : Carrier) (ks : List Marked) → mark_at x ks ≡ None → unwritten_count (x ∷ []) ks ≡ 1
 absent-unwritten x ks h =
-    let none : is_some (mark_at x ks) ≡ false = marked-placed x ks
-    ∙ any-place (λ (j : Marked). is_same j.carrier x) ks
-    ∙ no-place (nat_lt (position_or_len (λ (j : Marked). is_same j.carrier x) ks) (length ks)) (position_or_len (λ (j : Marked). is_same j.carrier x) ks) h in
-    let one : ones (not (is_some (mark_at x ks))) ≡ ones true = ap (λ (b : Bool). ones (not b)) none in
+    let one : ones (not (is_some (mark_at x ks))) ≡ ones true = ap (λ (o : Option ℕ). ones (not (is_some o))) h in
     omega (arith, one)
 
 -- one carrier is at most one

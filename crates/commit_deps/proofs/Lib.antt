@@ -1,3 +1,4 @@
 pub mod Answering
 pub mod Readers
+pub mod Same
 pub mod Keeping

@@ -4,12 +4,12 @@ use Rattle.std.specs.List.{find, fold, list_any}
 use Rattle.std.specs.Option.{option_map}
 use Rattle.kernel_model.specs.declared.carrier.Carrier.{Carrier}
 use Rattle.kernel_model.specs.Entries.{Entry, is_same, is_among}
-use Rattle.commit_deps.specs.declared.dependencies.Marked.{Marked}
+use Rattle.commit_deps.specs.Kept.{Marked}
 use Rattle.commit_deps.specs.Marks.{IsMarkOf, reader}
 
 -- the mark of a carrier, if some event wrote it
 abbrev pub mark_at : Carrier → List Marked → Option ℕ
-mark_at x marks = option_map (λ (k : Marked). k.mark) (find (λ (k : Marked). is_same k.carrier x) marks)
+mark_at x marks = option_map (λ (k : Marked). k.1) (find (λ (k : Marked). is_same k.0 x) marks)
 
 -- the mark of what a reader of one carrier rests on: 0, for nothing, where no event wrote it
 abbrev pub mark_or_none : Carrier → List Marked → ℕ
@@ -36,8 +36,8 @@ greatest_mark own reads marks = fold (λ (m : ℕ) (x : Carrier). max m (mark_or
 
 -- the marks after an event of this mark that writes one carrier
 abbrev pub noted : Carrier → ℕ → List Marked → List Marked
-noted x mark [] = record { carrier = x; mark = mark } ∷ []
-noted x mark (k ∷ ks) = if is_same k.carrier x then record { carrier = k.carrier; mark = max k.mark mark } ∷ ks else k ∷ noted x mark ks
+noted x mark [] = (x, mark) ∷ []
+noted x mark (k ∷ ks) = if is_same k.0 x then (k.0, max k.1 mark) ∷ ks else k ∷ noted x mark ks
 
 -- the marks after one that writes several
 abbrev pub noted_all : List Carrier → ℕ → List Marked → List Marked

@@ -1,35 +1,29 @@
 //! The marks of all carriers.
 ghost use Rattle.std.specs.Prelude.{◌≡◌, ℕ, ◌+◌, ◌<◌, ◌≤◌, ◌^◌, Bool, true, false, if◌then◌else◌, List, [], ◌∷◌, ◌++◌, OnOk, OnErr, IfOk, IsOk, IfSome, is_some, length};
 ghost use Rattle.std.specs.Option.{ForSome};
-ghost use Rattle.std.specs.List.{position, AllByRecursion};
+ghost use Rattle.std.specs.List.{AllByRecursion};
 ghost use Rattle.commit_deps.specs.Keeps.{mark_of_change};
-ghost use Rattle.kernel_model.specs.Entries.{Entry, is_same};
+ghost use Rattle.kernel_model.specs.Entries.{Entry};
 
 use crate::mark::Mark;
+use indexmap::IndexMap;
 use kernel_model::Carrier;
 use std::alloc::{AllocError, Global};
 use std::marker::Model;
 
-/// A carrier that was written, and the changes on which its writers rest.
-#[derive(Clone, Copy, Debug, PartialEq, Eq)]
-struct Marked {
-    pub carrier: Carrier,
-    pub mark: Mark,
-}
-
 /// What is kept of the events so far: for each carrier that some event wrote, the changes with a path to a writer of it.
 #[derive(Drop)]
 pub struct Dependencies {
-    marks: Vec<Marked>,
+    marks: IndexMap<Carrier, Mark>,
 }
 
 impl Model for Dependencies {
-    ghost use Rattle.std.specs.Prelude.{◌-◌, vec_capacity, vec_len};
+    ghost use Rattle.indexmap.specs.IndexMap.{spare};
     ghost use Rattle.commit_deps.specs.Kept.{Kept};
 
     ghost Value = { Kept };
 
-    ghost view = { λ d. record { marks = d.marks.items; room = vec_capacity d.marks - vec_len d.marks } };
+    ghost view = { λ d. record { marks = d.marks.entries; room = spare d.marks } };
 }
 
 /// The mark of an event's own change, by the change's number from 0.
@@ -45,7 +39,6 @@ fn own_mark(change: Option<u64>) -> Mark
 
 impl Dependencies {
     ghost use Rattle.commit_deps.specs.Keeps.{Keeps, mark_at, is_written, greatest_mark, noted, unwritten_count};
-    ghost use Rattle.commit_deps.specs.declared.dependencies.Marked.{Marked};
     ghost use Rattle.commit_deps.specs.Marks.{IsMarkOf, reader, change_number};
 
     /// No events. Takes no memory.
@@ -53,7 +46,7 @@ impl Dependencies {
         ensures { Keeps [] result.marks }
     {
         Dependencies {
-            marks: Vec::new(alloc),
+            marks: IndexMap::new(alloc),
         }
     }
 
@@ -61,10 +54,7 @@ impl Dependencies {
     fn kept_mark(&self, carrier: Carrier) -> Option<Mark>
         ensures { result ≡ mark_at carrier self.now.marks }
     {
-        self.marks
-            .iter()
-            .find(|marked| marked.carrier == carrier)
-            .map(|marked| marked.mark)
+        self.marks.get(&carrier).copied()
     }
 
     /// The changes on which a reader of this one carrier rests; None where no event wrote it.
@@ -101,18 +91,8 @@ impl Dependencies {
         ensures err { OnErr result (self.old.room < writes) }
         ensures marks { self.new.marks ≡ self.old.marks }
         ensures room { self.old.room ≤ self.new.room }
-        ensures same { OnErr result (self.new ≡ self.old) }
     {
         self.marks.reserve(writes)
-    }
-
-    /// Where a carrier's mark is kept.
-    fn place(&self, carrier: Carrier) -> Option<usize>
-        ensures { result ≡ position (λ (marked : Marked). is_same marked.carrier carrier) self.now.marks }
-    {
-        self.marks
-            .iter()
-            .position(|marked| marked.carrier == carrier)
     }
 
     /// How many of these carriers no event wrote: so many marks may come in.
@@ -131,12 +111,11 @@ impl Dependencies {
         ensures marks { self.new.marks ≡ noted carrier mark self.old.marks }
         ensures room { self.old.room ≤ self.new.room + unwritten_count (carrier ∷ []) self.old.marks }
     {
-        match self.place(carrier) {
-            Some(at) => {
-                let marked = &mut self.marks[at];
-                marked.mark = marked.mark.joined(mark);
+        match self.marks.get_mut(&carrier) {
+            Some(kept) => *kept = kept.joined(mark),
+            None => {
+                self.marks.insert(carrier, mark).unwrap();
             }
-            None => self.marks.push(Marked { carrier, mark }).unwrap(),
         }
     }
 
@@ -155,7 +134,7 @@ impl Dependencies {
 
     /// Notes an event that reads and writes these carriers and makes this change, by its number from 0, and answers its
     /// mark: the changes on which it rests. It takes memory only for carriers that no event wrote, and none where there is
-    /// room; where it fails nothing has changed.
+    /// room; where it fails the marks are as they were.
     pub fn event(
         &mut self,
         reads: &[Carrier],
@@ -167,7 +146,7 @@ impl Dependencies {
             → change ≡ change_number log e → IsMarkOf m log e) }
         ensures keeps { OnOk result ((log : List Entry) (e : Entry) → Keeps log self.old.marks → e.reads ≡ reads.now
             → e.writes ≡ writes.now → change ≡ change_number log e → Keeps (log ++ e ∷ []) self.new.marks) }
-        ensures err { OnErr result (self.new ≡ self.old) }
+        ensures err { OnErr result (self.new.marks ≡ self.old.marks) }
         ensures known { AllByRecursion (λ x. is_some (mark_at x self.old.marks) ≡ true) writes.now → IsOk result }
         ensures room { length writes.now ≤ self.old.room → IsOk result }
         ensures left { self.old.room ≤ self.new.room + length writes.now }

@@ -1,7 +1,7 @@
 //! What carries dependencies from one event to another.
 
 /// A carrier: what one event writes and a later one reads.
-#[derive(Clone, Copy, Debug, PartialEq, Eq)]
+#[derive(Clone, Copy, Debug, PartialEq, Eq, Hash)]
 pub enum Carrier {
     /// A process, by its number.
     Proc(u32),

@@ -5,7 +5,7 @@ use Rattle.machine_model.specs.States.{State, run}
 use Rattle.processes.specs.Parts.{part_of}
 use Rattle.commit_deps.specs.Kept.{Kept}
 use Rattle.commit_deps.specs.Keeps.{Keeps}
-use Rattle.commit_deps.specs.declared.dependencies.Marked.{Marked}
+use Rattle.commit_deps.specs.Kept.{Marked}
 use Rattle.kernel_model.specs.Answers.{Refuses, Applies, refusal, turn_refusal, limit, loans_out, ran_by, with_child, Lending}
 use Rattle.kernel_model.specs.Entries.{Entry}
 use Rattle.kernel_model.specs.State.{Process, process_at}

@@ -17,7 +17,7 @@ use Rattle.calls.specs.declared.plan.Plan.{Plan}
 use Rattle.commit_deps.specs.Keeps.{Keeps}
 use Rattle.commit_deps.specs.Kept.{Kept}
 use Rattle.commit_deps.specs.Marks.{IsMarkOf}
-use Rattle.commit_deps.specs.declared.dependencies.Marked.{Marked}
+use Rattle.commit_deps.specs.Kept.{Marked}
 use Rattle.pipes.specs.Seen.{Seen}
 use Rattle.processes.specs.Parts.{Part, part_of, part_at, descriptors_in}
 use Rattle.kernel_model.specs.Answers.{Lending, outcome_of, with_child}

@@ -4,7 +4,7 @@ use Rattle.std.specs.Prelude.{IfOk, IfErr, OnOk, OnErr}
 use Rattle.std.specs.List.{AllByRecursion}
 use Rattle.std.proofs.lemmas.Bool.{leb-false}
 use Rattle.commit_deps.specs.Keeps.{Keeps}
-use Rattle.commit_deps.specs.declared.dependencies.Marked.{Marked}
+use Rattle.commit_deps.specs.Kept.{Marked}
 use Rattle.disk_model.specs.Files.{IsFormed, IsMade}
 use Rattle.disk_model.specs.Storage.{Storage, cut, group, checkpoint, group_of, group_or_checkpoint, fits, completed, failed, failed_by, is_empty, is_quiet, piece_at}
 use Rattle.disk_model.specs.Rebuild.{rebuild}

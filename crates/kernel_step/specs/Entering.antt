@@ -11,7 +11,7 @@ use Rattle.calls.specs.Sights.{Sight, MayPlanCall}
 use Rattle.calls.specs.declared.plan.Plan.{Plan}
 use Rattle.commit_deps.specs.Keeps.{Keeps}
 use Rattle.commit_deps.specs.Marks.{IsMarkOf}
-use Rattle.commit_deps.specs.declared.dependencies.Marked.{Marked}
+use Rattle.commit_deps.specs.Kept.{Marked}
 use Rattle.kernel_model.specs.Answers.{outcome_of}
 use Rattle.kernel_model.specs.Entries.{Entry, Item, Got, End as Ended}
 use Rattle.kernel_model.specs.Paths.{changes_in_log}

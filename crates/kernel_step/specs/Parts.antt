@@ -3,7 +3,7 @@ use Rattle.std.specs.Prelude.{◌≡◌, ℕ, List, [], ◌∷◌, ◌++◌, Non
 use Rattle.kernel_model.specs.declared.answer.Answer.{Answer}
 use Rattle.kernel_model.specs.declared.answer.Answer.TheVariants as answer_of
 use Rattle.machine_model.specs.declared.stop.Stop.{Stop}
-use Rattle.commit_deps.specs.declared.dependencies.Marked.{Marked}
+use Rattle.commit_deps.specs.Kept.{Marked}
 use Rattle.commit_deps.specs.Keeps.{Keeps}
 use Rattle.kernel_model.specs.Entries.{Entry}
 use Rattle.kernel_model.specs.Steps.{own_entry}

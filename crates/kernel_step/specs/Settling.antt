@@ -1,7 +1,7 @@
 -- What a loan's result does to the parts of a running kernel.
 use Rattle.std.specs.Prelude.{◌≡◌, ℕ, ◌+◌, ◌^◌, ◌<◌, List, [], ◌∷◌, ◌++◌, length, Option, Some, None, option_to_list, slice_get, slice_set}
 use Rattle.machine_model.specs.States.{State}
-use Rattle.commit_deps.specs.declared.dependencies.Marked.{Marked}
+use Rattle.commit_deps.specs.Kept.{Marked}
 use Rattle.kernel_model.specs.declared.answer.Answer.{Answer}
 use Rattle.kernel_model.specs.declared.answer.Answer.TheVariants as answer_of
 use Rattle.kernel_model.specs.declared.answer.Outcome.{Outcome}

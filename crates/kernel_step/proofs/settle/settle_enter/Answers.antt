@@ -1,6 +1,6 @@
 -- The Turn is noted, and then the Enter.
 use Rattle.std.proofs.Common.{◌≡◌, ℕ, List, length, refl, subst, rules}
-use Rattle.commit_deps.specs.declared.dependencies.Marked.{Marked}
+use Rattle.commit_deps.specs.Kept.{Marked}
 use Rattle.kernel_step.specs.Entering.{entry_of, IsNoted, IsEntered}
 use Rattle.kernel_step.specs.Parts.{IsOwnNoted}
 use Rattle.kernel_step.specs.Settling.{marked_with}

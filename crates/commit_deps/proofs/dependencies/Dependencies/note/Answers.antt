@@ -2,7 +2,7 @@
 use Rattle.std.proofs.Common.{◌≡◌, ◌∷◌, [], ◌++◌, List, take, sym, ap, subst, ◌∙◌}
 use Rattle.std.proofs.lemmas.List.{take_all}
 use Rattle.kernel_model.specs.declared.carrier.Carrier.{Carrier}
-use Rattle.commit_deps.specs.declared.dependencies.Marked.{Marked}
+use Rattle.commit_deps.specs.Kept.{Marked}
 use Rattle.commit_deps.specs.Keeps.{Keeps, noted_all}
 use Rattle.commit_deps.proofs.Keeping.{keeps-more, noting-room, noting-next}
 use Rattle.commit_deps.proofs.dependencies.Dependencies.note.Goals as goal
