@@ -11,7 +11,7 @@ use crate::commits::plain::PlainDisk;
 use anyhow::{Error, ensure};
 use byte_list::Bytes;
 use disk_model::{Change, made_files_change};
-use files::FileTable;
+use files::{FileList, FileTable};
 use group_commit::{CommitRefusal, Committer};
 use simdisk::SimDisk;
 use std::alloc::{AllocError, Global};
@@ -67,7 +67,7 @@ fn group_of(alloc: Global) -> Result<Vec<Change>, AllocError>
 }
 
 /// Does a change that is formed and possible.
-fn grow(files: &mut FileTable, change: &Change) -> Result<(), AllocError>
+fn grow(files: &mut FileList, change: &Change) -> Result<(), AllocError>
     requires made { IsMade files.old }
     requires formed { IsFormed change.now }
     requires possible { MayCome files.old change.now }
@@ -79,15 +79,22 @@ fn grow(files: &mut FileTable, change: &Change) -> Result<(), AllocError>
 }
 
 /// The file that is written to, with all its blocks.
-fn files_of(alloc: Global) -> Result<FileTable, AllocError>
+fn file_of(alloc: Global) -> Result<FileList, AllocError>
     ensures { IfOk result IsMade }
 {
-    let mut files = FileTable::new(alloc);
+    let mut files = FileList::new(alloc);
     grow(&mut files, &creation(alloc)?)?;
     for block in 0..BLOCKS {
         grow(&mut files, &write_of(alloc, block)?)?;
     }
     Ok(files)
+}
+
+/// The table of that one file.
+fn files_of(alloc: Global) -> Result<FileTable, AllocError>
+    ensures { IfOk result (λ t. IsMade t.living) }
+{
+    FileTable::numbered(alloc, file_of(alloc)?)
 }
 
 /// Commits a group: its cut, and all completions.
@@ -97,7 +104,7 @@ fn commit(
     changes: &[Change],
     files: &FileTable,
 ) -> Result<(), CommitRefusal>
-    requires possible { IsMade files.now }
+    requires possible { IsMade files.now.living }
     requires formed { AllByRecursion IsFormed changes.now }
 {
     let (_changes, writes) = committer.cut(alloc, changes, files)?;
@@ -117,7 +124,7 @@ fn commit_times(
     files: &FileTable,
     times: u32,
 ) -> Result<(), CommitRefusal>
-    requires possible { IsMade files.now }
+    requires possible { IsMade files.now.living }
     requires formed { AllByRecursion IsFormed changes.now }
 {
     for _ in 0..times {
@@ -128,7 +135,7 @@ fn commit_times(
 
 /// A committer that has committed the file's creation on a disk of zeros.
 fn committer(alloc: Global, files: &FileTable) -> Result<Committer, Error>
-    requires { IsMade files.now }
+    requires { IsMade files.now.living }
 {
     let mut committer = Committer::new(alloc, SimDisk::zero(alloc)?, 64);
     commit(alloc, &mut committer, &[creation(alloc)?], files)?;
@@ -176,7 +183,7 @@ fn time_commits<R: Clock + AllocGlobal>(
     group: &[Change],
     files: &FileTable,
 ) -> Result<Times, Error>
-    requires possible { IsMade files.now }
+    requires possible { IsMade files.now.living }
     requires formed { AllByRecursion IsFormed group.now }
 {
     let alloc = rt.alloc();
@@ -199,7 +206,7 @@ fn time_commits<R: Clock + AllocGlobal>(
 
 /// A disk whose half 0 holds as many groups as it has room for.
 fn full_disk(alloc: Global, group: &[Change], files: &FileTable) -> Result<SimDisk, Error>
-    requires possible { IsMade files.now }
+    requires possible { IsMade files.now.living }
     requires formed { AllByRecursion IsFormed group.now }
 {
     let mut committer = committer(alloc, files)?;
@@ -236,7 +243,7 @@ fn commit_ratio<R: Clock + AllocGlobal>(
     group: &[Change],
     files: &FileTable,
 ) -> Result<u128, Error>
-    requires possible { IsMade files.now }
+    requires possible { IsMade files.now.living }
     requires formed { AllByRecursion IsFormed group.now }
 {
     let mut least = Times::NONE;

@@ -1,4 +1,4 @@
-//! What a loan, a write, a commit and workers cost, as ratios of two times of one run.
+//! What a loan, a call, a commit and workers cost, as ratios of two times of one run.
 #![tactic(auto)]
 
 mod commits;
@@ -18,14 +18,14 @@ fn print_loans(rt: &HostRuntime) -> Result<(), Error> {
     Ok(())
 }
 
-/// What a write costs after a long history beside a short one.
+/// What a call costs after a long history beside a short one.
 fn print_writes(rt: &HostRuntime) -> Result<(), Error> {
     for writer in &writes::WRITERS {
         let ratio = writes::ratio_of(rt, writer)?;
         println!(rt;
-            "a write to {}: after {} events {ratio} thousandths of its time after {}",
-            writer.to,
-            writes::LONG,
+            "{}: after {} events {ratio} thousandths of its time after {}",
+            writer.does,
+            writer.long,
             writes::SHORT
         )?;
     }
@@ -78,8 +78,7 @@ fn main(rt: HostRuntime) -> Result<(), Error> {
                 loans::QUANTUM
             )?;
             println!(rt;
-                "costs writes: what an Enter that writes costs after {} events beside one after {}",
-                writes::LONG,
+                "costs writes: what an Enter that writes, or removes a file, costs after many events beside one after {}",
                 writes::SHORT
             )?;
             println!(rt;

@@ -1,15 +1,13 @@
-//! What a write costs the kernel, to a terminal, to a file and to a pipe: the time of its Enter after a short history and
-//! after a long one.
+//! What a call costs the kernel, a write to a terminal, to a file and to a pipe, and the removal of a file: the time of its Enter
+//! after a short history and after a long one.
 use anyhow::Error;
 use assembler::assemble;
 use kernel::{Core, Event, Program, SimDisk};
 use std::alloc::Global;
 use std::time::{Clock, Duration, Instant};
 
-/// After how many events the Enters are timed.
+/// After how many events the Enters are timed first.
 pub const SHORT: usize = 1_000;
-
-pub const LONG: usize = 100_000;
 
 /// How many calls are looked at there.
 const CALLS: u32 = 2_000;
@@ -71,40 +69,70 @@ again:  mv a0,s1
         j again
 ";
 
-/// A program that writes.
+/// Makes a file and removes it again and again.
+const FILES: &str = "
+_start: la a0,name
+        li a1,1
+        li a2,2
+        li a7,4
+        ecall
+        li a7,5
+        ecall
+        la a0,name
+        li a1,1
+        li a7,12
+        ecall
+        j _start
+.data
+name:   .ascii \"f\"
+";
+
+/// A program that makes the same calls again and again.
 pub struct Writer {
-    /// What it writes to.
-    pub to: &'static str,
+    /// What is timed.
+    pub does: &'static str,
     source: &'static str,
-    /// Whether each write follows another call; else each call is a write.
-    alternates: bool,
+    /// How many calls a round of its has, of which the last is timed.
+    round: u64,
+    /// After how many events they are timed again.
+    pub long: usize,
 }
 
-/// One for each thing that is written to.
-pub const WRITERS: [Writer; 3] = [
+/// One for each thing that is written to, and one for files that are made and removed: 1,000,000 of them.
+pub const WRITERS: [Writer; 4] = [
     Writer {
-        to: "a terminal",
+        does: "a write to a terminal",
         source: TO_A_TERMINAL,
-        alternates: false,
+        round: 1,
+        long: 100_000,
     },
     Writer {
-        to: "a file",
+        does: "a write to a file",
         source: TO_A_FILE,
-        alternates: true,
+        round: 2,
+        long: 100_000,
     },
     Writer {
-        to: "a pipe",
+        does: "a write to a pipe",
         source: TO_A_PIPE,
-        alternates: true,
+        round: 2,
+        long: 100_000,
+    },
+    Writer {
+        does: "the removal of a new file",
+        source: FILES,
+        round: 3,
+        long: 6_000_000,
     },
 ];
 
-/// A run of a program that writes, and how many calls it made.
+/// A run of such a program, and how many calls it made.
 #[derive(Drop)]
 struct Run {
     core: Core,
     calls: u64,
-    alternates: bool,
+    round: u64,
+    long: usize,
 }
 
 impl Run {
@@ -117,11 +145,12 @@ impl Run {
         Ok(Run {
             core,
             calls: 0,
-            alternates: writer.alternates,
+            round: writer.round,
+            long: writer.long,
         })
     }
 
-    /// The process runs to its next call and makes it: the time of the Enter, where it is a write.
+    /// The process runs to its next call and makes it: the time of the Enter, where it is the last of a round.
     fn call<R: Clock>(&mut self, rt: &R) -> Result<Option<Duration>, Error> {
         self.core.apply(Event::Turn {
             pid: PROCESS,
@@ -130,9 +159,12 @@ impl Run {
         let start = Instant::now(rt)?;
         self.core.apply(Event::Enter { pid: PROCESS })?;
         let time = Instant::now(rt)?.duration_since(start);
-        let is_write = !self.alternates || self.calls % 2 == 1;
         self.calls = self.calls.saturating_add(1);
-        Ok(if is_write { Some(time) } else { None })
+        Ok(if self.calls % self.round.max(1) == 0 {
+            Some(time)
+        } else {
+            None
+        })
     }
 
     /// The process makes calls until there are so many events.
@@ -146,27 +178,27 @@ impl Run {
         Ok(())
     }
 
-    /// The time of so many calls' writes, all together, after so many events.
+    /// The time of the last calls of rounds among so many calls, all together, after so many events.
     fn time_after<R: Clock>(&mut self, rt: &R, events: usize) -> Result<Duration, Error> {
         self.go_to(rt, events)?;
         let mut time = Duration::ZERO;
         for _ in 0..CALLS {
-            if let Some(write) = self.call(rt)? {
-                time = time.saturating_add(write);
+            if let Some(last) = self.call(rt)? {
+                time = time.saturating_add(last);
             }
         }
         Ok(time)
     }
 
-    /// What the writes take after many events, in thousandths of what they take after few.
+    /// What they take after many events, in thousandths of what they take after few.
     fn ratio<R: Clock>(&mut self, rt: &R) -> Result<u128, Error> {
         let short = self.time_after(rt, SHORT)?.as_nanos();
-        let long = self.time_after(rt, LONG)?.as_nanos();
+        let long = self.time_after(rt, self.long)?.as_nanos();
         Ok(long.saturating_mul(1000) / short.max(1))
     }
 }
 
-/// What a write takes after many events, in thousandths of what it takes after few.
+/// What a writer's call takes after many events, in thousandths of what it takes after few.
 pub fn ratio_of<R: AllocGlobal + Clock>(rt: &R, writer: &Writer) -> Result<u128, Error> {
     Run::of(rt.alloc(), writer)?.ratio(rt)
 }
