@@ -1,8 +1,5 @@
--- How many files there are after a change, and whether descriptors name them.
-use Rattle.std.proofs.Common.{◌≡◌, ℕ, ◌+◌, ◌≤◌, List, [], ◌∷◌, length, Option, Some, None, arith, length-append}
-use Rattle.disk_model.specs.declared.change.Change.TheVariants as change
-use Rattle.disk_model.specs.declared.change.NamedFile.{NamedFile}
-use Rattle.disk_model.specs.Files.{changed}
+-- Descriptors name files that were made, and still do once more are.
+use Rattle.std.proofs.Common.{ℕ, ◌≤◌, List, Option, Some, None, arith}
 use Rattle.disk_model.proofs.Lists.{each_more}
 use Rattle.kernel_model.specs.Rows.{descriptor_at}
 use Rattle.kernel_model.specs.declared.descriptor.Descriptor.{Descriptor}
@@ -10,11 +7,6 @@ use Rattle.kernel_model.specs.declared.descriptor.Descriptor.TheVariants as desc
 use Rattle.kernel_model.proofs.Limits.{each_at}
 use Rattle.calls.specs.Plans.{NamesFile, NamesFiles}
 
--- a new file is one more
-pub length-created : (files : List NamedFile) (name : List ℕ) → length (changed files (change.Create name)) ≡ length files + 1
-length-created files name = length-append files (record { name = name; bytes = [] } ∷ [])
-
--- among more files, a descriptor still names one
 NamesFile-more : (n m : ℕ) → n ≤ m → (d : Option Descriptor) → NamesFile n d → NamesFile m d
 NamesFile-more n m le (Some (descriptor.File file offset writes)) h = omega arith
 NamesFile-more n m le (Some (descriptor.Tape t)) h = tt

@@ -1,44 +1,43 @@
--- What holds of a row holds of a plan that says the same.
-use Rattle.std.proofs.Common.{◌≡◌, ◌≤◌, inr, ℕ, List, length, Option, Some, None, Result, Ok, Err, IfOk, IfSome, refl, sym, ap, ◌∙◌, subst, arith}
+-- What holds of a row of the table holds of what the code finds, and of the plan that says the same.
+use Rattle.std.proofs.Common.{◌≡◌, ◌≤◌, inr, ℕ, List, length, Option, Some, None, Result, Ok, Err, IfOk, IfSome, sym, ap, ◌∙◌, subst, arith}
 use Rattle.std.proofs.lemmas.List.{length-map}
 use Rattle.std.specs.declared.alloc.AllocError.{AllocError}
-use Rattle.disk_model.specs.declared.change.Change.{Change}
-use Rattle.disk_model.specs.declared.change.NamedFile.{NamedFile}
-use Rattle.kernel_model.specs.Rows.{Effect, row, closing}
+use Rattle.disk_model.specs.Numbers.{Numbered}
+use Rattle.kernel_model.specs.Rows.{Effect, closing}
+use Rattle.kernel_model.specs.Steps.{change_by}
 use Rattle.kernel_model.specs.declared.carrier.Carrier.{Carrier}
-use Rattle.kernel_model.specs.declared.descriptor.Descriptor.{Descriptor}
 use Rattle.kernel_model.specs.declared.descriptor.PipeEnd.{PipeEnd}
+use Rattle.kernel_model.specs.declared.effect.FileEdit.{FileEdit}
 use Rattle.kernel_model.specs.declared.effect.Output.{Output}
 use Rattle.kernel_model.specs.declared.effect.PipeStep.{PipeStep}
 use Rattle.kernel_model.specs.declared.effect.PipeStep.TheVariants.{Drop}
 use Rattle.kernel_model.specs.declared.effect.Slot.{Slot}
 use Rattle.kernel_model.specs.declared.effect.TapeRead.{TapeRead}
-use Rattle.kernel_model.specs.declared.request.Request.{Request}
 use Rattle.kernel_model.specs.declared.request.Verdict.{Verdict}
 use Rattle.kernel_model.specs.declared.request.Verdict.TheVariants.{Waits, Replies, Ends}
 use Rattle.calls.specs.declared.plan.Plan.{Plan}
-use Rattle.calls.specs.Plans.{IsPlan, effect_of, IsPossible, CarriesBytes, MayAllStep, OpensAlone, EditsPipesAlone, EditsAs}
-use Rattle.calls.specs.Shares.{shared_of}
+use Rattle.calls.specs.declared.row.Row.{Row}
+use Rattle.calls.specs.Plans.{IsRow, effect_of, effect_with, IsPossible, CarriesBytes, MayAllStep, OpensAlone, EditsPipesAlone, EditsAs}
 use Rattle.pipes.specs.Seen.{Seen}
 use Rattle.calls.proofs.Stepping.{drops-may, drops-open-none}
-use Rattle.calls.proofs.Sound.{Kept, IsFine, EditsLittle, EditsWhere, IsSound, row-sound}
+use Rattle.calls.proofs.Sound.{MayBeMade, EditsLittle, EditsWhere}
 
--- the row is what the plan says
-pub is-effect : (plan : Plan) (e : Effect) → IsPlan plan e → e ≡ effect_of plan
-is-effect plan e is =
-    let e1 : Effect = record e { verdict = plan.verdict } in
-    let e2 : Effect = record e1 { reads = plan.reads.items } in
-    let e3 : Effect = record e2 { writes = plan.writes.items } in
-    let e4 : Effect = record e3 { change = plan.change } in
-    let e5 : Effect = record e4 { output = plan.output } in
-    let e6 : Effect = record e5 { tape = plan.tape } in
-    let e7 : Effect = record e6 { pipes = plan.pipes.items } in
-    let e8 : Effect = record e7 { slots = plan.slots.items } in
-    let e9 : Effect = record e8 { child = plan.child } in
+-- the row of the table is what the code finds
+pub is-effect : (row : Row) (e : Effect) → IsRow row e → e ≡ effect_of row
+is-effect row e is =
+    let e1 : Effect = record e { verdict = row.verdict } in
+    let e2 : Effect = record e1 { reads = row.reads.items } in
+    let e3 : Effect = record e2 { writes = row.writes.items } in
+    let e4 : Effect = record e3 { edit = row.edit } in
+    let e5 : Effect = record e4 { output = row.output } in
+    let e6 : Effect = record e5 { tape = row.tape } in
+    let e7 : Effect = record e6 { pipes = row.pipes.items } in
+    let e8 : Effect = record e7 { slots = row.slots.items } in
+    let e9 : Effect = record e8 { child = row.child } in
     ap (λ (x : Verdict). record e { verdict = x }) (sym is.verdict)
     ∙ ap (λ (x : List Carrier). record e1 { reads = x }) (sym is.reads)
     ∙ ap (λ (x : List Carrier). record e2 { writes = x }) (sym is.writes)
-    ∙ ap (λ (x : Option Change). record e3 { change = x }) (sym is.change)
+    ∙ ap (λ (x : Option FileEdit). record e3 { edit = x }) (sym is.edit)
     ∙ ap (λ (x : Option Output). record e4 { output = x }) (sym is.output)
     ∙ ap (λ (x : Option TapeRead). record e5 { tape = x }) (sym is.tape)
     ∙ ap (λ (x : List PipeStep). record e6 { pipes = x }) (sym is.pipes)
@@ -46,64 +45,60 @@ is-effect plan e is =
     ∙ ap (λ (x : Option ℕ). record e8 { child = x }) (sym is.child)
     ∙ ap (λ (x : Option ℕ). record e9 { collects = x }) (sym is.collects)
 
--- a plan says what it says
-pub is-plan : (plan : Plan) (e : Effect) → effect_of plan ≡ e → IsPlan plan e
-is-plan plan e is = subst (IsPlan plan) is (record {
-  verdict = refl;
-  reads = refl;
-  writes = refl;
-  change = refl;
-  output = refl;
-  tape = refl;
-  pipes = refl;
-  slots = refl;
-  child = refl;
-  collects = refl;
-})
+-- what follows for every row follows for one that may be refused
+pub if_found : (r : Result Row AllocError) (P Q : Row → Type 0) → ((row : Row) → P row → Q row) → IfOk r P → IfOk r Q
+if_found (Err why) P Q more h = tt
+if_found (Ok row) P Q more h = more row h
 
--- a plan that says a row, for a caller with these descriptors, is as sound as the row
-pub planned : (r : Result Plan AllocError) (k : Kept) (p : ℕ) (asked : Request) (ds : List (Option Descriptor)) → ds ≡ k.descriptors → IsFine k asked
-    → IfOk r (λ plan. IsPlan plan (row (shared_of k.statuses k.files k.seen k.tapes) p ds k.children asked))
-    → IfOk r (λ plan. IsSound k asked (effect_of plan))
-planned (Err why) k p asked ds same fine is = tt
-planned (Ok plan) k p asked ds same fine is =
-    let e = row (shared_of k.statuses k.files k.seen k.tapes) p k.descriptors k.children asked in
-    let at : IsPlan plan e =
-    subst (λ (xs : List (Option Descriptor)). IsPlan plan (row (shared_of k.statuses k.files k.seen k.tapes) p xs k.children asked)) same is in
-    subst (IsSound k asked) (is-effect plan e at) (row-sound k p asked fine)
-
--- what follows for every plan follows for one that may be refused
-pub if_planned : (r : Result Plan AllocError) (P Q : Plan → Type 0) → ((plan : Plan) → P plan → Q plan) → IfOk r P → IfOk r Q
-if_planned (Err why) P Q more h = tt
-if_planned (Ok plan) P Q more h = more plan h
-
--- a change that carries bytes is possible
-pub both_planned : (files : List NamedFile) (c : Option Change) → IfSome c (λ x. CarriesBytes x → IsPossible files x) → IfSome c CarriesBytes → IfSome c (IsPossible files)
+-- an edit that carries bytes is made by a change that is possible
+pub both_planned : (files : Numbered) (o : Option FileEdit) → IfSome o (MayBeMade files) → IfSome o CarriesBytes
+    → IfSome (change_by files o) (IsPossible files.living)
 both_planned files None h bytes = tt
-both_planned files (Some c) h bytes = h bytes
+both_planned files (Some x) h bytes = h bytes
 
-alone : (plan : Plan) → EditsLittle (effect_of plan) → EditsPipesAlone plan
-alone plan h = record { change = h.change; output = h.output; tape = h.tape; slots = h.slots; child = h.child; collects = h.collects }
+alone : (plan : Plan) (o : Option FileEdit) → plan.change ≡ None → EditsLittle (effect_with plan o) → EditsPipesAlone plan
+alone plan o none h = record { change = none; output = h.output; tape = h.tape; slots = h.slots; child = h.child; collects = h.collects }
+
+-- where no edit is made, no change is
+no-change : (plan : Plan) (files : Numbered) (o : Option FileEdit) → plan.change ≡ change_by files o → o ≡ None → plan.change ≡ None
+no-change plan files o is none = is ∙ ap (change_by files) none
 
 -- what a plan edits, by what it tells
-pub edits-as : (plan : Plan) (verdict : Verdict) → EditsWhere verdict (effect_of plan) → EditsAs verdict plan
-edits-as plan Waits h = (alone plan h.0, h.1)
-edits-as plan (Replies reply) h = tt
-edits-as plan (Ends status) h = alone plan h
+pub edits-as : (plan : Plan) (files : Numbered) (o : Option FileEdit) (verdict : Verdict) → plan.change ≡ change_by files o
+    → EditsWhere verdict (effect_with plan o) → EditsAs verdict plan
+edits-as plan files o Waits is h = (alone plan o (no-change plan files o is h.0.edit) h.0, h.1)
+edits-as plan files o (Replies reply) is h = tt
+edits-as plan files o (Ends status) is h = alone plan o (no-change plan files o is h.edit) h
 
--- a plan that ends its caller, with these ends of pipes
-pub ending-edits : (plan : Plan) (ends : List PipeEnd) (status : ℕ) → IsPlan plan (closing ends (Ends status)) → EditsAs plan.verdict plan
-ending-edits plan ends status is =
-    subst (λ (verdict : Verdict). EditsAs verdict plan) (sym is.verdict)
-    (record { change = is.change; output = is.output; tape = is.tape; slots = is.slots; child = is.child; collects = is.collects })
+-- ---- a plan that ends its caller, with these ends of pipes
 
-pub ending-steps : (plan : Plan) (ends : List PipeEnd) (status : ℕ) → IsPlan plan (closing ends (Ends status)) → (seen : List Seen) → MayAllStep seen plan.pipes.items
-ending-steps plan ends status is seen = subst (MayAllStep seen) (sym is.pipes) (drops-may ends seen)
+-- what a row without an edit says, its plan says
+pub plain-plan : (row : Row) (plan : Plan) (e : Effect) → IsRow row e → e.edit ≡ None → effect_with plan row.edit ≡ effect_of row
+    → effect_with plan None ≡ e
+plain-plan row plan e is none says =
+    ap (λ (o : Option FileEdit). effect_with plan o) (sym (is.edit ∙ none)) ∙ says ∙ sym (is-effect row e is)
 
-pub ending-opens : (plan : Plan) (ends : List PipeEnd) (status : ℕ) → IsPlan plan (closing ends (Ends status)) → OpensAlone plan.pipes.items
-ending-opens plan ends status is = subst OpensAlone (sym is.pipes) (inr (drops-open-none ends))
+pub ending-edits : (plan : Plan) (ends : List PipeEnd) (status : ℕ) → plan.change ≡ None → effect_with plan None ≡ closing ends (Ends status)
+    → EditsAs plan.verdict plan
+ending-edits plan ends status none is =
+    subst (λ (verdict : Verdict). EditsAs verdict plan) (sym (ap (λ (e : Effect). e.verdict) is)) (record {
+      change = none;
+      output = ap (λ (e : Effect). e.output) is;
+      tape = ap (λ (e : Effect). e.tape) is;
+      slots = ap (λ (e : Effect). e.slots) is;
+      child = ap (λ (e : Effect). e.child) is;
+      collects = ap (λ (e : Effect). e.collects) is;
+    })
 
-pub ending-few : (plan : Plan) (ends : List PipeEnd) (status : ℕ) → IsPlan plan (closing ends (Ends status)) → length ends ≤ 16 → length plan.pipes.items ≤ 16
+pub ending-steps : (plan : Plan) (ends : List PipeEnd) (status : ℕ) → effect_with plan None ≡ closing ends (Ends status) → (seen : List Seen)
+    → MayAllStep seen plan.pipes.items
+ending-steps plan ends status is seen = subst (MayAllStep seen) (sym (ap (λ (e : Effect). e.pipes) is)) (drops-may ends seen)
+
+pub ending-opens : (plan : Plan) (ends : List PipeEnd) (status : ℕ) → effect_with plan None ≡ closing ends (Ends status) → OpensAlone plan.pipes.items
+ending-opens plan ends status is = subst OpensAlone (sym (ap (λ (e : Effect). e.pipes) is)) (inr (drops-open-none ends))
+
+pub ending-few : (plan : Plan) (ends : List PipeEnd) (status : ℕ) → effect_with plan None ≡ closing ends (Ends status) → length ends ≤ 16
+    → length plan.pipes.items ≤ 16
 ending-few plan ends status is few =
-    let size : length plan.pipes.items ≡ length ends = ap (λ (steps : List PipeStep). length steps) is.pipes ∙ length-map ends Drop in
+    let size : length plan.pipes.items ≡ length ends = ap (λ (e : Effect). length e.pipes) is ∙ length-map ends Drop in
     omega (arith, few, size)

@@ -3,10 +3,11 @@ use Rattle.std.proofs.Common.{◌≡◌, ℕ, List, [], ◌∷◌, ◌==◌, nat
 use Rattle.std.specs.Prelude.{if◌then◌else◌, option_map}
 use Rattle.std.proofs.lemmas.List.{length-map}
 use Rattle.std.proofs.lemmas.Option.{slice_get-map}
-use Rattle.disk_model.specs.declared.change.NamedFile.{NamedFile}
+use Rattle.disk_model.specs.Numbers.{Numbered, file_of}
 use Rattle.kernel_model.specs.Requests.{most_bytes}
-use Rattle.kernel_model.specs.Rows.{Effect, failure, bad_descriptor, bad_argument, bad_address, number, only, minus, no_reader, pipe_size, on_pipe, put_some, take_some, write_pipe, write_to, write_read, row_write, may_write, read_pipe, read_from, row_read, may_read, descriptor_at, row, row_open, row_pipe, row_fork, row_wait, names_of}
+use Rattle.kernel_model.specs.Rows.{Effect, failure, bad_descriptor, bad_argument, bad_address, number, only, minus, no_reader, pipe_size, on_pipe, put_some, take_some, write_pipe, write_to, write_read, row_write, may_write, read_file, read_pipe, read_from, row_read, may_read, looking_at, descriptor_at, directory, row, row_open, row_seek, row_unlink, row_rename, row_pipe, row_fork, row_wait}
 use Rattle.kernel_model.specs.State.{Shared, PipeState, TapeState}
+use Rattle.kernel_model.specs.declared.carrier.Carrier.TheVariants.{Pipe}
 use Rattle.kernel_model.specs.declared.descriptor.Descriptor.{Descriptor}
 use Rattle.kernel_model.specs.declared.descriptor.Descriptor.TheVariants as descriptor
 use Rattle.kernel_model.specs.declared.descriptor.PipeEnd.TheVariants as pipe_end
@@ -22,14 +23,14 @@ AreAlike ps qs = (k : ℕ) → option_map seen_of (slice_get ps k) ≡ option_ma
 
 -- the rows of a pipe, by what is seen of it
 abbrev write_seen : ℕ → List ℕ → Option Seen → Effect
-write_seen k bytes None = failure bad_descriptor
+write_seen k bytes None = record (failure bad_descriptor) { reads = Pipe k ∷ [] }
 write_seen k bytes (Some x) =
     if x.readers == 0 then on_pipe k (minus no_reader) []
     else if nat_le pipe_size (length x.held) then on_pipe k Waits []
     else put_some k bytes (pipe_size - length x.held)
 
 abbrev read_seen : ℕ → ℕ → ℕ → Option Seen → Effect
-read_seen k at n None = failure bad_descriptor
+read_seen k at n None = record (failure bad_descriptor) { reads = Pipe k ∷ [] }
 read_seen k at n (Some x) =
     if nat_lt 0 (length x.held) then take_some k at n x.held
     else if x.writers == 0 then on_pipe k (number 0) []
@@ -62,13 +63,17 @@ write_read-alike : (s t : Shared) (d : Option Descriptor) (fd : ℕ) (bytes : Op
 write_read-alike s t d fd None same = refl
 write_read-alike s t d fd (Some bytes) same = write_to-alike s t d fd bytes same
 
-pub row_write-alike : (s t : Shared) (d : Option Descriptor) (fd n : ℕ) (bytes : Option (List ℕ)) → AreAlike s.pipes t.pipes → row_write s d fd n bytes ≡ row_write t d fd n bytes
-row_write-alike s t d fd n bytes same =
-    ap (λ (e : Effect).
-    if not (may_write d) then failure bad_descriptor
+pub row_write-alike : (s t : Shared) (d : Option Descriptor) (fd n : ℕ) (bytes : Option (List ℕ)) → AreAlike s.pipes t.pipes → s.files ≡ t.files
+    → row_write s d fd n bytes ≡ row_write t d fd n bytes
+row_write-alike s t d fd n bytes same files =
+    let tested : Numbered → Effect → Effect =
+    λ (fs : Numbered) (e : Effect).
+    looking_at d (
+    if not (may_write fs d) then failure bad_descriptor
     else if nat_lt most_bytes n then failure bad_argument
     else if n == 0 then only (number 0)
-    else e) (write_read-alike s t d fd bytes same)
+    else e) in
+    ap (λ (fs : Numbered). tested fs (write_read s d fd bytes)) files ∙ ap (tested t.files) (write_read-alike s t d fd bytes same)
 
 read_from-alike : (s t : Shared) (d : Option Descriptor) (fd at n : ℕ) → AreAlike s.pipes t.pipes → s.files ≡ t.files → s.tapes ≡ t.tapes → read_from s d fd at n ≡ read_from t d fd at n
 read_from-alike s t (Some (descriptor.Pipe (pipe_end.Read k))) fd at n same files tapes = read_pipe-alike k at n (slice_get s.pipes k) (slice_get t.pipes k) (same k)
@@ -76,7 +81,7 @@ read_from-alike s t (Some (descriptor.Pipe (pipe_end.Write k))) fd at n same fil
 read_from-alike s t (Some (descriptor.Terminal k)) fd at n same files tapes = refl
 read_from-alike s t (Some (descriptor.File file offset true)) fd at n same files tapes = refl
 read_from-alike s t (Some (descriptor.File file offset false)) fd at n same files tapes =
-    ap (λ (fs : List NamedFile). read_from (record s { files = fs }) (Some (descriptor.File file offset false)) fd at n) files
+    ap (λ (fs : Numbered). read_file fd file offset at n (file_of fs file)) files
 read_from-alike s t (Some (descriptor.Tape k)) fd at n same files tapes =
     ap (λ (ts : List TapeState). read_from (record s { tapes = ts }) (Some (descriptor.Tape k)) fd at n) tapes
 read_from-alike s t None fd at n same files tapes = refl
@@ -84,12 +89,15 @@ read_from-alike s t None fd at n same files tapes = refl
 pub row_read-alike : (s t : Shared) (d : Option Descriptor) (fd at n : ℕ) (fits : Bool) → AreAlike s.pipes t.pipes → s.files ≡ t.files → s.tapes ≡ t.tapes
     → row_read s d fd at n fits ≡ row_read t d fd at n fits
 row_read-alike s t d fd at n fits same files tapes =
-    ap (λ (e : Effect).
-    if not (may_read d) then failure bad_descriptor
+    let tested : Numbered → Effect → Effect =
+    λ (fs : Numbered) (e : Effect).
+    looking_at d (
+    if not (may_read fs d) then failure bad_descriptor
     else if nat_lt most_bytes n then failure bad_argument
     else if n == 0 then only (number 0)
     else if not fits then failure bad_address
-    else e) (read_from-alike s t d fd at n same files tapes)
+    else e) in
+    ap (λ (fs : Numbered). tested fs (read_from s d fd at n)) files ∙ ap (tested t.files) (read_from-alike s t d fd at n same files tapes)
 
 -- what is seen of pipes to which nothing else was written
 seen_of-pipe_of : (seen : List Seen) → map seen_of (map pipe_of seen) ≡ seen
@@ -106,16 +114,16 @@ shown-length : (seen : List Seen) (pipes : List PipeState) → Shows pipes seen 
 shown-length seen pipes shows = length-map seen pipe_of ∙ ap length shows.shown ∙ length-map pipes seen_of
 
 -- a row is the same for all that calls may look at of which the same is kept
-pub row-kept : (s : Shared) (statuses : List (Option ℕ)) (files : List NamedFile) (seen : List Seen) (tapes : List TapeState) (p : ℕ)
+pub row-kept : (s : Shared) (statuses : List (Option ℕ)) (files : Numbered) (seen : List Seen) (tapes : List TapeState) (p : ℕ)
     (ds : List (Option Descriptor)) (children : List ℕ) (r : Request) → IsKept s statuses files seen tapes
     → row (shared_of statuses files seen tapes) p ds children r ≡ row s p ds children r
 row-kept s statuses files seen tapes p ds children (request.Exit status) kept = refl
 row-kept s statuses files seen tapes p ds children (request.Write fd n bytes) kept =
-    row_write-alike (shared_of statuses files seen tapes) s (descriptor_at ds fd) fd n bytes (shown-alike seen s.pipes kept.pipes)
+    row_write-alike (shared_of statuses files seen tapes) s (descriptor_at ds fd) fd n bytes (shown-alike seen s.pipes kept.pipes) (sym kept.files)
 row-kept s statuses files seen tapes p ds children (request.Read fd at n fits) kept =
     row_read-alike (shared_of statuses files seen tapes) s (descriptor_at ds fd) fd at n fits (shown-alike seen s.pipes kept.pipes) (sym kept.files) (sym kept.tapes)
 row-kept s statuses files seen tapes p ds children (request.Open n mode name) kept =
-    ap (λ (fs : List NamedFile). row_open (names_of fs) ds n mode name) (sym kept.files)
+    ap (λ (fs : Numbered). row_open (directory fs) ds n mode name) (sym kept.files)
 row-kept s statuses files seen tapes p ds children (request.Close fd) kept = refl
 row-kept s statuses files seen tapes p ds children (request.Pipe at fits) kept =
     ap (λ (count : ℕ). row_pipe count ds at fits) (shown-length seen s.pipes kept.pipes)
@@ -123,6 +131,11 @@ row-kept s statuses files seen tapes p ds children request.Fork kept = ap (λ (a
 row-kept s statuses files seen tapes p ds children (request.Wait at fits) kept =
     ap (λ (all : List (Option ℕ)). row_wait all children at fits) (sym kept.statuses)
 row-kept s statuses files seen tapes p ds children request.GetPid kept = refl
-row-kept s statuses files seen tapes p ds children (request.Seek fd offset) kept = refl
+row-kept s statuses files seen tapes p ds children (request.Seek fd offset) kept =
+    ap (λ (fs : Numbered). row_seek fs (descriptor_at ds fd) fd offset) (sym kept.files)
 row-kept s statuses files seen tapes p ds children request.Sync kept = refl
+row-kept s statuses files seen tapes p ds children (request.Unlink n name) kept =
+    ap (λ (fs : Numbered). row_unlink (directory fs) n name) (sym kept.files)
+row-kept s statuses files seen tapes p ds children (request.Rename n m names) kept =
+    ap (λ (fs : Numbered). row_rename (directory fs) n m names) (sym kept.files)
 row-kept s statuses files seen tapes p ds children request.Unknown kept = refl

@@ -4,18 +4,22 @@ use Rattle.std.specs.Prelude.{if◌then◌else◌, option_map}
 use Rattle.std.specs.Int.{w32, to_le_bytes}
 use Rattle.std.specs.List.{AllByRecursion}
 use Rattle.std.specs.Option.{ForSome}
-use Rattle.std.proofs.lemmas.List.{length-map}
-use Rattle.std.proofs.lemmas.Option.{slice_get-map, slice_get_within}
+use Rattle.std.proofs.lemmas.List.{length-drop, length-map}
+use Rattle.std.proofs.lemmas.Option.{slice_get-map}
 use Rattle.disk_model.specs.declared.change.Change.{Change}
 use Rattle.disk_model.specs.declared.change.Change.TheVariants as change
 use Rattle.disk_model.specs.declared.change.NamedFile.{NamedFile}
+use Rattle.disk_model.specs.Numbers.{Numbered, place_of}
 use Rattle.machine_model.specs.Access.{is_writable}
 use Rattle.machine_model.specs.Memory.{Memory}
-use Rattle.kernel_model.specs.Rows.{Effect, number, with_bytes, row, pipe_size, names_of, descriptor_at, ends_of}
+use Rattle.kernel_model.specs.Rows.{Effect, number, with_bytes, row, pipe_size, directory, descriptor_at, ends_of}
 use Rattle.kernel_model.specs.State.{TapeState, PipeState, unread, changed_by}
-use Rattle.kernel_model.specs.Steps.{set_slots}
+use Rattle.kernel_model.specs.Limits.{AreNumbered}
+use Rattle.kernel_model.specs.Steps.{set_slots, change_of, change_by}
 use Rattle.kernel_model.specs.declared.descriptor.Descriptor.{Descriptor}
 use Rattle.kernel_model.specs.declared.descriptor.Descriptor.TheVariants as descriptor
+use Rattle.kernel_model.specs.declared.effect.FileEdit.{FileEdit}
+use Rattle.kernel_model.specs.declared.effect.FileEdit.TheVariants as edit
 use Rattle.kernel_model.specs.declared.effect.PipeStep.{PipeStep}
 use Rattle.kernel_model.specs.declared.effect.PipeStep.TheVariants as pipe_step
 use Rattle.kernel_model.specs.declared.effect.Slot.{Slot}
@@ -25,14 +29,15 @@ use Rattle.kernel_model.specs.declared.request.Request.TheVariants as request
 use Rattle.kernel_model.specs.declared.request.Verdict.{Verdict}
 use Rattle.kernel_model.specs.declared.request.Verdict.TheVariants.{Waits, Replies, Ends}
 use Rattle.kernel_model.proofs.Asked.{IsAsked}
-use Rattle.kernel_model.proofs.Cases.{GoesToFile, IsMadeNew, of_row}
-use Rattle.kernel_model.proofs.Limits.{changed_by_grows, each_slot}
-use Rattle.kernel_model.proofs.Names.{named_there, name_bytes, name_new}
+use Rattle.kernel_model.proofs.Cases.{GoesToFile, IsMadeNew, IsRenamed, of_row}
+use Rattle.kernel_model.proofs.Limits.{each_slot}
+use Rattle.kernel_model.proofs.Names.{differs, name_bytes, name_new, named_made, number_has_name, place_there}
+use Rattle.kernel_model.proofs.Numbering.{made_grows}
 use Rattle.pipes.specs.Seen.{Seen}
 use Rattle.calls.specs.Plans.{NamesFile, NamesFiles, MayAllStep, IsNext, CarriesBytes, IsPossible, AreLeft, AtMostOneEntry, OpensNone, OpensAlone, MayBePlaced}
 use Rattle.calls.specs.Shares.{pipe_of, shared_of}
 use Rattle.calls.specs.Wholes.{IsWhole}
-use Rattle.calls.proofs.Files.{length-created, NamesFiles-more, NamesFile-descriptor_at}
+use Rattle.calls.proofs.Files.{NamesFiles-more, NamesFile-descriptor_at}
 use Rattle.calls.proofs.Fitting.{bytes-placed}
 use Rattle.calls.proofs.Stepping.{adds-open-none, drops-open-none, HasFew, adds-may, drops-may, length-ends_of}
 
@@ -40,7 +45,7 @@ use Rattle.calls.proofs.Stepping.{adds-open-none, drops-open-none, HasFew, adds-
 -- descriptors and children
 pub record Kept : Type 0 where
   pub statuses : List (Option ℕ)
-  pub files : List NamedFile
+  pub files : Numbered
   pub seen : List Seen
   pub tapes : List TapeState
   pub descriptors : List (Option Descriptor)
@@ -48,13 +53,14 @@ pub record Kept : Type 0 where
 
 -- what is known of it
 pub record IsFine (c : Kept) (r : Request) : Type 0 where
-  pub few : length c.files ≤ 32
-  pub named : NamesFiles (length c.files) c.descriptors
+  pub few : length c.files.living ≤ 32
+  pub numbered : AreNumbered c.files
+  pub named : NamesFiles c.files.made c.descriptors
   pub whole : IsWhole r
 
 -- nothing changes but the pipes
 pub record EditsLittle (e : Effect) : Type 0 where
-  pub change : e.change ≡ None
+  pub edit : e.edit ≡ None
   pub output : e.output ≡ None
   pub tape : e.tape ≡ None
   pub slots : e.slots ≡ []
@@ -67,13 +73,21 @@ EditsWhere Waits e = EditsLittle e × (e.pipes ≡ [])
 EditsWhere (Replies reply) e = Unit {0}
 EditsWhere (Ends status) e = EditsLittle e
 
+-- where it carries bytes, the change that makes an edit is possible
+abbrev pub MayBeMade : Numbered → FileEdit → Type 0
+MayBeMade files x = CarriesBytes x → IfSome (change_of files x) (IsPossible files.living)
+
+-- how many files were made, after an edit
+abbrev made_by : Numbered → Option FileEdit → ℕ
+made_by files o = (changed_by files (change_by files o)).made
+
 -- what holds of an effect of a request
 pub record IsSound (c : Kept) (r : Request) (e : Effect) : Type 0 where
   pub one_entry : AtMostOneEntry e.slots e.child e.collects
   pub opens : OpensAlone e.pipes
   pub edits : EditsWhere e.verdict e
-  pub possible : IfSome e.change (λ x. CarriesBytes x → IsPossible c.files x)
-  pub named : AllByRecursion (λ (slot : Slot). NamesFile (length (changed_by c.files e.change)) slot.holds) e.slots
+  pub possible : IfSome e.edit (MayBeMade c.files)
+  pub named : AllByRecursion (λ (slot : Slot). NamesFile (made_by c.files e.edit) slot.holds) e.slots
   pub left : IfSome e.tape (AreLeft c.tapes)
   pub few : length c.descriptors ≤ 16 → length e.pipes ≤ 16
   pub steps : (n : ℕ) → n + length c.descriptors < 2 ^ 64 → AllByRecursion (HasFew n) c.seen → MayAllStep c.seen e.pipes
@@ -91,8 +105,8 @@ collects_alone child = record { slots_or_child = inl refl; slots_or_collects = i
 
 -- an effect that leaves the pipes, makes no child, and collects none
 still-sound : (c : Kept) (r : Request) (e : Effect) → e.pipes ≡ [] → e.child ≡ None → e.collects ≡ None
-    → EditsWhere e.verdict e → IfSome e.change (λ x. CarriesBytes x → IsPossible c.files x)
-    → AllByRecursion (λ (slot : Slot). NamesFile (length (changed_by c.files e.change)) slot.holds) e.slots → IfSome e.tape (AreLeft c.tapes)
+    → EditsWhere e.verdict e → IfSome e.edit (MayBeMade c.files)
+    → AllByRecursion (λ (slot : Slot). NamesFile (made_by c.files e.edit) slot.holds) e.slots → IfSome e.tape (AreLeft c.tapes)
     → ((memory : Memory) → IsAsked memory r → MayBePlaced memory e.verdict) → IsSound c r e
 still-sound c r e pipes child collects edits possible named left placed = record {
   one_entry = record { slots_or_child = inr child; slots_or_collects = inr collects; child_or_collects = inl child };
@@ -107,17 +121,17 @@ still-sound c r e pipes child collects edits possible named left placed = record
   placed = placed;
 }
 
--- an effect that takes these steps of the pipes, which open none, and makes no change
-steps-sound : (c : Kept) (r : Request) (e : Effect) → e.change ≡ None → e.tape ≡ None → e.child ≡ None → e.collects ≡ None
-    → AllByRecursion OpensNone e.pipes → EditsWhere e.verdict e → AllByRecursion (λ (slot : Slot). NamesFile (length c.files) slot.holds) e.slots
+-- an effect that takes these steps of the pipes, which open none, and makes no edit of a file
+steps-sound : (c : Kept) (r : Request) (e : Effect) → e.edit ≡ None → e.tape ≡ None → e.child ≡ None → e.collects ≡ None
+    → AllByRecursion OpensNone e.pipes → EditsWhere e.verdict e → AllByRecursion (λ (slot : Slot). NamesFile c.files.made slot.holds) e.slots
     → (length c.descriptors ≤ 16 → length e.pipes ≤ 16) → MayAllStep c.seen e.pipes
     → ((memory : Memory) → IsAsked memory r → MayBePlaced memory e.verdict) → IsSound c r e
-steps-sound c r e change tape child collects opens edits named few steps placed = record {
+steps-sound c r e edit tape child collects opens edits named few steps placed = record {
   one_entry = record { slots_or_child = inr child; slots_or_collects = inr collects; child_or_collects = inl child };
   opens = inr opens;
   edits = edits;
-  possible = subst (λ (o : Option Change). IfSome o (λ x. CarriesBytes x → IsPossible c.files x)) (sym change) tt;
-  named = subst (λ (o : Option Change). AllByRecursion (λ (slot : Slot). NamesFile (length (changed_by c.files o)) slot.holds) e.slots) (sym change) named;
+  possible = subst (λ (o : Option FileEdit). IfSome o (MayBeMade c.files)) (sym edit) tt;
+  named = subst (λ (o : Option FileEdit). AllByRecursion (λ (slot : Slot). NamesFile (made_by c.files o) slot.holds) e.slots) (sym edit) named;
   left = subst (λ (o : Option TapeRead). IfSome o (AreLeft c.tapes)) (sym tape) tt;
   few = few;
   steps = λ _ _ _. steps;
@@ -127,28 +141,50 @@ steps-sound c r e change tape child collects opens edits named few steps placed 
 
 -- ---- files and tapes
 
--- a descriptor that stands for a file names one that is there
+-- a descriptor that stands for a file names one that was made
 still-there : (c : Kept) (r : Request) → IsFine c r → (fd file offset : ℕ) (writes : Bool)
-    → descriptor_at c.descriptors fd ≡ Some (descriptor.File file offset writes) → file < length c.files
+    → descriptor_at c.descriptors fd ≡ Some (descriptor.File file offset writes) → file < c.files.made
 still-there c r fine fd file offset writes stands =
-    subst (NamesFile (length c.files)) stands (NamesFile-descriptor_at (length c.files) c.descriptors fd fine.named)
+    subst (NamesFile c.files.made) stands (NamesFile-descriptor_at c.files.made c.descriptors fd fine.named)
+
+-- a change of a file that lives, by its place
+at-its-place : (c : Kept) (r : Request) → IsFine c r → (f : ℕ → Change) (number : ℕ)
+    → ((place : ℕ) → place < length c.files.living → place_of c.files number ≡ Some place → IsPossible c.files.living (f place))
+    → IfSome (option_map f (place_of c.files number)) (IsPossible c.files.living)
+at-its-place c r fine f number each = go (place_of c.files number) refl
+  where
+    go : (o : Option ℕ) → place_of c.files number ≡ o → IfSome (option_map f o) (IsPossible c.files.living)
+    go None is = tt
+    go (Some place) is = each place (omega (arith, (place_there c.files number place is).0, fine.numbered.each)) is
 
 write-possible : (c : Kept) (r : Request) → IsFine c r → (fd n file offset : ℕ) (bytes : List ℕ) → r ≡ request.Write fd n (Some bytes)
-    → GoesToFile c.descriptors fd n file offset bytes → CarriesBytes (change.Write file offset bytes) → IsPossible c.files (change.Write file offset bytes)
+    → GoesToFile c.descriptors fd n file offset bytes → MayBeMade c.files (edit.Write file offset bytes)
 write-possible c r fine fd n file offset bytes is goes carries =
     let whole = subst IsWhole is fine.whole in
-    let there = still-there c r fine fd file offset true goes.stands in (
+    at-its-place c r fine (λ (place : ℕ). change.Write place offset bytes) file (λ place there _. (
       (omega (arith, fine.few, there), omega (arith, goes.fits), omega (arith, whole.0, goes.some), omega (arith, whole.0, goes.most), carries),
       (there, goes.fits),
-    )
+    ))
 
 create-possible : (c : Kept) (r : Request) → IsFine c r → (n mode : ℕ) (name : List ℕ) → r ≡ request.Open n mode (Some name)
-    → IsMadeNew (names_of c.files) n name → IsPossible c.files (change.Create name)
+    → IsMadeNew (directory c.files) n name → IsPossible c.files.living (change.Create name)
 create-possible c r fine n mode name is new =
     let whole = subst IsWhole is fine.whole in (
       (omega (arith, whole.0, new.some), omega (arith, whole.0, new.most), name_bytes name new.good),
-      (name_new c.files name new.new, omega (arith, new.room, length-map c.files (λ (f : NamedFile). f.name))),
+      (name_new c.files name fine.numbered.each new.new, omega (arith, new.room, length-map c.files.living (λ (f : NamedFile). f.name))),
     )
+
+rename-possible : (c : Kept) (r : Request) → IsFine c r → (file n m : ℕ) (names : List ℕ) → r ≡ request.Rename n m (Some names)
+    → IsRenamed (directory c.files) n m (take n names) (drop n names) file → MayBeMade c.files (edit.Rename file (drop n names))
+rename-possible c r fine file n m names is new carries =
+    let whole = subst IsWhole is fine.whole in
+    let size : length (drop n names) ≡ m = omega (arith, whole.0, length-drop n names) in
+    at-its-place c r fine (λ (place : ℕ). change.Rename place (drop n names)) file (λ place there at.
+    let named : (f : NamedFile) → slice_get c.files.living place ≡ Some f → f.name ≡ take n names =
+    λ f found. number_has_name c.files (take n names) file place f fine.numbered new.named at found in (
+      (omega (arith, fine.few, there), (omega (arith, size, new.some), omega (arith, size, new.most), name_bytes (drop n names) new.good)),
+      (there, (λ f found same. differs (take n names) (drop n names) new.differs (sym (named f found) ∙ same))),
+    ))
 
 taken-left : (tapes : List TapeState) (t n : ℕ) (tape : TapeState) → slice_get tapes t ≡ Some tape
     → AreLeft tapes (record { tape = t; count = length (take n (drop tape.place tape.bytes)) })
@@ -202,11 +238,11 @@ pub row-sound : (c : Kept) (p : ℕ) (r : Request) → IsFine c r → IsSound c 
 row-sound c p r fine = of_row (IsSound c r) (shared_of c.statuses c.files c.seen c.tapes) c.descriptors c.children r (record {
   told = λ _ _ _. still-sound c r _ refl refl refl tt tt tt tt (λ _ _. refl);
   waits = λ _ _. still-sound c r _ refl refl refl
-      (record { change = refl; output = refl; tape = refl; slots = refl; child = refl; collects = refl }, refl) tt tt tt (λ _ _. tt);
+      (record { edit = refl; output = refl; tape = refl; slots = refl; child = refl; collects = refl }, refl) tt tt tt (λ _ _. tt);
   shown = λ _ _. still-sound c r _ refl refl refl tt tt tt tt (λ _ _. refl);
   filed = λ fd n file offset bytes is goes. still-sound c r _ refl refl refl tt
       (write-possible c r fine fd n file offset bytes is goes)
-      (omega (arith, still-there c r fine fd file offset true goes.stands, changed_by_grows c.files (Some (change.Write file offset bytes))), tt)
+      (omega (arith, still-there c r fine fd file offset true goes.stands, made_grows c.files (change_of c.files (edit.Write file offset bytes))), tt)
       tt (λ _ _. refl);
   put = λ fd n k bytes p is found few. steps-sound c r _ refl refl refl refl (tt, tt) tt tt (λ _. omega arith)
       (put-fits c.seen k p bytes found few, tt) (λ _ _. refl);
@@ -214,25 +250,32 @@ row-sound c p r fine = of_row (IsSound c r) (shared_of c.statuses c.files c.seen
       (taken-left c.tapes t n tape found)
       (λ memory asked. part-placed memory at n (drop tape.place tape.bytes) (subst (IsAsked memory) is asked refl));
   copied = λ fd at n file offset f is stands found. still-sound c r _ refl refl refl (told-edits (length (take n (drop offset f.bytes))) at (take n (drop offset f.bytes)) _) tt
-      (slice_get_within c.files file f found, tt) tt
+      (still-there c r fine fd file offset false stands, tt) tt
       (λ memory asked. part-placed memory at n (drop offset f.bytes) (subst (IsAsked memory) is asked refl));
   taken = λ fd at n k p is found. steps-sound c r _ refl refl refl refl (tt, tt) (told-edits (length (take n (unread p))) at (take n (unread p)) _) tt (λ _. omega arith)
       (take-fits c.seen k n p found, tt)
       (λ memory asked. part-placed memory at n (unread p) (subst (IsAsked memory) is asked refl));
-  there = λ fd file name writes free found. still-sound c r _ refl refl refl tt tt (named_there c.files name file found, tt) tt (λ _ _. refl);
+  there = λ fd file name writes free found.
+      still-sound c r _ refl refl refl tt tt (named_made c.files name file fine.numbered found, tt) tt (λ _ _. refl);
   emptied = λ fd file name free found.
-      let there = named_there c.files name file found in
-      still-sound c r _ refl refl refl tt (λ _. (omega (arith, fine.few, there), there))
-      (omega (arith, there, changed_by_grows c.files (Some (change.Empty file))), tt) tt (λ _ _. refl);
+      still-sound c r _ refl refl refl tt
+      (λ _. at-its-place c r fine change.Empty file (λ place there _. (omega (arith, fine.few, there), there)))
+      (omega (arith, named_made c.files name file fine.numbered found, made_grows c.files (change_of c.files (edit.Empty file))), tt)
+      tt (λ _ _. refl);
   made = λ fd n mode name is free new. still-sound c r _ refl refl refl tt
       (λ _. create-possible c r fine n mode name is new)
-      (omega (arith, length-created c.files name, length-map c.files (λ (f : NamedFile). f.name)), tt) tt (λ _ _. refl);
+      (omega arith, tt) tt (λ _ _. refl);
+  unlinked = λ file n name is found. still-sound c r _ refl refl refl tt
+      (λ _. at-its-place c r fine change.Remove file (λ place there _. (omega (arith, fine.few, there), there)))
+      tt tt (λ _ _. refl);
+  renamed = λ file n m names is new. still-sound c r _ refl refl refl tt (rename-possible c r fine file n m names is new) tt tt (λ _ _. refl);
   closed = λ fd d stands.
       let ends = ends_of (Some d ∷ []) in
       let one : length ends ≤ 1 = length-ends_of (Some d ∷ []) in
       steps-sound c r _ refl refl refl refl (drops-open-none ends) tt (tt, tt) (λ _. omega (arith, one, length-map ends pipe_step.Drop))
       (drops-may ends c.seen) (λ _ _. refl);
-  moved = λ fd file old offset writes stands. still-sound c r _ refl refl refl tt tt (still-there c r fine fd file old writes stands, tt) tt (λ _ _. refl);
+  moved = λ fd file old offset writes stands.
+      still-sound c r _ refl refl refl tt tt (still-there c r fine fd file old writes stands, tt) tt (λ _ _. refl);
   piped = λ at reader writer is free next few. record {
     one_entry = set_alone _;
     opens = inl refl;
@@ -271,14 +314,14 @@ row-sound c p r fine = of_row (IsSound c r) (shared_of c.statuses c.files c.seen
     placed = λ memory asked. ended-placed memory (at == 0) e.child at (to_le_bytes w32 e.status) (omega arith) (subst (IsAsked memory) is asked refl);
   };
   ended = λ status. steps-sound c r _ refl refl refl refl (drops-open-none (ends_of c.descriptors))
-      (record { change = refl; output = refl; tape = refl; slots = refl; child = refl; collects = refl }) tt
+      (record { edit = refl; output = refl; tape = refl; slots = refl; child = refl; collects = refl }) tt
       (λ few. omega (arith, few, length-map (ends_of c.descriptors) pipe_step.Drop, length-ends_of c.descriptors))
       (drops-may (ends_of c.descriptors) c.seen) (λ _ _. tt);
 }) p
 
--- so after an effect each descriptor names a file that is there
-pub named-after : (c : Kept) (r : Request) (e : Effect) → IsSound c r e → NamesFiles (length c.files) c.descriptors
-    → NamesFiles (length (changed_by c.files e.change)) (set_slots c.descriptors e.slots)
+-- so after an effect each descriptor names a file that was made
+pub named-after : (c : Kept) (r : Request) (e : Effect) → IsSound c r e → NamesFiles c.files.made c.descriptors
+    → NamesFiles (changed_by c.files (change_by c.files e.edit)).made (set_slots c.descriptors e.slots)
 named-after c r e sound names =
-    each_slot (NamesFile (length (changed_by c.files e.change))) e.slots c.descriptors sound.named
-    (NamesFiles-more (length c.files) (length (changed_by c.files e.change)) (changed_by_grows c.files e.change) c.descriptors names)
+    each_slot (NamesFile (made_by c.files e.edit)) e.slots c.descriptors sound.named
+    (NamesFiles-more c.files.made (made_by c.files e.edit) (made_grows c.files (change_by c.files e.edit)) c.descriptors names)

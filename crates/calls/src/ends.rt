@@ -1,12 +1,13 @@
 //! The ends of pipes for which descriptors stand.
-ghost use Rattle.std.specs.Prelude.{◌≡◌, ◌≤◌, ◌%◌, List, [], length, map, Some, option_to_list, IfOk};
+ghost use Rattle.std.specs.Prelude.{◌≡◌, ◌≤◌, ◌%◌, List, [], length, map, Some, None, option_to_list, IfOk};
 ghost use Rattle.kernel_model.specs.Rows.{end_of, ends_of, carrier_of, closing, on_pipe, row_close, row_end, descriptor_at};
 ghost use Rattle.kernel_model.specs.declared.effect.PipeStep.TheVariants.{Drop};
 ghost use Rattle.pipes.specs.Seen.{Seen};
-ghost use Rattle.calls.specs.Plans.{IsPlan, effect_of, EditsAs, OpensAlone, MayAllStep};
+ghost use Rattle.calls.specs.Plans.{IsRow, effect_with, EditsAs, OpensAlone, MayAllStep};
 
 use crate::errno::Errno;
 use crate::plan::Plan;
+use crate::row::Row;
 use crate::verdict::number;
 use kernel_model::{Carrier, Descriptor, PipeEnd, PipeStep, Verdict};
 use processes::Descriptors;
@@ -59,69 +60,78 @@ fn drops_of(alloc: Global, ends: &[PipeEnd]) -> Result<Vec<PipeStep>, AllocError
 }
 
 /// The caller is told this, and the descriptors that stand for these ends are closed.
-fn closing(alloc: Global, ends: &[PipeEnd], verdict: Verdict) -> Result<Plan, AllocError>
-    ensures { IfOk result (λ plan. IsPlan plan (closing ends.now verdict)) }
+fn closing(alloc: Global, ends: &[PipeEnd], verdict: Verdict) -> Result<Row, AllocError>
+    ensures { IfOk result (λ row. IsRow row (closing ends.now verdict)) }
 {
     let carriers = carriers_of(alloc, ends)?;
     let pipes = drops_of(alloc, ends)?;
-    let plan = Plan {
+    let row = Row {
         pipes,
-        ..Plan::only(alloc, verdict)
+        ..Row::only(alloc, verdict)
     };
-    plan.updating_all(&carriers)
+    row.updating_all(&carriers)
 }
 
-/// The end of a process with a status, 0 to 255 by a call, or 256 plus a trap's cause: each end of a pipe for which a
-/// descriptor of its stands is given up. Refused for want of memory alone.
-pub fn plan_end(alloc: Global, descriptors: &Descriptors, status: u32) -> Result<Plan, AllocError>
-    ensures row { IfOk result (λ plan. effect_of plan ≡ row_end descriptors.now status) }
-    ensures edits { IfOk result (λ plan. EditsAs plan.verdict plan) }
-    ensures opens { IfOk result (λ plan. OpensAlone plan.pipes.items) }
-    ensures few { IfOk result (λ plan. length plan.pipes.items ≤ 16) }
-    ensures steps { (seen : List Seen) → IfOk result (λ plan. MayAllStep seen plan.pipes.items) }
+/// The row of the end of a process with these descriptors and a status.
+fn ending(alloc: Global, descriptors: &Descriptors, status: u32) -> Result<Row, AllocError>
+    ensures row { IfOk result (λ row. IsRow row (row_end descriptors.now status)) }
+    ensures few { length descriptors.now ≤ 16 }
 {
     let ends = ends_of(alloc, descriptors)?;
     closing(alloc, &ends, Verdict::Ends(status))
 }
 
-/// An exit with a status, of which the last byte counts.
-pub fn exit(alloc: Global, descriptors: &Descriptors, status: u32) -> Result<Plan, AllocError>
-    ensures { IfOk result (λ plan. IsPlan plan (row_end descriptors.now (status % 256))) }
+/// The end of a process with a status, 0 to 255 by a call, or 256 plus a trap's cause: each end of a pipe for which a
+/// descriptor of its stands is given up. Refused for want of memory alone.
+pub fn plan_end(alloc: Global, descriptors: &Descriptors, status: u32) -> Result<Plan, AllocError>
+    ensures row { IfOk result (λ plan. effect_with plan None ≡ row_end descriptors.now status) }
+    ensures change { IfOk result (λ plan. plan.change ≡ None) }
+    ensures edits { IfOk result (λ plan. EditsAs plan.verdict plan) }
+    ensures opens { IfOk result (λ plan. OpensAlone plan.pipes.items) }
+    ensures few { IfOk result (λ plan. length plan.pipes.items ≤ 16) }
+    ensures steps { (seen : List Seen) → IfOk result (λ plan. MayAllStep seen plan.pipes.items) }
 {
-    plan_end(alloc, descriptors, status % 256)
+    Ok(ending(alloc, descriptors, status)?.with_change(None))
+}
+
+/// An exit with a status, of which the last byte counts.
+pub fn exit(alloc: Global, descriptors: &Descriptors, status: u32) -> Result<Row, AllocError>
+    ensures { IfOk result (λ row. IsRow row (row_end descriptors.now (status % 256))) }
+{
+    ending(alloc, descriptors, status % 256)
 }
 
 /// The caller is told this, and a descriptor is closed that may stand for an end.
-fn closing_one(alloc: Global, end: Option<PipeEnd>, verdict: Verdict) -> Result<Plan, AllocError>
-    ensures { IfOk result (λ plan. IsPlan plan (closing (option_to_list end) verdict)) }
+fn closing_one(alloc: Global, end: Option<PipeEnd>, verdict: Verdict) -> Result<Row, AllocError>
+    ensures { IfOk result (λ row. IsRow row (closing (option_to_list end) verdict)) }
 {
     match end {
         Some(end) => closing(alloc, &[end], verdict),
-        None => Ok(Plan::only(alloc, verdict)),
+        None => Ok(Row::only(alloc, verdict)),
     }
 }
 
 /// A close of a descriptor.
-pub fn close(alloc: Global, descriptors: &Descriptors, fd: u32) -> Result<Plan, AllocError>
+pub fn close(alloc: Global, descriptors: &Descriptors, fd: u32) -> Result<Row, AllocError>
     ensures { IfOk result
-        (λ plan. IsPlan plan (row_close (descriptor_at descriptors.now fd) fd)) }
+        (λ row. IsRow row (row_close (descriptor_at descriptors.now fd) fd)) }
 {
     match descriptors.get(fd) {
         Some(descriptor) => close_there(alloc, descriptor, fd),
-        None => Ok(Plan::failure(alloc, Errno::BadDescriptor)),
+        None => Ok(Row::failure(alloc, Errno::BadDescriptor)),
     }
 }
 
 /// A close of a descriptor that stands for this.
-fn close_there(alloc: Global, descriptor: Descriptor, fd: u32) -> Result<Plan, AllocError>
-    ensures { IfOk result (λ plan. IsPlan plan (row_close (Some descriptor) fd)) }
+fn close_there(alloc: Global, descriptor: Descriptor, fd: u32) -> Result<Row, AllocError>
+    ensures { IfOk result (λ row. IsRow row (row_close (Some descriptor) fd)) }
 {
     closing_one(alloc, end_of(Some(descriptor)), number(alloc, 0))?.setting(fd as usize, None)
 }
 
 /// The caller of a call on a pipe is told this.
-pub fn on_pipe(alloc: Global, pipe: u32, verdict: Verdict) -> Result<Plan, AllocError>
-    ensures { IfOk result (λ plan. IsPlan plan (on_pipe pipe verdict [])) }
+pub fn on_pipe(alloc: Global, pipe: u32, verdict: Verdict) -> Result<Row, AllocError>
+    ensures { IfOk result (λ row. IsRow row (on_pipe pipe verdict [])) }
 {
-    Plan::only(alloc, verdict).updating(Carrier::Pipe(pipe))
+    Row::only(alloc, verdict).updating(Carrier::Pipe(pipe))
 }

@@ -3,11 +3,11 @@ ghost use Rattle.std.specs.Prelude.{◌≡◌, ◌∷◌, length, map, Some, IfO
 ghost use Rattle.kernel_model.specs.Rows.{failure, number, only, row_fork, table_full};
 ghost use Rattle.kernel_model.specs.declared.carrier.Carrier.TheVariants.{Tasks, Proc};
 ghost use Rattle.kernel_model.specs.declared.effect.PipeStep.TheVariants.{Add};
-ghost use Rattle.calls.specs.Plans.{IsPlan};
+ghost use Rattle.calls.specs.Plans.{IsRow};
 
 use crate::ends::{carriers_of, ends_of};
 use crate::errno::Errno;
-use crate::plan::Plan;
+use crate::row::Row;
 use kernel_model::{Carrier, PipeEnd, PipeStep};
 use processes::{Descriptors, MOST_PROCESSES, ProcTable};
 use std::alloc::{AllocError, Global};
@@ -20,13 +20,13 @@ fn adds_of(alloc: Global, ends: &[PipeEnd]) -> Result<Vec<PipeStep>, AllocError>
 }
 
 /// A fork where there is no room for one more process, by a caller whose pipes are these carriers.
-fn fork_refused(alloc: Global, carriers: &[Carrier]) -> Result<Plan, AllocError>
-    ensures { IfOk result (λ plan. IsPlan plan (record (failure table_full) {
+fn fork_refused(alloc: Global, carriers: &[Carrier]) -> Result<Row, AllocError>
+    ensures { IfOk result (λ row. IsRow row (record (failure table_full) {
       reads = Tasks ∷ carriers.now;
       writes = Tasks ∷ carriers.now;
     })) }
 {
-    Plan::failure(alloc, Errno::TableFull)
+    Row::failure(alloc, Errno::TableFull)
         .updating(Carrier::Tasks)?
         .updating_all(carriers)
 }
@@ -37,20 +37,20 @@ fn fork_made(
     child: u32,
     carriers: &[Carrier],
     pipes: Vec<PipeStep>,
-) -> Result<Plan, AllocError>
-    ensures { IfOk result (λ plan. IsPlan plan (record (only (number child)) {
+) -> Result<Row, AllocError>
+    ensures { IfOk result (λ row. IsRow row (record (only (number child)) {
       reads = Tasks ∷ Proc child ∷ carriers.now;
       writes = Tasks ∷ Proc child ∷ carriers.now;
       pipes = pipes.items;
       child = Some child;
     })) }
 {
-    let plan = Plan {
+    let row = Row {
         pipes,
         child: Some(child),
-        ..Plan::number(alloc, child)
+        ..Row::number(alloc, child)
     };
-    plan.updating(Carrier::Tasks)?
+    row.updating(Carrier::Tasks)?
         .updating(Carrier::Proc(child))?
         .updating_all(carriers)
 }
@@ -60,9 +60,9 @@ pub fn fork(
     alloc: Global,
     processes: &ProcTable,
     descriptors: &Descriptors,
-) -> Result<Plan, AllocError>
+) -> Result<Row, AllocError>
     ensures { IfOk result
-        (λ plan. IsPlan plan (row_fork (length processes.now.parts) descriptors.now)) }
+        (λ row. IsRow row (row_fork (length processes.now.parts) descriptors.now)) }
 {
     let ends = ends_of(alloc, descriptors)?;
     let carriers = carriers_of(alloc, &ends)?;

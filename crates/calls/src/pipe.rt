@@ -2,10 +2,10 @@
 ghost use Rattle.std.specs.Prelude.{◌≡◌, ◌<◌, ◌≤◌, ◌++◌, length, IfOk};
 ghost use Rattle.std.specs.Int.{w32, to_le_bytes};
 ghost use Rattle.kernel_model.specs.Rows.{pipe_made, row_pipe};
-ghost use Rattle.calls.specs.Plans.{IsPlan};
+ghost use Rattle.calls.specs.Plans.{IsRow};
 
 use crate::errno::Errno;
-use crate::plan::Plan;
+use crate::row::Row;
 use crate::verdict::with_bytes;
 use byte_list::Bytes;
 use kernel_model::{Carrier, Descriptor, PipeEnd, PipeStep};
@@ -20,22 +20,22 @@ pub fn pipe(
     descriptors: &Descriptors,
     at: u32,
     fits: bool,
-) -> Result<Plan, AllocError>
+) -> Result<Row, AllocError>
     ensures { IfOk result
-        (λ plan. IsPlan plan (row_pipe (length pipes.now) descriptors.now at fits)) }
+        (λ row. IsRow row (row_pipe (length pipes.now) descriptors.now at fits)) }
 {
     if !fits {
-        return Ok(Plan::failure(alloc, Errno::BadAddress));
+        return Ok(Row::failure(alloc, Errno::BadAddress));
     }
     let Some(reader) = descriptors.free() else {
-        return Ok(Plan::failure(alloc, Errno::TooManyDescriptors));
+        return Ok(Row::failure(alloc, Errno::TooManyDescriptors));
     };
     let Some(writer) = descriptors.free_after(reader) else {
-        return Ok(Plan::failure(alloc, Errno::TooManyDescriptors));
+        return Ok(Row::failure(alloc, Errno::TooManyDescriptors));
     };
     let count = pipes.len();
     if count >= MOST_PIPES {
-        return Plan::failure(alloc, Errno::TableFull).updating(Carrier::Pipes);
+        return Row::failure(alloc, Errno::TableFull).updating(Carrier::Pipes);
     }
     pipe_made(alloc, count as u32, at, reader, writer)
 }
@@ -58,13 +58,13 @@ fn pipe_made(
     at: u32,
     reader: usize,
     writer: usize,
-) -> Result<Plan, AllocError>
+) -> Result<Row, AllocError>
     requires reader { reader < 16 }
     requires writer { writer < 16 }
-    ensures { IfOk result (λ plan. IsPlan plan (pipe_made pipe at reader writer)) }
+    ensures { IfOk result (λ row. IsRow row (pipe_made pipe at reader writer)) }
 {
     let words = pair_of(alloc, reader as u32, writer as u32)?;
-    Plan::only(alloc, with_bytes(0, at, words))
+    Row::only(alloc, with_bytes(0, at, words))
         .updating(Carrier::Pipes)?
         .updating(Carrier::Pipe(pipe))?
         .stepping(PipeStep::Open)?

@@ -1,6 +1,6 @@
 //! The call at which a machine stands.
-ghost use Rattle.std.specs.Prelude.{◌≡◌, ◌==◌, ◌||◌, None, IfOk, IsOk};
-ghost use Rattle.kernel_model.specs.Requests.{read_bytes, may_be_placed, most_bytes, word_size, request_of as request_at};
+ghost use Rattle.std.specs.Prelude.{◌≡◌, ◌+◌, ◌==◌, ◌||◌, None, IfOk, IsOk};
+ghost use Rattle.kernel_model.specs.Requests.{read_bytes, may_be_placed, longest_names, most_bytes, word_size, request_of as request_at};
 ghost use Rattle.calls.specs.Wholes.{AreWhole, IsWhole, HoldsNone};
 
 use byte_list::Bytes;
@@ -13,6 +13,9 @@ use std::alloc::{AllocError, Global};
 
 /// The most bytes that one call moves.
 pub const MOST_BYTES: u32 = 1024;
+
+/// The most bytes of two names.
+pub const LONGEST_NAMES: u32 = 64;
 
 /// The bytes of two words, as which a pipe's descriptors are written.
 const PAIR_SIZE: u32 = 8;
@@ -42,6 +45,25 @@ fn named_bytes(
     }
 }
 
+/// The bytes of two names, of n and of m bytes, where they are at most 64 and the process may read them. Else no memory is
+/// taken.
+fn named_pair(
+    alloc: Global,
+    machine: &Machine,
+    at: u32,
+    n: u32,
+    m: u32,
+) -> Result<Option<Bytes>, AllocError>
+    ensures read { IfOk result (λ names. names ≡ read_bytes machine.now.hart.memory longest_names at (n + m)) }
+    ensures whole { IfOk result (λ names. AreWhole longest_names (n + m) names) }
+    ensures none { read_bytes machine.now.hart.memory longest_names at (n + m) ≡ None → IsOk result }
+{
+    match n.checked_add(m) {
+        Some(size) => named_bytes(alloc, machine, at, size, LONGEST_NAMES),
+        None => Ok(None),
+    }
+}
+
 /// Whether n bytes that a call gives are not too many, and the process may write them at an address.
 fn may_be_placed(machine: &Machine, at: u32, n: u32) -> bool
     ensures { result ≡ may_be_placed machine.now.hart.memory most_bytes at n }
@@ -57,7 +79,7 @@ fn may_take_status(machine: &Machine, at: u32) -> bool
 }
 
 /// The call that the registers name: its number in a7, its arguments in a0 to a2, with the bytes that it names. Refused
-/// for want of memory alone, which only the bytes of a write or of a name take.
+/// for want of memory alone, which only the bytes of a write or of names take.
 pub fn request_of(alloc: Global, machine: &Machine) -> Result<Request, AllocError>
     ensures request { IfOk result (λ r. r ≡ request_at machine.now) }
     ensures whole { IfOk result (λ r. IsWhole r) }
@@ -97,6 +119,15 @@ pub fn request_of(alloc: Global, machine: &Machine) -> Result<Request, AllocErro
         9 => Ok(Request::GetPid),
         10 => Ok(Request::Seek { fd: a0, offset: a1 }),
         11 => Ok(Request::Sync),
+        12 => Ok(Request::Unlink {
+            n: a1,
+            name: named_bytes(alloc, machine, a0, a1, LONGEST_NAME)?,
+        }),
+        13 => Ok(Request::Rename {
+            n: a1,
+            m: a2,
+            names: named_pair(alloc, machine, a0, a1, a2)?,
+        }),
         _ => Ok(Request::Unknown),
     }
 }

@@ -1,11 +1,12 @@
 //! The row of seek.
-ghost use Rattle.std.specs.Prelude.{IfOk};
-ghost use Rattle.kernel_model.specs.Rows.{descriptor_at, row_seek};
-ghost use Rattle.calls.specs.Plans.{IsPlan};
+ghost use Rattle.std.specs.Prelude.{◌≡◌, IfOk};
+ghost use Rattle.kernel_model.specs.Rows.{descriptor_at, row_seek, seek_to};
+ghost use Rattle.calls.specs.Plans.{IsRow};
 
 use crate::errno::Errno;
-use crate::plan::Plan;
+use crate::row::Row;
 use disk_model::LONGEST_FILE;
+use files::FileTable;
 use kernel_model::Descriptor;
 use processes::Descriptors;
 use std::alloc::{AllocError, Global};
@@ -13,23 +14,41 @@ use std::alloc::{AllocError, Global};
 /// A seek to an offset through a descriptor.
 pub fn seek(
     alloc: Global,
+    files: &FileTable,
     descriptors: &Descriptors,
     fd: u32,
     offset: u32,
-) -> Result<Plan, AllocError>
+) -> Result<Row, AllocError>
     ensures { IfOk result
-        (λ plan. IsPlan plan (row_seek (descriptor_at descriptors.now fd) fd offset)) }
+        (λ row. IsRow row (row_seek files.now (descriptor_at descriptors.now fd) fd offset)) }
 {
-    let Some(Descriptor::File { file, writes, .. }) = descriptors.get(fd) else {
-        return Ok(Plan::failure(alloc, Errno::BadDescriptor));
+    let held = descriptors.get(fd);
+    seek_to(alloc, files, held, fd as usize, offset)?.looking_at(held)
+}
+
+/// A seek to an offset, by what the descriptor stands for: the tests in their order.
+fn seek_to(
+    alloc: Global,
+    files: &FileTable,
+    held: Option<Descriptor>,
+    fd: usize,
+    offset: u32,
+) -> Result<Row, AllocError>
+    ensures { IfOk result (λ row. IsRow row (seek_to files.now held fd offset)) }
+{
+    let Some(Descriptor::File { file, writes, .. }) = held else {
+        return Ok(Row::failure(alloc, Errno::BadDescriptor));
     };
+    if !files.alive(file) {
+        return Ok(Row::failure(alloc, Errno::BadDescriptor));
+    }
     if offset > LONGEST_FILE {
-        return Ok(Plan::failure(alloc, Errno::BadArgument));
+        return Ok(Row::failure(alloc, Errno::BadArgument));
     }
     let holds = Descriptor::File {
         file,
         offset,
         writes,
     };
-    Plan::number(alloc, offset).setting(fd as usize, Some(holds))
+    Row::number(alloc, offset).setting(fd, Some(holds))
 }

@@ -5,10 +5,10 @@ ghost use Rattle.kernel_model.specs.Rows.{number, with_bytes, wait_ended, row_wa
 ghost use Rattle.kernel_model.specs.declared.carrier.Carrier.TheVariants.{Proc};
 ghost use Rattle.processes.specs.Ended.{child_of};
 ghost use Rattle.processes.specs.Parts.{part_at, children_in, statuses_of};
-ghost use Rattle.calls.specs.Plans.{IsPlan};
+ghost use Rattle.calls.specs.Plans.{IsRow};
 
 use crate::errno::Errno;
-use crate::plan::Plan;
+use crate::row::Row;
 use crate::verdict::{number, with_bytes};
 use byte_list::Bytes;
 use kernel_model::{Carrier, Verdict};
@@ -22,16 +22,16 @@ pub fn wait(
     pid: u32,
     at: u32,
     fits: bool,
-) -> Result<Plan, AllocError>
-    ensures { IfOk result (λ plan. IsPlan plan (row_wait (statuses_of processes.now.parts)
+) -> Result<Row, AllocError>
+    ensures { IfOk result (λ row. IsRow row (row_wait (statuses_of processes.now.parts)
         (children_in (part_at processes.now.parts pid)) at fits)) }
 {
     if !fits {
-        return Ok(Plan::failure(alloc, Errno::BadAddress));
+        return Ok(Row::failure(alloc, Errno::BadAddress));
     }
     let children = processes.children(pid);
     if children.is_empty() {
-        return Ok(Plan::failure(alloc, Errno::NoChild));
+        return Ok(Row::failure(alloc, Errno::NoChild));
     }
     wait_ended(alloc, at, children, processes.ended_child(pid))
 }
@@ -64,21 +64,21 @@ fn wait_ended(
     at: u32,
     children: &[u32],
     ended: Option<EndedChild>,
-) -> Result<Plan, AllocError>
+) -> Result<Row, AllocError>
     ensures { IfOk result
-        (λ plan. IsPlan plan (wait_ended at children.now (option_map child_of ended))) }
+        (λ row. IsRow row (wait_ended at children.now (option_map child_of ended))) }
 {
     let reads = procs_of(alloc, children)?;
     let Some(ended) = ended else {
-        return Ok(Plan {
+        return Ok(Row {
             reads,
-            ..Plan::only(alloc, Verdict::Waits)
+            ..Row::only(alloc, Verdict::Waits)
         });
     };
     let verdict = told_of(alloc, at, ended)?;
-    Ok(Plan {
+    Ok(Row {
         reads,
         collects: Some(ended.child),
-        ..Plan::only(alloc, verdict)
+        ..Row::only(alloc, verdict)
     })
 }

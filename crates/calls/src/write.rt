@@ -1,31 +1,33 @@
 //! The row of write.
-ghost use Rattle.std.specs.Prelude.{◌≡◌, ◌≤◌, ◌<◌, ◌+◌, nat_lt, [], Some, length, slice_get, map, IfOk, IfSome};
+ghost use Rattle.std.specs.Prelude.{◌≡◌, ◌≤◌, ◌<◌, ◌+◌, ◌==◌, ◌∷◌, nat_lt, not, [], Some, length, slice_get, map, IfOk, IfSome, if◌then◌else◌};
 ghost use Rattle.std.specs.List.{AllByRecursion};
 ghost use Rattle.kernel_model.specs.Requests.{most_bytes};
-ghost use Rattle.kernel_model.specs.Rows.{longest_file, only, number, descriptor_at, may_write, write_file, put_some, write_pipe, write_to, row_write};
-ghost use Rattle.calls.specs.Plans.{IsPlan, CarriesBytes};
+ghost use Rattle.kernel_model.specs.Rows.{longest_file, only, number, failure, bad_descriptor, bad_argument, descriptor_at, may_write, write_file, put_some, write_pipe, write_to, write_read, row_write};
+ghost use Rattle.calls.specs.Plans.{IsRow, CarriesBytes};
 ghost use Rattle.calls.specs.Shares.{pipe_of, things};
 ghost use Rattle.calls.specs.Wholes.{AreWhole};
 
 use crate::ends::on_pipe;
 use crate::errno::Errno;
-use crate::plan::Plan;
 use crate::request::MOST_BYTES;
+use crate::row::Row;
+use crate::tables::KernelTables;
 use crate::verdict::number;
 use byte_list::Bytes;
-use disk_model::{Change, LONGEST_FILE};
-use kernel_model::{Carrier, Descriptor, Output, PipeEnd, PipeStep, Verdict};
+use disk_model::LONGEST_FILE;
+use files::FileTable;
+use kernel_model::{Carrier, Descriptor, FileEdit, Output, PipeEnd, PipeStep, Verdict};
 use pipes::{Pipe, PipeTable};
 use processes::Descriptors;
 use std::alloc::{AllocError, Global};
 
 /// Whether bytes may be written through a descriptor.
-fn may_write(descriptor: Option<Descriptor>) -> bool
-    ensures { result ≡ may_write descriptor }
+fn may_write(files: &FileTable, descriptor: Option<Descriptor>) -> bool
+    ensures { result ≡ may_write files.now descriptor }
 {
     match descriptor {
         Some(Descriptor::Terminal(_)) => true,
-        Some(Descriptor::File { writes, .. }) => writes,
+        Some(Descriptor::File { file, writes, .. }) => writes && files.alive(file),
         Some(Descriptor::Pipe(end)) => matches!(end, PipeEnd::Write(_)),
         Some(Descriptor::Tape(_)) | None => false,
     }
@@ -40,49 +42,69 @@ fn count(bytes: &[u8]) -> u32
     bytes.len() as u32
 }
 
-/// A write of n bytes through a descriptor: the tests in their order, then by what it stands for.
+/// A write of n bytes through a descriptor.
 pub fn write(
     alloc: Global,
-    pipes: &PipeTable,
+    tables: &KernelTables,
     descriptors: &Descriptors,
     fd: u32,
     n: u32,
     bytes: Option<Bytes>,
-) -> Result<Plan, AllocError>
+) -> Result<Row, AllocError>
     requires { AreWhole most_bytes n bytes }
     ensures row { IfOk result
-        (λ plan. IsPlan plan
-        (row_write (things [] pipes.now []) (descriptor_at descriptors.now fd) fd n bytes)) }
-    ensures carries { IfOk result (λ plan. IfSome plan.change CarriesBytes) }
+        (λ row. IsRow row
+        (row_write (things tables.now.files.now tables.now.pipes.now []) (descriptor_at descriptors.now fd) fd n bytes)) }
+    ensures carries { IfOk result (λ row. IfSome row.edit CarriesBytes) }
 {
     let to = descriptors.get(fd);
-    if !may_write(to) {
-        return Ok(Plan::failure(alloc, Errno::BadDescriptor));
+    write_tested(alloc, tables, to, fd as usize, n, bytes)?.looking_at(to)
+}
+
+/// A write of n bytes by what the descriptor stands for: the tests in their order.
+fn write_tested(
+    alloc: Global,
+    tables: &KernelTables,
+    to: Option<Descriptor>,
+    fd: usize,
+    n: u32,
+    bytes: Option<Bytes>,
+) -> Result<Row, AllocError>
+    requires { AreWhole most_bytes n bytes }
+    ensures row { IfOk result (λ row. IsRow row (
+        if not (may_write tables.now.files.now to) then failure bad_descriptor
+        else if nat_lt most_bytes n then failure bad_argument
+        else if n == 0 then only (number 0)
+        else write_read (things tables.now.files.now tables.now.pipes.now []) to fd bytes)) }
+    ensures carries { IfOk result (λ row. IfSome row.edit CarriesBytes) }
+{
+    if !may_write(tables.files, to) {
+        return Ok(Row::failure(alloc, Errno::BadDescriptor));
     }
     if n > MOST_BYTES {
-        return Ok(Plan::failure(alloc, Errno::BadArgument));
+        return Ok(Row::failure(alloc, Errno::BadArgument));
     }
     if n == 0 {
-        return Ok(Plan::number(alloc, 0));
+        return Ok(Row::number(alloc, 0));
     }
     match bytes {
-        None => Ok(Plan::failure(alloc, Errno::BadAddress)),
-        Some(bytes) => write_to(alloc, pipes, to, fd as usize, bytes),
+        None => Ok(Row::failure(alloc, Errno::BadAddress)),
+        Some(bytes) => write_to(alloc, tables, to, fd, bytes),
     }
 }
 
 /// A write of these bytes, by what the descriptor stands for.
 fn write_to(
     alloc: Global,
-    pipes: &PipeTable,
+    tables: &KernelTables,
     to: Option<Descriptor>,
     fd: usize,
     bytes: Bytes,
-) -> Result<Plan, AllocError>
+) -> Result<Row, AllocError>
     requires { length bytes ≤ most_bytes }
     ensures row { IfOk result
-        (λ plan. IsPlan plan (write_to (things [] pipes.now []) to fd bytes)) }
-    ensures carries { IfOk result (λ plan. IfSome plan.change CarriesBytes) }
+        (λ row. IsRow row (write_to (things tables.now.files.now tables.now.pipes.now []) to fd bytes)) }
+    ensures carries { IfOk result (λ row. IfSome row.edit CarriesBytes) }
 {
     match to {
         Some(Descriptor::Terminal(terminal)) => write_terminal(alloc, terminal, bytes),
@@ -93,21 +115,26 @@ fn write_to(
                 writes: true,
             },
         ) => write_file(alloc, fd, file, offset, bytes),
-        Some(Descriptor::Pipe(PipeEnd::Write(pipe))) => write_pipe(alloc, pipes, pipe, bytes),
-        _ => Ok(Plan::failure(alloc, Errno::BadDescriptor)),
+        Some(Descriptor::Pipe(PipeEnd::Write(pipe))) => write_pipe(
+            alloc,
+            tables.pipes,
+            pipe,
+            bytes,
+        ),
+        _ => Ok(Row::failure(alloc, Errno::BadDescriptor)),
     }
 }
 
 /// A write of these bytes to a terminal.
-fn write_terminal(alloc: Global, terminal: u32, bytes: Bytes) -> Result<Plan, AllocError>
+fn write_terminal(alloc: Global, terminal: u32, bytes: Bytes) -> Result<Row, AllocError>
     requires { length bytes ≤ most_bytes }
-    ensures { IfOk result (λ plan. IsPlan plan (record (only (number (length bytes))) {
+    ensures { IfOk result (λ row. IsRow row (record (only (number (length bytes))) {
       output = Some (record { terminal = terminal; bytes = bytes });
     })) }
 {
-    let mut plan = Plan::number(alloc, count(bytes.as_slice()));
-    plan.output = Some(Output { terminal, bytes });
-    Ok(plan)
+    let mut row = Row::number(alloc, count(bytes.as_slice()));
+    row.output = Some(Output { terminal, bytes });
+    Ok(row)
 }
 
 /// Whether n bytes at an offset of a file end past the most that a file may hold.
@@ -122,19 +149,19 @@ fn ends_too_far(offset: u32, n: u32) -> bool
 fn write_file(
     alloc: Global,
     fd: usize,
-    file: u16,
+    file: u64,
     offset: u32,
     bytes: Bytes,
-) -> Result<Plan, AllocError>
+) -> Result<Row, AllocError>
     requires { length bytes ≤ most_bytes }
-    ensures row { IfOk result (λ plan. IsPlan plan (write_file fd file offset bytes)) }
-    ensures carries { IfOk result (λ plan. IfSome plan.change CarriesBytes) }
+    ensures row { IfOk result (λ row. IsRow row (write_file fd file offset bytes)) }
+    ensures carries { IfOk result (λ row. IfSome row.edit CarriesBytes) }
 {
     let n = count(bytes.as_slice());
     if ends_too_far(offset, n) {
-        return Ok(Plan::failure(alloc, Errno::FileTooLarge));
+        return Ok(Row::failure(alloc, Errno::FileTooLarge));
     }
-    let change = Change::Write {
+    let edit = FileEdit::Write {
         file,
         offset,
         bytes,
@@ -144,30 +171,30 @@ fn write_file(
         offset: offset + n,
         writes: true,
     };
-    Plan::number(alloc, n)
-        .changing(change)
-        .updating(Carrier::File(file))?
+    Row::number(alloc, n)
+        .editing(edit)
+        .writing(Carrier::File(file))?
         .setting(fd, Some(holds))
 }
 
 /// A write of these bytes to a pipe: refused where none can read it any more, and waiting where it is full.
-fn write_pipe(alloc: Global, pipes: &PipeTable, pipe: u32, bytes: Bytes) -> Result<Plan, AllocError>
+fn write_pipe(alloc: Global, pipes: &PipeTable, pipe: u32, bytes: Bytes) -> Result<Row, AllocError>
     requires { length bytes ≤ most_bytes }
     ensures row { IfOk result
-        (λ plan. IsPlan plan (write_pipe pipe bytes (slice_get (map pipe_of pipes.now) pipe))) }
-    ensures carries { IfOk result (λ plan. IfSome plan.change CarriesBytes) }
+        (λ row. IsRow row (write_pipe pipe bytes (slice_get (map pipe_of pipes.now) pipe))) }
+    ensures carries { IfOk result (λ row. IfSome row.edit CarriesBytes) }
 {
     match pipes.get(pipe) {
         Some(to) => write_held(alloc, pipe, to, bytes),
-        None => Ok(Plan::failure(alloc, Errno::BadDescriptor)),
+        None => Row::failure(alloc, Errno::BadDescriptor).reading(Carrier::Pipe(pipe)),
     }
 }
 
 /// A write of these bytes to a pipe that is there.
-fn write_held(alloc: Global, pipe: u32, to: &Pipe, bytes: Bytes) -> Result<Plan, AllocError>
+fn write_held(alloc: Global, pipe: u32, to: &Pipe, bytes: Bytes) -> Result<Row, AllocError>
     requires { length bytes ≤ most_bytes }
-    ensures row { IfOk result (λ plan. IsPlan plan (write_pipe pipe bytes (Some (pipe_of to.now)))) }
-    ensures carries { IfOk result (λ plan. IfSome plan.change CarriesBytes) }
+    ensures row { IfOk result (λ row. IsRow row (write_pipe pipe bytes (Some (pipe_of to.now)))) }
+    ensures carries { IfOk result (λ row. IfSome row.edit CarriesBytes) }
 {
     if to.readers() == 0 {
         return on_pipe(alloc, pipe, number(alloc, Errno::NoReader.reply()));
@@ -180,13 +207,13 @@ fn write_held(alloc: Global, pipe: u32, to: &Pipe, bytes: Bytes) -> Result<Plan,
 }
 
 /// A write of as many of these bytes to a pipe as there is room for.
-fn put_some(alloc: Global, pipe: u32, bytes: &[u8], room: usize) -> Result<Plan, AllocError>
+fn put_some(alloc: Global, pipe: u32, bytes: &[u8], room: usize) -> Result<Row, AllocError>
     requires { length bytes.now ≤ most_bytes }
-    ensures row { IfOk result (λ plan. IsPlan plan (put_some pipe bytes.now room)) }
-    ensures carries { IfOk result (λ plan. IfSome plan.change CarriesBytes) }
+    ensures row { IfOk result (λ row. IsRow row (put_some pipe bytes.now room)) }
+    ensures carries { IfOk result (λ row. IfSome row.edit CarriesBytes) }
 {
     let taken = &bytes[..room.min(bytes.len())];
     let bytes = Bytes::copy_of(alloc, taken)?;
-    let plan = on_pipe(alloc, pipe, number(alloc, taken.len() as u32))?;
-    plan.stepping(PipeStep::Put { pipe, bytes })
+    let row = on_pipe(alloc, pipe, number(alloc, taken.len() as u32))?;
+    row.stepping(PipeStep::Put { pipe, bytes })
 }

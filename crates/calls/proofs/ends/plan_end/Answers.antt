@@ -1,35 +1,26 @@
 -- Ends may be given up, and nothing else changes.
-use Rattle.std.proofs.Common.{◌≡◌, ◌≤◌, ◌∙◌, List, length, IfOk, ap, sym, subst, arith}
-use Rattle.kernel_model.specs.Rows.{ends_of, closing}
-use Rattle.kernel_model.specs.declared.descriptor.PipeEnd.{PipeEnd}
-use Rattle.kernel_model.specs.declared.request.Verdict.TheVariants.{Ends}
-use Rattle.calls.specs.Plans.{effect_of}
-use Rattle.calls.specs.declared.plan.Plan.{Plan}
-use Rattle.calls.proofs.Planned.{is-effect, if_planned, ending-edits, ending-steps, ending-opens, ending-few}
+use Rattle.std.proofs.Common.{refl, arith}
+use Rattle.kernel_model.specs.Rows.{ends_of, row_end}
+use Rattle.calls.proofs.Planned.{plain-plan, ending-edits, ending-steps, ending-opens, ending-few}
 use Rattle.calls.proofs.Stepping.{length-ends_of}
 use Rattle.calls.proofs.ends.plan_end.Goals as goal
 
 pub returns-clause-row : goal.returns-clause-row
 returns-clause-row c =
-    subst (λ (ends : List PipeEnd). IfOk c.closing.result (λ plan. effect_of plan ≡ closing ends (Ends c.args.status))) (c.deref.ensures.value ∙ c.in_ok-ends.ensures.ends)
-    (if_planned c.closing.result _ _ (λ (plan : Plan) is. sym (is-effect plan (closing c.deref.result.now (Ends c.args.status)) is)) c.closing.ensures)
+    plain-plan c.in_ok-ending.field-0 c.with_change.result (row_end c.args.descriptors.now c.args.status)
+    c.in_ok-ending.ensures.row refl c.with_change.ensures.row
 
 pub returns-clause-edits : goal.returns-clause-edits
 returns-clause-edits c =
-    if_planned c.closing.result _ _ (λ (plan : Plan) is. ending-edits plan c.deref.result.now c.args.status is) c.closing.ensures
+    ending-edits c.with_change.result (ends_of c.args.descriptors.now) c.args.status c.with_change.ensures.change (returns-clause-row c)
 
 pub returns-clause-steps : goal.returns-clause-steps
-returns-clause-steps c =
-    λ seen. if_planned c.closing.result _ _ (λ (plan : Plan) is. ending-steps plan c.deref.result.now c.args.status is seen) c.closing.ensures
+returns-clause-steps c = ending-steps c.with_change.result (ends_of c.args.descriptors.now) c.args.status (returns-clause-row c)
 
 pub returns-clause-opens : goal.returns-clause-opens
-returns-clause-opens c =
-    if_planned c.closing.result _ _ (λ (plan : Plan) is. ending-opens plan c.deref.result.now c.args.status is) c.closing.ensures
+returns-clause-opens c = ending-opens c.with_change.result (ends_of c.args.descriptors.now) c.args.status (returns-clause-row c)
 
 pub returns-clause-few : goal.returns-clause-few
 returns-clause-few c =
-    let size : length (ends_of c.args.descriptors.now) ≤ length c.args.descriptors.now = length-ends_of c.args.descriptors.now in
-    let same : length c.deref.result.now ≡ length (ends_of c.args.descriptors.now) =
-    ap (λ (ends : List PipeEnd). length ends) (c.deref.ensures.value ∙ c.in_ok-ends.ensures.ends) in
-    if_planned c.closing.result _ _
-    (λ (plan : Plan) is. ending-few plan c.deref.result.now c.args.status is (omega (arith, size, same, c.in_ok-ends.ensures.few))) c.closing.ensures
+    ending-few c.with_change.result (ends_of c.args.descriptors.now) c.args.status (returns-clause-row c)
+    (omega (arith, length-ends_of c.args.descriptors.now, c.in_ok-ending.ensures.few))

@@ -5,5 +5,6 @@ use Rattle.calls.proofs.plan.plan_call.Goals as goal
 
 pub returns : goal.returns
 returns c =
-    planned-call (sight_of c.args.tables.now) c.args.pid c.args.request c.descriptors_of-descriptors.result.now c.plan_row.result
-    c.requires.may c.requires.whole c.descriptors_of-descriptors.ensures.value c.descriptors_of-descriptors.ensures.few c.plan_row.ensures.row c.plan_row.ensures.carries
+    planned-call (sight_of c.args.tables.now) c.args.pid c.args.request c.descriptors_of-descriptors.result.now c.in_ok-row.row c.planned.result
+    c.requires.may c.requires.whole c.descriptors_of-descriptors.ensures.value c.descriptors_of-descriptors.ensures.few
+    c.in_ok-row.ensures.row c.in_ok-row.ensures.carries c.planned.ensures
