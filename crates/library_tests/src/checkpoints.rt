@@ -6,7 +6,7 @@ use journal::{Change, body_of, rebuild};
 use std::alloc::{AllocError, Global};
 
 /// The body of a record with a change of each kind.
-fn body_of_three(alloc: Global) -> Result<Vec<u8>, AllocError> {
+fn body_of_each(alloc: Global) -> Result<Vec<u8>, AllocError> {
     let changes = [
         Change::Create(Bytes::copy_of(alloc, b"f")?),
         Change::Write {
@@ -15,15 +15,21 @@ fn body_of_three(alloc: Global) -> Result<Vec<u8>, AllocError> {
             bytes: Bytes::copy_of(alloc, &[0x41, 0, 0])?,
         },
         Change::Empty(772),
+        Change::Remove(258),
+        Change::Rename {
+            file: 513,
+            name: Bytes::copy_of(alloc, b"fg")?,
+        },
     ];
     body_of(alloc, &changes)
 }
 
 #[test]
 fn a_body_of_each_kind(rt: HostRuntime) -> Result<(), AllocError> {
-    let body = body_of_three(rt.alloc())?;
-    let wanted = b"\x01\x01f\x02\0\0\x02\x01\0\0\x03\0A\0\0\x03\x04\x03".as_slice();
-    assert_row(&rt, "body", body.as_slice(), wanted);
+    let body = body_of_each(rt.alloc())?;
+    let wanted =
+        b"\x01\x01f\x02\0\0\x02\x01\0\0\x03\0A\0\0\x03\x04\x03\x04\x02\x01\x05\x01\x02\x02fg";
+    assert_row(&rt, "body", body.as_slice(), wanted.as_slice());
     Ok(())
 }
 
@@ -68,5 +74,27 @@ fn a_checkpoint_has_every_file(rt: HostRuntime) -> Result<(), AllocError> {
         let write = Some((1, at, len));
         assert_row(&rt, place, written(&changes[place]), write);
     }
+    Ok(())
+}
+
+/// The changes of a checkpoint of two files that live, of three that were made: the first was removed, and the third renamed.
+fn rebuilt_of_living(alloc: Global) -> Result<Vec<Change>, AllocError> {
+    let mut files = FileTable::new(alloc);
+    files.create(Bytes::copy_of(alloc, b"a")?)?;
+    files.create(Bytes::copy_of(alloc, b"b")?)?;
+    files.create(Bytes::copy_of(alloc, b"c")?)?;
+    files.write(1, 0, b"xy")?;
+    files.unlink(0);
+    files.rename(1, Bytes::copy_of(alloc, b"d")?);
+    rebuild(alloc, &files)
+}
+
+#[test]
+fn a_checkpoint_has_living_files_alone(rt: HostRuntime) -> Result<(), AllocError> {
+    let changes = rebuilt_of_living(rt.alloc())?;
+    assert!(rt; changes.len() == 3);
+    assert_row(&rt, 0, created(&changes[0]), Some(b"b".as_slice()));
+    assert_row(&rt, 1, written(&changes[1]), Some((0, 0, 2)));
+    assert_row(&rt, 2, created(&changes[2]), Some(b"d".as_slice()));
     Ok(())
 }

@@ -121,6 +121,22 @@ const BAD_BODIES: &[&[u8]] = &[
     b"\x01\x01f\x03\0",
     // A file that is not there is emptied before.
     b"\x03\0\0\x09",
+    // A change of kind 6, where a removal is 4 and a renaming 5.
+    b"\x06\0\0",
+    // Removals and renamings that end too soon, with a name of no bytes among them.
+    b"\x01\x01f\x04",
+    b"\x01\x01f\x04\0",
+    b"\x01\x01f\x05\0",
+    b"\x01\x01f\x05\0\0",
+    b"\x01\x01f\x05\0\0\0",
+    b"\x01\x01f\x05\0\0\x02a",
+    // New names of a slash, of a blank, and of 33 bytes.
+    b"\x01\x01f\x05\0\0\x01/",
+    b"\x01\x01f\x05\0\0\x01 ",
+    b"\x01\x01f\x05\0\0\x21aaaaaaaaaaaaaaaaaaaaaaaaaaaaaaaaa",
+    // A file that is not there is removed before, and one gets the name that it has.
+    b"\x04\0\0\x09",
+    b"\x01\x01f\x05\0\0\x01f\x09",
 ];
 
 #[test]
@@ -345,6 +361,20 @@ const BAD_CHANGES: &[&[u8]] = &[
     // Writes of one byte at the greatest offset, and past the longest file.
     b"\x01\x01f\x02\0\0\xff\xff\xff\xff\x01\0a",
     b"\x01\x01f\x02\0\0\0\x40\0\0\x01\0a",
+    // A file that is not there is removed: where there are none, past the last one, at place 256, and the same one again.
+    b"\x04\0\0",
+    b"\x01\x01f\x04\x01\0",
+    b"\x01\x01f\x04\0\x01",
+    b"\x01\x01f\x04\0\0\x04\0\0",
+    // A file gets the name that it has, from its creation and from a renaming, and one that is not there another.
+    b"\x01\x01f\x05\0\0\x01f",
+    b"\x01\x01f\x05\0\0\x01g\x05\0\0\x01g",
+    b"\x01\x01f\x05\x01\0\x01g",
+    // After a removal nothing stands at the old place of the last file.
+    b"\x01\x01f\x01\x01g\x04\x01\0\x05\x01\0\x01h",
+    b"\x01\x01f\x01\x01g\x04\0\0\x02\x01\0\0\0\0\0\x01\0A",
+    // A file is made with the name that another got.
+    b"\x01\x01f\x05\0\0\x01g\x01\x01g",
 ];
 
 #[test]
@@ -352,6 +382,129 @@ fn impossible_changes(rt: HostRuntime) {
     for (row, &body) in BAD_CHANGES.iter().enumerate() {
         assert_row(&rt, row, fault_of_body(rt.alloc(), body), Ok(BAD_CHANGE));
     }
+}
+
+/// Bodies with removals and renamings, and the files that they make: the name and the bytes of each.
+const GOOD_BODIES: &[(&[u8], &[(&[u8], &[u8])])] = &[
+    // `f` is removed, and then `g` stands at place 0.
+    (
+        b"\x01\x01f\x01\x01g\x04\0\0\x02\0\0\0\0\0\0\x01\0A",
+        &[(b"g", b"A")],
+    ),
+    (b"\x01\x01f\x04\0\0", &[]),
+    (b"\x01\x01f\x04\0\0\x01\x01f", &[(b"f", b"")]),
+    // `b` gets the name of the file before it, and `a` that of the file after it.
+    (
+        b"\x01\x01a\x01\x01b\x02\x01\0\0\0\0\0\x02\0BB\x05\x01\0\x01a",
+        &[(b"a", b"BB")],
+    ),
+    (
+        b"\x01\x01a\x01\x01b\x02\0\0\0\0\0\0\x02\0AA\x01\x01c\x05\0\0\x01b",
+        &[(b"b", b"AA"), (b"c", b"")],
+    ),
+    // `a` gets a name that no file has, and keeps its place.
+    (
+        b"\x01\x01a\x01\x01b\x02\0\0\0\0\0\0\x02\0AA\x05\0\0\x01c",
+        &[(b"c", b"AA"), (b"b", b"")],
+    ),
+    (
+        b"\x01\x01f\x05\0\0\x01g\x01\x01f",
+        &[(b"g", b""), (b"f", b"")],
+    ),
+    (b"\x01\x01f\x05\0\0\x01g\x05\0\0\x01f", &[(b"f", b"")]),
+    // A name of 32 bytes.
+    (
+        b"\x01\x01f\x05\0\0\x20aaaaaaaaaaaaaaaaaaaaaaaaaaaaaaaa",
+        &[(b"aaaaaaaaaaaaaaaaaaaaaaaaaaaaaaaa", b"")],
+    ),
+];
+
+/// The files of a disk are these, by their places, which are their numbers.
+fn assert_files(rt: &impl Abort, row: usize, files: &FileTable, wanted: &[(&[u8], &[u8])]) {
+    assert_row(rt, row, files.count(), wanted.len());
+    assert_row(rt, row, files.made(), wanted.len() as u64);
+    for (place, &(name, bytes)) in wanted.iter().enumerate() {
+        assert!(rt; place < files.count());
+        let file = (files.number(place), files.name(place));
+        assert_row(rt, row, file, (place as u64, name));
+        assert_row(rt, row, files.bytes(place), bytes);
+    }
+}
+
+/// The record of a body makes these files, and the next gate is right after it.
+fn assert_body(
+    rt: &(impl Abort + AllocGlobal),
+    row: usize,
+    body: &[u8],
+    wanted: &[(&[u8], &[u8])],
+) -> Result<(), Fail> {
+    let record = record_of(rt.alloc(), body)?;
+    let (files, gate) = opened(rt.alloc(), &[(64, &record)])?;
+    assert_row(rt, row, gate as usize, record.len().saturating_add(63));
+    assert_files(rt, row, &files, wanted);
+    Ok(())
+}
+
+#[test]
+fn files_that_lose_their_names(rt: HostRuntime) -> Result<(), Fail> {
+    for (row, &(body, wanted)) in GOOD_BODIES.iter().enumerate() {
+        assert_body(&rt, row, body, wanted)?;
+    }
+    Ok(())
+}
+
+/// Changes after the creations of 32 files, from `A` on; how many files there are then, and the places of `B`, `C` and `y`.
+const FULL: &[(&[u8], (usize, [Option<usize>; 3]))] = &[
+    // `A` gets a name that none has.
+    (b"\x05\0\0\x01z", (32, [Some(1), Some(2), None])),
+    // `A` is removed, and another file is made.
+    (b"\x04\0\0\x01\x01y", (32, [Some(0), Some(1), Some(31)])),
+    // `A` gets the name of `B`, and another file is made.
+    (
+        b"\x05\0\0\x01B\x01\x01y",
+        (32, [Some(0), Some(1), Some(31)]),
+    ),
+];
+
+/// The creations of 32 files, from `A` on, and then these changes.
+fn full_body(alloc: Global, changes: &[u8]) -> Result<Vec<u8>, AllocError> {
+    let mut body = creations(alloc, 32)?;
+    body.extend_from_slice(changes)?;
+    Ok(body)
+}
+
+/// How many files there are after these changes of 32 files, and the places of some of them.
+fn changed_when_full(alloc: Global, changes: &[u8]) -> Result<(usize, [Option<usize>; 3]), Fail> {
+    let files = files_of_body(alloc, &full_body(alloc, changes)?)?;
+    let places = [files.find(b"B"), files.find(b"C"), files.find(b"y")];
+    Ok((files.count(), places))
+}
+
+/// The fault of a disk where these changes come after the creations of 32 files, if it has one.
+fn fault_when_full(alloc: Global, changes: &[u8]) -> Result<Option<DiskFault>, DiskRefusal> {
+    fault_of_body(alloc, &full_body(alloc, changes)?)
+}
+
+#[test]
+fn a_file_that_goes_leaves_room_for_another(rt: HostRuntime) -> Result<(), Fail> {
+    for (row, &(changes, wanted)) in FULL.iter().enumerate() {
+        assert_row(&rt, row, changed_when_full(rt.alloc(), changes)?, wanted);
+    }
+    // A renaming to a name that no file has leaves none.
+    let fault = fault_when_full(rt.alloc(), b"\x05\0\0\x01z\x01\x01y");
+    assert_row(&rt, "33", fault, Ok(BAD_CHANGE));
+    Ok(())
+}
+
+#[test]
+fn a_removal_between_two_records(rt: HostRuntime) -> Result<(), Fail> {
+    // `f` and `g` are made, `f` is removed, and a byte is written at place 0.
+    let records =
+        b"\x01\x06\0\0\0\x01\x01f\x01\x01g\x01\x03\0\0\0\x04\0\0\x01\x0a\0\0\0\x02\0\0\0\0\0\0\x01\0A\0";
+    let (files, gate) = opened(rt.alloc(), &[(64, records.as_slice())])?;
+    assert_row(&rt, "gate", gate, 98);
+    assert_files(&rt, 0, &files, &[(b"g".as_slice(), b"A".as_slice())]);
+    Ok(())
 }
 
 /// The fault of a disk with these records one after the other, from the first gate on.

@@ -1,8 +1,8 @@
-//! Changes and writes of files.
+//! Changes and writes of files, and the numbers of files.
 use crate::asserting::assert_row;
 use byte_list::Bytes;
 use disk_model::Change;
-use files::FileTable;
+use files::{FileList, FileTable};
 use std::alloc::{AllocError, Global};
 use std::process::Abort;
 
@@ -29,14 +29,14 @@ const WRITES: &[(usize, &[u8], &[u8])] = &[
 ];
 
 /// Creates a file by a change.
-fn create_by_change(alloc: Global, files: &mut FileTable, name: &[u8]) -> Result<(), AllocError> {
+fn create_by_change(alloc: Global, files: &mut FileList, name: &[u8]) -> Result<(), AllocError> {
     files.change(&Change::Create(Bytes::copy_of(alloc, name)?))
 }
 
 /// Writes bytes to a file by a change.
 fn write_by_change(
     alloc: Global,
-    files: &mut FileTable,
+    files: &mut FileList,
     file: u16,
     offset: u32,
     bytes: &[u8],
@@ -50,8 +50,8 @@ fn write_by_change(
 }
 
 /// The files `f` and `g`, with the bytes of `CHANGES`.
-fn changed_files(alloc: Global) -> Result<FileTable, AllocError> {
-    let mut files = FileTable::new(alloc);
+fn changed_files(alloc: Global) -> Result<FileList, AllocError> {
+    let mut files = FileList::new(alloc);
     create_by_change(alloc, &mut files, b"f")?;
     create_by_change(alloc, &mut files, b"g")?;
     for &(file, offset, bytes) in CHANGES {
@@ -61,7 +61,7 @@ fn changed_files(alloc: Global) -> Result<FileTable, AllocError> {
 }
 
 /// The names and the bytes of the changed files are found.
-fn assert_changed(rt: &impl Abort, files: &FileTable) {
+fn assert_changed(rt: &impl Abort, files: &FileList) {
     assert!(rt; files.count() == 2);
     for (row, &(file, offset, n, bytes)) in PARTS.iter().enumerate() {
         assert_row(rt, row, files.read(file, offset, n), bytes);
@@ -74,7 +74,7 @@ fn assert_changed(rt: &impl Abort, files: &FileTable) {
 }
 
 /// The second of two files is emptied by a change, written past its end, and emptied again.
-fn assert_emptied(rt: &impl Abort, files: &mut FileTable) -> Result<(), AllocError> {
+fn assert_emptied(rt: &impl Abort, files: &mut FileList) -> Result<(), AllocError> {
     files.change(&Change::Empty(1))?;
     assert!(rt; files.count() == 2);
     assert_row(rt, "emptied", files.length(1), 0);
@@ -100,7 +100,7 @@ fn changes_fold_into_files(rt: HostRuntime) -> Result<(), AllocError> {
 /// A write to the first file, which holds these bytes then.
 fn assert_written(
     rt: &impl Abort,
-    files: &mut FileTable,
+    files: &mut FileList,
     offset: usize,
     bytes: &[u8],
     held: &[u8],
@@ -114,10 +114,219 @@ fn assert_written(
 
 #[test]
 fn writes_keep_the_bytes_around_them(rt: HostRuntime) -> Result<(), AllocError> {
-    let mut files = FileTable::new(rt.alloc());
+    let mut files = FileList::new(rt.alloc());
     files.create(Bytes::copy_of(rt.alloc(), b"f")?)?;
     for &(offset, bytes, held) in WRITES {
         assert_written(&rt, &mut files, offset, bytes, held)?;
     }
+    Ok(())
+}
+
+/// A change, as a row has it: files by their places.
+#[derive(Clone, Copy)]
+enum Step {
+    Create(&'static [u8]),
+    Write(u16, u32, &'static [u8]),
+    Empty(u16),
+    Remove(u16),
+    Rename(u16, &'static [u8]),
+}
+
+/// Changes one after the other, and the files that live after each, by their places: the number, the name and the bytes.
+const STEPS: &[(Step, &[(u64, &[u8], &[u8])])] = &[
+    (Step::Create(b"f"), &[(0, b"f", b"")]),
+    (Step::Create(b"g"), &[(0, b"f", b""), (1, b"g", b"")]),
+    (
+        Step::Create(b"h"),
+        &[(0, b"f", b""), (1, b"g", b""), (2, b"h", b"")],
+    ),
+    (
+        Step::Write(1, 2, b"ab"),
+        &[(0, b"f", b""), (1, b"g", b"\0\0ab"), (2, b"h", b"")],
+    ),
+    // The places of the others move, and their numbers stay.
+    (Step::Remove(0), &[(1, b"g", b"\0\0ab"), (2, b"h", b"")]),
+    (
+        Step::Write(0, 0, b"xy"),
+        &[(1, b"g", b"xyab"), (2, b"h", b"")],
+    ),
+    (
+        Step::Write(1, 0, b"h"),
+        &[(1, b"g", b"xyab"), (2, b"h", b"h")],
+    ),
+    // Nothing stands at place 2 any more.
+    (
+        Step::Write(2, 0, b"no"),
+        &[(1, b"g", b"xyab"), (2, b"h", b"h")],
+    ),
+    (Step::Empty(2), &[(1, b"g", b"xyab"), (2, b"h", b"h")]),
+    (Step::Remove(2), &[(1, b"g", b"xyab"), (2, b"h", b"h")]),
+    (
+        Step::Rename(2, b"g"),
+        &[(1, b"g", b"xyab"), (2, b"h", b"h")],
+    ),
+    // A new file of a name that another had gets another number.
+    (
+        Step::Create(b"f"),
+        &[(1, b"g", b"xyab"), (2, b"h", b"h"), (3, b"f", b"")],
+    ),
+    // No file has the new name.
+    (
+        Step::Rename(1, b"k"),
+        &[(1, b"g", b"xyab"), (2, b"k", b"h"), (3, b"f", b"")],
+    ),
+    // A file before it has the new name, two places before and one, and a file after it.
+    (Step::Rename(2, b"g"), &[(2, b"k", b"h"), (3, b"g", b"")]),
+    (
+        Step::Create(b"a"),
+        &[(2, b"k", b"h"), (3, b"g", b""), (4, b"a", b"")],
+    ),
+    (Step::Rename(0, b"a"), &[(2, b"a", b"h"), (3, b"g", b"")]),
+    (Step::Rename(1, b"a"), &[(3, b"a", b"")]),
+    // The newest file goes, and its number with it.
+    (Step::Remove(0), &[]),
+    (Step::Remove(0), &[]),
+    (Step::Create(b"a"), &[(5, b"a", b"")]),
+    (Step::Write(0, 1, b"z"), &[(5, b"a", b"\0z")]),
+    (Step::Empty(0), &[(5, b"a", b"")]),
+];
+
+/// The change of a row.
+fn change_of(alloc: Global, step: Step) -> Result<Change, AllocError> {
+    match step {
+        Step::Create(name) => Ok(Change::Create(Bytes::copy_of(alloc, name)?)),
+        Step::Write(file, offset, bytes) => Ok(Change::Write {
+            file,
+            offset,
+            bytes: Bytes::copy_of(alloc, bytes)?,
+        }),
+        Step::Empty(file) => Ok(Change::Empty(file)),
+        Step::Remove(file) => Ok(Change::Remove(file)),
+        Step::Rename(file, name) => Ok(Change::Rename {
+            file,
+            name: Bytes::copy_of(alloc, name)?,
+        }),
+    }
+}
+
+/// These files live, by their places.
+fn assert_listed(rt: &impl Abort, row: usize, files: &FileList, living: &[(u64, &[u8], &[u8])]) {
+    assert_row(rt, row, files.count(), living.len());
+    for (place, &(_, name, bytes)) in living.iter().enumerate() {
+        assert!(rt; place < files.count());
+        let held = (files.name(place), files.bytes(place), files.find(name));
+        assert_row(rt, row, held, (name, bytes, Some(place)));
+    }
+}
+
+#[test]
+fn changes_go_by_places(rt: HostRuntime) -> Result<(), AllocError> {
+    let mut files = FileList::new(rt.alloc());
+    for (row, &(step, living)) in STEPS.iter().enumerate() {
+        files.change(&change_of(rt.alloc(), step)?)?;
+        assert_listed(&rt, row, &files, living);
+        assert_listed(&rt, row, &files.try_clone()?, living);
+    }
+    Ok(())
+}
+
+/// The file at a place of a table has this number, this name and these bytes.
+fn assert_numbered(
+    rt: &impl Abort,
+    row: usize,
+    files: &FileTable,
+    place: usize,
+    (number, name, bytes): (u64, &[u8], &[u8]),
+) {
+    assert!(rt; place < files.count());
+    let held = (files.name(place), files.bytes(place), files.length(place));
+    assert_row(rt, row, held, (name, bytes, bytes.len()));
+    assert_row(rt, row, files.number(place), number);
+    let places = (files.find(name), files.place(number));
+    assert_row(rt, row, places, (Some(place), Some(place)));
+    let read = files.read(place, 0, bytes.len());
+    assert_row(rt, row, read, Some(bytes));
+}
+
+/// These files of a table live, by their places, and no other number is one's that lives.
+fn assert_living(rt: &impl Abort, row: usize, files: &FileTable, living: &[(u64, &[u8], &[u8])]) {
+    assert_row(rt, row, files.count(), living.len());
+    for (place, &file) in living.iter().enumerate() {
+        assert_numbered(rt, row, files, place, file);
+    }
+    assert_row(rt, row, files.read(living.len(), 0, 1), None);
+    for number in 0..=files.made() {
+        let lives = living.iter().any(|file| file.0 == number);
+        assert_row(rt, row, files.alive(number), lives);
+        assert_row(rt, row, files.place(number).is_some(), lives);
+    }
+}
+
+/// Does the change of a row.
+fn do_by_change(
+    rt: &(impl Abort + AllocGlobal),
+    files: &mut FileTable,
+    step: Step,
+) -> Result<(), AllocError> {
+    let change = change_of(rt.alloc(), step)?;
+    assert!(rt; files.made() < 100);
+    files.change(&change)
+}
+
+/// Does the step of a row by the call for it, where the file that it names is there.
+fn do_by_call(
+    rt: &(impl Abort + AllocGlobal),
+    files: &mut FileTable,
+    step: Step,
+) -> Result<(), AllocError> {
+    let alloc = rt.alloc();
+    let count = files.count();
+    assert!(rt; files.made() < 100);
+    match step {
+        Step::Create(name) => files.create(Bytes::copy_of(alloc, name)?),
+        Step::Write(file, offset, bytes) if usize::from(file) < count => {
+            files.write(usize::from(file), offset as usize, bytes)
+        }
+        Step::Empty(file) if usize::from(file) < count => Ok(files.empty(usize::from(file))),
+        Step::Remove(file) if usize::from(file) < count => Ok(files.unlink(usize::from(file))),
+        Step::Rename(file, name) if usize::from(file) < count => {
+            let name = Bytes::copy_of(alloc, name)?;
+            Ok(files.rename(usize::from(file), name))
+        }
+        _ => Ok(()),
+    }
+}
+
+#[test]
+fn numbers_stay_where_places_move(rt: HostRuntime) -> Result<(), AllocError> {
+    let mut changed = FileTable::new(rt.alloc());
+    for (row, &(step, living)) in STEPS.iter().enumerate() {
+        do_by_change(&rt, &mut changed, step)?;
+        assert_living(&rt, row, &changed, living);
+        assert_living(&rt, row, &changed.try_clone()?, living);
+    }
+    assert_row(&rt, "made", changed.made(), 6);
+    Ok(())
+}
+
+#[test]
+fn calls_of_a_table_are_its_changes(rt: HostRuntime) -> Result<(), AllocError> {
+    let mut called = FileTable::new(rt.alloc());
+    for (row, &(step, living)) in STEPS.iter().enumerate() {
+        do_by_call(&rt, &mut called, step)?;
+        assert_living(&rt, row, &called, living);
+    }
+    Ok(())
+}
+
+#[test]
+fn a_list_is_numbered_by_its_places(rt: HostRuntime) -> Result<(), AllocError> {
+    let mut files = FileTable::numbered(rt.alloc(), changed_files(rt.alloc())?)?;
+    assert_changed(&rt, files.list());
+    let old: [(u64, &[u8], &[u8]); 2] = [(0, b"f", b""), (1, b"g", b"xyacd")];
+    assert_living(&rt, 2, &files, &old);
+    do_by_change(&rt, &mut files, Step::Create(b"h"))?;
+    let new: [(u64, &[u8], &[u8]); 3] = [(0, b"f", b""), (1, b"g", b"xyacd"), (2, b"h", b"")];
+    assert_living(&rt, 3, &files, &new);
     Ok(())
 }

@@ -7,7 +7,7 @@ ghost use Rattle.disk_model.specs.Files.{IsFormed, IsMade, MayCome, changed};
 use crate::asserting::assert_row;
 use byte_list::Bytes;
 use disk_model::{Change, made_files_change};
-use files::FileTable;
+use files::{FileList, FileTable};
 use group_commit::CommitRefusal::{DiskFailed, GroupInFlight, NoSuchWrite, NothingToCut};
 use group_commit::Committer;
 use simdisk::SimDisk;
@@ -19,7 +19,7 @@ use std::test::Fail;
 const FIRST_GATE: u32 = 64;
 
 /// Does a change that is formed and possible.
-fn grow(files: &mut FileTable, change: &Change) -> Result<(), AllocError>
+fn grow(files: &mut FileList, change: &Change) -> Result<(), AllocError>
     requires made { IsMade files.old }
     requires formed { IsFormed change.now }
     requires possible { MayCome files.old change.now }
@@ -47,12 +47,12 @@ fn two_changes(alloc: Global) -> Result<Vec<Change>, AllocError>
 /// The files that two changes make.
 fn files_of(alloc: Global, changes: &[Change]) -> Result<FileTable, AllocError>
     requires { changes.now ≡ Create (102 ∷ []) ∷ Write 0 0 (65 ∷ 0 ∷ 0 ∷ []) ∷ [] }
-    ensures { IfOk result IsMade }
+    ensures { IfOk result (λ files. IsMade files.living) }
 {
-    let mut files = FileTable::new(alloc);
+    let mut files = FileList::new(alloc);
     grow(&mut files, &changes[0])?;
     grow(&mut files, &changes[1])?;
-    Ok(files)
+    FileTable::numbered(alloc, files)
 }
 
 /// A committer commits a group of two changes by its record and then its gate, and the next group's first write fails.
@@ -63,7 +63,7 @@ fn assert_groups(
     changes: &[Change],
     files: &FileTable,
 )
-    requires possible { IsMade files.now }
+    requires possible { IsMade files.now.living }
     requires formed { AllByRecursion IsFormed changes.now }
 {
     assert_row(rt, "wanted", committer.wants_cut(true), true);

@@ -2,6 +2,7 @@
 ghost use Rattle.std.specs.Prelude.{◌≡◌, ◌≤◌, length, IfOk, IfSome};
 ghost use Rattle.std.specs.List.{AllByRecursion};
 ghost use Rattle.disk_model.specs.declared.change.NamedFile.{NamedFile};
+ghost use Rattle.kernel_model.specs.Limits.{AreNumbered};
 ghost use Rattle.processes.specs.Parts.{part_at, descriptors_in};
 ghost use Rattle.calls.specs.Plans.{AreLeft, NamesFiles};
 ghost use Rattle.calls.specs.Wholes.{IsWhole};
@@ -9,12 +10,14 @@ ghost use Rattle.calls.specs.Wholes.{IsWhole};
 use crate::asserting::assert_row;
 use byte_list::Bytes;
 use calls::{KernelTables, Plan, TapeTable, plan_call, plan_end, request_of};
+use disk_model::Change;
 use files::FileTable;
 use kernel_model::{Carrier, Descriptor, PipeEnd, PipeStep, Request, Slot, Verdict};
 use machine::{Image, Machine};
 use pipes::PipeTable;
 use processes::{Descriptors, ProcTable};
 use std::alloc::{AllocError, Global};
+use std::process::Abort;
 use std::sync::Arc;
 
 const A0_IS_0: u32 = 0x0000_0513;
@@ -24,6 +27,8 @@ const A0_IS_1: u32 = 0x0010_0513;
 const A0_IS_300: u32 = 0x12c0_0513;
 
 const A1_IS_TEXT: u32 = 0x0001_05b7;
+
+const A1_IS_1: u32 = 0x0010_0593;
 
 const A1_IS_MINUS_1: u32 = 0xfff0_0593;
 
@@ -61,6 +66,10 @@ const SEEK: u32 = 0x00a0_0893;
 
 const SYNC: u32 = 0x00b0_0893;
 
+const UNLINK: u32 = 0x00c0_0893;
+
+const RENAME: u32 = 0x00d0_0893;
+
 const CALL_99: u32 = 0x0630_0893;
 
 const ECALL: u32 = 0x0000_0073;
@@ -95,9 +104,11 @@ fn two_processes(alloc: Global) -> Result<ProcTable, AllocError>
 
 /// One file, with the bytes 'abc'.
 fn file_of_abc(alloc: Global) -> Result<FileTable, AllocError>
-    ensures count { IfOk result (λ files. length files ≡ 1) }
+    ensures count { IfOk result (λ files. length files.living ≡ 1) }
+    ensures made { IfOk result (λ files. files.made ≡ 1) }
+    ensures numbered { IfOk result AreNumbered }
     ensures short { IfOk result
-        (λ files. AllByRecursion (λ (f : NamedFile). length f.bytes ≤ 16384) files) }
+        (λ files. AllByRecursion (λ (f : NamedFile). length f.bytes ≤ 16384) files.living) }
 {
     let mut files = FileTable::new(alloc);
     files.create(Bytes::copy_of(alloc, b"f")?)?;
@@ -174,6 +185,10 @@ const CALLS: &[([u32; 4], Result<u32, Option<u32>>)] = &[
     ([PIPE, A0_IS_STACK_8, A1_IS_TEXT, A2_IS_4], Ok(0)),
     ([FORK, A0_IS_0, A1_IS_TEXT, A2_IS_4], Ok(3)),
     ([WAIT, A0_IS_0, A1_IS_TEXT, A2_IS_4], Ok(0xffff_fff6)),
+    ([UNLINK, A0_IS_0, A1_IS_1, A2_IS_4], Ok(0xffff_fff2)),
+    ([UNLINK, A0_IS_0, A1_IS_TEXT, A2_IS_4], Ok(0xffff_ffea)),
+    ([RENAME, A0_IS_0, A1_IS_1, A2_IS_4], Ok(0xffff_fff2)),
+    ([RENAME, A0_IS_0, A1_IS_1, A2_IS_1024], Ok(0xffff_ffea)),
 ];
 
 #[test]
@@ -203,6 +218,47 @@ fn a_file_is_opened(rt: HostRuntime) -> Result<(), AllocError> {
     let plan = plan_of_open(rt.alloc())?;
     assert_row(&rt, "open", told(&plan), Ok(2));
     assert!(rt; plan.reads.as_slice() == [Carrier::Names].as_slice());
+    Ok(())
+}
+
+/// What process 2 is planned to do where it takes the file's name away.
+fn plan_of_unlink(alloc: Global) -> Result<Plan, AllocError> {
+    let tapes = tapes_of(alloc, b"hi")?;
+    let name = Some(Bytes::copy_of(alloc, b"f")?);
+    plan_of(alloc, &tapes, Request::Unlink { n: 1, name })
+}
+
+/// What process 2 is planned to do where it gives the file another name.
+fn plan_of_rename(alloc: Global) -> Result<Plan, AllocError> {
+    let tapes = tapes_of(alloc, b"hi")?;
+    let names = Some(Bytes::copy_of(alloc, b"fg")?);
+    plan_of(alloc, &tapes, Request::Rename { n: 1, m: 1, names })
+}
+
+/// The place of the file that a change removes or renames, and its new name, if it gets one.
+fn renamed(change: &Option<Change>) -> Option<(u16, Option<&[u8]>)> {
+    match change {
+        Some(Change::Remove(file)) => Some((*file, None)),
+        Some(Change::Rename { file, name }) => Some((*file, Some(name.as_slice()))),
+        _ => None,
+    }
+}
+
+/// A plan replies 0, and changes the names and the first file by a change of this kind.
+fn assert_names_change(rt: &impl Abort, plan: &Plan, name: Option<&[u8]>) {
+    assert_row(rt, "reply", told(plan), Ok(0));
+    assert_row(rt, "change", renamed(&plan.change), Some((0, name)));
+    let touched = [Carrier::Names, Carrier::File(0)];
+    assert!(rt; plan.reads.as_slice() == touched.as_slice());
+    assert!(rt; plan.writes.as_slice() == touched.as_slice());
+}
+
+#[test]
+fn a_file_loses_its_name(rt: HostRuntime) -> Result<(), AllocError> {
+    let plan = plan_of_unlink(rt.alloc())?;
+    assert_names_change(&rt, &plan, None);
+    let plan = plan_of_rename(rt.alloc())?;
+    assert_names_change(&rt, &plan, Some(b"g".as_slice()));
     Ok(())
 }
 
