@@ -1,10 +1,10 @@
 -- A file that is gone never comes back.
-use Rattle.std.proofs.Common.{◌≡◌, ℕ, zero, suc, ◌+◌, ◌<◌, ◌≤◌, ◌==◌, ◌⊎◌, inl, inr, Bool, true, false, cond, List, [], ◌∷◌, ◌++◌, length, slice_get, Option, Some, None, is_some, refl, sym, ap, subst, ◌∙◌, arith}
-use Rattle.std.specs.List.{position, position_from, remove}
+use Rattle.std.proofs.Common.{◌≡◌, ℕ, zero, suc, ◌+◌, ◌<◌, ◌==◌, ◌⊎◌, inl, inr, Bool, true, false, cond, List, [], ◌∷◌, ◌++◌, length, slice_get, Option, Some, None, is_some, refl, sym, ap, subst, ◌∙◌, arith}
+use Rattle.std.specs.List.{position_from, remove}
 use Rattle.std.proofs.lemmas.Bool.{false≢true, eq-eqb}
 use Rattle.std.proofs.lemmas.Iterator.Adapters.{position_from-zero}
 use Rattle.disk_model.specs.Files.{loser, without}
-use Rattle.disk_model.specs.Numbers.{Numbered, at_place, file_of, lives, place_of}
+use Rattle.disk_model.specs.Numbers.{Numbered, at_place, lives, place_of}
 use Rattle.disk_model.specs.declared.change.Change.{Change}
 use Rattle.disk_model.specs.declared.change.Change.TheVariants as change
 use Rattle.disk_model.specs.declared.change.NamedFile.{NamedFile}
@@ -15,7 +15,6 @@ use Rattle.kernel_model.specs.World.{World, after, happens}
 use Rattle.kernel_model.specs.declared.event.Event.{Event}
 use Rattle.kernel_model.proofs.Folding.{step_changes}
 use Rattle.kernel_model.proofs.Names.{place_there}
-use Rattle.kernel_model.proofs.Numbering.{made_grows}
 
 -- the number was given to a file, and none of these is it
 pub record IsGone (files : Numbered) (n : ℕ) : Type 0 where

@@ -69,7 +69,7 @@ pub fn ended_hold_nothing()
         → IsTrue (list_all is_none p.descriptors) }
 {}
 
-/// A law: whatever events come, the tables keep their limits, and what they name is there. Each process has 16 descriptors, of
+/// A law: whatever events come, the tables keep their limits, and what they name is there or, of files, was made. Each process has 16 descriptors, of
 /// which none stands for a file that was never made, and its children stand by rising number. The numbers of the files that live
 /// rise, so each file has its own, and each is below that of the next file. There are at most 1,024 pipes, and each holds at most
 /// 4,096 bytes. Where the boot has at most 1,024 programs, there are at most 1,024 processes; where it has

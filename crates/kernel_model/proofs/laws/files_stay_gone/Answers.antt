@@ -1,5 +1,5 @@
 -- What is gone after the first events is gone after the others.
-use Rattle.std.proofs.Common.{◌≡◌, false, ◌++◌, sym, subst}
+use Rattle.std.proofs.Common.{◌≡◌, false, sym, subst}
 use Rattle.disk_model.specs.Numbers.{lives}
 use Rattle.kernel_model.specs.World.{World, first_world, after}
 use Rattle.kernel_model.proofs.Gone.{dead_gone, gone_dead, gone_after}
