@@ -1,5 +1,5 @@
 -- What is done at a seat, one thing after the other.
-use Rattle.std.proofs.Common.{◌≡◌, ◌≤◌, ◌<◌, ◌^◌, ℕ, ◌+◌, ◌∙◌, refl, sym, ap, List, [], ◌∷◌, ◌++◌, arith, subst, None, Some, Ok, Err}
+use Rattle.std.proofs.Common.{◌≡◌, ℕ, ◌+◌, ◌∙◌, refl, sym, ap, List, [], ◌∷◌, ◌++◌, arith, subst, None, Some, Ok, Err}
 use Rattle.std.specs.Prelude.{Result, MatchResult, IfOk}
 use Rattle.kernel_step.specs.declared.loan.Loan.{Loan}
 use Rattle.kernel_step.specs.declared.loan.Rejected.{Rejected}
@@ -9,7 +9,7 @@ use Rattle.bursts.specs.declared.totals.Totals.{Totals}
 use Rattle.pool.specs.declared.hand.Hand.{Hand}
 use Rattle.pool.specs.declared.settling.Settling.{Settling}
 use Rattle.pool.specs.Tags.{loan_tag}
-use Rattle.pool.specs.Hands.{hand, gave}
+use Rattle.pool.specs.Hands.{gave}
 use Rattle.pool.specs.Fetching.{TakesItsAnswer}
 use Rattle.pool.specs.Settled.{Settled, totals_in, after, no_settling}
 use Rattle.pool.specs.Seats.{Seated, with_results, with_settled}

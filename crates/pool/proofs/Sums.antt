@@ -1,6 +1,5 @@
 -- A settling goes on.
-use Rattle.std.proofs.Common.{◌≡◌, ◌≤◌, ℕ, ◌+◌, ◌∙◌, refl, sym, ap, List, [], ◌∷◌, ◌++◌, length, length-append, append_assoc, arith, subst, Some, None}
-use Rattle.std.specs.Prelude.{Option}
+use Rattle.std.proofs.Common.{◌≡◌, ◌≤◌, ℕ, ◌+◌, ◌∙◌, refl, sym, ap, List, [], ◌∷◌, ◌++◌, length-append, append_assoc, arith, Some, None}
 use Rattle.kernel_step.specs.declared.loan.Rejected.{Rejected}
 use Rattle.bursts.specs.Holdings.{Holding, grown}
 use Rattle.bursts.specs.Totals.{plus}

@@ -1,5 +1,5 @@
 -- A fetch's one take is its answer.
-use Rattle.std.proofs.Common.{◌≡◌, ℕ, zero, suc, ◌∙◌, refl, sym, ap, List, [], ◌∷◌, ◌++◌, map, Ok, Some, ◌⊎◌, inl, inr}
+use Rattle.std.proofs.Common.{◌≡◌, ℕ, zero, suc, ◌∙◌, refl, ap, List, [], ◌∷◌, Ok, Some, inr}
 use Rattle.std.specs.Prelude.{slice_get, slice_set, Option, None, Result, IfSome, option_map}
 use Rattle.kernel_model.specs.declared.answer.Refused.{Refused}
 use Rattle.kernel_step.specs.declared.loan.Loan.{Loan}

@@ -1,8 +1,8 @@
-use Rattle.std.proofs.Common.{rules, ◌≡◌, ℕ, ◌+◌, ◌*◌, ◌<◌, ◌≤◌, ◌^◌, ◌∙◌, sym, ap, subst, arith}
+use Rattle.std.proofs.Common.{rules, ◌≡◌, ℕ, ◌<◌, ◌≤◌, ◌^◌, ◌∙◌, sym, ap, subst, arith}
 use Rattle.crossbeam_queue.specs.Passes.{view}
 use Rattle.bursts.specs.Holdings.{grown}
 use Rattle.pool.specs.Hands.{took}
-use Rattle.pool.specs.Settled.{Settled, more}
+use Rattle.pool.specs.Settled.{Settled}
 use Rattle.pool.specs.declared.settling.Settling.{Settling}
 use Rattle.pool.proofs.Sums.{settles_more}
 use Rattle.pool.proofs.settling.settle_all.Goals as goal

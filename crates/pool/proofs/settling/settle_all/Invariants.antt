@@ -1,5 +1,5 @@
 -- What was settled so far, of which none was rejected; each result adds at most two events, and four numbers below 2^32.
-use Rattle.std.proofs.Common.{◌≡◌, ◌+◌, ◌*◌, ◌≤◌, ◌^◌, None}
+use Rattle.std.proofs.Common.{◌≡◌, ◌*◌, ◌≤◌, ◌^◌, None}
 use Rattle.crossbeam_queue.specs.Passes.{view, IsPassOf}
 use Rattle.pool.specs.Settled.{Settled}
 use Rattle.pool.proofs.settling.settle_all.Given as goal

@@ -1,4 +1,3 @@
-use Rattle.std.proofs.Common.{rules}
 use Rattle.pool.specs.Settled.{totals_in}
 use Rattle.pool.proofs.Advance.{fits_both, settled_after}
 use Rattle.pool.proofs.seats.Seat.settle_more.Goals as goal

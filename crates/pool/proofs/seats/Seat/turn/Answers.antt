@@ -1,4 +1,4 @@
-use Rattle.std.proofs.Common.{rules, ◌≡◌, subst, [], ◌∷◌, Ok, Some}
+use Rattle.std.proofs.Common.{rules, ◌≡◌, subst, ◌∷◌, Ok, Some}
 use Rattle.std.specs.Prelude.{Option, Result}
 use Rattle.kernel_model.specs.declared.answer.Refused.{Refused}
 use Rattle.kernel_step.specs.declared.loan.Loan.{Loan}
