@@ -1,9 +1,9 @@
 //! What commits cost: cuts and their completions beside the same in plain code, and the recovery of a half that is full
 //! beside one reading of its bytes.
-ghost use Rattle.std.specs.Prelude.{[], ◌<◌, List, IfOk, OnOk, length};
+ghost use Rattle.std.specs.Prelude.{[], ◌≡◌, ◌<◌, List, IfOk, OnOk, length};
 ghost use Rattle.std.specs.List.{AllByRecursion};
 ghost use Rattle.disk_model.specs.declared.change.NamedFile.{NamedFile};
-ghost use Rattle.disk_model.specs.Files.{IsFormed, IsMade, MayCome};
+ghost use Rattle.disk_model.specs.Files.{IsFormed, IsMade, MayCome, changed};
 
 mod plain;
 
@@ -38,6 +38,7 @@ const BLOCK: usize = 1024;
 fn creation(alloc: Global) -> Result<Change, AllocError>
     ensures formed { IfOk result IsFormed }
     ensures possible { IfOk result (MayCome []) }
+    ensures some { IfOk result (λ change. 0 < length (changed [] change)) }
 {
     Ok(Change::Create(Bytes::copy_of(alloc, b"f")?))
 }
@@ -47,6 +48,7 @@ fn write_of(alloc: Global, block: u8) -> Result<Change, AllocError>
     requires { block < 16 }
     ensures formed { IfOk result IsFormed }
     ensures possible { (files : List NamedFile) → 0 < length files → IfOk result (MayCome files) }
+    ensures some { (files : List NamedFile) → 0 < length files → IfOk result (λ change. 0 < length (changed files change)) }
 {
     Ok(Change::Write {
         file: 0,
@@ -72,7 +74,7 @@ fn grow(files: &mut FileList, change: &Change) -> Result<(), AllocError>
     requires formed { IsFormed change.now }
     requires possible { MayCome files.old change.now }
     ensures made { OnOk result (IsMade files.new) }
-    ensures some { OnOk result (0 < length files.new) }
+    ensures done { OnOk result (files.new ≡ changed files.old change.now) }
 {
     made_files_change();
     files.change(change)

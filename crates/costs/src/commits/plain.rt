@@ -29,11 +29,22 @@ fn bounds_of(second: bool) -> (usize, usize) {
     }
 }
 
+/// Appends a name, after its length.
+fn push_name(record: &mut Vec<u8>, name: &[u8]) -> Result<(), AllocError> {
+    record.extend_from_slice(&name.len().to_le_bytes()[..1])?;
+    record.extend_from_slice(name)
+}
+
 /// Appends the bytes of a creation.
 fn push_creation(record: &mut Vec<u8>, name: &[u8]) -> Result<(), AllocError> {
     record.push(1)?;
-    record.extend_from_slice(&name.len().to_le_bytes()[..1])?;
-    record.extend_from_slice(name)
+    push_name(record, name)
+}
+
+/// Appends the kind of a change of a file, and the file.
+fn push_file(record: &mut Vec<u8>, kind: u8, file: u16) -> Result<(), AllocError> {
+    record.push(kind)?;
+    record.extend_from_slice(&file.to_le_bytes())
 }
 
 /// Appends the bytes of a write.
@@ -43,8 +54,7 @@ fn push_write(
     offset: u32,
     bytes: &[u8],
 ) -> Result<(), AllocError> {
-    record.push(2)?;
-    record.extend_from_slice(&file.to_le_bytes())?;
+    push_file(record, 2, file)?;
     record.extend_from_slice(&offset.to_le_bytes())?;
     record.extend_from_slice(&bytes.len().to_le_bytes()[..2])?;
     record.extend_from_slice(bytes)
@@ -59,9 +69,11 @@ fn push_change(record: &mut Vec<u8>, change: &Change) -> Result<(), AllocError> 
             offset,
             bytes,
         } => push_write(record, *file, *offset, bytes.as_slice()),
-        Change::Empty(file) => {
-            record.push(3)?;
-            record.extend_from_slice(&file.to_le_bytes())
+        Change::Empty(file) => push_file(record, 3, *file),
+        Change::Remove(file) => push_file(record, 4, *file),
+        Change::Rename { file, name } => {
+            push_file(record, 5, *file)?;
+            push_name(record, name.as_slice())
         }
     }
 }
