@@ -147,6 +147,7 @@ impl Dependencies {
         ensures keeps { OnOk result ((log : List Entry) (e : Entry) → Keeps log self.old.marks → e.reads ≡ reads.now
             → e.writes ≡ writes.now → change ≡ change_number log e → Keeps (log ++ e ∷ []) self.new.marks) }
         ensures err { OnErr result (self.new.marks ≡ self.old.marks) }
+        ensures stays { OnErr result (self.old.room ≤ self.new.room) }
         ensures known { AllByRecursion (λ x. is_some (mark_at x self.old.marks) ≡ true) writes.now → IsOk result }
         ensures room { length writes.now ≤ self.old.room → IsOk result }
         ensures left { self.old.room ≤ self.new.room + length writes.now }

@@ -1,8 +1,11 @@
 -- Files that possible changes made are few and short, and have good and different names.
-use Rattle.std.proofs.Common.{◌≡◌, ℕ, zero, suc, ◌+◌, ◌-◌, ◌<◌, ◌≤◌, List, [], ◌∷◌, ◌++◌, length, take, drop, set, replicate, Option, Some, None, refl, sym, ap, subst, ◌∙◌, arith, length-append}
+use Rattle.std.proofs.Common.{◌≡◌, ℕ, zero, suc, ◌+◌, ◌-◌, ◌<◌, ◌≤◌, List, [], ◌∷◌, ◌++◌, length, take, drop, set, replicate, Option, Some, None, refl, sym, ap, subst, ◌∙◌, arith, length-append, Bool, true, false}
 use Rattle.std.specs.Prelude.{slice_get}
 use Rattle.std.specs.List.{AllByRecursion, remove}
 use Rattle.std.proofs.lemmas.List.{length-take, length-drop, length-set, length-replicate}
+use Rattle.std.specs.Prelude.{if◌then◌else◌}
+use Rattle.std.specs.Str.{bytes_eq}
+use Rattle.std.proofs.lemmas.Slice.Eq.{bytes_eq-Decides}
 use Rattle.disk_model.specs.declared.change.Change.{Change}
 use Rattle.disk_model.specs.declared.change.Change.TheVariants.{Create, Write, Empty, Remove, Rename}
 use Rattle.disk_model.specs.declared.change.NamedFile.{NamedFile}
@@ -121,7 +124,14 @@ renamed_tidy fs n name good t other there None e = absurd (get_none fs n there e
     get_none [] k lt a = omega arith
     get_none (x ∷ gs) zero lt a = let no : ⊥ = cc in no
     get_none (x ∷ gs) (suc k) lt a = get_none gs k (omega arith) a
-renamed_tidy fs n name good t other there (Some f) e = moved_tidy fs n f name good t e (other f e) (place_named fs name) (finds fs name)
+renamed_tidy fs n name good t other there (Some f) e =
+    let differ : bytes_eq f.name name ≡ false = is_false (bytes_eq f.name name) (λ h. other f e ((bytes_eq-Decides f.name name).0 h)) in
+    subst (λ (b : Bool). IsTidy (without (with_name fs n (Some f) name) (if b then None else place_named fs name))) (sym differ)
+    (moved_tidy fs n f name good t e (other f e) (place_named fs name) (finds fs name))
+  where
+    is_false : (b : Bool) → (b ≡ true → ⊥) → b ≡ false
+    is_false true h = absurd (h refl)
+    is_false false h = refl
 
 changed_tidy : (fs : List NamedFile) (c : Change) → IsFormed c → MayCome fs c → IsTidy fs → IsTidy (changed fs c)
 changed_tidy fs (Create name) f m t = record {

@@ -1,5 +1,5 @@
 -- Files, and what a change does to them.
-use Rattle.std.specs.Prelude.{◌≡◌, ℕ, ◌+◌, ◌-◌, ◌<◌, ◌≤◌, ◌^◌, List, [], ◌∷◌, ◌++◌, length, take, drop, replicate, slice_get, slice_set, Option, Some, None}
+use Rattle.std.specs.Prelude.{◌≡◌, ℕ, ◌+◌, ◌-◌, ◌<◌, ◌≤◌, ◌^◌, List, [], ◌∷◌, ◌++◌, length, take, drop, replicate, slice_get, slice_set, if◌then◌else◌, Option, Some, None}
 use Rattle.std.specs.Str.{bytes_eq}
 use Rattle.std.specs.List.{AllByRecursion, position, remove}
 use Rattle.disk_model.specs.declared.change.NamedFile.{NamedFile}
@@ -29,10 +29,10 @@ abbrev pub without : {A : Type 0} → List A → Option ℕ → List A
 without xs None = xs
 without xs (Some place) = remove xs place
 
--- the place of the file that loses its name, if one does, where a file that may be there gets this name
+-- the place of the file that loses its name, if one does, where a file that may be there gets this name: another one that had it
 abbrev pub loser : List NamedFile → Option NamedFile → List ℕ → Option ℕ
 loser files None name = None
-loser files (Some file) name = place_named files name
+loser files (Some file) name = if bytes_eq file.name name then None else place_named files name
 
 -- The files after a change. Each names a file by its place among those that live before it. A file that is renamed keeps its
 -- place, and a file that had the new name is gone. A change that names a file that is not there changes nothing.

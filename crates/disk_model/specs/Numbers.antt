@@ -61,3 +61,8 @@ changed_numbered files c = record {
   numbers = numbers_after files c;
   made = made_after files.made c;
 }
+
+-- the files after these changes, the first of them first
+abbrev pub numbered_after : Numbered → List Change → Numbered
+numbered_after files [] = files
+numbered_after files (c ∷ cs) = numbered_after (changed_numbered files c) cs

@@ -39,16 +39,6 @@ with_name_length : (files : List NamedFile) (place : ℕ) (o : Option NamedFile)
 with_name_length files place None name = refl
 with_name_length files place (Some f) name = length-set files place (record { name = name; bytes = f.bytes })
 
--- where a file is there, it is the one that has the name which loses it
-pub loser_there : (files : List NamedFile) (place : ℕ) (name : List ℕ) → place < length files → loser files (slice_get files place) name ≡ place_named files name
-loser_there files place name h = go files place h (slice_get files place) refl
-  where
-    go : (fs : List NamedFile) (k : ℕ) → k < length fs → (o : Option NamedFile) → slice_get fs k ≡ o → loser files o name ≡ place_named files name
-    go [] k lt o e = absurd (let no : ⊥ = omega arith in no)
-    go (f ∷ fs) zero lt None e = absurd (let no : ⊥ = cc in no)
-    go (f ∷ fs) zero lt (Some g) e = refl
-    go (f ∷ fs) (suc k) lt o e = go fs k (omega arith) o e
-
 -- one file fewer, and one number fewer
 pub moved_length : (files : List NamedFile) (numbers : List ℕ) (place : ℕ) (o : Option NamedFile) (name : List ℕ) (l : ℕ)
     → length numbers ≡ length files → l < length files → length (remove numbers l) ≡ length (remove (with_name files place o name) l)

@@ -2,7 +2,7 @@
 ghost use Rattle.std.specs.Prelude.{IfOk, IfSome, List, ◌≡◌, ◌<◌, ◌≤◌, ◌+◌, ℕ, OnOk, OnErr, IsOk, length, slice_get, slice_index_or, take, drop, option_map, []};
 ghost use Rattle.disk_model.specs.declared.change.NamedFile.{NamedFile};
 ghost use Rattle.disk_model.specs.declared.change.Change.TheVariants.{Create, Write, Empty, Remove, Rename};
-ghost use Rattle.disk_model.specs.Files.{changed, patched, place_named};
+ghost use Rattle.disk_model.specs.Files.{changed, loser, patched, place_named};
 
 use byte_list::Bytes;
 use disk_model::{Change, NamedFile};
@@ -147,13 +147,25 @@ impl FileList {
         self.files.remove(place);
     }
 
-    /// The file at a place gets this name, and keeps its place; a file that had the name is gone, and those after it move down by
-    /// one place. Takes no memory.
+    /// The place of the other file that has this name, if one has, where the file at a place is to get it.
+    pub(crate) fn loser(&self, place: usize, name: &[u8]) -> Option<usize>
+        requires { place < length self.now }
+        ensures place { result ≡ loser self.now (slice_get self.now place) name.now }
+        ensures there { IfSome result (λ other. other < length self.now) }
+    {
+        if self.name(place) == name {
+            return None;
+        }
+        self.find(name)
+    }
+
+    /// The file at a place gets this name, and keeps its place; another file that had the name is gone, and those after it move down
+    /// by one place. Takes no memory.
     pub fn rename(&mut self, place: usize, name: Bytes)
         requires { place < length self.old }
         ensures { self.new ≡ changed self.old (Rename place name) }
     {
-        let loser = self.find(name.as_slice());
+        let loser = self.loser(place, name.as_slice());
         self.files[place].name = name;
         if let Some(loser) = loser {
             self.files.remove(loser);
@@ -166,6 +178,7 @@ impl FileList {
         ensures ok { OnOk result (self.new ≡ changed self.old change.now) }
         ensures err { OnErr result (self.new ≡ self.old) }
         ensures empties { (place : ℕ) → change.now ≡ Empty place → IsOk result }
+        ensures removes { (place : ℕ) → change.now ≡ Remove place → IsOk result }
         ensures inside { (place offset : ℕ) (bytes : List ℕ) → change.now ≡ Write place offset bytes
             → IfSome (slice_get self.old place) (λ (f : NamedFile). offset + length bytes ≤ length f.bytes) → IsOk result }
     {

@@ -98,7 +98,7 @@ impl Core {
     {
         held_files_are_made();
         let (files, gate) = journal::open(alloc, &device)?;
-        let held = files.try_clone()?;
+        let held = files.list().try_clone()?;
         let disk = Bytes::copy_of(alloc, device.bytes())?;
         let tapes = share(alloc, tapes)?;
         let shared = Arc::try_clone(&tapes)?;

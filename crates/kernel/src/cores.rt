@@ -8,7 +8,7 @@ ghost use Rattle.kernel_step.specs.Loaned.{lent_out, loan_result};
 
 use crate::sums::Sums;
 use byte_list::Bytes;
-use files::FileTable;
+use files::FileList;
 use kernel_model::{Answer, Event, Refused};
 use kernel_step::{Done, Loan, Program, Rejected, Running};
 use std::marker::Model;
@@ -21,7 +21,7 @@ pub(crate) struct Booted {
     /// Shared with the table of what is read of them.
     pub tapes: Arc<Vec<Bytes>>,
     /// The files that the disk held.
-    pub files: FileTable,
+    pub files: FileList,
     pub disk: Bytes,
     /// The place on the disk of the first gate that was not open.
     pub gate: u32,

@@ -7,7 +7,7 @@ ghost use Rattle.kernel_model.specs.declared.answer.Refused.TheVariants.{NoProce
 ghost use Rattle.kernel.specs.Sums.{sum_of_turns, sum_of_enters};
 
 use crate::cores::Core;
-use files::FileTable;
+use files::FileList;
 use kernel_model::{Event, Refused};
 use machine_model::Reply;
 
@@ -91,8 +91,8 @@ impl Core {
     }
 
     /// The files that the disk held at boot.
-    pub fn boot_files(&self) -> &FileTable
-        ensures { result.now.living ≡ self.now.boot.files }
+    pub fn boot_files(&self) -> &FileList
+        ensures { result.now ≡ self.now.boot.files }
     {
         &self.booted.files
     }

@@ -19,7 +19,6 @@ use Rattle.kernel_model.specs.State.{Process, Shared, PipeState, TapeState, unre
 use Rattle.kernel_model.specs.Limits.{AreNumbered}
 use Rattle.kernel_model.specs.Steps.{change_by, effect_at}
 use Rattle.kernel_model.specs.declared.descriptor.Descriptor.{Descriptor}
-use Rattle.kernel_model.specs.declared.descriptor.Descriptor.TheVariants as descriptor
 use Rattle.kernel_model.specs.declared.descriptor.PipeEnd.{PipeEnd}
 use Rattle.kernel_model.specs.declared.effect.PipeStep.{PipeStep}
 use Rattle.kernel_model.specs.declared.effect.PipeStep.TheVariants as pipe_step

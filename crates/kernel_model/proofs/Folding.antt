@@ -3,7 +3,7 @@ use Rattle.std.proofs.Common.{◌≡◌, ℕ, List, [], ◌∷◌, ◌++◌, Opt
 use Rattle.disk_model.specs.declared.change.Change.{Change}
 use Rattle.disk_model.specs.declared.change.NamedFile.{NamedFile}
 use Rattle.disk_model.specs.Files.{changed, files_after}
-use Rattle.disk_model.specs.Numbers.{Numbered}
+use Rattle.disk_model.specs.Numbers.{Numbered, numbered_after}
 use Rattle.kernel_model.specs.Entries.{Entry}
 use Rattle.kernel_model.proofs.Transitions.{each_event, of_step}
 use Rattle.kernel_model.specs.State.{SyncState, Process, changed_by}
@@ -66,3 +66,27 @@ happens_folded files w e h =
 pub after_folded : (files : List NamedFile) (es : List Event) (w : World) → IsFoldOf files w → IsFoldOf files (after w es)
 after_folded files [] w h = h
 after_folded files (e ∷ es) w h = after_folded files es (happens w e) (happens_folded files w e h)
+
+-- ---- the same with their numbers
+
+numbered_with : (files : Numbered) (o : Option Change) (cs : List Change) → numbered_after files (with_change o cs) ≡ numbered_after (changed_by files o) cs
+numbered_with files None cs = refl
+numbered_with files (Some c) cs = refl
+
+numbered-entry : (files : Numbered) (log : List Entry) (e : Entry)
+    → numbered_after files (changes_in_log (log ++ e ∷ [])) ≡ changed_by (numbered_after files (changes_in_log log)) e.change
+numbered-entry files [] e = numbered_with files e.change []
+numbered-entry files (x ∷ xs) e =
+    numbered_with files x.change (changes_in_log (xs ++ e ∷ []))
+    ∙ numbered-entry (changed_by files x.change) xs e
+    ∙ ap (λ (fs : Numbered). changed_by fs e.change) (sym (numbered_with files x.change (changes_in_log xs)))
+
+pub after_numbered : (files : Numbered) (es : List Event) (w : World) → w.sync.files ≡ numbered_after files (changes_in_log w.log)
+    → (after w es).sync.files ≡ numbered_after files (changes_in_log (after w es).log)
+after_numbered files [] w h = h
+after_numbered files (e ∷ es) w h =
+    after_numbered files es (happens w e) (
+      step_changes w.sync e
+      ∙ ap (λ (fs : Numbered). changed_by fs (step w.sync e).entry.change) h
+      ∙ sym (numbered-entry files w.log (step w.sync e).entry)
+    )

@@ -14,4 +14,5 @@ pub mod Numbering
 pub mod Limits
 pub mod LimitRows
 pub mod LimitRuns
+pub mod Gone
 pub mod Least

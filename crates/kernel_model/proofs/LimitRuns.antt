@@ -4,7 +4,6 @@ use Rattle.std.specs.Prelude.{option_to_list, filter}
 use Rattle.std.proofs.lemmas.List.{length-map, length-set, length-drop}
 use Rattle.disk_model.specs.Held.{joined}
 use Rattle.disk_model.specs.declared.change.Change.{Change}
-use Rattle.disk_model.specs.declared.change.NamedFile.{NamedFile}
 use Rattle.disk_model.proofs.Lists.{each_get, each_more}
 use Rattle.disk_model.proofs.Tidy.{IsTidyFile, tidy_after}
 use Rattle.machine_model.specs.declared.reply.Reply.{Reply}

@@ -1,4 +1,4 @@
--- How large the tables of a state may be, and that what they name is there.
+-- How large the tables of a state may be, and that what they name is there or, of files, was made.
 use Rattle.std.specs.Prelude.{◌≡◌, ℕ, ◌+◌, ◌<◌, ◌≤◌, Bool, List, [], ◌∷◌, length, slice_get, Option, Some, None, is_some, IsTrue, MatchOption}
 use Rattle.std.specs.List.{Contains}
 use Rattle.disk_model.specs.Numbers.{Numbered}

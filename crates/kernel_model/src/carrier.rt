@@ -7,7 +7,7 @@ pub enum Carrier {
     Proc(u32),
     /// A file's bytes, and whether it lives, by the file's number.
     File(u64),
-    /// The names of the files, and the number of the next one.
+    /// The names of the files that live, with their numbers, and the number of the next file.
     Names,
     /// A pipe, by its number.
     Pipe(u32),

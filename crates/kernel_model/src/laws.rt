@@ -1,7 +1,8 @@
 //! Laws over all runs.
-ghost use Rattle.std.specs.Prelude.{List, length, ◌++◌, ◌≡◌, ◌≤◌, ◌↔◌, ℕ, IsTrue, is_none, is_some, slice_get};
+ghost use Rattle.std.specs.Prelude.{List, false, length, ◌++◌, ◌≡◌, ◌≤◌, ◌<◌, ◌↔◌, ℕ, IsTrue, is_none, is_some, slice_get};
 ghost use Rattle.std.specs.List.{list_all};
 ghost use Rattle.disk_model.specs.Files.{files_after};
+ghost use Rattle.disk_model.specs.Numbers.{lives, numbered, numbered_after};
 ghost use Rattle.kernel_model.specs.declared.event.Event.{Event};
 ghost use Rattle.kernel_model.specs.Entries.{Entry};
 ghost use Rattle.kernel_model.specs.Paths.{IsDurable, is_durable, changes_in_log};
@@ -17,10 +18,21 @@ pub fn durable_is()
     ensures { (c : ℕ) (past : List Entry) (e : Entry) → IsTrue (is_durable c past e) ↔ IsDurable c past e }
 {}
 
-/// A law: the files of the synchronous state are those of the boot after all changes of the log.
+/// A law: the files of the synchronous state are those of the boot after all changes of the log; and so are their numbers, where
+/// those of the boot are numbered by their places.
 pub fn files_are_folded()
-    ensures { (b : Boot) (es : List Event)
+    ensures numbered { (b : Boot) (es : List Event)
+        → (after (first_world b) es).sync.files ≡ numbered_after (numbered b.files) (changes_in_log (after (first_world b) es).log) }
+    ensures living { (b : Boot) (es : List Event)
         → (after (first_world b) es).sync.files.living ≡ files_after b.files (changes_in_log (after (first_world b) es).log) }
+{}
+
+/// A law: a file that is gone never comes back. Where no file of a number lives that was given to one, none lives after any events
+/// that come, so no number is used again.
+pub fn files_stay_gone()
+    ensures { (b : Boot) (es more : List Event) (number : ℕ) → number < (after (first_world b) es).sync.files.made
+        → lives (after (first_world b) es).sync.files number ≡ false
+        → lives (after (first_world b) (es ++ more)).sync.files number ≡ false }
 {}
 
 /// A law: what the numbers of a pipe's ends are. Whatever events come, the number of ends to read that a pipe has is exactly
@@ -57,7 +69,7 @@ pub fn ended_hold_nothing()
         → IsTrue (list_all is_none p.descriptors) }
 {}
 
-/// A law: whatever events come, the tables keep their limits, and what they name is there. Each process has 16 descriptors, of
+/// A law: whatever events come, the tables keep their limits, and what they name is there or, of files, was made. Each process has 16 descriptors, of
 /// which none stands for a file that was never made, and its children stand by rising number. The numbers of the files that live
 /// rise, so each file has its own, and each is below that of the next file. There are at most 1,024 pipes, and each holds at most
 /// 4,096 bytes. Where the boot has at most 1,024 programs, there are at most 1,024 processes; where it has

@@ -1,5 +1,5 @@
 -- An Enter of the parts is an Enter of the run.
-use Rattle.std.proofs.Common.{◌≡◌, ℕ, suc, ◌+◌, ◌*◌, ◌^◌, ◌<◌, ◌≤◌, inl, inr, true, false, Bool, List, [], ◌∷◌, ◌++◌, length, map, slice_get, slice_set, Option, Some, None, is_some, IfSome, option_to_list, refl, sym, ap, subst, ◌∙◌, arith}
+use Rattle.std.proofs.Common.{◌≡◌, ℕ, suc, ◌+◌, ◌*◌, ◌^◌, ◌<◌, ◌≤◌, inl, inr, true, false, Bool, List, [], ◌∷◌, ◌++◌, length, map, slice_get, slice_set, Option, Some, None, is_some, IfSome, option_to_list, refl, sym, ap, subst, ◌∙◌, arith, length-append}
 use Rattle.std.proofs.lemmas.List.{length-map, map-append}
 use Rattle.std.specs.List.{AllByRecursion}
 use Rattle.disk_model.specs.declared.change.Change.{Change}
@@ -270,12 +270,12 @@ finished-entered pid plan mark s s1 s3 d ready noted done =
     }
 
 -- the process was told this
-pub finished-told : (verdict : Verdict) (mark : ℕ) (files : List NamedFile) (s s1 : System) (t u : Task) → IsSystemWith files s s1
+pub finished-told : (verdict : Verdict) (mark : ℕ) (files : Numbered) (s s1 : System) (t u : Task) → IsSystemWith files s s1
     → IsTold verdict mark s1.served t u → IsTold verdict mark s.served t u
 finished-told verdict mark files s s1 t u ready done = subst (λ (n : ℕ). IsTold verdict mark n t u) ready.served done
 
 -- the marks alone were changed since
-pub shared-turned : (files : List NamedFile) (s s1 : System) (d : Kept) → IsSystemWith files s s1
+pub shared-turned : (files : Numbered) (s s1 : System) (d : Kept) → IsSystemWith files s s1
     → IsSystemWith files (marked_with s d.marks) (record s1 { dependencies = d })
 shared-turned files s s1 d ready = record {
   marks = refl;
@@ -329,6 +329,8 @@ same-mirrors w tasks s s' place t t' there same rest h =
         formed = h.changes.formed;
         files = rest.files ∙ h.changes.files;
         made = h.changes.made;
+        numbered = h.changes.numbered;
+        fresh = h.changes.fresh;
       };
       tapes = rest.tapes ∙ h.tapes;
       parts = subst (λ (xs : List Part). AreParts w xs) (sym rest.parts) h.parts;

@@ -2,7 +2,7 @@
 use Rattle.std.specs.Prelude.{◌≡◌, ℕ, ◌+◌, ◌^◌, ◌<◌, ◌≤◌, ◌⊎◌, true, List, [], ◌∷◌, ◌++◌, length, map, Option, Some, None, IfSome, option_to_list, slice_get}
 use Rattle.std.specs.List.{AllByRecursion}
 use Rattle.std.specs.Option.{ForSome}
-use Rattle.disk_model.specs.declared.change.NamedFile.{NamedFile}
+use Rattle.disk_model.specs.Numbers.{Numbered}
 use Rattle.machine_model.specs.Access.{is_writable}
 use Rattle.machine_model.specs.States.{State, stands_at, replied}
 use Rattle.machine_model.specs.declared.stop.Stop.TheVariants.{Call}
@@ -266,7 +266,7 @@ ArePrinted output mark old new =
     (c : ℕ) (log : List Entry) (e : Entry) → AreScreens c log old → IsMarkOf mark log e → e.output ≡ output → AreScreens c (log ++ e ∷ []) new
 
 -- the files are these, and all else that is shared is the same, though there may be room for more
-pub record IsSystemWith (held : List NamedFile) (old new : System) : Type 0 where
+pub record IsSystemWith (held : Numbered) (old new : System) : Type 0 where
   pub marks : new.dependencies.marks ≡ old.dependencies.marks
   pub changes : new.changes.items ≡ old.changes.items
   pub files : new.files ≡ held

@@ -83,7 +83,6 @@ pub record MayChangeSystem (s : System) (pid : ℕ) (plan : Plan) (pipe : Option
   pub spare : IsSpare plan.pipes.items pipe
   pub may : MayAllStep s.pipes plan.pipes.items
   pub few : s.served < 2 ^ 63
-  pub fresh : s.files.made + 1 < 2 ^ 64
 
 -- the rest of an Enter may be done
 pub record IsReady (t : Task) (s : System) (e : Entering) : Type 0 where
