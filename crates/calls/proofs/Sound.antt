@@ -158,7 +158,7 @@ at-its-place c r fine f number each = go (place_of c.files number) refl
     go (Some place) is = each place (omega (arith, (place_there c.files number place is).0, fine.numbered.each)) is
 
 write-possible : (c : Kept) (r : Request) → IsFine c r → (fd n file offset : ℕ) (bytes : List ℕ) → r ≡ request.Write fd n (Some bytes)
-    → GoesToFile c.descriptors fd n file offset bytes → MayBeMade c.files (edit.Write file offset bytes)
+    → GoesToFile c.files c.descriptors fd n file offset bytes → MayBeMade c.files (edit.Write file offset bytes)
 write-possible c r fine fd n file offset bytes is goes carries =
     let whole = subst IsWhole is fine.whole in
     at-its-place c r fine (λ (place : ℕ). change.Write place offset bytes) file (λ place there _. (

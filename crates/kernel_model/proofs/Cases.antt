@@ -5,7 +5,7 @@ use Rattle.std.specs.List.{list_all}
 use Rattle.std.specs.Str.{bytes_eq}
 use Rattle.std.proofs.lemmas.Bool.{and_parts, leb-false, ltb-false, not-false, or_parts}
 use Rattle.disk_model.specs.declared.change.NamedFile.{NamedFile}
-use Rattle.disk_model.specs.Numbers.{file_of, lives}
+use Rattle.disk_model.specs.Numbers.{Numbered, file_of, lives}
 use Rattle.disk_model.proofs.Lists.{some_of}
 use Rattle.machine_model.specs.declared.stop.Stop.{Stop}
 use Rattle.machine_model.specs.declared.stop.Stop.TheVariants.{Limit, Call, Trap}
@@ -68,12 +68,13 @@ child_made child ds = record (only (number child)) {
   child = Some child;
 }
 
--- when n bytes go to a file, through a descriptor of these
-pub record GoesToFile (ds : List (Option Descriptor)) (fd n file offset : ℕ) (bytes : List ℕ) : Type 0 where
+-- when n bytes go to a file of these, through a descriptor of these
+pub record GoesToFile (files : Numbered) (ds : List (Option Descriptor)) (fd n file offset : ℕ) (bytes : List ℕ) : Type 0 where
   pub stands : descriptor_at ds fd ≡ Some (descriptor.File file offset true)
   pub some : 1 ≤ n
   pub most : n ≤ 1024
   pub fits : offset + length bytes ≤ 16384
+  pub alive : lives files file ≡ true
 
 -- when a file is made by a name of n bytes, in this directory
 pub record IsMadeNew (dir : Directory) (n : ℕ) (name : List ℕ) : Type 0 where
@@ -100,7 +101,7 @@ pub record OfEach (P : Effect → Type 0) (s : Shared) (ds : List (Option Descri
   pub waits : (reads writes : List Carrier) → P (waiting reads writes)
   -- a write to a terminal, to a file, and to a pipe that has room
   pub shown : (t : ℕ) (bytes : List ℕ) → P (to_terminal t bytes)
-  pub filed : (fd n file offset : ℕ) (bytes : List ℕ) → r ≡ request.Write fd n (Some bytes) → GoesToFile ds fd n file offset bytes
+  pub filed : (fd n file offset : ℕ) (bytes : List ℕ) → r ≡ request.Write fd n (Some bytes) → GoesToFile s.files ds fd n file offset bytes
       → P (to_file fd file offset bytes)
   pub put : (fd n k : ℕ) (bytes : List ℕ) (p : PipeState) → r ≡ request.Write fd n (Some bytes) → slice_get s.pipes k ≡ Some p
       → length (unread p) < 4096 → P (put_some k bytes (pipe_size - length (unread p)))
@@ -150,11 +151,11 @@ module _ (P : Effect → Type 0) (s : Shared) (ds : List (Option Descriptor)) (c
 
   -- write
   write_file_is : (fd n file offset : ℕ) (bytes : List ℕ) → r ≡ request.Write fd n (Some bytes)
-      → descriptor_at ds fd ≡ Some (descriptor.File file offset true) → 1 ≤ n → n ≤ 1024
+      → descriptor_at ds fd ≡ Some (descriptor.File file offset true) → 1 ≤ n → n ≤ 1024 → lives s.files file ≡ true
       → P (looking_at (Some (descriptor.File file offset true)) (write_file fd file offset bytes))
-  write_file_is fd n file offset bytes is stands some most =
+  write_file_is fd n file offset bytes is stands some most alive =
       by_look (Some (descriptor.File file offset true)) (nat_lt longest_file (offset + length bytes)) _ _ (λ _. of.told _ _ _) (λ h.
-      of.filed fd n file offset bytes is (record { stands = stands; some = some; most = most; fits = ltb-false longest_file (offset + length bytes) h }))
+      of.filed fd n file offset bytes is (record { stands = stands; some = some; most = most; fits = ltb-false longest_file (offset + length bytes) h; alive = alive }))
 
   write_pipe_is : (fd n k : ℕ) (bytes : List ℕ) (o : Option PipeState) → r ≡ request.Write fd n (Some bytes) → slice_get s.pipes k ≡ o
       → P (write_pipe k bytes o)
@@ -164,26 +165,26 @@ module _ (P : Effect → Type 0) (s : Shared) (ds : List (Option Descriptor)) (c
       by_test (nat_le pipe_size (length (unread p))) _ _ (λ _. of.waits _ _) (λ h. of.put fd n k bytes p is found (leb-false pipe_size (length (unread p)) h)))
 
   write_to_is : (d : Option Descriptor) (fd n : ℕ) (bytes : List ℕ) → r ≡ request.Write fd n (Some bytes) → descriptor_at ds fd ≡ d
-      → 1 ≤ n → n ≤ 1024 → P (looking_at d (write_to s d fd bytes))
-  write_to_is (Some (descriptor.Terminal t)) fd n bytes is stands some most = of.shown t bytes
-  write_to_is (Some (descriptor.File file offset true)) fd n bytes is stands some most = write_file_is fd n file offset bytes is stands some most
-  write_to_is (Some (descriptor.File file offset false)) fd n bytes is stands some most = of.told _ _ _
-  write_to_is (Some (descriptor.Pipe (pipe_end.Write k))) fd n bytes is stands some most = write_pipe_is fd n k bytes (slice_get s.pipes k) is refl
-  write_to_is (Some (descriptor.Pipe (pipe_end.Read k))) fd n bytes is stands some most = of.told _ _ _
-  write_to_is (Some (descriptor.Tape t)) fd n bytes is stands some most = of.told _ _ _
-  write_to_is None fd n bytes is stands some most = of.told _ _ _
+      → 1 ≤ n → n ≤ 1024 → may_write s.files d ≡ true → P (looking_at d (write_to s d fd bytes))
+  write_to_is (Some (descriptor.Terminal t)) fd n bytes is stands some most may = of.shown t bytes
+  write_to_is (Some (descriptor.File file offset true)) fd n bytes is stands some most may = write_file_is fd n file offset bytes is stands some most may
+  write_to_is (Some (descriptor.File file offset false)) fd n bytes is stands some most may = of.told _ _ _
+  write_to_is (Some (descriptor.Pipe (pipe_end.Write k))) fd n bytes is stands some most may = write_pipe_is fd n k bytes (slice_get s.pipes k) is refl
+  write_to_is (Some (descriptor.Pipe (pipe_end.Read k))) fd n bytes is stands some most may = of.told _ _ _
+  write_to_is (Some (descriptor.Tape t)) fd n bytes is stands some most may = of.told _ _ _
+  write_to_is None fd n bytes is stands some most may = of.told _ _ _
 
-  write_read_is : (fd n : ℕ) (o : Option (List ℕ)) → r ≡ request.Write fd n o → 1 ≤ n → n ≤ 1024
+  write_read_is : (fd n : ℕ) (o : Option (List ℕ)) → r ≡ request.Write fd n o → 1 ≤ n → n ≤ 1024 → may_write s.files (descriptor_at ds fd) ≡ true
       → P (looking_at (descriptor_at ds fd) (write_read s (descriptor_at ds fd) fd o))
-  write_read_is fd n None is some most = of.told _ _ _
-  write_read_is fd n (Some bytes) is some most = write_to_is (descriptor_at ds fd) fd n bytes is refl some most
+  write_read_is fd n None is some most may = of.told _ _ _
+  write_read_is fd n (Some bytes) is some most may = write_to_is (descriptor_at ds fd) fd n bytes is refl some most may
 
   row_write_is : (fd n : ℕ) (o : Option (List ℕ)) → r ≡ request.Write fd n o → P (row_write s (descriptor_at ds fd) fd n o)
   row_write_is fd n o is =
-      by_look (descriptor_at ds fd) (not (may_write s.files (descriptor_at ds fd))) _ _ (λ _. of.told _ _ _) (λ _.
+      by_look (descriptor_at ds fd) (not (may_write s.files (descriptor_at ds fd))) _ _ (λ _. of.told _ _ _) (λ may.
       by_look (descriptor_at ds fd) (nat_lt most_bytes n) _ _ (λ _. of.told _ _ _) (λ most.
       by_look (descriptor_at ds fd) (n == 0) _ _ (λ _. of.told _ _ _) (λ some.
-      write_read_is fd n o is (some_of (n == 0) n refl some) (ltb-false most_bytes n most))))
+      write_read_is fd n o is (some_of (n == 0) n refl some) (ltb-false most_bytes n most) (not-false (may_write s.files (descriptor_at ds fd)) may))))
 
   -- read
   read_tape_is : (fd at n t : ℕ) (o : Option TapeState) → r ≡ request.Read fd at n true → slice_get s.tapes t ≡ o → P (read_tape t at n o)

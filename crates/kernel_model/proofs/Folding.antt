@@ -86,7 +86,7 @@ pub after_numbered : (files : Numbered) (es : List Event) (w : World) → w.sync
 after_numbered files [] w h = h
 after_numbered files (e ∷ es) w h =
     after_numbered files es (happens w e) (
-      step_changes w.sync e
-      ∙ ap (λ (fs : Numbered). changed_by fs (step w.sync e).entry.change) h
-      ∙ sym (numbered-entry files w.log (step w.sync e).entry)
+    step_changes w.sync e
+    ∙ ap (λ (fs : Numbered). changed_by fs (step w.sync e).entry.change) h
+    ∙ sym (numbered-entry files w.log (step w.sync e).entry)
     )

@@ -66,7 +66,7 @@ by_first : (b : Bool) (from : ℕ) (o : Option ℕ) → cond b (Some from) o ≡
 by_first true from o h later = let no : ⊥ = cc in no
 by_first false from o h later = later h
 
-none_number : (from : ℕ) (ns : List ℕ) (n k : ℕ) → position_from (λ (m : ℕ). m == n) from ns ≡ None → slice_get ns k ≡ Some n → ⊥
+pub none_number : (from : ℕ) (ns : List ℕ) (n k : ℕ) → position_from (λ (m : ℕ). m == n) from ns ≡ None → slice_get ns k ≡ Some n → ⊥
 none_number from [] n k h e = let no : ⊥ = cc in no
 none_number from (m ∷ ns) n zero h e =
     let same : m ≡ n = cc in

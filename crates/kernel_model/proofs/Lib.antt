@@ -15,4 +15,5 @@ pub mod Limits
 pub mod LimitRows
 pub mod LimitRuns
 pub mod Gone
+pub mod Making
 pub mod Least

@@ -1,14 +1,16 @@
 //! Laws over all runs.
-ghost use Rattle.std.specs.Prelude.{List, false, length, ◌++◌, ◌≡◌, ◌≤◌, ◌<◌, ◌↔◌, ℕ, IsTrue, is_none, is_some, slice_get};
+ghost use Rattle.std.specs.Prelude.{List, Some, false, length, ◌++◌, ◌≡◌, ◌≤◌, ◌<◌, ◌↔◌, ℕ, IsTrue, is_none, is_some, slice_get};
 ghost use Rattle.std.specs.List.{list_all};
 ghost use Rattle.disk_model.specs.Files.{files_after};
 ghost use Rattle.disk_model.specs.Numbers.{lives, numbered, numbered_after};
 ghost use Rattle.kernel_model.specs.declared.event.Event.{Event};
 ghost use Rattle.kernel_model.specs.Entries.{Entry};
 ghost use Rattle.kernel_model.specs.Paths.{IsDurable, is_durable, changes_in_log};
-ghost use Rattle.kernel_model.specs.State.{Process, PipeState, process_at, shared};
+ghost use Rattle.kernel_model.specs.State.{Process, PipeState, SyncState, process_at, shared};
 ghost use Rattle.kernel_model.specs.Ends.{count_held};
-ghost use Rattle.kernel_model.specs.Rows.{first_ended, most_processes};
+ghost use Rattle.kernel_model.specs.Rows.{Effect, first_ended, most_processes};
+ghost use Rattle.kernel_model.specs.Steps.{change_by, effect_at};
+ghost use Rattle.machine_model.specs.States.{stands_at};
 ghost use Rattle.kernel_model.specs.Limits.{AreFewAndShort, FindsLeast, KeepLimits, TapesAreThere};
 ghost use Rattle.kernel_model.specs.World.{Boot, HoldsItsFiles, first_world, after, tape_count};
 ghost use Rattle.kernel_model.specs.declared.descriptor.PipeEnd.TheVariants.{Read, Write};
@@ -33,6 +35,12 @@ pub fn files_stay_gone()
     ensures { (b : Boot) (es more : List Event) (number : ℕ) → number < (after (first_world b) es).sync.files.made
         → lives (after (first_world b) es).sync.files number ≡ false
         → lives (after (first_world b) (es ++ more)).sync.files number ≡ false }
+{}
+
+/// A law: each edit of a file is made. Where the row of the call at which a process stands edits a file, its event makes a change.
+pub fn edits_are_made()
+    ensures { (s : SyncState) (pid : ℕ) (p : Process) (e : Effect) → effect_at (shared s) pid p (stands_at p.state) ≡ Some e
+        → is_some (change_by s.files e.edit) ≡ is_some e.edit }
 {}
 
 /// A law: what the numbers of a pipe's ends are. Whatever events come, the number of ends to read that a pipe has is exactly

@@ -18,8 +18,8 @@ pub use descriptor::{Descriptor, PipeEnd};
 pub use effect::{FileEdit, Output, PipeStep, Slot, TapeRead};
 pub use event::Event;
 pub use laws::{
-    durable_is, ended_hold_nothing, ends_are_counted, ends_stay_closed, files_are_folded, files_stay_gone,
-    first_ended_is_least, tables_keep_their_limits,
+    durable_is, edits_are_made, ended_hold_nothing, ends_are_counted, ends_stay_closed,
+    files_are_folded, files_stay_gone, first_ended_is_least, tables_keep_their_limits,
 };
 pub use request::{Request, Verdict};
 pub use standing::Standing;
