@@ -190,8 +190,11 @@ module _ (s : Shared) (ready : IsReadable s) (memory : Memory) (holds : HoldsByt
           change = at_its_place s.files (IsPossible s.files.living) (λ (place : ℕ). change.Rename place (drop n names)) file (λ place at.
               let there = within file place at in (
                 (omega (arith, ready.few, there), (omega (arith, size, rest, new.some), omega (arith, size, rest, new.most), name_bytes (drop n names) new.good)),
-                (there, (λ f is_there same.
-                  differs (take n names) (drop n names) new.differs (sym (number_has_name s.files (take n names) file place f ready.numbered new.named at is_there) ∙ same))),
+                (
+                  there,
+                  (λ f is_there same.
+                      differs (take n names) (drop n names) new.differs (sym (number_has_name s.files (take n names) file place f ready.numbered new.named at is_there) ∙ same)),
+                ),
               ));
           verdict = tt;
           pipes = tt;

@@ -1,12 +1,12 @@
 //! Lists of files.
 use crate::disk_file::disk_in;
 use crate::fault::Fault;
-use files::FileTable;
+use files::FileList;
 use std::io::Write;
 use std::rt::Files;
 
 /// Prints a line for each file, in order of creation: its name, and its length.
-pub fn print_files<O: Write>(files: &FileTable, out: &mut O) -> Result<(), Fault> {
+pub fn print_files<O: Write>(files: &FileList, out: &mut O) -> Result<(), Fault> {
     for place in 0..files.count() {
         let length = files.length(place);
         out.write_all(files.name(place))?;
@@ -22,5 +22,6 @@ pub fn list_files<R: Files + AllocGlobal, O: Write>(
     out: &mut O,
 ) -> Result<(), Fault> {
     let device = disk_in(rt, path)?;
-    print_files(&journal::recover(rt.alloc(), &device)?, out)
+    let files = journal::recover(rt.alloc(), &device)?;
+    print_files(files.list(), out)
 }

@@ -3,7 +3,7 @@ use crate::fault::Fault;
 use crate::file_lines::print_files;
 use crate::script::{Action, Script, Step, Terminal};
 use crate::setup::Setup;
-use files::FileTable;
+use files::FileList;
 use kernel::{Answer, Core, Event, Refused};
 use machine_model::{Reply, Stop};
 use std::alloc::Global;
@@ -115,7 +115,7 @@ fn print_trace<O: Write>(alloc: Global, core: &Core, pid: u32, out: &mut O) -> R
 }
 
 /// Prints how many files the disk held at boot, and then a line for each.
-fn print_boot_files<O: Write>(files: &FileTable, out: &mut O) -> Result<(), Fault> {
+fn print_boot_files<O: Write>(files: &FileList, out: &mut O) -> Result<(), Fault> {
     let count = files.count();
     writeln!(out, "files {count}")?;
     print_files(files, out)

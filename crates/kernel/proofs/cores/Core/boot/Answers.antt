@@ -2,7 +2,7 @@
 use Rattle.std.proofs.Common.{◌≡◌, ◌+◌, ◌<◌, ◌≤◌, [], ◌∷◌, length, map, ap, sym, subst, ◌∙◌, List, Vec, ℕ, rules, arith}
 use Rattle.std.specs.List.{AllByRecursion}
 use Rattle.std.proofs.lemmas.List.{length-map}
-use Rattle.disk_model.specs.Numbers.{Numbered}
+use Rattle.disk_model.specs.declared.change.NamedFile.{NamedFile}
 use Rattle.disk_model.specs.Held.{IsHeldTo}
 use Rattle.kernel_model.specs.Bytes.{ProgramsHoldBytes, TapesHoldBytes}
 use Rattle.kernel_model.specs.Answers.{AllAccepted}
@@ -28,7 +28,7 @@ disk-is c = c.in_ok-disk.ensures ∙ c.bytes.ensures.bytes
 
 held-is : (c : In_ok-running) → HoldsItsFiles (boot_of (booted c))
 held-is c =
-    subst (λ (fs : Numbered). IsHeldTo c.in_ok-disk.disk c.in_ok-files.gate fs.living) (sym c.in_ok-held.ensures)
+    subst (λ (fs : List NamedFile). IsHeldTo c.in_ok-disk.disk c.in_ok-files.gate fs) (sym (c.in_ok-held.ensures ∙ c.list.ensures))
     (subst (λ (d : List ℕ). IsHeldTo d c.in_ok-files.gate c.in_ok-files.files.living) (sym (disk-is c)) c.in_ok-files.ensures.found)
 
 -- the boot of the parts is that of the core
@@ -36,8 +36,8 @@ boot-is : (c : In_ok-running) → boot_with c.deref.result.now c.in_ok-shared.sh
 boot-is c =
     ap (λ (ps : List Program). boot_with ps c.in_ok-shared.shared.value.items c.in_ok-files.files.living c.args.device.disk c.in_ok-files.gate) c.deref.ensures.value
     ∙ ap (λ (v : Vec _ _). boot_with c.args.programs.items v.items c.in_ok-files.files.living c.args.device.disk c.in_ok-files.gate) c.in_ok-shared.ensures
-    ∙ ap (λ (fs : Numbered). boot_with c.args.programs.items c.in_ok-tapes.tapes.value.items fs.living c.args.device.disk c.in_ok-files.gate) (sym c.in_ok-held.ensures)
-    ∙ ap (λ (d : List ℕ). boot_with c.args.programs.items c.in_ok-tapes.tapes.value.items c.in_ok-held.held.living d c.in_ok-files.gate) (sym (disk-is c))
+    ∙ ap (λ (fs : List NamedFile). boot_with c.args.programs.items c.in_ok-tapes.tapes.value.items fs c.args.device.disk c.in_ok-files.gate) (sym (c.in_ok-held.ensures ∙ c.list.ensures))
+    ∙ ap (λ (d : List ℕ). boot_with c.args.programs.items c.in_ok-tapes.tapes.value.items c.in_ok-held.held d c.in_ok-files.gate) (sym (disk-is c))
 
 programs-hold : (c : In_ok-running) → ProgramsHoldBytes (boot_of (booted c))
 programs-hold c = subst (λ (b : Boot). ProgramsHoldBytes b) (boot-is c) (c.in_ok-running.ensures.bytes c.args.device.disk c.in_ok-files.gate)

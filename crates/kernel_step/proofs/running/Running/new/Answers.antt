@@ -1,5 +1,5 @@
 -- The parts before any event.
-use Rattle.std.proofs.Common.{refl, ap, sym, subst, ◌∙◌, ◌<◌, List, Vec, ℕ}
+use Rattle.std.proofs.Common.{ap, sym, subst, ◌∙◌, ◌<◌, List, Vec, ℕ}
 use Rattle.std.specs.List.{AllByRecursion}
 use Rattle.kernel_model.specs.declared.event.Event.{Event}
 use Rattle.kernel_step.specs.Booting.{boot_with}
