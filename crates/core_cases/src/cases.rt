@@ -306,7 +306,7 @@ impl Case {
         let files = Changer::of(name).files_after(self.alloc, changes)?;
         let found = recover(self.alloc, &self.device)?;
         let next = TestCore::boot(self.alloc, &self.sources, &self.tapes, &self.device)?;
-        Ok(has(&found, &files) && has(next.boot_files(), &files))
+        Ok(has(found.list(), &files) && has(next.boot_files(), &files))
     }
 
     /// So many bytes of the disk, from this place on.

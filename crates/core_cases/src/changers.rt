@@ -1,6 +1,6 @@
 //! The changes that programs make, from which a plain fold makes the files that they leave.
-use crate::plain_files::{PlainFile, has};
-use files::FileTable;
+use crate::plain_files::{PlainFile, file_named, has, make, remove, rename};
+use files::FileList;
 use std::alloc::{AllocError, Global};
 
 /// A program that makes its files, each named by a letter, and then writes to them.
@@ -13,7 +13,46 @@ pub enum Changer {
     ThreeFiles,
     /// `writer.s` goes on writing 1,024 bytes to each of the sixteen blocks of `f`, again and again, its number and zeros.
     Writer,
+    /// `renamer.s` goes on making, writing, removing and renaming its files, by the steps of `ROUND`. It writes 1,024 bytes,
+    /// the number of the change, from 1, and zeros.
+    Renamer,
 }
+
+/// A change by the files' names.
+#[derive(Clone, Copy)]
+enum Step {
+    /// The file is made, or emptied where it is there.
+    Make(u8),
+    /// The block of this number is written.
+    Write(u8, usize),
+    Remove(u8),
+    Rename(u8, u8),
+}
+
+/// The changes of a round of `renamer.s`.
+const ROUND: [Step; 21] = [
+    Step::Make(b'a'),
+    Step::Write(b'a', 0),
+    Step::Make(b'b'),
+    Step::Write(b'b', 0),
+    Step::Make(b'c'),
+    Step::Write(b'c', 0),
+    Step::Remove(b'a'),
+    Step::Write(b'b', 1),
+    Step::Rename(b'c', b'd'),
+    Step::Write(b'd', 1),
+    Step::Make(b'c'),
+    Step::Write(b'c', 0),
+    Step::Rename(b'c', b'b'),
+    Step::Write(b'b', 1),
+    Step::Rename(b'd', b'b'),
+    Step::Write(b'b', 2),
+    Step::Make(b'a'),
+    Step::Write(b'a', 0),
+    Step::Make(b'c'),
+    Step::Remove(b'a'),
+    Step::Write(b'c', 0),
+];
 
 impl Changer {
     /// The program whose source this file has.
@@ -21,25 +60,27 @@ impl Changer {
         match name {
             "first.s" => Changer::First,
             "three_files.s" => Changer::ThreeFiles,
+            "renamer.s" => Changer::Renamer,
             _ => Changer::Writer,
         }
     }
 
-    /// The names of its files.
+    /// The names of its files that are made first, once for all.
     fn names(self) -> &'static [u8] {
         match self {
             Changer::ThreeFiles => b"abc",
+            Changer::Renamer => b"",
             _ => b"f",
         }
     }
 
-    /// The file, by its number, the offset and the last byte of the write of this number, from 0.
-    fn target_of(self, number: u32) -> (usize, usize, u8) {
+    /// The name of the file, the offset and the last byte of the write of this number, from 0.
+    fn target_of(self, number: u32) -> (u8, usize, u8) {
         match (self, number % 8) {
-            (Changer::ThreeFiles, 0) => (0, 500, b'a'),
-            (Changer::ThreeFiles, 1) => (0, 1524, b'a'),
-            (Changer::ThreeFiles, place) => (2, place.saturating_sub(2) as usize * 1024, b'c'),
-            _ => (0, number as usize % 16 * 1024, 0),
+            (Changer::ThreeFiles, 0) => (b'a', 500, b'a'),
+            (Changer::ThreeFiles, 1) => (b'a', 1524, b'a'),
+            (Changer::ThreeFiles, place) => (b'c', place.saturating_sub(2) as usize * 1024, b'c'),
+            _ => (b'f', number as usize % 16 * 1024, 0),
         }
     }
 
@@ -58,11 +99,31 @@ impl Changer {
 
     /// Does the write of this number, from 0.
     fn write(self, alloc: Global, files: &mut [PlainFile], number: u32) -> Result<(), AllocError> {
-        let (file, offset, last) = self.target_of(number);
-        match files.get_mut(file) {
+        let (name, offset, last) = self.target_of(number);
+        match file_named(files, name) {
             Some(file) => file.write(offset, &self.bytes_of(alloc, number, last)?),
             None => Ok(()),
         }
+    }
+
+    /// Does the step of a round that is the change of this number, from 0.
+    fn step(
+        self,
+        alloc: Global,
+        files: &mut Vec<PlainFile>,
+        number: u32,
+    ) -> Result<(), AllocError> {
+        match ROUND[number as usize % ROUND.len()] {
+            Step::Make(name) => make(alloc, files, name)?,
+            Step::Write(name, block) => {
+                if let Some(file) = file_named(files, name) {
+                    file.write(block.saturating_mul(1024), &self.bytes_of(alloc, number, 0)?)?;
+                }
+            }
+            Step::Remove(name) => remove(files, name),
+            Step::Rename(old, new) => rename(files, old, new),
+        }
+        Ok(())
     }
 
     /// Does the change of this number, from 0: first the files are made.
@@ -74,11 +135,11 @@ impl Changer {
     ) -> Result<(), AllocError> {
         let names = self.names();
         match names.get(number as usize) {
-            Some(name) => {
-                let bytes = Vec::new(alloc);
-                Ok(files.push(PlainFile { name: *name, bytes })?)
-            }
-            None => self.write(alloc, files, number.saturating_sub(names.len() as u32)),
+            Some(name) => make(alloc, files, *name),
+            None => match self {
+                Changer::Renamer => self.step(alloc, files, number),
+                _ => self.write(alloc, files, number.saturating_sub(names.len() as u32)),
+            },
         }
     }
 
@@ -91,21 +152,21 @@ impl Changer {
         Ok(files)
     }
 
-    /// Whether a table has the files after so many changes, at least these and at most those.
+    /// Whether a list has the files after so many changes, at least these and at most those.
     pub fn leaves(
         self,
         alloc: Global,
-        table: &FileTable,
+        list: &FileList,
         least: u32,
         most: u32,
     ) -> Result<bool, AllocError> {
         let mut files = self.files_after(alloc, least)?;
         for number in least..most {
-            if has(table, &files) {
+            if has(list, &files) {
                 return Ok(true);
             }
             self.change(alloc, &mut files, number)?;
         }
-        Ok(has(table, &files))
+        Ok(has(list, &files))
     }
 }

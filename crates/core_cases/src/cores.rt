@@ -6,7 +6,7 @@ use anyhow::{Error, bail};
 use assembler::assemble;
 use bursts::{Done, Rejected, Totals, run_loan, totals_of};
 use byte_list::Bytes;
-use files::FileTable;
+use files::{FileList, FileTable};
 use kernel::{Answer, BootFault, Core, DiskFault, Event, Program, Refused, SimDisk};
 use std::alloc::{AllocError, Global};
 
@@ -116,7 +116,7 @@ impl TestCore {
         self.core.settle(done)
     }
 
-    pub fn boot_files(&self) -> &FileTable {
+    pub fn boot_files(&self) -> &FileList {
         self.core.boot_files()
     }
 

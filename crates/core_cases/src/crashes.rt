@@ -1,5 +1,5 @@
-//! Crashes of `writer.s` throughout its groups: each leaves the files after a prefix of its changes with every committed one
-//! in it, by a plain fold of them.
+//! Crashes of `writer.s` and of `renamer.s` throughout their groups: each leaves the files after a prefix of the changes with every
+//! committed one in it, by a plain fold of them.
 use crate::changers::Changer;
 use crate::cores::{Source, TestCore, recover};
 use anyhow::{Error, bail};
@@ -9,25 +9,62 @@ use std::alloc::Global;
 /// The bytes that a crash leaves in the ranges of writes in flight.
 const FILLS: [&[u8]; 3] = [&[0x00], &[0x01], &[0x7F, 0xFF]];
 
-/// How many changes there are before a group: group 0 makes the file alone, and each other one has sixty-four writes.
-fn changes_before(group: u32) -> u32 {
-    match group.checked_sub(1) {
-        None => 0,
-        Some(before) => before.saturating_mul(64).saturating_add(1),
+/// How many changes groups have: the first one, and each other one.
+#[derive(Clone, Copy)]
+struct Sizes {
+    first: u32,
+    others: u32,
+}
+
+/// Of the writer group 0 makes the file alone, and each other one has sixty-four writes.
+const WRITER: Sizes = Sizes {
+    first: 1,
+    others: 64,
+};
+
+/// Of the renamer each group begins at another change of the round, until 21 of them come to 13 rounds.
+const RENAMER: Sizes = Sizes {
+    first: 13,
+    others: 13,
+};
+
+/// How many groups of the renamer crash that are records.
+const RENAMER_GROUPS: u32 = 21;
+
+/// How many changes the renamer makes until its next group makes a checkpoint: 33 groups of 63 changes, three rounds each.
+const BEFORE_CHECKPOINT: u32 = 2079;
+
+/// Of the renamer the checkpoint's group and the one after it have two rounds, and eight changes of the third: of its files
+/// there are `b` and `c` then.
+const CHECKPOINT: Sizes = Sizes {
+    first: 50,
+    others: 50,
+};
+
+impl Sizes {
+    /// How many changes there are before a group.
+    fn before(self, group: u32) -> u32 {
+        match group.checked_sub(1) {
+            None => 0,
+            Some(others) => others.saturating_mul(self.others).saturating_add(self.first),
+        }
+    }
+
+    /// How many changes a group has.
+    fn of(self, group: u32) -> u64 {
+        u64::from(if group == 0 { self.first } else { self.others })
     }
 }
 
-/// How many changes a group has.
-fn size_of(group: u32) -> u64 {
-    if group == 0 { 1 } else { 64 }
-}
-
-/// Where runs of the writer begin: on this disk, with this group, the number of the last write before it on the tape.
+/// Where runs of a program begin: on this disk, after so many changes, with this group.
 #[derive(Clone, Copy)]
 struct Origin<'a> {
+    changer: Changer,
+    sizes: Sizes,
     sources: &'a [Source],
     tapes: &'a [Vec<u8>],
     device: &'a SimDisk,
+    before: u32,
     group: u32,
 }
 
@@ -36,26 +73,25 @@ impl Origin<'_> {
     fn cut(&self, alloc: Global, group: u32) -> Result<(TestCore, u64), Error> {
         let mut core = TestCore::boot(alloc, self.sources, self.tapes, self.device)?;
         for before in self.group..group {
-            core.round(size_of(before))?;
+            core.round(self.sizes.of(before))?;
         }
-        let writes = core.cut_after(size_of(group))?;
+        let writes = core.cut_after(self.sizes.of(group))?;
         Ok((core, writes))
     }
-}
 
-/// The disk that a crash of this core with this fill leaves, where the files are right. There were so many changes before
-/// its run.
-fn crash(alloc: Global, core: TestCore, before: u32, fill: &[u8]) -> Result<SimDisk, Error> {
-    let least = before.saturating_add(u32::try_from(core.committed())?);
-    let most = before.saturating_add(u32::try_from(core.changes())?);
-    let left = core.halt(fill);
-    let found = recover(alloc, &left)?;
-    if Changer::Writer.leaves(alloc, &found, least, most)? {
-        Ok(left)
-    } else {
-        bail!(
-            "a crash with the fill {fill:?} leaves other files than after {least} to {most} changes"
-        )
+    /// The disk that a crash of this core with this fill leaves, where the files are right.
+    fn crash(&self, alloc: Global, core: TestCore, fill: &[u8]) -> Result<SimDisk, Error> {
+        let least = self.before.saturating_add(u32::try_from(core.committed())?);
+        let most = self.before.saturating_add(u32::try_from(core.changes())?);
+        let left = core.halt(fill);
+        let found = recover(alloc, &left)?;
+        if self.changer.leaves(alloc, found.list(), least, most)? {
+            Ok(left)
+        } else {
+            bail!(
+                "a crash with the fill {fill:?} leaves other files than after {least} to {most} changes"
+            )
+        }
     }
 }
 
@@ -70,7 +106,7 @@ fn crash_group(
     for completed in 0..100 {
         let (mut core, writes) = origin.cut(alloc, group)?;
         core.commit(completed)?;
-        let left = crash(alloc, core, changes_before(origin.group), fill)?;
+        let left = origin.crash(alloc, core, fill)?;
         if completed == writes {
             return Ok(left);
         }
@@ -90,12 +126,15 @@ fn one_tape(alloc: Global, bytes: &[u8]) -> Result<Vec<Vec<u8>>, Error> {
 fn crash_groups(alloc: Global, sources: &[Source], fill: &[u8]) -> Result<(), Error> {
     let mut device = SimDisk::zero(alloc)?;
     for group in 0..=33u32 {
-        let written = group.saturating_sub(1).saturating_mul(64);
-        let tapes = one_tape(alloc, &written.to_le_bytes())?;
+        let before = WRITER.before(group);
+        let tapes = one_tape(alloc, &before.saturating_sub(1).to_le_bytes())?;
         let origin = Origin {
+            changer: Changer::Writer,
+            sizes: WRITER,
             sources,
             tapes: &tapes,
             device: &device,
+            before,
             group,
         };
         device = crash_group(alloc, origin, group, fill)?;
@@ -103,15 +142,18 @@ fn crash_groups(alloc: Global, sources: &[Source], fill: &[u8]) -> Result<(), Er
     Ok(())
 }
 
-/// Crashes with this fill throughout groups of one run: the making of the file, a group, the first checkpoint, and the first
-/// group after it.
+/// Crashes with this fill throughout groups of one run of the writer: the making of the file, a group, the first checkpoint, and
+/// the first group after it.
 fn crash_one_run(alloc: Global, sources: &[Source], fill: &[u8]) -> Result<(), Error> {
     let device = SimDisk::zero(alloc)?;
     let tapes = one_tape(alloc, b"")?;
     let origin = Origin {
+        changer: Changer::Writer,
+        sizes: WRITER,
         sources,
         tapes: &tapes,
         device: &device,
+        before: 0,
         group: 0,
     };
     for group in [0, 1, 16, 17] {
@@ -120,13 +162,78 @@ fn crash_one_run(alloc: Global, sources: &[Source], fill: &[u8]) -> Result<(), E
     Ok(())
 }
 
-/// All crashes of the writer, whose source this is, with each fill.
-pub fn crash_writer(alloc: Global, text: String) -> Result<(), Error> {
+/// Crashes with this fill throughout the groups of one run of the renamer.
+fn crash_renamings(alloc: Global, sources: &[Source], fill: &[u8]) -> Result<(), Error> {
+    let device = SimDisk::zero(alloc)?;
+    let tapes = one_tape(alloc, b"")?;
+    let origin = Origin {
+        changer: Changer::Renamer,
+        sizes: RENAMER,
+        sources,
+        tapes: &tapes,
+        device: &device,
+        before: 0,
+        group: 0,
+    };
+    for group in 0..RENAMER_GROUPS {
+        crash_group(alloc, origin, group, fill)?;
+    }
+    Ok(())
+}
+
+/// The disk of a run of the renamer whose next group makes a checkpoint.
+fn before_checkpoint(alloc: Global, sources: &[Source]) -> Result<SimDisk, Error> {
+    let device = SimDisk::zero(alloc)?;
+    let tapes = one_tape(alloc, b"")?;
+    let mut core = TestCore::boot(alloc, sources, &tapes, &device)?;
+    core.rounds(alloc, 33, 63)?;
+    Ok(core.halt(b""))
+}
+
+/// Crashes with this fill throughout a checkpoint of the renamer, and the group after it in the same run.
+fn crash_checkpoint(alloc: Global, sources: &[Source], fill: &[u8]) -> Result<(), Error> {
+    let device = before_checkpoint(alloc, sources)?;
+    let tapes = one_tape(alloc, &BEFORE_CHECKPOINT.to_le_bytes())?;
+    let origin = Origin {
+        changer: Changer::Renamer,
+        sizes: CHECKPOINT,
+        sources,
+        tapes: &tapes,
+        device: &device,
+        before: BEFORE_CHECKPOINT,
+        group: 0,
+    };
+    let left = crash_group(alloc, origin, 0, fill)?;
+    if left.bytes().first() != Some(&1) {
+        bail!("the group made no checkpoint");
+    }
+    crash_group(alloc, origin, 1, fill)?;
+    Ok(())
+}
+
+/// A list of one program, for terminal 0, whose source this is.
+fn one_source(alloc: Global, text: String) -> Result<Vec<Source>, Error> {
     let mut sources = Vec::new(alloc);
     sources.push(Source { terminal: 0, text })?;
+    Ok(sources)
+}
+
+/// All crashes of the writer, whose source this is, with each fill.
+pub fn crash_writer(alloc: Global, text: String) -> Result<(), Error> {
+    let sources = one_source(alloc, text)?;
     for fill in FILLS {
         crash_groups(alloc, &sources, fill)?;
         crash_one_run(alloc, &sources, fill)?;
+    }
+    Ok(())
+}
+
+/// All crashes of the renamer, whose source this is, with each fill.
+pub fn crash_renamer(alloc: Global, text: String) -> Result<(), Error> {
+    let sources = one_source(alloc, text)?;
+    for fill in FILLS {
+        crash_renamings(alloc, &sources, fill)?;
+        crash_checkpoint(alloc, &sources, fill)?;
     }
     Ok(())
 }

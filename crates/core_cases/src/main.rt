@@ -1,7 +1,8 @@
 //! Runs cores on the cases in files, and compares what each line comes to with what stands there beside it (`cases`), and
-//! crashes a writer, whose files are compared with those of a plain fold of its changes (`crashes`).
+//! crashes a writer and a program that removes and renames its files, which are compared with those of a plain fold of the changes
+//! (`crashes`).
 //!
-//! The words are the files' names. A line is printed for each file, and one for the crashes. At the first case that comes out
+//! The words are the files' names. A line is printed for each file, and two for the crashes. At the first case that comes out
 //! otherwise the program ends with status 1, and says which.
 #![tactic(auto)]
 
@@ -22,5 +23,7 @@ fn main(rt: HostRuntime) -> Result<(), Error> {
     }
     crashes::crash_writer(rt.alloc(), fs::read_to_string(&rt, "writer.s")?)?;
     println!(rt; "crashes throughout 34 groups")?;
+    crashes::crash_renamer(rt.alloc(), fs::read_to_string(&rt, "renamer.s")?)?;
+    println!(rt; "crashes throughout 23 groups that remove and rename files")?;
     Ok(())
 }

@@ -1,6 +1,6 @@
 //! Files by a plain fold of changes, to compare with those that a disk holds.
-use files::FileTable;
-use std::alloc::AllocError;
+use files::FileList;
+use std::alloc::{AllocError, Global};
 
 /// A file of the fold: its name, a letter, and its bytes.
 #[derive(Drop)]
@@ -23,15 +23,46 @@ impl PlainFile {
     }
 }
 
-/// Whether a table has these files, in this order.
-pub fn has(table: &FileTable, files: &[PlainFile]) -> bool {
-    if table.count() != files.len() {
+/// The file of this name, if there is one.
+pub fn file_named(files: &mut [PlainFile], name: u8) -> Option<&mut PlainFile> {
+    files.iter_mut().find(|file| file.name == name)
+}
+
+/// Makes a file of this name after the others, or empties it where it is there.
+pub fn make(alloc: Global, files: &mut Vec<PlainFile>, name: u8) -> Result<(), AllocError> {
+    let bytes = Vec::new(alloc);
+    match file_named(files, name) {
+        Some(file) => {
+            file.bytes = bytes;
+            Ok(())
+        }
+        None => Ok(files.push(PlainFile { name, bytes })?),
+    }
+}
+
+/// Takes the file of this name away.
+pub fn remove(files: &mut Vec<PlainFile>, name: u8) {
+    files.retain(|file| file.name != name);
+}
+
+/// Gives the file of an old name a new one, and takes away the file that had it. No place of a file is spoken of, so what the
+/// changes say by places is compared with what programs say by names.
+pub fn rename(files: &mut Vec<PlainFile>, old: u8, new: u8) {
+    remove(files, new);
+    if let Some(file) = file_named(files, old) {
+        file.name = new;
+    }
+}
+
+/// Whether a list has these files, in this order.
+pub fn has(list: &FileList, files: &[PlainFile]) -> bool {
+    if list.count() != files.len() {
         return false;
     }
-    for place in 0..table.count() {
+    for place in 0..list.count() {
         let file = &files[place];
-        if table.name(place) != [file.name].as_slice()
-            || table.bytes(place) != file.bytes.as_slice()
+        if list.name(place) != [file.name].as_slice()
+            || list.bytes(place) != file.bytes.as_slice()
         {
             return false;
         }

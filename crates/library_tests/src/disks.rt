@@ -453,17 +453,17 @@ fn files_that_lose_their_names(rt: HostRuntime) -> Result<(), Fail> {
     Ok(())
 }
 
-/// Changes after the creations of 32 files, from `A` on; how many files there are then, and the places of `B`, `C` and `y`.
-const FULL: &[(&[u8], (usize, [Option<usize>; 3]))] = &[
+/// How many files there are, and the places of `B`, `C` and `y`.
+type Places = (usize, Option<usize>, Option<usize>, Option<usize>);
+
+/// Changes after the creations of 32 files, from `A` on, and what there is then.
+const FULL: &[(&[u8], Places)] = &[
     // `A` gets a name that none has.
-    (b"\x05\0\0\x01z", (32, [Some(1), Some(2), None])),
+    (b"\x05\0\0\x01z", (32, Some(1), Some(2), None)),
     // `A` is removed, and another file is made.
-    (b"\x04\0\0\x01\x01y", (32, [Some(0), Some(1), Some(31)])),
+    (b"\x04\0\0\x01\x01y", (32, Some(0), Some(1), Some(31))),
     // `A` gets the name of `B`, and another file is made.
-    (
-        b"\x05\0\0\x01B\x01\x01y",
-        (32, [Some(0), Some(1), Some(31)]),
-    ),
+    (b"\x05\0\0\x01B\x01\x01y", (32, Some(0), Some(1), Some(31))),
 ];
 
 /// The creations of 32 files, from `A` on, and then these changes.
@@ -474,10 +474,10 @@ fn full_body(alloc: Global, changes: &[u8]) -> Result<Vec<u8>, AllocError> {
 }
 
 /// How many files there are after these changes of 32 files, and the places of some of them.
-fn changed_when_full(alloc: Global, changes: &[u8]) -> Result<(usize, [Option<usize>; 3]), Fail> {
+fn changed_when_full(alloc: Global, changes: &[u8]) -> Result<Places, Fail> {
     let files = files_of_body(alloc, &full_body(alloc, changes)?)?;
-    let places = [files.find(b"B"), files.find(b"C"), files.find(b"y")];
-    Ok((files.count(), places))
+    let (b, c, y) = (files.find(b"B"), files.find(b"C"), files.find(b"y"));
+    Ok((files.count(), b, c, y))
 }
 
 /// The fault of a disk where these changes come after the creations of 32 files, if it has one.

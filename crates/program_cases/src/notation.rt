@@ -4,11 +4,16 @@ use anyhow::{Error, bail};
 use assembler::assemble;
 use std::alloc::{AllocError, Global};
 
-/// What stands after each program's text, in pages that may be read and executed, and not written: the names `f` and
-/// `g`, letters, a name of 36 letters, and zeros.
+/// What stands after each program's text, in pages that may be read and executed, and not written: the names `f`, `g` and
+/// `h`, pairs of them, letters, a name of 36 letters, and zeros.
 const PLACES: &str = "
 f: .word 0x66
 g: .word 0x67
+h: .word 0x68
+ff: .word 0x6666
+fg: .word 0x6766
+fh: .word 0x6866
+gf: .word 0x6667
 letters: .word 0x44434241
 A: .word 0x41
 B: .word 0x42
@@ -35,6 +40,8 @@ fn call_number(word: &str) -> Option<u32> {
         "getpid" => 9,
         "seek" => 10,
         "sync" => 11,
+        "unlink" => 12,
+        "rename" => 13,
         digits => return digits.parse::<u32>().ok(),
     };
     Some(number)
