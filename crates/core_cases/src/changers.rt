@@ -117,7 +117,10 @@ impl Changer {
             Step::Make(name) => make(alloc, files, name)?,
             Step::Write(name, block) => {
                 if let Some(file) = file_named(files, name) {
-                    file.write(block.saturating_mul(1024), &self.bytes_of(alloc, number, 0)?)?;
+                    file.write(
+                        block.saturating_mul(1024),
+                        &self.bytes_of(alloc, number, 0)?,
+                    )?;
                 }
             }
             Step::Remove(name) => remove(files, name),

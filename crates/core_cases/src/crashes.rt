@@ -46,7 +46,9 @@ impl Sizes {
     fn before(self, group: u32) -> u32 {
         match group.checked_sub(1) {
             None => 0,
-            Some(others) => others.saturating_mul(self.others).saturating_add(self.first),
+            Some(others) => others
+                .saturating_mul(self.others)
+                .saturating_add(self.first),
         }
     }
 
