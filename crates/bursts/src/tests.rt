@@ -5,7 +5,7 @@ ghost use Rattle.kernel_model.specs.Answers.{now, committed as committed_in, cha
 use super::*;
 use kernel::{Answer, Core, Program, SimDisk};
 use machine_model::Image;
-use std::alloc::Global;
+use std::alloc::{AllocError, Global};
 use std::marker::Brand;
 use std::process::Abort;
 use std::sync::{Mutex, Wait};
@@ -70,10 +70,18 @@ fn boot(alloc: Global) -> Result<Core, Fail> {
     Ok(Core::boot(alloc, SimDisk::zero(alloc)?, programs, Vec::new(alloc))?)
 }
 
+/// What a worker's turn settles. None where it is idle or fails.
+fn settled<D: Desk>(desk: &mut D) -> Option<Answer> {
+    match worker_turn(desk, &mut Open, 100) {
+        Ok(Turned::Settled(answer)) => Some(answer),
+        _ => None,
+    }
+}
+
 /// How many turns of a worker settle a result, up to the first that is idle or fails, at most 10.
 fn turns<D: Desk>(desk: &mut D) -> u32 {
     for count in 0..10 {
-        if !matches!(worker_turn(desk, &mut Open, 100), Ok(Turned::Settled(_))) {
+        if settled(desk).is_none() {
             return count;
         }
     }
@@ -99,25 +107,96 @@ fn fail_to_commit<D: Desk, R: Abort>(rt: &R, desk: &mut D) {
 /// What the first turn settles, and what the share has after it.
 fn first_turn<D: Desk, R: Abort>(rt: &R, desk: &mut D) {
     assert!(rt; !desk.over(100));
-    assert!(rt;
-        matches!(
-            worker_turn(desk, &mut Open, 100),
-            Ok(Turned::Settled(Answer::Settled { count: 6, .. }))
-        )
-    );
+    assert!(rt; matches!(settled(desk), Some(Answer::Settled { count: 6, .. })));
+}
+
+/// The turns that are left once a desk said stop, and a group that fails.
+fn last_turns<D: Desk, R: Abort>(rt: &R, desk: &mut D) {
+    desk.stop();
+    assert!(rt; desk.over(100));
+    assert_eq!(rt; turns(desk), 5);
+    fail_to_commit(rt, desk);
 }
 
 /// A desk is at work where its bench goes to another thread.
 fn may_go_to_another_thread<T: Send>(_desk: &T) {}
 
+/// What a board shows.
+fn assert_seen<N: Naming, R: Wait + Abort>(
+    rt: &R,
+    board: &Board<N>,
+    pass: &mut Pass,
+    wanted: (u64, u64),
+)
+    requires { pass.old.table_id ≡ board.now.cell.table.shared.table_id }
+    ensures { pass.new.table_id ≡ pass.old.table_id }
+{
+    assert_eq!(rt; board.seen(rt, pass), wanted);
+}
+
 /// All turns of both programs at one desk, with a group that is committed after the first and one that fails at the end, and what a
-/// board shows. Answers the core, and what the desk's share had.
+/// board shows.
+fn all_turns<D: Desk, N: Naming, R: Wait + Abort>(
+    rt: &R,
+    board: &Board<N>,
+    pass: &mut Pass,
+    desk: &mut D,
+)
+    requires { pass.old.table_id ≡ board.now.cell.table.shared.table_id }
+{
+    first_turn(rt, desk);
+    assert_seen(rt, board, pass, (0, 1));
+    commit(rt, desk);
+    assert_seen(rt, board, pass, (1, 1));
+    last_turns(rt, desk);
+    assert_seen(rt, board, pass, (1, 2));
+}
+
+/// The share of a desk of this bench after all turns of both programs.
+fn work<N: Naming + Send + Sync, R: Wait + Abort + Sync>(
+    rt: &R,
+    board: &Board<N>,
+    pass: &mut Pass,
+    bench: &Mutex<Bench<N>>,
+    share: Share<N>,
+) -> Share<N>
+    requires { pass.old.table_id ≡ board.now.cell.table.shared.table_id }
+{
+    let mut desk = LockedDesk::new(rt, bench, share);
+    may_go_to_another_thread(&desk);
+    all_turns(rt, board, pass, &mut desk);
+    desk.end()
+}
+
+/// These shares, of which the second may be missing.
+fn shares_of<N: Naming>(
+    alloc: Global,
+    share: Share<N>,
+    idle: Option<Share<N>>,
+) -> Result<Vec<Share<N>>, AllocError> {
+    let mut shares = Vec::new(alloc);
+    shares.push(share)?;
+    if let Some(idle) = idle {
+        shares.push(idle)?;
+    }
+    Ok(shares)
+}
+
+/// The totals of the history of a bench's core, whose shares are these.
+fn gathered<N: Naming>(bench: Bench<N>, shares: Vec<Share<N>>) -> Totals {
+    let core = gather(bench, shares);
+    let totals = totals_of(&core);
+    drop(core);
+    totals
+}
+
+/// Both programs run at one desk of this core's bench. Answers what the desk's share had, and the totals of the core's history.
 fn run<N: Naming + Send + Sync, R: Wait + Abort + Sync>(
     rt: &R,
     alloc: Global,
     core: Core,
     blanks: Blanks,
-) -> Result<(Core, Totals), Fail>
+) -> Result<[Totals; 2], AllocError>
     requires committed { committed_in (now core) ≡ N.committed }
     requires changes { changes_in (now core) ≡ N.changes }
     requires events { (blanks.events.name ≡ N.events) × (blanks.events.parts ≡ 64) }
@@ -125,36 +204,33 @@ fn run<N: Naming + Send + Sync, R: Wait + Abort + Sync>(
     requires turns { (blanks.turns.name ≡ N.turns) × (blanks.turns.parts ≡ 64) }
     requires enters { (blanks.enters.name ≡ N.enters) × (blanks.enters.parts ≡ 64) }
 {
-    let (board, writer, mut pass) = Board::<N>::new(alloc, &core)?;
+    let (board, writer, mut pass) = match Board::<N>::new(alloc, &core) {
+        Ok(made) => made,
+        Err(why) => {
+            drop(core);
+            return Err(why);
+        }
+    };
     let (bench, mut share) = Bench::new(core, &board, writer, blanks);
     let idle = share.split();
     let lock = Mutex::new(bench);
-    let mut desk = LockedDesk::new(rt, &lock, share);
-    may_go_to_another_thread(&desk);
-    first_turn(rt, &mut desk);
-    assert_eq!(rt; board.seen(rt, &mut pass), (0, 1));
-    commit(rt, &mut desk);
-    assert_eq!(rt; board.seen(rt, &mut pass), (1, 1));
-    desk.stop();
-    assert!(rt; desk.over(100));
-    assert_eq!(rt; turns(&mut desk), 5);
-    fail_to_commit(rt, &mut desk);
-    assert_eq!(rt; board.seen(rt, &mut pass), (1, 2));
-    let share = desk.end();
+    let share = work(rt, &board, &mut pass, &lock, share);
     let totals = share.totals();
     assert_eq!(rt; share.parts(), 63);
-    let mut shares = Vec::new(alloc);
-    shares.push(share)?;
-    if let Some(idle) = idle {
-        shares.push(idle)?;
+    let bench = lock.into_inner();
+    match shares_of(alloc, share, idle) {
+        Ok(shares) => Ok([totals, gathered(bench, shares)]),
+        Err(why) => {
+            drop(bench);
+            Err(why)
+        }
     }
-    Ok((gather(lock.into_inner(), shares), totals))
 }
 
 #[test]
 fn turns_at_a_desk(rt: HostRuntime) -> Result<(), Fail> {
     let core = boot(rt.alloc())?;
-    let (core, totals) = run::<Brand, HostRuntime>(&rt, rt.alloc(), core, Blanks::new())?;
+    let found = run::<Brand, HostRuntime>(&rt, rt.alloc(), core, Blanks::new())?;
     // six loans, each of which is a Turn and an Enter; a Cut and two completions; a Cut and a failure
     let wanted = Totals {
         events: 17,
@@ -162,7 +238,6 @@ fn turns_at_a_desk(rt: HostRuntime) -> Result<(), Fail> {
         turns: 8,
         enters: 8,
     };
-    assert_eq!(&rt; totals, wanted);
-    assert_eq!(&rt; totals_of(&core), wanted);
+    assert_eq!(&rt; found, [wanted, wanted]);
     Ok(())
 }
