@@ -43,13 +43,22 @@ impl TokenKind {
 }
 
 /// A token: what it is, and where it stands.
-#[derive(Debug, Drop)]
 pub struct Token {
     pub kind: TokenKind,
     /// The place of its first byte in the source, from 0.
     pub start: usize,
     /// The place after its last byte.
     pub end: usize,
+}
+
+impl Drop for Token {
+    fn drop(self) {
+        let Token {
+            kind: _kind,
+            start: _,
+            end: _,
+        } = self;
+    }
 }
 
 impl Token {
@@ -64,9 +73,14 @@ impl Token {
 }
 
 /// The tokens of a line. A contract sees them as a list.
-#[derive(Debug, Drop)]
 pub struct Tokens {
     tokens: Vec<Token>,
+}
+
+impl Drop for Tokens {
+    fn drop(self) {
+        let Tokens { tokens: _tokens } = self;
+    }
 }
 
 impl Model for Tokens {
@@ -95,7 +109,6 @@ impl Tokens {
 }
 
 /// A line of the source.
-#[derive(Debug, Drop)]
 pub struct Line {
     /// Its number, from 1.
     pub number: usize,
@@ -105,4 +118,15 @@ pub struct Line {
     pub end: usize,
     /// Its tokens.
     pub tokens: Tokens,
+}
+
+impl Drop for Line {
+    fn drop(self) {
+        let Line {
+            number: _,
+            start: _,
+            end: _,
+            tokens: _tokens,
+        } = self;
+    }
 }

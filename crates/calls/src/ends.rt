@@ -65,10 +65,8 @@ fn closing(alloc: Global, ends: &[PipeEnd], verdict: Verdict) -> Result<Row, All
 {
     let carriers = carriers_of(alloc, ends)?;
     let pipes = drops_of(alloc, ends)?;
-    let row = Row {
-        pipes,
-        ..Row::only(alloc, verdict)
-    };
+    let mut row = Row::only(alloc, verdict);
+    row.pipes = pipes;
     row.updating_all(&carriers)
 }
 

@@ -45,11 +45,9 @@ fn fork_made(
       child = Some child;
     })) }
 {
-    let row = Row {
-        pipes,
-        child: Some(child),
-        ..Row::number(alloc, child)
-    };
+    let mut row = Row::number(alloc, child);
+    row.pipes = pipes;
+    row.child = Some(child);
     row.updating(Carrier::Tasks)?
         .updating(Carrier::Proc(child))?
         .updating_all(carriers)

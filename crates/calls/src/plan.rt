@@ -32,7 +32,6 @@ use std::alloc::{AllocError, Global};
 /// What a call comes to: what the caller is told, the carriers that it reads and writes beside the caller's own, and what
 /// changes: the files, by a change that names one by its place, a terminal, a tape's place, the pipes, descriptors of the
 /// caller, and of its children one that is made or one that is collected, by its number.
-#[derive(Drop)]
 pub struct Plan {
     pub verdict: Verdict,
     pub reads: Vec<Carrier>,
@@ -44,6 +43,45 @@ pub struct Plan {
     pub slots: Vec<Slot>,
     pub child: Option<u32>,
     pub collects: Option<u32>,
+}
+
+impl Drop for Plan {
+    fn drop(self) {
+        let Plan {
+            verdict: _verdict,
+            reads: _reads,
+            writes: _writes,
+            change: _change,
+            output: _output,
+            tape: _,
+            pipes: _pipes,
+            slots: _slots,
+            child: _,
+            collects: _,
+        } = self;
+    }
+}
+
+impl Plan {
+    /// What the caller is told, and the change of the files; the rest is let go.
+    pub fn into_verdict_and_change(self) -> (Verdict, Option<Change>)
+        ensures verdict { result.0 ≡ self.verdict }
+        ensures change { result.1 ≡ self.change }
+    {
+        let Plan {
+            verdict,
+            reads: _reads,
+            writes: _writes,
+            change,
+            output: _output,
+            tape: _,
+            pipes: _pipes,
+            slots: _slots,
+            child: _,
+            collects: _,
+        } = self;
+        (verdict, change)
+    }
 }
 
 /// The place of the file of this number among those that live.

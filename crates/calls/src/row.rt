@@ -14,7 +14,6 @@ use std::alloc::{AllocError, Global};
 /// What a call comes to by the table: what the caller is told, the carriers that it reads and writes beside the caller's
 /// own, and what it edits: a file, by its number, a terminal, a tape's place, the pipes, descriptors of the caller, and of
 /// its children one that is made or one that is collected, by its number.
-#[derive(Drop)]
 pub(crate) struct Row {
     pub verdict: Verdict,
     pub reads: Vec<Carrier>,
@@ -26,6 +25,23 @@ pub(crate) struct Row {
     pub slots: Vec<Slot>,
     pub child: Option<u32>,
     pub collects: Option<u32>,
+}
+
+impl Drop for Row {
+    fn drop(self) {
+        let Row {
+            verdict: _verdict,
+            reads: _reads,
+            writes: _writes,
+            edit: _edit,
+            output: _output,
+            tape: _,
+            pipes: _pipes,
+            slots: _slots,
+            child: _,
+            collects: _,
+        } = self;
+    }
 }
 
 impl Row {
@@ -113,13 +129,11 @@ impl Row {
     }
 
     /// This edit of a file comes of it.
-    pub fn editing(self, edit: FileEdit) -> Row
+    pub fn editing(mut self, edit: FileEdit) -> Row
         ensures { IsRow result (record (effect_of self) { edit = Some edit }) }
     {
-        Row {
-            edit: Some(edit),
-            ..self
-        }
+        self.edit = Some(edit);
+        self
     }
 
     /// This step of the pipes comes of it too.
@@ -146,17 +160,29 @@ impl Row {
         ensures row { effect_with result self.edit ≡ effect_of self }
         ensures change { result.change ≡ change }
     {
+        let Row {
+            verdict,
+            reads,
+            writes,
+            edit: _edit,
+            output,
+            tape,
+            pipes,
+            slots,
+            child,
+            collects,
+        } = self;
         Plan {
-            verdict: self.verdict,
-            reads: self.reads,
-            writes: self.writes,
+            verdict,
+            reads,
+            writes,
             change,
-            output: self.output,
-            tape: self.tape,
-            pipes: self.pipes,
-            slots: self.slots,
-            child: self.child,
-            collects: self.collects,
+            output,
+            tape,
+            pipes,
+            slots,
+            child,
+            collects,
         }
     }
 }

@@ -12,10 +12,18 @@ use std::marker::Model;
 use std::sync::Arc;
 
 /// The tapes, 0 to 7: the bytes of each, which are shared with whoever gave them, and the place of the next one to be read.
-#[derive(Drop)]
 pub struct TapeTable {
     tapes: Arc<Vec<Bytes>>,
     places: [usize; TAPES],
+}
+
+impl Drop for TapeTable {
+    fn drop(self) {
+        let TapeTable {
+            tapes: _tapes,
+            places: _,
+        } = self;
+    }
 }
 
 impl Model for TapeTable {

@@ -70,15 +70,13 @@ fn wait_ended(
 {
     let reads = procs_of(alloc, children)?;
     let Some(ended) = ended else {
-        return Ok(Row {
-            reads,
-            ..Row::only(alloc, Verdict::Waits)
-        });
+        let mut row = Row::only(alloc, Verdict::Waits);
+        row.reads = reads;
+        return Ok(row);
     };
     let verdict = told_of(alloc, at, ended)?;
-    Ok(Row {
-        reads,
-        collects: Some(ended.child),
-        ..Row::only(alloc, verdict)
-    })
+    let mut row = Row::only(alloc, verdict);
+    row.reads = reads;
+    row.collects = Some(ended.child);
+    Ok(row)
 }

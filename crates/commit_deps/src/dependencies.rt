@@ -12,9 +12,14 @@ use std::alloc::{AllocError, Global};
 use std::marker::Model;
 
 /// What is kept of the events so far: for each carrier that some event wrote, the changes with a path to a writer of it.
-#[derive(Drop)]
 pub struct Dependencies {
     marks: IndexMap<Carrier, Mark>,
+}
+
+impl Drop for Dependencies {
+    fn drop(self) {
+        let Dependencies { marks: _marks } = self;
+    }
 }
 
 impl Model for Dependencies {

@@ -30,7 +30,6 @@ const MOST_BREAKS: usize = 64;
 /// A program's machine that goes forwards and back along a trace: its calls take the replies of the trace in order, each
 /// counting as one instruction. The trace ends at a call for which no reply is left, and at one whose reply has bytes that may
 /// not be written. Its state is kept at each count that is a multiple of 1,024.
-#[derive(Drop)]
 pub struct Debugger {
     alloc: Global,
     image: Image,
@@ -41,6 +40,20 @@ pub struct Debugger {
     kept: Vec<KeptPlace>,
     breaks: Slab<u32>,
     reran: u64,
+}
+
+impl Drop for Debugger {
+    fn drop(self) {
+        let Debugger {
+            alloc: _,
+            image: _image,
+            replies: _replies,
+            place: _place,
+            kept: _kept,
+            breaks: _breaks,
+            reran: _,
+        } = self;
+    }
 }
 
 impl Model for Debugger {

@@ -7,10 +7,18 @@ use std::alloc::{AllocError, Global};
 use std::marker::Model;
 
 /// A place as it was. It shares with the one that was kept before it each page whose bytes did not change.
-#[derive(Drop)]
 pub struct KeptPlace {
     machine: KeptMachine,
     taken: usize,
+}
+
+impl Drop for KeptPlace {
+    fn drop(self) {
+        let KeptPlace {
+            machine: _machine,
+            taken: _,
+        } = self;
+    }
 }
 
 impl Model for KeptPlace {

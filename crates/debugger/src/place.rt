@@ -9,10 +9,18 @@ use machine::{Machine, Reply, Stop};
 use std::alloc::{AllocError, Global};
 
 /// A machine, and how many replies of the trace its calls took.
-#[derive(Drop)]
 pub struct Place {
     pub machine: Machine,
     pub taken: usize,
+}
+
+impl Drop for Place {
+    fn drop(self) {
+        let Place {
+            machine: _machine,
+            taken: _,
+        } = self;
+    }
 }
 
 impl Place {

@@ -2,7 +2,7 @@
 use byte_list::Bytes;
 
 /// One change of the files. It names a file by its place, from 0, among those that live before the change, in order of creation.
-#[derive(Debug, Drop)]
+#[derive(Drop)]
 pub enum Change {
     /// A new and empty file of this name.
     Create(Bytes),
@@ -24,15 +24,31 @@ pub enum Change {
 }
 
 /// A file: its name and its bytes.
-#[derive(Debug, Drop)]
 pub struct NamedFile {
     pub name: Bytes,
     pub bytes: Bytes,
 }
 
+impl Drop for NamedFile {
+    fn drop(self) {
+        let NamedFile {
+            name: _name,
+            bytes: _bytes,
+        } = self;
+    }
+}
+
 /// Bytes for a place on the disk: `at` is the offset of the first, in bytes from the disk's start.
-#[derive(Debug, Drop)]
 pub struct Piece {
     pub at: u32,
     pub bytes: Bytes,
+}
+
+impl Drop for Piece {
+    fn drop(self) {
+        let Piece {
+            at: _,
+            bytes: _bytes,
+        } = self;
+    }
 }

@@ -51,7 +51,7 @@ pub const PF_R: u32 = 4;
 /// The fields of a file header after its identification (`Elf32_Ehdr`; gABI, chapter 4, "ELF Header"). What the bits of
 /// `e_flags` say for RISC-V stands in the psABI ("ELF Object Files", "File Header"): 0 is for no compressed instructions,
 /// and floating-point numbers passed in integer registers.
-#[derive(Clone, Copy, Debug)]
+#[derive(Clone, Copy)]
 pub struct FileHeader {
     pub e_type: u16,
     pub e_machine: u16,
@@ -69,7 +69,7 @@ pub struct FileHeader {
 }
 
 /// The fields of a program header (`Elf32_Phdr`; gABI, chapter 5, "Program Header").
-#[derive(Clone, Copy, Debug, Default)]
+#[derive(Clone, Copy, Default)]
 pub struct ProgramHeader {
     pub p_type: u32,
     pub p_offset: u32,

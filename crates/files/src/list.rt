@@ -11,10 +11,18 @@ use std::marker::Model;
 
 /// The files that live, in order of creation. A file's place, from 0, is what a change names it by. The list has no limits of its
 /// own: how many files there may be, and how long and how named, is its caller's to keep.
-#[derive(Drop)]
 pub struct FileList {
     alloc: Global,
     files: Vec<NamedFile>,
+}
+
+impl Drop for FileList {
+    fn drop(self) {
+        let FileList {
+            alloc: _,
+            files: _files,
+        } = self;
+    }
 }
 
 impl Model for FileList {

@@ -14,12 +14,22 @@ use std::marker::Model;
 /// The files that live, in order of creation, each with a number that no other file of the table ever had. A file's place, from 0,
 /// is what a change names it by; it moves down when a file before it is gone, and the number stays. The table has no limits of its
 /// own: how many files there may be, and how long and how named, is its caller's to keep.
-#[derive(Drop)]
 pub struct FileTable {
     alloc: Global,
     list: FileList,
     numbers: Vec<u64>,
     made: u64,
+}
+
+impl Drop for FileTable {
+    fn drop(self) {
+        let FileTable {
+            alloc: _,
+            list: _list,
+            numbers: _numbers,
+            made: _,
+        } = self;
+    }
 }
 
 impl Model for FileTable {

@@ -28,7 +28,6 @@ const GROUP: usize = 64;
 /// Commits changes to a device. A group is written in stages: the pieces of its record go together, and once all are complete
 /// its gate, alone. Where the record would not fit into the half, a checkpoint of all files goes to the other half: a 0 to
 /// its first gate, the pieces, the gate, and then byte 0, which selects the half. After the last stage the group is committed.
-#[derive(Drop)]
 pub struct Committer {
     device: SimDisk,
     stages: Vec<Vec<Piece>>,
@@ -38,6 +37,21 @@ pub struct Committer {
     next_half: bool,
     next_gate: u32,
     next_committed: u64,
+}
+
+impl Drop for Committer {
+    fn drop(self) {
+        let Committer {
+            device: _device,
+            stages: _stages,
+            half: _,
+            gate: _,
+            committed: _,
+            next_half: _,
+            next_gate: _,
+            next_committed: _,
+        } = self;
+    }
 }
 
 impl Model for Committer {
@@ -177,7 +191,17 @@ impl Committer {
     pub fn crash(self, fill: &[u8]) -> SimDisk
         ensures { result ≡ quiet (crashed self.device fill.now) }
     {
-        self.device.crash(fill)
+        let Committer {
+            device,
+            stages: _stages,
+            half: _,
+            gate: _,
+            committed: _,
+            next_half: _,
+            next_gate: _,
+            next_committed: _,
+        } = self;
+        device.crash(fill)
     }
 
     /// Begins a group of the first 64 of these changes, or of all where there are fewer, and answers how many changes it

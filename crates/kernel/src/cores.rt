@@ -4,7 +4,9 @@ ghost use Rattle.kernel_model.specs.Answers.{Applies, AllAccepted};
 ghost use Rattle.kernel_model.specs.Ran.{ran_by_turns, ran_in};
 ghost use Rattle.kernel_model.specs.Loans.{Lends, IsOfLoan, returned, events_of, settled, settled_answer};
 ghost use Rattle.kernel_model.specs.declared.answer.Refused.TheVariants.{Stranger, OutOfMemory};
+ghost use Rattle.kernel_model.specs.World.{Boot};
 ghost use Rattle.kernel_step.specs.Loaned.{lent_out, loan_result};
+ghost use Rattle.kernel_step.specs.Stands.{Stands, kernel_in};
 
 use crate::sums::Sums;
 use byte_list::Bytes;
@@ -15,7 +17,6 @@ use std::marker::Model;
 use std::sync::Arc;
 
 /// What a core was booted from.
-#[derive(Drop)]
 pub(crate) struct Booted {
     pub programs: Vec<Program>,
     /// Shared with the table of what is read of them.
@@ -27,13 +28,34 @@ pub(crate) struct Booted {
     pub gate: u32,
 }
 
+impl Drop for Booted {
+    fn drop(self) {
+        let Booted {
+            programs: _programs,
+            tapes: _tapes,
+            files: _files,
+            disk: _disk,
+            gate: _,
+        } = self;
+    }
+}
+
 /// The core: processes, which run on as on a kernel that commits inside each call, the history of the events that it accepted,
 /// and the disk to which the changes of files are still on their way.
-#[derive(Drop)]
 pub struct Core {
     pub(crate) booted: Booted,
     pub(crate) running: Running,
     pub(crate) sums: Sums,
+}
+
+impl Drop for Core {
+    fn drop(self) {
+        let Core {
+            booted: _booted,
+            running: _running,
+            sums: _,
+        } = self;
+    }
 }
 
 impl Model for Core {
@@ -54,6 +76,18 @@ impl Model for Core {
 }
 
 impl Core {
+    /// The parts alone, which stand for the run; what it was booted from is let go.
+    pub(crate) fn into_running(self) -> Running
+        ensures { (b : Boot) × Stands b result × (kernel_in b result ≡ self) }
+    {
+        let Core {
+            booted: _booted,
+            running,
+            sums: _,
+        } = self;
+        running
+    }
+
     /// Applies an event. An accepted one joins the history; a refused one changes nothing. The tests, in their order:
     /// Turn: NoProcess, Ended, Lent, Budget; Enter: NoProcess, Ended, Lent, NotStopped, Budget; Cut: Budget, DiskFailed,
     /// GroupInFlight, NothingToCut; Complete and Fail: Budget, NoSuchWrite; and want of memory last.

@@ -25,7 +25,6 @@ impl Core {
     {
         crashes_keep_the_committed();
         fills_are_crashes();
-        let running = self.running;
-        running.crash(fill)
+        self.into_running().crash(fill)
     }
 }

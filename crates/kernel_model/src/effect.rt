@@ -3,14 +3,22 @@ use crate::descriptor::{Descriptor, PipeEnd};
 use byte_list::Bytes;
 
 /// Bytes for a terminal.
-#[derive(Debug, Drop)]
 pub struct Output {
     pub terminal: u32,
     pub bytes: Bytes,
 }
 
+impl Drop for Output {
+    fn drop(self) {
+        let Output {
+            terminal: _,
+            bytes: _bytes,
+        } = self;
+    }
+}
+
 /// An edit of a file, by its number.
-#[derive(Debug, Drop)]
+#[derive(Drop)]
 pub enum FileEdit {
     /// A new and empty file of this name is made, with the next number.
     Create(Bytes),
@@ -46,7 +54,7 @@ pub struct TapeRead {
 }
 
 /// What happens to the pipes.
-#[derive(Debug, Drop)]
+#[derive(Drop)]
 pub enum PipeStep {
     /// A new pipe, the next by number, with one end of each kind.
     Open,

@@ -4,7 +4,7 @@ use machine_model::Reply;
 
 /// What a process asks for by the call at which it stands. Bytes that are too many, or that it may not read itself, are
 /// None.
-#[derive(Debug, Drop)]
+#[derive(Drop)]
 pub enum Request {
     /// The process ends.
     Exit {
@@ -73,7 +73,7 @@ pub enum Request {
 }
 
 /// What a call tells its caller.
-#[derive(Debug, Drop)]
+#[derive(Drop)]
 pub enum Verdict {
     /// Nothing: it has to wait.
     Waits,

@@ -27,10 +27,18 @@ use std::sync::Arc;
 use withheld::Withheld;
 
 /// A program to be booted, and the terminal, 0 to 7, for which its descriptor 1 stands.
-#[derive(Drop)]
 pub struct Program {
     pub image: Image,
     pub terminal: u32,
+}
+
+impl Drop for Program {
+    fn drop(self) {
+        let Program {
+            image: _image,
+            terminal: _,
+        } = self;
+    }
 }
 
 impl Running {

@@ -207,11 +207,7 @@ pub fn finish(
     } = entering;
     print(&mut system.screens, &plan.output, mark);
     change_system(system, pid, &plan, spare);
-    let Plan {
-        verdict,
-        change,
-        ..
-    } = plan;
+    let (verdict, change) = plan.into_verdict_and_change();
     keep(&mut system.changes, change);
     let outcome = tell(task, verdict, before, mark);
     (outcome, tell_child(system.alloc, child, mark))

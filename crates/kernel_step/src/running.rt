@@ -1,11 +1,12 @@
 //! A kernel that runs: its parts, and what they stand for.
+ghost use Rattle.std.specs.Prelude.{◌≡◌};
+
 use crate::system::System;
 use crate::task::Task;
 use kernel_model::Event;
 
 /// The parts of a running kernel, as its events leave them. What it was booted from they do not have: contracts speak of every boot
 /// of which they are the parts.
-#[derive(Drop)]
 pub struct Running {
     /// The accepted events, in order.
     pub(crate) history: Vec<Event>,
@@ -15,4 +16,32 @@ pub struct Running {
     pub(crate) system: System,
     /// The number of the process that was lent last, 0 before any.
     pub(crate) last_lent: u32,
+}
+
+impl Drop for Running {
+    fn drop(self) {
+        let Running {
+            history: _history,
+            ran: _,
+            tasks: _tasks,
+            system: _system,
+            last_lent: _,
+        } = self;
+    }
+}
+
+impl Running {
+    /// What all processes share alone; the rest is let go.
+    pub(crate) fn into_system(self) -> System
+        ensures { result ≡ self.system }
+    {
+        let Running {
+            history: _history,
+            ran: _,
+            tasks: _tasks,
+            system,
+            last_lent: _,
+        } = self;
+        system
+    }
 }

@@ -15,7 +15,6 @@ use std::alloc::Global;
 use withheld::Withheld;
 
 /// What all processes share.
-#[derive(Drop)]
 pub struct System {
     /// Where the host's memory comes from.
     pub alloc: Global,
@@ -33,7 +32,43 @@ pub struct System {
     pub committer: Committer,
 }
 
+impl Drop for System {
+    fn drop(self) {
+        let System {
+            alloc: _,
+            dependencies: _dependencies,
+            changes: _changes,
+            files: _files,
+            tapes: _tapes,
+            pipes: _pipes,
+            processes: _processes,
+            served: _,
+            screens: _screens,
+            committer: _committer,
+        } = self;
+    }
+}
+
 impl System {
+    /// The committer alone; the rest is let go.
+    pub fn into_committer(self) -> Committer
+        ensures { result ≡ self.committer }
+    {
+        let System {
+            alloc: _,
+            dependencies: _dependencies,
+            changes: _changes,
+            files: _files,
+            tapes: _tapes,
+            pipes: _pipes,
+            processes: _processes,
+            served: _,
+            screens: _screens,
+            committer,
+        } = self;
+        committer
+    }
+
     /// The tables from which calls are planned.
     pub fn tables(&self) -> KernelTables<'_>
         ensures { sight_of result ≡ sight_in self.now }

@@ -13,7 +13,6 @@ use withheld::Trace;
 pub const LIMIT: u64 = 1 << 40;
 
 /// A process: where its machine is, what it was told, and how many loans of it there were.
-#[derive(Drop)]
 pub struct Task {
     /// Its number, from 1.
     pub pid: u32,
@@ -24,6 +23,18 @@ pub struct Task {
     pub waited: Option<u64>,
     /// How many loans of it there were.
     pub loans: u64,
+}
+
+impl Drop for Task {
+    fn drop(self) {
+        let Task {
+            pid: _,
+            whereabouts: _whereabouts,
+            trace: _trace,
+            waited: _,
+            loans: _,
+        } = self;
+    }
 }
 
 impl Task {

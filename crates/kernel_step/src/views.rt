@@ -126,7 +126,6 @@ impl Running {
     pub fn crash(self, fill: &[u8]) -> SimDisk
         ensures { (b : Boot) → Stands b self → result ≡ quiet (crashed (now (kernel_in b self)).storage.device fill.now) }
     {
-        let system = self.system;
-        system.committer.crash(fill)
+        self.into_system().into_committer().crash(fill)
     }
 }

@@ -11,12 +11,22 @@ use std::sync::Arc;
 
 /// A machine as it was at a moment. It shares with the one that was kept before it each page of 4,096 bytes that was the
 /// same then, and with the machine what a clone would share.
-#[derive(Drop)]
 pub struct KeptMachine {
     regs: Regs,
     space: KeptSpace,
     count: u64,
     tables: Arc<Vec<Table>>,
+}
+
+impl Drop for KeptMachine {
+    fn drop(self) {
+        let KeptMachine {
+            regs: _,
+            space: _space,
+            count: _,
+            tables: _tables,
+        } = self;
+    }
 }
 
 impl Model for KeptMachine {

@@ -21,12 +21,22 @@ use std::sync::Arc;
 
 /// A process's machine: its registers, its memory, and how many instructions it has done, at most 2^40. The words of each
 /// segment that may be executed and not written are decoded once, when an image is loaded, and clones share them.
-#[derive(Drop)]
 pub struct Machine {
     pub(crate) regs: Regs,
     pub(crate) space: Space,
     pub(crate) count: u64,
     pub(crate) tables: Arc<Vec<Table>>,
+}
+
+impl Drop for Machine {
+    fn drop(self) {
+        let Machine {
+            regs: _,
+            space: _space,
+            count: _,
+            tables: _tables,
+        } = self;
+    }
 }
 
 impl Model for Machine {

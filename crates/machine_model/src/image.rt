@@ -9,7 +9,6 @@ use std::alloc::{AllocError, Global};
 use std::marker::Model;
 
 /// A run of a program's memory, with one set of rights.
-#[derive(Debug, Drop)]
 pub struct Segment {
     /// The address of its first byte.
     pub vaddr: u32,
@@ -21,11 +20,30 @@ pub struct Segment {
     pub bytes: Bytes,
 }
 
+impl Drop for Segment {
+    fn drop(self) {
+        let Segment {
+            vaddr: _,
+            memsz: _,
+            rights: _,
+            bytes: _bytes,
+        } = self;
+    }
+}
+
 /// A program that may be loaded: its type keeps the profile, `IsProfile`.
-#[derive(Debug, Drop)]
 pub struct Image {
     entry: u32,
     segments: Vec<Segment>,
+}
+
+impl Drop for Image {
+    fn drop(self) {
+        let Image {
+            entry: _,
+            segments: _segments,
+        } = self;
+    }
 }
 
 impl Model for Image {

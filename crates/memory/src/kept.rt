@@ -11,10 +11,18 @@ use std::sync::Arc;
 
 /// A space as it was at a moment. It shares with the one that was kept before it each page whose bytes were the same then,
 /// and with the space the pages that may not be written.
-#[derive(Drop)]
 pub struct KeptSpace {
     own: KeptParts,
     shared: Vec<Arc<Part>>,
+}
+
+impl Drop for KeptSpace {
+    fn drop(self) {
+        let KeptSpace {
+            own: _own,
+            shared: _shared,
+        } = self;
+    }
 }
 
 impl Model for KeptSpace {

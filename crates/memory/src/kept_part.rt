@@ -11,12 +11,22 @@ use std::sync::Arc;
 const PAGE: usize = 1024;
 
 /// A run of pages as it was at a moment, in pages that it shares with what was kept before and after it.
-#[derive(Drop)]
 pub struct KeptPart {
     first: u32,
     read: bool,
     execute: bool,
     pages: Vec<Arc<Vec<[u8; 4]>>>,
+}
+
+impl Drop for KeptPart {
+    fn drop(self) {
+        let KeptPart {
+            first: _,
+            read: _,
+            execute: _,
+            pages: _pages,
+        } = self;
+    }
 }
 
 impl Model for KeptPart {

@@ -8,11 +8,20 @@ use std::alloc::{AllocError, Global};
 use std::marker::Model;
 
 /// The runs of a space that may be written, as they were at a moment.
-#[derive(Drop)]
 pub struct KeptParts {
     near: KeptPart,
     next: KeptPart,
     more: Vec<KeptPart>,
+}
+
+impl Drop for KeptParts {
+    fn drop(self) {
+        let KeptParts {
+            near: _near,
+            next: _next,
+            more: _more,
+        } = self;
+    }
 }
 
 impl Model for KeptParts {

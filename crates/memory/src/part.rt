@@ -10,12 +10,22 @@ use std::marker::Model;
 
 /// A run of pages with one set of rights, as words. Whether they may be written is the right of the list that the run
 /// stands in.
-#[derive(Drop)]
 pub struct Part {
     pub first: u32,
     pub read: bool,
     pub execute: bool,
     pub words: Vec<[u8; 4]>,
+}
+
+impl Drop for Part {
+    fn drop(self) {
+        let Part {
+            first: _,
+            read: _,
+            execute: _,
+            words: _words,
+        } = self;
+    }
 }
 
 impl Model for Part {

@@ -15,10 +15,18 @@ use std::sync::Arc;
 /// The pages of a process, each with its rights and 4,096 bytes. Pages that may not be written are shared with
 /// clones. Of these, what was mapped last is looked at first: an image is mapped from its last segment down, and constants
 /// stand in the lowest.
-#[derive(Drop)]
 pub struct Space {
     pub(crate) own: OwnParts,
     pub(crate) shared: Vec<Arc<Part>>,
+}
+
+impl Drop for Space {
+    fn drop(self) {
+        let Space {
+            own: _own,
+            shared: _shared,
+        } = self;
+    }
 }
 
 impl Model for Space {

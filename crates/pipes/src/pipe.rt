@@ -13,11 +13,20 @@ use std::marker::Model;
 pub const PIPE_SIZE: usize = 4096;
 
 /// A pipe: the bytes that it holds, in a ring, and how many descriptors stand for each of its ends.
-#[derive(Drop)]
 pub struct Pipe {
     ring: HeapCircularBuffer<u8>,
     readers: usize,
     writers: usize,
+}
+
+impl Drop for Pipe {
+    fn drop(self) {
+        let Pipe {
+            ring: _ring,
+            readers: _,
+            writers: _,
+        } = self;
+    }
 }
 
 impl Model for Pipe {

@@ -14,10 +14,18 @@ pub const MOST_PIPES: usize = 1024;
 
 /// All pipes that there ever were, in the order in which they were opened: a pipe's place, from 0, is its number, which is
 /// not used again. A step of a pipe that is not there changes nothing.
-#[derive(Drop)]
 pub struct PipeTable {
     alloc: Global,
     pipes: Vec<Pipe>,
+}
+
+impl Drop for PipeTable {
+    fn drop(self) {
+        let PipeTable {
+            alloc: _,
+            pipes: _pipes,
+        } = self;
+    }
 }
 
 impl Model for PipeTable {

@@ -8,11 +8,20 @@ use std::alloc::{AllocError, Global};
 use std::marker::Model;
 
 /// What is kept of a process beside its machine.
-#[derive(Drop)]
 pub struct ProcEntry {
     descriptors: Descriptors,
     children: Vec<u32>,
     status: Option<u32>,
+}
+
+impl Drop for ProcEntry {
+    fn drop(self) {
+        let ProcEntry {
+            descriptors: _descriptors,
+            children: _children,
+            status: _,
+        } = self;
+    }
 }
 
 impl Model for ProcEntry {

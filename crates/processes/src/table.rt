@@ -26,10 +26,18 @@ pub struct EndedChild {
 }
 
 /// All processes of a run, each by its number from 1. Numbers are not used again.
-#[derive(Drop)]
 pub struct ProcTable {
     alloc: Global,
     entries: Vec<ProcEntry>,
+}
+
+impl Drop for ProcTable {
+    fn drop(self) {
+        let ProcTable {
+            alloc: _,
+            entries: _entries,
+        } = self;
+    }
 }
 
 impl Model for ProcTable {

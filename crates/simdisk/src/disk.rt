@@ -21,12 +21,22 @@ const LONGEST_WRITE: usize = 4096;
 /// A simulated disk. From its submission to its completion a write's range may hold any bytes after a crash; a write that
 /// has failed leaves any bytes in its range, and no write of this run may meet that range again. Completions come in any order,
 /// by the place at which the write begins.
-#[derive(Drop)]
 pub struct SimDisk {
     alloc: Global,
     bytes: Vec<u8>,
     in_flight: Vec<Piece>,
     failed: Vec<Piece>,
+}
+
+impl Drop for SimDisk {
+    fn drop(self) {
+        let SimDisk {
+            alloc: _,
+            bytes: _bytes,
+            in_flight: _in_flight,
+            failed: _failed,
+        } = self;
+    }
 }
 
 impl Model for SimDisk {

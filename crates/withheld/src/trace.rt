@@ -20,10 +20,18 @@ pub(crate) struct Ending {
 
 /// What a process was told, each item with the mark of its event: the replies to its calls, and last, once it has ended, its
 /// status. Contracts see the items as one list.
-#[derive(Drop)]
 pub struct Trace {
     replies: Withheld<Reply>,
     ending: Option<Ending>,
+}
+
+impl Drop for Trace {
+    fn drop(self) {
+        let Trace {
+            replies: _replies,
+            ending: _ending,
+        } = self;
+    }
 }
 
 impl Model for Trace {

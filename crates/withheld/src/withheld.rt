@@ -9,7 +9,6 @@ use std::marker::Model;
 
 /// Items in order, each with the mark of the event that gave it. Released is the longest prefix of those that rest on committed
 /// changes alone.
-#[derive(Drop)]
 pub struct Withheld<T> {
     pub(crate) items: Vec<T>,
     pub(crate) marks: Vec<Mark>,
@@ -17,6 +16,17 @@ pub struct Withheld<T> {
     pub(crate) count: usize,
     /// How many changes are committed.
     pub(crate) committed: u64,
+}
+
+impl<T: Drop> Drop for Withheld<T> {
+    fn drop(self) {
+        let Withheld {
+            items: _items,
+            marks: _marks,
+            count: _,
+            committed: _,
+        } = self;
+    }
 }
 
 impl<T> Model for Withheld<T> {

@@ -1,7 +1,10 @@
 -- Each part has changed as its function says.
-use Rattle.std.proofs.Common.{◌++◌, ◌∙◌, ℕ, List, option_to_list, ap, sym, subst}
+use Rattle.std.proofs.Common.{◌++◌, ◌∙◌, ℕ, List, Option, option_to_list, ap, sym, subst}
+use Rattle.disk_model.specs.declared.change.Change.{Change}
+use Rattle.kernel_model.specs.declared.request.Verdict.{Verdict}
 use Rattle.withheld.specs.Withheld.{Withheld}
 use Rattle.kernel_step.specs.Entering.{ArePrinted}
+use Rattle.kernel_step.specs.Ready.{TaskMayBeTold}
 use Rattle.kernel_step.specs.declared.system.System.{System}
 use Rattle.kernel_step.proofs.finishing.finish.Goals as goal
 
@@ -17,14 +20,19 @@ pub tell_child-requires : goal.tell_child-requires
 tell_child-requires c = c.requires.child
 
 pub tell-outcome-requires : goal.tell-outcome-requires
-tell-outcome-requires c = c.requires.task
+tell-outcome-requires c =
+    subst (λ (verdict : Verdict). TaskMayBeTold verdict c.args.task.now)
+    (sym c.into_verdict_and_change-verdict.ensures.verdict) c.requires.task
 
 pub returns-clause-system : goal.returns-clause-system
 returns-clause-system c =
     let same = c.change_system.ensures.system in
     record {
       marks = ap (λ (s : System). s.dependencies) same;
-      changes = c.keep.ensures ∙ ap (λ (s : System). s.changes.items ++ option_to_list c.args.entering.plan.change) same;
+      changes =
+          c.keep.ensures
+          ∙ ap (λ (s : System). s.changes.items ++ option_to_list c.into_verdict_and_change-verdict.result.1) same
+          ∙ ap (λ (change : Option Change). c.args.system.now.changes.items ++ option_to_list change) c.into_verdict_and_change-verdict.ensures.change;
       files = ap (λ (s : System). s.files) same;
       tapes = ap (λ (s : System). s.tapes) same;
       pipes = ap (λ (s : System). s.pipes) same;

@@ -1,11 +1,9 @@
 -- The tables match the first memory.
 use Rattle.std.proofs.Common.{List, ap, subst, sym}
-use Rattle.machine_model.specs.Memory.{Memory}
 use Rattle.machine.specs.declared.table.Table.{Table}
 use Rattle.machine.specs.Tables.{AllMatch}
 use Rattle.machine.proofs.machine.Machine.load.Goals as goal
 
 pub invariant_of-result : goal.invariant_of-result
 invariant_of-result c =
-    subst (λ (m : Memory). AllMatch c.in_ok-new.field-0.value.items m) (sym c.space.view_is)
-    (subst (λ (tables : List Table). AllMatch tables c.in_ok-space.space) (sym (ap (λ v. v.items) c.in_ok-new.ensures.ok)) c.in_ok-tables.ensures)
+    subst (λ (tables : List Table). AllMatch tables c.in_ok-space.space) (sym (ap (λ v. v.items) c.in_ok-new.ensures.ok)) c.in_ok-tables.ensures
