@@ -123,7 +123,7 @@ fn image(alloc: Global, entry: u32, output: Output) -> Result<Image, AllocError>
 {
     let text = text_bytes(alloc, output.cells.as_slice())?;
     let base = data_base(output.cells.len() as u32);
-    let segments = segments(alloc, text, base, output.bytes)?;
+    let segments = segments(alloc, text, base, output.into_bytes())?;
     Ok(Image::new(entry, segments))
 }
 

@@ -4,34 +4,28 @@ ghost use Rattle.assembler.specs.Faults.{number_of, out_of_memory, whole, fault_
 
 use asm_text::{Line, TextFault};
 use std::alloc::{AllocError, AllocFailed};
+use std::fmt;
 use thiserror::Error;
 
 /// What is wrong.
 #[derive(Clone, Copy, Debug, PartialEq, Eq, Error)]
 pub enum Cause {
     /// The source has no line, statement or operand of this form.
-    #[error("Syntax")]
     Syntax = 1,
     /// No label has this name.
-    #[error("UnknownName")]
     UnknownName = 2,
     /// A label of this name stands further up.
-    #[error("DoubleLabel")]
     DoubleLabel = 3,
     /// A number does not fit where it stands. On the first pass: a `.space` of a negative size, or in text of one that is no
     /// multiple of 4. On the second, after all faults of the first: a byte outside -128 to 255; an immediate, or the offset
     /// of a load or a store, outside -2048 to 2047; upper bits outside 0 to 0xFFFFF; a shift outside 0 to 31; a target whose
     /// distance is no multiple of 4, or outside -4096 to 4092 of a branch, -1048576 to 1048572 of a jump.
-    #[error("Range")]
     Range = 4,
     /// No label `_start` stands before a word of text.
-    #[error("NoStart")]
     NoStart = 5,
     /// The source has over 1,048,576 bytes, or the image over 60 pages.
-    #[error("TooLarge")]
     TooLarge = 6,
     /// Memory ran out.
-    #[error("OutOfMemory")]
     OutOfMemory = 7,
 }
 
@@ -41,6 +35,25 @@ impl Cause {
         ensures { result ≡ number_of self }
     {
         self as u8
+    }
+
+    /// Its name.
+    fn name(self) -> &'static str {
+        match self {
+            Cause::Syntax => "Syntax",
+            Cause::UnknownName => "UnknownName",
+            Cause::DoubleLabel => "DoubleLabel",
+            Cause::Range => "Range",
+            Cause::NoStart => "NoStart",
+            Cause::TooLarge => "TooLarge",
+            Cause::OutOfMemory => "OutOfMemory",
+        }
+    }
+}
+
+impl fmt::Display for Cause {
+    fn fmt<W: fmt::Write>(&self, f: &mut fmt::Formatter<W>) -> fmt::Result {
+        f.write_str(self.name())
     }
 }
 

@@ -26,10 +26,31 @@ pub struct Cell {
 }
 
 /// What the sections hold.
-#[derive(Drop)]
 pub struct Output {
     pub cells: Vec<Cell>,
     pub bytes: Vec<u8>,
+}
+
+impl Output {
+    /// The bytes of data alone.
+    pub fn into_bytes(self) -> Vec<u8>
+        ensures { result ≡ self.bytes }
+    {
+        let Output {
+            cells: _cells,
+            bytes,
+        } = self;
+        bytes
+    }
+}
+
+impl Drop for Output {
+    fn drop(self) {
+        let Output {
+            cells: _cells,
+            bytes: _bytes,
+        } = self;
+    }
 }
 
 /// Goes over all lines again, where the labels stand as they say and data begins at its base. A fault is the first of

@@ -14,9 +14,14 @@ pub struct Spot {
 }
 
 /// The labels met so far. A contract sees the finite map from their names.
-#[derive(Drop)]
 pub struct Labels<'a> {
     spots: BTreeMap<&'a [u8], Spot>,
+}
+
+impl<'a> Drop for Labels<'a> {
+    fn drop(self) {
+        let Labels { spots: _spots } = self;
+    }
 }
 
 impl<'a> Model for Labels<'a> {

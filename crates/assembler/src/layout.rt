@@ -107,10 +107,18 @@ impl Position {
 }
 
 /// What the first pass finds.
-#[derive(Drop)]
 pub struct Layout<'a> {
     pub position: Position,
     pub labels: Labels<'a>,
+}
+
+impl<'a> Drop for Layout<'a> {
+    fn drop(self) {
+        let Layout {
+            position: _,
+            labels: _labels,
+        } = self;
+    }
 }
 
 /// Goes over all lines. A fault is the first of them: a statement of a wrong form, a label that is there already, or a

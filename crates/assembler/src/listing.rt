@@ -15,9 +15,14 @@ pub struct Row {
 }
 
 /// The words of a program's text, in ascending order. A contract sees the list of its rows.
-#[derive(Debug, Drop)]
 pub struct Listing {
     rows: Vec<Row>,
+}
+
+impl Drop for Listing {
+    fn drop(self) {
+        let Listing { rows: _rows } = self;
+    }
 }
 
 impl Model for Listing {

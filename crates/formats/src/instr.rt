@@ -3,7 +3,7 @@ use crate::fields::{BranchOffset, Immediate, JumpOffset, Reg, ShiftAmount, Upper
 
 /// An instruction of RV32I or of the M extension: one variant for each of the 48 rows of the instruction table
 /// (RISC-V Unprivileged ISA 20191213, chapter 24).
-#[derive(Clone, Copy, PartialEq, Eq)]
+#[derive(Clone, Copy)]
 pub enum Instr {
     /// rd = the upper bits, with twelve zeros below.
     Lui {

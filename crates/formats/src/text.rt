@@ -1,7 +1,8 @@
 //! How registers and instructions are written.
-ghost use Rattle.std.specs.Prelude.{◌≡◌, ◌++◌, Some};
+ghost use Rattle.std.specs.Prelude.{◌≡◌, ◌++◌, [], Some};
+ghost use Rattle.std.specs.Fmt.{WritesOnOk, signed_decimal};
 ghost use Rattle.formats.specs.Operands.{operands_text, mnemonic_of, operands_of};
-ghost use Rattle.formats.specs.Text.{register_name, text_of};
+ghost use Rattle.formats.specs.Text.{register_name, text_of, with_two, with_registers, with_number, with_address, with_upper};
 
 use crate::fields::{BranchOffset, Immediate, JumpOffset, Reg, ShiftAmount, Upper};
 use crate::instr::Instr;
@@ -60,7 +61,7 @@ impl fmt::Display for Reg {
 }
 
 /// The operands of an instruction, by the form in which they are written.
-#[derive(Drop)]
+#[derive(Clone, Copy)]
 enum Operands {
     /// `rd,rs1,rs2`.
     Registers(Reg, Reg, Reg),
@@ -86,34 +87,68 @@ impl fmt::Display for Operands {
 
     fn fmt<W: fmt::Write>(&self, f: &mut fmt::Formatter<W>) -> fmt::Result {
         match *self {
-            Operands::Registers(rd, rs1, rs2) => write!(f, " {rd},{rs1},{rs2}"),
-            Operands::Number(rd, rs1, imm) => {
-                let imm = imm.value();
-                write!(f, " {rd},{rs1},{imm}")
-            }
-            Operands::Branch(rs1, rs2, offset) => {
-                let offset = offset.value();
-                write!(f, " {rs1},{rs2},{offset}")
-            }
+            Operands::Registers(rd, rs1, rs2) => write_registers(f, rd, rs1, rs2),
+            Operands::Number(rd, rs1, imm) => write_number(f, rd, rs1, imm.value()),
+            Operands::Branch(rs1, rs2, offset) => write_number(f, rs1, rs2, offset.value()),
             Operands::Amount(rd, rs1, amount) => {
-                let amount = amount.value();
-                write!(f, " {rd},{rs1},{amount}")
-            }
-            Operands::Address(register, rs1, imm) => {
-                let imm = imm.value();
-                write!(f, " {register},{imm}({rs1})")
-            }
-            Operands::Upper(rd, imm) => {
-                let imm = imm.value();
-                write!(f, " {rd},0x{imm:x}")
-            }
-            Operands::Jump(rd, offset) => {
-                let offset = offset.value();
-                write!(f, " {rd},{offset}")
-            }
+                write_number(f, rd, rs1, i32::from(amount.value()))
+            },
+            Operands::Address(register, rs1, imm) => write_address(f, register, rs1, imm.value()),
+            Operands::Upper(rd, imm) => write_upper(f, rd, imm.value()),
+            Operands::Jump(rd, offset) => write_jump(f, rd, offset.value()),
             Operands::None => Ok(()),
         }
     }
+}
+
+/// Writes ` rd,rs1,rs2`.
+fn write_registers<W: fmt::Write>(
+    f: &mut fmt::Formatter<W>,
+    rd: Reg,
+    rs1: Reg,
+    rs2: Reg,
+) -> fmt::Result
+    ensures { WritesOnOk W.write_str_gives f.old result (with_registers [] rd rs1 rs2) f.new }
+{
+    write!(f, " {rd},{rs1},{rs2}")
+}
+
+/// Writes ` a,b,number`.
+fn write_number<W: fmt::Write>(
+    f: &mut fmt::Formatter<W>,
+    a: Reg,
+    b: Reg,
+    number: i32,
+) -> fmt::Result
+    ensures { WritesOnOk W.write_str_gives f.old result (with_number [] a b number) f.new }
+{
+    write!(f, " {a},{b},{number}")
+}
+
+/// Writes ` register,imm(rs1)`.
+fn write_address<W: fmt::Write>(
+    f: &mut fmt::Formatter<W>,
+    register: Reg,
+    rs1: Reg,
+    imm: i32,
+) -> fmt::Result
+    ensures { WritesOnOk W.write_str_gives f.old result (with_address [] register rs1 imm) f.new }
+{
+    write!(f, " {register},{imm}({rs1})")
+}
+
+/// Writes ` rd,0x` and the upper bits in hexadecimal.
+fn write_upper<W: fmt::Write>(f: &mut fmt::Formatter<W>, rd: Reg, imm: u32) -> fmt::Result
+    ensures { WritesOnOk W.write_str_gives f.old result (with_upper [] rd imm) f.new }
+{
+    write!(f, " {rd},0x{imm:x}")
+}
+
+/// Writes ` rd,offset`.
+fn write_jump<W: fmt::Write>(f: &mut fmt::Formatter<W>, rd: Reg, offset: i32) -> fmt::Result
+    ensures { WritesOnOk W.write_str_gives f.old result (with_two [] (register_name rd) (signed_decimal offset)) f.new }
+{
+    write!(f, " {rd},{offset}")
 }
 
 impl Instr {
