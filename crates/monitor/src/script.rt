@@ -18,11 +18,16 @@ const MOST_WORDS: usize = 61440;
 pub const MOST_TAPE_BYTES: usize = 65536;
 
 /// The words of a program, 1 to 61,440, for the addresses from 0x00010000 on.
-#[derive(Drop)]
 pub struct Words {
     words: Vec<u32>,
     ghost some: { 0 < vec_len words },
     ghost few: { vec_len words ≤ 61440 },
+}
+
+impl Drop for Words {
+    fn drop(self) {
+        let Words { words: _words } = self;
+    }
 }
 
 impl Words {
@@ -52,7 +57,6 @@ pub struct ScriptProgram {
 }
 
 /// A tape that a script sets up.
-#[derive(Drop)]
 pub struct ScriptTape {
     /// 0 to 7.
     pub number: u32,
@@ -60,6 +64,15 @@ pub struct ScriptTape {
     pub bytes: Bytes,
     ghost there: { number < 8 },
     ghost short: { length bytes ≤ 65536 },
+}
+
+impl Drop for ScriptTape {
+    fn drop(self) {
+        let ScriptTape {
+            number: _,
+            bytes: _bytes,
+        } = self;
+    }
 }
 
 /// A step that the core outlives.

@@ -39,10 +39,18 @@ impl Code {
 }
 
 /// A program that can be booted any number of times.
-#[derive(Drop)]
 struct Bootable {
     terminal: Terminal,
     code: Code,
+}
+
+impl Drop for Bootable {
+    fn drop(self) {
+        let Bootable {
+            terminal: _,
+            code: _code,
+        } = self;
+    }
 }
 
 impl Bootable {
@@ -58,12 +66,20 @@ impl Bootable {
 }
 
 /// What a script sets up: 1 to 8 programs in order, and the tapes that it gives.
-#[derive(Drop)]
 pub struct Setup {
     programs: Vec<Bootable>,
     tapes: Vec<ScriptTape>,
     ghost some: { 1 ≤ vec_len programs },
     ghost few: { vec_len programs ≤ 8 },
+}
+
+impl Drop for Setup {
+    fn drop(self) {
+        let Setup {
+            programs: _programs,
+            tapes: _tapes,
+        } = self;
+    }
 }
 
 impl Setup {

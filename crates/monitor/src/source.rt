@@ -5,10 +5,18 @@ use machine_model::{Image, Segment};
 use std::alloc::Global;
 
 /// What comes of a source: the bytes of its image's file, and the line that is printed.
-#[derive(Drop)]
 pub struct Assembled {
     pub file: Vec<u8>,
     pub line: String,
+}
+
+impl Drop for Assembled {
+    fn drop(self) {
+        let Assembled {
+            file: _file,
+            line: _line,
+        } = self;
+    }
 }
 
 /// How many bytes of a segment the file has.
