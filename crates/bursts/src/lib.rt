@@ -21,6 +21,3 @@ pub use note::{LoanId, Note};
 pub use share::{Blanks, Share};
 pub use totals::{Totals, totals_of};
 pub use worker::{Gate, Turned, WorkFault, worker_turn};
-
-#[cfg(test)]
-mod tests;

@@ -396,7 +396,7 @@ fn check_case<R: Files + AllocGlobal + Eprint>(rt: &R, lines: &str) -> Result<()
 }
 
 /// Runs the cases of a file, and answers how many there are.
-pub fn check_file<R: Files + AllocGlobal + Eprint>(rt: &R, name: &str) -> Result<usize, Error> {
+fn check_cases<R: Files + AllocGlobal + Eprint>(rt: &R, name: &str) -> Result<usize, Error> {
     let text = fs::read_to_string(rt, name)?;
     let mut count = 0usize;
     for case in text.as_str().split("\n== ").skip(1) {
@@ -407,4 +407,11 @@ pub fn check_file<R: Files + AllocGlobal + Eprint>(rt: &R, name: &str) -> Result
         count = count.saturating_add(1);
     }
     Ok(count)
+}
+
+/// Runs the cases of a file, and answers a line that says how many they are. Where one comes out otherwise, standard error has
+/// what its line comes to.
+pub fn check_file<R: Files + AllocGlobal + Eprint>(rt: &R, name: &str) -> Result<String, Error> {
+    let count = check_cases(rt, name)?;
+    Ok(format!(in rt.alloc(); "{name}: {count} cases")?)
 }

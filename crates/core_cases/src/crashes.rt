@@ -5,6 +5,8 @@ use crate::cores::{Source, TestCore, recover};
 use anyhow::{Error, bail};
 use kernel::SimDisk;
 use std::alloc::Global;
+use std::fs;
+use std::rt::Files;
 
 /// The bytes that a crash leaves in the ranges of writes in flight.
 const FILLS: [&[u8]; 3] = [&[0x00], &[0x01], &[0x7F, 0xFF]];
@@ -213,29 +215,35 @@ fn crash_checkpoint(alloc: Global, sources: &[Source], fill: &[u8]) -> Result<()
     Ok(())
 }
 
-/// A list of one program, for terminal 0, whose source this is.
-fn one_source(alloc: Global, text: String) -> Result<Vec<Source>, Error> {
-    let mut sources = Vec::new(alloc);
+/// A list of one program, for terminal 0, whose source stands in this file.
+fn one_source<R: Files + AllocGlobal>(rt: &R, name: &str) -> Result<Vec<Source>, Error> {
+    let text = fs::read_to_string(rt, name)?;
+    let mut sources = Vec::new(rt.alloc());
     sources.push(Source { terminal: 0, text })?;
     Ok(sources)
 }
 
-/// All crashes of the writer, whose source this is, with each fill.
-pub fn crash_writer(alloc: Global, text: String) -> Result<(), Error> {
-    let sources = one_source(alloc, text)?;
+/// All crashes of the writer, which is read from `writer.s`, with each fill.
+pub fn crash_writer<R: Files + AllocGlobal>(rt: &R) -> Result<String, Error> {
+    let alloc = rt.alloc();
+    let sources = one_source(rt, "writer.s")?;
     for fill in FILLS {
         crash_groups(alloc, &sources, fill)?;
         crash_one_run(alloc, &sources, fill)?;
     }
-    Ok(())
+    Ok(String::from_str(alloc, "crashes throughout 34 groups")?)
 }
 
-/// All crashes of the renamer, whose source this is, with each fill.
-pub fn crash_renamer(alloc: Global, text: String) -> Result<(), Error> {
-    let sources = one_source(alloc, text)?;
+/// All crashes of the renamer, which is read from `renamer.s`, with each fill.
+pub fn crash_renamer<R: Files + AllocGlobal>(rt: &R) -> Result<String, Error> {
+    let alloc = rt.alloc();
+    let sources = one_source(rt, "renamer.s")?;
     for fill in FILLS {
         crash_renamings(alloc, &sources, fill)?;
         crash_checkpoint(alloc, &sources, fill)?;
     }
-    Ok(())
+    Ok(String::from_str(
+        alloc,
+        "crashes throughout 23 groups that remove and rename files",
+    )?)
 }

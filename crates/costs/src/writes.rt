@@ -127,12 +127,22 @@ pub const WRITERS: [Writer; 4] = [
 ];
 
 /// A run of such a program, and how many calls it made.
-#[derive(Drop)]
 struct Run {
     core: Core,
     calls: u64,
     round: u64,
     long: usize,
+}
+
+impl Drop for Run {
+    fn drop(self) {
+        let Run {
+            core: _core,
+            calls: _,
+            round: _,
+            long: _,
+        } = self;
+    }
 }
 
 impl Run {

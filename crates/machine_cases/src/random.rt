@@ -6,7 +6,7 @@ use machine::{Image, Machine};
 use std::alloc::{AllocError, Global};
 
 /// How many programs are tried.
-pub const PROGRAMS: u32 = 2_000;
+const PROGRAMS: u32 = 2_000;
 
 /// The words of a program.
 const WORDS: u32 = 40;
@@ -133,7 +133,7 @@ fn program(alloc: Global, numbers: &mut Numbers) -> Result<Vec<u32>, AllocError>
 }
 
 /// Runs each program to each limit. Says how many limits there were.
-pub fn check_programs(alloc: Global) -> Result<u64, Error> {
+fn check_programs(alloc: Global) -> Result<u64, Error> {
     let mut count = 0u64;
     for seed in 1..PROGRAMS + 1 {
         let mut numbers = Numbers {
@@ -151,4 +151,10 @@ pub fn check_programs(alloc: Global) -> Result<u64, Error> {
         }
     }
     Ok(count)
+}
+
+/// Runs random programs to each limit, and answers a line that says how many limits there were.
+pub fn check_random_programs(alloc: Global) -> Result<String, Error> {
+    let count = check_programs(alloc)?;
+    Ok(format!(in alloc; "{PROGRAMS} random programs: {count} limits")?)
 }

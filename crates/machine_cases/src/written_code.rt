@@ -43,7 +43,7 @@ fn page(alloc: Global) -> Result<Space, AllocError> {
 }
 
 /// Runs the page whole and to each limit.
-pub fn check_page(alloc: Global) -> Result<(), Error> {
+pub fn check_written_code(alloc: Global) -> Result<String, Error> {
     let first = Machine::with_space(alloc, PAGE * 4096, page(alloc)?)?;
     let mut ran = first.try_clone(alloc)?;
     let came_to = (ran.run(100), ran.reg(Reg::new(10)));
@@ -51,5 +51,5 @@ pub fn check_page(alloc: Global) -> Result<(), Error> {
         bail!("a page that writes over its words comes to {came_to:?}");
     }
     check_each(alloc, &first, 100)?;
-    Ok(())
+    Ok(String::from_str(alloc, "a page that writes over its words")?)
 }

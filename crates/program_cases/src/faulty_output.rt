@@ -60,17 +60,21 @@ fn check_room<R: Files + AllocGlobal + Threads + Wait + Sync>(
 }
 
 /// One write is enough for all output, of a script and of help; where there is none, the status is 6.
-pub fn check<R: Files + AllocGlobal + Threads + Wait + Sync>(rt: &R) -> Result<(), Error> {
+pub fn check_faulty_output<R: Files + AllocGlobal + Threads + Wait + Sync>(
+    rt: &R,
+) -> Result<String, Error> {
     for line in ["", "--help"] {
         check_room(rt, line, 1, 0, "")?;
         check_room(rt, line, 0, 6, FAILED)?;
     }
-    Ok(())
+    Ok(String::from_str(rt.alloc(), "outputs that take one write or none")?)
 }
 
 /// A program that writes a byte which rests on a change, and then never ends. Its run ends only since that byte goes out while
-/// the program runs, and cannot be written.
-pub fn check_endless<R: Files + AllocGlobal + Threads + Wait + Sync>(rt: &R) -> Result<(), Error> {
+/// the program runs, and cannot be written. It reads the source `endless.s`.
+pub fn check_endless_run<R: Files + AllocGlobal + Threads + Wait + Sync>(
+    rt: &R,
+) -> Result<String, Error> {
     let assembled = run(rt, "asm endless.s endless", b"")?;
     ensure!(
         assembled.status == 0,
@@ -79,5 +83,5 @@ pub fn check_endless<R: Files + AllocGlobal + Threads + Wait + Sync>(rt: &R) -> 
     );
     check_room(rt, "run endless", 0, 6, FAILED)?;
     fs::remove_file(rt, "endless")?;
-    Ok(())
+    Ok(String::from_str(rt.alloc(), "a run without end whose output fails")?)
 }

@@ -31,13 +31,24 @@ use std::sync::Wait;
 use std::thread::Threads;
 
 /// A case: its script so far, what is to be printed, the replies of its programs, and its image's file.
-#[derive(Drop)]
 struct Case {
     file: Vec<u8>,
     script: String,
     printed: String,
     program: Option<Program>,
     programs: Vec<Replies>,
+}
+
+impl Drop for Case {
+    fn drop(self) {
+        let Case {
+            file: _file,
+            script: _script,
+            printed: _printed,
+            program: _program,
+            programs: _programs,
+        } = self;
+    }
 }
 
 impl Case {
@@ -64,8 +75,7 @@ impl Case {
                 }
             };
             self.set_up(line.as_str())?;
-            let Program { replies, .. } = program;
-            self.programs.push(replies)?;
+            self.programs.push(program.into_replies())?;
         }
         Ok(())
     }

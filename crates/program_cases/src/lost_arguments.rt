@@ -13,12 +13,13 @@ fn check_end(alloc: Global, kind: ErrorKind, status: u8, line: &str) -> Result<(
 }
 
 /// Want of memory is status 5, and an argument that is no text a faulty command line.
-pub fn check(alloc: Global) -> Result<(), Error> {
+pub fn check_lost_arguments(alloc: Global) -> Result<String, Error> {
     check_end(alloc, ErrorKind::OutOfMemory, 5, "bench: out of memory\n")?;
     check_end(
         alloc,
         ErrorKind::InvalidData,
         1,
         "bench: an argument is not UTF-8\n",
-    )
+    )?;
+    Ok(String::from_str(alloc, "arguments that cannot be read")?)
 }

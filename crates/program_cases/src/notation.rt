@@ -97,10 +97,18 @@ fn push_reply(alloc: Global, out: &mut String, reply: &str) -> Result<(), Error>
 }
 
 /// The replies beside a program's calls.
-#[derive(Drop)]
 pub struct Replies {
     pub count: usize,
     printed: String,
+}
+
+impl Drop for Replies {
+    fn drop(self) {
+        let Replies {
+            count: _,
+            printed: _printed,
+        } = self;
+    }
 }
 
 impl Replies {
@@ -191,12 +199,22 @@ pub enum Form {
 }
 
 /// A program whose source is being read, line by line.
-#[derive(Drop)]
 pub struct Program {
     pub form: Form,
     pub terminal: String,
     source: String,
     pub replies: Replies,
+}
+
+impl Drop for Program {
+    fn drop(self) {
+        let Program {
+            form: _form,
+            terminal: _terminal,
+            source: _source,
+            replies: _replies,
+        } = self;
+    }
 }
 
 impl Program {
@@ -241,6 +259,17 @@ impl Program {
             }
             None => self.read_statement(alloc, line),
         }
+    }
+
+    /// The replies beside its calls.
+    pub fn into_replies(self) -> Replies {
+        let Program {
+            form: _form,
+            terminal: _terminal,
+            source: _source,
+            replies,
+        } = self;
+        replies
     }
 
     /// The words of the program.

@@ -5,11 +5,20 @@ use std::sync::Wait;
 use std::thread::Threads;
 
 /// What a run wrote, and its exit status.
-#[derive(Drop)]
 pub struct Ran {
     pub out: Vec<u8>,
     pub err: Vec<u8>,
     pub status: u8,
+}
+
+impl Drop for Ran {
+    fn drop(self) {
+        let Ran {
+            out: _out,
+            err: _err,
+            status: _,
+        } = self;
+    }
 }
 
 /// The words of a line, which are parted by blanks.

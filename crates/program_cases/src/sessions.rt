@@ -49,7 +49,6 @@ fn push_text(input: &mut Vec<u8>, text: &str) -> Result<(), Error> {
 }
 
 /// A run of the program, and what is wanted of it.
-#[derive(Drop)]
 struct Run {
     words: String,
     input: Vec<u8>,
@@ -58,6 +57,18 @@ struct Run {
     status: u8,
     /// What it says on standard error; None: something.
     err: Option<String>,
+}
+
+impl Drop for Run {
+    fn drop(self) {
+        let Run {
+            words: _words,
+            input: _input,
+            out: _out,
+            status: _,
+            err: _err,
+        } = self;
+    }
 }
 
 impl Run {
@@ -201,10 +212,18 @@ fn do_to_file<R: Files + AllocGlobal>(rt: &R, words: &[&str]) -> Result<(), Erro
 }
 
 /// A file whose lines are being read.
-#[derive(Drop)]
 struct TextFile {
     name: String,
     text: String,
+}
+
+impl Drop for TextFile {
+    fn drop(self) {
+        let TextFile {
+            name: _name,
+            text: _text,
+        } = self;
+    }
 }
 
 /// A case that is being read: what its last lines say as yet.

@@ -1,9 +1,9 @@
 -- The run is named by its own ledgers and its core's pair.
 use Rattle.kernel_model.specs.Answers.{now, committed, changes}
-use Rattle.bursts.proofs.tests.turns_at_a_desk.Given as goal
+use Rattle.worker_cases.proofs.desk.report.Given as goal
 
-abbrev pub ghosts-run : goal.ghosts-run
-ghosts-run g a = record {
+abbrev pub ghosts-play_named : goal.ghosts-play_named
+ghosts-play_named g a = record {
   events = a.blanks.events.name;
   ran = a.blanks.ran.name;
   turns = a.blanks.turns.name;

@@ -1,0 +1,22 @@
+//! An image run to its first limits, and in longer and longer runs.
+use crate::limits::{check_each, check_growing};
+use anyhow::Error;
+use machine::Machine;
+use std::fs;
+use std::rt::Files;
+
+/// How many instructions of an image are tried at each limit, and how many in longer and longer runs.
+const EACH: u32 = 1_500;
+
+const WHOLE: u32 = 1_000_000;
+
+/// Runs the image of this file, and answers a line that says how many limits there were, and how many instructions.
+pub fn check_image<R: Files + AllocGlobal>(rt: &R, name: &str) -> Result<String, Error> {
+    let alloc = rt.alloc();
+    let file = fs::read(rt, name)?;
+    let image = elf32::parse(alloc, file.as_slice())?;
+    let first = Machine::load(alloc, &image)?;
+    let count = check_each(alloc, &first, EACH)?;
+    let whole = check_growing(alloc, &first, WHOLE)?;
+    Ok(format!(in alloc; "{name}: {count} limits, {whole} instructions")?)
+}

@@ -1,0 +1,23 @@
+//! The words that there are.
+use std::alloc::{AllocError, Global};
+
+/// The words whose trials are compared with what is wanted, and `help`.
+const COMPARED: &str = "NAME.calls: the cases of this file, of programs that call the kernel
+NAME.sessions: the cases of this file, of the whole program by its command line
+NAME.cores: the cases of this file, of cores
+NAME.image: this image at many limits
+faulty-output: outputs that take one write or none
+endless-run: a run without end whose output fails
+damaged-disk: a disk that cannot be read
+lost-arguments: arguments that cannot be read
+writer-crashes: crashes of writer.s
+renamer-crashes: crashes of renamer.s
+workers: two programs that are run by workers in threads, and at a desk
+written-code: a page that writes over its words
+random-programs: random programs at many limits
+help: these lines";
+
+/// A line for each word.
+pub fn lines(alloc: Global) -> Result<String, AllocError> {
+    format!(in alloc; "{COMPARED}\n{}", costs::usage(alloc)?)
+}
