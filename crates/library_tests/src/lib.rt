@@ -31,6 +31,8 @@ mod machines;
 #[cfg(test)]
 mod marks;
 #[cfg(test)]
+mod numbers;
+#[cfg(test)]
 mod pipe_tables;
 #[cfg(test)]
 mod planned_calls;
