@@ -44,7 +44,7 @@ use crate::changers::Changer;
 use crate::cores::{Source, TestCore, recover};
 use crate::plain_files::has;
 use anyhow::{Error, bail};
-use bursts::Done;
+use bursts::{Done, Rejected};
 use files::part_of;
 use kernel::{Event, SimDisk};
 use simdisk::DiskRefusal;
@@ -95,13 +95,18 @@ fn event_of(words: &[&str]) -> Result<Event, Error> {
     }
 }
 
+/// The event that a text writes.
+fn event_in(alloc: Global, text: &str) -> Result<Event, Error> {
+    let words: Vec<&str> = text.split_whitespace().collect(alloc)?;
+    event_of(&words)
+}
+
 /// The events that are written after the first word.
 fn events_of(alloc: Global, command: &str) -> Result<Vec<Event>, Error> {
     let (_first, rest) = command.split_once(' ').unwrap_or((command, ""));
     let mut events = Vec::new(alloc);
-    for event in rest.split(';') {
-        let words: Vec<&str> = event.split_whitespace().collect(alloc)?;
-        events.push(event_of(&words)?)?;
+    for text in rest.split(';') {
+        events.push(event_in(alloc, text)?)?;
     }
     Ok(events)
 }
@@ -112,24 +117,34 @@ fn last_events(core: &TestCore, count: usize) -> &[Event] {
     &history[history.len().saturating_sub(count)..]
 }
 
-/// What a line comes to by which a core runs.
-fn run(alloc: Global, core: &mut TestCore, command: &str, words: &[&str]) -> Result<String, Error> {
-    let first = number(words, 1);
+/// What a line comes to by which a core applies events.
+fn apply(
+    alloc: Global,
+    core: &mut TestCore,
+    command: &str,
+    words: &[&str],
+) -> Result<String, Error> {
     match word(words, 0) {
         "script" => text(alloc, core.run_script(&events_of(alloc, command)?)),
         "drain" => text(alloc, core.drain()),
-        "until" => text(alloc, core.change_up_to(u64::from(first))),
-        "commit" => text(alloc, core.commit(u64::from(first))),
-        "rounds" => {
-            let changes = u64::from(number(words, 2));
-            text(alloc, core.rounds(alloc, first, changes))
-        }
-        "loans" => text(alloc, core.loans(first)),
         _ => text(alloc, core.apply(event_of(words)?)),
     }
 }
 
-/// What a line comes to that looks at a core; another one runs it.
+/// What a line comes to by which a core runs.
+fn run(alloc: Global, core: &mut TestCore, command: &str, words: &[&str]) -> Result<String, Error> {
+    let first = number(words, 1);
+    let second = u64::from(number(words, 2));
+    match word(words, 0) {
+        "until" => text(alloc, core.change_up_to(u64::from(first))),
+        "commit" => text(alloc, core.commit(u64::from(first))),
+        "rounds" => text(alloc, core.rounds(alloc, first, second)),
+        "loans" => text(alloc, core.loans(first)),
+        _ => apply(alloc, core, command, words),
+    }
+}
+
+/// What a line comes to that looks at what a core shows; another one runs it.
 fn look_or_run(
     alloc: Global,
     core: &mut TestCore,
@@ -138,17 +153,29 @@ fn look_or_run(
 ) -> Result<String, Error> {
     let first = number(words, 1);
     match word(words, 0) {
-        "history" => text(alloc, core.history()),
-        "events" => text(alloc, core.history().len()),
-        "last" => text(alloc, last_events(core, first as usize)),
-        "ran" => text(alloc, core.ran()),
-        "totals" => text(alloc, core.totals()),
-        "counts" => text(alloc, (core.changes(), core.committed(), core.wants_cut())),
         "in_flight" => text(alloc, core.in_flight()),
         "shown" => digits(alloc, core.shown(first)),
         "replied" => text(alloc, core.replied(alloc, first)),
         "ended" => text(alloc, core.ended(first)),
         _ => run(alloc, core, command, words),
+    }
+}
+
+/// What a line comes to that counts what a core did; another one is `look_or_run`'s.
+fn count_or_look(
+    alloc: Global,
+    core: &mut TestCore,
+    command: &str,
+    words: &[&str],
+) -> Result<String, Error> {
+    match word(words, 0) {
+        "history" => text(alloc, core.history()),
+        "events" => text(alloc, core.history().len()),
+        "last" => text(alloc, last_events(core, number(words, 1) as usize)),
+        "ran" => text(alloc, core.ran()),
+        "totals" => text(alloc, core.totals()),
+        "counts" => text(alloc, (core.changes(), core.committed(), core.wants_cut())),
+        _ => look_or_run(alloc, core, command, words),
     }
 }
 
@@ -163,14 +190,35 @@ fn disk_with(alloc: Global, selector: u8, at: u32, bytes: &[u8]) -> Result<SimDi
 }
 
 /// The result of a loan, and its name.
-#[derive(Drop)]
 struct Kept {
     name: String,
     done: Done,
 }
 
+impl Drop for Kept {
+    fn drop(self) {
+        let Kept {
+            name: _name,
+            done: _done,
+        } = self;
+    }
+}
+
+impl Kept {
+    /// The result alone.
+    fn into_done(self) -> Done {
+        let Kept { name: _name, done } = self;
+        done
+    }
+}
+
+/// Why a result is refused, and what is given back of it.
+fn rejection_text(alloc: Global, rejected: &Rejected) -> Result<String, Error> {
+    let done = &rejected.done;
+    text(alloc, (rejected.why, done.pid, done.number, done.count))
+}
+
 /// A case as far as it has run.
-#[derive(Drop)]
 pub struct Case {
     alloc: Global,
     sources: Vec<Source>,
@@ -179,6 +227,20 @@ pub struct Case {
     core: Option<TestCore>,
     other: Option<TestCore>,
     results: Vec<Kept>,
+}
+
+impl Drop for Case {
+    fn drop(self) {
+        let Case {
+            alloc: _,
+            sources: _sources,
+            tapes: _tapes,
+            device: _device,
+            core: _core,
+            other: _other,
+            results: _results,
+        } = self;
+    }
 }
 
 impl Case {
@@ -263,12 +325,14 @@ impl Case {
 
     /// The result of this name, which is gone then.
     fn result(&mut self, name: &str) -> Result<Done, Error> {
-        for place in 0..self.results.len() {
-            if self.results[place].name.as_str() == name {
-                return Ok(self.results.remove(place).done);
-            }
+        match self
+            .results
+            .iter()
+            .position(|kept| kept.name.as_str() == name)
+        {
+            Some(place) => Ok(self.results.remove(place).into_done()),
+            None => bail!("no result goes by this name"),
         }
-        bail!("no result goes by this name")
     }
 
     /// The core takes a result back: what that comes to.
@@ -277,10 +341,7 @@ impl Case {
         let done = self.result(name)?;
         match self.core()?.settle(done) {
             Ok(answer) => text(alloc, answer),
-            Err(rejected) => {
-                let done = &rejected.done;
-                text(alloc, (rejected.why, done.pid, done.number, done.count))
-            }
+            Err(rejected) => rejection_text(alloc, &rejected),
         }
     }
 
@@ -314,8 +375,23 @@ impl Case {
         part_of(self.device.bytes(), at as usize, count as usize)
     }
 
-    /// What a line comes to that is about the disk or about results of loans; another one is about the core.
-    fn look_or_lend(&mut self, command: &str, words: &[&str]) -> Result<String, Error> {
+    /// Whether so many bytes of the disk, from this place on, are zeros.
+    fn is_zero(&self, at: u32, count: u32) -> bool {
+        self.part(at, count).iter().all(|byte| *byte == 0)
+    }
+
+    /// What a line comes to that is about results of loans; another one is about the core.
+    fn lend_or_look(&mut self, command: &str, words: &[&str]) -> Result<String, Error> {
+        let alloc = self.alloc;
+        match word(words, 0) {
+            "lend" => text(alloc, self.lend(number(words, 1), word(words, 2))),
+            "settle" => self.settle(word(words, 1)),
+            _ => count_or_look(alloc, self.core()?, command, words),
+        }
+    }
+
+    /// What a line comes to that is about the disk; another one is `lend_or_look`'s.
+    fn recover_or_lend(&mut self, command: &str, words: &[&str]) -> Result<String, Error> {
         let alloc = self.alloc;
         let first = number(words, 1);
         let second = number(words, 2);
@@ -324,13 +400,8 @@ impl Case {
             "boot" => self.booted(),
             "files" => text(alloc, self.holds(word(words, 1), second)),
             "bytes" => digits(alloc, self.part(first, second)),
-            "zeros" => text(
-                alloc,
-                self.part(first, second).iter().all(|byte| *byte == 0),
-            ),
-            "lend" => text(alloc, self.lend(first, word(words, 2))),
-            "settle" => self.settle(word(words, 1)),
-            _ => look_or_run(alloc, self.core()?, command, words),
+            "zeros" => text(alloc, self.is_zero(first, second)),
+            _ => self.lend_or_look(command, words),
         }
     }
 
@@ -352,7 +423,7 @@ impl Case {
             ),
             "other" => text(alloc, self.swap()),
             "halt" => text(alloc, self.halt(word(words, 1))),
-            _ => self.look_or_lend(command, words),
+            _ => self.recover_or_lend(command, words),
         }
     }
 
@@ -365,12 +436,16 @@ impl Case {
     ) -> Result<bool, Error> {
         let words: Vec<&str> = command.split_whitespace().collect(self.alloc)?;
         let answer = self.answer(rt, command, &words)?;
-        let same = answer.as_str() == wanted;
-        if !same {
-            eprintln!(rt; "{command} => {wanted}\nit comes to: {answer}")?;
-        }
-        Ok(same)
+        is_wanted(rt, command, wanted, answer.as_str())
     }
+}
+
+/// Whether an answer is the one that is wanted; where it is not, it is written.
+fn is_wanted<R: Eprint>(rt: &R, command: &str, wanted: &str, answer: &str) -> Result<bool, Error> {
+    if answer != wanted {
+        eprintln!(rt; "{command} => {wanted}\nit comes to: {answer}")?;
+    }
+    Ok(answer == wanted)
 }
 
 /// A line without its comment and the blanks round it.

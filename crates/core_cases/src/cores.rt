@@ -11,11 +11,19 @@ use kernel::{Answer, BootFault, Core, DiskFault, Event, Program, Refused, SimDis
 use std::alloc::{AllocError, Global};
 
 /// A program that can be booted any number of times: its terminal, and its source.
-#[derive(Drop)]
 pub struct Source {
     pub terminal: u32,
     pub text: String,
     ghost known: { terminal < 8 },
+}
+
+impl Drop for Source {
+    fn drop(self) {
+        let Source {
+            terminal: _,
+            text: _text,
+        } = self;
+    }
 }
 
 /// Programs to be booted once.

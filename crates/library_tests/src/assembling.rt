@@ -33,9 +33,8 @@ const DATA_BYTES: [u8; 19] = [
     0x80, 0xff, 0x61, 0x0a, 0xff, 0xff, 0xff, 0xff, 0x40, 0x30, 0x20, 0x10, 0, 0, 0, 0x13, 0, 0, 0,
 ];
 
-/// Sources, and the words of their text.
-const WORDS: &[(&str, &[u32])] = &[
-    // Loads of a number.
+/// Sources, and the words of their text: loads of a number.
+const NUMBERS: &[(&str, &[u32])] = &[
     ("_start: li a0,0x12345FFF", &[0x12346537, 0xFFF50513]),
     ("_start: li a0,0x7FFFFFFF", &[0x80000537, 0xFFF50513]),
     ("_start: li a0,0xFFFFFFFF", &[0xFFF00513]),
@@ -47,11 +46,13 @@ const WORDS: &[(&str, &[u32])] = &[
     ("_start: li a0,-2049", &[0xFFFFF537, 0x7FF50513]),
     ("_start: li a0,0x80000000", &[0x80000537]),
     ("_start: li zero,0", &[0x00000013]),
-    // The ends of branches and jumps.
     ("_start: beq a0,a1,-4096", &[0x80B50063]),
     ("_start: jal ra,1048572", &[0x7FDFF0EF]),
     ("_start: jal ra,-1048576", &[0x800000EF]),
-    // Pseudo-instructions.
+];
+
+/// The same of pseudo-instructions that compute and branch.
+const PSEUDO: &[(&str, &[u32])] = &[
     ("_start: nop", &[0x00000013]),
     ("_start: mv a0,a1", &[0x00058513]),
     ("_start: not a0,a1", &[0xFFF5C513]),
@@ -66,6 +67,10 @@ const WORDS: &[(&str, &[u32])] = &[
     ("_start: bgez a0,8", &[0x00055463]),
     ("_start: bltz a0,8", &[0x00054463]),
     ("_start: bgtz a0,8", &[0x00A04463]),
+];
+
+/// The same of pseudo-instructions of two registers, and of jumps.
+const JUMPS: &[(&str, &[u32])] = &[
     ("_start: bgt a0,a1,8", &[0x00A5C463]),
     ("_start: ble a0,a1,8", &[0x00A5D463]),
     ("_start: bgtu a0,a1,8", &[0x00A5E463]),
@@ -76,7 +81,10 @@ const WORDS: &[(&str, &[u32])] = &[
     ("_start: jr a0", &[0x00050067]),
     ("_start: jalr a0", &[0x000500E7]),
     ("_start: ret", &[0x00008067]),
-    // Instructions.
+];
+
+/// The same of instructions.
+const INSTRUCTIONS: &[(&str, &[u32])] = &[
     ("_start: add a0,a0,a1", &[0x00B50533]),
     ("_start: mul a0 , a0,\ta1 # a comment \u{e9}", &[0x02B50533]),
     ("_start: lui t0,0x12345", &[0x123452B7]),
@@ -91,7 +99,10 @@ const WORDS: &[(&str, &[u32])] = &[
     ("_start: ebreak", &[0x00100073]),
     ("_start: addi fp,x8,-1", &[0xFFF40413]),
     ("_start: .word 0xFFFFFFFF", &[0xFFFFFFFF]),
-    // Labels.
+];
+
+/// The same of labels, and of whole programs.
+const PROGRAMS: &[(&str, &[u32])] = &[
     (
         "_start: nop\nla a0,_start",
         &[0x00000013, 0x00000517, 0xFFC50513],
@@ -100,7 +111,6 @@ const WORDS: &[(&str, &[u32])] = &[
         "ra: nop\n_start: jal ra\nj _start-4\nj ra+4\nadd: j add--4",
         &[0x00000013, 0xFFDFF0EF, 0xFF9FF06F, 0xFF9FF06F, 0x0040006F],
     ),
-    // Programs.
     (TEXT_AND_DATA, &[0x00001517, 0x00050513, 0x00000073]),
     (
         FIRST_PROGRAM,
@@ -165,6 +175,10 @@ const FAULTS: &[(&str, Cause, usize, usize)] = &[
     ),
     ("_start: beq a0,a1,-4100", Range, 1, 19),
     ("_start: jal ra,1048576", Range, 1, 16),
+];
+
+/// Further ones: programs with no start, and lines with no form.
+const FORM_FAULTS: &[(&str, Cause, usize, usize)] = &[
     ("", NoStart, 1, 1),
     ("_start:", NoStart, 1, 1),
     ("nop\n.data\n_start: nop", NoStart, 1, 1),
@@ -183,6 +197,10 @@ const FAULTS: &[(&str, Cause, usize, usize)] = &[
     ("_start: j _start + 4", Syntax, 1, 18),
     ("_start: j _start+ 4", Syntax, 1, 19),
     ("_start: la a0,_start+4", Syntax, 1, 21),
+];
+
+/// Further ones: second labels, sizes and ranges.
+const SIZE_FAULTS: &[(&str, Cause, usize, usize)] = &[
     ("_start: nop\n\n_start: foo", DoubleLabel, 3, 1),
     ("_start: .space 2", Range, 1, 16),
     ("_start: .space -4", Range, 1, 16),
@@ -255,11 +273,48 @@ fn assert_words(rt: &impl Abort, alloc: Global, source: &str, words: &[u32]) {
     }
 }
 
+/// Loads of a number, and the ends of branches and jumps.
+fn assert_numbers(rt: &(impl Abort + AllocGlobal)) {
+    for &(source, words) in NUMBERS {
+        assert_words(rt, rt.alloc(), source, words);
+    }
+}
+
+/// Pseudo-instructions that compute and branch.
+fn assert_pseudo(rt: &(impl Abort + AllocGlobal)) {
+    for &(source, words) in PSEUDO {
+        assert_words(rt, rt.alloc(), source, words);
+    }
+}
+
+/// Pseudo-instructions of two registers, and jumps.
+fn assert_jumps(rt: &(impl Abort + AllocGlobal)) {
+    for &(source, words) in JUMPS {
+        assert_words(rt, rt.alloc(), source, words);
+    }
+}
+
+/// Instructions.
+fn assert_instructions(rt: &(impl Abort + AllocGlobal)) {
+    for &(source, words) in INSTRUCTIONS {
+        assert_words(rt, rt.alloc(), source, words);
+    }
+}
+
+/// Labels, and whole programs.
+fn assert_programs(rt: &(impl Abort + AllocGlobal)) {
+    for &(source, words) in PROGRAMS {
+        assert_words(rt, rt.alloc(), source, words);
+    }
+}
+
 #[test]
 fn words(rt: HostRuntime) {
-    for &(source, words) in WORDS {
-        assert_words(&rt, rt.alloc(), source, words);
-    }
+    assert_numbers(&rt);
+    assert_pseudo(&rt);
+    assert_jumps(&rt);
+    assert_instructions(&rt);
+    assert_programs(&rt);
 }
 
 #[test]
@@ -292,36 +347,79 @@ fn files(rt: HostRuntime) -> Result<(), AsmFault> {
     Ok(())
 }
 
+/// A source is refused for this cause, at this line and column.
+fn assert_fault(
+    rt: &(impl Abort + AllocGlobal),
+    source: &str,
+    why: Cause,
+    line: usize,
+    column: usize,
+) {
+    let fault = AsmFault { why, line, column };
+    assert_row(rt, source, fault_of(rt.alloc(), source), Some(fault));
+}
+
+/// Faults of several kinds.
+fn assert_faults(rt: &(impl Abort + AllocGlobal)) {
+    for &(source, why, line, column) in FAULTS {
+        assert_fault(rt, source, why, line, column);
+    }
+}
+
+/// Programs with no start, and lines with no form.
+fn assert_form_faults(rt: &(impl Abort + AllocGlobal)) {
+    for &(source, why, line, column) in FORM_FAULTS {
+        assert_fault(rt, source, why, line, column);
+    }
+}
+
+/// Second labels, sizes and ranges.
+fn assert_size_faults(rt: &(impl Abort + AllocGlobal)) {
+    for &(source, why, line, column) in SIZE_FAULTS {
+        assert_fault(rt, source, why, line, column);
+    }
+}
+
 #[test]
 fn faults(rt: HostRuntime) {
-    for &(source, why, line, column) in FAULTS {
-        let fault = AsmFault { why, line, column };
-        assert_row(&rt, source, fault_of(rt.alloc(), source), Some(fault));
+    assert_faults(&rt);
+    assert_form_faults(&rt);
+    assert_size_faults(&rt);
+}
+
+/// Appends 3,000 branches, each to itself.
+fn push_branches(source: &mut String) -> Result<(), AllocError> {
+    for number in 0..3000u32 {
+        write!(source, "label_{number}: beqz a0,label_{number}\n")?;
     }
+    Ok(())
 }
 
 /// Appends a source of 3,001 words of text and 6,000 bytes of data.
 fn push_thousands(source: &mut String) -> Result<(), AllocError> {
     source.push_str("_start: nop\n")?;
-    for number in 0..3000u32 {
-        write!(source, "label_{number}: beqz a0,label_{number}\n")?;
-    }
+    push_branches(source)?;
     push_repeated(source, (".data\n", ".byte 1,2\n", 3000, ""))
+}
+
+/// The last word and the data of the source of thousands of lines.
+fn assert_thousands(rt: &(impl Abort + AllocGlobal), source: &str) {
+    let last = Row {
+        address: 0x12EE0,
+        word: 0x00050063,
+        line: 3001,
+    };
+    let text = row_of(rt.alloc(), source, 3000);
+    assert_row(rt, "text", text, Ok((3001, Some(last))));
+    let data = image_of(rt.alloc(), source);
+    assert_row(rt, "data", data, Ok((0x10000, 2, 0x13000, 6000)));
 }
 
 #[test]
 fn thousands_of_lines(rt: HostRuntime) -> Result<(), AllocError> {
     let mut source = String::new(rt.alloc());
     push_thousands(&mut source)?;
-    let last = Row {
-        address: 0x12EE0,
-        word: 0x00050063,
-        line: 3001,
-    };
-    let text = row_of(rt.alloc(), &source, 3000);
-    assert_row(&rt, "text", text, Ok((3001, Some(last))));
-    let data = image_of(rt.alloc(), &source);
-    assert_row(&rt, "data", data, Ok((0x10000, 2, 0x13000, 6000)));
+    assert_thousands(&rt, &source);
     Ok(())
 }
 
@@ -332,20 +430,34 @@ fn push_longest(source: &mut String) -> Result<(), AllocError> {
     push_repeated(source, ("_start: ecall\n#", dots, 16383, end))
 }
 
-#[test]
-fn long_sources(rt: HostRuntime) -> Result<(), AllocError> {
-    let mut source = String::new(rt.alloc());
-    push_longest(&mut source)?;
-    assert_row(&rt, "length", source.len(), 1_048_576);
-    let word = word_of(rt.alloc(), &source, 0);
-    assert_row(&rt, "word", word, Ok((1, Some(0x00000073))));
-    source.push_str(".")?;
-    let fault = fault_of(rt.alloc(), &source);
+/// The longest source has one word.
+fn assert_longest(rt: &(impl Abort + AllocGlobal), source: &str) {
+    assert_row(rt, "length", source.len(), 1_048_576);
+    let word = word_of(rt.alloc(), source, 0);
+    assert_row(rt, "word", word, Ok((1, Some(0x00000073))));
+}
+
+/// A source of one byte more is refused.
+fn assert_too_long(rt: &(impl Abort + AllocGlobal), source: &str) {
     let wanted = AsmFault {
         why: TooLarge,
         line: 1,
         column: 1,
     };
-    assert_row(&rt, "one byte more", fault, Some(wanted));
+    assert_row(
+        rt,
+        "one byte more",
+        fault_of(rt.alloc(), source),
+        Some(wanted),
+    );
+}
+
+#[test]
+fn long_sources(rt: HostRuntime) -> Result<(), AllocError> {
+    let mut source = String::new(rt.alloc());
+    push_longest(&mut source)?;
+    assert_longest(&rt, &source);
+    source.push_str(".")?;
+    assert_too_long(&rt, &source);
     Ok(())
 }

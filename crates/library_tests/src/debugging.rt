@@ -1,4 +1,6 @@
 //! A machine that goes along a trace and back.
+ghost use Rattle.std.specs.Prelude.{◌<◌, ◌≤◌, length};
+
 use crate::asserting::assert_row;
 use byte_list::Bytes;
 use debugger::{DebugFault, Debugger, Stepped, Stopped};
@@ -52,109 +54,139 @@ fn state_of(debugger: &Debugger) -> State {
     (machine.count(), machine.pc(), machine.reg(Reg::new(10)))
 }
 
-/// A reply of no bytes.
-fn reply_of(alloc: Global, a0: u32) -> Reply {
-    Reply {
-        a0,
-        at: 0,
-        bytes: Bytes::empty(alloc),
+/// Replies with these numbers and no bytes.
+fn replies_of(alloc: Global, numbers: &[u32]) -> Result<Vec<Reply>, AllocError> {
+    let mut replies = Vec::new(alloc);
+    for &a0 in numbers {
+        let bytes = Bytes::empty(alloc);
+        replies.push(Reply { a0, at: 0, bytes })?;
     }
+    Ok(replies)
+}
+
+/// A program of words, with the replies to its first calls.
+fn program(alloc: Global, words: &[u32], replies: Vec<Reply>) -> Result<Debugger, DebugFault>
+    requires some { 0 < length words.now }
+    requires fits { length words.now ≤ 61440 }
+{
+    let image = Image::from_text(alloc, words)?;
+    Debugger::new(alloc, image, replies)
 }
 
 /// The program that writes, with the replies to its first three calls.
 fn writer(alloc: Global) -> Result<Debugger, DebugFault> {
-    let image = Image::from_text(alloc, &WRITER)?;
-    let replies = vec![in alloc; reply_of(alloc, 2), reply_of(alloc, 3), reply_of(alloc, 1)]?;
-    Debugger::new(alloc, image, replies)
+    program(alloc, &WRITER, replies_of(alloc, &[2, 3, 1])?)
 }
 
 /// The loop, after so many instructions.
 fn looped(alloc: Global, count: u64) -> Result<Debugger, DebugFault> {
-    let image = Image::from_text(alloc, &LOOP)?;
-    let mut debugger = Debugger::new(alloc, image, Vec::new(alloc))?;
+    let mut debugger = program(alloc, &LOOP, Vec::new(alloc))?;
     debugger.run_to_break(count)?;
     Ok(debugger)
 }
 
-/// A program of one word.
-fn one_word(alloc: Global, word: u32, replies: Vec<Reply>) -> Result<Debugger, DebugFault> {
-    let image = Image::from_text(alloc, &[word])?;
-    Debugger::new(alloc, image, replies)
+/// Where a machine stands.
+fn assert_state(rt: &impl Abort, row: &str, debugger: &Debugger, wanted: State) {
+    assert_row(rt, row, state_of(debugger), wanted);
+}
+
+/// After how many instructions a machine stands.
+fn assert_count(rt: &impl Abort, debugger: &Debugger, wanted: u64) {
+    assert_row(rt, wanted, state_of(debugger).0, wanted);
+}
+
+/// What a step comes to.
+fn assert_step(
+    rt: &impl Abort,
+    row: &str,
+    debugger: &mut Debugger,
+    wanted: Result<Stepped, DebugFault>,
+) {
+    assert_row(rt, row, debugger.step(), wanted);
+}
+
+/// What a rewind comes to.
+fn assert_rewind(
+    rt: &impl Abort,
+    debugger: &mut Debugger,
+    count: u64,
+    wanted: Result<(), DebugFault>,
+) {
+    assert_row(rt, count, debugger.rewind(count), wanted);
+}
+
+/// Where a run of at most so many instructions stops.
+fn assert_run(rt: &impl Abort, row: &str, debugger: &mut Debugger, most: u64, wanted: Stopped) {
+    assert_row(rt, row, debugger.run_to_break(most), Ok(wanted));
+}
+
+/// The trace of the program that writes ends after 18 instructions, and nothing goes past it.
+fn assert_end(rt: &impl Abort, debugger: &mut Debugger) {
+    assert_state(rt, "first", debugger, (0, ENTRY, 0));
+    assert_run(rt, "run", debugger, 100, Stopped::EndOfTrace);
+    assert_state(rt, "end", debugger, (18, 0x0001_0048, 0));
+    assert_step(rt, "step", debugger, Err(DebugFault::PastTrace));
+    assert_rewind(rt, debugger, 19, Err(DebugFault::PastTrace));
+    assert_state(rt, "still", debugger, (18, 0x0001_0048, 0));
+}
+
+/// Its first call stands between the instructions 6 and 7.
+fn assert_first_call(rt: &impl Abort, debugger: &mut Debugger) {
+    assert_rewind(rt, debugger, 7, Ok(()));
+    assert_state(rt, "after the call", debugger, (7, 0x0001_001c, 2));
+    assert_rewind(rt, debugger, 6, Ok(()));
+    let before = (6, 0x0001_0018, 0x7fff_fffc);
+    assert_state(rt, "before the call", debugger, before);
+    assert_step(rt, "over the call", debugger, Ok(Stepped::Went));
+    assert_state(rt, "again", debugger, (7, 0x0001_001c, 2));
 }
 
 #[test]
 fn goes_to_the_end_of_the_trace(rt: HostRuntime) -> Result<(), Fail> {
     let mut debugger = writer(rt.alloc())?;
-    assert_row(&rt, "first", state_of(&debugger), (0, ENTRY, 0));
-    let stopped = debugger.run_to_break(100);
-    assert_row(&rt, "run", stopped, Ok(Stopped::EndOfTrace));
-    assert_row(&rt, "end", state_of(&debugger), (18, 0x0001_0048, 0));
-    assert_row(&rt, "step", debugger.step(), Err(DebugFault::PastTrace));
-    assert_row(
-        &rt,
-        "above",
-        debugger.rewind(19),
-        Err(DebugFault::PastTrace),
-    );
-    assert_row(&rt, "still", state_of(&debugger), (18, 0x0001_0048, 0));
-    assert_row(&rt, "after the call", debugger.rewind(7), Ok(()));
-    assert_row(&rt, "seven", state_of(&debugger), (7, 0x0001_001c, 2));
-    assert_row(&rt, "before the call", debugger.rewind(6), Ok(()));
-    assert_row(
-        &rt,
-        "six",
-        state_of(&debugger),
-        (6, 0x0001_0018, 0x7fff_fffc),
-    );
-    assert_row(&rt, "over the call", debugger.step(), Ok(Stepped::Went));
-    assert_row(&rt, "again", state_of(&debugger), (7, 0x0001_001c, 2));
+    assert_end(&rt, &mut debugger);
+    assert_first_call(&rt, &mut debugger);
+    Ok(())
+}
+
+/// Three breakpoints get the numbers 0 to 2: one that is far, and two at the first call.
+fn set_three(rt: &impl Abort, debugger: &mut Debugger) -> Result<(), DebugFault> {
+    let far = debugger.break_at(0x0001_0040)?;
+    let call = debugger.break_at(0x0001_0018)?;
+    let same = debugger.break_at(0x0001_0018)?;
+    assert_row(rt, "numbers", (far, call, same), (0, 1, 2));
+    Ok(())
+}
+
+/// Runs stop at the second breakpoint, and at the first once the second is cleared.
+fn clear_two(rt: &impl Abort, debugger: &mut Debugger) -> Result<(), DebugFault> {
+    assert_run(rt, "call", debugger, 100, Stopped::Break(1));
+    assert_count(rt, debugger, 6);
+    debugger.clear(1)?;
+    assert_run(rt, "limit", debugger, 10, Stopped::Break(0));
+    assert_count(rt, debugger, 16);
+    debugger.clear(0)?;
+    let freed = debugger.clear(0);
+    assert_row(rt, "freed", freed, Err(DebugFault::NoSuchBreak));
+    Ok(())
+}
+
+/// Of the three only the last one is left.
+fn assert_third(rt: &impl Abort, debugger: &mut Debugger) -> Result<(), DebugFault> {
+    debugger.rewind(0)?;
+    assert_run(rt, "the other", debugger, 100, Stopped::Break(2));
+    assert_run(rt, "away from it", debugger, 3, Stopped::Limit);
+    assert_run(rt, "none", debugger, 0, Stopped::Limit);
+    assert_count(rt, debugger, 9);
     Ok(())
 }
 
 #[test]
 fn stops_at_breakpoints(rt: HostRuntime) -> Result<(), Fail> {
     let mut debugger = writer(rt.alloc())?;
-    let far = debugger.break_at(0x0001_0040)?;
-    let call = debugger.break_at(0x0001_0018)?;
-    let same = debugger.break_at(0x0001_0018)?;
-    assert_row(&rt, "numbers", (far, call, same), (0, 1, 2));
-    assert_row(
-        &rt,
-        "call",
-        debugger.run_to_break(100),
-        Ok(Stopped::Break(1)),
-    );
-    assert_row(&rt, "six", state_of(&debugger).0, 6);
-    debugger.clear(call)?;
-    assert_row(
-        &rt,
-        "limit",
-        debugger.run_to_break(10),
-        Ok(Stopped::Break(0)),
-    );
-    assert_row(&rt, "sixteen", state_of(&debugger).0, 16);
-    debugger.clear(far)?;
-    assert_row(
-        &rt,
-        "freed",
-        debugger.clear(far),
-        Err(DebugFault::NoSuchBreak),
-    );
-    debugger.rewind(0)?;
-    assert_row(
-        &rt,
-        "the other",
-        debugger.run_to_break(100),
-        Ok(Stopped::Break(2)),
-    );
-    assert_row(
-        &rt,
-        "away from it",
-        debugger.run_to_break(3),
-        Ok(Stopped::Limit),
-    );
-    assert_row(&rt, "none", debugger.run_to_break(0), Ok(Stopped::Limit));
-    assert_row(&rt, "nine", state_of(&debugger).0, 9);
+    set_three(&rt, &mut debugger)?;
+    clear_two(&rt, &mut debugger)?;
+    assert_third(&rt, &mut debugger)?;
     Ok(())
 }
 
@@ -166,19 +198,21 @@ fn one_too_many(debugger: &mut Debugger) -> Result<usize, DebugFault> {
     debugger.break_at(ENTRY)
 }
 
+/// There is room for 64 breakpoints, and again for one that is cleared.
+fn assert_room(rt: &impl Abort, debugger: &mut Debugger) -> Result<(), DebugFault> {
+    let full = one_too_many(debugger);
+    assert_row(rt, "full", full, Err(DebugFault::BreakTableFull));
+    debugger.clear(7)?;
+    assert_row(rt, "free", debugger.break_at(ENTRY), Ok(7));
+    let none = debugger.clear(64);
+    assert_row(rt, "none", none, Err(DebugFault::NoSuchBreak));
+    Ok(())
+}
+
 #[test]
 fn has_room_for_64_breakpoints(rt: HostRuntime) -> Result<(), Fail> {
     let mut debugger = looped(rt.alloc(), 0)?;
-    let full = one_too_many(&mut debugger);
-    assert_row(&rt, "full", full, Err(DebugFault::BreakTableFull));
-    debugger.clear(7)?;
-    assert_row(&rt, "free", debugger.break_at(ENTRY), Ok(7));
-    assert_row(
-        &rt,
-        "none",
-        debugger.clear(64),
-        Err(DebugFault::NoSuchBreak),
-    );
+    assert_room(&rt, &mut debugger)?;
     Ok(())
 }
 
@@ -195,57 +229,59 @@ fn is_same(alloc: Global, debugger: &Debugger, count: u64) -> Result<bool, Debug
     Ok(debugger.state().is_same(other.state()))
 }
 
-#[test]
-fn goes_back(rt: HostRuntime) -> Result<(), Fail> {
-    let mut debugger = looped(rt.alloc(), 5000)?;
-    assert_row(&rt, "5000", state_of(&debugger).0, 5000);
-    assert_row(
-        &rt,
-        "before any",
-        seen(&debugger, WRITTEN),
-        (Some(0xe2), 0x8000_0000, 0),
-    );
+/// The byte that the loop wrote, the stack pointer, and the count to which rewinds add.
+fn assert_seen(rt: &impl Abort, debugger: &Debugger, wanted: (Option<u8>, u32, u64)) {
+    assert_row(rt, "seen", seen(debugger, WRITTEN), wanted);
+}
+
+/// A machine is the same as one that went on to there.
+fn assert_same(rt: &(impl Abort + AllocGlobal), debugger: &Debugger, count: u64) {
+    assert_row(rt, count, is_same(rt.alloc(), debugger, count), Ok(true));
+}
+
+/// The loop goes back from 5,000 instructions to 2,047.
+fn go_back(rt: &(impl Abort + AllocGlobal), debugger: &mut Debugger) -> Result<(), DebugFault> {
+    assert_count(rt, debugger, 5000);
+    assert_seen(rt, debugger, (Some(0xe2), 0x8000_0000, 0));
     debugger.rewind(2047)?;
-    assert_row(&rt, "2047", state_of(&debugger).0, 2047);
-    assert_row(&rt, "again", debugger.reran(), 1023);
-    assert_row(
-        &rt,
-        "the same",
-        is_same(rt.alloc(), &debugger, 2047),
-        Ok(true),
-    );
+    assert_count(rt, debugger, 2047);
+    assert_row(rt, "again", debugger.reran(), 1023);
+    assert_same(rt, debugger, 2047);
+    Ok(())
+}
+
+/// It goes back to its first state, and on to 3,000 instructions.
+fn go_on(rt: &(impl Abort + AllocGlobal), debugger: &mut Debugger) -> Result<(), DebugFault> {
     debugger.rewind(0)?;
-    assert_row(&rt, "0", state_of(&debugger), (0, ENTRY, 0));
-    assert_row(
-        &rt,
-        "first",
-        seen(&debugger, WRITTEN),
-        (Some(0), 0x8000_0000, 0),
-    );
-    assert_row(
-        &rt,
-        "forwards",
-        debugger.run_to_break(3000),
-        Ok(Stopped::Limit),
-    );
-    assert_row(
-        &rt,
-        "the same again",
-        is_same(rt.alloc(), &debugger, 3000),
-        Ok(true),
-    );
+    assert_state(rt, "0", debugger, (0, ENTRY, 0));
+    assert_seen(rt, debugger, (Some(0), 0x8000_0000, 0));
+    assert_run(rt, "forwards", debugger, 3000, Stopped::Limit);
+    assert_same(rt, debugger, 3000);
     Ok(())
 }
 
 #[test]
+fn goes_back(rt: HostRuntime) -> Result<(), Fail> {
+    let mut debugger = looped(rt.alloc(), 5000)?;
+    go_back(&rt, &mut debugger)?;
+    go_on(&rt, &mut debugger)?;
+    Ok(())
+}
+
+/// A machine stands at a breakpoint's trap before its first instruction.
+fn assert_trap(rt: &impl Abort, debugger: &mut Debugger) {
+    let stepped = Stepped::Trap(Cause::Breakpoint);
+    assert_step(rt, "step", debugger, Ok(stepped));
+    let stopped = Stopped::Trap(Cause::Breakpoint);
+    assert_run(rt, "run", debugger, 1, stopped);
+    assert_run(rt, "none", debugger, 0, Stopped::Limit);
+    assert_count(rt, debugger, 0);
+}
+
+#[test]
 fn stands_at_a_trap(rt: HostRuntime) -> Result<(), Fail> {
-    let mut debugger = one_word(rt.alloc(), EBREAK, Vec::new(rt.alloc()))?;
-    let wanted = Stepped::Trap(Cause::Breakpoint);
-    assert_row(&rt, "step", debugger.step(), Ok(wanted));
-    let wanted = Stopped::Trap(Cause::Breakpoint);
-    assert_row(&rt, "run", debugger.run_to_break(1), Ok(wanted));
-    assert_row(&rt, "none", debugger.run_to_break(0), Ok(Stopped::Limit));
-    assert_row(&rt, "count", debugger.state().count(), 0);
+    let mut debugger = program(rt.alloc(), &[EBREAK], Vec::new(rt.alloc()))?;
+    assert_trap(&rt, &mut debugger);
     Ok(())
 }
 
@@ -256,19 +292,21 @@ fn misplaced(alloc: Global) -> Result<Vec<Reply>, AllocError> {
         at: ENTRY,
         bytes: Bytes::copy_of(alloc, &[1])?,
     };
-    Ok(vec![in alloc; reply]?)
+    let mut replies = Vec::new(alloc);
+    replies.push(reply)?;
+    Ok(replies)
+}
+
+/// A machine stands at the end of its trace before its first instruction.
+fn assert_at_end(rt: &impl Abort, debugger: &mut Debugger) {
+    assert_step(rt, "step", debugger, Err(DebugFault::PastTrace));
+    assert_run(rt, "run", debugger, 1, Stopped::EndOfTrace);
+    assert_count(rt, debugger, 0);
 }
 
 #[test]
 fn a_reply_that_may_not_be_placed_counts_as_none(rt: HostRuntime) -> Result<(), Fail> {
-    let mut debugger = one_word(rt.alloc(), ECALL, misplaced(rt.alloc())?)?;
-    assert_row(&rt, "step", debugger.step(), Err(DebugFault::PastTrace));
-    assert_row(
-        &rt,
-        "run",
-        debugger.run_to_break(1),
-        Ok(Stopped::EndOfTrace),
-    );
-    assert_row(&rt, "count", debugger.state().count(), 0);
+    let mut debugger = program(rt.alloc(), &[ECALL], misplaced(rt.alloc())?)?;
+    assert_at_end(&rt, &mut debugger);
     Ok(())
 }

@@ -31,14 +31,19 @@ fn assert_ended(rt: &impl Abort, device: &mut SimDisk) {
     assert_row(rt, "has failed", device.has_failed(), true);
 }
 
+/// Two writes come to their ends, and a third is in flight.
+fn write_three(rt: &impl Abort, device: &mut SimDisk) -> Result<(), DiskRefusal> {
+    device.submit(70, b"abc")?;
+    device.submit(64, b"de")?;
+    assert_in_flight(rt, device);
+    assert_ended(rt, device);
+    device.submit(60, b"fg")
+}
+
 /// A disk that crashed while one write was in flight, after one completed and one failed; what it refuses before is compared too.
 fn crashed(rt: &impl Abort, alloc: Global) -> Result<SimDisk, DiskRefusal> {
     let mut device = SimDisk::zero(alloc)?;
-    device.submit(70, b"abc")?;
-    device.submit(64, b"de")?;
-    assert_in_flight(rt, &mut device);
-    assert_ended(rt, &mut device);
-    device.submit(60, b"fg")?;
+    write_three(rt, &mut device)?;
     Ok(device.crash(b"123"))
 }
 

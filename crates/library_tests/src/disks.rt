@@ -7,40 +7,70 @@ use std::alloc::{AllocError, Global};
 use std::process::Abort;
 use std::test::Fail;
 
+/// Appends zeros up to each part's place, and then the part.
+fn lay_out(bytes: &mut Vec<u8>, parts: &[(usize, &[u8])]) -> Result<(), AllocError> {
+    for &(at, part) in parts {
+        bytes.resize(at, 0)?;
+        bytes.extend_from_slice(part)?;
+    }
+    Ok(())
+}
+
 /// A disk of zeros but for these bytes, each from its place on.
 fn device_of(alloc: Global, parts: &[(usize, &[u8])]) -> Result<SimDisk, DiskRefusal> {
     let mut bytes = Vec::new(alloc);
-    for (at, part) in parts {
-        bytes.resize(*at, 0)?;
-        bytes.extend_from_slice(part)?;
-    }
+    lay_out(&mut bytes, parts)?;
     bytes.resize(SIZE, 0)?;
     SimDisk::open(alloc, &bytes)
+}
+
+/// A disk whose first record has this body, with its gate open: the gate, the length and the body, and zeros after it.
+fn device_of_body(alloc: Global, body: &[u8]) -> Result<SimDisk, DiskRefusal> {
+    let length = body.len().to_le_bytes();
+    let parts = [(64, b"\x01".as_slice()), (65, &length[..4]), (69, body)];
+    device_of(alloc, &parts)
+}
+
+/// The fault of a device, if it has one.
+fn fault_of_device(alloc: Global, device: &SimDisk) -> Option<DiskFault> {
+    recover(alloc, device).err()
 }
 
 /// The fault of a disk, if it has one.
 fn fault_of(alloc: Global, parts: &[(usize, &[u8])]) -> Result<Option<DiskFault>, DiskRefusal> {
     let device = device_of(alloc, parts)?;
-    match recover(alloc, &device) {
-        Ok(_) => Ok(None),
-        Err(fault) => Ok(Some(fault)),
-    }
+    Ok(fault_of_device(alloc, &device))
 }
 
 /// An open gate, the length of this body, the body, and a closed gate.
 fn record_of(alloc: Global, body: &[u8]) -> Result<Vec<u8>, AllocError> {
     let mut record = Vec::new(alloc);
+    push_record(&mut record, body)?;
+    Ok(record)
+}
+
+/// Appends an open gate, the length of this body, the body, and a closed gate.
+fn push_record(record: &mut Vec<u8>, body: &[u8]) -> Result<(), AllocError> {
     record.push(1)?;
     record.extend_from_slice(&body.len().to_le_bytes()[..4])?;
     record.extend_from_slice(body)?;
     record.push(0)?;
-    Ok(record)
+    Ok(())
 }
 
 /// The fault of a disk whose first record has this body, with its gate open, if it has one.
 fn fault_of_body(alloc: Global, body: &[u8]) -> Result<Option<DiskFault>, DiskRefusal> {
-    let record = record_of(alloc, body)?;
-    fault_of(alloc, &[(64, &record)])
+    let device = device_of_body(alloc, body)?;
+    Ok(fault_of_device(alloc, &device))
+}
+
+/// The same of a body that is made.
+fn fault_of_made(
+    alloc: Global,
+    body: Result<Vec<u8>, AllocError>,
+) -> Result<Option<DiskFault>, DiskRefusal> {
+    let body = body?;
+    fault_of_body(alloc, &body)
 }
 
 /// The files of a disk, and its first gate that is not open.
@@ -146,15 +176,27 @@ fn bad_bodies(rt: HostRuntime) {
     }
 }
 
+/// There is one file, `f`, with these bytes.
+fn assert_f(rt: &impl Abort, files: &FileTable, bytes: &[u8]) {
+    assert_row(rt, "files", files.count(), 1);
+    assert_row(rt, "place", files.find(b"f"), Some(0));
+    assert_row(rt, "bytes", files.read(0, 0, 9), Some(bytes));
+}
+
 #[test]
 fn a_file_of_the_first_record(rt: HostRuntime) -> Result<(), Fail> {
     let record = b"\x01\x0f\0\0\0\x01\x01f\x02\0\0\0\0\0\0\x03\0A\0\0\0";
     let (files, gate) = opened(rt.alloc(), &[(64, record.as_slice())])?;
-    assert_row(&rt, "files and gate", (files.count(), gate), (1, 84));
-    assert_row(&rt, "place", files.find(b"f"), Some(0));
-    let bytes = Some(b"A\0\0".as_slice());
-    assert_row(&rt, "bytes", files.read(0, 0, 9), bytes);
+    assert_row(&rt, "gate", gate, 84);
+    assert_f(&rt, &files, b"A\0\0");
     Ok(())
+}
+
+/// There are two files, of which the second has these bytes and the first none.
+fn assert_second(rt: &impl Abort, files: &FileTable, bytes: &[u8]) {
+    assert!(rt; files.count() == 2);
+    assert_row(rt, "first", files.bytes(0), b"".as_slice());
+    assert_row(rt, "second", files.bytes(1), bytes);
 }
 
 #[test]
@@ -166,9 +208,7 @@ fn one_record_after_the_other(rt: HostRuntime) -> Result<(), Fail> {
     let parts = [(64, first), (75, second), (94, leftovers)];
     let (files, gate) = opened(rt.alloc(), &parts)?;
     assert_row(&rt, "gate", gate, 93);
-    assert!(rt; files.count() == 2);
-    assert_row(&rt, "first", files.bytes(0), b"".as_slice());
-    assert_row(&rt, "second", files.bytes(1), b"\0\0A".as_slice());
+    assert_second(&rt, &files, b"\0\0A");
     Ok(())
 }
 
@@ -210,11 +250,9 @@ fn byte_0_selects_the_half(rt: HostRuntime) -> Result<(), Fail> {
 
 /// A body of 1,048,504 bytes: a creation, 1,015 writes of 1,024 bytes, and an emptying.
 fn long_body(alloc: Global) -> Result<Vec<u8>, AllocError> {
-    let text = vec![in alloc; 7; 1024]?;
     let mut body = Vec::from_slice(alloc, b"\x01\x04full")?;
     for _ in 0..1015 {
-        body.extend_from_slice(b"\x02\0\0\0\0\0\0\0\x04")?;
-        body.extend_from_slice(&text)?;
+        push_write(&mut body, 0, &[7; 1024])?;
     }
     body.extend_from_slice(b"\x03\0\0")?;
     Ok(body)
@@ -245,18 +283,31 @@ fn fault_of_half(
     fault_of(alloc, &[(0, selector), (start, record), (next, gate)])
 }
 
+/// The record of the long body.
+fn long_record(alloc: Global) -> Result<Vec<u8>, AllocError> {
+    record_of(alloc, &long_body(alloc)?)
+}
+
+/// The long record fills a half up to the gate after it, at this place, which may not be open.
+fn assert_filled(
+    rt: &(impl Abort + AllocGlobal),
+    byte: u8,
+    start: usize,
+    record: &[u8],
+    end: u32,
+) -> Result<(), Fail> {
+    let counts = counted_of_half(rt.alloc(), byte, start, record)?;
+    assert_row(rt, start, counts, (1, end));
+    let fault = fault_of_half(rt.alloc(), byte, start, record);
+    assert_row(rt, start, fault, Ok(PAST_HALF));
+    Ok(())
+}
+
 #[test]
 fn too_few_bytes_for_a_length(rt: HostRuntime) -> Result<(), Fail> {
-    let alloc = rt.alloc();
-    let body = long_body(alloc)?;
-    let record = record_of(alloc, &body)?;
-    for (byte, start) in [(0, 64), (1, 1048576)] {
-        let (count, gate) = counted_of_half(alloc, byte, start, &record)?;
-        assert_row(&rt, start, (count, gate as usize), (1, start + 1048509));
-        let fault = fault_of_half(alloc, byte, start, &record);
-        assert_row(&rt, start, fault, Ok(PAST_HALF));
-    }
-    Ok(())
+    let record = long_record(rt.alloc())?;
+    assert_filled(&rt, 0, 64, &record, 1048573)?;
+    assert_filled(&rt, 1, 1048576, &record, 2097085)
 }
 
 /// Creations of so many files with names of one byte, from `A` on.
@@ -270,87 +321,74 @@ fn creations(alloc: Global, files: u8) -> Result<Vec<u8>, AllocError> {
 
 /// The files that the record of a body makes.
 fn files_of_body(alloc: Global, body: &[u8]) -> Result<FileTable, Fail> {
-    let record = record_of(alloc, body)?;
-    let device = device_of(alloc, &[(64, &record)])?;
+    let device = device_of_body(alloc, body)?;
     Ok(recover(alloc, &device)?)
-}
-
-/// How many files so many creations make, and the place of the file `` ` ``, the 32nd.
-fn created(alloc: Global, count: u8) -> Result<(usize, Option<usize>), Fail> {
-    let files = files_of_body(alloc, &creations(alloc, count)?)?;
-    Ok((files.count(), files.find(b"`")))
-}
-
-/// The fault of so many creations, if they have one.
-fn fault_of_creations(alloc: Global, count: u8) -> Result<Option<DiskFault>, DiskRefusal> {
-    fault_of_body(alloc, &creations(alloc, count)?)
 }
 
 #[test]
 fn as_many_files_as_there_may_be(rt: HostRuntime) -> Result<(), Fail> {
     let alloc = rt.alloc();
-    assert_row(&rt, 32, created(alloc, 32)?, (32, Some(31)));
-    assert_row(&rt, 33, fault_of_creations(alloc, 33), Ok(BAD_CHANGE));
+    let wanted = (32, Some(1), Some(2), Some(31), None);
+    assert_row(&rt, 32, changed_when_full(alloc, b"")?, wanted);
+    let fault = fault_of_made(alloc, creations(alloc, 33));
+    assert_row(&rt, 33, fault, Ok(BAD_CHANGE));
     Ok(())
+}
+
+/// Appends a write to the first file.
+fn push_write(body: &mut Vec<u8>, offset: u32, bytes: &[u8]) -> Result<(), AllocError> {
+    body.extend_from_slice(&[2, 0, 0])?;
+    body.extend_from_slice(&offset.to_le_bytes())?;
+    body.extend_from_slice(&bytes.len().to_le_bytes()[..2])?;
+    body.extend_from_slice(bytes)
 }
 
 /// A file, and writes of 1,024 bytes at each multiple of 1,024 below 16,384, and last one of a byte.
 fn long_file(alloc: Global, last: u32) -> Result<Vec<u8>, AllocError> {
     let mut body = Vec::from_slice(alloc, b"\x01\x01f")?;
     for block in 0..16u8 {
-        let text = vec![in alloc; block; 1024]?;
-        body.extend_from_slice(&[2, 0, 0])?;
-        body.extend_from_slice(&(block as u32 * 1024).to_le_bytes())?;
-        body.extend_from_slice(&[0, 4])?;
-        body.extend_from_slice(&text)?;
+        push_write(&mut body, block as u32 * 1024, &[block; 1024])?;
     }
-    body.extend_from_slice(&[2, 0, 0])?;
-    body.extend_from_slice(&last.to_le_bytes())?;
-    body.extend_from_slice(&[1, 0, 99])?;
+    push_write(&mut body, last, &[99])?;
     Ok(body)
 }
 
-/// The fault of a long file, if it has one.
-fn fault_of_long_file(alloc: Global, last: u32) -> Result<Option<DiskFault>, DiskRefusal> {
-    fault_of_body(alloc, &long_file(alloc, last)?)
+/// The long file has all its bytes.
+fn assert_long(rt: &impl Abort, files: &FileTable) {
+    assert!(rt; files.count() == 1);
+    assert_row(rt, "length", files.length(0), 16384);
+    let (last, border) = (files.read(0, 16382, 9), files.read(0, 1023, 2));
+    assert_row(rt, "last bytes", last, Some([15, 99].as_slice()));
+    assert_row(rt, "first border", border, Some([0, 1].as_slice()));
 }
 
 #[test]
 fn a_file_as_long_as_it_may_be(rt: HostRuntime) -> Result<(), Fail> {
     let files = files_of_body(rt.alloc(), &long_file(rt.alloc(), 16383)?)?;
-    assert!(rt; files.count() == 1);
-    assert_row(&rt, "length", files.length(0), 16384);
-    let (last, border) = (files.read(0, 16382, 9), files.read(0, 1023, 2));
-    assert_row(&rt, "last bytes", last, Some([15, 99].as_slice()));
-    assert_row(
-        &rt,
-        "end of the first write",
-        border,
-        Some([0, 1].as_slice()),
-    );
-    let fault = fault_of_long_file(rt.alloc(), 16384);
+    assert_long(&rt, &files);
+    let fault = fault_of_made(rt.alloc(), long_file(rt.alloc(), 16384));
     assert_row(&rt, "one byte more", fault, Ok(BAD_CHANGE));
     Ok(())
 }
 
-/// The fault of a body that ends with so many bytes of one value, if it has one.
-fn fault_of_write(
-    alloc: Global,
-    prefix: &[u8],
-    len: usize,
-) -> Result<Option<DiskFault>, DiskRefusal> {
+/// A body that ends with so many bytes of one value.
+fn long_write(alloc: Global, prefix: &[u8], len: usize) -> Result<Vec<u8>, AllocError> {
     let mut body = Vec::from_slice(alloc, prefix)?;
-    body.extend_from_slice(&vec![in alloc; 7; len]?)?;
-    fault_of_body(alloc, &body)
+    body.resize(prefix.len().saturating_add(len), 7)?;
+    Ok(body)
 }
+
+/// Bodies up to the bytes of a write, how many bytes follow, and the fault.
+const LONG_WRITES: &[(&[u8], usize, Option<DiskFault>)] = &[
+    (b"\x01\x01f\x02\0\0\0\0\0\0\0\x04", 1024, None),
+    (b"\x01\x01f\x02\0\0\0\0\0\0\x01\x04", 1025, BAD_RECORD),
+];
 
 #[test]
 fn a_write_longer_than_it_may_be(rt: HostRuntime) {
-    for (prefix, len, fault) in [
-        (b"\x01\x01f\x02\0\0\0\0\0\0\0\x04".as_slice(), 1024, None),
-        (b"\x01\x01f\x02\0\0\0\0\0\0\x01\x04", 1025, BAD_RECORD),
-    ] {
-        assert_row(&rt, len, fault_of_write(rt.alloc(), prefix, len), Ok(fault));
+    for &(prefix, len, fault) in LONG_WRITES {
+        let found = fault_of_made(rt.alloc(), long_write(rt.alloc(), prefix, len));
+        assert_row(&rt, len, found, Ok(fault));
     }
 }
 
@@ -438,9 +476,9 @@ fn assert_body(
     body: &[u8],
     wanted: &[(&[u8], &[u8])],
 ) -> Result<(), Fail> {
-    let record = record_of(rt.alloc(), body)?;
-    let (files, gate) = opened(rt.alloc(), &[(64, &record)])?;
-    assert_row(rt, row, gate as usize, record.len().saturating_add(63));
+    let device = device_of_body(rt.alloc(), body)?;
+    let (files, gate) = open(rt.alloc(), &device)?;
+    assert_row(rt, row, gate as usize, body.len().saturating_add(69));
     assert_files(rt, row, &files, wanted);
     Ok(())
 }
@@ -453,17 +491,29 @@ fn files_that_lose_their_names(rt: HostRuntime) -> Result<(), Fail> {
     Ok(())
 }
 
-/// How many files there are, and the places of `B`, `C` and `y`.
-type Places = (usize, Option<usize>, Option<usize>, Option<usize>);
+/// How many files there are, and the places of `B`, `C`, `` ` `` and `y`.
+type Places = (
+    usize,
+    Option<usize>,
+    Option<usize>,
+    Option<usize>,
+    Option<usize>,
+);
 
 /// Changes after the creations of 32 files, from `A` on, and what there is then.
 const FULL: &[(&[u8], Places)] = &[
     // `A` gets a name that none has.
-    (b"\x05\0\0\x01z", (32, Some(1), Some(2), None)),
+    (b"\x05\0\0\x01z", (32, Some(1), Some(2), Some(31), None)),
     // `A` is removed, and another file is made.
-    (b"\x04\0\0\x01\x01y", (32, Some(0), Some(1), Some(31))),
+    (
+        b"\x04\0\0\x01\x01y",
+        (32, Some(0), Some(1), Some(30), Some(31)),
+    ),
     // `A` gets the name of `B`, and another file is made.
-    (b"\x05\0\0\x01B\x01\x01y", (32, Some(0), Some(1), Some(31))),
+    (
+        b"\x05\0\0\x01B\x01\x01y",
+        (32, Some(0), Some(1), Some(30), Some(31)),
+    ),
 ];
 
 /// The creations of 32 files, from `A` on, and then these changes.
@@ -476,13 +526,9 @@ fn full_body(alloc: Global, changes: &[u8]) -> Result<Vec<u8>, AllocError> {
 /// How many files there are after these changes of 32 files, and the places of some of them.
 fn changed_when_full(alloc: Global, changes: &[u8]) -> Result<Places, Fail> {
     let files = files_of_body(alloc, &full_body(alloc, changes)?)?;
-    let (b, c, y) = (files.find(b"B"), files.find(b"C"), files.find(b"y"));
-    Ok((files.count(), b, c, y))
-}
-
-/// The fault of a disk where these changes come after the creations of 32 files, if it has one.
-fn fault_when_full(alloc: Global, changes: &[u8]) -> Result<Option<DiskFault>, DiskRefusal> {
-    fault_of_body(alloc, &full_body(alloc, changes)?)
+    let (b, c) = (files.find(b"B"), files.find(b"C"));
+    let (last, y) = (files.find(b"`"), files.find(b"y"));
+    Ok((files.count(), b, c, last, y))
 }
 
 #[test]
@@ -491,7 +537,7 @@ fn a_file_that_goes_leaves_room_for_another(rt: HostRuntime) -> Result<(), Fail>
         assert_row(&rt, row, changed_when_full(rt.alloc(), changes)?, wanted);
     }
     // A renaming to a name that no file has leaves none.
-    let fault = fault_when_full(rt.alloc(), b"\x05\0\0\x01z\x01\x01y");
+    let fault = fault_of_made(rt.alloc(), full_body(rt.alloc(), b"\x05\0\0\x01z\x01\x01y"));
     assert_row(&rt, "33", fault, Ok(BAD_CHANGE));
     Ok(())
 }
@@ -513,26 +559,30 @@ fn fault_of_two(
     first: &[u8],
     second: &[u8],
 ) -> Result<Option<DiskFault>, DiskRefusal> {
-    let mut records = Vec::from_slice(alloc, first)?;
-    records.extend_from_slice(second)?;
-    fault_of(alloc, &[(64, &records)])
+    let next = first.len().saturating_add(64);
+    fault_of(alloc, &[(64, first), (next, second)])
 }
+
+/// A record past the half, its gate open.
+const OPEN_PAST_HALF: &[u8] = b"\x01\xff\xff\xff\xff";
+
+/// A body that is no list of changes, its gate open.
+const OPEN_BAD_RECORD: &[u8] = b"\x01\x01\0\0\0\x09";
+
+/// A change that is not possible, its gate open.
+const OPEN_BAD_CHANGE: &[u8] = b"\x01\x03\0\0\0\x03\0\0";
+
+/// Two records one after the other, and the fault of the disk.
+const PAIRS: &[(&[u8], &[u8], Option<DiskFault>)] = &[
+    (OPEN_BAD_RECORD, OPEN_PAST_HALF, BAD_RECORD),
+    (OPEN_BAD_CHANGE, OPEN_PAST_HALF, BAD_CHANGE),
+    (OPEN_BAD_CHANGE, OPEN_BAD_RECORD, BAD_CHANGE),
+    (OPEN_BAD_RECORD, OPEN_BAD_CHANGE, BAD_RECORD),
+];
 
 #[test]
 fn the_first_record_with_a_fault(rt: HostRuntime) {
-    // Each with its gate open: a record past the half, a body that is no list of changes, and a change that is not possible.
-    let past_half = b"\x01\xff\xff\xff\xff".as_slice();
-    let bad_record = b"\x01\x01\0\0\0\x09".as_slice();
-    let bad_change = b"\x01\x03\0\0\0\x03\0\0".as_slice();
-    for (row, (first, second, fault)) in [
-        (bad_record, past_half, BAD_RECORD),
-        (bad_change, past_half, BAD_CHANGE),
-        (bad_change, bad_record, BAD_CHANGE),
-        (bad_record, bad_change, BAD_RECORD),
-    ]
-    .into_iter()
-    .enumerate()
-    {
+    for (row, &(first, second, fault)) in PAIRS.iter().enumerate() {
         assert_row(&rt, row, fault_of_two(rt.alloc(), first, second), Ok(fault));
     }
 }

@@ -3,6 +3,16 @@ use flat_bus::FlatBus;
 use formats::{Immediate, Instr, Reg, ShiftAmount};
 use isa_table::{Outcome, Regs, exec};
 use machine_model::Cause;
+use std::process::Abort;
+
+/// The least signed number.
+const LEAST: u32 = 0x8000_0000;
+
+/// All bits, which is -1 as a signed number.
+const ONES: u32 = 0xffff_ffff;
+
+/// What a store puts over bytes of 0x11.
+const STORED: u32 = 0x8081_8283;
 
 /// Registers with these values in x1 and x2.
 fn registers(first: u32, second: u32) -> Regs {
@@ -12,145 +22,181 @@ fn registers(first: u32, second: u32) -> Regs {
     Regs { x, pc: 0x0001_0000 }
 }
 
+/// Three registers, of which the first is written and the others are read.
+fn three() -> (Reg, Reg, Reg) {
+    (Reg::new(3), Reg::new(1), Reg::new(2))
+}
+
+/// An instruction puts this value in x3.
+fn assert_value(rt: &impl Abort, i: Instr, first: u32, second: u32, wanted: u32) {
+    let mut bus = FlatBus { bytes: [0; 64] };
+    let mut regs = registers(first, second);
+    assert_eq!(rt; exec(&mut regs, &mut bus, i), Outcome::Next);
+    let value = regs.x[3];
+    assert_eq!(rt; value, wanted, "{i:?} of {first:#x} and {second:#x}");
+}
+
+/// Divisions by zero.
+fn assert_by_zero(rt: &impl Abort) {
+    let (rd, rs1, rs2) = three();
+    assert_value(rt, Instr::Div { rd, rs1, rs2 }, LEAST, 0, ONES);
+    assert_value(rt, Instr::Rem { rd, rs1, rs2 }, LEAST, 0, LEAST);
+    assert_value(rt, Instr::Divu { rd, rs1, rs2 }, LEAST, 0, ONES);
+    assert_value(rt, Instr::Remu { rd, rs1, rs2 }, LEAST, 0, LEAST);
+}
+
+/// Divisions of the least number by -1, and of the same bits without signs.
+fn assert_by_ones(rt: &impl Abort) {
+    let (rd, rs1, rs2) = three();
+    assert_value(rt, Instr::Div { rd, rs1, rs2 }, LEAST, ONES, LEAST);
+    assert_value(rt, Instr::Rem { rd, rs1, rs2 }, LEAST, ONES, 0);
+    assert_value(rt, Instr::Divu { rd, rs1, rs2 }, LEAST, ONES, 0);
+    assert_value(rt, Instr::Remu { rd, rs1, rs2 }, LEAST, ONES, LEAST);
+}
+
+/// The higher words of products.
+fn assert_products(rt: &impl Abort) {
+    let (rd, rs1, rs2) = three();
+    assert_value(rt, Instr::Mulh { rd, rs1, rs2 }, LEAST, LEAST, 0x4000_0000);
+    assert_value(rt, Instr::Mulhsu { rd, rs1, rs2 }, ONES, ONES, ONES);
+    assert_value(rt, Instr::Mulhu { rd, rs1, rs2 }, ONES, ONES, 0xffff_fffe);
+}
+
+/// A comparison with -1 without signs, and a shift of the sign.
+fn assert_immediates(rt: &impl Abort) {
+    let (rd, rs1, _) = three();
+    let imm = Immediate::new(-1);
+    assert_value(rt, Instr::Sltiu { rd, rs1, imm }, 0, 0, 1);
+    let amount = ShiftAmount::new(31);
+    assert_value(rt, Instr::Srai { rd, rs1, amount }, LEAST, 0, ONES);
+}
+
 #[test]
 fn computes(rt: HostRuntime) {
-    let (rd, rs1, rs2) = (Reg::new(3), Reg::new(1), Reg::new(2));
-    let least = 0x8000_0000;
-    let ones = 0xffff_ffff;
-    for (i, first, second, want) in [
-        (Instr::Div { rd, rs1, rs2 }, least, 0, ones),
-        (Instr::Rem { rd, rs1, rs2 }, least, 0, least),
-        (Instr::Divu { rd, rs1, rs2 }, least, 0, ones),
-        (Instr::Remu { rd, rs1, rs2 }, least, 0, least),
-        (Instr::Div { rd, rs1, rs2 }, least, ones, least),
-        (Instr::Rem { rd, rs1, rs2 }, least, ones, 0),
-        (Instr::Divu { rd, rs1, rs2 }, least, ones, 0),
-        (Instr::Remu { rd, rs1, rs2 }, least, ones, least),
-        (Instr::Mulh { rd, rs1, rs2 }, least, least, 0x4000_0000),
-        (Instr::Mulhsu { rd, rs1, rs2 }, ones, ones, ones),
-        (Instr::Mulhu { rd, rs1, rs2 }, ones, ones, 0xffff_fffe),
-        (
-            Instr::Sltiu {
-                rd,
-                rs1,
-                imm: Immediate::new(-1),
-            },
-            0,
-            0,
-            1,
-        ),
-        (
-            Instr::Srai {
-                rd,
-                rs1,
-                amount: ShiftAmount::new(31),
-            },
-            least,
-            0,
-            ones,
-        ),
-    ] {
-        let mut bus = FlatBus { bytes: [0; 64] };
-        let mut regs = registers(first, second);
-        assert_eq!(rt; exec(&mut regs, &mut bus, i), Outcome::Next);
-        let value = regs.x[3];
-        assert_eq!(rt; value, want, "{i:?} of {first:#x} and {second:#x}");
-    }
+    assert_by_zero(&rt);
+    assert_by_ones(&rt);
+    assert_products(&rt);
+    assert_immediates(&rt);
+}
+
+/// A jump from 0x00010000 to 0x00010010 and this much further, with the link in the register that has the place, comes to this.
+fn assert_jump(rt: &impl Abort, imm: Immediate, outcome: Outcome, pc: u32, link: u32) {
+    let ra = Reg::new(1);
+    let jump = Instr::Jalr {
+        rd: ra,
+        rs1: ra,
+        imm,
+    };
+    let mut bus = FlatBus { bytes: [0; 64] };
+    let mut regs = registers(0x0001_0010, 0);
+    assert_eq!(rt; exec(&mut regs, &mut bus, jump), outcome);
+    assert_eq!(rt; regs.pc, pc);
+    let found = regs.x[1];
+    assert_eq!(rt; found, link);
 }
 
 #[test]
 fn jumps(rt: HostRuntime) {
-    let ra = Reg::new(1);
-    for (imm, outcome, pc, link) in [
-        (1, Outcome::Next, 0x0001_0010, 0x0001_0004),
-        (
-            2,
-            Outcome::Trap(Cause::MisalignedTarget),
-            0x0001_0000,
-            0x0001_0010,
-        ),
-    ] {
-        let mut bus = FlatBus { bytes: [0; 64] };
-        let jump = Instr::Jalr {
-            rd: ra,
-            rs1: ra,
-            imm: Immediate::new(imm),
-        };
-        let mut regs = registers(0x0001_0010, 0);
-        assert_eq!(rt; exec(&mut regs, &mut bus, jump), outcome);
-        let Regs { x, pc: to } = regs;
-        assert_eq!(rt; to, pc);
-        assert_eq!(rt; x[1], link);
-    }
+    let odd = Immediate::new(1);
+    assert_jump(&rt, odd, Outcome::Next, 0x0001_0010, 0x0001_0004);
+    let misaligned = Outcome::Trap(Cause::MisalignedTarget);
+    assert_jump(&rt, Immediate::new(2), misaligned, 0x0001_0000, 0x0001_0010);
+}
+
+/// An instruction at this place ends in a trap.
+fn assert_trap(rt: &impl Abort, i: Instr, at: u32, cause: Cause) {
+    let mut bus = FlatBus { bytes: [0; 64] };
+    let mut regs = registers(at, 0);
+    assert_eq!(rt; exec(&mut regs, &mut bus, i), Outcome::Trap(cause));
 }
 
 #[test]
 fn refuses(rt: HostRuntime) {
-    let (x0, rd, rs1, imm) = (Reg::new(0), Reg::new(3), Reg::new(1), Immediate::new(0));
-    for (i, at, cause) in [
-        (Instr::Lw { rd, rs1, imm }, 0x8000_0000, Cause::PageFault),
-        (
-            Instr::Lh { rd, rs1, imm },
-            0x7fff_ffff,
-            Cause::MisalignedData,
-        ),
-        (
-            Instr::Lw { rd: x0, rs1, imm },
-            0x8000_0000,
-            Cause::PageFault,
-        ),
-    ] {
-        let mut bus = FlatBus { bytes: [0; 64] };
-        let mut regs = registers(at, 0);
-        assert_eq!(rt; exec(&mut regs, &mut bus, i), Outcome::Trap(cause));
-    }
+    let (rd, rs1, _) = three();
+    let imm = Immediate::new(0);
+    assert_trap(
+        &rt,
+        Instr::Lw { rd, rs1, imm },
+        0x8000_0000,
+        Cause::PageFault,
+    );
+    let half = Instr::Lh { rd, rs1, imm };
+    assert_trap(&rt, half, 0x7fff_ffff, Cause::MisalignedData);
+    let rd = Reg::new(0);
+    assert_trap(
+        &rt,
+        Instr::Lw { rd, rs1, imm },
+        0x8000_0000,
+        Cause::PageFault,
+    );
+}
+
+/// A load gives this value after a store.
+fn assert_loaded(rt: &impl Abort, store: Instr, load: Instr, wanted: u32) {
+    let mut bus = FlatBus { bytes: [0x11; 64] };
+    let mut regs = registers(0, STORED);
+    assert_eq!(rt; exec(&mut regs, &mut bus, store), Outcome::Next);
+    assert_eq!(rt; exec(&mut regs, &mut bus, load), Outcome::Next);
+    let value = regs.x[3];
+    assert_eq!(rt; value, wanted, "{load:?} after {store:?}");
+}
+
+/// Loads after the store of a byte.
+fn assert_byte(rt: &impl Abort) {
+    let ((rd, rs1, rs2), imm) = (three(), Immediate::new(60));
+    assert_loaded(
+        rt,
+        Instr::Sb { rs1, rs2, imm },
+        Instr::Lb { rd, rs1, imm },
+        0xffff_ff83,
+    );
+    assert_loaded(
+        rt,
+        Instr::Sb { rs1, rs2, imm },
+        Instr::Lbu { rd, rs1, imm },
+        0x83,
+    );
+    assert_loaded(
+        rt,
+        Instr::Sb { rs1, rs2, imm },
+        Instr::Lw { rd, rs1, imm },
+        0x1111_1183,
+    );
+}
+
+/// Loads after the store of half a word.
+fn assert_half(rt: &impl Abort) {
+    let ((rd, rs1, rs2), imm) = (three(), Immediate::new(60));
+    assert_loaded(
+        rt,
+        Instr::Sh { rs1, rs2, imm },
+        Instr::Lh { rd, rs1, imm },
+        0xffff_8283,
+    );
+    assert_loaded(
+        rt,
+        Instr::Sh { rs1, rs2, imm },
+        Instr::Lhu { rd, rs1, imm },
+        0x8283,
+    );
+    assert_loaded(
+        rt,
+        Instr::Sh { rs1, rs2, imm },
+        Instr::Lw { rd, rs1, imm },
+        0x1111_8283,
+    );
+}
+
+/// A load after the store of a word.
+fn assert_word(rt: &impl Abort) {
+    let ((rd, rs1, rs2), imm) = (three(), Immediate::new(60));
+    let store = Instr::Sw { rs1, rs2, imm };
+    assert_loaded(rt, store, Instr::Lw { rd, rs1, imm }, STORED);
 }
 
 #[test]
 fn stores_and_loads(rt: HostRuntime) {
-    let (rd, rs1, rs2, imm) = (Reg::new(3), Reg::new(1), Reg::new(2), Immediate::new(60));
-    for (store, load, want) in [
-        (
-            Instr::Sb { rs1, rs2, imm },
-            Instr::Lb { rd, rs1, imm },
-            0xffff_ff83,
-        ),
-        (
-            Instr::Sb { rs1, rs2, imm },
-            Instr::Lbu { rd, rs1, imm },
-            0x83,
-        ),
-        (
-            Instr::Sb { rs1, rs2, imm },
-            Instr::Lw { rd, rs1, imm },
-            0x1111_1183,
-        ),
-        (
-            Instr::Sh { rs1, rs2, imm },
-            Instr::Lh { rd, rs1, imm },
-            0xffff_8283,
-        ),
-        (
-            Instr::Sh { rs1, rs2, imm },
-            Instr::Lhu { rd, rs1, imm },
-            0x8283,
-        ),
-        (
-            Instr::Sh { rs1, rs2, imm },
-            Instr::Lw { rd, rs1, imm },
-            0x1111_8283,
-        ),
-        (
-            Instr::Sw { rs1, rs2, imm },
-            Instr::Lw { rd, rs1, imm },
-            0x8081_8283,
-        ),
-    ] {
-        let mut bus = FlatBus { bytes: [0x11; 64] };
-        let mut regs = registers(0, 0x8081_8283);
-        assert_eq!(rt; exec(&mut regs, &mut bus, store), Outcome::Next);
-        assert_eq!(rt; exec(&mut regs, &mut bus, load), Outcome::Next);
-        let value = regs.x[3];
-        assert_eq!(rt; value, want, "{load:?} after {store:?}");
-    }
+    assert_byte(&rt);
+    assert_half(&rt);
+    assert_word(&rt);
 }

@@ -6,8 +6,15 @@ use files::{FileList, FileTable};
 use std::alloc::{AllocError, Global};
 use std::process::Abort;
 
-/// Writes by changes: the file, the offset and the bytes. The last one names a file that is not there.
-const CHANGES: &[(u16, u32, &[u8])] = &[(1, 2, b"ab"), (1, 3, b"cd"), (1, 0, b"xy"), (7, 0, b"no")];
+/// Two creations, and writes to the second file. The last one names a file that is not there.
+const CHANGES: &[Step] = &[
+    Step::Create(b"f"),
+    Step::Create(b"g"),
+    Step::Write(1, 2, b"ab"),
+    Step::Write(1, 3, b"cd"),
+    Step::Write(1, 0, b"xy"),
+    Step::Write(7, 0, b"no"),
+];
 
 /// Parts of the changed files: the file, the offset, the most bytes, and the bytes that are there.
 const PARTS: &[(usize, usize, usize, Option<&[u8]>)] = &[
@@ -28,49 +35,30 @@ const WRITES: &[(usize, &[u8], &[u8])] = &[
     (15, b"", b"abCDefGHIJ\0\0x\0\0"),
 ];
 
-/// Creates a file by a change.
-fn create_by_change(alloc: Global, files: &mut FileList, name: &[u8]) -> Result<(), AllocError> {
-    files.change(&Change::Create(Bytes::copy_of(alloc, name)?))
-}
-
-/// Writes bytes to a file by a change.
-fn write_by_change(
-    alloc: Global,
-    files: &mut FileList,
-    file: u16,
-    offset: u32,
-    bytes: &[u8],
-) -> Result<(), AllocError> {
-    let bytes = Bytes::copy_of(alloc, bytes)?;
-    files.change(&Change::Write {
-        file,
-        offset,
-        bytes,
-    })
-}
-
 /// The files `f` and `g`, with the bytes of `CHANGES`.
 fn changed_files(alloc: Global) -> Result<FileList, AllocError> {
     let mut files = FileList::new(alloc);
-    create_by_change(alloc, &mut files, b"f")?;
-    create_by_change(alloc, &mut files, b"g")?;
-    for &(file, offset, bytes) in CHANGES {
-        write_by_change(alloc, &mut files, file, offset, bytes)?;
+    for &step in CHANGES {
+        files.change(&change_of(alloc, step)?)?;
     }
     Ok(files)
+}
+
+/// The parts of the changed files are found.
+fn assert_parts(rt: &impl Abort, files: &FileList) {
+    for (row, &(file, offset, n, bytes)) in PARTS.iter().enumerate() {
+        assert_row(rt, row, files.read(file, offset, n), bytes);
+    }
 }
 
 /// The names and the bytes of the changed files are found.
 fn assert_changed(rt: &impl Abort, files: &FileList) {
     assert!(rt; files.count() == 2);
-    for (row, &(file, offset, n, bytes)) in PARTS.iter().enumerate() {
-        assert_row(rt, row, files.read(file, offset, n), bytes);
-    }
-    let places = (files.find(b"g"), files.find(b"h"));
-    assert_row(rt, "places", places, (Some(1), None));
-    let held = (files.name(0), files.bytes(1));
-    let wanted = (b"f".as_slice(), b"xyacd".as_slice());
-    assert_row(rt, "name and bytes", held, wanted);
+    assert_parts(rt, files);
+    assert_row(rt, "place", files.find(b"g"), Some(1));
+    assert_row(rt, "no place", files.find(b"h"), None);
+    assert_row(rt, "name", files.name(0), b"f".as_slice());
+    assert_row(rt, "bytes", files.bytes(1), b"xyacd".as_slice());
 }
 
 /// The second of two files is emptied by a change, written past its end, and emptied again.
@@ -191,6 +179,11 @@ const STEPS: &[(Step, &[(u64, &[u8], &[u8])])] = &[
     (Step::Empty(0), &[(5, b"a", b"")]),
 ];
 
+/// The changes, in order.
+fn steps() -> &'static [(Step, &'static [(u64, &'static [u8], &'static [u8])])] {
+    STEPS
+}
+
 /// The change of a row.
 fn change_of(alloc: Global, step: Step) -> Result<Change, AllocError> {
     match step {
@@ -222,7 +215,7 @@ fn assert_listed(rt: &impl Abort, row: usize, files: &FileList, living: &[(u64, 
 #[test]
 fn changes_go_by_places(rt: HostRuntime) -> Result<(), AllocError> {
     let mut files = FileList::new(rt.alloc());
-    for (row, &(step, living)) in STEPS.iter().enumerate() {
+    for (row, &(step, living)) in steps().iter().enumerate() {
         files.change(&change_of(rt.alloc(), step)?)?;
         assert_listed(&rt, row, &files, living);
         assert_listed(&rt, row, &files.try_clone()?, living);
@@ -273,34 +266,78 @@ fn do_by_change(
     files.change(&change)
 }
 
+/// Creates a file by the call for it.
+fn create(
+    rt: &(impl Abort + AllocGlobal),
+    files: &mut FileTable,
+    name: &[u8],
+) -> Result<(), AllocError> {
+    assert!(rt; files.made() < 100);
+    files.create(Bytes::copy_of(rt.alloc(), name)?)
+}
+
+/// Writes to a file by the call for it, if it is there.
+fn write_there(
+    files: &mut FileTable,
+    place: usize,
+    offset: usize,
+    bytes: &[u8],
+) -> Result<(), AllocError> {
+    if place < files.count() {
+        files.write(place, offset, bytes)?;
+    }
+    Ok(())
+}
+
+/// Empties a file by the call for it, if it is there.
+fn empty_there(files: &mut FileTable, place: usize) {
+    if place < files.count() {
+        files.empty(place);
+    }
+}
+
+/// Removes a file by the call for it, if it is there.
+fn unlink_there(files: &mut FileTable, place: usize) {
+    if place < files.count() {
+        files.unlink(place);
+    }
+}
+
+/// Gives a file a name by the call for it, if it is there.
+fn rename_there(
+    alloc: Global,
+    files: &mut FileTable,
+    place: usize,
+    name: &[u8],
+) -> Result<(), AllocError> {
+    let name = Bytes::copy_of(alloc, name)?;
+    if place < files.count() {
+        files.rename(place, name);
+    }
+    Ok(())
+}
+
 /// Does the step of a row by the call for it, where the file that it names is there.
 fn do_by_call(
     rt: &(impl Abort + AllocGlobal),
     files: &mut FileTable,
     step: Step,
 ) -> Result<(), AllocError> {
-    let alloc = rt.alloc();
-    let count = files.count();
-    assert!(rt; files.made() < 100);
     match step {
-        Step::Create(name) => files.create(Bytes::copy_of(alloc, name)?),
-        Step::Write(file, offset, bytes) if usize::from(file) < count => {
-            files.write(usize::from(file), offset as usize, bytes)
+        Step::Create(name) => create(rt, files, name),
+        Step::Write(file, offset, bytes) => {
+            write_there(files, usize::from(file), offset as usize, bytes)
         }
-        Step::Empty(file) if usize::from(file) < count => Ok(files.empty(usize::from(file))),
-        Step::Remove(file) if usize::from(file) < count => Ok(files.unlink(usize::from(file))),
-        Step::Rename(file, name) if usize::from(file) < count => {
-            let name = Bytes::copy_of(alloc, name)?;
-            Ok(files.rename(usize::from(file), name))
-        }
-        _ => Ok(()),
+        Step::Empty(file) => Ok(empty_there(files, usize::from(file))),
+        Step::Remove(file) => Ok(unlink_there(files, usize::from(file))),
+        Step::Rename(file, name) => rename_there(rt.alloc(), files, usize::from(file), name),
     }
 }
 
 #[test]
 fn numbers_stay_where_places_move(rt: HostRuntime) -> Result<(), AllocError> {
     let mut changed = FileTable::new(rt.alloc());
-    for (row, &(step, living)) in STEPS.iter().enumerate() {
+    for (row, &(step, living)) in steps().iter().enumerate() {
         do_by_change(&rt, &mut changed, step)?;
         assert_living(&rt, row, &changed, living);
         assert_living(&rt, row, &changed.try_clone()?, living);
@@ -312,7 +349,7 @@ fn numbers_stay_where_places_move(rt: HostRuntime) -> Result<(), AllocError> {
 #[test]
 fn calls_of_a_table_are_its_changes(rt: HostRuntime) -> Result<(), AllocError> {
     let mut called = FileTable::new(rt.alloc());
-    for (row, &(step, living)) in STEPS.iter().enumerate() {
+    for (row, &(step, living)) in steps().iter().enumerate() {
         do_by_call(&rt, &mut called, step)?;
         assert_living(&rt, row, &called, living);
     }

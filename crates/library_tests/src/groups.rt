@@ -55,8 +55,23 @@ fn files_of(alloc: Global, changes: &[Change]) -> Result<FileTable, AllocError>
     FileTable::numbered(alloc, files)
 }
 
-/// A committer commits a group of two changes by its record and then its gate, and the next group's first write fails.
-fn assert_groups(
+/// A committer cuts a group of two changes, which is a record and a gate.
+fn assert_cut(
+    rt: &impl Abort,
+    alloc: Global,
+    committer: &mut Committer,
+    changes: &[Change],
+    files: &FileTable,
+)
+    requires possible { IsMade files.now.living }
+    requires formed { AllByRecursion IsFormed changes.now }
+{
+    let cut = committer.cut(alloc, changes, files);
+    assert_row(rt, "cut", cut, Ok((2, 2)));
+}
+
+/// A committer cuts a first group of two changes, and no other one while it is in flight.
+fn assert_first(
     rt: &impl Abort,
     alloc: Global,
     committer: &mut Committer,
@@ -69,22 +84,44 @@ fn assert_groups(
     assert_row(rt, "wanted", committer.wants_cut(true), true);
     let nothing = committer.cut(alloc, &[], files);
     assert_row(rt, "nothing", nothing, Err(NothingToCut));
-    let cut = committer.cut(alloc, changes, files);
-    assert_row(rt, "first cut", cut, Ok((2, 2)));
+    assert_cut(rt, alloc, committer, changes, files);
     let again = committer.may_cut(changes);
     assert_row(rt, "in flight", again, Err(GroupInFlight));
+}
+
+/// The group is committed by its record and then its gate.
+fn assert_committed(rt: &impl Abort, committer: &mut Committer) {
     assert_row(rt, "early", committer.completed(64), Err(NoSuchWrite));
     let flight = (committer.in_flight(), committer.is_in_flight(65));
     assert_row(rt, "places", flight, (Some(65), true));
     assert_row(rt, "record", committer.completed(65), Ok(0));
     assert_row(rt, "gate", committer.completed(64), Ok(2));
     assert_row(rt, "committed", committer.committed(), 2);
-    let cut = committer.cut(alloc, changes, files);
-    assert_row(rt, "next cut", cut, Ok((2, 2)));
+}
+
+/// The next group's first write fails, and no other group is cut.
+fn assert_failed(rt: &impl Abort, committer: &mut Committer, changes: &[Change]) {
     let failed = (committer.failed(85), committer.has_failed());
     assert_row(rt, "failed", failed, (Ok(()), true));
     let again = committer.may_cut(changes);
     assert_row(rt, "after it", again, Err(DiskFailed));
+}
+
+/// A committer commits a group of two changes by its record and then its gate, and the next group's first write fails.
+fn assert_groups(
+    rt: &impl Abort,
+    alloc: Global,
+    committer: &mut Committer,
+    changes: &[Change],
+    files: &FileTable,
+)
+    requires possible { IsMade files.now.living }
+    requires formed { AllByRecursion IsFormed changes.now }
+{
+    assert_first(rt, alloc, committer, changes, files);
+    assert_committed(rt, committer);
+    assert_cut(rt, alloc, committer, changes, files);
+    assert_failed(rt, committer, changes);
 }
 
 #[test]

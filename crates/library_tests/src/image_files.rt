@@ -3,8 +3,9 @@ ghost use Rattle.std.specs.Prelude.{◌≡◌, IfOk, length};
 
 use crate::asserting::{assert_row, assert_shown};
 use elf32::{ElfFault, parse, write};
-use machine_model::{Image, Rights};
+use machine_model::{Image, Rights, Segment};
 use std::alloc::{AllocError, Global};
+use std::process::Abort;
 
 const ECALL: u32 = 0x0000_0073;
 
@@ -63,6 +64,10 @@ const FAULTS: &[(usize, &[(usize, u8)], u8)] = &[
     (4101, &[(24, 2)], 12),
     (4101, &[(24, 4)], 12),
     (4101, &[(76, 4)], 12),
+];
+
+/// Further ones: addresses, the most pages, and faults one after the other.
+const FAULTS_IN_TURN: &[(usize, &[(usize, u8)], u8)] = &[
     // The physical address says nothing.
     (4101, &[(66, 0x44)], 0),
     // No memory.
@@ -124,14 +129,12 @@ fn small_file(alloc: Global) -> Result<Vec<u8>, AllocError> {
     write(alloc, &image)
 }
 
-/// Whether this is the file of the program that is one ECALL.
+/// Whether this is the file of the program that is one ECALL, with zeros between its headers and its first page.
 pub fn is_one_call(file: &[u8]) -> bool {
-    for byte in file.iter().skip(84).take(4012) {
-        if *byte != 0 {
-            return false;
-        }
-    }
-    file.len() == 4100 && file.starts_with(&HEADERS) && file.ends_with(&[0x73, 0, 0, 0])
+    file.len() == 4100
+        && file.starts_with(&HEADERS)
+        && file[84..].starts_with(&[0; 4012])
+        && file.ends_with(&[0x73, 0, 0, 0])
 }
 
 /// Sets bytes at their places, where the file has them.
@@ -145,8 +148,8 @@ fn set(file: &mut [u8], bytes: &[(usize, u8)]) {
 
 /// Sets the bytes from a place on, where the file has them.
 fn set_run(file: &mut [u8], from: usize, bytes: &[u8]) {
-    for (at, byte) in file.iter_mut().skip(from).zip(bytes) {
-        *at = *byte;
+    for (place, &byte) in bytes.iter().enumerate() {
+        set(file, &[(from.saturating_add(place), byte)]);
     }
 }
 
@@ -205,12 +208,18 @@ fn count_of(alloc: Global, file: &[u8]) -> Result<usize, ElfFault> {
     Ok(image.segments().len())
 }
 
+/// Whether two segments are the same.
+fn is_same_segment(one: &Segment, other: &Segment) -> bool {
+    one.vaddr == other.vaddr
+        && one.memsz == other.memsz
+        && one.rights == other.rights
+        && one.bytes.as_slice() == other.bytes.as_slice()
+}
+
 /// Whether two images are the same.
 fn is_same(one: &Image, other: &Image) -> bool {
     for (one, other) in one.segments().iter().zip(other.segments()) {
-        if (one.vaddr, one.memsz, one.rights) != (other.vaddr, other.memsz, other.rights)
-            || one.bytes.as_slice() != other.bytes.as_slice()
-        {
+        if !is_same_segment(one, other) {
             return false;
         }
     }
@@ -230,30 +239,64 @@ fn writes_a_small_file(rt: HostRuntime) -> Result<(), AllocError> {
     Ok(())
 }
 
-#[test]
-fn parses_a_small_file(rt: HostRuntime) -> Result<(), ElfFault> {
-    let image = parse(rt.alloc(), &small_file(rt.alloc())?)?;
+/// The image of the program that is one ECALL.
+fn small_image(alloc: Global) -> Result<Image, ElfFault> {
+    parse(alloc, &small_file(alloc)?)
+}
+
+/// The one segment of the small file.
+fn assert_segment(rt: &impl Abort, segment: &Segment) {
     let rights = Rights {
         read: true,
         write: false,
         execute: true,
     };
+    let found = (segment.vaddr, segment.memsz, segment.rights);
+    assert_row(rt, "segment", found, (0x0001_0000, 4, rights));
+    assert!(rt; segment.bytes.as_slice() == [0x73, 0, 0, 0].as_slice());
+}
+
+#[test]
+fn parses_a_small_file(rt: HostRuntime) -> Result<(), ElfFault> {
+    let image = small_image(rt.alloc())?;
     let shape = (image.entry(), image.segments().len());
     assert_row(&rt, "image", shape, (0x0001_0000, 1));
     for segment in image.segments() {
-        let found = (segment.vaddr, segment.memsz, segment.rights);
-        assert_row(&rt, "segment", found, (0x0001_0000, 4, rights));
-        assert!(rt; segment.bytes.as_slice() == [0x73, 0, 0, 0].as_slice());
+        assert_segment(&rt, segment);
     }
     Ok(())
 }
 
+/// The small file, cut or lengthened and with these bytes at their places, has this fault.
+fn assert_fault(
+    rt: &(impl Abort + AllocGlobal),
+    row: usize,
+    len: usize,
+    bytes: &[(usize, u8)],
+    number: u8,
+) {
+    let found = fault_of(rt.alloc(), changed(rt.alloc(), len, bytes));
+    assert_row(rt, row, found, Ok(number));
+}
+
+/// Faults of each place.
+fn assert_faults(rt: &(impl Abort + AllocGlobal)) {
+    for (row, &(len, bytes, number)) in FAULTS.iter().enumerate() {
+        assert_fault(rt, row, len, bytes, number);
+    }
+}
+
+/// Addresses, the most pages, and faults one after the other.
+fn assert_faults_in_turn(rt: &(impl Abort + AllocGlobal)) {
+    for (row, &(len, bytes, number)) in FAULTS_IN_TURN.iter().enumerate() {
+        assert_fault(rt, row, len, bytes, number);
+    }
+}
+
 #[test]
 fn finds_the_first_fault(rt: HostRuntime) {
-    for (row, &(len, bytes, number)) in FAULTS.iter().enumerate() {
-        let found = fault_of(rt.alloc(), changed(rt.alloc(), len, bytes));
-        assert_row(&rt, row, found, Ok(number));
-    }
+    assert_faults(&rt);
+    assert_faults_in_turn(&rt);
 }
 
 #[test]
@@ -264,16 +307,21 @@ fn finds_the_first_fault_of_two_segments(rt: HostRuntime) {
     }
 }
 
+/// A file that is written has the image of this file, with two segments.
+fn assert_rewritten(rt: &(impl Abort + AllocGlobal), written: &[u8], file: &[u8]) {
+    // The next page after the first segment's bytes, and 0x800 further.
+    assert!(rt; written.len() == 0x2800);
+    assert!(rt; written[84..].starts_with(&[1, 0, 0, 0, 0, 0x28, 0, 0]));
+    assert_row(rt, "segments", count_of(rt.alloc(), written), Ok(2));
+    let same = have_same_image(rt.alloc(), written, file);
+    assert_row(rt, "the same", same, Ok(true));
+}
+
 #[test]
 fn a_last_segment_of_no_bytes_is_kept(rt: HostRuntime) -> Result<(), ElfFault> {
     let file = two_segments(rt.alloc(), 0x1800, NO_BYTES)?;
     let written = rewritten(rt.alloc(), &file)?;
-    // The next page after the first segment's bytes, and 0x800 further.
-    assert!(rt; written.len() == 0x2800);
-    assert!(rt; written[84..].starts_with(&[1, 0, 0, 0, 0, 0x28, 0, 0]));
-    assert_row(&rt, "segments", count_of(rt.alloc(), &written), Ok(2));
-    let same = have_same_image(rt.alloc(), &written, &file);
-    assert_row(&rt, "the same", same, Ok(true));
+    assert_rewritten(&rt, &written, &file);
     Ok(())
 }
 

@@ -5,7 +5,7 @@ use crate::asserting::assert_row;
 use crate::image_files::repeated;
 use byte_list::Bytes;
 use formats::Reg;
-use machine::Machine;
+use machine::{KeptMachine, Machine};
 use machine_model::{Cause, Image, Reply, Stop};
 use std::alloc::{AllocError, Global};
 use std::process::Abort;
@@ -161,6 +161,30 @@ fn replies_to_a_call(rt: HostRuntime) -> Result<(), AllocError> {
     Ok(())
 }
 
+/// What was kept of a machine's first state goes on as that machine did.
+fn assert_goes_on(
+    rt: &(impl Abort + AllocGlobal),
+    first: &KeptMachine,
+    machine: &Machine,
+) -> Result<(), AllocError> {
+    let mut again = first.machine(rt.alloc())?;
+    assert!(rt; again.count() == 0);
+    assert_row(rt, "run again", again.run(3), (3, Stop::Limit));
+    assert_row(rt, "the same again", again.is_same(machine), true);
+    Ok(())
+}
+
+/// What was kept of a machine is the same as that machine.
+fn assert_kept(
+    rt: &(impl Abort + AllocGlobal),
+    kept: &KeptMachine,
+    machine: &Machine,
+) -> Result<(), AllocError> {
+    let after = kept.machine(rt.alloc())?;
+    assert_row(rt, "the same", after.is_same(machine), true);
+    Ok(())
+}
+
 #[test]
 fn kept_machines_go_on(rt: HostRuntime) -> Result<(), AllocError> {
     let alloc = rt.alloc();
@@ -170,9 +194,6 @@ fn kept_machines_go_on(rt: HostRuntime) -> Result<(), AllocError> {
     let second = machine.keep(alloc, Some(&first))?;
     let counts = [first.count(), second.count()];
     assert_row(&rt, "counts", counts, [0, 3]);
-    let (mut again, after) = (first.machine(alloc)?, second.machine(alloc)?);
-    assert_row(&rt, "run again", again.run(3), (3, Stop::Limit));
-    let same = [again.is_same(&machine), after.is_same(&machine)];
-    assert_row(&rt, "same", same, [true, true]);
-    Ok(())
+    assert_goes_on(&rt, &first, &machine)?;
+    assert_kept(&rt, &second, &machine)
 }

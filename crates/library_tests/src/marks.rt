@@ -5,6 +5,7 @@ ghost use Rattle.std.specs.Option.{ForSome};
 use crate::asserting::assert_row;
 use commit_deps::{Carrier, Dependencies, Mark};
 use std::alloc::AllocError;
+use std::process::Abort;
 
 const FILE: Carrier = Carrier::File(0);
 
@@ -36,22 +37,32 @@ fn mark_of(change: Option<u64>) -> Mark
     }
 }
 
-#[test]
-fn a_pipe_carries_a_change(rt: HostRuntime) -> Result<(), AllocError> {
-    let mut dependencies = Dependencies::new(rt.alloc());
+/// Each event rests on what it should.
+fn assert_events(rt: &impl Abort, dependencies: &mut Dependencies) -> Result<(), AllocError> {
     for (row, &(reads, writes, change, rests)) in EVENTS.iter().enumerate() {
         let event = dependencies.event(reads, writes, change)?;
-        assert_row(&rt, row, event, mark_of(rests));
+        assert_row(rt, row, event, mark_of(rests));
     }
+    Ok(())
+}
+
+/// On what the pipe, the file and the third process rest after the events.
+fn assert_marks(rt: &impl Abort, dependencies: &Dependencies) {
     let marks = [
         dependencies.of(PIPE),
         dependencies.of(FILE),
         dependencies.of(OTHER),
     ];
     let wanted = [Some(Mark::of_change(0)), Some(Mark::of_change(1)), None];
-    assert_row(&rt, "marks", marks, wanted);
-    dependencies.reserve(100)?;
-    Ok(())
+    assert_row(rt, "marks", marks, wanted);
+}
+
+#[test]
+fn a_pipe_carries_a_change(rt: HostRuntime) -> Result<(), AllocError> {
+    let mut dependencies = Dependencies::new(rt.alloc());
+    assert_events(&rt, &mut dependencies)?;
+    assert_marks(&rt, &dependencies);
+    dependencies.reserve(100)
 }
 
 #[test]

@@ -40,9 +40,23 @@ fn write(rt: &impl Abort, pipes: &mut PipeTable, pipe: u32, bytes: &[u8]) {
     pipes.put(pipe, bytes);
 }
 
+/// At most n bytes of what a pipe holds.
+fn prefix(alloc: Global, pipes: &PipeTable, pipe: u32, n: usize) -> Result<Bytes, Fail> {
+    let pipe = pipes.get(pipe).ok_or("no such pipe")?;
+    Ok(pipe.prefix(alloc, n)?)
+}
+
 /// Reads at most n bytes.
-fn read(alloc: Global, pipes: &mut PipeTable, pipe: u32, n: usize) -> Result<Bytes, Fail> {
-    let bytes = pipes.get(pipe).ok_or("no such pipe")?.prefix(alloc, n)?;
+fn read(
+    rt: &(impl Abort + AllocGlobal),
+    pipes: &mut PipeTable,
+    pipe: u32,
+    n: usize,
+) -> Result<Bytes, Fail> {
+    let bytes = prefix(rt.alloc(), pipes, pipe, n)?;
+    if let Some(pipe) = pipes.get(pipe) {
+        assert!(rt; bytes.as_slice().len() <= pipe.held());
+    }
     pipes.take(pipe, bytes.as_slice().len());
     Ok(bytes)
 }
@@ -69,7 +83,7 @@ fn assert_read(
     n: usize,
     wanted: &[u8],
 ) -> Result<(), Fail> {
-    let bytes = read(rt.alloc(), pipes, pipe, n)?;
+    let bytes = read(rt, pipes, pipe, n)?;
     assert_row(rt, n, bytes.as_slice(), wanted);
     Ok(())
 }
@@ -82,37 +96,58 @@ fn assert_count(
     n: usize,
     wanted: usize,
 ) -> Result<(), Fail> {
-    let bytes = read(rt.alloc(), pipes, pipe, n)?;
+    let bytes = read(rt, pipes, pipe, n)?;
     assert_row(rt, n, bytes.as_slice().len(), wanted);
+    Ok(())
+}
+
+/// A pipe is written and read so far that its next bytes go round the end of the ring.
+fn go_round(rt: &(impl Abort + AllocGlobal), pipes: &mut PipeTable) -> Result<(), Fail> {
+    open(rt, pipes)?;
+    write(rt, pipes, 0, &[1; 4000]);
+    assert_read(rt, pipes, 0, 3998, &[1; 3998])?;
+    write(rt, pipes, 0, &[2; 95]);
+    write(rt, pipes, 0, b"abcdef");
+    assert_count(rt, pipes, 0, 96, 96)
+}
+
+/// What is read around the end of the ring.
+fn assert_around(rt: &(impl Abort + AllocGlobal), pipes: &mut PipeTable) -> Result<(), Fail> {
+    for &bytes in AROUND {
+        assert_read(rt, pipes, 0, 4, bytes)?;
+    }
     Ok(())
 }
 
 #[test]
 fn a_ring_wraps_round(rt: HostRuntime) -> Result<(), Fail> {
     let mut pipes = PipeTable::new(rt.alloc())?;
-    open(&rt, &mut pipes)?;
-    write(&rt, &mut pipes, 0, &[1; 4000]);
-    assert_read(&rt, &mut pipes, 0, 3998, &[1; 3998])?;
-    write(&rt, &mut pipes, 0, &[2; 95]);
-    write(&rt, &mut pipes, 0, b"abcdef");
-    assert_count(&rt, &mut pipes, 0, 96, 96)?;
-    for &bytes in AROUND {
-        assert_read(&rt, &mut pipes, 0, 4, bytes)?;
-    }
+    go_round(&rt, &mut pipes)?;
+    assert_around(&rt, &mut pipes)
+}
+
+/// The second pipe is filled, and filled again once a part of it is read.
+fn fill(rt: &(impl Abort + AllocGlobal), pipes: &mut PipeTable) -> Result<(), Fail> {
+    write(rt, pipes, 1, &[7; PIPE_SIZE]);
+    assert_row(rt, "full", numbers(pipes, 1), FULL);
+    assert_read(rt, pipes, 1, 10, &[7; 10])?;
+    write(rt, pipes, 1, &[8; 10]);
+    assert_row(rt, "full again", numbers(pipes, 1), FULL);
     Ok(())
+}
+
+/// Two pipes, of which the second is filled, and then read whole.
+fn fill_and_empty(rt: &(impl Abort + AllocGlobal), pipes: &mut PipeTable) -> Result<(), Fail> {
+    open(rt, pipes)?;
+    open(rt, pipes)?;
+    fill(rt, pipes)?;
+    assert_count(rt, pipes, 1, 5000, 4096)
 }
 
 #[test]
 fn a_pipe_is_full(rt: HostRuntime) -> Result<(), Fail> {
     let mut pipes = PipeTable::new(rt.alloc())?;
-    open(&rt, &mut pipes)?;
-    open(&rt, &mut pipes)?;
-    write(&rt, &mut pipes, 1, &[7; PIPE_SIZE]);
-    assert_row(&rt, "full", numbers(&pipes, 1), FULL);
-    assert_read(&rt, &mut pipes, 1, 10, &[7; 10])?;
-    write(&rt, &mut pipes, 1, &[8; 10]);
-    assert_row(&rt, "full again", numbers(&pipes, 1), FULL);
-    assert_count(&rt, &mut pipes, 1, 5000, 4096)?;
+    fill_and_empty(&rt, &mut pipes)?;
     let both = [numbers(&pipes, 1), numbers(&pipes, 0)];
     assert_row(&rt, "empty", both, [EMPTY, EMPTY]);
     Ok(())
@@ -130,14 +165,19 @@ fn two_pipes(rt: &(impl Abort + AllocGlobal)) -> Result<PipeTable, Fail> {
     Ok(pipes)
 }
 
-#[test]
-fn ends_are_gone(rt: HostRuntime) -> Result<(), Fail> {
-    let mut pipes = two_pipes(&rt)?;
+/// The ends of the second pipe are dropped one after the other.
+fn drop_ends(rt: &impl Abort, pipes: &mut PipeTable) {
     for (row, &(end, readers, writers)) in ENDS.iter().enumerate() {
         pipes.drop_end(end);
         let left = Some((0, 4096, readers, writers));
-        assert_row(&rt, row, numbers(&pipes, 1), left);
+        assert_row(rt, row, numbers(pipes, 1), left);
     }
+}
+
+#[test]
+fn ends_are_gone(rt: HostRuntime) -> Result<(), Fail> {
+    let mut pipes = two_pipes(&rt)?;
+    drop_ends(&rt, &mut pipes);
     pipes.drop_end(PipeEnd::Read(7));
     let both = [numbers(&pipes, 0), numbers(&pipes, 7)];
     assert_row(&rt, "the others", both, [EMPTY, None]);

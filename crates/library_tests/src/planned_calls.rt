@@ -87,7 +87,8 @@ fn request_by(alloc: Global, words: [u32; 4]) -> Result<Request, AllocError>
 
 /// Tapes of which the first is these bytes.
 fn tapes_of(alloc: Global, bytes: &[u8]) -> Result<TapeTable, AllocError> {
-    let tapes = Vec::from_array(alloc, [Bytes::copy_of(alloc, bytes)?])?;
+    let mut tapes = Vec::new(alloc);
+    tapes.push(Bytes::copy_of(alloc, bytes)?)?;
     Ok(TapeTable::new(Arc::new(alloc, tapes)?))
 }
 

@@ -21,9 +21,8 @@ fn booted(rt: &(impl Abort + AllocGlobal)) -> Result<ProcTable, AllocError> {
 
 /// The number of a process's new child.
 fn forked(rt: &impl Abort, table: &mut ProcTable, pid: u32) -> Result<u32, AllocError> {
-    assert!(rt; pid > 0);
-    assert!(rt; pid as usize <= table.len());
-    assert!(rt; table.len() < MOST_PROCESSES);
+    let processes = table.len();
+    assert!(rt; pid > 0 && pid as usize <= processes && processes < MOST_PROCESSES);
     table.reserve(pid)?;
     Ok(table.fork(pid))
 }

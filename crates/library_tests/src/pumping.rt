@@ -1,4 +1,6 @@
 //! Writers that take all, little or nothing, and fail.
+ghost use Rattle.std.specs.Prelude.{◌≤◌};
+
 use crate::asserting::assert_row;
 use console::{PumpFault, pump};
 use std::alloc::Global;
@@ -80,16 +82,23 @@ fn all_goes_out(rt: HostRuntime) {
     }
 }
 
+/// Pumps the text from its fourth byte on to a writer that has room for a part of it, and wants just that part to go out.
+fn expect_part<R: AllocGlobal + Abort>(rt: &R, room: usize, full: Full)
+    requires { room ≤ 18 }
+{
+    let from = 4;
+    let mut writer = Fake::new(rt.alloc(), 1, room, full);
+    let upto = from + room;
+    let pumped = pump(&mut writer, TEXT, from);
+    assert_row(rt, room, pumped, Err(PumpFault { upto }));
+    assert_row(rt, room, writer.held.as_slice(), &TEXT[from..upto]);
+}
+
 #[test]
 fn a_full_writer_is_a_fault(rt: HostRuntime) {
-    let from = 4;
     for full in [Full::TakesNothing, Full::Fails] {
-        for room in 0..TEXT.len() - from {
-            let mut writer = Fake::new(rt.alloc(), 1, room, full);
-            let upto = from + room;
-            let pumped = pump(&mut writer, TEXT, from);
-            assert_row(&rt, room, pumped, Err(PumpFault { upto }));
-            assert_row(&rt, room, writer.held.as_slice(), &TEXT[from..upto]);
+        for room in 0..TEXT.len() - 4 {
+            expect_part(&rt, room, full);
         }
     }
 }

@@ -6,7 +6,7 @@ ghost use Rattle.machine_model.specs.Access.{mapped};
 use crate::asserting::assert_row;
 use isa_table::Bus;
 use machine_model::{BusFault, Rights, Width};
-use memory::{CopyFault, Space};
+use memory::{CopyFault, KeptSpace, Space};
 use std::alloc::{AllocError, Global};
 use std::process::Abort;
 use std::test::Fail;
@@ -131,18 +131,21 @@ fn near_at_hand(rt: HostRuntime) -> Result<(), AllocError> {
     Ok(())
 }
 
+/// Whether nothing is copied in from the greatest address on.
+fn copies_nothing(alloc: Global, space: &Space) -> bool {
+    matches!(
+        &space.copy_in(alloc, 0xffff_ffff, 2),
+        Err(CopyFault::Fault(BusFault::Unmapped))
+    )
+}
+
 #[test]
 fn past_the_greatest_address(rt: HostRuntime) -> Result<(), AllocError> {
     let space = two_pages(rt.alloc(), READ_WRITE, READ_WRITE, &[0; 4096])?;
     for (row, &(at, n, is_writable)) in WRITABLE.iter().enumerate() {
         assert_row(&rt, row, space.writable(at, n), is_writable);
     }
-    assert!(rt;
-        matches!(
-            &space.copy_in(rt.alloc(), 0xffff_ffff, 2),
-            Err(CopyFault::Fault(BusFault::Unmapped))
-        )
-    );
+    assert!(rt; copies_nothing(rt.alloc(), &space));
     Ok(())
 }
 
@@ -191,22 +194,57 @@ fn is_same_as_clone(alloc: Global, space: &Space) -> Result<bool, AllocError> {
     Ok(space.is_same(&clone))
 }
 
+/// A space is the same as pages of these bytes that are mapped in one cut, or it is not, as is wanted.
+fn assert_cut(rt: &(impl Abort + AllocGlobal), space: &Space, bytes: &[u8], wanted: bool)
+    requires whole { length bytes.now % 4096 ≡ 0 }
+    requires range { 4096 + length bytes.now ≤ 2 ^ 32 }
+{
+    let same = are_same_as_one_cut(rt.alloc(), space, bytes);
+    assert_row(rt, bytes.len(), same, Ok([wanted, wanted]));
+}
+
+/// Two pages of sevens are the same as their clone and as one cut, but not with other rights or fewer bytes.
+fn assert_sevens(rt: &(impl Abort + AllocGlobal), space: &Space) {
+    assert_cut(rt, space, &[7; 8192], true);
+    let clone = is_same_as_clone(rt.alloc(), space);
+    assert_row(rt, "clone", clone, Ok(true));
+    let other_rights = are_same_as_two(rt.alloc(), space, READ_EXECUTE);
+    assert_row(rt, "other rights", other_rights, Ok([false, false]));
+    assert_cut(rt, space, &[7; 4096], false);
+}
+
 #[test]
 fn same_bytes_in_other_cuts(rt: HostRuntime) -> Result<(), AllocError> {
-    let alloc = rt.alloc();
-    let mut space = two_pages(alloc, READ_WRITE, READ_WRITE, &[7; 4096])?;
-    let whole = are_same_as_one_cut(alloc, &space, &[7; 8192]);
-    assert_row(&rt, "one cut", whole, Ok([true, true]));
-    let clone = is_same_as_clone(alloc, &space);
-    assert_row(&rt, "clone", clone, Ok(true));
-    let other_rights = are_same_as_two(alloc, &space, READ_EXECUTE);
-    assert_row(&rt, "other rights", other_rights, Ok([false, false]));
-    let shorter = are_same_as_one_cut(alloc, &space, &[7; 4096]);
-    assert_row(&rt, "shorter", shorter, Ok([false, false]));
+    let mut space = two_pages(rt.alloc(), READ_WRITE, READ_WRITE, &[7; 4096])?;
+    assert_sevens(&rt, &space);
     let stored = space.store(0x2fff, Width::Byte, 8);
     assert_row(&rt, "stored", stored, Ok(()));
-    let whole = are_same_as_one_cut(alloc, &space, &[7; 8192]);
-    assert_row(&rt, "another byte", whole, Ok([false, false]));
+    assert_cut(&rt, &space, &[7; 8192], false);
+    Ok(())
+}
+
+/// What was kept of a space before a store is not the same as that space after it.
+fn assert_before(
+    rt: &(impl Abort + AllocGlobal),
+    kept: &KeptSpace,
+    space: &Space,
+) -> Result<(), AllocError> {
+    let before = kept.space(rt.alloc())?;
+    assert_row(rt, "the same before", before.is_same(space), false);
+    assert_row(rt, "before", before.byte(0x2fff), Some(7));
+    Ok(())
+}
+
+/// What was kept after a store is the same as the space, and takes some bytes.
+fn assert_after(
+    rt: &(impl Abort + AllocGlobal),
+    kept: &KeptSpace,
+    space: &Space,
+) -> Result<(), AllocError> {
+    let after = kept.space(rt.alloc())?;
+    assert_row(rt, "the same after", after.is_same(space), true);
+    let takes = [after.takes(0x2ffe, &[1, 2]), after.takes(0x2fff, &[1, 2])];
+    assert_row(rt, "takes", takes, [true, false]);
     Ok(())
 }
 
@@ -219,11 +257,6 @@ fn kept_spaces_come_back(rt: HostRuntime) -> Result<(), AllocError> {
     let stored = space.store(0x2fff, Width::Byte, 8);
     assert_row(&rt, "stored", stored, Ok(()));
     let second = space.keep(alloc, Some(&first))?;
-    let (before, after) = (first.space(alloc)?, second.space(alloc)?);
-    let same = [before.is_same(&space), after.is_same(&space)];
-    assert_row(&rt, "same", same, [false, true]);
-    assert_row(&rt, "before", before.byte(0x2fff), Some(7));
-    let takes = [after.takes(0x2ffe, &[1, 2]), after.takes(0x2fff, &[1, 2])];
-    assert_row(&rt, "takes", takes, [true, false]);
-    Ok(())
+    assert_before(&rt, &first, &space)?;
+    assert_after(&rt, &second, &space)
 }

@@ -76,18 +76,57 @@ const LONG: &[(Repeated<'static>, (usize, usize))] = &[
     ((".ascii \"", "a\\n", 20_000, "\""), (1, 2)),
 ];
 
+/// Appends where something begins and ends.
+fn push_place(out: &mut String, start: usize, end: usize) -> Result<(), AllocError> {
+    write!(out, "[{start}..{end}]")
+}
+
+/// The name of a token's kind.
+fn name_of(kind: &TokenKind) -> &'static str {
+    match kind {
+        TokenKind::Word => "Word",
+        TokenKind::Number(_) => "Number",
+        TokenKind::Text(_) => "Text",
+        TokenKind::Comma => "Comma",
+        TokenKind::Colon => "Colon",
+        TokenKind::Open => "Open",
+        TokenKind::Close => "Close",
+        TokenKind::Plus => "Plus",
+        TokenKind::Minus => "Minus",
+    }
+}
+
+/// Appends the value of a token, if its kind has one.
+fn push_value(out: &mut String, kind: &TokenKind) -> Result<(), AllocError> {
+    match kind {
+        TokenKind::Number(value) => write!(out, "({value})"),
+        TokenKind::Text(bytes) => write!(out, "({bytes:?})"),
+        _ => Ok(()),
+    }
+}
+
 /// Appends a token with its kind and place.
 fn push_token(out: &mut String, token: &Token) -> Result<(), AllocError> {
-    let kind = &token.kind;
-    write!(out, " {kind:?}[{}..{}]", token.start, token.end)
+    let name = name_of(&token.kind);
+    write!(out, " {name}")?;
+    push_value(out, &token.kind)?;
+    push_place(out, token.start, token.end)
+}
+
+/// Appends tokens, each with its kind and place.
+fn push_tokens(out: &mut String, tokens: &[Token]) -> Result<(), AllocError> {
+    for token in tokens {
+        push_token(out, token)?;
+    }
+    Ok(())
 }
 
 /// Appends a line with its number and place, and each of its tokens.
 fn push_line(out: &mut String, line: &Line) -> Result<(), AllocError> {
-    write!(out, "{}[{}..{}]", line.number, line.start, line.end)?;
-    for token in line.tokens.as_slice() {
-        push_token(out, token)?;
-    }
+    let number = line.number;
+    write!(out, "{number}")?;
+    push_place(out, line.start, line.end)?;
+    push_tokens(out, line.tokens.as_slice())?;
     out.push(';')
 }
 
@@ -124,25 +163,44 @@ fn token_count(lines: &[Line]) -> usize {
     count
 }
 
+/// How many lines and how many tokens a source has.
+fn counts_of(alloc: Global, source: &str) -> Result<(usize, usize), TextFault> {
+    let found = lines(alloc, source)?;
+    Ok((found.len(), token_count(&found)))
+}
+
 /// How many lines and how many tokens a long source has.
 fn counts(alloc: Global, repeated: Repeated) -> Result<(usize, usize), TextFault> {
     let mut source = String::new(alloc);
     push_repeated(&mut source, repeated)?;
-    let found = lines(alloc, &source)?;
-    Ok((found.len(), token_count(&found)))
+    counts_of(alloc, &source)
+}
+
+/// Appends a token and a space, if it is a word that lies in the source.
+fn push_word(words: &mut Vec<u8>, source: &str, token: &Token) -> Result<(), AllocError> {
+    let lies_inside = token.start <= token.end && token.end <= source.len();
+    if lies_inside && matches!(token.kind, TokenKind::Word) {
+        words.extend_from_slice(token.text(source))?;
+        words.push(b' ')?;
+    }
+    Ok(())
+}
+
+/// Appends the words of lines, each with a space after it.
+fn push_words(words: &mut Vec<u8>, source: &str, lines: &[Line]) -> Result<(), AllocError> {
+    for line in lines {
+        for token in line.tokens.as_slice() {
+            push_word(words, source, token)?;
+        }
+    }
+    Ok(())
 }
 
 /// The words of a source, each with a space after it.
 fn words_of(alloc: Global, source: &str) -> Result<Vec<u8>, TextFault> {
     let mut words = Vec::new(alloc);
-    for line in &lines(alloc, source)? {
-        for token in line.tokens.as_slice() {
-            if matches!(token.kind, TokenKind::Word) {
-                words.extend_from_slice(token.text(source))?;
-                words.push(b' ')?;
-            }
-        }
-    }
+    let found = lines(alloc, source)?;
+    push_words(&mut words, source, &found)?;
     Ok(words)
 }
 

@@ -1,4 +1,4 @@
-//! The line of a disk that cannot be read, to which no command comes today.
+//! The line of a disk that cannot be read.
 use crate::compare::compare;
 use anyhow::{Error, ensure};
 use kernel::{BootFault, DiskFault};

@@ -62,19 +62,38 @@ impl Case {
         }
     }
 
+    /// Sets up a program of these words.
+    fn set_up_words(
+        &mut self,
+        alloc: Global,
+        terminal: &str,
+        words: &[u32],
+    ) -> Result<(), AllocError> {
+        let line = program_line(alloc, terminal, words)?;
+        self.set_up(line.as_str())
+    }
+
+    /// Sets up a program of these words that stands in a file.
+    fn set_up_image(&mut self, alloc: Global, terminal: &str, words: &[u32]) -> Result<(), Error> {
+        self.file = image_of_rights(alloc, words)?;
+        let line = format!(in alloc; "image {terminal} rights")?;
+        Ok(self.set_up(line.as_str())?)
+    }
+
+    /// Sets up a program, in its form.
+    fn set_up_program(&mut self, alloc: Global, program: &Program) -> Result<(), Error> {
+        let words = program.words(alloc)?;
+        let terminal = program.terminal.as_str();
+        match program.form {
+            Form::Words => Ok(self.set_up_words(alloc, terminal, words.as_slice())?),
+            Form::Image => self.set_up_image(alloc, terminal, words.as_slice()),
+        }
+    }
+
     /// Sets up the program whose source was read, if there is one.
     fn end_program(&mut self, alloc: Global) -> Result<(), Error> {
         if let Some(program) = self.program.take() {
-            let words = program.words(alloc)?;
-            let terminal = program.terminal.as_str();
-            let line = match program.form {
-                Form::Words => program_line(alloc, terminal, words.as_slice())?,
-                Form::Image => {
-                    self.file = image_of_rights(alloc, words.as_slice())?;
-                    format!(in alloc; "image {terminal} rights")?
-                }
-            };
-            self.set_up(line.as_str())?;
+            self.set_up_program(alloc, &program)?;
             self.programs.push(program.into_replies())?;
         }
         Ok(())
@@ -127,20 +146,22 @@ impl Case {
         Ok(())
     }
 
+    /// How often a process enters the kernel, and what is printed each time, as a word says.
+    fn entering<'a>(&self, pid: &str, word: &'a str) -> Result<(usize, &'a str), Error> {
+        if word == "calls" {
+            return Ok((self.replies_of(pid)?.count, "entered"));
+        }
+        match word.split_once('*') {
+            Some((printed, times)) => Ok((times.parse::<usize>()?, printed)),
+            None => Ok((1, word)),
+        }
+    }
+
     /// A process enters the kernel.
     fn enters(&mut self, alloc: Global, pid: &str, wanted: &str) -> Result<(), Error> {
         for word in wanted.split_whitespace() {
-            if word == "calls" {
-                let count = self.replies_of(pid)?.count;
-                self.enter(alloc, pid, count, "entered")?;
-                continue;
-            }
-            match word.split_once('*') {
-                Some((printed, times)) => {
-                    self.enter(alloc, pid, times.parse::<usize>()?, printed)?;
-                }
-                None => self.enter(alloc, pid, 1, word)?,
-            }
+            let (times, printed) = self.entering(pid, word)?;
+            self.enter(alloc, pid, times, printed)?;
         }
         Ok(())
     }
@@ -157,47 +178,61 @@ impl Case {
         Ok(replies.trace(alloc, pid)?)
     }
 
-    /// What files print.
-    fn files(&self, alloc: Global, wanted: &str) -> Result<String, Error> {
-        if wanted == "-" {
-            return Ok(String::from_str(alloc, "files 0")?);
+    /// The line `trace P`.
+    fn step_trace(
+        &mut self,
+        alloc: Global,
+        line: &str,
+        pid: &str,
+        wanted: &str,
+    ) -> Result<(), Error> {
+        let printed = self.trace(alloc, pid, wanted)?;
+        self.step(line, printed.as_str().trim_end())
+    }
+
+    /// The line `shown T`.
+    fn step_shown(&mut self, alloc: Global, line: &str, wanted: &str) -> Result<(), Error> {
+        let mut printed = format!(in alloc; "{line} ")?;
+        push_parts(&mut printed, wanted)?;
+        self.step(line, printed.as_str())
+    }
+
+    /// The line `files`.
+    fn step_files(&mut self, alloc: Global, wanted: &str) -> Result<(), Error> {
+        let printed = files_text(alloc, wanted)?;
+        self.step("files", printed.as_str())
+    }
+
+    /// The line `commit`.
+    fn step_commit(&mut self, alloc: Global, wanted: &str) -> Result<(), Error> {
+        let printed = format!(in alloc;
+            "cut {wanted} changes 2 writes\ncompleted, 0 committed\ncompleted, {wanted} committed"
+        )?;
+        self.step("cut\ncomplete 65\ncomplete 64", printed.as_str())
+    }
+
+    /// Does a line of these words that has what is wanted beside it.
+    fn do_words(
+        &mut self,
+        alloc: Global,
+        line: &str,
+        words: &[&str],
+        wanted: &str,
+    ) -> Result<(), Error> {
+        match words {
+            ["trace", pid] => self.step_trace(alloc, line, pid, wanted),
+            ["shown", _] => self.step_shown(alloc, line, wanted),
+            ["files"] => self.step_files(alloc, wanted),
+            ["commit"] => self.step_commit(alloc, wanted),
+            [pid] if pid.parse::<u32>().is_ok() => self.enters(alloc, pid, wanted),
+            _ => self.step(line, wanted),
         }
-        let lines: Vec<&str> = wanted.split("; ").collect(alloc)?;
-        let count = lines.len();
-        let mut printed = format!(in alloc; "files {count}")?;
-        for line in &lines {
-            printed.push_str("\n")?;
-            printed.push_str(line)?;
-        }
-        Ok(printed)
     }
 
     /// Does a line that has what is wanted beside it.
     fn wanted(&mut self, alloc: Global, line: &str, wanted: &str) -> Result<(), Error> {
         let words: Vec<&str> = line.split_whitespace().collect(alloc)?;
-        match words.as_slice() {
-            ["trace", pid] => {
-                let printed = self.trace(alloc, pid, wanted)?;
-                self.step(line, printed.as_str().trim_end())
-            }
-            ["shown", _] => {
-                let mut printed = format!(in alloc; "{line} ")?;
-                push_parts(&mut printed, wanted)?;
-                self.step(line, printed.as_str())
-            }
-            ["files"] => {
-                let printed = self.files(alloc, wanted)?;
-                self.step(line, printed.as_str())
-            }
-            ["commit"] => {
-                let printed = format!(in alloc;
-                    "cut {wanted} changes 2 writes\ncompleted, 0 committed\ncompleted, {wanted} committed"
-                )?;
-                self.step("cut\ncomplete 65\ncomplete 64", printed.as_str())
-            }
-            [pid] if pid.parse::<u32>().is_ok() => self.enters(alloc, pid, wanted),
-            _ => self.step(line, wanted),
-        }
+        self.do_words(alloc, line, words.as_slice(), wanted)
     }
 
     /// Begins to read a program's source.
@@ -207,6 +242,24 @@ impl Case {
         Ok(())
     }
 
+    /// Reads a line of a program's source.
+    fn read_source(&mut self, alloc: Global, line: &str) -> Result<(), Error> {
+        match &mut self.program {
+            Some(program) => program.read(alloc, line),
+            None => bail!("no program for: {line}"),
+        }
+    }
+
+    /// Reads a line of these words that sets up.
+    fn read_words(&mut self, alloc: Global, line: &str, words: &[&str]) -> Result<(), Error> {
+        match words {
+            ["program", terminal] => self.program(alloc, Form::Words, terminal),
+            ["image", terminal] => self.program(alloc, Form::Image, terminal),
+            ["tape", number, bytes] => self.tape(alloc, number, bytes),
+            _ => self.read_source(alloc, line),
+        }
+    }
+
     /// Reads a line of the case.
     fn read(&mut self, alloc: Global, line: &str) -> Result<(), Error> {
         if let Some((line, wanted)) = line.split_once(" => ") {
@@ -214,16 +267,22 @@ impl Case {
             return self.wanted(alloc, line, wanted);
         }
         let words: Vec<&str> = line.split_whitespace().collect(alloc)?;
-        match words.as_slice() {
-            ["program", terminal] => self.program(alloc, Form::Words, terminal),
-            ["image", terminal] => self.program(alloc, Form::Image, terminal),
-            ["tape", number, bytes] => self.tape(alloc, number, bytes),
-            _ => match &mut self.program {
-                Some(program) => program.read(alloc, line),
-                None => bail!("no program for: {line}"),
-            },
-        }
+        self.read_words(alloc, line, words.as_slice())
     }
+}
+
+/// What files print.
+fn files_text(alloc: Global, wanted: &str) -> Result<String, AllocError> {
+    if wanted == "-" {
+        return String::from_str(alloc, "files 0");
+    }
+    let count = wanted.split("; ").count();
+    let mut printed = format!(in alloc; "files {count}")?;
+    for line in wanted.split("; ") {
+        printed.push_str("\n")?;
+        printed.push_str(line)?;
+    }
+    Ok(printed)
 }
 
 /// What was printed, without what turns print.

@@ -1,7 +1,7 @@
 //! Programs that call the kernel, in the notation of `kernel_calls`: their sources, and the replies beside their calls.
 use crate::hex_parts::push_parts;
 use anyhow::{Error, bail};
-use assembler::assemble;
+use assembler::{Row, assemble};
 use std::alloc::{AllocError, Global};
 
 /// What stands after each program's text, in pages that may be read and executed, and not written: the names `f`, `g` and
@@ -47,21 +47,37 @@ fn call_number(word: &str) -> Option<u32> {
     Some(number)
 }
 
-/// Adds the instructions that load a call's argument.
+/// The instruction that loads an argument, and its operand.
+fn loading(word: &str) -> (&str, &str) {
+    match word.strip_prefix('&') {
+        Some(label) => ("la", label),
+        None if word.starts_with(|c: char| c.is_ascii_digit() || c == '-') => ("li", word),
+        None => ("mv", word),
+    }
+}
+
+/// Adds the instruction that loads a call's argument.
 fn push_argument(
     alloc: Global,
     source: &mut String,
     register: &str,
     word: &str,
 ) -> Result<(), AllocError> {
-    let line = match word.strip_prefix('&') {
-        Some(label) => format!(in alloc; "la {register},{label}\n")?,
-        None if word.starts_with(|c: char| c.is_ascii_digit() || c == '-') => {
-            format!(in alloc; "li {register},{word}\n")?
-        }
-        None => format!(in alloc; "mv {register},{word}\n")?,
-    };
+    let (mnemonic, operand) = loading(word);
+    let line = format!(in alloc; "{mnemonic} {register},{operand}\n")?;
     source.push_str(line.as_str())
+}
+
+/// Adds the instructions that load a call's arguments.
+fn push_arguments(
+    alloc: Global,
+    source: &mut String,
+    arguments: &[&str],
+) -> Result<(), AllocError> {
+    for (register, word) in ["a0", "a1", "a2"].iter().zip(arguments) {
+        push_argument(alloc, source, register, word)?;
+    }
+    Ok(())
 }
 
 /// Adds the instructions of a call.
@@ -71,29 +87,41 @@ fn push_call(
     number: u32,
     arguments: &[&str],
 ) -> Result<(), AllocError> {
-    for (register, word) in ["a0", "a1", "a2"].iter().zip(arguments) {
-        push_argument(alloc, source, register, word)?;
-    }
+    push_arguments(alloc, source, arguments)?;
     source.push_str(format!(in alloc; "li a7,{number}\necall\n")?.as_str())
+}
+
+/// Adds a decimal number, in hexadecimal, and what comes after it.
+fn push_number(alloc: Global, out: &mut String, number: &str, after: &str) -> Result<(), Error> {
+    let number = number.parse::<i32>()?;
+    let text = format!(in alloc; "{number:08x} {after}")?;
+    Ok(out.push_str(text.as_str())?)
+}
+
+/// Adds the place and the bytes of a reply.
+fn push_bytes(out: &mut String, at: &str, parts: &str) -> Result<(), Error> {
+    out.push_str(at)?;
+    out.push_str(" ")?;
+    push_parts(out, parts)
+}
+
+/// Adds what prints of a reply, by the words of its text.
+fn push_words(alloc: Global, out: &mut String, reply: &str, words: &[&str]) -> Result<(), Error> {
+    match words {
+        [a0] => push_number(alloc, out, a0, "-"),
+        [a0, "at", at, parts] => {
+            push_number(alloc, out, a0, "")?;
+            push_bytes(out, at, parts)
+        }
+        _ => bail!("no reply: {reply}"),
+    }
 }
 
 /// Adds the line that prints of a reply.
 fn push_reply(alloc: Global, out: &mut String, reply: &str) -> Result<(), Error> {
     let words: Vec<&str> = reply.split_whitespace().collect(alloc)?;
-    match words.as_slice() {
-        [a0] => {
-            let a0 = a0.parse::<i32>()?;
-            out.push_str(format!(in alloc; "{a0:08x} -\n")?.as_str())?;
-        }
-        [a0, "at", at, parts] => {
-            let a0 = a0.parse::<i32>()?;
-            out.push_str(format!(in alloc; "{a0:08x} {at} ")?.as_str())?;
-            push_parts(out, parts)?;
-            out.push_str("\n")?;
-        }
-        _ => bail!("no reply: {reply}"),
-    }
-    Ok(())
+    push_words(alloc, out, reply, words.as_slice())?;
+    Ok(out.push_str("\n")?)
 }
 
 /// The replies beside a program's calls.
@@ -163,6 +191,25 @@ impl Replies {
     }
 }
 
+/// Adds the bytes of words.
+fn push_word_bytes(file: &mut Vec<u8>, words: &[u32]) -> Result<(), AllocError> {
+    for word in words {
+        file.extend_from_slice(&word.to_le_bytes())?;
+    }
+    Ok(())
+}
+
+/// Adds the program header of a segment, with its sizes in the file and in memory.
+fn push_segment(
+    file: &mut Vec<u8>,
+    address: u32,
+    [in_file, in_memory]: [u32; 2],
+    rights: u32,
+) -> Result<(), AllocError> {
+    let header = [1, 4096, address, address, in_file, in_memory, rights, 4096];
+    push_word_bytes(file, &header)
+}
+
 /// The file of an image: a program's text, a page that may be read alone, at 0x00020000, one that may be written alone,
 /// at 0x00030000, and one that may be executed alone, at 0x00040000.
 pub fn image_of_rights(alloc: Global, words: &[u32]) -> Result<Vec<u8>, Error> {
@@ -171,21 +218,12 @@ pub fn image_of_rights(alloc: Global, words: &[u32]) -> Result<Vec<u8>, Error> {
         "7f454c460101010000000000000000000200f3000100000000000100340000000000000000000000340020000400000000000000",
     )?;
     let size = u32::try_from(words.len())?.saturating_mul(4);
-    let segments: [(u32, u32, u32, u32); 4] = [
-        (0x10000, size, size, 5),
-        (0x20000, 0, 4096, 4),
-        (0x30000, 0, 4096, 2),
-        (0x40000, 0, 4096, 1),
-    ];
-    for (address, in_file, in_memory, rights) in segments {
-        for word in [1, 4096, address, address, in_file, in_memory, rights, 4096] {
-            file.extend_from_slice(&word.to_le_bytes())?;
-        }
-    }
+    push_segment(&mut file, 0x10000, [size, size], 5)?;
+    push_segment(&mut file, 0x20000, [0, 4096], 4)?;
+    push_segment(&mut file, 0x30000, [0, 4096], 2)?;
+    push_segment(&mut file, 0x40000, [0, 4096], 1)?;
     file.resize(4096, 0)?;
-    for word in words {
-        file.extend_from_slice(&word.to_le_bytes())?;
-    }
+    push_word_bytes(&mut file, words)?;
     Ok(file)
 }
 
@@ -217,6 +255,15 @@ impl Drop for Program {
     }
 }
 
+/// The words of a listing.
+fn listed_words(alloc: Global, rows: &[Row]) -> Result<Vec<u32>, AllocError> {
+    let mut words = Vec::new(alloc);
+    for row in rows {
+        words.push(row.word)?;
+    }
+    Ok(words)
+}
+
 impl Program {
     /// A program without a line of its source as yet.
     pub fn new(alloc: Global, form: Form, terminal: &str) -> Result<Program, AllocError> {
@@ -228,20 +275,32 @@ impl Program {
         })
     }
 
-    /// Reads a statement: a call by its name or number, or a line of the source as it stands.
-    fn read_statement(&mut self, alloc: Global, statement: &str) -> Result<(), Error> {
-        let words: Vec<&str> = statement.split_whitespace().collect(alloc)?;
+    /// Adds a line to the source.
+    fn push_line(&mut self, line: &str) -> Result<(), AllocError> {
+        self.source.push_str(line)?;
+        self.source.push_str("\n")
+    }
+
+    /// Reads a statement with these words.
+    fn read_words(
+        &mut self,
+        alloc: Global,
+        statement: &str,
+        words: &[&str],
+    ) -> Result<(), AllocError> {
         let Some((first, arguments)) = words.split_first() else {
             return Ok(());
         };
         match call_number(first) {
-            Some(number) => push_call(alloc, &mut self.source, number, arguments)?,
-            None => {
-                self.source.push_str(statement)?;
-                self.source.push_str("\n")?;
-            }
+            Some(number) => push_call(alloc, &mut self.source, number, arguments),
+            None => self.push_line(statement),
         }
-        Ok(())
+    }
+
+    /// Reads a statement: a call by its name or number, or a line of the source as it stands.
+    fn read_statement(&mut self, alloc: Global, statement: &str) -> Result<(), AllocError> {
+        let words: Vec<&str> = statement.split_whitespace().collect(alloc)?;
+        self.read_words(alloc, statement, words.as_slice())
     }
 
     /// Reads a line of the source.
@@ -257,7 +316,7 @@ impl Program {
                 self.read_statement(alloc, statement)?;
                 self.replies.push(alloc, reply)
             }
-            None => self.read_statement(alloc, line),
+            None => Ok(self.read_statement(alloc, line)?),
         }
     }
 
@@ -272,24 +331,30 @@ impl Program {
         replies
     }
 
+    /// The source, whole.
+    fn whole_source(&self, alloc: Global) -> Result<String, AllocError> {
+        let source = self.source.as_str();
+        format!(in alloc; "_start:\n{source}{PLACES}")
+    }
+
     /// The words of the program.
     pub fn words(&self, alloc: Global) -> Result<Vec<u32>, Error> {
-        let source = self.source.as_str();
-        let source = format!(in alloc; "_start:\n{source}{PLACES}")?;
+        let source = self.whole_source(alloc)?;
         let (_image, listing) = assemble(alloc, source.as_str())?;
-        let mut words = Vec::new(alloc);
-        for row in listing.rows() {
-            words.push(row.word)?;
-        }
-        Ok(words)
+        Ok(listed_words(alloc, listing.rows())?)
     }
 }
 
+/// Adds a word to a line, in hexadecimal.
+fn push_word(alloc: Global, line: &mut String, word: u32) -> Result<(), AllocError> {
+    line.push_str(format!(in alloc; " {word:08x}")?.as_str())
+}
+
 /// The set-up line of a program.
-pub fn program_line(alloc: Global, terminal: &str, words: &[u32]) -> Result<String, Error> {
+pub fn program_line(alloc: Global, terminal: &str, words: &[u32]) -> Result<String, AllocError> {
     let mut line = format!(in alloc; "program {terminal}")?;
     for word in words {
-        line.push_str(format!(in alloc; " {word:08x}")?.as_str())?;
+        push_word(alloc, &mut line, *word)?;
     }
     Ok(line)
 }

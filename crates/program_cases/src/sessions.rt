@@ -258,22 +258,38 @@ impl Reading {
     }
 }
 
+/// Begins with a run of the program.
+fn begin_run(alloc: Global, line: &str) -> Result<Reading, Error> {
+    let words = line.trim_start_matches('$').trim();
+    Ok(Reading::Run(Run::new(alloc, words)?))
+}
+
+/// Begins with a file.
+fn begin_file(alloc: Global, name: &str) -> Result<Reading, Error> {
+    Ok(Reading::File(TextFile {
+        name: String::from_str(alloc, name)?,
+        text: String::new(alloc),
+    }))
+}
+
+/// Begins with a line of these words.
+fn begin_words<R: Files + AllocGlobal>(
+    rt: &R,
+    line: &str,
+    words: &[&str],
+) -> Result<Reading, Error> {
+    match words {
+        [] => Ok(Reading::Nothing),
+        ["$", ..] => begin_run(rt.alloc(), line),
+        ["file", name] => begin_file(rt.alloc(), name),
+        others => do_to_file(rt, others).map(|()| Reading::Nothing),
+    }
+}
+
 /// Begins with a line that does not go on with what was read.
 fn begin<R: Files + AllocGlobal>(rt: &R, line: &str) -> Result<Reading, Error> {
-    let alloc = rt.alloc();
-    let words: Vec<&str> = line.split_whitespace().collect(alloc)?;
-    match words.as_slice() {
-        [] => Ok(Reading::Nothing),
-        ["$", ..] => Ok(Reading::Run(Run::new(alloc, line.trim_start_matches('$').trim())?)),
-        ["file", name] => Ok(Reading::File(TextFile {
-            name: String::from_str(alloc, name)?,
-            text: String::new(alloc),
-        })),
-        others => {
-            do_to_file(rt, others)?;
-            Ok(Reading::Nothing)
-        }
-    }
+    let words: Vec<&str> = line.split_whitespace().collect(rt.alloc())?;
+    begin_words(rt, line, words.as_slice())
 }
 
 /// The mark of a line, and the text after its blank.

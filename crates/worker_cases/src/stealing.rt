@@ -4,7 +4,7 @@ ghost use Rattle.std.specs.Prelude.{◌<◌};
 use crate::case::{Case, Found, QUANTUM, play as play_case};
 use crate::fault::Fault;
 use crate::programs::Open;
-use crate::workers::{Worker, shares_of, workers_of};
+use crate::workers::{Worker, shares_with, workers_of};
 use bursts::{Bench, Naming, Share};
 use kernel::Standing;
 use pool::{Pool, Seat};
@@ -23,12 +23,21 @@ pub fn play<N: Naming + Send + Sync, R: Threads + Wait + Sync>(
 {
     let mut share = share;
     let mut workers = workers_of(alloc, pool, &mut share, Open)?;
-    let first = fetch_at(rt, workers.as_mut_slice(), 0)?;
-    let standing = standing_of_two(rt, pool.bench())?;
-    let second = fetch_at(rt, workers.as_mut_slice(), 1)?;
-    let mut shares = shares_of(alloc, workers)?;
-    shares.push(share)?;
-    Ok((words(alloc, first, standing, second)?, shares))
+    let found = fetch_by_two(rt, alloc, pool.bench(), workers.as_mut_slice())?;
+    Ok((found, shares_with(alloc, workers, share)?))
+}
+
+/// What the first two of these workers fetch, one after the other, and how process 2 stands between the two, in words.
+fn fetch_by_two<N: Naming, R: Wait>(
+    rt: &R,
+    alloc: Global,
+    bench: &Mutex<Bench<'_, N>>,
+    workers: &mut [Worker<'_, '_, N, Open>],
+) -> Result<String, Fault> {
+    let first = fetch_at(rt, workers, 0)?;
+    let standing = standing_of_two(rt, bench)?;
+    let second = fetch_at(rt, workers, 1)?;
+    Ok(words(alloc, first, standing, second)?)
 }
 
 /// Whose loan the seat at this place fetches.

@@ -4,7 +4,7 @@ ghost use Rattle.std.specs.Prelude.{◌<◌};
 use crate::case::{Case, Found, QUANTUM, play as play_case};
 use crate::fault::Fault;
 use crate::programs::{Open, result_of_another};
-use crate::workers::{Worker, shares_of, workers_of};
+use crate::workers::{Worker, shares_with, workers_of};
 use bursts::{Bench, Naming, Share};
 use pool::{Pool, Seat, pool_crew};
 use std::alloc::{AllocError, Global};
@@ -23,12 +23,21 @@ pub fn play<N: Naming + Send + Sync, R: Threads + Wait + Sync>(
 {
     let mut share = share;
     let mut workers = workers_of(alloc, pool, &mut share, Open)?;
-    hand_in_at_first(rt, alloc, workers.as_mut_slice())?;
-    let fault = fault_of(rt, workers.as_mut_slice());
-    let found = words(alloc, fault, is_stopped(rt, pool.bench()))?;
-    let mut shares = shares_of(alloc, workers)?;
-    shares.push(share)?;
-    Ok((found, shares))
+    let found = stop_by_another(rt, alloc, pool.bench(), workers.as_mut_slice())?;
+    Ok((found, shares_with(alloc, workers, share)?))
+}
+
+/// A result of another core is handed in, and then these workers begin. The number of the crew's fault, and whether the work is to
+/// stop, in words.
+fn stop_by_another<N: Naming + Send + Sync, R: Threads + Wait + Sync>(
+    rt: &R,
+    alloc: Global,
+    bench: &Mutex<Bench<'_, N>>,
+    workers: &mut [Worker<'_, '_, N, Open>],
+) -> Result<String, Fault> {
+    hand_in_at_first(rt, alloc, workers)?;
+    let fault = fault_of(rt, workers);
+    Ok(words(alloc, fault, is_stopped(rt, bench))?)
 }
 
 /// The number of a fault, and whether the work is to stop, in words.

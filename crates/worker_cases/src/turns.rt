@@ -4,7 +4,7 @@ ghost use Rattle.std.specs.Prelude.{◌<◌};
 use crate::case::{Case, Found, QUANTUM, play as play_case};
 use crate::fault::Fault;
 use crate::programs::Open;
-use crate::workers::{Worker, crew, shares_of, workers_of};
+use crate::workers::{Worker, crew, shares_with, workers_of};
 use bursts::{Bench, Desk, LockedDesk, Naming, Share, Turned, WorkFault, worker_turn};
 use pool::{Pool, Pooled, Seat};
 use std::alloc::{AllocError, Global};
@@ -24,11 +24,19 @@ pub fn play<N: Naming + Send + Sync, R: Threads + Wait + Sync>(
     let mut share = share;
     let mut workers = workers_of(alloc, pool, &mut share, Open)?;
     let share = turn_from(rt, pool.bench(), share)?;
-    let count = turns_at_first(rt, workers.as_mut_slice())?;
-    crew_of_nobody(rt, workers.as_mut_slice())?;
-    let mut shares = shares_of(alloc, workers)?;
-    shares.push(share)?;
-    Ok((words(alloc, count)?, shares))
+    let found = turns_of_one(rt, alloc, workers.as_mut_slice())?;
+    Ok((found, shares_with(alloc, workers, share)?))
+}
+
+/// Turns at the seat of the first of these workers, and then a crew of nobody. How many turns settled one result each, in words.
+fn turns_of_one<N: Naming + Send + Sync, R: Threads + Wait + Sync>(
+    rt: &R,
+    alloc: Global,
+    workers: &mut [Worker<'_, '_, N, Open>],
+) -> Result<String, Fault> {
+    let count = turns_at_first(rt, workers)?;
+    crew_of_nobody(rt, workers)?;
+    Ok(words(alloc, count)?)
 }
 
 /// So many turns, in words.

@@ -49,6 +49,17 @@ pub fn shares_of<N: Naming, G: Drop>(
     Ok(shares)
 }
 
+/// The shares of workers that have ended, and one more.
+pub fn shares_with<N: Naming, G: Drop>(
+    alloc: Global,
+    workers: Vec<Worker<'_, '_, N, G>>,
+    share: Share<N>,
+) -> Result<Vec<Share<N>>, Fault> {
+    let mut shares = shares_of(alloc, workers)?;
+    shares.push(share)?;
+    Ok(shares)
+}
+
 /// Workers with such gates work at all seats of a pool until the work is over. Answers their shares.
 pub fn work<N: Naming + Send + Sync, G: Gate + Copy + Send, R: Threads + Wait + Sync>(
     rt: &R,
