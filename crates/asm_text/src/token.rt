@@ -6,7 +6,7 @@ use byte_list::Bytes;
 use std::marker::Model;
 
 /// What a token is.
-#[derive(Debug, Drop)]
+#[derive(Drop)]
 pub enum TokenKind {
     /// A mnemonic, a register, a label or a directive: a letter, `_` or `.`, then letters, digits and `_`, at most 64
     /// bytes.

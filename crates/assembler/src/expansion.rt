@@ -1,6 +1,9 @@
 //! What a mnemonic with its operands stands for.
 ghost use Rattle.std.specs.Prelude.{◌≡◌};
-ghost use Rattle.assembler.specs.Expansion.{expansion_of, register_instr, immediate_instr, shift_instr, load_instr, store_instr, branch_instr, upper_instr, unary_instr, plain_instr, link_register, li_expansion, la_expansion, written, words_taken};
+ghost use Rattle.std.specs.Option.{option_map};
+ghost use Rattle.formats.specs.declared.instr.Instr.TheVariants as instr;
+ghost use Rattle.assembler.specs.declared.expansion.Expansion.TheVariants.{One};
+ghost use Rattle.assembler.specs.Expansion.{immediate_of, branch_offset_of, jump_offset_of, upper_of, amount_of, expansion_of, register_instr, immediate_instr, shift_instr, load_instr, store_instr, branch_instr, upper_instr, unary_instr, plain_instr, link_register, li_expansion, la_expansion, written, words_taken};
 
 use crate::fields::{
     amount, branch_offset, high_part, immediate, jump_offset, low_part, modulo_word, upper,
@@ -10,7 +13,7 @@ use crate::mnemonic::{
     UpperOp,
 };
 use crate::operands::{Operands, Value};
-use formats::{BranchOffset, Immediate, Instr, Reg, ShiftAmount, Upper};
+use formats::{Immediate, Instr, Reg};
 
 /// The instructions that one statement stands for.
 #[derive(Clone, Copy)]
@@ -26,41 +29,32 @@ pub fn expanded(mnemonic: Mnemonic, operands: &Operands, number: i64) -> Option<
 {
     let first = operands.first;
     let second = operands.second;
-    let zero = Reg::new(0);
-    let instr = match mnemonic {
-        Mnemonic::Registers(op) => register_instr(op, first, second, operands.third),
-        Mnemonic::Immediate(op) => immediate_instr(op, first, second, immediate(number)?),
-        Mnemonic::Shift(op) => shift_instr(op, first, second, amount(number)?),
-        Mnemonic::Load(op) => load_instr(op, first, second, immediate(number)?),
-        Mnemonic::Store(op) => store_instr(op, second, first, immediate(number)?),
-        Mnemonic::Branch(op) => branch_instr(op, first, second, branch_offset(number)?),
-        Mnemonic::Swapped(op) => branch_instr(op, second, first, branch_offset(number)?),
-        Mnemonic::WithZero(op) => branch_instr(op, first, zero, branch_offset(number)?),
-        Mnemonic::FromZero(op) => branch_instr(op, zero, first, branch_offset(number)?),
-        Mnemonic::Upper(op) => upper_instr(op, first, upper(number)?),
-        Mnemonic::Jal => {
-            let offset = jump_offset(number)?;
-            Instr::Jal { rd: first, offset }
+    match mnemonic {
+        Mnemonic::Registers(op) => {
+            let instr = register_instr(op, first, second, operands.third);
+            Some(Expansion::One(instr))
         }
-        Mnemonic::Jump(link) => {
-            let offset = jump_offset(number)?;
-            let rd = link_register(link);
-            Instr::Jal { rd, offset }
-        }
-        Mnemonic::JumpRegister(link) => Instr::Jalr {
+        Mnemonic::Immediate(op) => immediate_instr(op, first, second, number),
+        Mnemonic::Shift(op) => shift_instr(op, first, second, number),
+        Mnemonic::Load(op) => load_instr(op, first, second, number),
+        Mnemonic::Store(op) => store_instr(op, second, first, number),
+        Mnemonic::Branch(op) => branch_instr(op, first, second, number),
+        Mnemonic::Swapped(op) => branch_instr(op, second, first, number),
+        Mnemonic::WithZero(op) => branch_instr(op, first, Reg::new(0), number),
+        Mnemonic::FromZero(op) => branch_instr(op, Reg::new(0), first, number),
+        Mnemonic::Upper(op) => upper_instr(op, first, number),
+        Mnemonic::Jal => jump_instr(first, number),
+        Mnemonic::Jump(link) => jump_instr(link_register(link), number),
+        Mnemonic::JumpRegister(link) => Some(Expansion::One(Instr::Jalr {
             rd: link_register(link),
             rs1: first,
             imm: Immediate::new(0),
-        },
-        Mnemonic::Unary(op) => unary_instr(op, first, second),
-        Mnemonic::Plain(op) => plain_instr(op),
-        Mnemonic::Li => {
-            let word = modulo_word(written(operands.value));
-            return Some(load_word(first, word));
-        }
-        Mnemonic::La => return Some(load_address(first, modulo_word(number))),
-    };
-    Some(Expansion::One(instr))
+        })),
+        Mnemonic::Unary(op) => Some(Expansion::One(unary_instr(op, first, second))),
+        Mnemonic::Plain(op) => Some(Expansion::One(plain_instr(op))),
+        Mnemonic::Li => Some(load_word(first, modulo_word(written(operands.value)))),
+        Mnemonic::La => Some(load_address(first, modulo_word(number))),
+    }
 }
 
 /// How many words a mnemonic with its operands takes.
@@ -142,72 +136,92 @@ fn register_instr(op: RegisterOp, rd: Reg, rs1: Reg, rs2: Reg) -> Instr
     }
 }
 
-fn immediate_instr(op: ImmediateOp, rd: Reg, rs1: Reg, imm: Immediate) -> Instr
-    ensures { result ≡ immediate_instr op rd rs1 imm }
+fn immediate_instr(op: ImmediateOp, rd: Reg, rs1: Reg, number: i64) -> Option<Expansion>
+    ensures { result ≡ option_map (λ imm. One (immediate_instr op rd rs1 imm)) (immediate_of number) }
 {
-    match op {
+    let imm = immediate(number)?;
+    let instr = match op {
         ImmediateOp::Addi => Instr::Addi { rd, rs1, imm },
         ImmediateOp::Slti => Instr::Slti { rd, rs1, imm },
         ImmediateOp::Sltiu => Instr::Sltiu { rd, rs1, imm },
         ImmediateOp::Xori => Instr::Xori { rd, rs1, imm },
         ImmediateOp::Ori => Instr::Ori { rd, rs1, imm },
         ImmediateOp::Andi => Instr::Andi { rd, rs1, imm },
-    }
+    };
+    Some(Expansion::One(instr))
 }
 
-fn shift_instr(op: ShiftOp, rd: Reg, rs1: Reg, amount: ShiftAmount) -> Instr
-    ensures { result ≡ shift_instr op rd rs1 amount }
+fn shift_instr(op: ShiftOp, rd: Reg, rs1: Reg, number: i64) -> Option<Expansion>
+    ensures { result ≡ option_map (λ amount. One (shift_instr op rd rs1 amount)) (amount_of number) }
 {
-    match op {
+    let amount = amount(number)?;
+    let instr = match op {
         ShiftOp::Slli => Instr::Slli { rd, rs1, amount },
         ShiftOp::Srli => Instr::Srli { rd, rs1, amount },
         ShiftOp::Srai => Instr::Srai { rd, rs1, amount },
-    }
+    };
+    Some(Expansion::One(instr))
 }
 
-fn load_instr(op: LoadOp, rd: Reg, rs1: Reg, imm: Immediate) -> Instr
-    ensures { result ≡ load_instr op rd rs1 imm }
+fn load_instr(op: LoadOp, rd: Reg, rs1: Reg, number: i64) -> Option<Expansion>
+    ensures { result ≡ option_map (λ imm. One (load_instr op rd rs1 imm)) (immediate_of number) }
 {
-    match op {
+    let imm = immediate(number)?;
+    let instr = match op {
         LoadOp::Jalr => Instr::Jalr { rd, rs1, imm },
         LoadOp::Lb => Instr::Lb { rd, rs1, imm },
         LoadOp::Lh => Instr::Lh { rd, rs1, imm },
         LoadOp::Lw => Instr::Lw { rd, rs1, imm },
         LoadOp::Lbu => Instr::Lbu { rd, rs1, imm },
         LoadOp::Lhu => Instr::Lhu { rd, rs1, imm },
-    }
+    };
+    Some(Expansion::One(instr))
 }
 
-fn store_instr(op: StoreOp, rs1: Reg, rs2: Reg, imm: Immediate) -> Instr
-    ensures { result ≡ store_instr op rs1 rs2 imm }
+fn store_instr(op: StoreOp, rs1: Reg, rs2: Reg, number: i64) -> Option<Expansion>
+    ensures { result ≡ option_map (λ imm. One (store_instr op rs1 rs2 imm)) (immediate_of number) }
 {
-    match op {
+    let imm = immediate(number)?;
+    let instr = match op {
         StoreOp::Sb => Instr::Sb { rs1, rs2, imm },
         StoreOp::Sh => Instr::Sh { rs1, rs2, imm },
         StoreOp::Sw => Instr::Sw { rs1, rs2, imm },
-    }
+    };
+    Some(Expansion::One(instr))
 }
 
-fn branch_instr(op: BranchOp, rs1: Reg, rs2: Reg, offset: BranchOffset) -> Instr
-    ensures { result ≡ branch_instr op rs1 rs2 offset }
+fn branch_instr(op: BranchOp, rs1: Reg, rs2: Reg, number: i64) -> Option<Expansion>
+    ensures { result ≡ option_map (λ offset. One (branch_instr op rs1 rs2 offset)) (branch_offset_of number) }
 {
-    match op {
+    let offset = branch_offset(number)?;
+    let instr = match op {
         BranchOp::Beq => Instr::Beq { rs1, rs2, offset },
         BranchOp::Bne => Instr::Bne { rs1, rs2, offset },
         BranchOp::Blt => Instr::Blt { rs1, rs2, offset },
         BranchOp::Bge => Instr::Bge { rs1, rs2, offset },
         BranchOp::Bltu => Instr::Bltu { rs1, rs2, offset },
         BranchOp::Bgeu => Instr::Bgeu { rs1, rs2, offset },
-    }
+    };
+    Some(Expansion::One(instr))
 }
 
-fn upper_instr(op: UpperOp, rd: Reg, imm: Upper) -> Instr
-    ensures { result ≡ upper_instr op rd imm }
+fn upper_instr(op: UpperOp, rd: Reg, number: i64) -> Option<Expansion>
+    ensures { result ≡ option_map (λ imm. One (upper_instr op rd imm)) (upper_of number) }
 {
-    match op {
+    let imm = upper(number)?;
+    let instr = match op {
         UpperOp::Lui => Instr::Lui { rd, imm },
         UpperOp::Auipc => Instr::Auipc { rd, imm },
-    }
+    };
+    Some(Expansion::One(instr))
+}
+
+/// A JAL to a distance, where it fits.
+fn jump_instr(rd: Reg, number: i64) -> Option<Expansion>
+    ensures { result ≡ option_map (λ offset. One (instr.Jal rd offset)) (jump_offset_of number) }
+{
+    let offset = jump_offset(number)?;
+    Some(Expansion::One(Instr::Jal { rd, offset }))
 }
 
 fn unary_instr(op: UnaryOp, rd: Reg, rs: Reg) -> Instr

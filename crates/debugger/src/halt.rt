@@ -2,7 +2,7 @@
 use machine::Cause;
 
 /// What keeps a machine from going on along its trace.
-#[derive(Clone, Copy, Debug, PartialEq, Eq)]
+#[derive(Clone, Copy)]
 pub enum Halt {
     /// It stands at an instruction that traps.
     Trap(Cause),

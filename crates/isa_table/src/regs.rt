@@ -5,7 +5,7 @@ ghost use Rattle.machine_model.specs.Effects.{put};
 use formats::Reg;
 
 /// The registers x0 to x31, of which x0 is always 0, and the program counter, always a multiple of 4.
-#[derive(Clone, Copy, Debug, PartialEq, Eq)]
+#[derive(Clone, Copy, PartialEq, Eq)]
 pub struct Regs {
     pub x: [u32; 32],
     pub pc: u32,

@@ -8,3 +8,4 @@ pub mod Pages
 pub mod Loaded
 pub mod Ways
 pub mod Fused
+pub mod Says

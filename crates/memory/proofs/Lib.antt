@@ -7,3 +7,4 @@ pub mod Cells
 pub mod Ranges
 pub mod SameWords
 pub mod Standing
+pub mod Copies
