@@ -1,3 +1,4 @@
 -- The lemmas.
 pub mod Patching
 pub mod Numbering
+pub mod Absent

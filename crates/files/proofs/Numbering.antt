@@ -1,10 +1,9 @@
 -- Numbers beside files.
 use Rattle.std.proofs.Common.{◌≡◌, ℕ, zero, suc, ◌+◌, ◌<◌, ◌≤◌, ◌-◌, List, [], ◌∷◌, ◌++◌, length, take, drop, Option, Some, None, refl, sym, ap, ◌∙◌, arith, length-append}
 use Rattle.std.specs.List.{remove}
-use Rattle.std.specs.Prelude.{slice_get}
 use Rattle.std.proofs.lemmas.List.{take_all, drop_all, append-nil, length-take, length-drop, length-set}
 use Rattle.disk_model.specs.Numbers.{numbers_from}
-use Rattle.disk_model.specs.Files.{loser, place_named, with_name}
+use Rattle.disk_model.specs.Files.{with_name}
 use Rattle.disk_model.specs.declared.change.NamedFile.{NamedFile}
 
 -- there is a number for each file

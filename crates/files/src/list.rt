@@ -3,6 +3,7 @@ ghost use Rattle.std.specs.Prelude.{IfOk, IfSome, List, ◌≡◌, ◌<◌, ◌�
 ghost use Rattle.disk_model.specs.declared.change.NamedFile.{NamedFile};
 ghost use Rattle.disk_model.specs.declared.change.Change.TheVariants.{Create, Write, Empty, Remove, Rename};
 ghost use Rattle.disk_model.specs.Files.{changed, loser, patched, place_named};
+ghost use Rattle.files.specs.There.{has_its_file};
 
 use byte_list::Bytes;
 use disk_model::{Change, NamedFile};
@@ -54,6 +55,33 @@ pub fn part_of(bytes: &[u8], offset: usize, n: usize) -> &[u8]
 {
     let rest = &bytes[offset.min(bytes.len())..];
     &rest[..n.min(rest.len())]
+}
+
+/// A copy of a file.
+fn copy_of(alloc: Global, file: &NamedFile) -> Result<NamedFile, AllocError>
+    ensures { IfOk result (λ f. f ≡ file.now) }
+{
+    Ok(NamedFile {
+        name: file.name.try_clone(alloc)?,
+        bytes: file.bytes.try_clone(alloc)?,
+    })
+}
+
+/// Whether so many files have the one that a change names. A creation names none.
+pub(crate) fn has_its_file(change: &Change, count: usize) -> bool
+    ensures { result ≡ has_its_file change.now count }
+{
+    match change {
+        Change::Create(_) => true,
+        Change::Write {
+            file,
+            offset: _,
+            bytes: _,
+        } => usize::from(*file) < count,
+        Change::Empty(file) => usize::from(*file) < count,
+        Change::Remove(file) => usize::from(*file) < count,
+        Change::Rename { file, name: _ } => usize::from(*file) < count,
+    }
 }
 
 impl FileList {
@@ -190,41 +218,26 @@ impl FileList {
         ensures inside { (place offset : ℕ) (bytes : List ℕ) → change.now ≡ Write place offset bytes
             → IfSome (slice_get self.old place) (λ (f : NamedFile). offset + length bytes ≤ length f.bytes) → IsOk result }
     {
+        if !has_its_file(change, self.count()) {
+            return Ok(());
+        }
         match change {
-            Change::Create(name) => {
-                let name = name.try_clone(self.alloc)?;
-                self.create(name)
-            }
+            Change::Create(name) => self.create(name.try_clone(self.alloc)?),
             Change::Write {
                 file,
                 offset,
                 bytes,
-            } => {
-                let place = usize::from(*file);
-                if place < self.count() {
-                    self.write(place, *offset as usize, bytes.as_slice())?;
-                }
-                Ok(())
-            }
+            } => self.write(usize::from(*file), *offset as usize, bytes.as_slice()),
             Change::Empty(file) => {
-                let place = usize::from(*file);
-                if place < self.count() {
-                    self.empty(place);
-                }
+                self.empty(usize::from(*file));
                 Ok(())
             }
             Change::Remove(file) => {
-                let place = usize::from(*file);
-                if place < self.count() {
-                    self.remove(place);
-                }
+                self.remove(usize::from(*file));
                 Ok(())
             }
             Change::Rename { file, name } => {
-                let place = usize::from(*file);
-                if place < self.count() {
-                    self.rename(place, name.try_clone(self.alloc)?);
-                }
+                self.rename(usize::from(*file), name.try_clone(self.alloc)?);
                 Ok(())
             }
         }
@@ -236,10 +249,7 @@ impl FileList {
     {
         let mut files = Vec::new(self.alloc);
         for file in &self.files {
-            files.push(NamedFile {
-                name: file.name.try_clone(self.alloc)?,
-                bytes: file.bytes.try_clone(self.alloc)?,
-            })?;
+            files.push(copy_of(self.alloc, file)?)?;
         }
         Ok(FileList {
             alloc: self.alloc,

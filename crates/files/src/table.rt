@@ -5,7 +5,7 @@ ghost use Rattle.disk_model.specs.declared.change.Change.TheVariants.{Create, Wr
 ghost use Rattle.disk_model.specs.Files.{place_named};
 ghost use Rattle.disk_model.specs.Numbers.{changed_numbered, lives, numbered, place_of};
 
-use crate::list::FileList;
+use crate::list::{FileList, has_its_file};
 use byte_list::Bytes;
 use disk_model::{Change, NamedFile};
 use std::alloc::{AllocError, Global};
@@ -225,41 +225,26 @@ impl FileTable {
         ensures inside { (place offset : ℕ) (bytes : List ℕ) → change.now ≡ Write place offset bytes
             → IfSome (slice_get self.old.living place) (λ (f : NamedFile). offset + length bytes ≤ length f.bytes) → IsOk result }
     {
+        if !has_its_file(change, self.list.count()) {
+            return Ok(());
+        }
         match change {
-            Change::Create(name) => {
-                let name = name.try_clone(self.alloc)?;
-                self.create(name)
-            }
+            Change::Create(name) => self.create(name.try_clone(self.alloc)?),
             Change::Write {
                 file,
                 offset,
                 bytes,
-            } => {
-                let place = usize::from(*file);
-                if place < self.list.count() {
-                    self.write(place, *offset as usize, bytes.as_slice())?;
-                }
-                Ok(())
-            }
+            } => self.write(usize::from(*file), *offset as usize, bytes.as_slice()),
             Change::Empty(file) => {
-                let place = usize::from(*file);
-                if place < self.list.count() {
-                    self.empty(place);
-                }
+                self.empty(usize::from(*file));
                 Ok(())
             }
             Change::Remove(file) => {
-                let place = usize::from(*file);
-                if place < self.list.count() {
-                    self.unlink(place);
-                }
+                self.unlink(usize::from(*file));
                 Ok(())
             }
             Change::Rename { file, name } => {
-                let place = usize::from(*file);
-                if place < self.list.count() {
-                    self.rename(place, name.try_clone(self.alloc)?);
-                }
+                self.rename(usize::from(*file), name.try_clone(self.alloc)?);
                 Ok(())
             }
         }

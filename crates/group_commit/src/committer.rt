@@ -12,12 +12,12 @@ ghost use Rattle.group_commit.specs.Refusals.{cut_test, last_refusal};
 ghost use Rattle.group_commit.specs.Plans.{planned, HasRoom, Begins};
 ghost use Rattle.group_commit.specs.declared.refusal.CommitRefusal.TheVariants.{NoSuchWrite, OutOfMemory};
 
-use crate::pieces::{byte_piece, pieces_of, record_of};
+use crate::pieces::{byte_piece, checkpoint_stages, gate_past, record_pieces};
 use crate::plan::Plan;
 use crate::refusal::CommitRefusal;
 use disk_model::{Change, Piece, checkpoints_fit};
 use files::FileTable;
-use journal::{body_of, first_gate, half_end, half_of, rebuild, selector_of};
+use journal::{body_of, first_gate, half_end, half_of, rebuild};
 use simdisk::{DiskRefusal, SimDisk};
 use std::alloc::Global;
 use std::marker::Model;
@@ -293,8 +293,7 @@ impl Committer {
         ensures cause { IfErr result (λ e. e ≡ OutOfMemory) }
     {
         let committed = self.raised(changes.len());
-        let record = record_of(alloc, bytes)?;
-        let first = pieces_of(alloc, self.gate + 1, &record)?;
+        let first = record_pieces(alloc, self.gate, bytes)?;
         let writes = first.len() as u64 + 1;
         let mut later = Vec::new(alloc);
         later.push(byte_piece(alloc, self.gate, 1)?)?;
@@ -303,7 +302,7 @@ impl Committer {
             later,
             writes,
             half: self.half,
-            gate: self.gate + 5 + bytes.len() as u32,
+            gate: gate_past(self.gate, bytes),
             count: changes.len() as u64,
             committed,
         })
@@ -326,20 +325,16 @@ impl Committer {
         let gate = first_gate(half);
         let committed = self.raised(count);
         let bytes = body_of(alloc, all)?;
-        let record = record_of(alloc, &bytes)?;
-        let pieces = pieces_of(alloc, gate + 1, &record)?;
+        let pieces = record_pieces(alloc, gate, &bytes)?;
         let writes = pieces.len() as u64 + 3;
         let first = byte_piece(alloc, gate, 0)?;
-        let mut later = Vec::new(alloc);
-        later.push(pieces)?;
-        later.push(byte_piece(alloc, gate, 1)?)?;
-        later.push(byte_piece(alloc, 0, selector_of(half))?)?;
+        let later = checkpoint_stages(alloc, pieces, gate, half)?;
         Ok(Plan {
             first,
             later,
             writes,
             half,
-            gate: gate + 5 + bytes.len() as u32,
+            gate: gate_past(gate, &bytes),
             count: count as u64,
             committed,
         })

@@ -1,10 +1,12 @@
 //! The pieces that a stage writes.
 ghost use Rattle.std.specs.Prelude.{◌≡◌, ◌≤◌, ◌<◌, ◌+◌, ◌^◌, ◌++◌, ◌∷◌, [], List, length, IfOk};
 ghost use Rattle.std.specs.Int.{w32, to_le_bytes};
-ghost use Rattle.disk_model.specs.Storage.{pieces, one_byte};
+ghost use Rattle.disk_model.specs.Storage.{pieces, one_byte, selector};
+ghost use Rattle.group_commit.specs.Stages.{items_of};
 
 use byte_list::Bytes;
 use disk_model::Piece;
+use journal::selector_of;
 use std::alloc::{AllocError, Global};
 
 /// How many bytes each piece has but the last of a stage.
@@ -48,4 +50,37 @@ pub fn byte_piece(alloc: Global, at: u32, byte: u8) -> Result<Vec<Piece>, AllocE
     let mut pieces = Vec::new(alloc);
     pieces.push(Piece { at, bytes })?;
     Ok(pieces)
+}
+
+/// The pieces of a record of this body, whose gate is at a place.
+pub fn record_pieces(alloc: Global, gate: u32, body: &[u8]) -> Result<Vec<Piece>, AllocError>
+    requires { gate + 6 + length body.now ≤ 2097152 }
+    ensures { IfOk result (λ v. v.items ≡ pieces (gate + 1) (to_le_bytes w32 (length body.now) ++ body.now ++ 0 ∷ [])) }
+{
+    let record = record_of(alloc, body)?;
+    pieces_of(alloc, gate + 1, &record)
+}
+
+/// The place of the gate after a record of this body, whose own gate is at a place.
+pub fn gate_past(gate: u32, body: &[u8]) -> u32
+    requires { gate + 5 + length body.now < 2 ^ 32 }
+    ensures { result ≡ gate + 5 + length body.now }
+{
+    gate + 5 + body.len() as u32
+}
+
+/// The stages of a checkpoint after its first: its pieces, its gate, which is at a place, and byte 0, which selects its half.
+pub fn checkpoint_stages(
+    alloc: Global,
+    record: Vec<Piece>,
+    gate: u32,
+    half: bool,
+) -> Result<Vec<Vec<Piece>>, AllocError>
+    ensures { IfOk result (λ v. items_of v.items ≡ record.items ∷ one_byte gate 1 ∷ one_byte 0 (selector half) ∷ []) }
+{
+    let mut stages = Vec::new(alloc);
+    stages.push(record)?;
+    stages.push(byte_piece(alloc, gate, 1)?)?;
+    stages.push(byte_piece(alloc, 0, selector_of(half))?)?;
+    Ok(stages)
 }

@@ -4,28 +4,23 @@ ghost use Rattle.group_commit.specs.Refusals.{number_of};
 ghost use Rattle.group_commit.specs.declared.refusal.CommitRefusal.TheVariants.{OutOfMemory};
 
 use std::alloc::{AllocError, AllocFailed};
+use std::fmt;
 use thiserror::Error;
 
 /// Why a call was refused. A refused call changes nothing.
 #[derive(Clone, Copy, Debug, PartialEq, Eq, Error)]
 pub enum CommitRefusal {
     /// A group is not yet committed.
-    #[error("a group is in flight")]
     GroupInFlight = 5,
     /// There is no uncommitted change.
-    #[error("there is nothing to cut")]
     NothingToCut = 6,
     /// No write in flight begins there.
-    #[error("no write in flight begins there")]
     NoSuchWrite = 7,
     /// A write has failed, so nothing is submitted any more.
-    #[error("a write has failed")]
     DiskFailed = 8,
     /// Memory ran out.
-    #[error("out of memory")]
     OutOfMemory = 9,
     /// With these changes there would be more than a u64 counts.
-    #[error("there are more changes than are counted")]
     Budget = 11,
 }
 
@@ -35,6 +30,24 @@ impl CommitRefusal {
         ensures { result ≡ number_of self }
     {
         self as u8
+    }
+
+    /// What it says.
+    fn text(self) -> &'static str {
+        match self {
+            CommitRefusal::GroupInFlight => "a group is in flight",
+            CommitRefusal::NothingToCut => "there is nothing to cut",
+            CommitRefusal::NoSuchWrite => "no write in flight begins there",
+            CommitRefusal::DiskFailed => "a write has failed",
+            CommitRefusal::OutOfMemory => "out of memory",
+            CommitRefusal::Budget => "there are more changes than are counted",
+        }
+    }
+}
+
+impl fmt::Display for CommitRefusal {
+    fn fmt<W: fmt::Write>(&self, f: &mut fmt::Formatter<W>) -> fmt::Result {
+        f.write_str(self.text())
     }
 }
 

@@ -1,7 +1,7 @@
 -- The changes of a checkpoint, write by write and file by file.
 use Rattle.std.proofs.Common.{◌≡◌, ℕ, zero, suc, ◌+◌, ◌<◌, ◌≤◌, min, List, [], ◌∷◌, ◌++◌, length, get_or, take, drop, refl, sym, ap, ◌∙◌, append_assoc, arith}
 use Rattle.std.specs.List.{AllByRecursion}
-use Rattle.std.proofs.lemmas.List.{drop_more, length-drop}
+use Rattle.std.proofs.lemmas.List.{drop_more, drop_all, append-nil, length-drop}
 use Rattle.disk_model.specs.declared.change.Change.{Change}
 use Rattle.disk_model.specs.declared.change.Change.TheVariants.{Create, Write}
 use Rattle.disk_model.specs.declared.change.NamedFile.{NamedFile}
@@ -51,6 +51,10 @@ file_more out files i d total lt so_far =
     ap (λ (l : List Change). l ++ rebuild_from (i + 1) (drop (i + 1) files)) (append_assoc out (Create (get_or files i d).name ∷ []) (writes_from (length (get_or files i d).bytes) 1024 i 0 (get_or files i d).bytes))
     ∙ append_assoc out (changes_making i (get_or files i d)) (rebuild_from (i + 1) (drop (i + 1) files))
     ∙ ap (λ (l : List NamedFile). out ++ rebuild_from i l) (sym (drop_more files i d lt)) ∙ so_far
+
+-- no file more
+pub file_end : (out : List Change) (files : List NamedFile) (i : ℕ) (total : List Change) → length files ≤ i → out ++ rebuild_from i (drop i files) ≡ total → out ≡ total
+file_end out files i total le so_far = sym (append-nil out) ∙ ap (λ (l : List NamedFile). out ++ rebuild_from i l) (sym (drop_all i files le)) ∙ so_far
 
 -- each file is short
 pub short_at : (files : List NamedFile) (i : ℕ) (d : NamedFile) → AllByRecursion (λ (f : NamedFile). length f.bytes ≤ 16384) files → i < length files → length (get_or files i d).bytes ≤ 16384

@@ -21,7 +21,7 @@ use Rattle.journal.specs.Faults.{size_after, FaultAfter, IsFault, TellsFault}
 use Rattle.journal.specs.Reading.{selected, recovered, Fails}
 use Rattle.journal.proofs.Found.{changes_takes}
 use Rattle.journal.proofs.Whole.{tail, tail_cons, half_facts}
-use Rattle.journal.proofs.FoundAll.{body_is, record_found, tail_get, tail_bytes, tail_length, is_open, follow_join}
+use Rattle.journal.proofs.FoundAll.{body_is, record_found, FoundOne, tail_get, tail_bytes, tail_length, is_open, follow_join}
 
 abbrev fails : {A : Type 0} → DiskFault → Result A DiskFault
 fails d = Err d
@@ -207,6 +207,20 @@ on_err : {A : Type 0} (o : Option A) (f : A → Result (List NamedFile × List �
 on_err None f r d e = absurd cc
 on_err (Some b) f r d e = (b, refl, e)
 
+-- one record, and the fault after it
+faulty_more : (d : List ℕ) (last at : ℕ) (files later : List NamedFile) (after : List ℕ) (fault : DiskFault) (one : FoundOne d last at files later after)
+    → Faulty d last (gate_after at one.cs) later fault → Faulty d last at files fault
+faulty_more d last at files later after fault one r =
+    let j = follow_join files one.cs (joined r.groups) one.follow (subst (λ (fs : List NamedFile). Follow fs (joined r.groups)) one.makes r.follow) in
+    record {
+      gate = r.gate;
+      groups = one.cs ∷ r.groups;
+      records = (one.is, r.records);
+      follow = j.0;
+      opened_is = r.opened_is;
+      after = subst (λ (fs : List NamedFile). FaultAfter d last r.gate fs fault) (ap (λ (fs : List NamedFile). files_after fs (joined r.groups)) one.makes ∙ sym j.1) r.after;
+    }
+
 records_faulty : (n : ℕ) (d : List ℕ) (last at : ℕ) (files : List NamedFile) (fault : DiskFault) → IsBytes d → last ≤ length d → last ≤ 2097152 → at < last → length (tail d last at) ≤ n
     → records_at n files (tail d last at) ≡ Err fault → Faulty d last at files fault
 unfolding records_at
@@ -219,16 +233,8 @@ records_faulty (suc n) d last at files fault fits le small lt enough e =
       | inr (y, h, g) ↦ (
           let one = record_found d last at files y fits le lt o.0 (ap (record_at files) o.1 ∙ h) in
           let within = one.is.within in
-          let r = records_faulty n d last (gate_after at one.cs) y.0 fault fits le small within (omega (arith, tail_length d last at le, tail_length d last (gate_after at one.cs) le)) (ap (records_at n y.0) (sym one.left) ∙ g) in
-          let j = follow_join files one.cs (joined r.groups) one.follow (subst (λ (fs : List NamedFile). Follow fs (joined r.groups)) one.makes r.follow) in
-          record {
-            gate = r.gate;
-            groups = one.cs ∷ r.groups;
-            records = (one.is, r.records);
-            follow = j.0;
-            opened_is = r.opened_is;
-            after = subst (λ (fs : List NamedFile). FaultAfter d last r.gate fs fault) (ap (λ (fs : List NamedFile). files_after fs (joined r.groups)) one.makes ∙ sym j.1) r.after;
-          }
+          faulty_more d last at files y.0 y.1 fault one
+          (records_faulty n d last (gate_after at one.cs) y.0 fault fits le small within (omega (arith, tail_length d last at le, tail_length d last (gate_after at one.cs) le)) (ap (records_at n y.0) (sym one.left) ∙ g))
           )
     ]
 

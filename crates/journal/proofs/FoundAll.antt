@@ -137,6 +137,24 @@ is_open g bytes b e = go (g == 1) refl e
 is_shut : (g : ℕ) (bytes : List ℕ) → opened (g ∷ bytes) ≡ None → g ≡ 1 → ⊥
 is_shut g bytes e one = let h : cond (g == 1) (Some bytes) None ≡ cond true (Some bytes) None = ap (λ (t : Bool). cond t (Some bytes) None) (eq-eqb g 1 one) in let k : Some bytes ≡ None = sym h ∙ e in cc
 
+-- one record, and those that are found after it
+found_more : (d : List ℕ) (last at : ℕ) (files later made : List NamedFile) (after rest : List ℕ) (one : FoundOne d last at files later after)
+    → FoundAll d last (gate_after at one.cs) later made rest → FoundAll d last at files made rest
+found_more d last at files later made after rest one r =
+    let from = r.from in
+    let j = follow_join files one.cs (joined r.groups) one.follow (subst (λ (fs : List NamedFile). Follow fs (joined r.groups)) one.makes r.follow) in
+    record {
+      upto = r.upto;
+      groups = one.cs ∷ r.groups;
+      records = (one.is, r.records);
+      follow = j.0;
+      makes = r.makes ∙ ap (λ (fs : List NamedFile). files_after fs (joined r.groups)) one.makes ∙ sym j.1;
+      shut = r.shut;
+      from = omega arith;
+      within = r.within;
+      left = r.left;
+    }
+
 pub records_found : (n : ℕ) (d : List ℕ) (last at : ℕ) (files : List NamedFile) (x : List NamedFile × List ℕ) → IsBytes d → last ≤ length d → at < last → length (tail d last at) ≤ n
     → records_at n files (tail d last at) ≡ Ok x → FoundAll d last at files x.0 x.1
 unfolding records_at
@@ -159,20 +177,8 @@ records_found (suc n) d last at files x fits le lt enough e =
           let y = bind_ok (record_at files b) (λ y. records_at n y.0 y.1) x h in
           let one = record_found d last at files y.0 fits le lt o.0 (ap (record_at files) o.1 ∙ y.1) in
           let within = one.is.within in
-          let r = records_found n d last (gate_after at one.cs) y.0.0 x fits le within (omega (arith, tail_length d last at le, tail_length d last (gate_after at one.cs) le)) (ap (records_at n y.0.0) (sym one.left) ∙ y.2) in
-          let from = r.from in
-          let j = follow_join files one.cs (joined r.groups) one.follow (subst (λ (fs : List NamedFile). Follow fs (joined r.groups)) one.makes r.follow) in
-          record {
-            upto = r.upto;
-            groups = one.cs ∷ r.groups;
-            records = (one.is, r.records);
-            follow = j.0;
-            makes = r.makes ∙ ap (λ (fs : List NamedFile). files_after fs (joined r.groups)) one.makes ∙ sym j.1;
-            shut = r.shut;
-            from = omega arith;
-            within = r.within;
-            left = r.left;
-          }
+          found_more d last at files y.0.0 x.0 y.0.1 x.1 one
+          (records_found n d last (gate_after at one.cs) y.0.0 x fits le within (omega (arith, tail_length d last at le, tail_length d last (gate_after at one.cs) le)) (ap (records_at n y.0.0) (sym one.left) ∙ y.2))
           )
     ]
 

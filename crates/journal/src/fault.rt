@@ -4,6 +4,7 @@ ghost use Rattle.journal.specs.Faults.{number_of};
 ghost use Rattle.journal.specs.declared.fault.DiskFault.TheVariants.{OutOfMemory};
 
 use std::alloc::{AllocError, AllocFailed};
+use std::fmt;
 use thiserror::Error;
 
 /// Why a disk cannot be read: the first fault of its records. Records are read from the first on, and inside a record
@@ -11,17 +12,13 @@ use thiserror::Error;
 #[derive(Clone, Copy, Debug, PartialEq, Eq, Error)]
 pub enum DiskFault {
     /// A body that is no list of changes, or has a bad byte in a name.
-    #[error("a record's body is no list of changes")]
     BadRecord = 1,
     /// A change that is not possible where it comes: a creation of a name that is there or of a 33rd file, a change of a file
     /// that is not there, a write that ends past 16,384 bytes, or a renaming to the name that the file has.
-    #[error("a record has a change that is not possible")]
     BadChange = 2,
     /// The gate after a record would lie outside the half.
-    #[error("a record ends past its half")]
     PastHalf = 3,
     /// Memory ran out. It tells nothing about the disk.
-    #[error("out of memory")]
     OutOfMemory = 4,
 }
 
@@ -31,6 +28,22 @@ impl DiskFault {
         ensures { result ≡ number_of self }
     {
         self as u8
+    }
+
+    /// What it says.
+    fn text(self) -> &'static str {
+        match self {
+            DiskFault::BadRecord => "a record's body is no list of changes",
+            DiskFault::BadChange => "a record has a change that is not possible",
+            DiskFault::PastHalf => "a record ends past its half",
+            DiskFault::OutOfMemory => "out of memory",
+        }
+    }
+}
+
+impl fmt::Display for DiskFault {
+    fn fmt<W: fmt::Write>(&self, f: &mut fmt::Formatter<W>) -> fmt::Result {
+        f.write_str(self.text())
     }
 }
 

@@ -1,9 +1,11 @@
 //! Reading the records of a half.
 ghost use Rattle.std.specs.Prelude.{◌≡◌, ◌<◌, [], length, slice_get, option_map, None, IsOk};
+ghost use Rattle.disk_model.specs.declared.change.Change.TheVariants.{Create, Write, Empty, Remove, Rename};
 ghost use Rattle.journal.specs.Reading.{is_unnamed, is_called, Gives, GivesNew, GivesBoth, step_at, all_changed, record_at, records_at, opened};
 
 use crate::fault::DiskFault;
 use crate::reading::{body_in, read_changes};
+use byte_list::Bytes;
 use disk_model::{Change, LONGEST_FILE, MOST_FILES};
 use files::FileList;
 use std::alloc::Global;
@@ -24,54 +26,83 @@ fn is_called(files: &FileList, place: usize, name: &[u8]) -> bool
     files.name(place) == name
 }
 
+/// Creates a file of this name, where none has it and there is room for one.
+fn create_file(alloc: Global, files: &mut FileList, name: &Bytes) -> Result<(), DiskFault>
+    ensures { GivesNew result files.new (step_at files.old (Create name.now)) }
+{
+    if !is_unnamed(files, name.as_slice()) || files.count() >= MOST_FILES {
+        return Err(DiskFault::BadChange);
+    }
+    Ok(files.create(name.try_clone(alloc)?)?)
+}
+
+/// Writes bytes into the file at a place, where there is one and it gets no longer than a file may be.
+fn write_file(files: &mut FileList, place: u16, offset: u32, bytes: &[u8]) -> Result<(), DiskFault>
+    ensures { GivesNew result files.new (step_at files.old (Write place offset bytes.now)) }
+{
+    let place = place as usize;
+    let offset = offset as usize;
+    if place >= files.count() || offset + bytes.len() > LONGEST_FILE as usize {
+        return Err(DiskFault::BadChange);
+    }
+    Ok(files.write(place, offset, bytes)?)
+}
+
+/// Empties the file at a place, where there is one.
+fn empty_file(files: &mut FileList, place: u16) -> Result<(), DiskFault>
+    ensures { GivesNew result files.new (step_at files.old (Empty place)) }
+{
+    let place = place as usize;
+    if place >= files.count() {
+        return Err(DiskFault::BadChange);
+    }
+    files.empty(place);
+    Ok(())
+}
+
+/// Removes the file at a place, where there is one.
+fn remove_file(files: &mut FileList, place: u16) -> Result<(), DiskFault>
+    ensures { GivesNew result files.new (step_at files.old (Remove place)) }
+{
+    let place = place as usize;
+    if place >= files.count() {
+        return Err(DiskFault::BadChange);
+    }
+    files.remove(place);
+    Ok(())
+}
+
+/// Gives the file at a place this name, where there is one and it has another name.
+fn rename_file(
+    alloc: Global,
+    files: &mut FileList,
+    place: u16,
+    name: &Bytes,
+) -> Result<(), DiskFault>
+    ensures { GivesNew result files.new (step_at files.old (Rename place name.now)) }
+{
+    let place = place as usize;
+    if place >= files.count() || is_called(files, place, name.as_slice()) {
+        return Err(DiskFault::BadChange);
+    }
+    files.rename(place, name.try_clone(alloc)?);
+    Ok(())
+}
+
 /// Does a change, where it is possible.
 fn apply(alloc: Global, files: &mut FileList, change: &Change) -> Result<(), DiskFault>
     ensures { GivesNew result files.new (step_at files.old change.now) }
 {
     match change {
-        Change::Create(name) => {
-            if !is_unnamed(files, name.as_slice()) || files.count() >= MOST_FILES {
-                return Err(DiskFault::BadChange);
-            }
-            Ok(files.create(name.try_clone(alloc)?)?)
-        }
+        Change::Create(name) => create_file(alloc, files, name),
         Change::Write {
             file,
             offset,
             bytes,
-        } => {
-            let place = *file as usize;
-            let offset = *offset as usize;
-            let bytes = bytes.as_slice();
-            if place >= files.count() || offset + bytes.len() > LONGEST_FILE as usize {
-                return Err(DiskFault::BadChange);
-            }
-            Ok(files.write(place, offset, bytes)?)
-        }
-        Change::Empty(file) => {
-            let place = *file as usize;
-            if place >= files.count() {
-                return Err(DiskFault::BadChange);
-            }
-            files.empty(place);
-            Ok(())
-        }
-        Change::Remove(file) => {
-            let place = *file as usize;
-            if place >= files.count() {
-                return Err(DiskFault::BadChange);
-            }
-            files.remove(place);
-            Ok(())
-        }
-        Change::Rename { file, name } => {
-            let place = *file as usize;
-            if place >= files.count() || is_called(files, place, name.as_slice()) {
-                return Err(DiskFault::BadChange);
-            }
-            files.rename(place, name.try_clone(alloc)?);
-            Ok(())
-        }
+        } => write_file(files, *file, *offset, bytes.as_slice()),
+        Change::Empty(file) => empty_file(files, *file),
+        Change::Remove(file) => remove_file(files, *file),
+        Change::Rename { file, name } => rename_file(alloc, files, *file, name),
     }
 }
 

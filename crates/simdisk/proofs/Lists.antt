@@ -1,12 +1,13 @@
 -- Lists of pieces: a search by place, and pieces that lie on a disk.
 use Rattle.std.proofs.Common.{◌≡◌, ℕ, zero, suc, ◌+◌, ◌<◌, ◌≤◌, Bool, true, false, List, [], ◌∷◌, ◌++◌, length, get_or, Option, Some, None, refl, sym, ap, subst, ◌∙◌, arith}
-use Rattle.std.specs.Prelude.{◌==◌, if◌then◌else◌, is_some, IfSome, IfNone}
+use Rattle.std.specs.Prelude.{◌==◌, ◌&&◌, nat_le, if◌then◌else◌, is_some, IfSome, IfNone}
+use Rattle.std.proofs.lemmas.Bool.{false≢true, leb-true}
 use Rattle.std.specs.List.{remove, HoldsAt, AllWithin}
 use Rattle.std.specs.Option.{MatchOption}
 use Rattle.std.proofs.lemmas.List.Recursion.{found_at, found_nowhere}
 use Rattle.disk_model.specs.declared.change.Piece.{Piece}
-use Rattle.disk_model.specs.Storage.{piece_at, without}
-use Rattle.simdisk.specs.Room.{LieOn, AreSpaced}
+use Rattle.disk_model.specs.Storage.{Device, piece_at, without}
+use Rattle.simdisk.specs.Room.{LieOn, AreSpaced, has_room, is_apart}
 
 pub without_none : (ps : List Piece) (at : ℕ) → piece_at ps at ≡ None → without ps at ≡ ps
 without_none [] at e = refl
@@ -75,3 +76,14 @@ pub found_tells : (ps : List Piece) (at : ℕ) (o : Option ℕ) → IfSome o (λ
     → IfNone o ((piece_at ps at ≡ None) × (without ps at ≡ ps)) → is_some o ≡ is_some (piece_at ps at)
 found_tells ps at (Some i) found none = sym (ap is_some (found.1 (record { at = 0; bytes = [] })))
 found_tells ps at None found none = sym (ap is_some none.0)
+
+third_holds : (a b c d e : Bool) → (a && b && c && d && e) ≡ true → c ≡ true
+third_holds true true true d e h = refl
+third_holds true true false d e h = absurd (false≢true h)
+third_holds true false c d e h = absurd (false≢true h)
+third_holds false b c d e h = absurd (false≢true h)
+
+-- a write for which there is room lies on the disk
+pub room_lies : (v : Device) (at n : ℕ) → has_room v at n ≡ true → at + n ≤ 2097152
+room_lies v at n h =
+    leb-true (at + n) 2097152 (third_holds (nat_le 1 n) (nat_le n 4096) (nat_le (at + n) 2097152) (is_apart v.in_flight at n) (is_apart v.failed at n) h)

@@ -130,6 +130,18 @@ impl SimDisk {
         place_of(&self.in_flight, at).is_some()
     }
 
+    /// Whether a write of n bytes at a place has a length that it may have, lies on the disk, and meets nothing in flight or failed.
+    fn has_room(&self, at: u32, n: usize) -> bool
+        ensures { result ≡ has_room self.now at n }
+    {
+        let from = at as usize;
+        n != 0
+            && n <= LONGEST_WRITE
+            && from + n <= SIZE
+            && are_apart(&self.in_flight, from, n)
+            && are_apart(&self.failed, from, n)
+    }
+
     /// Submits a write of these bytes at a place. OutOfRange comes before OutOfMemory.
     pub fn submit(&mut self, at: u32, bytes: &[u8]) -> Result<(), DiskRefusal>
         ensures range { IsErrOf result OutOfRange ↔ (has_room self.old at (length bytes.now) ≡ false) }
@@ -137,14 +149,7 @@ impl SimDisk {
         ensures err { OnErr result (self.new ≡ self.old) }
         ensures cause { IfErr result (λ e. (e ≡ OutOfRange) ⊎ (e ≡ OutOfMemory)) }
     {
-        let n = bytes.len();
-        let from = at as usize;
-        if n == 0
-            || n > LONGEST_WRITE
-            || from + n > SIZE
-            || !are_apart(&self.in_flight, from, n)
-            || !are_apart(&self.failed, from, n)
-        {
+        if !self.has_room(at, bytes.len()) {
             return Err(DiskRefusal::OutOfRange);
         }
         let bytes = Bytes::copy_of(self.alloc, bytes)?;

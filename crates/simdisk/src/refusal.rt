@@ -4,22 +4,19 @@ ghost use Rattle.simdisk.specs.Refusals.{number_of};
 ghost use Rattle.simdisk.specs.declared.refusal.DiskRefusal.TheVariants.{OutOfMemory};
 
 use std::alloc::{AllocError, AllocFailed};
+use std::fmt;
 use thiserror::Error;
 
 /// Why a call was refused. A refused call changes nothing.
 #[derive(Clone, Copy, Debug, PartialEq, Eq, Error)]
 pub enum DiskRefusal {
     /// No write in flight begins there.
-    #[error("no write in flight begins there")]
     NoSuchWrite = 1,
     /// A write that is empty, has over 4,096 bytes, reaches past the end, or meets a range in flight or failed.
-    #[error("the write is empty, too long, past the end, or meets another")]
     OutOfRange = 2,
     /// Memory ran out.
-    #[error("out of memory")]
     OutOfMemory = 3,
     /// A disk of other than 2,097,152 bytes.
-    #[error("a disk has 2,097,152 bytes")]
     BadLength = 4,
 }
 
@@ -29,6 +26,23 @@ impl DiskRefusal {
         ensures { result ≡ number_of self }
     {
         self as u8
+    }
+
+    /// What it says.
+    fn text(self) -> &'static str {
+        match self {
+            DiskRefusal::NoSuchWrite => "no write in flight begins there",
+            DiskRefusal::OutOfRange =>
+                "the write is empty, too long, past the end, or meets another",
+            DiskRefusal::OutOfMemory => "out of memory",
+            DiskRefusal::BadLength => "a disk has 2,097,152 bytes",
+        }
+    }
+}
+
+impl fmt::Display for DiskRefusal {
+    fn fmt<W: fmt::Write>(&self, f: &mut fmt::Formatter<W>) -> fmt::Result {
+        f.write_str(self.text())
     }
 }
 

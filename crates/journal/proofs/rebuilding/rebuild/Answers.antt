@@ -4,7 +4,7 @@ use Rattle.disk_model.specs.declared.change.Change.{Change}
 use Rattle.disk_model.specs.declared.change.Change.TheVariants.{Create}
 use Rattle.disk_model.specs.declared.change.NamedFile.{NamedFile}
 use Rattle.disk_model.specs.Rebuild.{writes_from, rebuild, rebuild_from}
-use Rattle.journal.proofs.Checkpoints.{file_first, file_more, short_at}
+use Rattle.journal.proofs.Checkpoints.{file_end, file_first, file_more, short_at}
 use Rattle.journal.proofs.rebuilding.rebuild.Goals as goal
 
 none : NamedFile
@@ -27,3 +27,7 @@ loop-place-preserved c =
     ∙ ap (λ (l : List ℕ). c.loop-place.changes.items ++ Create l ∷ [] ++ writes_from (length c.bytes.result.now) 1024 place 0 c.bytes.result.now) (c.in_ok-name.ensures ∙ c.name.ensures none)
     ∙ ap (λ (l : List ℕ). c.loop-place.changes.items ++ Create (get_or c.args.files.now.living place none).name ∷ [] ++ writes_from (length l) 1024 place 0 l) (c.bytes.ensures none))
     ∙ file_more c.loop-place.changes.items c.args.files.now.living place none (rebuild c.args.files.now.living) lt c.loop-place.invariant
+
+pub returns : goal.returns
+returns c =
+    file_end c.loop-place.changes.items c.args.files.now.living c.loop-place.place (rebuild c.args.files.now.living) (let e = c.count-place-end.ensures in let t = c.loop-place-test.false in omega arith) c.loop-place.invariant

@@ -2,8 +2,11 @@
 use Rattle.std.proofs.Common.{◌++◌, ap, ◌∙◌, List, ℕ, drop, ◌+◌}
 use Rattle.disk_model.specs.declared.change.Change.{Change}
 use Rattle.disk_model.specs.Spelling.{spelling, body_of}
-use Rattle.journal.proofs.Bodies.{body_more, body_end, formed_more}
+use Rattle.journal.proofs.Bodies.{body_more, body_end, formed_at, formed_more}
 use Rattle.journal.proofs.writing.body_of.Goals as goal
+
+pub push_change-requires : goal.push_change-requires
+push_change-requires c = formed_at c.args.changes.now c.loop-change.change-index c.change-item.result c.change-item.is c.loop-change-test.true c.loop-change.invariant.formed
 
 pub loop-change-preserved : goal.loop-change-preserved
 loop-change-preserved c = record {

@@ -1,17 +1,21 @@
--- Where the file is not there, nothing changes.
-use Rattle.std.proofs.Common.{rules, ◌≡◌, ◌≤◌, length, sym, ap, ◌∙◌}
-use Rattle.std.specs.List.{remove}
-use Rattle.disk_model.specs.declared.change.Change.TheVariants.{Remove}
-use Rattle.disk_model.specs.Numbers.{changed_numbered}
-use Rattle.files.proofs.Numbering.{remove_none}
+-- A change whose file is not there, and a write inside one.
+use Rattle.std.proofs.Common.{rules, ◌≡◌, ◌+◌, ◌≤◌, true, false, length, sym}
+use Rattle.std.specs.Prelude.{IsOk, slice_index_or}
+use Rattle.disk_model.specs.declared.change.Change.TheVariants.{Write}
+use Rattle.disk_model.specs.declared.change.NamedFile.{NamedFile}
+use Rattle.files.specs.There.{has_its_file}
+use Rattle.files.proofs.Absent.{absent_numbered, inside_of}
 use Rattle.files.proofs.table.FileTable.change.Goals as goal
 
-pub returns-else-place-count-3-clause-ok : goal.returns-else-place-count-3-clause-ok
-returns-else-place-count-3-clause-ok c =
-    let same = c.self-in-Remove.invariant in
-    let past : length c.args.self.now.living ≤ c.in-Remove.file = search rules in
-    let past_numbers : length c.args.self.now.numbers ≤ c.in-Remove.file = search rules in
-    let is : c.args.change.now ≡ Remove c.in-Remove.file = search rules in
-    sym (ap (changed_numbered c.args.self.now) is
-    ∙ ap (λ files. record c.args.self.now { living = files; numbers = remove c.args.self.now.numbers c.in-Remove.file }) (remove_none c.args.self.now.living c.in-Remove.file past)
-    ∙ ap (λ numbers. record c.args.self.now { numbers = numbers }) (remove_none c.args.self.now.numbers c.in-Remove.file past_numbers))
+pub returns-then-not-has_its_file-clause-ok : goal.returns-then-not-has_its_file-clause-ok
+returns-then-not-has_its_file-clause-ok c =
+    let none : has_its_file c.args.change.now (length c.args.self.now.living) ≡ false = search rules in
+    let same : length c.args.self.now.numbers ≡ length c.args.self.now.living = search rules in
+    sym (absent_numbered c.args.change.now c.args.self.now same none)
+
+pub returns-in-Write-clause-inside : goal.returns-in-Write-clause-inside
+returns-in-Write-clause-inside c =
+    let there : has_its_file c.args.change.now (length c.args.self.now.living) ≡ true = search rules in
+    let is : c.args.change.now ≡ Write c.in-Write.file c.in-Write.offset c.in-Write.bytes = search rules in
+    let gives : (d : NamedFile) → c.in-Write.offset + length c.in-Write.bytes ≤ length (slice_index_or c.args.self.now.living c.in-Write.file d).bytes → IsOk c.write.result = search rules in
+    inside_of c.args.self.now.living c.args.change.now c.in-Write.file c.in-Write.offset c.in-Write.bytes (IsOk c.write.result) there is gives

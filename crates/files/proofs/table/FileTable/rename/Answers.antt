@@ -1,5 +1,5 @@
 -- One number fewer, for one file fewer.
-use Rattle.std.proofs.Common.{rules, arith, ◌≡◌, ◌<◌, ℕ, List, Option, Some, length, sym, ap, ◌∙◌}
+use Rattle.std.proofs.Common.{rules, ◌≡◌, ◌<◌, Some, length, sym, ap, ◌∙◌}
 use Rattle.std.specs.Prelude.{slice_get}
 use Rattle.disk_model.specs.Files.{loser, with_name, without}
 use Rattle.files.proofs.Numbering.{moved_length}

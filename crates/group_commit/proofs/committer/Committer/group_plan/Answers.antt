@@ -15,13 +15,13 @@ returns-clause-ok c =
     let size : vec_len c.in_ok-first.first ≡ length c.in_ok-first.first.items = search rules in
     group_begins c.args.self.now c.args.changes.now _
     (c.in_ok-first.ensures
-    ∙ ap (pieces (c.self.inside.gate + 1)) (c.deref.ensures.value ∙ c.in_ok-record.ensures ∙ ap (λ (l : List ℕ). to_le_bytes w32 (length l) ++ l ++ 0 ∷ []) c.requires.body)
+    ∙ ap (λ (l : List ℕ). pieces (c.self.inside.gate + 1) (to_le_bytes w32 (length l) ++ l ++ 0 ∷ [])) c.requires.body
     ∙ ap (λ (k : ℕ). pieces (k + 1) (record_of c.args.changes.now)) gate_is)
     (ap items_of (c.in_ok-push.ensures.items ∙ ap (λ (vs : List (Vec Piece Global)). vs ++ c.in_ok-byte_piece.field-0 ∷ []) c.new-later.ensures.items)
     ∙ ap (λ (ps : List Piece). ps ∷ []) c.in_ok-byte_piece.ensures ∙ ap (λ (k : ℕ). one_byte k 1 ∷ []) gate_is)
     (ap (λ (k : ℕ). k + 1) (c.len.ensures ∙ size))
     (ap (λ (st : Storage). st.half) c.self.view_is)
-    (ap (λ (k : ℕ). k + 5 + length c.args.bytes.now) gate_is ∙ ap (λ (l : List ℕ). c.args.self.now.gate + 5 + length l) c.requires.body)
+    (c.gate_past.ensures ∙ ap (λ (k : ℕ). k + 5 + length c.args.bytes.now) gate_is ∙ ap (λ (l : List ℕ). c.args.self.now.gate + 5 + length l) c.requires.body)
     refl
     c.raised-committed.ensures
     c.requires.room

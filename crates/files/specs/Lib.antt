@@ -1,0 +1,2 @@
+-- What changes find.
+pub mod There
