@@ -3,7 +3,7 @@ ghost use Rattle.std.specs.Prelude.{◌≡◌, ◌-◌, ◌^◌};
 ghost use Rattle.calls.specs.Errors.{code_of};
 
 /// Why a call is refused. Its reply in a0 is this number, negated.
-#[derive(Clone, Copy, Debug, PartialEq, Eq)]
+#[derive(Clone, Copy)]
 pub enum Errno {
     NoSuchFile = 2,
     BadDescriptor = 9,

@@ -48,8 +48,7 @@ fn fork_made(
     let mut row = Row::number(alloc, child);
     row.pipes = pipes;
     row.child = Some(child);
-    row.updating(Carrier::Tasks)?
-        .updating(Carrier::Proc(child))?
+    row.updating_all(&[Carrier::Tasks, Carrier::Proc(child)])?
         .updating_all(carriers)
 }
 

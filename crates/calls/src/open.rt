@@ -119,6 +119,5 @@ fn open_new(alloc: Global, fd: usize, file: u64, name: Bytes) -> Result<Row, All
 {
     opened(alloc, fd, file, true)?
         .editing(FileEdit::Create(name))
-        .updating(Carrier::Names)?
-        .updating(Carrier::File(file))
+        .updating_all(&[Carrier::Names, Carrier::File(file)])
 }

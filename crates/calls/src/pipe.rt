@@ -65,8 +65,7 @@ fn pipe_made(
 {
     let words = pair_of(alloc, reader as u32, writer as u32)?;
     Row::only(alloc, with_bytes(0, at, words))
-        .updating(Carrier::Pipes)?
-        .updating(Carrier::Pipe(pipe))?
+        .updating_all(&[Carrier::Pipes, Carrier::Pipe(pipe)])?
         .stepping(PipeStep::Open)?
         .setting(reader, Some(Descriptor::Pipe(PipeEnd::Read(pipe))))?
         .setting(writer, Some(Descriptor::Pipe(PipeEnd::Write(pipe))))

@@ -87,6 +87,22 @@ fn read_tested(
     if !place.fits {
         return Ok(Row::failure(alloc, Errno::BadAddress));
     }
+    read_from(alloc, tables, from, fd, place)
+}
+
+/// A read by what the descriptor stands for, to a place that is large enough.
+fn read_from(
+    alloc: Global,
+    tables: &KernelTables,
+    from: Option<Descriptor>,
+    fd: usize,
+    place: Place,
+) -> Result<Row, AllocError>
+    requires short { AllByRecursion (λ (f : NamedFile). length f.bytes ≤ 16384) tables.now.files.now.living }
+    requires n { place.n ≤ most_bytes }
+    ensures { IfOk result (λ row. IsRow row
+        (read_from (things tables.now.files.now tables.now.pipes.now tables.now.tapes.now) from fd place.at place.n)) }
+{
     match from {
         Some(Descriptor::Tape(tape)) => read_tape(alloc, tables.tapes, tape, place),
         Some(

@@ -79,8 +79,7 @@ fn rename_to(alloc: Global, file: u64, new: Bytes, loser: Option<u64>) -> Result
 {
     let row = Row::number(alloc, 0)
         .editing(FileEdit::Rename { file, name: new })
-        .updating(Carrier::Names)?
-        .updating(Carrier::File(file))?;
+        .updating_all(&[Carrier::Names, Carrier::File(file)])?;
     match loser {
         Some(loser) => row.updating(Carrier::File(loser)),
         None => Ok(row),

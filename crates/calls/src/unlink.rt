@@ -42,8 +42,7 @@ fn unlink_file(alloc: Global, file: Option<u64>) -> Result<Row, AllocError>
         Some(file) => {
             Row::number(alloc, 0)
                 .editing(FileEdit::Remove(file))
-                .updating(Carrier::Names)?
-                .updating(Carrier::File(file))
+                .updating_all(&[Carrier::Names, Carrier::File(file)])
         }
         None => Row::failure(alloc, Errno::NoSuchFile).reading(Carrier::Names),
     }

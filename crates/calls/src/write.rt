@@ -15,7 +15,7 @@ use crate::tables::KernelTables;
 use crate::verdict::number;
 use byte_list::Bytes;
 use disk_model::LONGEST_FILE;
-use files::FileTable;
+use files::{FileTable, part_of};
 use kernel_model::{Carrier, Descriptor, FileEdit, Output, PipeEnd, PipeStep, Verdict};
 use pipes::{Pipe, PipeTable};
 use processes::Descriptors;
@@ -212,7 +212,7 @@ fn put_some(alloc: Global, pipe: u32, bytes: &[u8], room: usize) -> Result<Row, 
     ensures row { IfOk result (λ row. IsRow row (put_some pipe bytes.now room)) }
     ensures carries { IfOk result (λ row. IfSome row.edit CarriesBytes) }
 {
-    let taken = &bytes[..room.min(bytes.len())];
+    let taken = part_of(bytes, 0, room);
     let bytes = Bytes::copy_of(alloc, taken)?;
     let row = on_pipe(alloc, pipe, number(alloc, taken.len() as u32))?;
     row.stepping(PipeStep::Put { pipe, bytes })

@@ -5,10 +5,11 @@ ghost use Rattle.kernel_model.specs.declared.answer.Refused.TheVariants.{OutOfMe
 
 use machine_model::Stop;
 use std::alloc::AllocError;
+use std::fmt;
 use thiserror::Error;
 
 /// What an Enter came to.
-#[derive(Clone, Copy, Debug, PartialEq, Eq)]
+#[derive(Clone, Copy, Debug)]
 pub enum Outcome {
     /// The call was replied to.
     Entered,
@@ -19,7 +20,7 @@ pub enum Outcome {
 }
 
 /// The answer to an accepted event. It tells a scheduler of progress, and never a reply's value or an exit's status.
-#[derive(Clone, Copy, Debug, PartialEq, Eq)]
+#[derive(Clone, Copy, Debug)]
 pub enum Answer {
     /// A Turn ran so many instructions, and stopped there.
     Ran {
@@ -55,37 +56,26 @@ pub enum Answer {
 #[derive(Clone, Copy, Debug, PartialEq, Eq, Error)]
 pub enum Refused {
     /// There is no process of that number.
-    #[error("no such process")]
     NoProcess = 1,
     /// The process has ended.
-    #[error("the process has ended")]
     Ended = 2,
     /// The process is out on loan.
-    #[error("the process is out on loan")]
     Lent = 3,
     /// The process stands at no call and no trap, so it cannot enter the kernel.
-    #[error("the process stands at no call and no trap")]
     NotStopped = 4,
     /// The group before is not committed: a write of it is in flight.
-    #[error("a group is not yet committed")]
     GroupInFlight = 5,
     /// Every change is committed.
-    #[error("no change is uncommitted")]
     NothingToCut = 6,
     /// No write in flight begins at that place of the disk.
-    #[error("no write in flight begins there")]
     NoSuchWrite = 7,
     /// A write of this run has failed.
-    #[error("a write has failed")]
     DiskFailed = 8,
     /// There is no memory for it.
-    #[error("out of memory")]
     OutOfMemory = 9,
     /// The result is not of the loan that its process is out on.
-    #[error("the result is of no loan that is out")]
     Stranger = 10,
     /// The process would pass 2^40 instructions, or the run 2^40 events, where two are kept for each loan that is out.
-    #[error("the history or the process has no room for it")]
     Budget = 11,
 }
 
@@ -95,6 +85,29 @@ impl Refused {
         ensures { result ≡ number_of self }
     {
         self as u8
+    }
+
+    /// What it says.
+    fn text(self) -> &'static str {
+        match self {
+            Self::NoProcess => "no such process",
+            Self::Ended => "the process has ended",
+            Self::Lent => "the process is out on loan",
+            Self::NotStopped => "the process stands at no call and no trap",
+            Self::GroupInFlight => "a group is not yet committed",
+            Self::NothingToCut => "no change is uncommitted",
+            Self::NoSuchWrite => "no write in flight begins there",
+            Self::DiskFailed => "a write has failed",
+            Self::OutOfMemory => "out of memory",
+            Self::Stranger => "the result is of no loan that is out",
+            Self::Budget => "the history or the process has no room for it",
+        }
+    }
+}
+
+impl fmt::Display for Refused {
+    fn fmt<W: fmt::Write>(&self, f: &mut fmt::Formatter<W>) -> fmt::Result {
+        f.write_str(self.text())
     }
 }
 

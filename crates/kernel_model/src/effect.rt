@@ -40,14 +40,14 @@ pub enum FileEdit {
 }
 
 /// What a descriptor stands for from now on; one that stands for nothing is free.
-#[derive(Clone, Copy, Debug, PartialEq, Eq)]
+#[derive(Clone, Copy)]
 pub struct Slot {
     pub fd: usize,
     pub holds: Option<Descriptor>,
 }
 
 /// So many more bytes of a tape are read.
-#[derive(Clone, Copy, Debug, PartialEq, Eq)]
+#[derive(Clone, Copy)]
 pub struct TapeRead {
     pub tape: u32,
     pub count: usize,

@@ -1,7 +1,7 @@
 //! The events of a run.
 
 /// One event. Processes are named by their numbers, from 1.
-#[derive(Clone, Copy, Debug, PartialEq, Eq)]
+#[derive(Clone, Copy, Debug)]
 pub enum Event {
     /// The process runs n instructions, or fewer where it comes to a call or a trap.
     Turn { pid: u32, n: u32 },

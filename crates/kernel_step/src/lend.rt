@@ -38,33 +38,36 @@ fn is_lendable(task: &Task, served: u64, quantum: u32) -> bool
         && !task.is_asleep(served)
 }
 
-/// The first process after the first so many that may be lent, by its distance from them.
-fn first_lendable_from(tasks: &[Task], from: usize, served: u64, quantum: u32) -> Option<usize>
-    ensures { result ≡ position (is_fit quantum served) (drop from tasks.now) }
+/// The place of the first of these processes that may be lent.
+fn first_lendable(tasks: &[Task], served: u64, quantum: u32) -> Option<usize>
+    ensures { result ≡ position (is_fit quantum served) tasks.now }
 {
     tasks
         .iter()
-        .skip(from)
         .position(|task| is_lendable(task, served, quantum))
 }
 
-/// The place of the first process that may be lent among the first so many.
-fn first_lendable_of(tasks: &[Task], count: usize, served: u64, quantum: u32) -> Option<usize>
-    ensures { result ≡ position (is_fit quantum served) (take count tasks.now) }
+/// The tasks after the first so many.
+fn tasks_after(tasks: &[Task], count: usize) -> &[Task]
+    ensures { result.now ≡ drop count tasks.now }
 {
-    tasks
-        .iter()
-        .take(count)
-        .position(|task| is_lendable(task, served, quantum))
+    &tasks[count.min(tasks.len())..]
+}
+
+/// The first so many tasks.
+fn tasks_before(tasks: &[Task], count: usize) -> &[Task]
+    ensures { result.now ≡ take count tasks.now }
+{
+    &tasks[..count.min(tasks.len())]
 }
 
 /// The place of the next process after the first so many that may be lent, by rising place and round again.
 pub(crate) fn next_lendable(tasks: &[Task], from: usize, served: u64, quantum: u32) -> Option<usize>
     ensures { result ≡ next_fit quantum served from tasks.now }
 {
-    match first_lendable_from(tasks, from, served, quantum) {
+    match first_lendable(tasks_after(tasks, from), served, quantum) {
         Some(further) => Some(from + further),
-        None => first_lendable_of(tasks, from, served, quantum),
+        None => first_lendable(tasks_before(tasks, from), served, quantum),
     }
 }
 
