@@ -1,7 +1,7 @@
 //! What a desk notes of its calls. The notes exist in proofs alone.
 
 /// Which loan: of which process, its number among that process's loans, and for how many instructions.
-#[derive(Clone, Copy, Debug, PartialEq, Eq)]
+#[derive(Clone, Copy)]
 pub struct LoanId {
     pub pid: u32,
     pub number: u64,
@@ -9,7 +9,7 @@ pub struct LoanId {
 }
 
 /// What one call came to.
-#[derive(Clone, Copy, Debug, PartialEq, Eq)]
+#[derive(Clone, Copy)]
 pub enum Note {
     /// A loan was asked for, and there was none.
     Idle,

@@ -1,5 +1,5 @@
 //! Shares of what the workers did, and the books in which they add up.
-ghost use Rattle.std.specs.Prelude.{◌≡◌, ◌+◌, ◌<◌, IfSome, IfNone};
+ghost use Rattle.std.specs.Prelude.{◌≡◌, ◌+◌, ◌<◌, ◌≤◌, IfSome, IfNone};
 ghost use Rattle.bursts.specs.Totals.{none, plus, history_totals, Fit};
 ghost use Rattle.bursts.specs.Holdings.{both, together, parts_in, sum_of, grown};
 
@@ -7,7 +7,7 @@ use crate::naming::{Enters, Events, Naming, Ran, Turns};
 use crate::totals::Totals;
 use kernel::Core;
 use std::marker::Model;
-use std::sync::ledger::{Blank, Book, Share as Mark};
+use std::sync::ledger::{Blank, Book, Ledger, Share as Mark};
 
 /// Four ledgers that no run has yet. They have no bytes.
 #[derive(Drop)]
@@ -177,19 +177,15 @@ impl<N: Naming> Books<N> {
             turns,
             enters,
         } = blanks;
-        let (mut event_book, mut event_mark) = events.open::<Events<N>>();
-        let (mut ran_book, mut ran_mark) = ran.open::<Ran<N>>();
-        let (mut turn_book, mut turn_mark) = turns.open::<Turns<N>>();
-        let (mut enter_book, mut enter_mark) = enters.open::<Enters<N>>();
-        event_book.add(&mut event_mark, totals.events);
-        ran_book.add(&mut ran_mark, totals.ran);
-        turn_book.add(&mut turn_mark, totals.turns);
-        enter_book.add(&mut enter_mark, totals.enters);
+        let (event_book, event_mark, no_events) = opened::<Events<N>>(events, totals.events);
+        let (ran_book, ran_mark, no_ran) = opened::<Ran<N>>(ran, totals.ran);
+        let (turn_book, turn_mark, no_turns) = opened::<Turns<N>>(turns, totals.turns);
+        let (enter_book, enter_mark, no_enters) = opened::<Enters<N>>(enters, totals.enters);
         let nothing = Sum {
-            events: event_mark.empty(),
-            ran: ran_mark.empty(),
-            turns: turn_mark.empty(),
-            enters: enter_mark.empty(),
+            events: no_events,
+            ran: no_ran,
+            turns: no_turns,
+            enters: no_enters,
         };
         let books = Books {
             nothing,
@@ -225,14 +221,10 @@ impl<N: Naming> Books<N> {
         ensures books { self.new ≡ plus self.old by }
         ensures share { share.new ≡ grown share.old by }
     {
-        self.events.audit(&mut share.events);
-        self.ran.audit(&mut share.ran);
-        self.turns.audit(&mut share.turns);
-        self.enters.audit(&mut share.enters);
-        self.events.add(&mut share.events, by.events);
-        self.ran.add(&mut share.ran, by.ran);
-        self.turns.add(&mut share.turns, by.turns);
-        self.enters.add(&mut share.enters, by.enters);
+        grow_ledger(&mut self.events, &mut share.events, by.events);
+        grow_ledger(&mut self.ran, &mut share.ran, by.ran);
+        grow_ledger(&mut self.turns, &mut share.turns, by.turns);
+        grow_ledger(&mut self.enters, &mut share.enters, by.enters);
         share.totals.events += by.events;
         share.totals.ran += by.ran;
         share.totals.turns += by.turns;
@@ -256,6 +248,33 @@ impl<N: Naming> Books<N> {
         turns.audit(&mut all.turns);
         enters.audit(&mut all.enters);
     }
+}
+
+/// A ledger that no run has yet, opened at a total: its book, the mark that has all parts, and one that has none.
+fn opened<L: Ledger>(blank: Blank, total: u64) -> (Book<L>, Mark<L>, Mark<L>)
+    requires name { blank.name ≡ L.name }
+    requires parts { blank.parts ≡ L.parts }
+    requires some { 0 < blank.parts }
+    ensures book { result.0.total ≡ total }
+    ensures whole { (result.1.parts ≡ L.parts) × (result.1.amount ≡ total) }
+    ensures empty { (result.2.parts ≡ 0) × (result.2.amount ≡ 0) }
+{
+    let (mut book, mut mark) = blank.open::<L>();
+    book.add(&mut mark, total);
+    let empty = mark.empty();
+    (book, mark, empty)
+}
+
+/// A mark that has parts of a ledger grows, and the book with it. Before, its amount was not above the book's total.
+fn grow_ledger<L: Ledger>(book: &mut Book<L>, mark: &mut Mark<L>, by: u64)
+    requires { 0 < mark.old.parts }
+    ensures total { book.new.total ≡ book.old.total + by }
+    ensures amount { mark.new.amount ≡ mark.old.amount + by }
+    ensures parts { mark.new.parts ≡ mark.old.parts }
+    ensures bound { mark.old.amount ≤ book.old.total }
+{
+    book.audit(mark);
+    book.add(mark, by);
 }
 
 /// What these shares add up to, with what was there.
