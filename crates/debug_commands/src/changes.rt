@@ -22,6 +22,14 @@ fn bytes_at(space: &Space, at: u32) -> [u8; 4] {
     ]
 }
 
+/// Prints four bytes, each with a blank before it.
+fn print_four<O: Write>(bytes: [u8; 4], out: &mut O) -> Result<(), SessionFault> {
+    for byte in bytes {
+        write!(out, " {byte:02x}")?;
+    }
+    Ok(())
+}
+
 /// Prints a word that changed, byte by byte, with its bytes before and after.
 fn print_bytes<O: Write>(
     at: u32,
@@ -29,11 +37,11 @@ fn print_bytes<O: Write>(
     after: [u8; 4],
     out: &mut O,
 ) -> Result<(), SessionFault> {
-    let [a, b, c, d] = before;
-    write!(out, "  {at:08x}: {a:02x} {b:02x} {c:02x} {d:02x}")?;
-    let [a, b, c, d] = after;
-    writeln!(out, " -> {a:02x} {b:02x} {c:02x} {d:02x}")?;
-    Ok(())
+    write!(out, "  {at:08x}:")?;
+    print_four(before, out)?;
+    out.write_all(b" ->")?;
+    print_four(after, out)?;
+    Ok(out.write_all(b"\n")?)
 }
 
 /// Prints the words of these that changed, where fewer than eight were printed before. Answers how many changed, with those before.
@@ -57,6 +65,29 @@ fn print_changed_words<O: Write>(
     Ok(changed)
 }
 
+/// Prints the words that changed, at most eight, and answers how many changed.
+fn print_first_words<O: Write>(
+    before: &Space,
+    after: &Space,
+    writable: &[Words],
+    out: &mut O,
+) -> Result<u32, SessionFault> {
+    let mut changed = 0;
+    for words in writable {
+        changed = print_changed_words(before, after, *words, changed, out)?;
+    }
+    Ok(changed)
+}
+
+/// Prints how many words changed beside the first eight, if there are any.
+fn print_others<O: Write>(changed: u32, out: &mut O) -> Result<(), SessionFault> {
+    if changed > MOST {
+        let more = changed - MOST;
+        writeln!(out, "  and {more} words more")?;
+    }
+    Ok(())
+}
+
 /// Prints what changed in memory: the first eight words, a line each, and how many more there are.
 pub fn print_changed_memory<O: Write>(
     before: &Space,
@@ -67,13 +98,6 @@ pub fn print_changed_memory<O: Write>(
     if before.is_same(after) {
         return Ok(());
     }
-    let mut changed = 0;
-    for words in writable {
-        changed = print_changed_words(before, after, *words, changed, out)?;
-    }
-    if changed > MOST {
-        let more = changed - MOST;
-        writeln!(out, "  and {more} words more")?;
-    }
-    Ok(())
+    let changed = print_first_words(before, after, writable, out)?;
+    print_others(changed, out)
 }

@@ -1,6 +1,5 @@
 //! The commands of a session.
 use line_words::{decimal, hexadecimal};
-use thiserror::Error;
 
 /// What moves the machine.
 #[derive(Clone, Copy)]
@@ -26,15 +25,25 @@ pub enum Command {
     Quit,
 }
 
-/// Why a line is no command. It prints as the answer.
-#[derive(Clone, Copy, Debug, Error)]
+/// Why a line is no command.
+#[derive(Clone, Copy)]
 pub enum CommandFault {
-    #[error("unknown command; there are: step N, run, break ADDR, clear N, rewind N, state, quit")]
     Unknown,
-    #[error("faulty number: N is decimal")]
     Number,
-    #[error("faulty address: ADDR is eight hexadecimal digits")]
     Address,
+}
+
+impl CommandFault {
+    /// The answer to such a line.
+    pub fn text(self) -> &'static str {
+        match self {
+            CommandFault::Unknown => {
+                "unknown command; there are: step N, run, break ADDR, clear N, rewind N, state, quit"
+            }
+            CommandFault::Number => "faulty number: N is decimal",
+            CommandFault::Address => "faulty address: ADDR is eight hexadecimal digits",
+        }
+    }
 }
 
 /// A command's number.
@@ -68,10 +77,10 @@ fn plain(name: &str) -> Result<Command, CommandFault> {
 /// The command of this name, with the word after it.
 fn with_word(name: &str, word: &str) -> Result<Command, CommandFault> {
     match name {
-        "step" => Ok(Command::Move(Motion::Step(number_of(word)?))),
-        "rewind" => Ok(Command::Move(Motion::Rewind(number_of(word)?))),
-        "clear" => Ok(Command::Clear(number_of(word)?)),
-        "break" => Ok(Command::Break(address_of(word)?)),
+        "step" => number_of(word).map(|n| Command::Move(Motion::Step(n))),
+        "rewind" => number_of(word).map(|n| Command::Move(Motion::Rewind(n))),
+        "clear" => number_of(word).map(|n| Command::Clear(n)),
+        "break" => address_of(word).map(|at| Command::Break(at)),
         _ => Err(CommandFault::Unknown),
     }
 }

@@ -3,14 +3,18 @@ use crate::fault::SessionFault;
 use debugger::DebugFault;
 use std::io::Write;
 
+/// Prints the number and the name of a refusal.
+fn print_numbered<O: Write>(why: DebugFault, out: &mut O) -> Result<(), SessionFault> {
+    let number = why.number();
+    Ok(writeln!(out, "refused {number} {why}")?)
+}
+
 /// Prints a refusal; want of memory ends the session.
 pub fn print_refusal<O: Write>(why: DebugFault, out: &mut O) -> Result<(), SessionFault> {
-    if why == DebugFault::OutOfMemory {
-        return Err(SessionFault::OutOfMemory);
+    match why {
+        DebugFault::OutOfMemory => Err(SessionFault::OutOfMemory),
+        why => print_numbered(why, out),
     }
-    let number = why.number();
-    writeln!(out, "refused {number} {why}")?;
-    Ok(())
 }
 
 /// Prints the refusal, if there is one.

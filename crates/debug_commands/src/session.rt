@@ -87,10 +87,29 @@ fn answer_line<O: Write>(
         None => Ok(true),
         Some(Ok(command)) => answer(alloc, debugger, writable, command, out),
         Some(Err(fault)) => {
-            writeln!(out, "{fault}")?;
+            let text = fault.text();
+            writeln!(out, "{text}")?;
             Ok(true)
         }
     }
+}
+
+/// Reads a line and answers it, and says whether the session goes on.
+fn answer_next<B: BufRead, O: Write>(
+    alloc: Global,
+    debugger: &mut Debugger,
+    writable: &[Words],
+    lines: &mut B,
+    line: &mut Vec<u8>,
+    out: &mut O,
+) -> Result<bool, SessionFault> {
+    line.clear();
+    if lines.read_until(b'\n', line)? == 0 {
+        return Ok(false);
+    }
+    let goes_on = answer_line(alloc, debugger, writable, line.as_slice(), out)?;
+    out.flush()?;
+    Ok(goes_on)
 }
 
 /// Answers each line of the input before the next is read.
@@ -103,17 +122,25 @@ fn answer_all<B: BufRead, O: Write>(
 ) -> Result<(), SessionFault> {
     let mut line = Vec::new(alloc);
     for _ in 0..u64::MAX {
-        line.clear();
-        if lines.read_until(b'\n', &mut line)? == 0 {
-            return Ok(());
-        }
-        let goes_on = answer_line(alloc, debugger, writable, line.as_slice(), out)?;
-        out.flush()?;
-        if !goes_on {
+        if !answer_next(alloc, debugger, writable, lines, &mut line, out)? {
             return Ok(());
         }
     }
     Ok(())
+}
+
+/// A session with a debugger at a program's first state.
+fn serve<I: Read, O: Write>(
+    alloc: Global,
+    debugger: &mut Debugger,
+    writable: &[Words],
+    input: &mut I,
+    out: &mut O,
+) -> Result<(), SessionFault> {
+    print_place(debugger.state(), out)?;
+    out.flush()?;
+    let mut lines = BufReader::new(alloc, input)?;
+    answer_all(alloc, debugger, writable, &mut lines, out)
 }
 
 /// A session with a program at its first state, whose calls take these replies. The commands are read from the input, a line each,
@@ -130,8 +157,5 @@ pub fn debug<I: Read, O: Write>(
 ) -> Result<(), SessionFault> {
     let writable = writable_words(alloc, &image)?;
     let mut debugger = Debugger::new(alloc, image, replies)?;
-    print_place(debugger.state(), out)?;
-    out.flush()?;
-    let mut lines = BufReader::new(alloc, input)?;
-    answer_all(alloc, &mut debugger, writable.as_slice(), &mut lines, out)
+    serve(alloc, &mut debugger, writable.as_slice(), input, out)
 }

@@ -4,6 +4,7 @@ use debug_commands::SessionFault;
 use elf32::ElfFault;
 use executor::RunFault;
 use kernel::{BootFault, DiskFault};
+use scripts::ScriptFault;
 use simdisk::DiskRefusal;
 use std::alloc::{AllocError, AllocFailed};
 use std::io;
@@ -123,6 +124,18 @@ impl From<DiskRefusal> for Fault {
         match refusal {
             DiskRefusal::BadLength => Fault::DiskLength,
             _ => Fault::OutOfMemory,
+        }
+    }
+}
+
+impl From<ScriptFault> for Fault {
+    fn from(fault: ScriptFault) -> Fault {
+        match fault {
+            ScriptFault::Refused { line } => Fault::Script { line },
+            ScriptFault::Image(fault) => Fault::from(fault),
+            ScriptFault::Boot(fault) => Fault::from(fault),
+            ScriptFault::OutOfMemory => Fault::OutOfMemory,
+            ScriptFault::InputOutput => Fault::InputOutput,
         }
     }
 }

@@ -1,19 +1,9 @@
-//! Lists of files.
+//! The files on disks.
 use crate::disk_file::disk_in;
 use crate::fault::Fault;
-use files::FileList;
+use scripts::print_files;
 use std::io::Write;
 use std::rt::Files;
-
-/// Prints a line for each file, in order of creation: its name, and its length.
-pub fn print_files<O: Write>(files: &FileList, out: &mut O) -> Result<(), Fault> {
-    for place in 0..files.count() {
-        let length = files.length(place);
-        out.write_all(files.name(place))?;
-        writeln!(out, " {length}")?;
-    }
-    Ok(())
-}
 
 /// Prints a line for each file on the disk in a file of the host.
 pub fn list_files<R: Files + AllocGlobal, O: Write>(
@@ -23,5 +13,5 @@ pub fn list_files<R: Files + AllocGlobal, O: Write>(
 ) -> Result<(), Fault> {
     let device = disk_in(rt, path)?;
     let files = journal::recover(rt.alloc(), &device)?;
-    print_files(files.list(), out)
+    Ok(print_files(files.list(), out)?)
 }

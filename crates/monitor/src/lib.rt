@@ -9,11 +9,8 @@ mod list;
 mod process_lines;
 mod program;
 mod reading;
-mod replay;
 mod run_options;
 mod running;
-mod script;
-mod setup;
 mod source;
 
 pub use fault::Fault;

@@ -4,13 +4,13 @@ use crate::fault::Fault;
 use crate::file_lines::list_files;
 use crate::list::list;
 use crate::reading::{image_in, trace_in};
-use crate::replay::replay;
 use crate::running::run_images;
 use crate::source::{Assembled, assemble_source};
 use clap::Error;
 use clap::error::ErrorKind;
 use debug_commands::debug;
 use machine_model::Reply;
+use scripts::replay;
 use std::io::{BufWriter, Read, Write};
 use std::rt::Files;
 use std::sync::Wait;
@@ -24,7 +24,7 @@ fn replay_input<R: Files + AllocGlobal, I: Read, O: Write>(
     out: &mut O,
 ) -> Result<(), Fault> {
     let text = io::read_to_string(rt.alloc(), input)?;
-    replay(rt, text.as_str(), out)
+    Ok(replay(rt, text.as_str(), out)?)
 }
 
 /// Replays the script of a file.
@@ -34,7 +34,7 @@ fn replay_file<R: Files + AllocGlobal, O: Write>(
     out: &mut O,
 ) -> Result<(), Fault> {
     let text = fs::read_to_string(rt, path)?;
-    replay(rt, text.as_str(), out)
+    Ok(replay(rt, text.as_str(), out)?)
 }
 
 /// Assembles the source in a file.

@@ -2,7 +2,7 @@
 use Rattle.std.proofs.Common.{◌≡◌, ◌<◌, length}
 use Rattle.std.specs.List.{AllByRecursion}
 use Rattle.kernel_step.specs.declared.booting.Program.{Program}
-use Rattle.monitor.proofs.setup.programs_of.Given as goal
+use Rattle.scripts.proofs.setup.programs_of.Given as goal
 
 abbrev pub invariant-loop-program : goal.invariant-loop-program
 invariant-loop-program l = (length l.booted.items ≡ l.program-index) × AllByRecursion (λ (p : Program). p.terminal < 8) l.booted.items

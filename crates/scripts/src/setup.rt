@@ -3,7 +3,7 @@ ghost use Rattle.std.specs.Prelude.{◌≡◌, ◌≤◌, ◌<◌, true, length,
 ghost use Rattle.std.specs.List.{AllByRecursion};
 ghost use Rattle.disk_model.specs.Storage.{is_quiet};
 
-use crate::fault::Fault;
+use crate::fault::ScriptFault;
 use crate::script::{ScriptProgram, ScriptTape, Source, Terminal, Words};
 use byte_list::Bytes;
 use kernel::{Core, Program, SimDisk};
@@ -23,14 +23,14 @@ enum Code {
 
 impl Code {
     /// What a script gives, with the image's file read.
-    fn read<R: Files + AllocGlobal>(rt: &R, source: Source) -> Result<Code, Fault> {
+    fn read<R: Files + AllocGlobal>(rt: &R, source: Source) -> Result<Code, ScriptFault> {
         match source {
             Source::Words(words) => Ok(Code::Words(words)),
             Source::Image(path) => Ok(Code::File(fs::read(rt, path.as_str())?)),
         }
     }
 
-    fn image(&self, alloc: Global) -> Result<Image, Fault> {
+    fn image(&self, alloc: Global) -> Result<Image, ScriptFault> {
         match self {
             Code::Words(words) => Ok(Image::from_text(alloc, words.as_slice())?),
             Code::File(file) => Ok(elf32::parse(alloc, file)?),
@@ -55,7 +55,7 @@ impl Drop for Bootable {
 
 impl Bootable {
     /// The program, to be booted once.
-    fn program(&self, alloc: Global) -> Result<Program, Fault>
+    fn program(&self, alloc: Global) -> Result<Program, ScriptFault>
         ensures { IfOk result (λ program. program.terminal < 8) }
     {
         Ok(Program {
@@ -89,7 +89,7 @@ impl Setup {
         rt: &R,
         programs: Vec<ScriptProgram>,
         tapes: Vec<ScriptTape>,
-    ) -> Result<(Setup, Core), Fault>
+    ) -> Result<(Setup, Core), ScriptFault>
         requires some { 1 ≤ vec_len programs }
         requires few { vec_len programs ≤ 8 }
     {
@@ -104,7 +104,7 @@ impl Setup {
     }
 
     /// Boots the same once more, on this disk.
-    pub fn boot_again(&self, alloc: Global, device: SimDisk) -> Result<Core, Fault>
+    pub fn boot_again(&self, alloc: Global, device: SimDisk) -> Result<Core, ScriptFault>
         requires { is_quiet device ≡ true }
     {
         let programs = programs_of(alloc, self.programs.as_slice())?;
@@ -118,7 +118,7 @@ fn boot_on(
     device: SimDisk,
     programs: Vec<Program>,
     tapes: &[ScriptTape],
-) -> Result<Core, Fault>
+) -> Result<Core, ScriptFault>
     requires quiet { is_quiet device ≡ true }
     requires some { 1 ≤ length programs.items }
     requires few { length programs.items ≤ 8 }
@@ -132,7 +132,7 @@ fn boot_on(
 fn read_program<R: Files + AllocGlobal>(
     rt: &R,
     program: ScriptProgram,
-) -> Result<(Bootable, Program), Fault>
+) -> Result<(Bootable, Program), ScriptFault>
     ensures { IfOk result (λ read. read.1.terminal < 8) }
 {
     let kept = Bootable {
@@ -147,7 +147,7 @@ fn read_program<R: Files + AllocGlobal>(
 fn read_programs<R: Files + AllocGlobal>(
     rt: &R,
     programs: Vec<ScriptProgram>,
-) -> Result<(Vec<Bootable>, Vec<Program>), Fault>
+) -> Result<(Vec<Bootable>, Vec<Program>), ScriptFault>
     ensures kept { IfOk result (λ read. length read.0.items ≡ vec_len programs) }
     ensures len { IfOk result (λ read. length read.1.items ≡ vec_len programs) }
     ensures terminals { IfOk result (λ read. AllByRecursion (λ p. p.terminal < 8) read.1.items) }
@@ -163,7 +163,7 @@ fn read_programs<R: Files + AllocGlobal>(
 }
 
 /// Programs to be booted once more.
-fn programs_of(alloc: Global, programs: &[Bootable]) -> Result<Vec<Program>, Fault>
+fn programs_of(alloc: Global, programs: &[Bootable]) -> Result<Vec<Program>, ScriptFault>
     ensures len { IfOk result (λ booted. length booted.items ≡ length programs.now) }
     ensures terminals { IfOk result (λ booted. AllByRecursion (λ p. p.terminal < 8) booted.items) }
 {
@@ -183,7 +183,7 @@ fn tape_of(alloc: Global, tapes: &[ScriptTape], number: u32) -> Result<Bytes, Al
 }
 
 /// The eight tapes of a boot, by their numbers: those that a script gives, the others empty.
-fn tapes_of(alloc: Global, tapes: &[ScriptTape]) -> Result<Vec<Bytes>, Fault>
+fn tapes_of(alloc: Global, tapes: &[ScriptTape]) -> Result<Vec<Bytes>, ScriptFault>
     ensures { IfOk result (λ booted. length booted.items ≡ 8) }
 {
     let mut booted = Vec::new(alloc);

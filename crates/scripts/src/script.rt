@@ -1,7 +1,7 @@
 //! Scripts: programs to be booted, and what is done with them line by line.
 ghost use Rattle.std.specs.Prelude.{◌≡◌, ◌<◌, ◌≤◌, IfOk, IfSome, length, vec_len};
 
-use crate::fault::Fault;
+use crate::fault::ScriptFault;
 use byte_list::Bytes;
 use kernel::Event;
 use kernel_model::{TAPES, TERMINALS};
@@ -307,7 +307,15 @@ impl Script {
         ensures { vec_len self.new.programs ≤ 8 }
     {
         let words: Vec<&str> = text.split(' ').collect(alloc)?;
-        match line_of(alloc, words.as_slice())? {
+        self.read_words(alloc, words.as_slice())
+    }
+
+    /// Adds the line of these words, if it has a form and may stand here.
+    fn read_words(&mut self, alloc: Global, words: &[&str]) -> Result<bool, AllocError>
+        requires { vec_len self.old.programs ≤ 8 }
+        ensures { vec_len self.new.programs ≤ 8 }
+    {
+        match line_of(alloc, words)? {
             Some(line) => self.push(line),
             None => Ok(false),
         }
@@ -317,7 +325,7 @@ impl Script {
     /// after a line that is none, is a ninth `program` or `image` line, or is a second line for one tape; and where
     /// there is no such line, line 1 of a script without a `program` and an `image` line. Lines are counted from 1 and
     /// end at a line feed; empty ones and those that begin with `#` are skipped.
-    pub fn parse(alloc: Global, text: &str) -> Result<Script, Fault>
+    pub fn parse(alloc: Global, text: &str) -> Result<Script, ScriptFault>
         ensures some { IfOk result (λ script. 1 ≤ vec_len script.programs) }
         ensures few { IfOk result (λ script. vec_len script.programs ≤ 8) }
     {
@@ -331,11 +339,11 @@ impl Script {
             number = number.saturating_add(1);
             let blank = text.is_empty() || text.starts_with('#');
             if !blank && !script.read(alloc, text)? {
-                return Err(Fault::Script { line: number });
+                return Err(ScriptFault::Refused { line: number });
             }
         }
         if script.programs.is_empty() {
-            return Err(Fault::Script { line: 1 });
+            return Err(ScriptFault::Refused { line: 1 });
         }
         Ok(script)
     }

@@ -2,7 +2,7 @@
 use Rattle.std.proofs.Common.{◌≡◌, ◌<◌, length}
 use Rattle.std.specs.List.{AllByRecursion}
 use Rattle.kernel_step.specs.declared.booting.Program.{Program}
-use Rattle.monitor.proofs.setup.read_programs.Given as goal
+use Rattle.scripts.proofs.setup.read_programs.Given as goal
 
 abbrev pub invariant-loop-program : goal.invariant-loop-program
 invariant-loop-program g l = (length l.kept.items ≡ length l.yielded) × (length l.booted.items ≡ length l.yielded) × AllByRecursion (λ (p : Program). p.terminal < 8) l.booted.items

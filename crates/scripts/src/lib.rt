@@ -1,0 +1,13 @@
+//! Scripts: programs to be booted, and what is done with them line by line.
+#![tactic(auto)]
+
+mod fault;
+mod file_lines;
+mod playing;
+mod script;
+mod setup;
+
+pub use fault::ScriptFault;
+pub use file_lines::print_files;
+pub use playing::replay;
+pub use script::MOST_TAPE_BYTES;
