@@ -1,5 +1,5 @@
 -- Back from what is kept.
-use Rattle.std.proofs.Common.{◌≡◌, ℕ, ◌-◌, ◌*◌, ◌/◌, ◌%◌, ◌≤◌, ◌^◌, List, ap, subst, ◌∙◌, arith}
+use Rattle.std.proofs.Common.{◌≡◌, ℕ, ◌-◌, ◌*◌, ◌/◌, ◌%◌, ◌≤◌, ◌^◌, List, ap, subst, ◌∙◌, arith, rules}
 use Rattle.machine_model.specs.declared.reply.Reply.{Reply}
 use Rattle.debugger.specs.Sessions.{Session}
 use Rattle.debugger.specs.Ways.{traced_at, Came}
@@ -39,3 +39,7 @@ returns-clause-back c =
     ap (λ (n : ℕ). record before { count = n; reran = c.count-2.result - c.count-from.result }) back
     ∙ ap (λ (n : ℕ). record before { count = c.args.n; reran = n }) again
     ∙ ap (λ (s : Session). record s { count = c.args.n; reran = c.args.n % 1024 }) c.self.view_is
+
+-- Without an answer this would be proved too; with one, an edit that breaks it is refused sooner.
+pub returns-then-count-n-clause-past : goal.returns-then-count-n-clause-past
+returns-then-count-n-clause-past c = search rules

@@ -1,5 +1,6 @@
 -- A Turn that is not refused has its machine here.
-use Rattle.std.proofs.Common.{◌≡◌, ◌∙◌, ℕ, Bool, true, List, slice_get, Some, None, is_some, sym, subst}
+use Rattle.std.proofs.lemmas.Grind.{common_steps}
+use Rattle.std.proofs.Common.{◌≡◌, ◌∙◌, ℕ, Bool, true, List, slice_get, Some, None, is_some, sym, subst, arith}
 use Rattle.std.proofs.lemmas.Bool.{false≢true}
 use Rattle.kernel_step.specs.Tasks.{out_of, process_of}
 use Rattle.kernel_step.specs.Tests.{turn_refusal_of, IsPlaceOf}
@@ -24,3 +25,7 @@ returns-in_err-count-clause-refused c =
     (subst (λ (ts : List Task). IsPlaceOf ts c.args.pid c.in_ok-place.place) same c.in_ok-place.ensures.place)
     (subst (λ (ts : List Task). turn_refusal_of ts c.is_full-full.result c.args.pid c.args.n ≡ None) same c.in_ok-place.ensures.fine)
     c.in_err-count.ensures.lent)
+
+-- Without an answer this would be proved too; with one, an edit that breaks it is refused sooner.
+pub returns-clause-done : goal.returns-clause-done
+returns-clause-done c = grind (arith, common_steps)

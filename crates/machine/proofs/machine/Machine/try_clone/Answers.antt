@@ -1,5 +1,5 @@
 -- The tables match the copy too.
-use Rattle.std.proofs.Common.{List, sym, ap, subst}
+use Rattle.std.proofs.Common.{List, sym, ap, subst, rules}
 use Rattle.machine_model.specs.Memory.{Memory}
 use Rattle.machine.specs.declared.table.Table.{Table}
 use Rattle.machine.specs.Tables.{AllMatch}
@@ -9,3 +9,7 @@ pub invariant_of-result : goal.invariant_of-result
 invariant_of-result c =
     subst (λ (m : Memory). AllMatch c.in_ok-try_clone-2.field-0.value.items m) (sym c.in_ok-try_clone.ensures)
     (subst (λ (tables : List Table). AllMatch tables c.self.inside.space) (sym (ap (λ v. v.items) c.in_ok-try_clone-2.ensures)) c.self.invariant)
+
+-- Without an answer this would be proved too; with one, an edit that breaks it is refused sooner.
+pub returns : goal.returns
+returns c = search rules
