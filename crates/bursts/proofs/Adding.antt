@@ -1,5 +1,6 @@
 -- What events add to the totals of a history.
-use Rattle.std.proofs.Common.{◌≡◌, ◌+◌, ◌∙◌, refl, sym, ap, subst, List, [], ◌∷◌, ◌++◌, length, Bool, true, false, true≢false, is_some, Some, None, arith}
+use Rattle.std.proofs.Common.{◌≡◌, ◌+◌, ◌∙◌, refl, sym, ap, subst, List, [], ◌∷◌, ◌++◌, length, Bool, true, false, is_some, Some, None, arith}
+use Rattle.std.proofs.lemmas.Bool.{false≢true}
 use Rattle.std.specs.Prelude.{if◌then◌else◌}
 use Rattle.std.proofs.lemmas.List.{length-append, append_assoc, append-nil}
 use Rattle.std.proofs.lemmas.List.Sums.{sum_by-append}
@@ -15,9 +16,6 @@ use Rattle.kernel.specs.Keeping.{KeepsLimits}
 use Rattle.kernel.specs.Sums.{process_of_turn, process_of_enter, sum_of_turns, sum_of_enters}
 use Rattle.bursts.specs.declared.totals.Totals.{Totals}
 use Rattle.bursts.specs.Totals.{plus, history_totals, settled_totals, is_of_disk, one_event, Fit}
-
-not_so : false ≡ true → ⊥
-not_so e = true≢false (sym e)
 
 history-after : (k : Kernel) (es : List Event) → (with_events k es).history ≡ k.history ++ es
 history-after k [] = sym (append-nil k.history)
@@ -67,8 +65,8 @@ silent_adds k new e a turn enter still answered is ran =
 
 disk_event : (k new : Kernel) (e : Event) (a : Answer) → is_of_disk e ≡ true → a ≡ answer k e → new ≡ with_event k e → ran_by_turns new ≡ ran_by_turns k + ran_in a
     → plus (history_totals k) one_event ≡ history_totals new
-disk_event k new (Turn pid n) a of_disk answered is ran = absurd (not_so of_disk)
-disk_event k new (Enter pid) a of_disk answered is ran = absurd (not_so of_disk)
+disk_event k new (Turn pid n) a of_disk answered is ran = absurd (false≢true of_disk)
+disk_event k new (Enter pid) a of_disk answered is ran = absurd (false≢true of_disk)
 disk_event k new Cut a of_disk answered is ran = silent_adds k new Cut a refl refl refl answered is ran
 disk_event k new (Complete at) a of_disk answered is ran = silent_adds k new (Complete at) a refl refl refl answered is ran
 disk_event k new (Fail at) a of_disk answered is ran = silent_adds k new (Fail at) a refl refl refl answered is ran

@@ -1,7 +1,8 @@
 -- Each step of a board keeps its rule, and a core's pair never falls.
-use Rattle.std.proofs.Common.{◌≡◌, ◌≢◌, ℕ, zero, suc, ◌+◌, ◌≤◌, List, [], ◌∷◌, set, true, false, true≢false, refl, sym, ap, ◌∙◌, subst, ⊎_elim, arith, le_refl, le_trans, le_of_eq}
+use Rattle.std.proofs.Common.{◌≡◌, ◌≢◌, ℕ, ◌+◌, ◌≤◌, List, [], ◌∷◌, set, true, refl, sym, ap, ◌∙◌, subst, ⊎_elim, arith, le_refl, le_trans}
+use Rattle.std.proofs.lemmas.Bool.{false≢true}
 use Rattle.std.specs.Prelude.{slice_index}
-use mathlib.Core.Option.{some, some-ne-none, some-injective}
+use mathlib.Core.Option.{some}
 use lib.ListN.{get_elem?}
 use Rattle.crossbeam_utils.specs.Register.{Turns, Forks}
 use Rattle.atomic_table.proofs.Lists.{at_set, at_snoc, set_again}
@@ -10,18 +11,7 @@ use Rattle.kernel_model.specs.Loans.{LoanResult, returned, events_of, settled}
 use Rattle.kernel_model.specs.World.{World}
 use Rattle.kernel_model.specs.declared.event.Event.{Event}
 use Rattle.bursts.specs.declared.board.View.{View}
-use Rattle.bursts.specs.Pairs.{pair_of, publisher, newcomer, Fits, Follows, Loaded, Published}
-
-not_so : false ≡ true → ⊥
-not_so e = true≢false (sym e)
-
--- a cell that begins with this pair, and its one pass
-pub opens : (c n d m : ℕ) → c ≡ d → n ≡ m → Follows (c ∷ n ∷ []) (publisher d m ∷ [])
-opens c n d m p q = (0, one)
-  where
-    one : (by : ℕ) (v : View) → get_elem? (publisher d m ∷ []) by ≡ some v → Fits 0 c n by v
-    one zero v e = subst (Fits 0 c n 0) (some-injective _ _ e) ((λ _. (refl, sym p, sym q)), le_of_eq (sym p), le_of_eq (sym q))
-    one (suc by) v e = absurd (some-ne-none v (sym e))
+use Rattle.bursts.specs.Pairs.{pair_of, newcomer, Fits, Follows, Loaded, Published}
 
 -- all passes fit where one of them now shows something else, which fits, and the others fit
 fits_set : (seat c n : ℕ) (views : List View) (by : ℕ) (w : View) → ((j : ℕ) (u : View) → j ≢ by → get_elem? views j ≡ some u → Fits seat c n j u) → Fits seat c n by w
@@ -66,7 +56,7 @@ gives by v x views h at = (
   h.0,
   λ j u e. ⊎_elim
       (λ was. h.1 j u (subst (λ l. get_elem? l j ≡ some u) (set_again views by v at) was))
-      (λ (same : newcomer ≡ u). subst (Fits h.0 (slice_index x 0) (slice_index x 1) j) same ((λ p. absurd (not_so p)), omega arith, omega arith))
+      (λ (same : newcomer ≡ u). subst (Fits h.0 (slice_index x 0) (slice_index x 1) j) same ((λ p. absurd (false≢true p)), omega arith, omega arith))
       (at_snoc (set views by v) newcomer u j e),
 )
 

@@ -6,12 +6,9 @@ use crate::refusal::{print_refusal, print_refused};
 use crate::registers::print_changed_registers;
 use crate::standing::print_place;
 use crate::writable::Words;
-use debugger::{Cause, DebugFault, Debugger, Machine, Stepped, Stopped};
+use debugger::{Cause, DebugFault, Debugger, MOST_INSTRUCTIONS, Machine, Stepped, Stopped};
 use std::alloc::Global;
 use std::io::Write;
-
-/// The most instructions of a program, and so of a run.
-const MOST: u64 = 1 << 40;
 
 /// Prints the trap at which the machine stands.
 fn print_trap<O: Write>(cause: Cause, out: &mut O) -> Result<(), SessionFault> {
@@ -60,7 +57,7 @@ fn print_stopped<O: Write>(
 fn go<O: Write>(debugger: &mut Debugger, motion: Motion, out: &mut O) -> Result<(), SessionFault> {
     match motion {
         Motion::Step(n) => step(debugger, n, out),
-        Motion::Run => print_stopped(debugger.run_to_break(MOST), out),
+        Motion::Run => print_stopped(debugger.run_to_break(MOST_INSTRUCTIONS), out),
         Motion::Rewind(n) => print_refused(debugger.rewind(n), out),
     }
 }

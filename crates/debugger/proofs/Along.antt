@@ -79,15 +79,6 @@ along-within (suc n) t = by (λ u. along-within n u) (next_of t) refl
         let same : (along (suc n) t).state.count ≡ t.state.count = ap (λ (v : Traced). v.state.count) (along-rests (suc n) t why is) in
         omega arith
 
--- where n moves count n, fewer count as many as they are
-pub along-fewer : (n k : ℕ) (t : Traced) → (along n t).state.count ≡ t.state.count + n → k ≤ n → (along k t).state.count ≡ t.state.count + k
-along-fewer n k t all few =
-    let split : n ≡ k + (n - k) = omega (arith, few) in
-    let same : (along n t).state.count ≡ (along (n - k) (along k t)).state.count = ap (λ (j : ℕ). (along j t).state.count) split ∙ ap (λ (v : Traced). v.state.count) (along-add k (n - k) t) in
-    let rest : (along (n - k) (along k t)).state.count ≤ (along k t).state.count + (n - k) = along-within (n - k) (along k t) in
-    let most : (along k t).state.count ≤ t.state.count + k = along-within k t in
-    omega arith
-
 -- and nothing keeps them from going on
 pub along-onward : (n k : ℕ) (t : Traced) → (along n t).state.count ≡ t.state.count + n → k < n → halt_of (next_of (along k t)) ≡ None
 along-onward n k t all few = by (next_of (along k t)) refl

@@ -73,19 +73,6 @@ advances-came p rs a b breaks reran most max halt from to some few came =
       rest = refl;
     }
 
--- a session that may not go on
-pub advances-rests : (p : Program) (rs : List Reply) (a : Place) (breaks : Slab ℕ) (reran max : ℕ) (why : Halt) → IsAt p rs a → 0 < max → halt_of (next_of (traced_at rs a)) ≡ Some why
-    → Advances (session_of p rs a breaks reran) max (Some why) (session_of p rs a breaks reran)
-advances-rests p rs a breaks reran max why at some is = record {
-  on = omega arith;
-  within = omega arith;
-  past = λ n above below. absurd (omega (arith, above, below));
-  progress = λ none. absurd (none-some why (sym none));
-  short = λ _. omega arith;
-  stands = λ other e. halt-there p rs a at ∙ is ∙ e;
-  rest = refl;
-}
-
 -- a session that went on by one
 pub advances-one : (p : Program) (rs : List Reply) (a b : Place) (breaks : Slab ℕ) (reran max : ℕ) → IsAt p rs b → 0 < max → Leads 1 (traced_at rs a) (traced_at rs b)
     → Advances (session_of p rs a breaks reran) max None (session_of p rs b breaks reran)

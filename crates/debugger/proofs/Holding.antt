@@ -54,11 +54,6 @@ keeps-push p rs a b copy kept more breaks k leads same one last budget =
       room = k.room;
     }
 
--- with other breakpoints
-pub keeps-breaks : (p : Program) (rs : List Reply) (a : Place) (kept : List Place) (old new : Slab ℕ) → Keeps p rs a kept old → slab_len new ≤ 64 → 64 ≤ new.capacity → Keeps p rs a kept new
-keeps-breaks p rs a kept old new k set room =
-    record { there = k.there; are_kept = k.are_kept; enough = k.enough; few = k.few; budget = k.budget; set = set; room = room }
-
 -- the place that is kept at the greatest count not above another
 pub kept-found : (p : Program) (rs : List Reply) (a : Place) (kept : List Place) (breaks : Slab ℕ) (n : ℕ) (q b : Place) → Keeps p rs a kept breaks → n ≤ a.machine.count → q ≡ get_or kept (n / 1024) q → b ≡ q → IsKept p rs (n / 1024) b
 kept-found p rs a kept breaks n q b k small at same =

@@ -1,15 +1,14 @@
 -- Runs of a machine as moves along its trace.
-use Rattle.std.proofs.Common.{◌≡◌, ℕ, suc, zero, ◌+◌, ◌-◌, ◌<◌, ◌≤◌, Bool, true, false, cond, List, [], ◌∷◌, length, drop, Some, None, refl, sym, ap, subst, ◌∙◌, arith}
-use Rattle.std.specs.Prelude.{◌≢◌, Option, slice_get}
+use Rattle.std.proofs.Common.{◌≡◌, ℕ, suc, zero, ◌+◌, ◌-◌, ◌<◌, ◌≤◌, List, Some, None, refl, sym, ap, subst, ◌∙◌, arith}
+use Rattle.std.specs.Prelude.{◌≢◌, Option}
 use Rattle.std.proofs.lemmas.Option.{same_Some, none-some}
-use Rattle.machine_model.specs.Access.{is_writable}
-use Rattle.machine_model.specs.States.{State, Stepped, Goes, Halts, Ran, next, replied, run, reached_at, stands_at, by_step}
+use Rattle.machine_model.specs.States.{State, Stepped, Goes, Halts, Ran, next, run, reached_at, stands_at, by_step}
 use Rattle.machine_model.specs.declared.reply.Reply.{Reply}
 use Rattle.machine_model.specs.declared.stop.Cause.{Cause}
 use Rattle.machine_model.specs.declared.stop.Stop.{Stop}
 use Rattle.machine_model.specs.declared.stop.Stop.TheVariants.{Limit, Call, Trap}
 use Rattle.machine_model.proofs.Running.{run-zero, run-goes, run-halts}
-use Rattle.debugger.specs.Traces.{Traced, traced, Moves, Rests, next_at_call, next_by, next_of, halt_of}
+use Rattle.debugger.specs.Traces.{Traced, traced, next_at_call, next_by, next_of, halt_of}
 use Rattle.debugger.specs.declared.halt.Halt.{Halt}
 use Rattle.debugger.specs.declared.halt.Halt.TheVariants as halt
 use Rattle.debugger.specs.Ways.{Leads, Came}
@@ -57,49 +56,6 @@ goes-halt t = by (next t.state) refl
     by : (x : Stepped) → next t.state ≡ x → by_step {A = Option Stop} x (λ s. None) (λ why. Some why) ≡ None → halt_of (next_of t) ≡ None
     by (Goes s) is e = ap halt_of (next_of-by t (Goes s) is)
     by (Halts why) is e = cc
-
--- a list from a place on
-pub drop-there : {X : Type 0} (xs : List X) (k : ℕ) (x : X) → slice_get xs k ≡ Some x → drop k xs ≡ x ∷ drop (k + 1) xs
-drop-there [] k x e = cc
-drop-there (y ∷ xs) zero x e = ap (λ z. z ∷ xs) (same_Some y x e)
-drop-there (y ∷ xs) (suc k) x e =
-    let later : suc k + 1 ≡ suc (k + 1) = omega arith in
-    drop-there xs k x e ∙ ap (λ (j : ℕ). x ∷ drop j (y ∷ xs)) (sym later)
-
-pub drop-past : {X : Type 0} (xs : List X) (k : ℕ) → slice_get xs k ≡ None → drop k xs ≡ []
-drop-past [] zero e = refl
-drop-past [] (suc k) e = refl
-drop-past (y ∷ xs) zero e = cc
-drop-past (y ∷ xs) (suc k) e = drop-past xs k e
-
--- a call that has no reply
-pub call-past : (s : State) (replies : List Reply) (k : ℕ) → slice_get replies k ≡ None → halt_of (next_at_call s (drop k replies)) ≡ Some halt.EndOfTrace
-call-past s replies k e = ap (λ (left : List Reply). halt_of (next_at_call s left)) (drop-past replies k e)
-
--- a call that has one
-pub call-there : (s : State) (replies : List Reply) (k : ℕ) (r : Reply) → slice_get replies k ≡ Some r → next_at_call s (drop k replies) ≡ next_at_call s (r ∷ drop (k + 1) replies)
-call-there s replies k r e = ap (next_at_call s) (drop-there replies k r e)
-
-pub call-takes : (s : State) (r : Reply) (rs : List Reply) → is_writable s.hart.memory r.at (length r.bytes) ≡ true → next_at_call s (r ∷ rs) ≡ Moves (traced (replied s r) rs)
-call-takes s r rs e = ap (λ (b : Bool). cond b (Moves (traced (replied s r) rs)) (Rests halt.EndOfTrace)) e
-
-pub call-refuses : (s : State) (r : Reply) (rs : List Reply) → is_writable s.hart.memory r.at (length r.bytes) ≡ false → next_at_call s (r ∷ rs) ≡ Rests halt.EndOfTrace
-call-refuses s r rs e = ap (λ (b : Bool). cond b (Moves (traced (replied s r) rs)) (Rests halt.EndOfTrace)) e
-
--- where nothing keeps a call from taking its reply, that may be written
-pub call-writable : (s : State) (r : Reply) (rs : List Reply) → halt_of (next_at_call s (r ∷ rs)) ≡ None → is_writable s.hart.memory r.at (length r.bytes) ≡ true
-call-writable s r rs = by (is_writable s.hart.memory r.at (length r.bytes)) refl
-  where
-    by : (b : Bool) → is_writable s.hart.memory r.at (length r.bytes) ≡ b → halt_of (cond b (Moves (traced (replied s r) rs)) (Rests halt.EndOfTrace)) ≡ None → is_writable s.hart.memory r.at (length r.bytes) ≡ true
-    by true is e = is
-    by false is e = cc
-
--- and there is one
-pub call-within : (s : State) (replies : List Reply) (k : ℕ) → halt_of (next_at_call s (drop k replies)) ≡ None → k < length replies
-call-within s [] zero e = cc
-call-within s [] (suc k) e = cc
-call-within s (r ∷ rs) zero e = omega arith
-call-within s (r ∷ rs) (suc k) e = let less : k < length rs = call-within s rs k e in omega arith
 
 -- one instruction where nothing keeps it
 pub came-one : (f t : Traced) (why : Option Halt) → halt_of (next_of f) ≡ None → Came 1 f why t → Leads 1 f t

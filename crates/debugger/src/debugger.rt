@@ -19,7 +19,7 @@ use std::alloc::Global;
 use std::marker::Model;
 
 /// The most instructions that a machine does: 2^40.
-pub const MOST: u64 = 1 << 40;
+pub const MOST_INSTRUCTIONS: u64 = 1 << 40;
 
 /// The places at counts that are multiples of this are kept.
 const SPAN: u64 = 1024;
@@ -110,7 +110,7 @@ impl Debugger {
         ensures memory { IfErr result (λ why. why ≡ OutOfMemory → (answer_of self.old ≡ Ok Went) × ((self.old.count + 1) % 1024 ≡ 0)) }
         ensures after { self.new ≡ after_step self.old result }
     {
-        if self.count() == MOST {
+        if self.count() == MOST_INSTRUCTIONS {
             return Err(DebugFault::Budget);
         }
         let halt = self.go(1)?;

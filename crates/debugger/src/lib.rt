@@ -10,7 +10,7 @@ mod place;
 mod running;
 mod stops;
 
-pub use debugger::Debugger;
+pub use debugger::{Debugger, MOST_INSTRUCTIONS};
 pub use fault::DebugFault;
 pub use machine::{Cause, Image, Machine, Reply};
 pub use stops::{Stepped, Stopped};

@@ -3,7 +3,7 @@ ghost use Rattle.std.specs.Prelude.{◌≡◌, IfOk, IfErr, OnErr};
 ghost use Rattle.debugger.specs.Stops.{Stops, StopsShort};
 ghost use Rattle.debugger.specs.declared.fault.DebugFault.TheVariants.{OutOfMemory};
 
-use crate::debugger::{Debugger, MOST};
+use crate::debugger::{Debugger, MOST_INSTRUCTIONS};
 use crate::fault::DebugFault;
 use crate::stops::{Stopped, stopped_by};
 
@@ -17,7 +17,7 @@ impl Debugger {
         ensures short { OnErr result (StopsShort self.old max self.new) }
     {
         let from = self.count();
-        let limit = from + max.min(MOST - from);
+        let limit = from + max.min(MOST_INSTRUCTIONS - from);
         while self.count() < limit {
             let few = self.stretch(limit);
             if let Some(halt) = self.go(few)? {

@@ -1,7 +1,7 @@
-//! Runs a core to its end: worker threads, a thread for its disk, and a console for one of its terminals.
+//! Runs a core to its end: worker threads, a thread that commits, and a console for one of its terminals.
 #![tactic(auto)]
 
-mod disk;
+mod committing;
 mod fault;
 mod rest;
 mod screen;

@@ -2,7 +2,7 @@
 ghost use Rattle.std.specs.Prelude.{◌≡◌, ◌≤◌, ◌<◌};
 ghost use Rattle.kernel_model.specs.Answers.{now, committed as committed_in, changes as changes_in};
 
-use crate::disk::{BoardReader, DiskThread};
+use crate::committing::{BoardReader, CommitThread};
 use crate::fault::RunFault;
 use crate::rest::Rest;
 use crate::screen::Screen;
@@ -40,7 +40,7 @@ struct Crew<'x, 'p, 'b, N: Naming> {
 struct Threading<'x, 'r, 'p, 'b, 'c, N: Naming, R: Wait> {
     bench: &'p Mutex<Bench<'b, N>>,
     crew: Mutex<Crew<'x, 'p, 'b, N>>,
-    disk: Mutex<DiskThread<'r, 'p, 'b, 'c, N, R>>,
+    committing: Mutex<CommitThread<'r, 'p, 'b, 'c, N, R>>,
     watch: Watch,
     quantum: u32,
 }
@@ -107,13 +107,13 @@ fn run_pool<N: Naming + Send + Sync, R: Threads + Wait + Sync, O: Write>(
     let mut workers = workers_of(alloc, pool, &mut share)?;
     let seats = workers.as_mut_slice();
     let bench = pool.bench();
-    let disk = DiskThread::new(rt, reader, bench, share);
+    let committing = CommitThread::new(rt, reader, bench, share);
     let threading = Threading {
         bench,
         crew: Mutex::new(Crew {
             workers: Some(seats),
         }),
-        disk: Mutex::new(disk),
+        committing: Mutex::new(committing),
         watch: Watch::new(),
         quantum,
     };
@@ -179,10 +179,10 @@ fn workers_in<'x, 'p, 'b, N: Naming, R: Wait>(
     crew.lock(rt).workers.take()
 }
 
-/// What the disk's thread does.
+/// What the thread that commits does.
 fn commit<N: Naming, R: Wait>(rt: &R, threading: &Threading<'_, '_, '_, '_, '_, N, R>) {
-    let mut disk = threading.disk.lock(rt);
-    disk.serve(rt, &threading.watch);
+    let mut committing = threading.committing.lock(rt);
+    committing.serve(rt, &threading.watch);
 }
 
 /// Writes what the terminal shows, until no worker works any more, or until it cannot be written.

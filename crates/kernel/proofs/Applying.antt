@@ -1,17 +1,12 @@
 -- Events applied in turn.
-use Rattle.std.proofs.Common.{◌≡◌, ℕ, zero, suc, ◌+◌, ◌<◌, true, false, List, [], ◌∷◌, ◌++◌, length, take, slice_get, slice_index_or, Option, Some, None, Result, Ok, Err, is_err, MatchOption, ◌≤◌, refl, sym, ap, subst, ◌∙◌, arith}
+use Rattle.std.proofs.Common.{◌≡◌, ℕ, zero, suc, ◌+◌, true, false, List, [], ◌∷◌, ◌++◌, length, take, slice_get, Option, Some, None, Result, Ok, Err, is_err, MatchOption, ◌≤◌, refl, sym, ap, subst, ◌∙◌, arith}
+use Rattle.std.proofs.lemmas.Option.{slice_get_past}
 use Rattle.kernel_model.specs.Answers.{Kernel, Applies, AllAccepted, refusal, with_event, with_events}
 use Rattle.kernel_model.specs.declared.answer.Answer.{Answer}
 use Rattle.kernel_model.specs.declared.answer.Refused.{Refused}
 use Rattle.kernel_model.specs.declared.event.Event.{Event}
 use Rattle.kernel.specs.Applying.{Accepts, AnsweredByRefusal, AppliedUpTo}
 use Rattle.kernel.specs.Applying.Accepts.{none, more}
-
--- an element at a place within
-pub get-index : {A : Type 0} (xs : List A) (i : ℕ) (d : A) → i < length xs → slice_get xs i ≡ Some (slice_index_or xs i d)
-get-index [] i d h = absurd (omega arith)
-get-index (y ∷ ys) zero d h = refl
-get-index (y ∷ ys) (suc i) d h = get-index ys i d (omega arith)
 
 take-snoc : {A : Type 0} (xs : List A) (i : ℕ) (x : A) → slice_get xs i ≡ Some x → take (i + 1) xs ≡ take i xs ++ x ∷ []
 take-snoc [] i x e = cc
@@ -47,18 +42,13 @@ stops-early answers s t u events i e (Err why) there h answered fault = record {
   last = subst (λ (o : Option Event). MatchOption o (u ≡ t) (λ e. AnsweredByRefusal answers t e u)) (sym there) (record { why = why; answered = answered });
 }
 
-get-past : (events : List Event) (i : ℕ) → length events ≤ i → slice_get events i ≡ None
-get-past [] i h = refl
-get-past (e ∷ es) zero h = absurd (omega (arith, h))
-get-past (e ∷ es) (suc i) h = get-past es i (omega (arith, h))
-
 -- there is none
 pub stops-late : {S : Type 0} (answers : S → Event → Result Answer Refused → S → Type 0) (s t : S) (events : List Event) (i : ℕ) → length events ≤ i
     → Accepts answers s (take i events) t → AppliedUpTo answers s events i t
 stops-late answers s t events i end h = record {
   before = t;
   accepted = h;
-  last = subst (λ (o : Option Event). MatchOption o (t ≡ t) (λ e. AnsweredByRefusal answers t e t)) (sym (get-past events i end)) refl;
+  last = subst (λ (o : Option Event). MatchOption o (t ≡ t) (λ e. AnsweredByRefusal answers t e t)) (sym (slice_get_past events i end)) refl;
 }
 
 -- ---- a core's answers

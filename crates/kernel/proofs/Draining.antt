@@ -1,5 +1,6 @@
 -- A drain ends with every change committed, and is refused for want of room or of memory alone.
-use Rattle.std.proofs.Common.{◌≡◌, ℕ, ◌+◌, ◌-◌, ◌<◌, ◌≤◌, ◌==◌, Bool, true, false, not, if◌then◌else◌, List, [], ◌∷◌, ◌++◌, length, drop, min, Option, Some, None, is_none, Ok, Err, refl, sym, ap, subst, ◌∙◌, arith, length-append, length-drop, length-take}
+use Rattle.std.proofs.Common.{◌≡◌, ℕ, ◌+◌, ◌-◌, ◌<◌, ◌≤◌, ◌==◌, Bool, true, false, not, if◌then◌else◌, List, [], ◌∷◌, ◌++◌, length, drop, min, Option, Some, None, is_none, Ok, Err, refl, sym, ap, subst, ◌∙◌, arith, length-append, length-drop}
+use Rattle.disk_model.proofs.Whole.{group_short}
 use Rattle.std.proofs.lemmas.Bool.{eqb-false}
 use Rattle.disk_model.specs.Storage.{Storage, is_empty, is_quiet, fits, group, checkpoint, group_of, cut, next_stage, advanced, piece_at, lesser, least_start, with_completion, completed_by, failed_by}
 use Rattle.disk_model.specs.Rebuild.{rebuild}
@@ -29,16 +30,12 @@ within-more n m st more h =
     let then_so = h.next in
     record { committed = omega (arith, more, is); next = omega (arith, more, then_so) }
 
-group-short : (cs : List Change) → length (group_of cs) ≤ length cs
-unfolding group_of
-group-short cs = let size = length-take 64 cs in omega (arith, size)
-
 cut-within : (n : ℕ) (st : Storage) (cs : List Change) (files : List NamedFile) → st.committed + length cs ≤ n → IsWithin n st → IsWithin n (cut st cs files)
 cut-within n st [] files room h = h
 cut-within n st (c ∷ cs) files room h = by (is_quiet st.device) (fits st (group_of (c ∷ cs)))
   where
     by : (quiet fit : Bool) → IsWithin n (if quiet then (if fit then group st (group_of (c ∷ cs)) else checkpoint st (length (c ∷ cs)) (rebuild files)) else st)
-    by true true = let short = group-short (c ∷ cs) in record { committed = h.committed; next = omega (arith, short, room) }
+    by true true = let short = group_short (c ∷ cs) in record { committed = h.committed; next = omega (arith, short, room) }
     by true false = record { committed = h.committed; next = room }
     by false fit = h
 

@@ -1,5 +1,6 @@
 -- From the parts of a running kernel to the kernel.
 use Rattle.std.proofs.Common.{◌≡◌, ℕ, ◌+◌, ◌*◌, ◌^◌, ◌<◌, ◌≤◌, List, [], ◌∷◌, ◌++◌, length, map, Option, is_some, nat_le, Ok, Err, refl, sym, ap, subst, ◌∙◌, arith}
+use Rattle.std.proofs.lemmas.List.{length_push}
 use Rattle.std.proofs.lemmas.Bool.{leb-false}
 use Rattle.machine_model.specs.States.{State, run}
 use Rattle.processes.specs.Parts.{part_of}
@@ -27,7 +28,7 @@ use Rattle.kernel_step.specs.declared.system.System.{System}
 use Rattle.kernel_step.specs.declared.task.Task.{Task}
 use Rattle.kernel_step.specs.declared.whereabouts.Whereabouts.TheVariants.{Here}
 use Rattle.kernel_step.proofs.FewLoans.{few-same}
-use Rattle.kernel_step.proofs.Lists.{map-set-same, count-set-same, count-map, length-snoc}
+use Rattle.kernel_step.proofs.Lists.{map-set-same, count-set-same, count-map}
 use Rattle.kernel_step.proofs.Refusing.{IsFineTurn, turn-fine}
 use Rattle.kernel_step.proofs.Quiet.{own-silent, screens-quiet, changes-part}
 use Rattle.kernel_step.proofs.EnterParts.{parts-quiet, pipes-quiet, counted-quiet}
@@ -108,7 +109,7 @@ turned-core b history history' old new s d pid n a h grown t =
     ∙ map-set-same lending_of old t.place task (record task { whereabouts = Here (run n (machine_of task)).state }) t.ran.there
     (ap (λ (o : Option ℕ). record { loans = task.loans; out = o }) (sym t.ran.here)) in
     let space : length history + 2 * count_out old < 2 ^ 40 = leb-false (2 ^ 40) (length history + 2 * count_out old) fine.room in
-    let longer : length (history ++ Turn pid n ∷ []) ≡ length history + 1 = length-snoc history (Turn pid n) in
+    let longer : length (history ++ Turn pid n ∷ []) ≡ length history + 1 = length_push history (Turn pid n) in
     subst (λ (es : List Event). KeepsRun b es new (record s { dependencies = d })) (sym grown) (record {
       mirrors = subst (λ (v : World). Mirrors v new (record s { dependencies = d })) (sym (after-append (first_world b) history (Turn pid n))) (record {
         each = ran-tasks w s.served old new pid n t.place t.count t.stop h.mirrors.each t.placed.number t.ran fine.running few;

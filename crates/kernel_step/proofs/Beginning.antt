@@ -1,5 +1,6 @@
 -- The parts of a kernel at boot keep what the run says before any event.
 use Rattle.std.proofs.Common.{◌≡◌, ℕ, zero, suc, ◌+◌, ◌≤◌, inl, inr, List, [], ◌∷◌, ◌++◌, length, map, take, slice_get, Option, Some, None, is_some, IfSome, count_by, refl, sym, ap, subst, ◌∙◌, arith}
+use Rattle.std.proofs.lemmas.List.{length_push}
 use Rattle.std.specs.List.{AllByRecursion}
 use Rattle.commit_deps.specs.Keeps.{Keeps}
 use Rattle.pipes.specs.Seen.{Seen}
@@ -29,7 +30,7 @@ use Rattle.kernel_step.specs.Tasks.{machine_of, out_of, process_of, bare, status
 use Rattle.kernel_step.specs.declared.booting.Program.{Program}
 use Rattle.kernel_step.specs.declared.system.System.{System}
 use Rattle.kernel_step.specs.declared.task.Task.{Task}
-use Rattle.kernel_step.proofs.Lists.{count-cons, count-map, length-snoc, get-snoc}
+use Rattle.kernel_step.proofs.Lists.{count-cons, count-map, get-snoc}
 
 -- ---- the processes
 first-status : (i : ℕ) (p : Program) (t : Task) → IsFirst i p t → status_of t ≡ None
@@ -217,7 +218,7 @@ first-none programs = record { count = refl; each = λ i t there. cc }
 pub first-more : (programs : List Program) (tasks tasks' : List Task) (n : ℕ) (p : Program) (t : Task) → FirstSo programs tasks n
     → slice_get programs n ≡ Some p → IsFirst n p t → tasks' ≡ tasks ++ t ∷ [] → FirstSo programs tasks' (n + 1)
 first-more programs tasks tasks' n p t h there one grown = subst (λ (ts : List Task). FirstSo programs ts (n + 1)) (sym grown) (record {
-  count = length-snoc tasks t ∙ ap (λ k. k + 1) h.count;
+  count = length_push tasks t ∙ ap (λ k. k + 1) h.count;
   each = λ i u at. elim (get-snoc tasks t i u at) [
     | inl g ↦ h.each i u g
     | inr g ↦ (let place : i ≡ n = g.0 ∙ h.count in (
@@ -235,7 +236,7 @@ empty-none = record { size = refl; each = λ t s there. cc }
 pub empty-more : (n : ℕ) (screens screens' : List (Withheld ℕ)) (s : Withheld ℕ) → AreEmpty n screens → s ≡ nothing → screens' ≡ screens ++ s ∷ []
     → AreEmpty (n + 1) screens'
 empty-more n screens screens' s h one grown = subst (λ (ss : List (Withheld ℕ)). AreEmpty (n + 1) ss) (sym grown) (record {
-  size = length-snoc screens s ∙ ap (λ k. k + 1) h.size;
+  size = length_push screens s ∙ ap (λ k. k + 1) h.size;
   each = λ t u at. elim (get-snoc screens s t u at) [
     | inl g ↦ h.each t u g
     | inr g ↦ g.1 ∙ one

@@ -1,5 +1,6 @@
 -- From an Enter of the parts to the kernel.
 use Rattle.std.proofs.Common.{◌≡◌, ℕ, ◌+◌, ◌*◌, ◌^◌, ◌<◌, ◌≤◌, if◌then◌else◌, List, [], ◌∷◌, ◌++◌, length, map, Option, Some, None, is_some, nat_le, count_by, Result, Ok, Err, refl, sym, ap, subst, ◌∙◌, arith}
+use Rattle.std.proofs.lemmas.List.{length_push}
 use Rattle.std.proofs.lemmas.Bool.{leb-false}
 use Rattle.std.specs.Prelude.{IfOk, IfErr, OnOk, OnErr}
 use Rattle.kernel_model.specs.Answers.{Refuses, Applies, refusal, enter_refusal, limit, outcome_of, entered, Lending, never_lent, with_child}
@@ -19,7 +20,7 @@ use Rattle.kernel_step.specs.declared.system.System.{System}
 use Rattle.kernel_step.specs.declared.task.Task.{Task}
 use Rattle.kernel_step.proofs.EnterFine.{fine-full}
 use Rattle.kernel_step.proofs.FewLoans.{few-same, few-longer, few-child}
-use Rattle.kernel_step.proofs.Lists.{count-cons, length-snoc}
+use Rattle.kernel_step.proofs.Lists.{count-cons}
 use Rattle.kernel_step.proofs.Turning.{enter-bare}
 
 count-out : (tasks : List Task) → count_by (λ (l : Lending). is_some l.out) (map lending_of tasks) ≡ count_out tasks
@@ -60,7 +61,7 @@ log-more : (w : World) (es : List Event) → length (after w es).log ≡ length 
 log-more w [] = omega arith
 log-more w (e ∷ es) =
     let rest : length (after (happens w e) es).log ≡ length (happens w e).log + length es = log-more (happens w e) es in
-    let one : length (happens w e).log ≡ length w.log + 1 = length-snoc w.log (step w.sync e).entry in
+    let one : length (happens w e).log ≡ length w.log + 1 = length_push w.log (step w.sync e).entry in
     omega (arith, rest, one)
 
 pub log-length : (b : Boot) (history : List Event) → length (run_of b history).log ≡ length history
@@ -105,7 +106,7 @@ enter-core b history history' old new s s' pid (Ok a) h fine mirrors grown grows
     let space : length history + 2 * count_out old < 2 ^ 40 =
     leb-false (2 ^ 40) (length history + 2 * count_out old)
     (fine-full (process_at (map process_of old) pid) (lent_of old pid) (full_of (length history) old) fine) in
-    let longer : length (history ++ Enter pid ∷ []) ≡ length history + 1 = length-snoc history (Enter pid) in
+    let longer : length (history ++ Enter pid ∷ []) ≡ length history + 1 = length_push history (Enter pid) in
     let lendings = grows (run_of b history) h.mirrors in
     let out : count_out new ≡ count_out old = child-out old new (step (run_of b history).sync (Enter pid)).entry.child lendings in
     subst (λ (es : List Event). KeepsRun b es new s') (sym grown) (record {

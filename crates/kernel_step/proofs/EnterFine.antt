@@ -1,6 +1,6 @@
 -- An Enter that is not refused.
 use Rattle.std.proofs.Common.{◌≡◌, ℕ, ◌+◌, ◌^◌, ◌<◌, Bool, true, false, ◌||◌, not, List, [], ◌∷◌, slice_get, Option, Some, None, is_some, is_none, nat_le, refl, sym, ap, ◌∙◌}
-use Rattle.std.proofs.lemmas.Bool.{leb-false}
+use Rattle.std.proofs.lemmas.Bool.{leb-false, not-false, or_parts}
 use Rattle.machine_model.specs.States.{stands_at}
 use Rattle.kernel_model.specs.declared.answer.Refused.{Refused}
 use Rattle.kernel_model.specs.State.{Process}
@@ -9,7 +9,6 @@ use Rattle.kernel_model.specs.Answers.{first_of, ◌⇒◌, has_ended, is_stoppe
 use Rattle.kernel_step.specs.Tasks.{machine_of, out_of, process_of, status_of}
 use Rattle.kernel_step.specs.Tests.{lent_of, enter_refusal_of}
 use Rattle.kernel_step.specs.declared.task.Task.{Task}
-use Rattle.kernel_step.proofs.Refusing.{or-false}
 use Rattle.kernel_step.proofs.Turning.{process-place, lending-place}
 
 -- no test of five holds where there is no refusal
@@ -21,10 +20,6 @@ none-of-five false false true d e r s t u v h = cc
 none-of-five false false false true e r s t u v h = cc
 none-of-five false false false false true r s t u v h = cc
 none-of-five false false false false false r s t u v h = (refl, refl, refl, refl, refl)
-
-not-false : (b : Bool) → not b ≡ false → b ≡ true
-not-false true h = refl
-not-false false h = cc
 
 -- the task of an Enter that is not refused
 pub record IsFineTask (t : Task) (full : Bool) : Type 0 where
@@ -42,7 +37,7 @@ fine-by : (t : Task) (full : Bool) → enter_refusal (Some (process_of t)) (is_s
 fine-by t full h =
     let all = none-of-five false (is_some (status_of t)) (is_some (out_of t)) (not (is_some (stands_at (machine_of t)))) (nat_le limit (machine_of t).count || full)
     refused.NoProcess refused.Ended refused.Lent refused.NotStopped refused.Budget h in
-    let last = or-false (nat_le limit (machine_of t).count) full all.4 in
+    let last = or_parts (nat_le limit (machine_of t).count) full all.4 in
     record {
       running = none-some (status_of t) all.1;
       here = none-some (out_of t) all.2;
@@ -67,5 +62,5 @@ pub fine-full : (o : Option Process) (lent full : Bool) → enter_refusal o lent
 fine-full o lent full h =
     let all = none-of-five (is_none o) (has_ended o) lent (not (is_stopped o)) (nat_le limit (count_at o) || full)
     refused.NoProcess refused.Ended refused.Lent refused.NotStopped refused.Budget h in
-    let last = or-false (nat_le limit (count_at o)) full all.4 in
+    let last = or_parts (nat_le limit (count_at o)) full all.4 in
     last.1

@@ -1,6 +1,6 @@
 -- The table of processes and the pipes after one more event.
 use Rattle.std.proofs.Common.{◌≡◌, ℕ, zero, suc, ◌+◌, ◌*◌, ◌≤◌, List, [], ◌∷◌, ◌++◌, length, map, slice_set, Option, Some, None, refl, sym, ap, subst, ◌∙◌, arith}
-use Rattle.std.proofs.lemmas.List.{map-set, map-append}
+use Rattle.std.proofs.lemmas.List.{map-set, map-append, length_push}
 use Rattle.std.specs.List.{AllByRecursion}
 use Rattle.disk_model.proofs.Lists.{each_get, each_set, each_append, each_more}
 use Rattle.calls.specs.Plans.{NamesFiles, MayAllStep, all_seen}
@@ -18,7 +18,6 @@ use Rattle.kernel_step.specs.Mirrors.{IsPart, AreParts, ArePipes}
 use Rattle.kernel_step.proofs.EnterPlans.{part-seen}
 use Rattle.kernel_model.proofs.Numbering.{made_grows}
 use Rattle.kernel_step.proofs.EnterTasks.{world_after, names-more}
-use Rattle.kernel_step.proofs.Lists.{length-snoc}
 
 -- ---- the parts
 born-forked : (p : Process) (o : Option ℕ) → born (Some (part_of p)) o ≡ map part_of (forked p o)
@@ -89,7 +88,7 @@ few-all laws n m pipes (step ∷ steps) room h = few-all laws (n + 1) m (stepped
 pub pipes-planned : PipeLaws → (w : World) (seen : List Seen) (steps : List PipeStep) (t : Transition) → t.state.pipes ≡ all_stepped w.sync.pipes steps
     → length steps ≤ 16 → MayAllStep seen steps → ArePipes w seen → ArePipes (world_after w t) (all_seen seen steps)
 pipes-planned laws w seen steps t is few may h =
-    let longer : length (w.log ++ t.entry ∷ []) ≡ length w.log + 1 = length-snoc w.log t.entry in
+    let longer : length (w.log ++ t.entry ∷ []) ≡ length w.log + 1 = length_push w.log t.entry in
     record {
       shown = subst (λ (ps : List PipeState). Shows ps (all_seen seen steps)) (sym is) (shows-all laws w.sync.pipes seen steps h.shown may);
       few =
@@ -101,7 +100,7 @@ pipes-planned laws w seen steps t is few may h =
 pub pipes-quiet : (w v : World) (seen seen' : List Seen) (e : Entry) → v.log ≡ w.log ++ e ∷ [] → v.sync.pipes ≡ w.sync.pipes → seen' ≡ seen
     → ArePipes w seen → ArePipes v seen'
 pipes-quiet w v seen seen' e log pipes same h =
-    let longer : length (w.log ++ e ∷ []) ≡ length w.log + 1 = length-snoc w.log e in
+    let longer : length (w.log ++ e ∷ []) ≡ length w.log + 1 = length_push w.log e in
     let size : length v.log ≡ length (w.log ++ e ∷ []) = ap (λ (l : List Entry). length l) log in
     record {
       shown =
@@ -123,6 +122,6 @@ parts-quiet w v parts parts' files processes same h = record {
 
 pub counted-quiet : (w v : World) (served served' : ℕ) (e : Entry) → v.log ≡ w.log ++ e ∷ [] → served' ≤ served + 1 → served ≤ length w.log → served' ≤ length v.log
 counted-quiet w v served served' e log more h =
-    let longer : length (w.log ++ e ∷ []) ≡ length w.log + 1 = length-snoc w.log e in
+    let longer : length (w.log ++ e ∷ []) ≡ length w.log + 1 = length_push w.log e in
     let size : length v.log ≡ length (w.log ++ e ∷ []) = ap (λ (l : List Entry). length l) log in
     omega (arith, longer, size, more, h)

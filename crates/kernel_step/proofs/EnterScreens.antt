@@ -1,5 +1,6 @@
 -- Screens after one more event.
 use Rattle.std.proofs.Common.{◌≡◌, ℕ, ◌<◌, ◌≤◌, inl, inr, List, [], ◌∷◌, ◌++◌, length, slice_get, slice_set, Option, Some, None, refl, sym, ap, subst, ◌∙◌, arith}
+use Rattle.std.proofs.lemmas.Option.{slice_get_within}
 use Rattle.std.proofs.lemmas.List.{length-set, append-nil}
 use Rattle.commit_deps.specs.Marks.{IsMarkOf}
 use Rattle.kernel_model.specs.Entries.{Entry}
@@ -9,7 +10,7 @@ use Rattle.kernel_model.proofs.Runs.{printed-entry}
 use Rattle.withheld.specs.Withheld.{Withheld, IsSame, all_held}
 use Rattle.kernel_step.specs.Seen.{Withholds, AreScreens}
 use Rattle.kernel_step.proofs.EnterLists.{withholds-more, withholds-same, withholds-moved, bytes-here, bytes-elsewhere}
-use Rattle.kernel_step.proofs.Lists.{get-within, get-set}
+use Rattle.kernel_step.proofs.Lists.{get-set}
 
 -- a screen to which the event writes nothing stays
 screen-stays : (c : ℕ) (log : List Entry) (e : Entry) (t : ℕ) (s : Withheld ℕ) → bytes_for t e.output ≡ [] → Withholds c (printed t log) s
@@ -50,7 +51,7 @@ pub screens-elsewhere : (c : ℕ) (log : List Entry) (e : Entry) (out : Output) 
 screens-elsewhere c log e out ss past writes h = record {
   count = h.count;
   each = λ t s there.
-      let within : t < length ss = get-within ss t s there in
+      let within : t < length ss = slice_get_within ss t s there in
       screen-stays c log e t s (bytes-elsewhere t e out writes (λ same. omega arith)) (h.each t s there);
 }
 

@@ -1,5 +1,6 @@
 -- Tasks after an Enter.
 use Rattle.std.proofs.Common.{◌≡◌, ℕ, suc, ◌+◌, ◌^◌, ◌<◌, ◌≤◌, ◌==◌, ◌&&◌, inl, inr, Bool, true, false, List, [], ◌∷◌, ◌++◌, length, map, slice_get, slice_set, Option, Some, None, is_some, IfSome, if◌then◌else◌, option_to_list, refl, sym, ap, subst, ◌∙◌, arith}
+use Rattle.std.proofs.lemmas.Option.{slice_get_within}
 use Rattle.std.proofs.lemmas.List.{map-set, length-set, map-append, append-nil}
 use Rattle.std.proofs.lemmas.Bool.{eq-eqb, ne_eqb}
 use Rattle.disk_model.specs.Storage.{is_empty}
@@ -28,7 +29,7 @@ use Rattle.kernel_step.specs.Waiting.{is_asleep, served_after, waited_after}
 use Rattle.kernel_step.specs.declared.task.Task.{Task}
 use Rattle.kernel_step.proofs.EnterFine.{IsFineTask}
 use Rattle.kernel_step.proofs.EnterLists.{withholds-more, withholds-same, items-here, items-elsewhere}
-use Rattle.kernel_step.proofs.Lists.{get-within, get-set, get-joined}
+use Rattle.kernel_step.proofs.Lists.{get-set, get-joined}
 use Rattle.kernel_step.proofs.Quiet.{told-own, told-made, waiting-more}
 use Rattle.kernel_step.proofs.Turning.{IsProcessOf}
 
@@ -296,8 +297,8 @@ told-tasks w served tasks pid place full t t' plan mark child number there fine 
           | inl s ↦
               subst (λ (x : Task). IsTask v after k x) (sym s.1)
               (subst (λ (j : ℕ). IsTask v after j t') (sym s.0)
-              (told-task w served pid place (length tasks) full q t t' plan mark number (get-within tasks place t there) fine next is_mark new (h.each place t there)))
-          | inr s ↦ other-task w served pid place k (length tasks) q u plan number s.0 (get-within tasks k u s.1) next (h.each k u s.1)
+              (told-task w served pid place (length tasks) full q t t' plan mark number (slice_get_within tasks place t there) fine next is_mark new (h.each place t there)))
+          | inr s ↦ other-task w served pid place k (length tasks) q u plan number s.0 (slice_get_within tasks k u s.1) next (h.each k u s.1)
         ]
         | inr g ↦
             (let one = child-is plan.child mark (machine_of t) t.trace child u g.1 made in

@@ -1,5 +1,6 @@
 -- An Enter of the parts is an Enter of the run.
 use Rattle.std.proofs.Common.{◌≡◌, ℕ, suc, ◌+◌, ◌*◌, ◌^◌, ◌<◌, ◌≤◌, inl, inr, true, false, Bool, List, [], ◌∷◌, ◌++◌, length, map, slice_get, slice_set, Option, Some, None, is_some, IfSome, option_to_list, refl, sym, ap, subst, ◌∙◌, arith, length-append}
+use Rattle.std.proofs.lemmas.Option.{slice_get_within}
 use Rattle.std.proofs.lemmas.List.{length-map, map-append}
 use Rattle.std.specs.List.{AllByRecursion}
 use Rattle.disk_model.specs.declared.change.Change.{Change}
@@ -46,7 +47,7 @@ use Rattle.kernel_step.proofs.EnterFine.{IsFineTask}
 use Rattle.kernel_step.proofs.EnterParts.{PipeLaws, parts-planned, pipes-planned, counted-quiet}
 use Rattle.kernel_step.proofs.EnterPlans.{part-seen}
 use Rattle.kernel_step.proofs.EnterTasks.{world_after, told-tasks, served-by-one}
-use Rattle.kernel_step.proofs.Lists.{get-within, get-set, map-set-same}
+use Rattle.kernel_step.proofs.Lists.{get-set, map-set-same}
 use Rattle.kernel_step.proofs.EnterLists.{withholds-moved}
 use Rattle.kernel_step.proofs.Turning.{IsProcessOf, process-there}
 
@@ -96,7 +97,7 @@ may-plan law w tasks s pid place t h short number there =
     let next : pid ≡ suc place = omega arith in
     let part : IsPart w.sync.files.made (part_of of.process) =
     each_get (IsPart w.sync.files.made) s.processes.parts place (part_of of.process) h.parts.each (ap (λ (k : ℕ). part_at s.processes.parts k) (sym next) ∙ at) in
-    let within : place < length tasks = get-within tasks place t there in
+    let within : place < length tasks = slice_get_within tasks place t there in
     let size : length tasks ≡ length s.processes.parts = as-many w tasks s h in
     record {
       call = record {

@@ -1,7 +1,9 @@
 -- A kernel whose next process is lent.
-use Rattle.std.proofs.Common.{◌≡◌, ℕ, zero, suc, ◌+◌, ◌-◌, ◌*◌, ◌^◌, ◌<◌, ◌≤◌, ◌⊎◌, inl, inr, Bool, true, false, ◌&&◌, not, nat_lt, nat_le, cond, List, [], ◌∷◌, ◌++◌, length, take, drop, map, slice_get, slice_set, slice_index_or, Option, Some, None, is_some, IfSome, option_map, refl, sym, ap, subst, ◌∙◌, arith}
+use Rattle.std.proofs.Common.{◌≡◌, ℕ, suc, ◌+◌, ◌-◌, ◌*◌, ◌^◌, ◌<◌, ◌≤◌, inl, inr, Bool, true, false, ◌&&◌, not, nat_lt, nat_le, cond, List, [], ◌∷◌, ◌++◌, length, take, drop, map, slice_get, slice_set, slice_index_or, Option, Some, None, is_some, IfSome, option_map, refl, sym, ap, subst, ◌∙◌, arith}
+use Rattle.kernel_step.proofs.Lists.{get-set}
+use Rattle.kernel_step.proofs.EnterFine.{none-some}
 use Rattle.std.specs.Prelude.{find, fold, if◌then◌else◌}
-use Rattle.std.proofs.lemmas.Bool.{ltb-false, leb-true}
+use Rattle.std.proofs.lemmas.Bool.{ltb-false, leb-true, and_parts, not-true}
 use Rattle.std.proofs.lemmas.List.{map-set, length-map}
 use Rattle.std.proofs.lemmas.List.Sums.{sum_by-set}
 use Rattle.std.proofs.lemmas.Option.{slice_get_within, slice_get-get_or, slice_get-map}
@@ -30,18 +32,6 @@ use Rattle.kernel_step.specs.declared.task.Task.{Task}
 use Rattle.kernel_step.proofs.FewLoans.{few-put, few-here}
 use Rattle.kernel_step.proofs.LendPick.{find-round}
 use Rattle.kernel_step.proofs.Turning.{IsProcessOf, process-there}
-
--- what stands in a list where x was set
-get-set : {A : Type 0} (xs : List A) (i j : ℕ) (x y : A) → slice_get (slice_set xs i x) j ≡ Some y
-    → ((j ≡ i) × (y ≡ x)) ⊎ (slice_get xs j ≡ Some y)
-get-set [] i j x y e = inr e
-get-set (z ∷ zs) zero zero x y e = inl (refl, cc)
-get-set (z ∷ zs) zero (suc j) x y e = inr e
-get-set (z ∷ zs) (suc i) zero x y e = inr e
-get-set (z ∷ zs) (suc i) (suc j) x y e = elim (get-set zs i j x y e) [
-  | inl h ↦ inl (ap (λ k. suc k) h.0, h.1)
-  | inr h ↦ inr h
-]
 
 sum_from-map : {A B : Type 0} (f : A → B) (w : B → ℕ) (n : ℕ) (xs : List A) → fold (λ a y. a + w y) n (map f xs) ≡ fold (λ a x. a + w (f x)) n xs
 sum_from-map f w n [] = refl
@@ -75,28 +65,16 @@ pub record IsFit (quantum : ℕ) (t : Task) : Type 0 where
   pub few : (machine_of t).count + (quantum + 1) ≤ 2 ^ 40
   pub runs : status_of t ≡ None
 
-both : (a b : Bool) → (a && b) ≡ true → (a ≡ true) × (b ≡ true)
-both true b h = (refl, h)
-both false b h = cc
-
-unless : (a : Bool) → not a ≡ true → a ≡ false
-unless true h = cc
-unless false h = refl
-
-no-end : (o : Option ℕ) → is_some o ≡ false → o ≡ None
-no-end None h = refl
-no-end (Some e) h = cc
-
 pub fits : (quantum served : ℕ) (t : Task) → is_fit quantum served t ≡ true → IsFit quantum t
 fits quantum served t h =
     let ended : Bool = not (is_some (status_of t)) in
     let here : Bool = not (is_some (out_of t)) in
     let room : Bool = nat_le ((machine_of t).count + quantum + 1) (2 ^ 40) in
-    let z = both (ended && here && room) (not (is_asleep served t.waited)) h in
-    let a = both (ended && here) room z.0 in
-    let b = both ended here a.0 in
+    let z = and_parts (ended && here && room) (not (is_asleep served t.waited)) h in
+    let a = and_parts (ended && here) room z.0 in
+    let b = and_parts ended here a.0 in
     let few : (machine_of t).count + quantum + 1 ≤ 2 ^ 40 = leb-true ((machine_of t).count + quantum + 1) (2 ^ 40) a.1 in
-    record { here = unless (is_some (out_of t)) b.1; few = omega arith; runs = no-end (status_of t) (unless (is_some (status_of t)) b.0) }
+    record { here = not-true (is_some (out_of t)) b.1; few = omega arith; runs = none-some (status_of t) (not-true (is_some (status_of t)) b.0) }
 
 -- ---- the invariant
 lent-task : (w : World) (served place quantum : ℕ) (t u : Task) → IsTask w served place t → is_fit quantum served t ≡ true → IsLent quantum t u → IsTask w served place u
@@ -129,7 +107,7 @@ lent-tasks w served tasks place quantum t u h there fit lent =
       each = λ i x found. elim (get-set tasks place i u x found) [
         | inl s ↦ subst (λ (k : ℕ). IsTask w served k x) (sym s.0)
             (subst (λ (v : Task). IsTask w served place v) (sym s.1) (lent-task w served place quantum t u (h.each place t there) fit lent))
-        | inr s ↦ h.each i x s
+        | inr s ↦ h.each i x s.1
       ];
     }
 

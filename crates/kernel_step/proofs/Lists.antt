@@ -1,5 +1,6 @@
 -- Lists by their places.
 use Rattle.std.proofs.Common.{◌≡◌, ℕ, zero, suc, ◌+◌, ◌<◌, ◌≤◌, ◌⊎◌, inl, inr, Bool, List, [], ◌∷◌, ◌++◌, length, map, take, get_or, slice_get, slice_set, slice_index_or, Option, Some, None, option_to_list, count_by, refl, sym, ap, subst, ◌∙◌, arith, if◌then◌else◌}
+use Rattle.std.proofs.lemmas.Option.{slice_get-get_or}
 use Rattle.std.specs.List.{AllByRecursion}
 use Rattle.std.proofs.lemmas.List.Sums.{sum_by-cons}
 
@@ -8,20 +9,9 @@ get-map f [] i x e = cc
 get-map f (y ∷ ys) zero x e = let same : y ≡ x = cc in ap (λ z. Some (f z)) same
 get-map f (y ∷ ys) (suc i) x e = get-map f ys i x e
 
-pub get-index : {A : Type 0} (xs : List A) (i : ℕ) (d : A) → i < length xs → slice_get xs i ≡ Some (slice_index_or xs i d)
-get-index [] i d h = absurd (omega arith)
-get-index (y ∷ ys) zero d h = refl
-get-index (y ∷ ys) (suc i) d h = get-index ys i d (omega arith)
-
 -- an element that an index gave
 pub get-there : {A : Type 0} (xs : List A) (i : ℕ) (x : A) → i < length xs → x ≡ slice_index_or xs i x → slice_get xs i ≡ Some x
-get-there xs i x h e = get-index xs i x h ∙ ap (λ y. Some y) (sym e)
-
--- a place at which something stands is within
-pub get-within : {A : Type 0} (xs : List A) (i : ℕ) (x : A) → slice_get xs i ≡ Some x → i < length xs
-get-within [] i x e = cc
-get-within (y ∷ ys) zero x e = omega arith
-get-within (y ∷ ys) (suc i) x e = let rest : i < length ys = get-within ys i x e in omega arith
+get-there xs i x h e = slice_get-get_or xs i x h ∙ ap (λ y. Some y) (sym e)
 
 -- something stands at each place within
 pub some-there : {A : Type 0} (xs : List A) (i : ℕ) → i < length xs → (x : A) × (slice_get xs i ≡ Some x)
@@ -64,10 +54,6 @@ pub count-map : {A B : Type 0} (f : A → B) (p : B → Bool) (xs : List A) → 
 count-map f p [] = refl
 count-map f p (x ∷ xs) =
     count-cons p (f x) (map f xs) ∙ ap (λ n. (if p (f x) then 1 else 0) + n) (count-map f p xs) ∙ sym (count-cons (λ y. p (f y)) x xs)
-
-pub length-snoc : {A : Type 0} (xs : List A) (x : A) → length (xs ++ x ∷ []) ≡ length xs + 1
-length-snoc [] x = omega arith
-length-snoc (y ∷ ys) x = let rest : length (ys ++ x ∷ []) ≡ length ys + 1 = length-snoc ys x in omega arith
 
 -- what holds of the first i elements and of the next holds of one more
 pub all-more : {A : Type 0} (P : A → Type 0) (xs : List A) (i : ℕ) (x : A) → i < length xs → x ≡ get_or xs i x → AllByRecursion P (take i xs) → P x

@@ -1,6 +1,7 @@
 -- A loop that changes each element of a list.
 use Rattle.std.proofs.Common.{◌≡◌, ℕ, ◌+◌, ◌<◌, ◌≤◌, inl, inr, List, length, slice_get, slice_set, Some, sym, subst, arith}
-use Rattle.kernel_step.proofs.Lists.{get-within, get-set}
+use Rattle.std.proofs.lemmas.Option.{slice_get_within}
+use Rattle.kernel_step.proofs.Lists.{get-set}
 
 -- the elements before i are changed so, and the others stand as they were
 pub record Moved {A : Type 0} (R : A → A → Type 0) (old now : List A) (i : ℕ) : Type 0 where
@@ -25,4 +26,4 @@ moved-one {A} R old now i x y here r m = record {
 
 pub moved-all : {A : Type 0} (R : A → A → Type 0) (old now : List A) (i : ℕ) → length now ≤ i → Moved R old now i
     → (t : ℕ) (y : A) → slice_get now t ≡ Some y → (x : A) × (slice_get old t ≡ Some x) × R x y
-moved-all R old now i all m t y at = let within : t < length now = get-within now t y at in m.done t y (omega arith) at
+moved-all R old now i all m t y at = let within : t < length now = slice_get_within now t y at in m.done t y (omega arith) at

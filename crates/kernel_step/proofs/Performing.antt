@@ -1,6 +1,6 @@
 -- What a plan does to the pipes and to the table of processes.
 use Rattle.std.proofs.Common.{◌≡◌, ℕ, zero, suc, ◌+◌, ◌<◌, ◌≤◌, ◌⊎◌, inl, inr, not, List, [], ◌∷◌, ◌++◌, length, filter, drop, get_or, slice_get, Option, Some, None, IfSome, option_to_list, refl, sym, ap, subst, ◌∙◌, arith}
-use Rattle.std.proofs.lemmas.List.{length-set, append-nil}
+use Rattle.std.proofs.lemmas.List.{length-set, append-nil, drop_all}
 use Rattle.std.specs.List.{AllByRecursion}
 use Rattle.calls.specs.Plans.{IsNext, MayAllStep, OpensNone, all_seen}
 use Rattle.calls.specs.declared.plan.Plan.{Plan}
@@ -23,12 +23,6 @@ drop-there {A} (y ∷ ys) (suc i) x within is =
     let next : suc i + 1 ≡ suc (i + 1) = omega arith in
     drop-there ys i x (omega arith) is ∙ ap (λ (k : ℕ). x ∷ drop k (y ∷ ys)) (sym next)
 
-pub drop-past : {A : Type 0} (xs : List A) (i : ℕ) → length xs ≤ i → drop i xs ≡ []
-drop-past [] zero h = refl
-drop-past [] (suc i) h = refl
-drop-past (y ∷ ys) zero h = absurd (omega arith)
-drop-past (y ∷ ys) (suc i) h = drop-past ys i (omega arith)
-
 -- ---- steps of pipes
 -- these steps are left, each of which may come, and in the end the pipes are these
 pub record AreLeftSteps (pipes : List Seen) (rest : List PipeStep) (final : List Seen) : Type 0 where
@@ -47,7 +41,7 @@ left-next pipes pipes' final rest step is h =
 
 pub left-none : (pipes final : List Seen) (steps : List PipeStep) (i : ℕ) → length steps ≤ i → AreLeftSteps pipes (drop i steps) final → pipes ≡ final
 left-none pipes final steps i past h =
-    (subst (λ (rest : List PipeStep). AreLeftSteps pipes rest final) (drop-past steps i past) h).ends
+    (subst (λ (rest : List PipeStep). AreLeftSteps pipes rest final) (drop_all i steps past) h).ends
 
 -- ---- the part of one process
 with-further : (x : Part) (xs : List Part) (k : ℕ) (o : Option Part) (f : Part → Part) → with_part (x ∷ xs) (suc (suc k)) o f ≡ x ∷ with_part xs (suc k) o f
@@ -129,7 +123,7 @@ pub slots-none : (parts final : List Part) (pid : ℕ) (slots : List Slot) (i : 
     → with_part parts pid (part_at parts pid) (with_slots (drop i slots)) ≡ final → parts ≡ final
 slots-none parts final pid slots i past h =
     sym (with-same parts pid (with_slots []) (λ x. refl))
-    ∙ ap (λ (rest : List Slot). with_part parts pid (part_at parts pid) (with_slots rest)) (sym (drop-past slots i past))
+    ∙ ap (λ (rest : List Slot). with_part parts pid (part_at parts pid) (with_slots rest)) (sym (drop_all i slots past))
     ∙ h
 
 -- ---- children

@@ -1,6 +1,6 @@
 -- What a refusal that is not there says.
 use Rattle.std.proofs.Common.{◌≡◌, ℕ, ◌+◌, ◌^◌, ◌≤◌, Bool, true, false, ◌||◌, [], ◌∷◌, Some, None, is_some, nat_lt, refl}
-use Rattle.std.proofs.lemmas.Bool.{ltb-false}
+use Rattle.std.proofs.lemmas.Bool.{ltb-false, or_parts}
 use Rattle.kernel_model.specs.declared.answer.Refused.{Refused}
 use Rattle.kernel_model.specs.declared.answer.Refused.TheVariants as refused
 use Rattle.kernel_model.specs.State.{Process}
@@ -20,10 +20,6 @@ none-of-two true b r s h = cc
 none-of-two false true r s h = cc
 none-of-two false false r s h = (refl, refl)
 
-pub or-false : (a b : Bool) → (a || b) ≡ false → (a ≡ false) × (b ≡ false)
-or-false true b h = cc
-or-false false b h = (refl, h)
-
 -- a Turn that is not refused
 pub record IsFineTurn (p : Process) (lent full : Bool) (n : ℕ) : Type 0 where
   pub running : is_some p.status ≡ false
@@ -35,7 +31,7 @@ pub turn-fine : (p : Process) (lent full : Bool) (n : ℕ) → turn_refusal (Som
 turn-fine p lent full n h =
     let all = none-of-four false (is_some p.status) lent (nat_lt limit (p.state.count + n) || full)
     refused.NoProcess refused.Ended refused.Lent refused.Budget h in
-    let last = or-false (nat_lt limit (p.state.count + n)) full all.3 in
+    let last = or_parts (nat_lt limit (p.state.count + n)) full all.3 in
     record {
       running = all.1;
       here = all.2;

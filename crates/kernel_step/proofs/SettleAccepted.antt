@@ -1,7 +1,8 @@
 -- The events of a loan's result are accepted where they stand, once the process is back.
 use Rattle.std.proofs.Common.{◌≡◌, ℕ, zero, suc, ◌+◌, ◌*◌, ◌^◌, ◌<◌, ◌≤◌, Bool, true, false, ◌||◌, not, if◌then◌else◌, List, [], ◌∷◌, ◌++◌, length, map, slice_get, slice_set, Option, Some, None, is_some, nat_lt, nat_le, refl, sym, ap, subst, ◌∙◌, arith}
-use Rattle.std.proofs.lemmas.List.{map-set}
-use Rattle.std.proofs.lemmas.Bool.{le-ltb, lt-leb}
+use Rattle.std.proofs.lemmas.Option.{slice_get_within}
+use Rattle.std.proofs.lemmas.List.{map-set, length_push}
+use Rattle.std.proofs.lemmas.Bool.{le-ltb, lt-leb, or_from}
 use Rattle.machine_model.specs.States.{State, Stepped, Goes, Halts, Ran, next, run, stands_at}
 use Rattle.machine_model.proofs.Running.{run-zero, run-goes, run-halts}
 use Rattle.kernel_model.specs.Answers.{Kernel, Lending, AllAccepted, refusal, turn_refusal, enter_refusal, first_of, ◌⇒◌, limit, is_full, lending_at, with_child, with_event}
@@ -24,7 +25,7 @@ use Rattle.kernel_step.specs.declared.system.System.{System}
 use Rattle.kernel_step.specs.declared.task.Task.{Task}
 use Rattle.kernel_step.specs.declared.whereabouts.Whereabouts.TheVariants.{Here}
 use Rattle.kernel_step.proofs.Applying.{full-is}
-use Rattle.kernel_step.proofs.Lists.{get-within, length-snoc, get-set-here}
+use Rattle.kernel_step.proofs.Lists.{get-set-here}
 use Rattle.kernel_step.proofs.SettleCore.{process-in, lending-of, count-back, reached}
 use Rattle.kernel_step.proofs.SettleWorld.{out-running, back-happens}
 use Rattle.kernel_step.proofs.Turning.{IsProcessOf, lending-place, turn-child}
@@ -64,18 +65,13 @@ none-of-four : (a b c d : Bool) (r s t u v : Refused) → a ≡ false → b ≡ 
 none-of-four false b c d r s t u v w x y z = none-of-three b c d r t u v x y z
 none-of-four true b c d r s t u v w x y z = cc
 
-neither : (a b : Bool) → a ≡ false → b ≡ false → (a || b) ≡ false
-neither false false x y = refl
-neither true b x y = cc
-neither false true x y = cc
-
 -- a Turn of a process that has not ended, is back, and has room
 turn-accepted : (o : Option Process) (p : Process) (lent full : Bool) (n : ℕ) → o ≡ Some p → is_some p.status ≡ false → lent ≡ false
     → p.state.count + n ≤ limit → full ≡ false → turn_refusal o lent full n ≡ None
 turn-accepted o p lent full n there running here few room =
     ap (λ (x : Option Process). turn_refusal x lent full n) there
     ∙ none-of-three (is_some p.status) lent (nat_lt limit (p.state.count + n) || full) refused.NoProcess refused.Ended refused.Lent refused.Budget
-    running here (neither (nat_lt limit (p.state.count + n)) full (le-ltb limit (p.state.count + n) few) room)
+    running here (or_from (nat_lt limit (p.state.count + n)) full (le-ltb limit (p.state.count + n) few) room)
 
 -- an Enter of one that stands at a call or a trap
 enter-accepted : (o : Option Process) (p : Process) (lent full : Bool) → o ≡ Some p → is_some p.status ≡ false → lent ≡ false
@@ -84,7 +80,7 @@ enter-accepted o p lent full there running here stands few room =
     ap (λ (x : Option Process). enter_refusal x lent full) there
     ∙ none-of-four (is_some p.status) lent (not (is_some (stands_at p.state))) (nat_le limit p.state.count || full)
     refused.NoProcess refused.Ended refused.Lent refused.NotStopped refused.Budget
-    running here (ap not stands) (neither (nat_le limit p.state.count) full (lt-leb limit p.state.count few) room)
+    running here (ap not stands) (or_from (nat_le limit p.state.count) full (lt-leb limit p.state.count few) room)
 
 -- ---- the kernel once the process is back
 -- the task once it is back, with the machine of which it was lent
@@ -123,7 +119,7 @@ process-after b history tasks s pid place n q t h number there out of =
     let mapped : slice_get w.sync.processes place ≡ Some of.process = ap (λ (k : ℕ). process_at w.sync.processes k) (sym next) ∙ of.there in
     ap (λ (v : World). process_at v.sync.processes pid)
     (after-append (first_world b) history (Turn pid n) ∙ back-happens w tasks s pid place n q t h.mirrors of there out)
-    ∙ process-put w.sync.processes pid place (after_run n of.process) number (get-within w.sync.processes place of.process mapped)
+    ∙ process-put w.sync.processes pid place (after_run n of.process) number (slice_get_within w.sync.processes place of.process mapped)
 
 -- ---- the events
 turn-event : (b : Boot) (history : List Event) (tasks : List Task) (s : System) (last place : ℕ) (t : Task) (d : Done) → KeepsRun b history tasks s
@@ -142,7 +138,7 @@ turn-event b history tasks s last place t d h number there of =
     (is_full (kernel_of b history (slice_set tasks place u) last)) d.count
     own.there
     (ap (λ (o : Option ℕ). is_some o) own.status ∙ ap (λ (o : Option ℕ). is_some o) (out-running (run_of b history) s.served place t d.quantum task of.out))
-    (lending-place (slice_set tasks place u) d.pid place u number (get-set-here tasks place u (get-within tasks place t there)))
+    (lending-place (slice_set tasks place u) d.pid place u number (get-set-here tasks place u (slice_get_within tasks place t there)))
     (omega (arith, budget, done, count))
     (not-full b history (slice_set tasks place u) last (omega (arith, less, was)))
 
@@ -156,14 +152,14 @@ enter-event b history tasks s last place t d h number there of stands =
     let came : d.machine ≡ (run d.count (machine_of t)).state = reached t d of in
     let less : count_out (slice_set tasks place u) + 1 ≡ count_out tasks = count-back tasks place d.quantum t u there of.out refl in
     let was : length history + 2 * count_out tasks ≤ 2 ^ 40 = h.room in
-    let longer : length later ≡ length history + 1 = length-snoc history (Turn d.pid d.count) in
+    let longer : length later ≡ length history + 1 = length_push history (Turn d.pid d.count) in
     let own : IsProcessOf (run_of b history).sync.processes d.pid t = process-in b history tasks s d.pid place t h number there in
     let goes : d.machine ≡ (run d.count own.process.state).state = came ∙ ap (λ (x : State). (run d.count x).state) (sym own.state) in
     enter-accepted (process_at (run_of b later).sync.processes d.pid) (after_run d.count own.process) (lent_of (slice_set tasks place u) d.pid)
     (is_full (kernel_of b later (slice_set tasks place u) last))
     (process-after b history tasks s d.pid place d.count d.quantum t h number there of.out own)
     (ap (λ (o : Option ℕ). is_some o) own.status ∙ ap (λ (o : Option ℕ). is_some o) (out-running (run_of b history) s.served place t d.quantum task of.out))
-    (lending-place (slice_set tasks place u) d.pid place u number (get-set-here tasks place u (get-within tasks place t there)))
+    (lending-place (slice_set tasks place u) d.pid place u number (get-set-here tasks place u (slice_get_within tasks place t there)))
     (subst (λ (x : State). is_some (stands_at x) ≡ true) goes stands)
     (subst (λ (x : State). x.count < 2 ^ 40) goes d.room)
     (not-full b later (slice_set tasks place u) last (omega (arith, less, was, longer)))

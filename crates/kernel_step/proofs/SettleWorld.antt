@@ -1,5 +1,6 @@
 -- A loan's result in the parts is a Turn, and an Enter, of the run.
 use Rattle.std.proofs.Common.{◌≡◌, ℕ, zero, suc, ◌+◌, ◌^◌, ◌<◌, inl, inr, true, false, List, [], ◌∷◌, ◌++◌, map, option_to_list, slice_get, slice_set, Option, Some, None, is_some, refl, sym, ap, subst, ◌∙◌, arith}
+use Rattle.std.proofs.lemmas.Option.{slice_get_within}
 use Rattle.std.proofs.lemmas.List.{map-set, set-set}
 use Rattle.machine_model.specs.States.{State, Stepped, Goes, Halts, Ran, reached_at, next, run, after, stands_at}
 use Rattle.machine_model.proofs.Running.{run-zero, run-goes, run-halts}
@@ -21,7 +22,7 @@ use Rattle.kernel_step.specs.declared.whereabouts.Whereabouts.TheVariants.{Here}
 use Rattle.kernel_step.proofs.EnterFine.{IsFineTask}
 use Rattle.kernel_step.proofs.EnterParts.{parts-quiet, pipes-quiet, counted-quiet}
 use Rattle.kernel_step.proofs.EnterWorld.{EnterLaws, IsRun, done-runs, same-task}
-use Rattle.kernel_step.proofs.Lists.{get-within, get-set, get-set-here}
+use Rattle.kernel_step.proofs.Lists.{get-set, get-set-here}
 use Rattle.kernel_step.proofs.Quiet.{own-silent, screens-quiet, trace-quiet, changes-part, waits-own}
 use Rattle.kernel_step.proofs.Turning.{away-task, IsProcessOf, bare-of, process-there, world_with, turn_of, turn-happens, turn-parts}
 
@@ -141,7 +142,7 @@ both-run laws w tasks s s' pid place n q m t u outcome child h number there out 
     let h1 : Mirrors w1 tasks1 s1 =
     back-mirrors w tasks s s1 pid place n q m t e.middle h number there out reached few e.back
     (record { noted = e.turn; changes = refl; files = refl; tapes = refl; pipes = refl; parts = refl; served = refl; screens = refl; committer = refl }) in
-    let there1 : slice_get tasks1 place ≡ Some e.middle = get-set-here tasks place e.middle (get-within tasks place t there) in
+    let there1 : slice_get tasks1 place ≡ Some e.middle = get-set-here tasks place e.middle (slice_get_within tasks place t there) in
     let fine : IsFineTask e.middle false = record {
       running = back-status m t e.middle e.back ∙ out-running w s.served place t q (h.each.each place t there) out;
       here = e.back.out;

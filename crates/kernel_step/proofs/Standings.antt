@@ -1,21 +1,21 @@
 -- How processes stand, by their tasks.
-use Rattle.std.proofs.Common.{◌≡◌, ℕ, suc, ◌+◌, ◌==◌, ◌&&◌, not, Bool, true, false, if◌then◌else◌, List, map, slice_get, Option, Some, None, is_some, is_none, option_map, refl, sym, ap, ◌∙◌, arith}
+use Rattle.std.proofs.Common.{◌≡◌, ℕ, suc, ◌+◌, ◌==◌, ◌&&◌, not, Bool, true, false, if◌then◌else◌, List, slice_get, Option, Some, None, is_some, is_none, option_map, refl, sym, ap, ◌∙◌, arith}
 use Rattle.kernel_model.specs.Answers.{Kernel, Lending, quantum_out, process_of as process_in, is_lent, now, has_ended}
 use Rattle.kernel_model.specs.Loans.{is_waiting, pick, is_over, standing_of}
-use Rattle.kernel_model.specs.State.{Process, process_at}
+use Rattle.kernel_model.specs.State.{Process}
 use Rattle.kernel_model.specs.World.{Boot}
 use Rattle.kernel_model.specs.declared.event.Event.{Event}
 use Rattle.kernel_model.specs.declared.standing.Standing.{Standing}
 use Rattle.kernel_model.specs.declared.standing.Standing.TheVariants.{Ended, Lent, Waits, Free}
 use Rattle.kernel_step.specs.Lending.{next_fit, standing_in}
 use Rattle.kernel_step.specs.Stands.{run_of, kernel_of, KeepsRun}
-use Rattle.kernel_step.specs.Tasks.{out_of, status_of, process_of, bare, count_out}
+use Rattle.kernel_step.specs.Tasks.{out_of, status_of, count_out}
 use Rattle.kernel_step.specs.Tests.{IsPlaceOf}
 use Rattle.kernel_step.specs.Waiting.{is_asleep}
 use Rattle.kernel_step.specs.declared.system.System.{System}
 use Rattle.kernel_step.specs.declared.task.Task.{Task}
 use Rattle.kernel_step.proofs.LendKept.{lending-there, loans_out-is, pick-is}
-use Rattle.kernel_step.proofs.Turning.{IsProcessOf, process-there, at-bare}
+use Rattle.kernel_step.proofs.Turning.{IsProcessOf, process-there}
 
 -- the first that holds of three
 abbrev first_held : Bool → Bool → Bool → Standing
@@ -39,17 +39,6 @@ standing-is b history tasks system last pid place t h placed there =
     ∙ ap (λ (v : Bool). first_held (is_some (status_of t)) v (is_waiting pid (now k).log)) lent
     ∙ ap (λ (v : Bool). first_held (is_some (status_of t)) (is_some (out_of t)) v) waits
     )
-
-unmapped : (o : Option Process) → option_map bare o ≡ None → o ≡ None
-unmapped None h = refl
-unmapped (Some p) h = cc
-
--- where there is no task there is no process
-pub nobody-is : (b : Boot) (history : List Event) (tasks : List Task) (system : System) (last pid : ℕ) → KeepsRun b history tasks system
-    → process_at (map process_of tasks) pid ≡ None → process_in (kernel_of b history tasks last) pid ≡ None
-nobody-is b history tasks system last pid h none =
-    let ps : List Process = (run_of b history).sync.processes in
-    unmapped (process_at ps pid) (sym (at-bare ps pid) ∙ ap (λ (qs : List Process). process_at qs pid) (sym h.mirrors.each.processes) ∙ none)
 
 -- what a test for none answers
 pub none-by : (o : Option ℕ) (r : Bool) → is_some o ≡ not r → r ≡ is_none o

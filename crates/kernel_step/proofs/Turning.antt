@@ -1,7 +1,7 @@
 -- A Turn of the parts is a Turn of the run.
 use Rattle.std.proofs.Common.{◌≡◌, ℕ, zero, suc, ◌+◌, ◌^◌, ◌<◌, ◌≤◌, inl, inr, Bool, true, false, if◌then◌else◌, List, [], ◌∷◌, ◌++◌, length, map, slice_get, slice_set, slice_index_or, Option, Some, None, is_some, option_map, refl, sym, ap, subst, ◌∙◌, arith}
 use Rattle.std.proofs.lemmas.List.{map-set}
-use Rattle.std.proofs.lemmas.Option.{slice_get-map}
+use Rattle.std.proofs.lemmas.Option.{slice_get-map, slice_get-get_or}
 use Rattle.machine_model.specs.States.{State, Ran, run, reached_at}
 use Rattle.machine_model.specs.declared.stop.Stop.{Stop}
 use Rattle.kernel_model.specs.Answers.{turn_refusal, enter_refusal}
@@ -17,7 +17,7 @@ use Rattle.kernel_step.specs.Whereabouts.{state_in, quantum_in}
 use Rattle.kernel_step.specs.declared.task.Task.{Task}
 use Rattle.kernel_step.specs.declared.whereabouts.Whereabouts.{Whereabouts}
 use Rattle.kernel_step.specs.declared.whereabouts.Whereabouts.TheVariants.{Here}
-use Rattle.kernel_step.proofs.Lists.{get-map, get-index, get-set, map-set-same}
+use Rattle.kernel_step.proofs.Lists.{get-map, get-set, map-set-same}
 use Rattle.kernel_step.proofs.Quiet.{own-silent, trace-quiet, waits-own}
 
 -- ---- the process of a number
@@ -54,7 +54,7 @@ ran-at old place n count stop t b m within here goes few counted =
     let is : run n (machine_of u) ≡ reached_at count m stop = ap (λ (w : Whereabouts). run n (state_in w)) here ∙ goes in
     record {
       task = u;
-      there = get-index old place t within;
+      there = slice_get-get_or old place t within;
       here = ap quantum_in here;
       after = ap (λ (s : State). slice_set old place (record u { whereabouts = Here s })) (sym (ap (λ (r : Ran). r.state) is));
       counts = sym (ap (λ (r : Ran). r.count) is);

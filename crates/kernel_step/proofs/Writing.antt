@@ -1,5 +1,6 @@
 -- The disk's events of the parts are those of the run.
 use Rattle.std.proofs.Common.{◌≡◌, ℕ, suc, ◌+◌, ◌*◌, ◌^◌, ◌<◌, ◌≤◌, Bool, true, false, not, List, [], ◌∷◌, ◌++◌, length, map, drop, slice_get, Option, Some, None, is_some, IfSome, is_none, count_by, if◌then◌else◌, Result, Ok, Err, refl, sym, ap, subst, ◌∙◌, arith}
+use Rattle.std.proofs.lemmas.List.{length_push}
 use Rattle.std.specs.Prelude.{IfOk, IfErr, OnOk, OnErr}
 use Rattle.std.specs.List.{AllByRecursion}
 use Rattle.std.proofs.lemmas.Bool.{leb-false}
@@ -39,7 +40,7 @@ use Rattle.kernel_step.specs.declared.system.System.{System}
 use Rattle.kernel_step.specs.declared.task.Task.{Task}
 use Rattle.kernel_step.proofs.FewLoans.{few-same}
 use Rattle.kernel_step.proofs.Applying.{full-is, refused-applies}
-use Rattle.kernel_step.proofs.Lists.{count-map, length-snoc}
+use Rattle.kernel_step.proofs.Lists.{count-map}
 use Rattle.kernel_step.proofs.Refusing.{none-of-two, none-of-four}
 use Rattle.kernel_step.proofs.EnterParts.{parts-quiet, pipes-quiet, counted-quiet}
 use Rattle.kernel_step.proofs.EnterLists.{withholds-moved}
@@ -178,7 +179,7 @@ stored-core b history history' old new s s' e st full h is fine grown happen mov
     ∙ ap (λ (ls : List Lending). count_by (λ (l : Lending). is_some l.out) ls) (tasks-lendings st.committed old new moved)
     ∙ count-map lending_of (λ (l : Lending). is_some l.out) old in
     let space : length history + 2 * count_out old < 2 ^ 40 = leb-false (2 ^ 40) (length history + 2 * count_out old) (sym is ∙ fine) in
-    let longer : length (history ++ e ∷ []) ≡ length history + 1 = length-snoc history e in
+    let longer : length (history ++ e ∷ []) ≡ length history + 1 = length_push history e in
     subst (λ (es : List Event). KeepsRun b es new s') (sym grown) (record {
       mirrors = subst (λ (v : World). Mirrors v new s') (sym (after-append (first_world b) history e ∙ happen)) mirrors;
       room = omega (arith, longer, out, space);

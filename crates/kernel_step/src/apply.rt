@@ -25,7 +25,7 @@ impl Running {
         }
     }
 
-    /// A group of the first uncommitted changes is submitted to the disk.
+    /// A group of the first uncommitted changes is submitted to the device.
     fn cut(&mut self) -> Result<Answer, Refused>
         requires { (b : Boot) × Stands b self.old }
         ensures { (b : Boot) → Stands b self.old → Steps b Event.Cut self.old self.new result }

@@ -73,7 +73,8 @@ impl Running {
         self.try_enter(pid)
     }
 
-    /// The process enters the kernel, told of the parts alone. Refused, with nothing changed: NoProcess, Ended, Lent, NotStopped, Budget, OutOfMemory.
+    /// The process enters the kernel, as a contract over the parts alone has it. Refused, with nothing changed: NoProcess,
+    /// Ended, Lent, NotStopped, Budget, OutOfMemory.
     fn try_enter(&mut self, pid: u32) -> Result<Answer, Refused>
         requires { MayTryEnter self.old }
         ensures done { IfOk result (IsEnterAccepted pid self.old self.new) }

@@ -1,4 +1,4 @@
-//! The disk's events: a group is cut, and a write is complete or has failed.
+//! The device's events: a group is cut, and a write is complete or has failed.
 ghost use Rattle.std.specs.Prelude.{◌≡◌, ◌++◌, ◌∷◌, [], drop, IfOk, IfErr, OnOk, OnErr};
 ghost use Rattle.std.specs.List.{AllByRecursion};
 ghost use Rattle.disk_model.specs.Files.{IsFormed, IsMade};
@@ -36,7 +36,7 @@ fn cut_refused(committer: &Committer, changes: &[Change], full: bool) -> Option<
     }
 }
 
-/// A group of the first uncommitted changes, or a checkpoint, is submitted to the disk. Refused, with nothing changed:
+/// A group of the first uncommitted changes, or a checkpoint, is submitted to the device. Refused, with nothing changed:
 /// Budget, where the history is full; DiskFailed; GroupInFlight; NothingToCut; OutOfMemory.
 pub fn cut(history: &mut Vec<Event>, system: &mut System, full: bool) -> Result<Answer, Refused>
     requires possible { IsMade system.old.files.living }

@@ -48,8 +48,8 @@ impl Running {
         self.try_turn(pid, n)
     }
 
-    /// The process runs at most n instructions, told of the parts alone. The instructions are counted with those that ran before. Refused, with nothing changed: NoProcess,
-    /// Ended, Lent, Budget, OutOfMemory.
+    /// The process runs at most n instructions, as a contract over the parts alone has it. The instructions are counted with
+    /// those that ran before. Refused, with nothing changed: NoProcess, Ended, Lent, Budget, OutOfMemory.
     fn try_turn(&mut self, pid: u32, n: u32) -> Result<Answer, Refused>
         requires { MayTryTurn self.old }
         ensures done { IfOk result (IsTurnAccepted pid n self.old self.new) }

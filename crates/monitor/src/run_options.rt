@@ -5,10 +5,8 @@ use crate::command::option;
 use clap::builder::ValueParser;
 use clap::{Arg, ArgAction, ArgMatches, Command};
 use executor::Settings;
+use scripts::MOST_PROGRAMS;
 use std::alloc::{AllocError, Global};
-
-/// The most images of a run.
-const MOST_IMAGES: usize = 8;
 
 /// The paths of 1 to 8 images.
 #[derive(Drop)]
@@ -49,7 +47,7 @@ fn images<'a>(alloc: Global) -> Arg<'a> {
     Arg::new(alloc, "IMAGE")
         .help("the files of 1 to 8 images, for the terminals 0, 1, ..")
         .required(true)
-        .num_args(1..=MOST_IMAGES)
+        .num_args(1..=MOST_PROGRAMS)
         .action(ArgAction::Append)
 }
 
@@ -113,7 +111,7 @@ fn images_of<'a>(
     let Some(paths) = matches.get_strs("IMAGE") else {
         return Ok(None);
     };
-    if paths.is_empty() || paths.len() > MOST_IMAGES {
+    if paths.is_empty() || paths.len() > MOST_PROGRAMS {
         return Ok(None);
     }
     let paths = Vec::from_slice(alloc, paths)?;

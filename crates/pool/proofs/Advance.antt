@@ -1,5 +1,6 @@
 -- What is done at a seat, one thing after the other.
 use Rattle.std.proofs.Common.{◌≡◌, ℕ, ◌+◌, ◌∙◌, refl, sym, ap, List, [], ◌∷◌, ◌++◌, arith, subst, None, Some, Ok, Err}
+use Rattle.std.proofs.lemmas.List.{append-nil}
 use Rattle.std.specs.Prelude.{Result, MatchResult, IfOk}
 use Rattle.kernel_step.specs.declared.loan.Loan.{Loan}
 use Rattle.kernel_step.specs.declared.loan.Rejected.{Rejected}
@@ -9,19 +10,18 @@ use Rattle.bursts.specs.declared.totals.Totals.{Totals}
 use Rattle.pool.specs.declared.hand.Hand.{Hand}
 use Rattle.pool.specs.declared.settling.Settling.{Settling}
 use Rattle.pool.specs.Tags.{loan_tag}
-use Rattle.pool.specs.Hands.{gave}
 use Rattle.pool.specs.Fetching.{TakesItsAnswer}
 use Rattle.pool.specs.Settled.{Settled, totals_in, after, no_settling}
-use Rattle.pool.specs.Seats.{Seated, with_results, with_settled}
+use Rattle.pool.specs.Seats.{Seated, with_settled}
 use Rattle.pool.specs.Turns.{Advances, Grows, Works}
-use Rattle.pool.proofs.Sums.{grown_twice, grown_not, to_nil}
+use Rattle.pool.proofs.Sums.{grown_twice, grown_not}
 
 rest_of : (a c : Seated) → c.own ≡ a.own → c.others ≡ a.others → c.spare ≡ a.spare → c ≡ with_settled a c.results c.share
 rest_of a c own others spare = λ i. record { own = own i; others = others i; spare = spare i; results = c.results; share = c.share }
 
 pub advances_not : (a : Seated) → Advances a a [] no_settling
 advances_not a = record {
-  put = to_nil a.results.put;
+  put = sym (append-nil a.results.put);
   share = grown_not a.share;
   settled = omega arith;
   accepted = refl;
@@ -30,28 +30,16 @@ advances_not a = record {
 
 pub advances_settled : (a b : Seated) (s : Settling) → Settled a.results a.share s b.results b.share → b ≡ with_settled a b.results b.share → s.rejected ≡ None → Advances a b [] s
 advances_settled a b s d rest none = record {
-  put = ap (λ (v : Hand). v.put) d.taken ∙ to_nil a.results.put;
+  put = ap (λ (v : Hand). v.put) d.taken ∙ sym (append-nil a.results.put);
   share = d.share;
   settled = d.events;
   accepted = none;
   rest = rest;
 }
 
-pub advances_put : (a b c : Seated) (s : Settling) (x : ℕ × ℕ) → Advances a b [] s → c ≡ with_results b (gave b.results x) → Advances a c (x ∷ []) s
-advances_put a b c s x d is = record {
-  put = ap (λ (u : Seated). u.results.put) is ∙ ap (λ l. l ++ x ∷ []) (d.put ∙ sym (to_nil a.results.put));
-  share = ap (λ (u : Seated). u.share) is ∙ d.share;
-  settled = d.settled;
-  accepted = d.accepted;
-  rest = rest_of a c
-      (ap (λ (u : Seated). u.own) is ∙ ap (λ (u : Seated). u.own) d.rest)
-      (ap (λ (u : Seated). u.others) is ∙ ap (λ (u : Seated). u.others) d.rest)
-      (ap (λ (u : Seated). u.spare) is ∙ ap (λ (u : Seated). u.spare) d.rest);
-}
-
 pub advances_then : (a b c : Seated) (xs : List (ℕ × ℕ)) (s t : Settling) → Advances a b xs s → Advances b c [] t → Advances a c xs (after s t)
 advances_then a b c xs s t d e = record {
-  put = e.put ∙ sym (to_nil b.results.put) ∙ d.put;
+  put = e.put ∙ append-nil b.results.put ∙ d.put;
   share = e.share ∙ ap (λ (h : Holding). grown h (totals_in t)) d.share ∙ grown_twice a.share (totals_in s) (totals_in t);
   settled = let m = d.settled in let n = e.settled in omega (arith, m, n);
   accepted = e.accepted;

@@ -8,8 +8,8 @@ use kernel_model::{TAPES, TERMINALS};
 use line_words::{bytes_of, hexadecimal};
 use std::alloc::{AllocError, Global};
 
-/// The most programs of a script.
-const MOST_PROGRAMS: usize = 8;
+/// The most programs of a run.
+pub const MOST_PROGRAMS: usize = 8;
 
 /// The most words of a program: 60 pages.
 const MOST_WORDS: usize = 61440;

@@ -1,5 +1,6 @@
 -- The replies of a process, and its end, as one list of items.
 use Rattle.std.proofs.Common.{◌≡◌, ℕ, suc, ◌<◌, ◌≤◌, ◌&&◌, not, Bool, true, false, if◌then◌else◌, List, [], ◌∷◌, ◌++◌, length, Option, Some, None, is_some, nat_le, nat_lt, refl, sym, ap, ◌∙◌, arith}
+use Rattle.std.proofs.lemmas.List.{append-nil}
 use Rattle.std.proofs.lemmas.Bool.{lt-ltb, le-ltb, ltb-true, ltb-false}
 use Rattle.machine_model.specs.declared.reply.Reply.{Reply}
 use Rattle.kernel_model.specs.Entries.{Item, Got, End}
@@ -15,10 +16,25 @@ end-in [] (Some e) = refl
 end-in (r ∷ rs) ending = end-in rs ending
 
 -- a process that has not ended has no end
-pub no-end : (rs : List (Held Reply)) (ending : Option Ending) → end_in (whats (as_items rs ++ ending_items ending)) ≡ None → ending ≡ None
+no-end : (rs : List (Held Reply)) (ending : Option Ending) → end_in (whats (as_items rs ++ ending_items ending)) ≡ None → ending ≡ None
 no-end [] None h = refl
 no-end [] (Some e) h = cc
 no-end (r ∷ rs) ending h = no-end rs ending h
+
+-- replies that are all the items of a trace, which has no end
+pub record AreAll (replies : List (Held Reply)) (ending : Option Ending) (items : List (Held Item)) : Type 0 where
+  pub none : ending ≡ None
+  pub same : as_items replies ≡ items
+
+-- of a process that has not ended they are
+pub are-all : (replies : List (Held Reply)) (ending : Option Ending) (items : List (Held Item)) → as_items replies ++ ending_items ending ≡ items
+    → end_in (whats items) ≡ None → AreAll replies ending items
+are-all replies ending items is running =
+    let none : ending ≡ None = no-end replies ending (ap (λ hs. end_in (whats hs)) is ∙ running) in
+    record {
+      none = none;
+      same = sym (append-nil (as_items replies)) ∙ ap (λ (o : Option Ending). as_items replies ++ ending_items o) (sym none) ∙ is;
+    }
 
 -- one reply more
 pub reply-more : (rs : List (Held Reply)) (mark : ℕ) (reply : Reply)
@@ -85,8 +101,3 @@ none-released c (r ∷ rs) = by (nat_le r.mark c) (none-released c rs)
         → None ≡ end_in (whats (if b then record { what = Got r.what; mark = r.mark } ∷ prefix (λ (h : Held Item). nat_le h.mark c) (as_items rs ++ []) else []))
     by true rest = rest
     by false rest = refl
-
--- no items come after those that there are
-pub append-none : {A : Type 0} (xs : List A) → xs ++ [] ≡ xs
-append-none [] = refl
-append-none (x ∷ xs) = ap (λ ys. x ∷ ys) (append-none xs)

@@ -3,12 +3,6 @@ use Rattle.std.proofs.Common.{◌≡◌, ℕ, suc, ◌+◌, Bool, true, false, i
 use Rattle.kernel_model.specs.Shown.{prefix}
 use Rattle.withheld.specs.Withheld.{Held, held_with, all_held, whats, prefix_of}
 
--- the items
-pub whats-with : {A : Type 0} (xs : List A) (ms : List ℕ) → length ms ≡ length xs → whats (held_with xs ms) ≡ xs
-whats-with [] ms e = refl
-whats-with (x ∷ xs) [] e = cc
-whats-with (x ∷ xs) (m ∷ ms) e = ap (λ ys. x ∷ ys) (whats-with xs ms (omega (arith, e)))
-
 pub length-with : {A : Type 0} (xs : List A) (ms : List ℕ) → length ms ≡ length xs → length (held_with xs ms) ≡ length xs
 length-with [] ms e = refl
 length-with (x ∷ xs) [] e = cc

@@ -1,23 +1,18 @@
 -- One reply more.
-use Rattle.std.proofs.Common.{◌≡◌, ◌++◌, ◌∷◌, [], List, Option, None, sym, ap, ◌∙◌}
+use Rattle.std.proofs.Common.{◌++◌, ◌∷◌, [], List, Option, ap, ◌∙◌}
+use Rattle.std.proofs.lemmas.List.{append-nil}
 use Rattle.kernel_model.specs.Entries.{Item, Got}
-use Rattle.kernel_model.specs.Shown.{end_in}
-use Rattle.withheld.specs.Withheld.{Withheld, Held, all_held, whats}
+use Rattle.withheld.specs.Withheld.{Withheld, Held, all_held}
 use Rattle.withheld.specs.Traces.{ending_items, as_items}
 use Rattle.withheld.specs.declared.trace.Ending.{Ending}
-use Rattle.withheld.proofs.Traces.{no-end, reply-more, append-none}
+use Rattle.withheld.proofs.Traces.{are-all, reply-more}
 use Rattle.withheld.proofs.trace.Trace.reply.Goals as goal
 
 pub returns-clause-items : goal.returns-clause-items
 returns-clause-items c =
-    let none : c.self.inside.ending ≡ None =
-    no-end c.self.inside.replies.items c.self.inside.ending (ap (λ (w : Withheld Item). end_in (whats w.items)) c.self.view_is ∙ c.requires.running) in
-    let items : as_items c.self.inside.replies.items ≡ c.args.self.now.items =
-    sym (append-none (as_items c.self.inside.replies.items))
-    ∙ ap (λ (o : Option Ending). as_items c.self.inside.replies.items ++ ending_items o) (sym none)
-    ∙ ap (λ (w : Withheld Item). w.items) c.self.view_is in
-    ap (λ (o : Option Ending). as_items c.push.new.self.items ++ ending_items o) none
-    ∙ append-none (as_items c.push.new.self.items)
+    let all = are-all c.self.inside.replies.items c.self.inside.ending c.args.self.now.items (ap (λ (w : Withheld Item). w.items) c.self.view_is) c.requires.running in
+    ap (λ (o : Option Ending). as_items c.push.new.self.items ++ ending_items o) all.none
+    ∙ append-nil (as_items c.push.new.self.items)
     ∙ ap as_items c.push.ensures.items
     ∙ reply-more c.self.inside.replies.items c.args.mark c.args.reply
-    ∙ ap (λ (hs : List (Held Item)). hs ++ all_held c.args.mark (Got c.args.reply ∷ [])) items
+    ∙ ap (λ (hs : List (Held Item)). hs ++ all_held c.args.mark (Got c.args.reply ∷ [])) all.same

@@ -1,4 +1,4 @@
-//! The disk's thread.
+//! The thread that commits.
 ghost use Rattle.std.specs.Prelude.{◌≡◌};
 
 use crate::fault::RunFault;
@@ -8,7 +8,7 @@ use bursts::{Bench, Board, Desk, LockedDesk, Naming, Pass, Share};
 use kernel::Refused;
 use std::sync::{Mutex, Wait};
 
-/// The board with a pass, by which the disk's thread sees without the lock whether there is something to commit.
+/// The board with a pass, by which the thread that commits sees without the lock whether there is something to commit.
 #[derive(Drop)]
 pub(crate) struct BoardReader<'c, N: Naming> {
     board: &'c Board<N>,
@@ -30,9 +30,9 @@ impl<'c, N: Naming> BoardReader<'c, N> {
     }
 }
 
-/// What the disk's thread has: a reader of the board, and a desk, by which it commits.
+/// What the thread that commits has: a reader of the board, and a desk, by which it commits.
 #[derive(Drop)]
-pub(crate) struct DiskThread<'r, 'a, 'b, 'c, N: Naming, R: Wait> {
+pub(crate) struct CommitThread<'r, 'a, 'b, 'c, N: Naming, R: Wait> {
     reader: BoardReader<'c, N>,
     bench: &'a Mutex<Bench<'b, N>>,
     desk: LockedDesk<'r, 'a, 'b, N, R>,
@@ -43,15 +43,15 @@ fn wants_cut<N: Naming, R: Wait>(rt: &R, bench: &Mutex<Bench<'_, N>>) -> bool {
     bench.lock(rt).core().wants_cut()
 }
 
-impl<'r, 'a, 'b, 'c, N: Naming, R: Wait> DiskThread<'r, 'a, 'b, 'c, N, R> {
+impl<'r, 'a, 'b, 'c, N: Naming, R: Wait> CommitThread<'r, 'a, 'b, 'c, N, R> {
     pub fn new(
         rt: &'r R,
         reader: BoardReader<'c, N>,
         bench: &'a Mutex<Bench<'b, N>>,
         share: Share<N>,
-    ) -> DiskThread<'r, 'a, 'b, 'c, N, R> {
+    ) -> CommitThread<'r, 'a, 'b, 'c, N, R> {
         let desk = LockedDesk::new(rt, bench, share);
-        DiskThread {
+        CommitThread {
             reader,
             bench,
             desk,
