@@ -12,9 +12,9 @@ use Rattle.std.proofs.Math.Bool.{and-true, and_assoc, and_comm, or-true, or-fals
 use Rattle.kernel_model.specs.declared.carrier.Carrier.{Carrier}
 use Rattle.kernel_model.specs.declared.carrier.Carrier.TheVariants.{Proc, File, Names, Pipe, Pipes, Tasks, Tape}
 use Rattle.kernel_model.specs.Entries.{Entry, is_same, is_among, meets}
-use Rattle.kernel_model.specs.Paths.{is_durable, change_count, changes_in_log, with_change}
+use Rattle.kernel_model.specs.Paths.{is_durable, change_count, changes_in_log}
+use Rattle.kernel_model.proofs.Folding.{with_change-length}
 use Rattle.kernel_model.proofs.Paths.{count_of}
-use Rattle.disk_model.specs.declared.change.Change.{Change}
 use Rattle.commit_deps.specs.Kept.{Marked}
 use Rattle.commit_deps.specs.Marks.{IsMarkOf, reader, change_number}
 use Rattle.commit_deps.specs.Kept.{Kept}
@@ -183,13 +183,9 @@ greatest-says log marks keeps c own (x ∷ xs) =
     ∙ ap (λ (b : Bool). nat_le own c && (b && is_durable c log (reader xs))) ((keeps.marked x).says c)
     ∙ ap (λ (b : Bool). nat_le own c && b) (sym (durable-union c 0 log (x ∷ []) xs))
 
-count-with : (o : Option Change) (cs : List Change) → (if is_some o then 1 else 0) + length cs ≡ length (with_change o cs)
-count-with None cs = omega arith
-count-with (Some c) cs = omega arith
-
 count-changes : (log : List Entry) → count_of log ≡ length (changes_in_log log)
 count-changes [] = refl
-count-changes (d ∷ ds) = ap (λ n. change_count d + n) (count-changes ds) ∙ count-with d.change (changes_in_log ds)
+count-changes (d ∷ ds) = ap (λ n. change_count d + n) (count-changes ds) ∙ sym (with_change-length d.change (changes_in_log ds))
 
 -- the mark of its own change says whether that is committed
 own-says : (c n : ℕ) (makes : Bool) → nat_le (mark_of_change (if makes then Some n else None)) c ≡ (not makes || nat_lt n c)

@@ -65,7 +65,7 @@ distinct_moved (m ∷ ns) (suc l) (suc p) name e n d = (
 
 -- ---- the place of a name
 
-differs : (a b : List ℕ) → bytes_eq a b ≡ false → a ≡ b → ⊥
+pub differs : (a b : List ℕ) → bytes_eq a b ≡ false → a ≡ b → ⊥
 differs a b h e = let same : bytes_eq a b ≡ true = (bytes_eq-Decides a b).1 e in cc
 
 -- what a search for a name from place n on finds

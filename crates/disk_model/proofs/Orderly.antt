@@ -2,7 +2,7 @@
 use Rattle.std.proofs.Common.{◌≡◌, ℕ, ◌+◌, ◌<◌, ◌≤◌, ◌⊎◌, inl, inr, Bool, true, false, ◌&&◌, List, [], ◌∷◌, ◌++◌, length, drop, Option, Some, None, refl, sym, ap, subst, arith, length-append}
 use Rattle.std.specs.Prelude.{if◌then◌else◌}
 use Rattle.std.specs.List.{AllByRecursion}
-use Rattle.std.proofs.lemmas.Bool.{and_left}
+use Rattle.std.proofs.lemmas.Bool.{and_left, both_ways}
 use Rattle.std.proofs.lemmas.List.{length-drop}
 use Rattle.disk_model.specs.declared.change.Change.{Change}
 use Rattle.disk_model.specs.declared.change.NamedFile.{NamedFile}
@@ -28,22 +28,18 @@ Orderly count st =
 
 -- ---- both ways of saying it
 
-differ : (b : Bool) → b ≡ true → b ≡ false → ⊥
-differ true t f = absurd cc
-differ false t f = absurd cc
-
 to_record : (r : Run) → Orderly (length r.changes) r.storage → IsOrderly r
 to_record r (inl (quiet, none, among)) = record {
   among = among;
   pieces = subst HavePieces (sym none) tt;
   none = λ _. none;
-  more = λ busy. absurd (differ (is_quiet r.storage.device) quiet busy);
-  most = λ busy. absurd (differ (is_quiet r.storage.device) quiet busy);
+  more = λ busy. absurd (both_ways (is_quiet r.storage.device) busy quiet);
+  most = λ busy. absurd (both_ways (is_quiet r.storage.device) busy quiet);
 }
 to_record r (inr (busy, some, more, most)) = record {
   among = omega arith;
   pieces = some;
-  none = λ quiet. absurd (differ (is_quiet r.storage.device) quiet busy);
+  none = λ quiet. absurd (both_ways (is_quiet r.storage.device) busy quiet);
   more = λ _. more;
   most = λ _. most;
 }

@@ -37,9 +37,6 @@ abbrev pub Ready : List (List Piece) → List ℕ → Bool → ℕ → List Name
 Ready [] disk half gate old new = AtRest disk half gate new
 Ready (stage ∷ stages) disk half gate old new = (next : List ℕ) × Leads stage disk next old new × Ready stages next half gate old new
 
-abbrev pub size : ℕ
-size = 2097152
-
 abbrev pub IsSize : List ℕ → Type 0
 IsSize d = length d ≡ 2097152
 

@@ -60,9 +60,6 @@ with_tidy fs n h t good (Some f) e =
       distinct = subst Distinct (sym (names_set fs n file ∙ same_name fs n f e)) t.distinct;
     }
 
-pub with_bytes-length : (fs : List NamedFile) (n : ℕ) (o : Option NamedFile) (h : List ℕ → List ℕ) → length (with_bytes fs n o h) ≡ length fs
-with_bytes-length fs n None h = refl
-with_bytes-length fs n (Some f) h = length-set fs n (record { name = f.name; bytes = h f.bytes })
 
 pub patched_short : (old : List ℕ) (offset : ℕ) (bytes : List ℕ) → offset + length bytes ≤ 16384 → length old ≤ 16384 → length (patched old offset bytes) ≤ 16384
 patched_short old offset bytes a b = omega (

@@ -2,6 +2,7 @@
 use Rattle.std.specs.Prelude.{◌≡◌, ℕ, ◌+◌, ◌-◌, ◌<◌, ◌≤◌, ◌^◌, List, [], ◌∷◌, ◌++◌, length, take, drop, replicate, slice_get, slice_set, if◌then◌else◌, Option, Some, None}
 use Rattle.std.specs.Str.{bytes_eq}
 use Rattle.std.specs.List.{AllByRecursion, position, remove}
+use Rattle.disk_model.specs.Limits.{most_files, longest_name, longest_file, longest_write}
 use Rattle.disk_model.specs.declared.change.NamedFile.{NamedFile}
 use Rattle.disk_model.specs.declared.change.Change.{Change}
 use Rattle.disk_model.specs.declared.change.Change.TheVariants.{Create, Write, Empty, Remove, Rename}
@@ -54,12 +55,12 @@ IsNameByte b = (33 ≤ b) × (b ≤ 126) × (b ≡ 47 → ⊥)
 
 -- a name: 1 to 32 bytes of names
 abbrev pub IsName : List ℕ → Type 0
-IsName name = (1 ≤ length name) × (length name ≤ 32) × AllByRecursion IsNameByte name
+IsName name = (1 ≤ length name) × (length name ≤ longest_name) × AllByRecursion IsNameByte name
 
 -- a change that a record may spell, whatever files there are: a name has 1 to 32 bytes, a write 1 to 1,024
 abbrev pub IsFormed : Change → Type 0
 IsFormed (Create name) = IsName name
-IsFormed (Write place offset bytes) = (place < 2 ^ 16) × (offset < 2 ^ 32) × (1 ≤ length bytes) × (length bytes ≤ 1024) × AllByRecursion (λ b. b < 256) bytes
+IsFormed (Write place offset bytes) = (place < 2 ^ 16) × (offset < 2 ^ 32) × (1 ≤ length bytes) × (length bytes ≤ longest_write) × AllByRecursion (λ b. b < 256) bytes
 IsFormed (Empty place) = place < 2 ^ 16
 IsFormed (Remove place) = place < 2 ^ 16
 IsFormed (Rename place name) = (place < 2 ^ 16) × IsName name
@@ -67,8 +68,8 @@ IsFormed (Rename place name) = (place < 2 ^ 16) × IsName name
 -- a change that is possible with these files: a new name among at most 32, a file that is there, a file of at most 16,384 bytes,
 -- another name than the file has
 abbrev pub MayCome : List NamedFile → Change → Type 0
-MayCome files (Create name) = AllByRecursion (λ (f : NamedFile). f.name ≡ name → ⊥) files × (length files < 32)
-MayCome files (Write place offset bytes) = (place < length files) × (offset + length bytes ≤ 16384)
+MayCome files (Create name) = AllByRecursion (λ (f : NamedFile). f.name ≡ name → ⊥) files × (length files < most_files)
+MayCome files (Write place offset bytes) = (place < length files) × (offset + length bytes ≤ longest_file)
 MayCome files (Empty place) = place < length files
 MayCome files (Remove place) = place < length files
 MayCome files (Rename place name) = (place < length files) × ((f : NamedFile) → slice_get files place ≡ Some f → f.name ≡ name → ⊥)

@@ -1,4 +1,5 @@
 -- The definitions, lowest first.
+pub mod Limits
 pub mod Files
 pub mod Numbers
 pub mod Spelling

@@ -8,3 +8,6 @@ pub const LONGEST_NAME: u32 = 32;
 
 /// The most bytes of a file.
 pub const LONGEST_FILE: u32 = 16_384;
+
+/// The most bytes of one write.
+pub const LONGEST_WRITE: u32 = 1024;

@@ -3,7 +3,7 @@ use Rattle.std.proofs.Common.{◌≡◌, ℕ, ◌+◌, ◌<◌, ◌≤◌, true,
 use Rattle.std.specs.List.{remove}
 use Rattle.std.proofs.lemmas.Bool.{false≢true, ltb-false, ltb-true}
 use Rattle.std.proofs.lemmas.Option.{slice_get_past, slice_get-get_or}
-use Rattle.std.specs.Prelude.{IfSome, nat_lt, slice_get, slice_index_or}
+use Rattle.std.specs.Prelude.{IfSome, slice_get, slice_index_or}
 use Rattle.disk_model.specs.declared.change.NamedFile.{NamedFile}
 use Rattle.disk_model.specs.declared.change.Change.{Change}
 use Rattle.disk_model.specs.declared.change.Change.TheVariants.{Create, Write, Empty, Remove, Rename}
@@ -12,19 +12,16 @@ use Rattle.disk_model.specs.Numbers.{Numbered, changed_numbered}
 use Rattle.files.specs.There.{has_its_file}
 use Rattle.files.proofs.Numbering.{remove_none}
 
-past : (place count : ℕ) → nat_lt place count ≡ false → count ≤ place
-past place count none = ltb-false place count none
-
 unchanged : (files : List NamedFile) (place : ℕ) (f : List ℕ → List ℕ) → length files ≤ place → with_bytes files place (slice_get files place) f ≡ files
 unchanged files place f none = ap (λ (o : Option NamedFile). with_bytes files place o f) (slice_get_past files place none)
 
 pub absent : (c : Change) (files : List NamedFile) → has_its_file c (length files) ≡ false → changed files c ≡ files
 absent (Create name) files none = absurd (false≢true (sym none))
-absent (Write place offset bytes) files none = unchanged files place (λ old. patched old offset bytes) (past place (length files) none)
-absent (Empty place) files none = unchanged files place (λ old. []) (past place (length files) none)
-absent (Remove place) files none = remove_none files place (past place (length files) none)
+absent (Write place offset bytes) files none = unchanged files place (λ old. patched old offset bytes) (ltb-false place (length files) none)
+absent (Empty place) files none = unchanged files place (λ old. []) (ltb-false place (length files) none)
+absent (Remove place) files none = remove_none files place (ltb-false place (length files) none)
 absent (Rename place name) files none =
-    let o = slice_get_past files place (past place (length files) none) in
+    let o = slice_get_past files place (ltb-false place (length files) none) in
     ap (λ (o : Option NamedFile). without (with_name files place o name) (loser files o name)) o
 
 -- nor do the numbers change
@@ -35,11 +32,11 @@ absent_numbered (Write place offset bytes) files same none =
     ap (λ (living : List NamedFile). record files { living = living }) (absent (Write place offset bytes) files.living none)
 absent_numbered (Empty place) files same none = ap (λ (living : List NamedFile). record files { living = living }) (absent (Empty place) files.living none)
 absent_numbered (Remove place) files same none =
-    let gone = past place (length files.living) none in
+    let gone = ltb-false place (length files.living) none in
     ap (λ (living : List NamedFile). record files { living = living; numbers = remove files.numbers place }) (remove_none files.living place gone)
     ∙ ap (λ (numbers : List ℕ). record files { numbers = numbers }) (remove_none files.numbers place (omega arith))
 absent_numbered (Rename place name) files same none =
-    let o = slice_get_past files.living place (past place (length files.living) none) in
+    let o = slice_get_past files.living place (ltb-false place (length files.living) none) in
     ap (λ (o : Option NamedFile). record files {
       living = without (with_name files.living place o name) (loser files.living o name);
       numbers = without files.numbers (loser files.living o name);

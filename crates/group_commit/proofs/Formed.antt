@@ -1,8 +1,8 @@
 -- Changes that are formed, and the first of them.
-use Rattle.std.proofs.Common.{◌≡◌, ℕ, ◌≤◌, min, List, length, take, ap, sym, ◌∙◌, arith, inl, inr}
+use Rattle.std.proofs.Common.{◌≡◌, ℕ, min, List, length, take, ap, sym, ◌∙◌, arith, inl, inr}
 use Rattle.std.specs.List.{AllByRecursion}
 use Rattle.std.proofs.lemmas.Bool.{cases_lt}
-use Rattle.std.proofs.lemmas.List.{take_all, length-take}
+use Rattle.std.proofs.lemmas.List.{take_all}
 use Rattle.disk_model.specs.declared.change.Change.{Change}
 use Rattle.disk_model.specs.Files.{IsFormed}
 use Rattle.disk_model.specs.Storage.{group_of}
@@ -19,7 +19,3 @@ first_64 n cs e = elim (cases_lt 64 (length cs)) as (λ _. take n cs ≡ take 64
   | inl lt ↦ ap (λ (k : ℕ). take k cs) (let k : n ≡ 64 = omega arith in k)
   | inr le ↦ take_all n cs (omega arith) ∙ sym (take_all 64 cs le)
 ]
-
-pub group_size : (cs : List Change) → length (group_of cs) ≤ length cs
-unfolding group_of
-group_size cs = let size = length-take 64 cs in omega arith

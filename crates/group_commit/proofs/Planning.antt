@@ -1,19 +1,16 @@
 -- The plans of a group and of a checkpoint.
-use Rattle.std.proofs.Common.{◌≡◌, ℕ, ◌+◌, ◌<◌, ◌≤◌, Bool, true, false, not, List, [], ◌∷◌, length, refl, sym, ap, subst, ◌∙◌, arith, length-append}
-use Rattle.std.specs.Int.{w32, to_le_bytes}
+use Rattle.std.proofs.Common.{◌≡◌, ℕ, ◌+◌, ◌<◌, ◌≤◌, Bool, true, false, not, List, [], ◌∷◌, length, refl, sym, ap, subst, ◌∙◌, arith}
 use Rattle.disk_model.specs.declared.change.Change.{Change}
 use Rattle.disk_model.specs.declared.change.Piece.{Piece}
-use Rattle.disk_model.specs.Spelling.{body_of, sized_body, record_of, gate_after}
+use Rattle.disk_model.specs.Spelling.{record_of, gate_after}
 use Rattle.disk_model.specs.Held.{start_of, end_of}
 use Rattle.disk_model.specs.Storage.{Storage, sent, pieces, one_byte, selector, group, checkpoint}
+use Rattle.disk_model.proofs.Reading.{record_length}
 use Rattle.simdisk.specs.Room.{AreSpaced}
 use Rattle.group_commit.specs.declared.plan.Plan.{Plan}
 use Rattle.group_commit.specs.Stages.{items_of, AllSpaced}
 use Rattle.group_commit.specs.Plans.{planned, HasRoom, Begins}
 use Rattle.group_commit.proofs.Parts.{pieces_spaced}
-
-record_length : (cs : List Change) → length (record_of cs) ≡ 5 + length (body_of cs)
-record_length cs = omega (arith, length-append (to_le_bytes w32 (length (body_of cs))) (body_of cs), length-append (sized_body cs) (0 ∷ []))
 
 end_within : (half : Bool) → end_of half ≤ 2097088
 end_within false = omega arith

@@ -1,10 +1,9 @@
 -- What was spelled is read again.
-use Rattle.std.proofs.Common.{◌≡◌, ℕ, zero, suc, ◌+◌, ◌^◌, ◌<◌, ◌≤◌, Bool, true, false, ltb, List, [], ◌∷◌, ◌++◌, length, Result, Ok, refl, ap, ◌∙◌, arith}
+use Rattle.std.proofs.Common.{◌≡◌, ℕ, zero, suc, ◌+◌, ◌^◌, ◌<◌, ◌≤◌, true, false, ltb, List, [], ◌∷◌, ◌++◌, length, Result, Ok, refl, ap, ◌∙◌, arith}
 use Rattle.std.specs.Prelude.{slice_get, ◌&&◌, not, nat_le, nat_lt, ◌==◌}
 use Rattle.std.specs.List.{AllByRecursion}
 use Rattle.std.specs.Int.{Width, w16, w32, byte_len, from_le_bytes, to_le_bytes}
-use Rattle.std.proofs.lemmas.Bool.{le-ltb, false≢true}
-use Rattle.std.proofs.lemmas.Bool.Decides.{nat_tests}
+use Rattle.std.proofs.lemmas.Bool.{and_from, le-leb, le-ltb, lt-ltb, ne_eqb, not_from_false}
 use Rattle.std.proofs.lemmas.List.{take_at, drop_at, length-append}
 use Rattle.std.proofs.lemmas.Nat.{from_le_bytes-to_le_bytes_2, from_le_bytes-to_le_bytes_4}
 use Rattle.disk_model.specs.declared.change.Change.{Change}
@@ -32,32 +31,15 @@ two_again n rest lt = number_again w16 n rest refl (from_le_bytes-to_le_bytes_2 
 four_again : (n : ℕ) (rest : List ℕ) → n < 2 ^ 32 → number_at w32 (to_le_bytes w32 n ++ rest) ≡ Ok (n, rest)
 four_again n rest lt = number_again w32 n rest refl (from_le_bytes-to_le_bytes_4 n lt)
 
-pub and_true : (a b : Bool) → a ≡ true → b ≡ true → (a && b) ≡ true
-and_true true b e f = f
-and_true false b e f = absurd (false≢true e)
-
-pub le_true : (a b : ℕ) → a ≤ b → nat_le a b ≡ true
-le_true a b h = grind (arith, nat_tests)
-
-pub lt_true : (a b : ℕ) → a < b → nat_lt a b ≡ true
-lt_true a b h = grind (arith, nat_tests)
-
-pub not_true : (b : Bool) → b ≡ false → not b ≡ true
-not_true true e = absurd cc
-not_true false e = refl
-
-differs : (a b : ℕ) → (a ≡ b → ⊥) → (a == b) ≡ false
-differs a b h = grind (arith, nat_tests)
-
 names_true : (name : List ℕ) → AllByRecursion IsNameByte name → all_name_bytes name ≡ true
 names_true [] h = refl
-names_true (b ∷ name) h = and_true (is_name_byte b) (all_name_bytes name) (and_true (nat_le 33 b && nat_le b 126) (not (b == 47)) (and_true (nat_le 33 b) (nat_le b 126) (le_true 33 b h.0.0) (le_true b 126 h.0.1)) (not_true (b == 47) (differs b 47 h.0.2))) (names_true name h.1)
+names_true (b ∷ name) h = and_from (is_name_byte b) (all_name_bytes name) (and_from (nat_le 33 b && nat_le b 126) (not (b == 47)) (and_from (nat_le 33 b) (nat_le b 126) (le-leb 33 b h.0.0) (le-leb b 126 h.0.1)) (not_from_false (b == 47) (ne_eqb b 47 h.0.2))) (names_true name h.1)
 
 name_again : (name rest : List ℕ) → IsName name → name_at (length name ∷ name ++ rest) ≡ Ok (name, rest)
 unfolding name_at
 name_again name rest f =
     let good : (nat_le 1 (length name) && nat_le (length name) 32 && all_name_bytes name) ≡ true =
-    and_true (nat_le 1 (length name) && nat_le (length name) 32) (all_name_bytes name) (and_true (nat_le 1 (length name)) (nat_le (length name) 32) (le_true 1 (length name) f.0) (le_true (length name) 32 f.1)) (names_true name f.2) in
+    and_from (nat_le 1 (length name) && nat_le (length name) 32) (all_name_bytes name) (and_from (nat_le 1 (length name)) (nat_le (length name) 32) (le-leb 1 (length name) f.0) (le-leb (length name) 32 f.1)) (names_true name f.2) in
     rw (text_again name rest, good) refl
 
 create_again : (name rest : List ℕ) → IsFormed (Create name) → create_at (length name ∷ name ++ rest) ≡ Ok (Create name, rest)
@@ -68,7 +50,7 @@ write_again : (file offset : ℕ) (bytes rest : List ℕ) → IsFormed (Write fi
     → write_at (to_le_bytes w16 file ++ (to_le_bytes w32 offset ++ (to_le_bytes w16 (length bytes) ++ (bytes ++ rest)))) ≡ Ok (Write file offset bytes, rest)
 unfolding write_at
 write_again file offset bytes rest f =
-    let good : (nat_le 1 (length bytes) && nat_le (length bytes) 1024) ≡ true = and_true (nat_le 1 (length bytes)) (nat_le (length bytes) 1024) (le_true 1 (length bytes) f.2) (le_true (length bytes) 1024 f.3) in
+    let good : (nat_le 1 (length bytes) && nat_le (length bytes) 1024) ≡ true = and_from (nat_le 1 (length bytes)) (nat_le (length bytes) 1024) (le-leb 1 (length bytes) f.2) (le-leb (length bytes) 1024 f.3) in
     let small : length bytes < 2 ^ 16 = (let m = f.3 in omega arith) in
     rw (two_again file (to_le_bytes w32 offset ++ (to_le_bytes w16 (length bytes) ++ (bytes ++ rest))) f.0, four_again offset (to_le_bytes w16 (length bytes) ++ (bytes ++ rest)) f.1, two_again (length bytes) (bytes ++ rest) small, text_again bytes rest, good) refl
 
@@ -125,12 +107,12 @@ changes_again (c ∷ cs) (suc n) f le =
 
 pub may_true : (files : List NamedFile) (c : Change) → MayCome files c → may_come files c ≡ true
 may_true files (Create name) m =
-    and_true (is_unnamed files name) (nat_lt (length files) 32) (none_found files name m.0) (lt_true (length files) 32 m.1)
-may_true files (Write n offset bytes) m = and_true (nat_lt n (length files)) (nat_le (offset + length bytes) 16384) (lt_true n (length files) m.0) (le_true (offset + length bytes) 16384 m.1)
-may_true files (Empty n) m = lt_true n (length files) m
-may_true files (Remove n) m = lt_true n (length files) m
+    and_from (is_unnamed files name) (nat_lt (length files) 32) (none_found files name m.0) (lt-ltb (length files) 32 m.1)
+may_true files (Write n offset bytes) m = and_from (nat_lt n (length files)) (nat_le (offset + length bytes) 16384) (lt-ltb n (length files) m.0) (le-leb (offset + length bytes) 16384 m.1)
+may_true files (Empty n) m = lt-ltb n (length files) m
+may_true files (Remove n) m = lt-ltb n (length files) m
 may_true files (Rename n name) m =
-    and_true (nat_lt n (length files)) (not (is_called (slice_get files n) name)) (lt_true n (length files) m.0) (not_called (slice_get files n) name m.1)
+    and_from (nat_lt n (length files)) (not (is_called (slice_get files n) name)) (lt-ltb n (length files) m.0) (not_called (slice_get files n) name m.1)
 
 pub changed_again : (files : List NamedFile) (cs : List Change) → Follow files cs → all_changed files cs ≡ Ok (files_after files cs)
 unfolding all_changed

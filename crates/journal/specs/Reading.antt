@@ -8,6 +8,7 @@ use Rattle.disk_model.specs.declared.change.Change.TheVariants.{Create, Write, E
 use Rattle.disk_model.specs.declared.change.NamedFile.{NamedFile}
 use Rattle.disk_model.specs.Files.{changed}
 use Rattle.disk_model.specs.Held.{selected_half, start_of, end_of}
+use Rattle.disk_model.specs.Limits.{most_files, longest_name, longest_file, longest_write}
 use Rattle.journal.specs.declared.fault.DiskFault.{DiskFault}
 use Rattle.journal.specs.declared.fault.DiskFault.TheVariants.{PastHalf, BadRecord, BadChange, OutOfMemory}
 
@@ -51,7 +52,7 @@ unfoldable pub name_at : List ℕ → Result (List ℕ × List ℕ) DiskFault
 name_at [] = Err BadRecord
 name_at (n ∷ rest) = do
   name ← text_at n rest
-  if nat_le 1 n && nat_le n 32 && all_name_bytes name.0 then Ok (name.0, name.1) else Err BadRecord
+  if nat_le 1 n && nat_le n longest_name && all_name_bytes name.0 then Ok (name.0, name.1) else Err BadRecord
 
 -- a creation, from the bytes after its kind, and the bytes after it
 unfoldable pub create_at : List ℕ → Result (Change × List ℕ) DiskFault
@@ -66,7 +67,7 @@ write_at bytes = do
   offset ← number_at w32 file.1
   n ← number_at w16 offset.1
   text ← text_at n.0 n.1
-  if nat_le 1 n.0 && nat_le n.0 1024 then Ok (Write file.0 offset.0 text.0, text.1) else Err BadRecord
+  if nat_le 1 n.0 && nat_le n.0 longest_write then Ok (Write file.0 offset.0 text.0, text.1) else Err BadRecord
 
 -- an emptying, from the bytes after its kind, and the bytes after it
 unfoldable pub empty_at : List ℕ → Result (Change × List ℕ) DiskFault
@@ -118,8 +119,8 @@ is_called (Some file) name = bytes_eq file.name name
 
 -- the change is possible with these files
 abbrev pub may_come : List NamedFile → Change → Bool
-may_come files (Create name) = is_unnamed files name && nat_lt (length files) 32
-may_come files (Write place offset bytes) = nat_lt place (length files) && nat_le (offset + length bytes) 16384
+may_come files (Create name) = is_unnamed files name && nat_lt (length files) most_files
+may_come files (Write place offset bytes) = nat_lt place (length files) && nat_le (offset + length bytes) longest_file
 may_come files (Empty place) = nat_lt place (length files)
 may_come files (Remove place) = nat_lt place (length files)
 may_come files (Rename place name) = nat_lt place (length files) && not (is_called (slice_get files place) name)

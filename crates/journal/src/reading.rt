@@ -5,7 +5,7 @@ ghost use Rattle.journal.specs.Reading.{Gives, number_at, text_at, name_at, crea
 
 use crate::fault::DiskFault;
 use byte_list::Bytes;
-use disk_model::Change;
+use disk_model::{Change, LONGEST_NAME, LONGEST_WRITE};
 use std::alloc::Global;
 
 /// A number of two bytes, and the bytes after it.
@@ -65,7 +65,7 @@ fn name_of(alloc: Global, bytes: &[u8]) -> Result<(Bytes, &[u8]), DiskFault>
         [n, rest @ ..] => {
             let n = *n as usize;
             let (name, rest) = text_of(alloc, n, rest)?;
-            if n < 1 || n > 32 || !are_name_bytes(name.as_slice()) {
+            if n < 1 || n > LONGEST_NAME as usize || !are_name_bytes(name.as_slice()) {
                 return Err(DiskFault::BadRecord);
             }
             Ok((name, rest))
@@ -91,7 +91,7 @@ fn write_of(alloc: Global, bytes: &[u8]) -> Result<(Change, &[u8]), DiskFault>
     let (offset, rest) = u32_at(rest)?;
     let (n, rest) = u16_at(rest)?;
     let (bytes, rest) = text_of(alloc, n as usize, rest)?;
-    if n < 1 || n > 1024 {
+    if n < 1 || n as u32 > LONGEST_WRITE {
         return Err(DiskFault::BadRecord);
     }
     let change = Change::Write {

@@ -1,12 +1,12 @@
 -- Where all changes are committed, everything is durable, and so all is released.
-use Rattle.std.proofs.Common.{◌≡◌, ℕ, ◌+◌, ◌<◌, ◌≤◌, inl, inr, Bool, true, false, if◌then◌else◌, List, [], ◌∷◌, ◌++◌, length, Option, Some, None, is_some, refl, ap, ◌∙◌, arith}
+use Rattle.std.proofs.Common.{◌≡◌, ℕ, ◌+◌, ◌<◌, ◌≤◌, inl, inr, Bool, true, false, if◌then◌else◌, List, [], ◌∷◌, ◌++◌, length, refl, ap, ◌∙◌, arith}
 use Rattle.std.specs.List.{AllByRecursion}
-use Rattle.disk_model.specs.declared.change.Change.{Change}
 use Rattle.kernel_model.specs.Entries.{Entry, Item, Got}
-use Rattle.kernel_model.specs.Paths.{RestsOn, IsDurable, change_count, is_durable, changes_in_log, with_change}
+use Rattle.kernel_model.specs.Paths.{RestsOn, IsDurable, change_count, is_durable, changes_in_log}
 use Rattle.kernel_model.specs.Shown.{Given, given_by, each_from, printed, told, told_from, told_with, is_made, items_for, bytes_for, prefix, released}
 use Rattle.kernel_model.specs.Steps.{zero_reply}
 use Rattle.kernel_model.specs.Views.{contents}
+use Rattle.kernel_model.proofs.Folding.{with_change-length}
 use Rattle.kernel_model.proofs.Paths.{durable_to}
 use Rattle.disk_model.proofs.Lists.{each_append}
 
@@ -14,23 +14,19 @@ use Rattle.disk_model.proofs.Lists.{each_append}
 abbrev pub count : List Entry → ℕ
 count log = length (changes_in_log log)
 
-count-with : (o : Option Change) (cs : List Change) → length (with_change o cs) ≡ (if is_some o then 1 else 0) + length cs
-count-with None cs = omega arith
-count-with (Some c) cs = omega arith
-
 count-append : (xs ys : List Entry) → count (xs ++ ys) ≡ count xs + count ys
 count-append [] ys = omega arith
-count-append (x ∷ xs) ys = omega (arith, count-with x.change (changes_in_log (xs ++ ys)), count-with x.change (changes_in_log xs), count-append xs ys)
+count-append (x ∷ xs) ys = omega (arith, with_change-length x.change (changes_in_log (xs ++ ys)), with_change-length x.change (changes_in_log xs), count-append xs ys)
 
 -- an event rests on changes of its past, and on its own
 rests_below : (n : ℕ) (past : List Entry) (e : Entry) (k : ℕ) → RestsOn n past e k → k < n + (count past + count (e ∷ []))
 rests_below n [] e k h =
     let own : change_count e ≡ 1 = ap (λ (b : Bool). if b then 1 else 0) h.0 in
-    let same : k ≡ n = h.1 in omega (arith, count-with e.change [])
+    let same : k ≡ n = h.1 in omega (arith, with_change-length e.change [])
 rests_below n (x ∷ xs) e k (inl h) =
     let own : change_count x ≡ 1 = ap (λ (b : Bool). if b then 1 else 0) h.0 in
-    let same : k ≡ n = h.1 in omega (arith, count-with x.change (changes_in_log xs))
-rests_below n (x ∷ xs) e k (inr h) = omega (arith, rests_below (n + change_count x) xs e k h, count-with x.change (changes_in_log xs))
+    let same : k ≡ n = h.1 in omega (arith, with_change-length x.change (changes_in_log xs))
+rests_below n (x ∷ xs) e k (inr h) = omega (arith, rests_below (n + change_count x) xs e k h, with_change-length x.change (changes_in_log xs))
 
 -- so it is durable where they are among the first c
 abbrev IsEarly : {A : Type 0} → ℕ → Given A → Type 0

@@ -27,7 +27,8 @@ use Rattle.kernel_model.specs.declared.request.Verdict.{Verdict}
 use Rattle.kernel_model.specs.declared.request.Verdict.TheVariants.{Waits, Replies, Ends}
 use Rattle.kernel_model.proofs.Asked.{IsAsked, asked_by}
 use Rattle.kernel_model.proofs.Cases.{OfEach, of_effect}
-use Rattle.kernel_model.proofs.Names.{at_some, differs, name_bytes, name_new, number_has_name, place_there}
+use Rattle.disk_model.proofs.Naming.{differs}
+use Rattle.kernel_model.proofs.Names.{at_some, name_bytes, name_new, number_has_name, place_there}
 use Rattle.kernel_laws.proofs.Bytes.{AreBytes}
 
 -- ---- what calls look at

@@ -7,7 +7,8 @@ use Rattle.std.proofs.lemmas.Bool.{and_parts}
 use Rattle.machine_model.specs.Access.{HoldsBytes, bytes_at, range_fault, is_writable, to_read}
 use Rattle.machine_model.specs.Memory.{Memory}
 use Rattle.machine_model.specs.States.{State}
-use Rattle.kernel_model.specs.Requests.{read_bytes, most_bytes, longest_name, longest_names, pair_size, word_size, request_by, request_of}
+use Rattle.disk_model.specs.Limits.{longest_name}
+use Rattle.kernel_model.specs.Requests.{read_bytes, most_bytes, longest_names, pair_size, word_size, request_by, request_of}
 use Rattle.kernel_model.specs.declared.request.Request.{Request}
 use Rattle.kernel_model.specs.declared.request.Request.TheVariants.{Write, Read, Open, Pipe, Wait, Unlink, Rename}
 

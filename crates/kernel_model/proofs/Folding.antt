@@ -1,5 +1,5 @@
 -- The files are what the changes of the log make of the boot's.
-use Rattle.std.proofs.Common.{◌≡◌, ℕ, List, [], ◌∷◌, ◌++◌, Option, Some, None, refl, sym, ap, ◌∙◌}
+use Rattle.std.proofs.Common.{◌≡◌, ℕ, ◌+◌, if◌then◌else◌, List, [], ◌∷◌, ◌++◌, Option, Some, None, is_some, length, refl, sym, ap, ◌∙◌, arith}
 use Rattle.disk_model.specs.declared.change.Change.{Change}
 use Rattle.disk_model.specs.declared.change.NamedFile.{NamedFile}
 use Rattle.disk_model.specs.Files.{changed, files_after}
@@ -23,6 +23,10 @@ living_by files (Some c) = changed files c
 pub living_changed : (files : Numbered) (o : Option Change) → (changed_by files o).living ≡ living_by files.living o
 living_changed files None = refl
 living_changed files (Some c) = refl
+
+pub with_change-length : (o : Option Change) (cs : List Change) → length (with_change o cs) ≡ (if is_some o then 1 else 0) + length cs
+with_change-length None cs = omega arith
+with_change-length (Some c) cs = omega arith
 
 -- a change, if there is one, comes first
 after_with : (files : List NamedFile) (o : Option Change) (cs : List Change) → files_after files (with_change o cs) ≡ files_after (living_by files o) cs

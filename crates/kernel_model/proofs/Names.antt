@@ -6,9 +6,11 @@ use Rattle.std.proofs.lemmas.Bool.Decides.{nat_tests}
 use Rattle.std.proofs.lemmas.Iterator.Adapters.{position_from-zero}
 use Rattle.std.proofs.lemmas.List.{length-map}
 use Rattle.std.proofs.lemmas.List.Quantifiers.{position-Some}
+use Rattle.std.proofs.lemmas.Option.{slice_get-get_or}
 use Rattle.std.proofs.lemmas.Slice.Eq.{bytes_eq-Decides}
 use Rattle.disk_model.specs.Files.{IsNameByte}
 use Rattle.disk_model.specs.declared.change.NamedFile.{NamedFile}
+use Rattle.disk_model.proofs.Naming.{differs}
 use Rattle.disk_model.specs.Numbers.{Numbered, at_place, place_of}
 use Rattle.kernel_model.specs.Limits.{AreNumbered, RiseFrom}
 use Rattle.kernel_model.specs.Rows.{directory, number_named, is_name_byte, names_of}
@@ -38,9 +40,6 @@ pub name_bytes : (name : List ℕ) → list_all is_name_byte name ≡ true → A
 name_bytes [] h = tt
 name_bytes (b ∷ bs) h = (name_byte b (grind (arith, nat_tests)), name_bytes bs (grind (arith, nat_tests)))
 
-pub differs : (a b : List ℕ) → bytes_eq a b ≡ false → a ≡ b → ⊥
-differs a b h e = let same : bytes_eq a b ≡ true = (bytes_eq-Decides a b).1 e in cc
-
 none_from : (n : ℕ) (files : List NamedFile) (name : List ℕ) → position_from (λ other. bytes_eq other name) n (names_of files) ≡ None
     → AllByRecursion (λ (f : NamedFile). f.name ≡ name → ⊥) files
 none_from n [] name h = tt
@@ -52,18 +51,13 @@ none_from n (f ∷ fs) name h =
 
 -- ---- numbers and places
 
-there_get : {A : Type 0} (xs : List A) (i : ℕ) (d : A) → i < length xs → slice_get xs i ≡ Some (get_or xs i d)
-there_get [] i d h = absurd (let no : ⊥ = omega arith in no)
-there_get (x ∷ xs) zero d h = refl
-there_get (x ∷ xs) (suc i) d h = there_get xs i d (omega arith)
-
 -- the number of a file stands at its place, among the numbers of the files that live
 pub place_there : (files : Numbered) (number place : ℕ) → place_of files number ≡ Some place
     → (place < length files.numbers) × (slice_get files.numbers place ≡ Some number)
 place_there files number place e =
     let found = position-Some (λ (n : ℕ). n == number) files.numbers place 0 e in
     let is : get_or files.numbers place 0 ≡ number = first_of (grind (arith, nat_tests), cc) in
-    (found.0, there_get files.numbers place 0 found.0 ∙ ap Some is)
+    (found.0, slice_get-get_or files.numbers place 0 found.0 ∙ ap Some is)
 
 -- numbers that rise differ
 rise_least : (low high : ℕ) (ns : List ℕ) (k n : ℕ) → RiseFrom low high ns → slice_get ns k ≡ Some n → low ≤ n

@@ -3,8 +3,8 @@ use Rattle.std.specs.Prelude.{◌≡◌, ℕ, ◌+◌, ◌<◌, ◌≤◌, Bool,
 use Rattle.std.specs.List.{Contains}
 use Rattle.disk_model.specs.Numbers.{Numbered}
 use Rattle.disk_model.specs.declared.change.NamedFile.{NamedFile}
-use Rattle.kernel_model.specs.Requests.{longest_name}
-use Rattle.kernel_model.specs.Rows.{EndedChild, descriptor_at, status_in, longest_file, most_files, most_pipes, pipe_size}
+use Rattle.disk_model.specs.Limits.{most_files, longest_name, longest_file}
+use Rattle.kernel_model.specs.Rows.{EndedChild, descriptor_at, status_in, most_pipes, pipe_size}
 use Rattle.kernel_model.specs.State.{SyncState, Process, PipeState, process_at, unread}
 use Rattle.kernel_model.specs.declared.descriptor.Descriptor.TheVariants.{Tape, File}
 

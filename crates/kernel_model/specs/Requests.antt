@@ -3,6 +3,7 @@ use Rattle.std.specs.Prelude.{ℕ, ◌+◌, ◌==◌, ◌&&◌, ◌||◌, nat_le
 use Rattle.machine_model.specs.Memory.{Memory}
 use Rattle.machine_model.specs.Access.{bytes_at, range_fault, to_read, to_write}
 use Rattle.machine_model.specs.States.{State}
+use Rattle.disk_model.specs.Limits.{longest_name, longest_write}
 use Rattle.kernel_model.specs.declared.request.Request.{Request}
 use Rattle.kernel_model.specs.declared.request.Request.TheVariants.{Exit, Write, Read, Open, Close, Pipe, Fork, Wait, GetPid, Seek, Sync, Unlink, Rename, Unknown}
 
@@ -16,17 +17,13 @@ read_bytes memory most at n =
 abbrev pub may_be_placed : Memory → ℕ → ℕ → ℕ → Bool
 may_be_placed memory most at n = nat_le n most && is_none (range_fault to_write memory at n)
 
--- the most bytes that a call moves
+-- the most bytes that a call moves, so that what it writes is one write
 abbrev pub most_bytes : ℕ
-most_bytes = 1024
-
--- the most bytes of a file's name
-abbrev pub longest_name : ℕ
-longest_name = 32
+most_bytes = longest_write
 
 -- the most bytes of two names
 abbrev pub longest_names : ℕ
-longest_names = 64
+longest_names = longest_name + longest_name
 
 -- the bytes of two words, as which a pipe's descriptors are written
 abbrev pub pair_size : ℕ

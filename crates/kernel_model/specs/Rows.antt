@@ -6,7 +6,8 @@ use Rattle.std.specs.Str.{bytes_eq}
 use Rattle.std.specs.Int.{w32, to_le_bytes}
 use Rattle.disk_model.specs.declared.change.NamedFile.{NamedFile}
 use Rattle.disk_model.specs.Numbers.{Numbered, at_place, file_of, lives}
-use Rattle.kernel_model.specs.Requests.{most_bytes, longest_name}
+use Rattle.disk_model.specs.Limits.{most_files, longest_name, longest_file}
+use Rattle.kernel_model.specs.Requests.{most_bytes}
 use Rattle.kernel_model.specs.State.{Shared, TapeState, PipeState, unread}
 use Rattle.kernel_model.specs.declared.carrier.Carrier.{Carrier}
 use Rattle.kernel_model.specs.declared.carrier.Carrier.TheVariants as carrier
@@ -93,14 +94,6 @@ no_reader = 32
 
 abbrev pub no_such_call : ℕ
 no_such_call = 38
-
--- the most bytes of a file
-abbrev pub longest_file : ℕ
-longest_file = 16384
-
--- the most files
-abbrev pub most_files : ℕ
-most_files = 32
 
 -- the most bytes that a pipe holds
 abbrev pub pipe_size : ℕ

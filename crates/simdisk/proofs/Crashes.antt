@@ -10,6 +10,7 @@ use Rattle.std.proofs.Math.Seq.{get_or-append_seam}
 use Rattle.disk_model.specs.declared.change.Piece.{Piece}
 use Rattle.disk_model.specs.Storage.{Device, is_empty}
 use Rattle.disk_model.specs.Crash.{InRange, IsCrashOf}
+use Rattle.disk_model.proofs.Tidy.{IsByte}
 use Rattle.simdisk.specs.Room.{in_range, filled, crashed}
 
 -- ---- the test for a place in a range
@@ -85,9 +86,6 @@ crash_of v fill = crash_by v fill (is_empty fill)
 abbrev picked : List Piece → ℕ → List ℕ → List ℕ
 picked ps i [] = []
 picked ps i (x ∷ xs) = if in_range ps i then x ∷ picked ps (i + 1) xs else picked ps (i + 1) xs
-
-abbrev IsByte : ℕ → Type 0
-IsByte b = b < 256
 
 picked_bytes : (ps : List Piece) (i : ℕ) (xs : List ℕ) → AllByRecursion IsByte xs → AllByRecursion IsByte (picked ps i xs)
 picked_bytes ps i [] all = tt

@@ -4,7 +4,8 @@ use Rattle.std.specs.List.{AllByRecursion}
 use Rattle.disk_model.specs.declared.change.Change.{Change}
 use Rattle.disk_model.specs.Files.{IsFormed}
 use Rattle.disk_model.proofs.Once.{formed_all}
-use Rattle.group_commit.proofs.Formed.{formed_group, group_size}
+use Rattle.disk_model.proofs.Whole.{group_short}
+use Rattle.group_commit.proofs.Formed.{formed_group}
 use Rattle.group_commit.proofs.committer.Committer.plan.Goals as goal
 
 pub body_of-requires : goal.body_of-requires
@@ -17,4 +18,4 @@ checkpoint_plan-requires-clause-formed c =
 
 pub group_plan-requires-clause-counted : goal.group_plan-requires-clause-counted
 group_plan-requires-clause-counted c =
-    omega (arith, c.requires.counted, ap (λ (cs : List Change). length cs) c.first_changes-group.ensures, group_size c.args.changes.now)
+    omega (arith, c.requires.counted, ap (λ (cs : List Change). length cs) c.first_changes-group.ensures, group_short c.args.changes.now)
