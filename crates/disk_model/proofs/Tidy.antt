@@ -60,7 +60,6 @@ with_tidy fs n h t good (Some f) e =
       distinct = subst Distinct (sym (names_set fs n file ∙ same_name fs n f e)) t.distinct;
     }
 
-
 pub patched_short : (old : List ℕ) (offset : ℕ) (bytes : List ℕ) → offset + length bytes ≤ 16384 → length old ≤ 16384 → length (patched old offset bytes) ≤ 16384
 patched_short old offset bytes a b = omega (
   arith,

@@ -2,7 +2,7 @@
 use Rattle.std.specs.Prelude.{◌≡◌, ℕ, ◌+◌, ◌-◌, ◌<◌, ◌≤◌, ◌^◌, List, [], ◌∷◌, ◌++◌, length, take, drop, replicate, slice_get, slice_set, if◌then◌else◌, Option, Some, None}
 use Rattle.std.specs.Str.{bytes_eq}
 use Rattle.std.specs.List.{AllByRecursion, position, remove}
-use Rattle.disk_model.specs.Limits.{most_files, longest_name, longest_file, longest_write}
+use Rattle.disk_model.specs.Limits.{most_files, longest_name, longest_file, longest_file_write}
 use Rattle.disk_model.specs.declared.change.NamedFile.{NamedFile}
 use Rattle.disk_model.specs.declared.change.Change.{Change}
 use Rattle.disk_model.specs.declared.change.Change.TheVariants.{Create, Write, Empty, Remove, Rename}
@@ -60,7 +60,7 @@ IsName name = (1 ≤ length name) × (length name ≤ longest_name) × AllByRecu
 -- a change that a record may spell, whatever files there are: a name has 1 to 32 bytes, a write 1 to 1,024
 abbrev pub IsFormed : Change → Type 0
 IsFormed (Create name) = IsName name
-IsFormed (Write place offset bytes) = (place < 2 ^ 16) × (offset < 2 ^ 32) × (1 ≤ length bytes) × (length bytes ≤ longest_write) × AllByRecursion (λ b. b < 256) bytes
+IsFormed (Write place offset bytes) = (place < 2 ^ 16) × (offset < 2 ^ 32) × (1 ≤ length bytes) × (length bytes ≤ longest_file_write) × AllByRecursion (λ b. b < 256) bytes
 IsFormed (Empty place) = place < 2 ^ 16
 IsFormed (Remove place) = place < 2 ^ 16
 IsFormed (Rename place name) = (place < 2 ^ 16) × IsName name

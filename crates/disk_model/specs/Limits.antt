@@ -13,6 +13,6 @@ longest_name = 32
 abbrev pub longest_file : ℕ
 longest_file = 16384
 
--- the most bytes of one write
-abbrev pub longest_write : ℕ
-longest_write = 1024
+-- the most bytes that one change writes to a file
+abbrev pub longest_file_write : ℕ
+longest_file_write = 1024

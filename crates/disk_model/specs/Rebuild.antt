@@ -5,7 +5,7 @@ use Rattle.disk_model.specs.declared.change.Change.{Change}
 use Rattle.disk_model.specs.declared.change.Change.TheVariants.{Create, Write}
 use Rattle.disk_model.specs.declared.change.NamedFile.{NamedFile}
 use Rattle.disk_model.specs.Files.{Follow, files_after}
-use Rattle.disk_model.specs.Limits.{most_files, longest_file, longest_write}
+use Rattle.disk_model.specs.Limits.{most_files, longest_file, longest_file_write}
 use Rattle.disk_model.specs.Spelling.{gate_after}
 use Rattle.disk_model.specs.Held.{start_of, end_of}
 
@@ -17,7 +17,7 @@ writes_from (suc n) size place offset (b ∷ bytes) = Write place offset (take s
 
 -- the changes that make the file at this place: its creation, and writes of the most bytes, the last shorter
 unfoldable pub changes_making : ℕ → NamedFile → List Change
-changes_making place file = Create file.name ∷ writes_from (length file.bytes) longest_write place 0 file.bytes
+changes_making place file = Create file.name ∷ writes_from (length file.bytes) longest_file_write place 0 file.bytes
 
 -- the changes that make these files, the first of them at this place
 abbrev pub rebuild_from : ℕ → List NamedFile → List Change

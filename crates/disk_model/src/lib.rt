@@ -11,4 +11,4 @@ pub use laws::{
     held_once, made_files_change, made_files_hold_bytes, moves_leave_no_other_disks,
     runs_are_orderly, zeros_hold_nothing,
 };
-pub use limits::{LONGEST_FILE, LONGEST_NAME, LONGEST_WRITE, MOST_FILES};
+pub use limits::{LONGEST_FILE, LONGEST_FILE_WRITE, LONGEST_NAME, MOST_FILES};

@@ -8,7 +8,7 @@ use Rattle.disk_model.specs.declared.change.Change.TheVariants.{Create, Write, E
 use Rattle.disk_model.specs.declared.change.NamedFile.{NamedFile}
 use Rattle.disk_model.specs.Files.{changed}
 use Rattle.disk_model.specs.Held.{selected_half, start_of, end_of}
-use Rattle.disk_model.specs.Limits.{most_files, longest_name, longest_file, longest_write}
+use Rattle.disk_model.specs.Limits.{most_files, longest_name, longest_file, longest_file_write}
 use Rattle.journal.specs.declared.fault.DiskFault.{DiskFault}
 use Rattle.journal.specs.declared.fault.DiskFault.TheVariants.{PastHalf, BadRecord, BadChange, OutOfMemory}
 
@@ -67,7 +67,7 @@ write_at bytes = do
   offset ← number_at w32 file.1
   n ← number_at w16 offset.1
   text ← text_at n.0 n.1
-  if nat_le 1 n.0 && nat_le n.0 longest_write then Ok (Write file.0 offset.0 text.0, text.1) else Err BadRecord
+  if nat_le 1 n.0 && nat_le n.0 longest_file_write then Ok (Write file.0 offset.0 text.0, text.1) else Err BadRecord
 
 -- an emptying, from the bytes after its kind, and the bytes after it
 unfoldable pub empty_at : List ℕ → Result (Change × List ℕ) DiskFault

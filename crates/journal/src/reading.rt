@@ -5,7 +5,7 @@ ghost use Rattle.journal.specs.Reading.{Gives, number_at, text_at, name_at, crea
 
 use crate::fault::DiskFault;
 use byte_list::Bytes;
-use disk_model::{Change, LONGEST_NAME, LONGEST_WRITE};
+use disk_model::{Change, LONGEST_FILE_WRITE, LONGEST_NAME};
 use std::alloc::Global;
 
 /// A number of two bytes, and the bytes after it.
@@ -91,7 +91,7 @@ fn write_of(alloc: Global, bytes: &[u8]) -> Result<(Change, &[u8]), DiskFault>
     let (offset, rest) = u32_at(rest)?;
     let (n, rest) = u16_at(rest)?;
     let (bytes, rest) = text_of(alloc, n as usize, rest)?;
-    if n < 1 || n as u32 > LONGEST_WRITE {
+    if n < 1 || n as u32 > LONGEST_FILE_WRITE {
         return Err(DiskFault::BadRecord);
     }
     let change = Change::Write {

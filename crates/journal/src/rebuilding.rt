@@ -2,11 +2,11 @@
 ghost use Rattle.std.specs.Prelude.{◌≡◌, ◌≤◌, ◌++◌, List, length, IfOk, OnOk};
 ghost use Rattle.std.specs.List.{AllByRecursion};
 ghost use Rattle.disk_model.specs.declared.change.NamedFile.{NamedFile};
-ghost use Rattle.disk_model.specs.Limits.{most_files, longest_file, longest_write};
+ghost use Rattle.disk_model.specs.Limits.{most_files, longest_file, longest_file_write};
 ghost use Rattle.disk_model.specs.Rebuild.{rebuild as checkpoint_changes, writes_from};
 
 use byte_list::Bytes;
-use disk_model::{Change, LONGEST_WRITE};
+use disk_model::{Change, LONGEST_FILE_WRITE};
 use files::FileTable;
 use std::alloc::{AllocError, Global};
 
@@ -18,19 +18,19 @@ fn push_writes(
     bytes: &[u8],
 ) -> Result<(), AllocError>
     requires { length bytes.now ≤ longest_file }
-    ensures { OnOk result (changes.new.items ≡ changes.old.items ++ writes_from (length bytes.now) longest_write file 0 bytes.now) }
+    ensures { OnOk result (changes.new.items ≡ changes.old.items ++ writes_from (length bytes.now) longest_file_write file 0 bytes.now) }
 {
     let mut offset = 0u32;
     let mut rest = bytes;
     while !rest.is_empty() {
-        let (prefix, after) = rest.split_at(rest.len().min(LONGEST_WRITE as usize));
+        let (prefix, after) = rest.split_at(rest.len().min(LONGEST_FILE_WRITE as usize));
         let bytes = Bytes::copy_of(alloc, prefix)?;
         changes.push(Change::Write {
             file,
             offset,
             bytes,
         })?;
-        offset += LONGEST_WRITE;
+        offset += LONGEST_FILE_WRITE;
         rest = after;
     }
     Ok(())

@@ -3,7 +3,7 @@ use Rattle.std.specs.Prelude.{ℕ, ◌+◌, ◌==◌, ◌&&◌, ◌||◌, nat_le
 use Rattle.machine_model.specs.Memory.{Memory}
 use Rattle.machine_model.specs.Access.{bytes_at, range_fault, to_read, to_write}
 use Rattle.machine_model.specs.States.{State}
-use Rattle.disk_model.specs.Limits.{longest_name, longest_write}
+use Rattle.disk_model.specs.Limits.{longest_name, longest_file_write}
 use Rattle.kernel_model.specs.declared.request.Request.{Request}
 use Rattle.kernel_model.specs.declared.request.Request.TheVariants.{Exit, Write, Read, Open, Close, Pipe, Fork, Wait, GetPid, Seek, Sync, Unlink, Rename, Unknown}
 
@@ -19,7 +19,7 @@ may_be_placed memory most at n = nat_le n most && is_none (range_fault to_write 
 
 -- the most bytes that a call moves, so that what it writes is one write
 abbrev pub most_bytes : ℕ
-most_bytes = longest_write
+most_bytes = longest_file_write
 
 -- the most bytes of two names
 abbrev pub longest_names : ℕ
