@@ -53,8 +53,8 @@ impl<'a, N: Naming> Model for Bench<'a, N> {
 }
 
 impl<'a, N: Naming> Bench<'a, N> {
-    /// A bench of this core, with the board and the publishing pass that were made from it as it now stands, and four ledgers that no
-    /// run has yet; and the share, which has all 64 parts and stands at the totals of the core's history.
+    /// A bench of this core, with the board and the publishing pass that were made from it as it now stands, and four ledgers
+    /// that no run has yet; and the share, which has all 64 parts and stands at the totals of the core's history.
     pub fn new(
         core: Core,
         board: &'a Board<N>,
@@ -132,8 +132,8 @@ impl<'a, N: Naming> Bench<'a, N> {
         self.apply(rt, Event::Cut, share)
     }
 
-    /// The completion of the write in flight that begins at this offset of the disk, as `Core::apply` does it. The share grows by one
-    /// event. May wait for a load of the board.
+    /// The completion of the write in flight that begins at this offset of the disk, as `Core::apply` does it. The share grows
+    /// by one event. May wait for a load of the board.
     pub fn complete<R: Wait>(
         &mut self,
         rt: &R,

@@ -92,8 +92,8 @@ impl<N: Naming> Board<N> {
         Ok((Board { cell }, Writer { pass }, reader))
     }
 
-    /// The committed changes and all changes, as they were last published. It takes no lock, and may wait for a store. The pass is of
-    /// this board, and shows one load more, and the pair.
+    /// The committed changes and all changes, as they were last published. It takes no lock, and may wait for a store. The pass
+    /// is of this board, and shows one load more, and the pair.
     pub fn seen<R: Wait>(&self, rt: &R, pass: &mut Pass) -> (u64, u64)
         requires { pass.old.table_id ≡ self.now.cell.table.shared.table_id }
         ensures same { pass.new.table_id ≡ pass.old.table_id }

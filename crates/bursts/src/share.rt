@@ -31,7 +31,8 @@ impl Blanks {
     }
 }
 
-/// What its holder did, in four numbers. All shares of a bench have 64 parts; who has them all knows that they add up to the history.
+/// What its holder did, in four numbers. All shares of a bench have 64 parts; who has them all knows that they add up to the
+/// history.
 #[derive(Drop)]
 pub struct Share<N: Naming> {
     parts: u32,

@@ -67,7 +67,8 @@ durable-event c n (x ∷ xs) e =
     (durable-event c (n + change_count x) xs e ∙ ap (λ (k : ℕ). is_durable_from c (n + change_count x) xs (reader e.reads) && (not (is_some e.change) || nat_lt k c)) (add_assoc n (change_count x) (count_of xs)))
     ∙ sym (and_assoc (not (is_some x.change) || nat_lt n c || not (meets x.writes (wanted xs e.reads))) (is_durable_from c (n + change_count x) xs (reader e.reads)) (not (is_some e.change) || nat_lt (n + (change_count x + count_of xs)) c))
 
--- a reader after one more entry d rests on what a reader of what is wanted before d rests on, and on the change of d where it reads of it
+-- a reader after one more entry d rests on what a reader of what is wanted before d rests on, and on the change of d where it
+-- reads of it
 durable-before : (c n : ℕ) (past : List Entry) (d : Entry) (rs : List Carrier)
     → is_durable_from c n (past ++ d ∷ []) (reader rs)
     ≡ (is_durable_from c n past (reader (wanted (d ∷ []) rs)) && (not (is_some d.change) || nat_lt (n + count_of past) c || not (meets d.writes rs)))

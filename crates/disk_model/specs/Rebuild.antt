@@ -28,7 +28,8 @@ rebuild_from place (file ∷ files) = changes_making place file ++ rebuild_from 
 unfoldable pub rebuild : List NamedFile → List Change
 rebuild files = rebuild_from 0 files
 
--- a checkpoint of these files is possible: they are within their limits, its changes make them again, and its record fits into either half
+-- a checkpoint of these files is possible: they are within their limits, its changes make them again, and its record fits into
+-- either half
 pub record CanBeRebuilt (files : List NamedFile) : Type 0 where
   pub few : length files ≤ most_files
   pub short : AllByRecursion (λ (f : NamedFile). length f.bytes ≤ longest_file) files

@@ -71,7 +71,8 @@ abbrev pub selector : Bool → ℕ
 selector false = 0
 selector true = 1
 
--- a checkpoint in the other half: its first gate is closed, its record is written, its gate is opened, and then the half is selected; `count` changes come with it
+-- a checkpoint in the other half: its first gate is closed, its record is written, its gate is opened, and then the half is
+-- selected; `count` changes come with it
 abbrev pub checkpoint : Storage → ℕ → List Change → Storage
 checkpoint st count cs = record st {
   device = sent st.device (one_byte (start_of (not st.half)) 0);

@@ -195,8 +195,8 @@ impl FileList {
         self.find(name)
     }
 
-    /// The file at a place gets this name, and keeps its place; another file that had the name is gone, and those after it move down
-    /// by one place. Takes no memory.
+    /// The file at a place gets this name, and keeps its place; another file that had the name is gone, and those after it move
+    /// down by one place. Takes no memory.
     pub fn rename(&mut self, place: usize, name: Bytes)
         requires { place < length self.old }
         ensures { self.new ≡ changed self.old (Rename place name) }

@@ -201,8 +201,8 @@ impl FileTable {
         self.numbers.remove(place);
     }
 
-    /// The file at a place gets this name, and keeps its place and its number; another file that had the name is gone, and those after
-    /// it move down by one place. Takes no memory.
+    /// The file at a place gets this name, and keeps its place and its number; another file that had the name is gone, and
+    /// those after it move down by one place. Takes no memory.
     pub fn rename(&mut self, place: usize, name: Bytes)
         requires { place < length self.old.living }
         ensures { self.new ≡ changed_numbered self.old (Rename place name) }

@@ -13,7 +13,8 @@ number_of DiskFailed = 8
 number_of OutOfMemory = 9
 number_of Budget = 11
 
--- whether these changes, all uncommitted ones in order, may be cut: no write has failed, no group is in flight, and there is a change
+-- whether these changes, all uncommitted ones in order, may be cut: no write has failed, no group is in flight, and there is a
+-- change
 abbrev pub cut_test : Storage → List Change → Result (Unit {0}) CommitRefusal
 cut_test st cs =
     if is_empty st.device.failed then

@@ -9,7 +9,8 @@ use Rattle.kernel_model.specs.Paths.{changes_in_log}
 use Rattle.kernel_model.specs.World.{World, Boot, HoldsItsFiles, first_world, after}
 use Rattle.kernel_model.specs.declared.event.Event.{Event}
 
--- a boot whose runs survive crashes: its disk holds the files that it names, and the memory of each program and each tape hold bytes
+-- a boot whose runs survive crashes: its disk holds the files that it names, and the memory of each program and each tape hold
+-- bytes
 pub record IsSound (b : Boot) : Type 0 where
   pub held : HoldsItsFiles b
   pub programs : ProgramsHoldBytes b

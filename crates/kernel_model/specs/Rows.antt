@@ -1,5 +1,6 @@
 -- The table of calls: what each request comes to, its tests in their order. No run of at most 8 programs comes to an answer for a
--- tape or a pipe that is not there, or for a file that was never made: `kernel_model::tables_keep_their_limits`, and of pipes `kernel_model::ends_are_counted`.
+-- tape or a pipe that is not there, or for a file that was never made: `kernel_model::tables_keep_their_limits`, and of pipes
+-- `kernel_model::ends_are_counted`.
 use Rattle.std.specs.Prelude.{ℕ, zero, suc, ◌+◌, ◌-◌, ◌^◌, ◌%◌, ◌==◌, ◌&&◌, ◌++◌, ◌||◌, not, Bool, true, false, if◌then◌else◌, nat_lt, nat_le, List, [], ◌∷◌, length, slice_get, map, filter_map, take, drop, Option, Some, None, is_none, option_map, unwrap_or}
 use Rattle.std.specs.List.{list_all, position}
 use Rattle.std.specs.Str.{bytes_eq}
@@ -28,8 +29,8 @@ use Rattle.kernel_model.specs.declared.request.Verdict.{Verdict}
 use Rattle.kernel_model.specs.declared.request.Verdict.TheVariants.{Waits, Replies, Ends}
 
 -- What a call comes to: what the caller is told, the carriers that it reads and writes beside the caller's own, and the
--- edits that it makes: of a file, bytes for a terminal, bytes read from a tape, steps of pipes, descriptors of the caller, and of its
--- children one that is made or one that is collected, by its number.
+-- edits that it makes: of a file, bytes for a terminal, bytes read from a tape, steps of pipes, descriptors of the caller, and
+-- of its children one that is made or one that is collected, by its number.
 pub record Effect : Type 0 where
   pub verdict : Verdict
   pub reads : List Carrier
@@ -63,8 +64,8 @@ minus code = number (2 ^ 32 - code)
 abbrev pub failure : ℕ → Effect
 failure code = only (minus code)
 
--- The errors: no such file, bad descriptor, no child, bad address, bad argument, table full, too many descriptors, file too large, no
--- reader, no such call.
+-- The errors: no such file, bad descriptor, no child, bad address, bad argument, table full, too many descriptors, file too
+-- large, no reader, no such call.
 abbrev pub no_such_file : ℕ
 no_such_file = 2
 

@@ -77,12 +77,13 @@ pub fn ended_hold_nothing()
         → IsTrue (list_all is_none p.descriptors) }
 {}
 
-/// A law: whatever events come, the tables keep their limits, and what they name is there or, of files, was made. Each process has 16 descriptors, of
-/// which none stands for a file that was never made, and its children stand by rising number. The numbers of the files that live
-/// rise, so each file has its own, and each is below that of the next file. There are at most 1,024 pipes, and each holds at most
-/// 4,096 bytes. Where the boot has at most 1,024 programs, there are at most 1,024 processes; where it has
-/// at most 8, no descriptor stands for a tape that is not there; and where its disk holds its files, there are at most 32
-/// files, each of at most 16,384 bytes. (Of pipes `ends_are_counted` says that each end that is named is there.)
+/// A law: whatever events come, the tables keep their limits, and what they name is there or, of files, was made. Each process
+/// has 16 descriptors, of which none stands for a file that was never made, and its children stand by rising number. The
+/// numbers of the files that live rise, so each file has its own, and each is below that of the next file. There are at most
+/// 1,024 pipes, and each holds at most 4,096 bytes. Where the boot has at most 1,024 programs, there are at most 1,024
+/// processes; where it has at most 8, no descriptor stands for a tape that is not there; and where its disk holds its files,
+/// there are at most 32 files, each of at most 16,384 bytes. (Of pipes `ends_are_counted` says that each end that is named is
+/// there.)
 pub fn tables_keep_their_limits()
     ensures tables { (b : Boot) (es : List Event) → KeepLimits (after (first_world b) es).sync }
     ensures processes { (b : Boot) (es : List Event) → length b.programs ≤ most_processes

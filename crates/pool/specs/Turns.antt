@@ -43,8 +43,8 @@ abbrev pub TurnedOut : Seated → Seated → Pooled → Type 0
 TurnedOut old new pooled.Idle = IsIdle old new
 TurnedOut old new (pooled.Worked s) = Works old new s
 
--- Lend: the lending was refused, and nothing was fetched. Settle: a result was not taken back, and the share grew by what was settled
--- before it
+-- Lend: the lending was refused, and nothing was fetched. Settle: a result was not taken back, and the share grew by what was
+-- settled before it
 abbrev pub FaultedOut : Seated → Seated → WorkFault → Type 0
 FaultedOut old new (fault.Lend why) = IsIdle old new
 FaultedOut old new (fault.Settle rejected) = Grows old new

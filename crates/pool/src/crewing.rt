@@ -53,9 +53,9 @@ struct Watch {
 }
 
 /// One thread for each pair takes turns at its seat until the work is over: no process is lent and none lendable, or the work is to
-/// stop. Refused with the fault of a turn that failed, of several that of the first pair, after the work was made to stop; and NoThread,
-/// before any other, where a thread could not be started, after the same. After a refusal there may still be loans at the seats, and
-/// results in the queue.
+/// stop. Refused with the fault of a turn that failed, of several that of the first pair, after the work was made to stop; and
+/// NoThread, before any other, where a thread could not be started, after the same. After a refusal there may still be loans at
+/// the seats, and results in the queue.
 pub fn pool_crew<'p, 'b, N: Naming + Send + Sync, G: Gate + Send, R: Threads + Wait + Sync>(
     rt: &R,
     work: &mut [(Seat<'p, 'b, N>, G)],

@@ -22,8 +22,8 @@ fn steal_round<R: Wait>(rt: &R, others: &mut Vec<Other>) -> Option<Loan>
     None
 }
 
-/// Up to seven more loans, for the worker's own deque. Answers the one that found no room there, with which the lending ends. A refusal
-/// only ends it.
+/// Up to seven more loans, for the worker's own deque. Answers the one that found no room there, with which the lending ends. A
+/// refusal only ends it.
 fn lend_more<N: Naming>(bench: &mut Bench<'_, N>, own: &mut Own, quantum: u32) -> Option<Loan>
     ensures { own.new.taken ≡ own.old.taken }
 {
@@ -41,7 +41,8 @@ fn lend_more<N: Naming>(bench: &mut Bench<'_, N>, own: &mut Own, quantum: u32) -
     None
 }
 
-/// Up to eight loans: the first is the answer, and the others are for the worker's own deque, or to spare. None once the work is to stop.
+/// Up to eight loans: the first is the answer, and the others are for the worker's own deque, or to spare. None once the work
+/// is to stop.
 fn lend_some<N: Naming>(
     bench: &mut Bench<'_, N>,
     own: &mut Own,
@@ -60,8 +61,8 @@ fn lend_some<N: Naming>(
     Ok(first)
 }
 
-/// A loan: the one to spare, or the next of the worker's own deque, or a stolen one, or, under the lock, the first of up to eight that
-/// are lent. At most one deque's pass shows a take more, and that is the answer.
+/// A loan: the one to spare, or the next of the worker's own deque, or a stolen one, or, under the lock, the first of up to
+/// eight that are lent. At most one deque's pass shows a take more, and that is the answer.
 pub(crate) fn fetch<N: Naming, R: Wait>(
     rt: &R,
     lock: &Mutex<Bench<'_, N>>,

@@ -18,8 +18,8 @@ use kernel::Refused;
 use std::marker::Model;
 use std::sync::Wait;
 
-/// A worker's seat at a pool: its own deque of loans, those of the others from the next worker on and round again, room for one loan
-/// to spare, and one part of a share. Contracts see what its passes show.
+/// A worker's seat at a pool: its own deque of loans, those of the others from the next worker on and round again, room for one
+/// loan to spare, and one part of a share. Contracts see what its passes show.
 #[derive(Drop)]
 pub struct Seat<'p, 'b, N: Naming> {
     pub(crate) pool: &'p Pool<'b, N>,
@@ -45,10 +45,10 @@ impl<'p, 'b, N: Naming> Model for Seat<'p, 'b, N> {
 }
 
 impl<'p, 'b, N: Naming> Seat<'p, 'b, N> {
-    /// A loan: the one to spare; else the next of its own deque; else one stolen from the first of the others, from the next worker on
-    /// and round again, that has one; else, under the lock, the first of up to eight that are lent, of which the others go to its own
-    /// deque. One that finds no room there becomes the one to spare, and no more are lent. None where nothing is lendable, and once the
-    /// work is to stop. Refused where the first lending is.
+    /// A loan: the one to spare; else the next of its own deque; else one stolen from the first of the others, from the next
+    /// worker on and round again, that has one; else, under the lock, the first of up to eight that are lent, of which the
+    /// others go to its own deque. One that finds no room there becomes the one to spare, and no more are lent. None where
+    /// nothing is lendable, and once the work is to stop. Refused where the first lending is.
     pub fn fetch<R: Wait>(&mut self, rt: &R, quantum: u32) -> Result<Option<Loan>, Refused>
         ensures takes { TakesItsAnswer (self.old.own ∷ self.old.others) (self.new.own ∷ self.new.others) result }
         ensures spare { IfSome self.old.spare (λ x. Answers result x) }
@@ -74,8 +74,8 @@ impl<'p, 'b, N: Naming> Seat<'p, 'b, N> {
         put_result(rt, &pool.results, &mut self.pass, done)
     }
 
-    /// Settles the results that are in the queue, of whichever worker, under the lock: at most 1,024, in their order, up to the first
-    /// that is not taken back, which is dropped from the queue.
+    /// Settles the results that are in the queue, of whichever worker, under the lock: at most 1,024, in their order, up to the
+    /// first that is not taken back, which is dropped from the queue.
     pub fn settle_all<R: Wait>(&mut self, rt: &R) -> Settling
         ensures settled { Settled self.old.results self.old.share result self.new.results self.new.share }
         ensures others { self.new ≡ with_settled self.old self.new.results self.new.share }

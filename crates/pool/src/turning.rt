@@ -93,9 +93,9 @@ impl<'p, 'b, N: Naming> Seat<'p, 'b, N> {
         self.settle_more(rt, settling)
     }
 
-    /// Fetches a loan, holds the gate, runs the loan, hands its result in, and settles what is in the queue. Where the queue is full,
-    /// what is in it is settled before, and the answer adds all up. Refused where the lending is, and where a result, of whichever worker,
-    /// is not taken back; this loan's own, where it was not handed in yet, is then dropped.
+    /// Fetches a loan, holds the gate, runs the loan, hands its result in, and settles what is in the queue. Where the queue is
+    /// full, what is in it is settled before, and the answer adds all up. Refused where the lending is, and where a result, of
+    /// whichever worker, is not taken back; this loan's own, where it was not handed in yet, is then dropped.
     pub fn turn<G: Gate, R: Wait>(
         &mut self,
         rt: &R,

@@ -130,7 +130,8 @@ impl SimDisk {
         place_of(&self.in_flight, at).is_some()
     }
 
-    /// Whether a write of n bytes at a place has a length that it may have, lies on the disk, and meets nothing in flight or failed.
+    /// Whether a write of n bytes at a place has a length that it may have, lies on the disk, and meets nothing in flight or
+    /// failed.
     fn has_room(&self, at: u32, n: usize) -> bool
         ensures { result ≡ has_room self.now at n }
     {

@@ -1,5 +1,5 @@
-//! All turns of both programs at one desk, with a group that is committed after the first and one that fails at the end, and what the
-//! board shows.
+//! All turns of both programs at one desk, with a group that is committed after the first and one that fails at the end, and
+//! what the board shows.
 ghost use Rattle.std.specs.Prelude.{◌≡◌};
 ghost use Rattle.kernel_model.specs.Answers.{now, committed as committed_in, changes as changes_in};
 
@@ -171,8 +171,8 @@ fn play_named<N: Naming + Send + Sync, R: Wait + Sync>(
     Ok((found, own, gathered(lock.into_inner(), shares)))
 }
 
-/// The case, in a line. Wanted are 17 events: six loans, each of which is a Turn and an Enter; a Cut and two completions; a Cut and a
-/// failure.
+/// The case, in a line. Wanted are 17 events: six loans, each of which is a Turn and an Enter; a Cut and two completions; a Cut
+/// and a failure.
 pub fn report<R: Wait + Sync>(rt: &R, alloc: Global) -> Result<String, Fault> {
     let core = boot(alloc)?;
     let (found, own, all) = play_named::<Brand, R>(rt, alloc, core, Blanks::new())?;

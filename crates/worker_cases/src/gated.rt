@@ -19,8 +19,8 @@ struct Calls {
     late: AtomicBool,
 }
 
-/// A gate that holds the first loan of process 1 until process 2 was lent twice, for a bounded number of polls. The worker that lends
-/// first leaves process 2 in its deque, and is held; so process 2 runs only where the other worker steals it.
+/// A gate that holds the first loan of process 1 until process 2 was lent twice, for a bounded number of polls. The worker that
+/// lends first leaves process 2 in its deque, and is held; so process 2 runs only where the other worker steals it.
 #[derive(Clone, Copy)]
 struct Held<'a> {
     calls: &'a Calls,

@@ -1,4 +1,5 @@
-//! Two programs, run by workers at the seats of a pool in threads of their own, or by turns at one desk, and what their runs come to.
+//! Two programs, run by workers at the seats of a pool in threads of their own, or by turns at one desk, and what their runs
+//! come to.
 //!
 //! What it answers is the same whatever the schedule: how the workers take turns shows in no line.
 #![tactic(auto)]

@@ -11,8 +11,8 @@ use std::alloc::{AllocError, Global};
 use std::sync::{Mutex, Wait};
 use std::thread::Threads;
 
-/// One turn at a desk, and then turns at the one seat until it is idle; and at the end a crew of nobody. It finds how many turns at the
-/// seat settled one result each.
+/// One turn at a desk, and then turns at the one seat until it is idle; and at the end a crew of nobody. It finds how many
+/// turns at the seat settled one result each.
 pub fn play<N: Naming + Send + Sync, R: Threads + Wait + Sync>(
     rt: &R,
     alloc: Global,
