@@ -43,6 +43,18 @@ abbrev pub after : World → List Event → World
 after w [] = w
 after w (e ∷ es) = after (happens w e) es
 
+-- how many terminals there are, numbered from 0
+abbrev pub terminal_count : ℕ
+terminal_count = 8
+
+-- how many tapes there are, numbered from 0
+abbrev pub tape_count : ℕ
+tape_count = 8
+
+-- the most programs of a boot
+abbrev pub most_programs : ℕ
+most_programs = 8
+
 -- a program to be booted: its machine's first state, and its terminal
 pub record BootProgram : Type 0 where
   pub state : State
@@ -83,10 +95,6 @@ abbrev pub tapes_of : ℕ → List (List ℕ) → List TapeState
 tapes_of zero tapes = []
 tapes_of (suc n) [] = tape_of [] ∷ tapes_of n []
 tapes_of (suc n) (tape ∷ tapes) = tape_of tape ∷ tapes_of n tapes
-
--- how many tapes there are
-abbrev pub tape_count : ℕ
-tape_count = 8
 
 -- the run before any event
 abbrev pub first_world : Boot → World
