@@ -7,14 +7,6 @@ pub chosen : {A : Type 0} (t : Bool) (x y z : A) → cond t x y ≡ z → ((t �
 chosen true x y z e = inl (refl, e)
 chosen false x y z e = inr (refl, e)
 
-pub when_true : {A : Type 0} (t : Bool) (x y : A) → t ≡ true → cond t x y ≡ x
-when_true true x y e = refl
-when_true false x y e = cc
-
-pub when_false : {A : Type 0} (t : Bool) (x y : A) → t ≡ false → cond t x y ≡ y
-when_false true x y e = cc
-when_false false x y e = refl
-
 -- what was mapped
 pub mapped : {A B : Type 0} (f : A → B) (o : Option A) (y : B) → option_map f o ≡ Some y → (x : A) × (o ≡ Some x) × (f x ≡ y)
 mapped f None y e = absurd (let no : ⊥ = cc in no)

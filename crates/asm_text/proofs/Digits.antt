@@ -1,8 +1,8 @@
 -- The bytes of a number.
-use Rattle.std.proofs.Common.{◌≡◌, ℕ, ◌+◌, ◌*◌, ◌<◌, ◌≤◌, Bool, true, false, not, eqb, ltb, ◌&&◌, ◌||◌, List, [], ◌∷◌, Some, None, ℤ, refl, ap, ⊎_elim, arith}
+use Rattle.std.proofs.Common.{◌≡◌, ℕ, ◌+◌, ◌*◌, ◌<◌, ◌≤◌, Bool, true, false, not, eqb, ltb, ◌&&◌, ◌||◌, List, [], ◌∷◌, Some, None, ℤ, ap, ⊎_elim, arith}
 use Rattle.std.specs.Char.{is_ascii_digit, digit_value}
 use Rattle.std.specs.List.{AllPass}
-use Rattle.std.proofs.lemmas.Bool.{eqb-true, ltb-true}
+use Rattle.std.proofs.lemmas.Bool.{eqb-true, ltb-true, and_parts}
 use Rattle.std.proofs.lemmas.Bool.Decides.{nat_tests}
 use Rattle.std.proofs.lemmas.List.Elements.{All-nil, All-cons, All-tail}
 use Rattle.asm_text.specs.Letters.{is_name_byte, begins_word}
@@ -37,10 +37,6 @@ decimal_made c cs v e =
     (λ none. absurd (let no : ⊥ = cc (none.1) in no))
     (chosen (ltb (digit_value c) 10) (digits_value 10 (10 * 0 + digit_value c) cs) None (Some v) e)
 
-both : (s t : Bool) → (s && t) ≡ true → (s ≡ true) × (t ≡ true)
-both true t e = (refl, e)
-both false t e = absurd (let no : ⊥ = cc in no)
-
 hexadecimal_names : (bs : List ℕ) (v : ℕ) → some_digits 16 bs ≡ Some v → AllPass is_name_byte bs
 hexadecimal_names [] v e = All-nil (λ (b : ℕ). is_name_byte b ≡ true)
 hexadecimal_names (b ∷ bs) v e = digits_names 16 0 (b ∷ bs) v (omega arith) e
@@ -50,7 +46,7 @@ magnitude_made c [] v e = decimal_made c [] v e
 magnitude_made c (x ∷ ds) v e =
     ⊎_elim
     (λ hex.
-    let marks = both (eqb c 48) (eqb x 120) hex.0 in
+    let marks = and_parts (eqb c 48) (eqb x 120) hex.0 in
     let c_is = eqb-true c 48 marks.0 in
     let x_is = eqb-true x 120 marks.1 in
     record {

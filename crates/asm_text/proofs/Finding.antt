@@ -4,7 +4,7 @@ use Rattle.std.specs.Char.{is_ascii_digit}
 use Rattle.std.specs.List.{prefix_len, flat_map}
 use Rattle.std.specs.Option.{option_map}
 use Rattle.std.proofs.Math.Seq.{take-append_seam}
-use Rattle.std.proofs.lemmas.Bool.{eqb-true, leb-true, le-leb}
+use Rattle.std.proofs.lemmas.Bool.{eqb-true, leb-true, le-leb, and_parts, cond-true, cond-false}
 use Rattle.std.proofs.lemmas.Bool.Decides.{nat_tests}
 use Rattle.std.proofs.lemmas.List.{length-take-le}
 use Rattle.std.proofs.lemmas.List.Sums.{prefix_len-le-length}
@@ -16,7 +16,7 @@ use Rattle.asm_text.specs.Tokens.{IsToken}
 use Rattle.asm_text.specs.Scan.{run_len, word_of, number_of, string_of, contents_from, mark_of, token_at}
 use Rattle.asm_text.specs.declared.token.TokenKind.{TokenKind}
 use Rattle.asm_text.specs.declared.token.TokenKind.TheVariants.{Word, Number, Text, Comma, Colon, Open, Close, Plus, Minus}
-use Rattle.asm_text.proofs.Choices.{chosen, when_true, when_false, mapped}
+use Rattle.asm_text.proofs.Choices.{chosen, mapped}
 use Rattle.asm_text.proofs.Names.{prefix_passes, run_ends, run_is}
 use Rattle.asm_text.proofs.Quotes.{contents_found, contents_only}
 use Rattle.asm_text.proofs.Digits.{number_names}
@@ -79,18 +79,14 @@ mark_found w b bs kind len e =
         let same : l ≡ k = cc in
         subst (λ (y : ℕ). IsToken w k (y ∷ []) bs) (sym (eqb-true b x b_is)) (subst (λ (j : TokenKind). IsToken w j (x ∷ []) bs) same t)
 
-    both : (s t : Bool) → (s && t) ≡ true → (s ≡ true) × (t ≡ true)
-    both true t e = (refl, e)
-    both false t e = absurd (let no : ⊥ = cc in no)
-
     by_kind : (k : TokenKind) → mark_of w b ≡ Some k → IsToken w k (b ∷ []) bs
     by_kind k m =
         ⊎_elim (λ y. one k Comma 44 y.0 y.1 (refl, tt)) (λ n1.
         ⊎_elim (λ y. one k Colon 58 y.0 y.1 (refl, tt)) (λ n2.
         ⊎_elim (λ y. one k Open 40 y.0 y.1 (refl, tt)) (λ n3.
         ⊎_elim (λ y. one k Close 41 y.0 y.1 (refl, tt)) (λ n4.
-        ⊎_elim (λ y. one k Plus 43 (both w (eqb b 43) y.0).1 y.1 ((refl, (both w (eqb b 43) y.0).0), tt)) (λ n5.
-        ⊎_elim (λ y. one k Minus 45 (both w (eqb b 45) y.0).1 y.1 ((refl, (both w (eqb b 45) y.0).0), tt)) (λ n6.
+        ⊎_elim (λ y. one k Plus 43 (and_parts w (eqb b 43) y.0).1 y.1 ((refl, (and_parts w (eqb b 43) y.0).0), tt)) (λ n5.
+        ⊎_elim (λ y. one k Minus 45 (and_parts w (eqb b 45) y.0).1 y.1 ((refl, (and_parts w (eqb b 45) y.0).0), tt)) (λ n6.
         absurd (let no : ⊥ = cc (n6.1) in no))
         (chosen (w && eqb b 45) (Some Minus) None (Some k) n5.1))
         (chosen (w && eqb b 43) (Some Plus) _ (Some k) n4.1))
@@ -116,13 +112,13 @@ pub only : (after_word : Bool) (kind : TokenKind) (text rest : List ℕ) → IsT
 only w Word [] rest t = absurd t.0
 only w Word (c ∷ cs) rest t =
     let run = run_is is_name_byte cs rest t.0.1 t.1 in
-    when_true (begins_word c) _ _ t.0.0 ∙ ap (λ (n : ℕ). word_of (suc n)) run ∙ when_true (leb (suc (length cs)) 64) (Some (Word, suc (length cs))) None (le-leb (suc (length cs)) 64 t.0.2)
+    cond-true (begins_word c) _ _ t.0.0 ∙ ap (λ (n : ℕ). word_of (suc n)) run ∙ cond-true (leb (suc (length cs)) 64) (Some (Word, suc (length cs))) None (le-leb (suc (length cs)) 64 t.0.2)
 only w (Number n) [] rest t = absurd (let value = t.0.0 in let no : ⊥ = cc in no)
 only w (Number n) (c ∷ cs) rest t =
     let names = number_names w c cs n t.0.0 t.0.1 in
     let run = run_is is_name_byte cs rest names.0 t.1 in
     let text : take (suc (prefix_len is_name_byte (cs ++ rest))) (c ∷ (cs ++ rest)) ≡ c ∷ cs = ap (λ (m : ℕ). c ∷ take m (cs ++ rest)) run ∙ ap (λ (l : List ℕ). c ∷ l) (take-append_seam cs rest) in
-    when_false (begins_word c) _ _ names.1.0 ∙ when_true (is_ascii_digit c || (eqb c 45 && not w)) _ _ names.1.1 ∙ ap number_of text ∙ ap (option_map (λ (v : ℤ). (Number v, suc (length cs)))) t.0.0
+    cond-false (begins_word c) _ _ names.1.0 ∙ cond-true (is_ascii_digit c || (eqb c 45 && not w)) _ _ names.1.1 ∙ ap number_of text ∙ ap (option_map (λ (v : ℤ). (Number v, suc (length cs)))) t.0.0
 only w (Text contents) text rest t =
     let s = t.0 in
     let inner : List ℕ = flat_map spelling contents in

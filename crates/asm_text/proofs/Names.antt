@@ -1,11 +1,11 @@
 -- Runs of bytes that pass a test.
 use Rattle.std.proofs.Common.{◌≡◌, ℕ, suc, ◌+◌, ◌<◌, Bool, true, false, cond, List, [], ◌∷◌, ◌++◌, length, take, drop, refl, ap, subst, ◌∙◌, arith}
+use Rattle.std.proofs.lemmas.Bool.{cond-true, cond-false}
 use Rattle.std.specs.List.{prefix_len, AllPass}
 use Rattle.std.proofs.lemmas.List.{length-take-le, get_or-take}
 use Rattle.std.proofs.lemmas.List.Elements.{All-head, All-tail}
 use Rattle.std.proofs.lemmas.List.Sums.{prefix_len-le-length, prefix_len_passes}
 use Rattle.asm_text.specs.Letters.{IsRunEnd}
-use Rattle.asm_text.proofs.Choices.{when_true, when_false}
 
 -- the elements of the run pass
 pub prefix_passes : (p : ℕ → Bool) (bs : List ℕ) → AllPass p (take (prefix_len p bs) bs)
@@ -29,8 +29,8 @@ run_ends p (b ∷ bs) = ends_by p b bs (p b) refl (run_ends p bs)
 -- elements that pass, where none comes next that does, are the run
 pub run_is : (p : ℕ → Bool) (xs rest : List ℕ) → AllPass p xs → IsRunEnd p rest → prefix_len p (xs ++ rest) ≡ length xs
 run_is p [] [] all end = refl
-run_is p [] (b ∷ bs) all end = when_false (p b) (1 + prefix_len p bs) 0 end
+run_is p [] (b ∷ bs) all end = cond-false (p b) (1 + prefix_len p bs) 0 end
 run_is p (x ∷ xs) rest all end =
     let further = run_is p xs rest (All-tail (λ (b : ℕ). p b ≡ true) x xs all) end in
-    when_true (p x) (1 + prefix_len p (xs ++ rest)) 0 (All-head (λ (b : ℕ). p b ≡ true) x xs all)
+    cond-true (p x) (1 + prefix_len p (xs ++ rest)) 0 (All-head (λ (b : ℕ). p b ≡ true) x xs all)
     ∙ (let count : 1 + prefix_len p (xs ++ rest) ≡ suc (length xs) = omega arith in count)

@@ -15,10 +15,7 @@ use Rattle.assembler.specs.declared.listing.Row.{Row}
 use Rattle.assembler.specs.declared.layout.Position.{Position}
 use Rattle.assembler.specs.declared.layout.Layout.{Layout}
 use Rattle.assembler.proofs.Stepping.{and_then-ok}
-use Rattle.assembler.proofs.Sizes.{IsMeasured, measured-all}
-
-pub same_contents : (c d : Contents) → ◌≡◌ {A = Result Contents AsmFault} (Ok c) (Ok d) → c ≡ d
-same_contents c d is = cc
+use Rattle.assembler.proofs.Sizes.{IsMeasured, measured-all, same_contents}
 
 fitting : (w len : ℕ) → w ≡ counted len → w ≤ 245760 → len ≡ w
 fitting w len e small = omega arith

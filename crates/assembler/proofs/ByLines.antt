@@ -30,8 +30,8 @@ use Rattle.assembler.proofs.Profiles.{text_length}
 use Rattle.assembler.proofs.Registers.{statement-known}
 use Rattle.assembler.proofs.StatementBytes.{text_bytes, IsPut, IsHolding, statement-holding}
 use Rattle.assembler.proofs.LabelPlaces.{all-stay, label-found}
-use Rattle.assembler.proofs.Sizes.{IsMeasured, IsPlaced, placed-is, IsFilled, filled-is, same_split, same_statement, same_position, same_filling, measured-filled}
-use Rattle.assembler.proofs.Assemblies.{assembly_from, assembly_after, made_of, contents_shown, same_assembled, same_contents, sized}
+use Rattle.assembler.proofs.Sizes.{IsMeasured, IsPlaced, placed-is, IsFilled, filled-is, same_split, same_statement, same_position, same_filling, measured-filled, same_contents}
+use Rattle.assembler.proofs.Assemblies.{assembly_from, assembly_after, made_of, contents_shown, same_assembled, sized}
 use Rattle.assembler.proofs.Listings.{all_placed-append, same_positions, entry-fits}
 
 -- ---- a line

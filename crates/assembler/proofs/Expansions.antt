@@ -72,7 +72,7 @@ unfolding amount_of
 amount-below (pos n) u is = grind (arith, nat_tests)
 amount-below (negsuc n) u is = cc
 
-modulo-below : (z : ℤ) → modulo_word z < 2 ^ 32
+pub modulo-below : (z : ℤ) → modulo_word z < 2 ^ 32
 unfolding modulo_word
 modulo-below (pos n) = omega arith
 modulo-below (negsuc n) = omega arith

@@ -35,8 +35,8 @@ use Rattle.assembler.specs.declared.listing.Row.{Row}
 use Rattle.assembler.proofs.Stepping.{and_then-ok, and_then-each, at_line-ok, ok_or-ok}
 use Rattle.assembler.proofs.Registers.{HasRegisters, statement-known}
 use Rattle.assembler.proofs.Expansions.{AreMeant, expansion-meant}
-use Rattle.assembler.proofs.Sizes.{IsMeasured, IsFilled, filled-is, same_split, same_statement, same_position, same_filling, same_layout, measured-all}
-use Rattle.assembler.proofs.Assemblies.{assembly_from, assembly_after, made_of, contents_shown, same_assembled, same_contents, sized}
+use Rattle.assembler.proofs.Sizes.{IsMeasured, IsFilled, filled-is, same_split, same_statement, same_position, same_filling, same_layout, measured-all, same_contents}
+use Rattle.assembler.proofs.Assemblies.{assembly_from, assembly_after, made_of, contents_shown, same_assembled, sized}
 
 -- ---- what a line adds to text, it adds after what is there, with its own number
 

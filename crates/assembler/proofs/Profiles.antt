@@ -1,13 +1,11 @@
 -- What the passes make may be loaded.
-use Rattle.std.proofs.Common.{◌≡◌, ℕ, suc, zero, ◌+◌, ◌*◌, ◌/◌, ◌%◌, ◌^◌, ◌<◌, ◌≤◌, subst, List, [], ◌∷◌, ◌++◌, length, drop, refl, sym, ap, ◌∙◌, arith, length-drop}
-use Rattle.std.specs.Prelude.{All}
-use Rattle.std.specs.Int.{to_le_bytes, w32}
+use Rattle.std.proofs.Common.{◌≡◌, ℕ, ◌+◌, ◌*◌, ◌%◌, ◌<◌, ◌≤◌, subst, List, [], ◌∷◌, ◌++◌, length, drop, refl, sym, ap, ◌∙◌, arith, length-drop}
 use Rattle.std.proofs.lemmas.List.{length-append}
-use Rattle.std.proofs.lemmas.List.Elements.{All-cons}
+use Rattle.std.proofs.lemmas.List.Elements.{All-cons, All-nil}
 use Rattle.machine_model.specs.Access.{low_bytes}
 use Rattle.machine_model.specs.declared.image.Segment.{Segment}
 use Rattle.machine_model.specs.Images.{IsLoadable, IsProfile, bytes_of_words}
-use Rattle.machine_model.proofs.Words.{low_bytes-le, length-low_bytes}
+use Rattle.machine_model.proofs.Words.{length-low_bytes}
 use Rattle.assembler.specs.Assembly.{pages, data_base, words_of, text_segment, data_segment, data_segments}
 use Rattle.assembler.specs.declared.filling.Cell.{Cell}
 
@@ -21,9 +19,6 @@ pub text-ends : (prefix : List ℕ) (cells : List Cell) (i : ℕ) → length cel
 text-ends prefix cells i ended is =
     omega (arith, ap length is, length-append prefix (bytes_of_words (words_of (drop i cells))), text_length (drop i cells), text_length cells, length-drop i cells)
 
-All-none : {X : Type 0} (P : X → Type 0) → All P []
-All-none P k d lt = absurd (omega (arith, lt))
-
 loadable-text : (bytes : List ℕ) → 0 < length bytes → length bytes ≤ 245760 → IsLoadable (text_segment bytes)
 loadable-text bytes some few = record { present = some; within = omega arith; some_right = refl; not_both = refl; above = omega arith; below = omega arith }
 
@@ -36,7 +31,7 @@ profile-segments : (entry count : ℕ) (text bytes : List ℕ) → length text �
 profile-segments entry count text [] len fits aligned low high = record {
   some = omega arith;
   few = omega arith;
-  loadable = All-cons IsLoadable (text_segment text) [] (loadable-text text (omega arith) (omega arith)) (All-none IsLoadable);
+  loadable = All-cons IsLoadable (text_segment text) [] (loadable-text text (omega arith) (omega arith)) (All-nil IsLoadable);
   ascending = (omega arith, tt);
   small = omega arith;
   aligned = aligned;
@@ -45,7 +40,7 @@ profile-segments entry count text [] len fits aligned low high = record {
 profile-segments entry count text (b ∷ bytes) len fits aligned low high = record {
   some = omega arith;
   few = omega arith;
-  loadable = All-cons IsLoadable (text_segment text) (data_segment (data_base count) (b ∷ bytes) ∷ []) (loadable-text text (omega arith) (omega arith)) (All-cons IsLoadable (data_segment (data_base count) (b ∷ bytes)) [] (loadable-data (data_base count) (b ∷ bytes) (omega arith) (omega arith) (omega arith) (omega arith)) (All-none IsLoadable));
+  loadable = All-cons IsLoadable (text_segment text) (data_segment (data_base count) (b ∷ bytes) ∷ []) (loadable-text text (omega arith) (omega arith)) (All-cons IsLoadable (data_segment (data_base count) (b ∷ bytes)) [] (loadable-data (data_base count) (b ∷ bytes) (omega arith) (omega arith) (omega arith) (omega arith)) (All-nil IsLoadable));
   ascending = (omega arith, (omega arith, tt));
   small = omega arith;
   aligned = aligned;

@@ -1,5 +1,5 @@
 -- Both passes go through the same positions, and what the second one adds is as long as the first one counted.
-use Rattle.std.proofs.Common.{ℕ, ℤ, pos, suc, zero, ◌≡◌, ◌+◌, ◌/◌, ◌^◌, Bool, true, false, List, [], ◌∷◌, ◌++◌, length, replicate, Result, Ok, Option, Some, None, refl, sym, ap, ◌∙◌, subst, arith, length-append, cond}
+use Rattle.std.proofs.Common.{ℕ, ℤ, pos, ◌≡◌, ◌+◌, ◌/◌, Bool, true, false, List, [], ◌∷◌, ◌++◌, length, replicate, Result, Ok, Option, Some, None, refl, sym, ap, ◌∙◌, subst, arith, length-append, cond}
 use Rattle.std.specs.Option.{option_map, ok_or}
 use Rattle.std.proofs.lemmas.List.{length-replicate}
 use Rattle.machine_model.specs.Access.{low_bytes}
@@ -123,7 +123,7 @@ instruction-counted : (source : List ℕ) (line : Line) (m : Mnemonic) (o : Oper
 instruction-counted source line m o (Some v) e is = expansion-counted m o v e (ok_or-ok (expansion_of m o v) o.at e (at_line-ok source line Range (ok_or (expansion_of m o v) o.at) e is))
 instruction-counted source line m o None e is = cc
 
-same_contents : (c d : Contents) → ◌≡◌ {A = Result Contents AsmFault} (Ok c) (Ok d) → c ≡ d
+pub same_contents : (c d : Contents) → ◌≡◌ {A = Result Contents AsmFault} (Ok c) (Ok d) → c ≡ d
 same_contents c d is = cc
 
 measured-put : (p : Position) (size : ℕ) (c d : Contents) → IsMeasured p c → IsLonger p.in_data size c d → IsMeasured (advanced p (counted size)) d

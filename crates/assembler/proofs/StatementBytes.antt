@@ -28,7 +28,7 @@ use Rattle.assembler.specs.declared.statement.Statement.TheVariants as statement
 use Rattle.assembler.specs.declared.filling.Cell.{Cell}
 use Rattle.assembler.proofs.Stepping.{and_then-ok, at_line-ok, ok_or-ok}
 use Rattle.assembler.proofs.Registers.{IsKnown}
-use Rattle.assembler.proofs.Assemblies.{same_contents}
+use Rattle.assembler.proofs.Sizes.{same_contents}
 
 -- the bytes of the words of text
 abbrev pub text_bytes : Contents → List ℕ

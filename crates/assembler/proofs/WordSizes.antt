@@ -1,5 +1,5 @@
 -- Each word of text is a number below 2^32.
-use Rattle.std.proofs.Common.{ℕ, ℤ, pos, negsuc, ◌≡◌, ◌+◌, ◌*◌, ◌/◌, ◌%◌, ◌^◌, ◌<◌, Bool, true, false, List, [], ◌∷◌, ◌++◌, replicate, Result, Ok, Option, Some, None, refl, sym, ap, ◌∙◌, subst, arith, lit<}
+use Rattle.std.proofs.Common.{ℕ, ℤ, pos, ◌≡◌, ◌+◌, ◌*◌, ◌/◌, ◌%◌, ◌^◌, ◌<◌, Bool, true, false, List, [], ◌∷◌, ◌++◌, replicate, Result, Ok, Option, Some, None, refl, sym, ap, ◌∙◌, subst, arith, lit<}
 use Rattle.std.specs.Prelude.{All}
 use Rattle.std.specs.Option.{ok_or}
 use Rattle.std.proofs.lemmas.List.Elements.{All-nil, All-cons, All-head, All-tail, All-append, All-push, All-replicate}
@@ -29,9 +29,9 @@ use Rattle.assembler.specs.declared.listing.Row.{Row}
 use Rattle.assembler.proofs.Encodings.{complement-signed}
 use Rattle.assembler.proofs.Stepping.{and_then-ok, at_line-ok, ok_or-ok}
 use Rattle.assembler.proofs.Registers.{HasRegisters, IsKnown, statement-known}
-use Rattle.assembler.proofs.Expansions.{AreMeant, expansion-meant}
-use Rattle.assembler.proofs.Sizes.{IsFilled, filled-is, same_filling}
-use Rattle.assembler.proofs.Assemblies.{assembly_from, assembly_after, made_of, contents_shown, same_assembled, same_contents}
+use Rattle.assembler.proofs.Expansions.{AreMeant, expansion-meant, modulo-below}
+use Rattle.assembler.proofs.Sizes.{IsFilled, filled-is, same_filling, same_contents}
+use Rattle.assembler.proofs.Assemblies.{assembly_from, assembly_after, made_of, contents_shown, same_assembled}
 
 -- ---- the word of an instruction that it means
 
@@ -187,11 +187,6 @@ word-below instr.Ecall m = lit< tt
 word-below instr.Ebreak m = lit< tt
 
 -- ---- the words that statements make
-
-modulo-below : (z : ℤ) → modulo_word z < 2 ^ 32
-unfolding modulo_word
-modulo-below (pos n) = omega arith
-modulo-below (negsuc n) = omega arith
 
 abbrev IsWord : Cell → Type 0
 IsWord cell = cell.word < 2 ^ 32

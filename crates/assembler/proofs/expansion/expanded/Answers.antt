@@ -1,4 +1,4 @@
-use Rattle.std.proofs.Common.{◌≡◌, ℤ, SFits, w64, to_z, of_z, to_z-of_z, sym, ap, ◌∙◌}
+use Rattle.std.proofs.Common.{◌≡◌, ℤ, SFits, w64, to_z, of_z, to_z-of_z, ap, ◌∙◌}
 use Rattle.std.specs.Prelude.{Option}
 use Rattle.assembler.specs.Expansion.{expansion_of}
 use Rattle.assembler.specs.declared.mnemonic.Mnemonic.{Mnemonic}
