@@ -4,6 +4,7 @@ use Rattle.std.proofs.lemmas.Bool.{false≢true}
 use Rattle.std.specs.Prelude.{if◌then◌else◌}
 use Rattle.std.proofs.lemmas.List.{length-append, append_assoc, append-nil}
 use Rattle.std.proofs.lemmas.List.Sums.{sum_by-append}
+use Rattle.kernel_model.proofs.Runs.{history-with_events}
 use Rattle.machine_model.specs.States.{stands_at}
 use Rattle.kernel_model.specs.Answers.{Kernel, answer, with_event, with_events}
 use Rattle.kernel_model.specs.Loans.{LoanResult, returned, events_of, settled, settled_answer, outcome_after}
@@ -16,10 +17,6 @@ use Rattle.kernel.specs.Keeping.{KeepsLimits}
 use Rattle.kernel.specs.Sums.{process_of_turn, process_of_enter, sum_of_turns, sum_of_enters}
 use Rattle.bursts.specs.declared.totals.Totals.{Totals}
 use Rattle.bursts.specs.Totals.{plus, history_totals, settled_totals, is_of_disk, one_event, Fit}
-
-history-after : (k : Kernel) (es : List Event) → (with_events k es).history ≡ k.history ++ es
-history-after k [] = sym (append-nil k.history)
-history-after k (e ∷ es) = history-after (with_event k e) es ∙ append_assoc k.history (e ∷ []) es
 
 -- these events add so much, where they ran so many instructions
 adds : (k new : Kernel) (es : List Event) (by : Totals) → new.history ≡ k.history ++ es → length es ≡ by.events → sum_of_turns es ≡ by.turns
@@ -54,7 +51,7 @@ pub result_adds : (k new : Kernel) (r : LoanResult) (a : Answer) (books by : Tot
     → ran_by_turns new ≡ ran_by_turns k + r.reached.count → by ≡ settled_totals r.process a → plus books by ≡ history_totals new
 result_adds k new r a books by here is answered ran sum =
     (λ i. plus (here i) ((sum ∙ ap (settled_totals r.process) answered) i))
-    ∙ events_add k new r (is_some (stands_at r.reached.state)) refl (ap (λ (x : Kernel). x.history) is ∙ history-after (returned k r.process) (events_of r)) ran
+    ∙ events_add k new r (is_some (stands_at r.reached.state)) refl (ap (λ (x : Kernel). x.history) is ∙ history-with_events (returned k r.process) (events_of r)) ran
 
 -- an event that ran nothing and in which no process took part
 silent_adds : (k new : Kernel) (e : Event) (a : Answer) → process_of_turn e ≡ 0 → process_of_enter e ≡ 0 → ran_in (answer k e) ≡ 0 → a ≡ answer k e → new ≡ with_event k e

@@ -2,6 +2,7 @@
 use Rattle.std.proofs.Common.{◌≡◌, ℕ, suc, zero, ◌+◌, ◌*◌, ◌<◌, ◌≤◌, List, [], ◌∷◌, ◌++◌, length, drop, Some, None, refl, sym, ap, subst, ◌∙◌, arith, inl, inr}
 use Rattle.std.specs.Prelude.{◌⊎◌, Option, slice_get}
 use Rattle.std.proofs.lemmas.Option.{same_Some, none-some}
+use Rattle.machine_model.proofs.Lists.{slice_get-push}
 use Rattle.slab.specs.Slab.{Slab}
 use Rattle.machine_model.specs.First.{first_state}
 use Rattle.machine_model.specs.Images.{Program}
@@ -98,17 +99,6 @@ came-back p rs now kept b most (Some why) at from came within =
     let before : b.machine.count < now.machine.count = omega arith in
     let here : IsAt p rs b = is_at-leads p rs kept b came.done from came.leads in
     absurd (none-some why (sym (onward-before p rs now b.machine.count at before) ∙ halt-there p rs b here ∙ came.stands why refl))
-
--- a list with one more at its end
-slice_get-push : {X : Type 0} (xs : List X) (x y : X) (k : ℕ) → slice_get (xs ++ x ∷ []) k ≡ Some y → (slice_get xs k ≡ Some y) ⊎ ((k ≡ length xs) × (x ≡ y))
-slice_get-push [] x y zero e = inr (refl, same_Some x y e)
-slice_get-push [] x y (suc k) e = absurd (none-some y e)
-slice_get-push (z ∷ xs) x y zero e = inl e
-slice_get-push (z ∷ xs) x y (suc k) e =
-    elim (slice_get-push xs x y k e) [
-      | inl there ↦ inl there
-      | inr last ↦ inr (ap suc last.0, last.1)
-    ]
 
 -- one place is kept
 pub kept-first : (p : Program) (rs : List Reply) (a : Place) → a.machine.count ≡ 0 → IsAt p rs a → AreKept p rs (a ∷ [])

@@ -62,3 +62,8 @@ least_of n size rest e = elim (cases_lt size (length rest)) as (λ _. (take n re
 pub some_of : (b : Bool) (n : ℕ) → b ≡ (n == 0) → b ≡ false → 0 < n
 some_of b zero e f = absurd (false≢true (sym f ∙ e))
 some_of b (suc n) e f = omega arith
+
+-- what is added at the end stands there
+pub slice_get-last : {A : Type 0} (xs : List A) (x : A) → slice_get (xs ++ x ∷ []) (length xs) ≡ Some x
+slice_get-last [] x = refl
+slice_get-last (y ∷ ys) x = slice_get-last ys x

@@ -1,6 +1,5 @@
 -- The changes of a checkpoint make the files.
-use Rattle.std.proofs.Common.{◌≡◌, ℕ, zero, suc, ◌+◌, ◌-◌, ◌*◌, ◌<◌, ◌≤◌, inl, inr, List, [], ◌∷◌, ◌++◌, length, take, drop, replicate, Option, Some, refl, sym, ap, subst, Bool, true, false, ◌∙◌, arith, length-append, append_assoc, take-append-drop}
-use Rattle.std.specs.Prelude.{slice_get}
+use Rattle.std.proofs.Common.{◌≡◌, ℕ, zero, suc, ◌+◌, ◌-◌, ◌*◌, ◌<◌, ◌≤◌, inl, inr, List, [], ◌∷◌, ◌++◌, length, take, drop, replicate, Option, refl, sym, ap, subst, Bool, true, false, ◌∙◌, arith, length-append, append_assoc, take-append-drop}
 use Rattle.std.specs.List.{AllByRecursion}
 use Rattle.std.proofs.lemmas.Bool.{cases_lt}
 use Rattle.std.proofs.lemmas.List.{length-take, length-drop, take_all, drop_all, set_at, append-nil}
@@ -14,7 +13,7 @@ use Rattle.disk_model.specs.Rebuild.{rebuild, rebuild_from, changes_making, writ
 use Rattle.disk_model.proofs.Reading.{files_after-append, follow_both}
 use Rattle.disk_model.proofs.Naming.{Distinct, names}
 use Rattle.disk_model.proofs.Tidy.{IsTidy, IsTidyFile, tidy_after, IsByte}
-use Rattle.disk_model.proofs.Lists.{each_take, each_drop}
+use Rattle.disk_model.proofs.Lists.{each_take, each_drop, slice_get-last}
 
 body_append : (xs ys : List Change) → length (body_of (xs ++ ys)) ≡ length (body_of xs) + length (body_of ys)
 unfolding body_of
@@ -25,10 +24,6 @@ body_append (x ∷ xs) ys = omega (arith, length-append (spelling x) (body_of (x
 
 abbrev named : List ℕ → List ℕ → NamedFile
 named name bytes = record { name = name; bytes = bytes }
-
-get_last : (fs : List NamedFile) (f : NamedFile) → slice_get (fs ++ f ∷ []) (length fs) ≡ Some f
-get_last [] f = refl
-get_last (g ∷ fs) f = get_last fs f
 
 patched_end : (old bytes : List ℕ) → patched old (length old) bytes ≡ old ++ bytes
 patched_end old bytes =
@@ -42,7 +37,7 @@ changed_last : (fs : List NamedFile) (name old bytes : List ℕ) (n offset : ℕ
     → changed (fs ++ named name old ∷ []) (Write n offset bytes) ≡ fs ++ named name (old ++ bytes) ∷ []
 changed_last fs name old bytes n offset here at =
     ap (λ (k : ℕ). changed (fs ++ named name old ∷ []) (Write k offset bytes)) here
-    ∙ ap (λ (o : Option NamedFile). with_bytes (fs ++ named name old ∷ []) (length fs) o (λ was. patched was offset bytes)) (get_last fs (named name old))
+    ∙ ap (λ (o : Option NamedFile). with_bytes (fs ++ named name old ∷ []) (length fs) o (λ was. patched was offset bytes)) (slice_get-last fs (named name old))
     ∙ set_at fs (named name old) [] (named name (patched old offset bytes)) (length fs) refl
     ∙ ap (λ (l : List ℕ). fs ++ named name l ∷ []) (ap (λ (k : ℕ). patched old k bytes) at ∙ patched_end old bytes)
 

@@ -6,7 +6,7 @@ use Rattle.std.proofs.lemmas.Bool.{eqb-true, eqb-false, ne_eqb}
 use Rattle.std.proofs.lemmas.Option.{slice_get_within, slice_get_past, slice_get-get_or}
 use Rattle.std.proofs.lemmas.List.{length-append, length-set, length-drop, get_or-drop}
 use Rattle.std.proofs.lemmas.List.Quantifiers.{position-Some}
-use Rattle.disk_model.proofs.Lists.{get_same, get_other}
+use Rattle.disk_model.proofs.Lists.{get_same, get_other, slice_get-last}
 use Rattle.kernel_model.specs.Ends.{is_same_end, stands_for, count_among, count_of, count_held}
 use Rattle.kernel_model.specs.Rows.{ends_of, descriptor_at, free_descriptor, free_after}
 use Rattle.kernel_model.specs.State.{Process, PipeState, process_at, put_process, new_pipe, with_pipe, with_end, without_end, stepped, all_stepped}
@@ -224,10 +224,6 @@ drop_number (Write j) pipes (Read k) = with_kept (λ p. p.writers) (λ p. record
 drop_number (Write j) pipes (Write k) = with_less (λ p. p.writers) (λ p. record p { writers = p.writers - 1 }) (λ p. refl) pipes k j
 
 -- a new pipe: one of each of its ends
-get_end : {A : Type 0} (xs : List A) (x : A) → slice_get (xs ++ x ∷ []) (length xs) ≡ Some x
-get_end [] x = refl
-get_end (y ∷ ys) x = get_end ys x
-
 get_not_end : {A : Type 0} (xs : List A) (x : A) (j : ℕ) → (j ≡ length xs → ⊥) → slice_get (xs ++ x ∷ []) j ≡ slice_get xs j
 get_not_end [] x zero n = absurd (n refl)
 get_not_end [] x (suc j) n = refl
@@ -242,7 +238,7 @@ with_new c one pipes j =
       | true ↦ λ t.
           let at = eqb-true j (length pipes) t in
           let empty : slice_get pipes j ≡ None = slice_get_past pipes j (omega (arith, at)) in
-          let made : slice_get (pipes ++ new_pipe ∷ []) j ≡ Some new_pipe = ap (slice_get (pipes ++ new_pipe ∷ [])) at ∙ get_end pipes new_pipe in
+          let made : slice_get (pipes ++ new_pipe ∷ []) j ≡ Some new_pipe = ap (slice_get (pipes ++ new_pipe ∷ [])) at ∙ slice_get-last pipes new_pipe in
           omega (arith, ap (of_pipe c) made, ap (of_pipe c) empty, one)
       | false ↦ λ t. omega (arith, ap (of_pipe c) (get_not_end pipes new_pipe j (eqb-false j (length pipes) t)))
     ] refl

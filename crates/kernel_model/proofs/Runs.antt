@@ -4,7 +4,7 @@ use Rattle.std.proofs.Common.{◌≡◌, ℕ, ◌+◌, Option, Some, None, optio
 use Rattle.disk_model.specs.declared.change.Change.{Change}
 use Rattle.kernel_model.specs.Entries.{Entry, Item}
 use Rattle.kernel_model.specs.Paths.{changes_in_log, with_change}
-use Rattle.kernel_model.specs.Answers.{Kernel, now, process_of, with_event, ran_by, entered, outcome_of, answer}
+use Rattle.kernel_model.specs.Answers.{Kernel, now, process_of, with_event, with_events, ran_by, entered, outcome_of, answer}
 use Rattle.kernel_model.specs.Ran.{instructions_of, instructions_in, instructions_from, ran_by_turns, ran_in}
 use Rattle.kernel_model.specs.State.{Process}
 use Rattle.kernel_model.specs.Steps.{step}
@@ -90,3 +90,8 @@ ran-answer k (Fail at) = refl
 pub ran-with_event : (k : Kernel) (e : Event) → ran_by_turns (with_event k e) ≡ ran_by_turns k + ran_in (answer k e)
 ran-with_event k e =
     instructions-append (first_world k.boot) k.history e ∙ ap (λ n. ran_by_turns k + n) (sym (ran-answer k e))
+
+-- the history with more events
+pub history-with_events : (k : Kernel) (es : List Event) → (with_events k es).history ≡ k.history ++ es
+history-with_events k [] = sym (append-nil k.history)
+history-with_events k (e ∷ es) = history-with_events (with_event k e) es ∙ append_assoc k.history (e ∷ []) es

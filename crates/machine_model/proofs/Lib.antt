@@ -1,3 +1,4 @@
+pub mod Lists
 pub mod Memories
 pub mod Running
 pub mod Halting

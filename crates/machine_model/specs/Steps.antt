@@ -1,5 +1,5 @@
 -- Steps and stops of a state as relations, and runs as steps one after the other.
-use Rattle.std.specs.Prelude.{◌≡◌, ℕ, zero, suc, ◌+◌, ◌<◌, ◌↔◌, ◌≢◌, Some, Ok, Err, Result}
+use Rattle.std.specs.Prelude.{◌≡◌, ℕ, zero, suc, ◌+◌, ◌<◌, ◌↔◌, ◌≢◌, Some, Ok, Err}
 use Rattle.formats.specs.declared.instr.Instr.{Instr}
 use Rattle.formats.specs.Meaning.{Means}
 use Rattle.machine_model.specs.Access.{fetched}
@@ -8,7 +8,7 @@ use Rattle.machine_model.specs.States.{State, next, run, stands_at, Goes, Halts}
 use Rattle.machine_model.specs.declared.access.BusFault.{BusFault}
 use Rattle.machine_model.specs.declared.stop.Cause.TheVariants as cause
 use Rattle.machine_model.specs.declared.stop.Stop.{Stop}
-use Rattle.machine_model.specs.declared.stop.Stop.TheVariants.{Limit, Call, Trap}
+use Rattle.machine_model.specs.declared.stop.Stop.TheVariants.{Limit, Trap}
 
 -- One step: the word at the program counter means an instruction, whose effect is the next hart, and it counts.
 pub record Step (s t : State) : Type 0 where
