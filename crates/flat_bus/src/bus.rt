@@ -3,8 +3,7 @@ ghost use Rattle.std.specs.Prelude.{◌≡◌, ◌+◌, ◌%◌, ◌==◌, ◌�
 ghost use Rattle.machine_model.specs.Access.{size, low_bytes};
 ghost use Rattle.flat_bus.specs.Bytes.{memory_of_bytes, value_of, put_in};
 
-use isa_table::Bus;
-use machine_model::{BusFault, Width};
+use machine_model::{Bus, BusFault, Width};
 
 /// Sixty-four bytes from address 0 on, each of which may be read, written and executed.
 #[derive(Drop)]

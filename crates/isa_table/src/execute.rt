@@ -12,10 +12,9 @@ use crate::arithmetic::{
     high_product, high_product_mixed, high_product_signed, is_less_signed, moved, quotient,
     quotient_signed, remainder, remainder_signed, shifted_right_signed, sign_extended, word_of,
 };
-use crate::bus::Bus;
 use crate::regs::Regs;
 use formats::{BranchOffset, Immediate, Instr, Reg};
-use machine_model::{BusFault, Cause, Width};
+use machine_model::{Bus, BusFault, Cause, Width};
 
 /// What an instruction came to.
 #[derive(Clone, Copy, Debug, PartialEq, Eq)]

@@ -2,7 +2,6 @@
 #![tactic(auto)]
 
 mod arithmetic;
-mod bus;
 mod execute;
 mod regs;
 
@@ -10,7 +9,6 @@ pub use arithmetic::{
     high_product, high_product_mixed, high_product_signed, is_less_signed, moved, quotient,
     quotient_signed, remainder, remainder_signed, shifted_right_signed, sign_extended, word_of,
 };
-pub use bus::Bus;
 pub use execute::{Outcome, exec, exec_ref};
 pub use machine_model::{BusFault, Cause, Width};
 pub use regs::Regs;

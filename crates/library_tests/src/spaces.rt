@@ -4,8 +4,7 @@ ghost use Rattle.machine_model.specs.Memory.{memory_of};
 ghost use Rattle.machine_model.specs.Access.{mapped};
 
 use crate::asserting::assert_row;
-use isa_table::Bus;
-use machine_model::{BusFault, Rights, Width};
+use machine_model::{Bus, BusFault, Rights, Width};
 use memory::{CopyFault, KeptSpace, Space};
 use std::alloc::{AllocError, Global};
 use std::process::Abort;

@@ -3,6 +3,7 @@
 #![tactic(auto)]
 
 mod access;
+mod bus;
 mod image;
 mod laws;
 mod little_endian;
@@ -10,6 +11,7 @@ mod reply;
 mod stop;
 
 pub use access::{BusFault, Rights, Width};
+pub use bus::Bus;
 pub use image::{Image, Segment};
 pub use laws::{runs, steps};
 pub use little_endian::put_words;

@@ -2,8 +2,7 @@
 use crate::part::is_aligned;
 use crate::place::{part_of, place_of_shared};
 use crate::space::Space;
-use isa_table::Bus;
-use machine_model::{BusFault, Width};
+use machine_model::{Bus, BusFault, Width};
 
 impl Bus for Space {
     ghost memory = { λ s. s };

@@ -10,8 +10,7 @@ use crate::fault::CopyFault;
 use crate::place::part_of;
 use crate::space::Space;
 use byte_list::Bytes;
-use isa_table::Bus;
-use machine_model::{BusFault, Rights, Width};
+use machine_model::{Bus, BusFault, Rights, Width};
 use std::alloc::{AllocError, Global};
 
 /// What is done with bytes.

@@ -3,7 +3,7 @@ ghost use Rattle.std.specs.Prelude.{◌≡◌, OnOk, OnErr};
 ghost use Rattle.machine_model.specs.Memory.{Memory};
 ghost use Rattle.machine_model.specs.Access.{loaded, access_fault, stored, or_fault, to_write};
 
-use machine_model::{BusFault, Width};
+use crate::access::{BusFault, Width};
 
 /// What instructions load from and store to. The laws: a load gives the bytes that stand there, little-endian and
 /// not extended; a store changes those bytes alone; a refused store changes nothing; an access is refused Misaligned
