@@ -7,11 +7,10 @@ ghost use Rattle.machine_model.specs.Effects.{effect, put, fault_cause, links, b
 ghost use Rattle.machine_model.specs.Memory.{Memory};
 ghost use Rattle.machine_model.specs.States.{hart};
 ghost use Rattle.isa_table.specs.Executes.{Executes};
+ghost use Rattle.isa_table.specs.Operations.{holds_of, value_of};
 
-use crate::arithmetic::{
-    high_product, high_product_mixed, high_product_signed, is_less_signed, moved, quotient,
-    quotient_signed, remainder, remainder_signed, shifted_right_signed, sign_extended, word_of,
-};
+use crate::arithmetic::{moved, shifted_right_signed, sign_extended, word_of};
+use crate::operation::{Condition, Operation, computed, holds};
 use crate::regs::Regs;
 use formats::{BranchOffset, Immediate, Instr, Reg};
 use machine_model::{Bus, BusFault, Cause, Width};
@@ -52,14 +51,25 @@ fn write(regs: &mut Regs, rd: Reg, value: u32) -> Outcome
     Outcome::Next
 }
 
-/// A register gets the quotient of two others, both signed, and the next instruction follows.
-#[inline]
-fn divide(regs: &mut Regs, rd: Reg, rs1: Reg, rs2: Reg) -> Outcome
+/// A register gets what an operation makes of two others, and the next instruction follows.
+#[inline(always)]
+fn by_registers(regs: &mut Regs, operation: Operation, rd: Reg, rs1: Reg, rs2: Reg) -> Outcome
     ensures answer { result ≡ Outcome.Next }
-    ensures x { regs.new.x ≡ put regs.old.x rd (model.quotient_signed (slice_index regs.old.x rs1) (slice_index regs.old.x rs2)) }
+    ensures x { regs.new.x ≡ put regs.old.x rd (value_of operation (slice_index regs.old.x rs1) (slice_index regs.old.x rs2)) }
     ensures pc { regs.new.pc ≡ (regs.old.pc + 4) % 2 ^ 32 }
 {
-    let value = quotient_signed(regs.get(rs1), regs.get(rs2));
+    let value = computed(operation, regs.get(rs1), regs.get(rs2));
+    write(regs, rd, value)
+}
+
+/// A register gets what an operation makes of another and an immediate, and the next instruction follows.
+#[inline(always)]
+fn by_immediate(regs: &mut Regs, operation: Operation, rd: Reg, rs1: Reg, imm: Immediate) -> Outcome
+    ensures answer { result ≡ Outcome.Next }
+    ensures x { regs.new.x ≡ put regs.old.x rd (value_of operation (slice_index regs.old.x rs1) (model.as_word imm)) }
+    ensures pc { regs.new.pc ≡ (regs.old.pc + 4) % 2 ^ 32 }
+{
+    let value = computed(operation, regs.get(rs1), word_of(imm));
     write(regs, rd, value)
 }
 
@@ -102,15 +112,22 @@ fn link_to_register(regs: &mut Regs, rd: Reg, base: Reg, offset: Immediate) -> O
     link(regs, rd, target - target % 2)
 }
 
-/// To the program counter plus an offset if the test holds, else to the next instruction.
-#[inline]
-fn branch(regs: &mut Regs, is_taken: bool, offset: BranchOffset) -> Outcome
+/// To the program counter plus an offset if a condition holds of two registers, else to the next instruction.
+#[inline(always)]
+fn branch(
+    regs: &mut Regs,
+    condition: Condition,
+    rs1: Reg,
+    rs2: Reg,
+    offset: BranchOffset,
+) -> Outcome
     ensures { (m : Memory) → Executes
-        (branches (hart regs.old.x regs.old.pc m) is_taken offset)
+        (branches (hart regs.old.x regs.old.pc m) (holds_of condition (slice_index regs.old.x rs1) (slice_index regs.old.x rs2)) offset)
         result
         (hart regs.old.x regs.old.pc m)
         (hart regs.new.x regs.new.pc m) }
 {
+    let is_taken = holds(condition, regs.get(rs1), regs.get(rs2));
     if !is_taken {
         return advance(regs);
     }
@@ -133,46 +150,67 @@ fn cause_of(fault: BusFault) -> Cause
     }
 }
 
-/// A register gets what stands at an address.
+/// A register gets what stands at a register's value and an offset.
 #[inline]
-fn load<B: Bus>(regs: &mut Regs, bus: &B, rd: Reg, at: u32, width: Width) -> Outcome
+fn load<B: Bus>(
+    regs: &mut Regs,
+    bus: &B,
+    rd: Reg,
+    base: Reg,
+    offset: Immediate,
+    width: Width,
+) -> Outcome
     ensures { Executes
-        (loads (hart regs.old.x regs.old.pc (B.memory bus.now)) rd at width as_it_is)
+        (loads (hart regs.old.x regs.old.pc (B.memory bus.now)) rd (effects.moved (slice_index regs.old.x base) offset) width as_it_is)
         result
         (hart regs.old.x regs.old.pc (B.memory bus.now))
         (hart regs.new.x regs.new.pc (B.memory bus.now)) }
 {
-    match bus.load(at, width) {
+    match bus.load(address(regs, base, offset), width) {
         Ok(value) => write(regs, rd, value),
         Err(fault) => Outcome::Trap(cause_of(fault)),
     }
 }
 
-/// A register gets what stands at an address, whose highest bit is a sign.
+/// The same of what has its sign in the highest bit.
 #[inline]
-fn load_signed<B: Bus>(regs: &mut Regs, bus: &B, rd: Reg, at: u32, width: Width) -> Outcome
+fn load_signed<B: Bus>(
+    regs: &mut Regs,
+    bus: &B,
+    rd: Reg,
+    base: Reg,
+    offset: Immediate,
+    width: Width,
+) -> Outcome
     ensures { Executes
-        (loads (hart regs.old.x regs.old.pc (B.memory bus.now)) rd at width (model.sign_extended (8 * size width)))
+        (loads (hart regs.old.x regs.old.pc (B.memory bus.now)) rd (effects.moved (slice_index regs.old.x base) offset) width (model.sign_extended (8 * size width)))
         result
         (hart regs.old.x regs.old.pc (B.memory bus.now))
         (hart regs.new.x regs.new.pc (B.memory bus.now)) }
 {
-    match bus.load(at, width) {
+    match bus.load(address(regs, base, offset), width) {
         Ok(value) => write(regs, rd, sign_extended(value, width)),
         Err(fault) => Outcome::Trap(cause_of(fault)),
     }
 }
 
-/// The low bytes of a register go to an address.
+/// The low bytes of a register go to another's value and an offset.
 #[inline]
-fn store<B: Bus>(regs: &mut Regs, bus: &mut B, rs2: Reg, at: u32, width: Width) -> Outcome
+fn store<B: Bus>(
+    regs: &mut Regs,
+    bus: &mut B,
+    rs2: Reg,
+    base: Reg,
+    offset: Immediate,
+    width: Width,
+) -> Outcome
     ensures { Executes
-        (stores (hart regs.old.x regs.old.pc (B.memory bus.old)) at width (slice_index regs.old.x rs2))
+        (stores (hart regs.old.x regs.old.pc (B.memory bus.old)) (effects.moved (slice_index regs.old.x base) offset) width (slice_index regs.old.x rs2))
         result
         (hart regs.old.x regs.old.pc (B.memory bus.old))
         (hart regs.new.x regs.new.pc (B.memory bus.new)) }
 {
-    match bus.store(at, width, regs.get(rs2)) {
+    match bus.store(address(regs, base, offset), width, regs.get(rs2)) {
         Ok(()) => advance(regs),
         Err(fault) => Outcome::Trap(cause_of(fault)),
     }
@@ -206,50 +244,26 @@ pub fn exec_ref<B: Bus>(regs: &mut Regs, bus: &mut B, i: &Instr) -> Outcome
         Instr::Auipc { rd, imm } => write(regs, rd, regs.pc.wrapping_add(imm.value() << 12)),
         Instr::Jal { rd, offset } => link(regs, rd, moved(regs.pc, offset.value())),
         Instr::Jalr { rd, rs1, imm } => link_to_register(regs, rd, rs1, imm),
-        Instr::Beq { rs1, rs2, offset } => branch(regs, regs.get(rs1) == regs.get(rs2), offset),
-        Instr::Bne { rs1, rs2, offset } => branch(regs, regs.get(rs1) != regs.get(rs2), offset),
-        Instr::Blt { rs1, rs2, offset } => branch(
-            regs,
-            is_less_signed(regs.get(rs1), regs.get(rs2)),
-            offset,
-        ),
-        Instr::Bge { rs1, rs2, offset } => branch(
-            regs,
-            !is_less_signed(regs.get(rs1), regs.get(rs2)),
-            offset,
-        ),
-        Instr::Bltu { rs1, rs2, offset } => branch(regs, regs.get(rs1) < regs.get(rs2), offset),
-        Instr::Bgeu { rs1, rs2, offset } => branch(regs, regs.get(rs1) >= regs.get(rs2), offset),
-        Instr::Lb { rd, rs1, imm } => load_signed(
-            regs,
-            bus,
-            rd,
-            address(regs, rs1, imm),
-            Width::Byte,
-        ),
-        Instr::Lh { rd, rs1, imm } => load_signed(
-            regs,
-            bus,
-            rd,
-            address(regs, rs1, imm),
-            Width::Half,
-        ),
-        Instr::Lw { rd, rs1, imm } => load(regs, bus, rd, address(regs, rs1, imm), Width::Word),
-        Instr::Lbu { rd, rs1, imm } => load(regs, bus, rd, address(regs, rs1, imm), Width::Byte),
-        Instr::Lhu { rd, rs1, imm } => load(regs, bus, rd, address(regs, rs1, imm), Width::Half),
-        Instr::Sb { rs1, rs2, imm } => store(regs, bus, rs2, address(regs, rs1, imm), Width::Byte),
-        Instr::Sh { rs1, rs2, imm } => store(regs, bus, rs2, address(regs, rs1, imm), Width::Half),
-        Instr::Sw { rs1, rs2, imm } => store(regs, bus, rs2, address(regs, rs1, imm), Width::Word),
-        Instr::Addi { rd, rs1, imm } => write(regs, rd, regs.get(rs1).wrapping_add(word_of(imm))),
-        Instr::Slti { rd, rs1, imm } => write(
-            regs,
-            rd,
-            u32::from(is_less_signed(regs.get(rs1), word_of(imm))),
-        ),
-        Instr::Sltiu { rd, rs1, imm } => write(regs, rd, u32::from(regs.get(rs1) < word_of(imm))),
-        Instr::Xori { rd, rs1, imm } => write(regs, rd, regs.get(rs1) ^ word_of(imm)),
-        Instr::Ori { rd, rs1, imm } => write(regs, rd, regs.get(rs1) | word_of(imm)),
-        Instr::Andi { rd, rs1, imm } => write(regs, rd, regs.get(rs1) & word_of(imm)),
+        Instr::Beq { rs1, rs2, offset } => branch(regs, Condition::Equal, rs1, rs2, offset),
+        Instr::Bne { rs1, rs2, offset } => branch(regs, Condition::NotEqual, rs1, rs2, offset),
+        Instr::Blt { rs1, rs2, offset } => branch(regs, Condition::Less, rs1, rs2, offset),
+        Instr::Bge { rs1, rs2, offset } => branch(regs, Condition::NotLess, rs1, rs2, offset),
+        Instr::Bltu { rs1, rs2, offset } => branch(regs, Condition::Below, rs1, rs2, offset),
+        Instr::Bgeu { rs1, rs2, offset } => branch(regs, Condition::NotBelow, rs1, rs2, offset),
+        Instr::Lb { rd, rs1, imm } => load_signed(regs, bus, rd, rs1, imm, Width::Byte),
+        Instr::Lh { rd, rs1, imm } => load_signed(regs, bus, rd, rs1, imm, Width::Half),
+        Instr::Lw { rd, rs1, imm } => load(regs, bus, rd, rs1, imm, Width::Word),
+        Instr::Lbu { rd, rs1, imm } => load(regs, bus, rd, rs1, imm, Width::Byte),
+        Instr::Lhu { rd, rs1, imm } => load(regs, bus, rd, rs1, imm, Width::Half),
+        Instr::Sb { rs1, rs2, imm } => store(regs, bus, rs2, rs1, imm, Width::Byte),
+        Instr::Sh { rs1, rs2, imm } => store(regs, bus, rs2, rs1, imm, Width::Half),
+        Instr::Sw { rs1, rs2, imm } => store(regs, bus, rs2, rs1, imm, Width::Word),
+        Instr::Addi { rd, rs1, imm } => by_immediate(regs, Operation::Add, rd, rs1, imm),
+        Instr::Slti { rd, rs1, imm } => by_immediate(regs, Operation::Slt, rd, rs1, imm),
+        Instr::Sltiu { rd, rs1, imm } => by_immediate(regs, Operation::Sltu, rd, rs1, imm),
+        Instr::Xori { rd, rs1, imm } => by_immediate(regs, Operation::Xor, rd, rs1, imm),
+        Instr::Ori { rd, rs1, imm } => by_immediate(regs, Operation::Or, rd, rs1, imm),
+        Instr::Andi { rd, rs1, imm } => by_immediate(regs, Operation::And, rd, rs1, imm),
         Instr::Slli { rd, rs1, amount } => write(regs, rd, regs.get(rs1) << amount.value()),
         Instr::Srli { rd, rs1, amount } => write(regs, rd, regs.get(rs1) >> amount.value()),
         Instr::Srai { rd, rs1, amount } => write(
@@ -257,48 +271,24 @@ pub fn exec_ref<B: Bus>(regs: &mut Regs, bus: &mut B, i: &Instr) -> Outcome
             rd,
             shifted_right_signed(regs.get(rs1), u32::from(amount.value())),
         ),
-        Instr::Add { rd, rs1, rs2 } => write(regs, rd, regs.get(rs1).wrapping_add(regs.get(rs2))),
-        Instr::Sub { rd, rs1, rs2 } => write(regs, rd, regs.get(rs1).wrapping_sub(regs.get(rs2))),
-        Instr::Sll { rd, rs1, rs2 } => write(regs, rd, regs.get(rs1) << (regs.get(rs2) % 32)),
-        Instr::Slt { rd, rs1, rs2 } => write(
-            regs,
-            rd,
-            u32::from(is_less_signed(regs.get(rs1), regs.get(rs2))),
-        ),
-        Instr::Sltu { rd, rs1, rs2 } => write(regs, rd, u32::from(regs.get(rs1) < regs.get(rs2))),
-        Instr::Xor { rd, rs1, rs2 } => write(regs, rd, regs.get(rs1) ^ regs.get(rs2)),
-        Instr::Srl { rd, rs1, rs2 } => write(regs, rd, regs.get(rs1) >> (regs.get(rs2) % 32)),
-        Instr::Sra { rd, rs1, rs2 } => write(
-            regs,
-            rd,
-            shifted_right_signed(regs.get(rs1), regs.get(rs2) % 32),
-        ),
-        Instr::Or { rd, rs1, rs2 } => write(regs, rd, regs.get(rs1) | regs.get(rs2)),
-        Instr::And { rd, rs1, rs2 } => write(regs, rd, regs.get(rs1) & regs.get(rs2)),
-        Instr::Mul { rd, rs1, rs2 } => write(regs, rd, regs.get(rs1).wrapping_mul(regs.get(rs2))),
-        Instr::Mulh { rd, rs1, rs2 } => write(
-            regs,
-            rd,
-            high_product_signed(regs.get(rs1), regs.get(rs2)),
-        ),
-        Instr::Mulhsu { rd, rs1, rs2 } => write(
-            regs,
-            rd,
-            high_product_mixed(regs.get(rs1), regs.get(rs2)),
-        ),
-        Instr::Mulhu { rd, rs1, rs2 } => write(
-            regs,
-            rd,
-            high_product(regs.get(rs1), regs.get(rs2)),
-        ),
-        Instr::Div { rd, rs1, rs2 } => divide(regs, rd, rs1, rs2),
-        Instr::Divu { rd, rs1, rs2 } => write(regs, rd, quotient(regs.get(rs1), regs.get(rs2))),
-        Instr::Rem { rd, rs1, rs2 } => write(
-            regs,
-            rd,
-            remainder_signed(regs.get(rs1), regs.get(rs2)),
-        ),
-        Instr::Remu { rd, rs1, rs2 } => write(regs, rd, remainder(regs.get(rs1), regs.get(rs2))),
+        Instr::Add { rd, rs1, rs2 } => by_registers(regs, Operation::Add, rd, rs1, rs2),
+        Instr::Sub { rd, rs1, rs2 } => by_registers(regs, Operation::Sub, rd, rs1, rs2),
+        Instr::Sll { rd, rs1, rs2 } => by_registers(regs, Operation::Sll, rd, rs1, rs2),
+        Instr::Slt { rd, rs1, rs2 } => by_registers(regs, Operation::Slt, rd, rs1, rs2),
+        Instr::Sltu { rd, rs1, rs2 } => by_registers(regs, Operation::Sltu, rd, rs1, rs2),
+        Instr::Xor { rd, rs1, rs2 } => by_registers(regs, Operation::Xor, rd, rs1, rs2),
+        Instr::Srl { rd, rs1, rs2 } => by_registers(regs, Operation::Srl, rd, rs1, rs2),
+        Instr::Sra { rd, rs1, rs2 } => by_registers(regs, Operation::Sra, rd, rs1, rs2),
+        Instr::Or { rd, rs1, rs2 } => by_registers(regs, Operation::Or, rd, rs1, rs2),
+        Instr::And { rd, rs1, rs2 } => by_registers(regs, Operation::And, rd, rs1, rs2),
+        Instr::Mul { rd, rs1, rs2 } => by_registers(regs, Operation::Mul, rd, rs1, rs2),
+        Instr::Mulh { rd, rs1, rs2 } => by_registers(regs, Operation::Mulh, rd, rs1, rs2),
+        Instr::Mulhsu { rd, rs1, rs2 } => by_registers(regs, Operation::Mulhsu, rd, rs1, rs2),
+        Instr::Mulhu { rd, rs1, rs2 } => by_registers(regs, Operation::Mulhu, rd, rs1, rs2),
+        Instr::Div { rd, rs1, rs2 } => by_registers(regs, Operation::Div, rd, rs1, rs2),
+        Instr::Divu { rd, rs1, rs2 } => by_registers(regs, Operation::Divu, rd, rs1, rs2),
+        Instr::Rem { rd, rs1, rs2 } => by_registers(regs, Operation::Rem, rd, rs1, rs2),
+        Instr::Remu { rd, rs1, rs2 } => by_registers(regs, Operation::Remu, rd, rs1, rs2),
         Instr::Fence => advance(regs),
         Instr::Ecall => Outcome::Call,
         Instr::Ebreak => Outcome::Trap(Cause::Breakpoint),

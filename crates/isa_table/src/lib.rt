@@ -3,6 +3,7 @@
 
 mod arithmetic;
 mod execute;
+mod operation;
 mod regs;
 
 pub use arithmetic::{
