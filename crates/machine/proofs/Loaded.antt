@@ -1,8 +1,8 @@
 -- Each segment of a program stands in its first memory.
-use Rattle.std.proofs.Common.{◌≡◌, ℕ, suc, zero, ◌+◌, ◌-◌, ◌/◌, ◌^◌, ◌<◌, ◌≤◌, Bool, true, false, cond, leb, ltb, List, [], ◌∷◌, length, get_or, refl, ap, ◌∙◌, arith}
+use Rattle.std.proofs.Common.{◌≡◌, ℕ, suc, zero, ◌+◌, ◌-◌, ◌/◌, ◌^◌, ◌<◌, ◌≤◌, Bool, true, false, cond, leb, List, [], ◌∷◌, length, get_or, refl, ap, ◌∙◌, arith}
 use Rattle.std.specs.Prelude.{◌&&◌, Some, None, All, slice_index}
 use Rattle.std.specs.FinMap.{get}
-use Rattle.std.proofs.lemmas.Bool.Decides.{nat_tests}
+use Rattle.std.proofs.lemmas.Bool.{le-leb, lt-leb, lt-ltb}
 use Rattle.std.proofs.lemmas.List.Elements.{All-head, All-tail, All-get_or}
 use Rattle.machine_model.specs.Access.{cell_with}
 use Rattle.machine_model.proofs.Memories.{get-memory_of}
@@ -10,15 +10,6 @@ use Rattle.machine_model.specs.declared.image.Segment.{Segment}
 use Rattle.machine_model.specs.Images.{Program, IsLoadable, IsProfile, AreAscending, first_page, last_page}
 use Rattle.machine_model.specs.First.{has_page, byte_at, first_cell, first_state}
 use Rattle.machine.proofs.Pages.{first_page-le}
-
-leb-yes : (m n : ℕ) → m ≤ n → leb m n ≡ true
-leb-yes m n le = grind (arith, nat_tests)
-
-leb-no : (m n : ℕ) → n < m → leb m n ≡ false
-leb-no m n less = grind (arith, nat_tests)
-
-ltb-yes : (m n : ℕ) → m < n → ltb m n ≡ true
-ltb-yes m n less = grind (arith, nat_tests)
 
 and-no : (b : Bool) → (b && false) ≡ false
 and-no true = refl
@@ -30,13 +21,13 @@ in-pages s k small =
     let page : ℕ = (s.vaddr + k) / 4096 in
     let low : first_page s ≤ page = omega arith in
     let high : page ≤ last_page s = omega arith in
-    ap (λ (b : Bool). b && leb page (last_page s)) (leb-yes (first_page s) page low) ∙ leb-yes page (last_page s) high
+    ap (λ (b : Bool). b && leb page (last_page s)) (le-leb (first_page s) page low) ∙ le-leb page (last_page s) high
 
 byte-here : (s : Segment) (k : ℕ) → byte_at s (s.vaddr + k) ≡ slice_index s.bytes k
 byte-here s k =
     let within : s.vaddr ≤ s.vaddr + k = omega arith in
     let back : s.vaddr + k - s.vaddr ≡ k = omega arith in
-    ap (λ (b : Bool). cond b (slice_index s.bytes (s.vaddr + k - s.vaddr)) 0) (leb-yes s.vaddr (s.vaddr + k) within) ∙ ap (λ (n : ℕ). slice_index s.bytes n) back
+    ap (λ (b : Bool). cond b (slice_index s.bytes (s.vaddr + k - s.vaddr)) 0) (le-leb s.vaddr (s.vaddr + k) within) ∙ ap (λ (n : ℕ). slice_index s.bytes n) back
 
 cell-here : (s : Segment) (ss : List Segment) (k : ℕ) → k < s.memsz → first_cell (s ∷ ss) (s.vaddr + k) ≡ Some (cell_with s.rights (slice_index s.bytes k))
 cell-here s ss k small =
@@ -46,7 +37,7 @@ cell-here s ss k small =
 -- past its pages, a segment says nothing
 cell-past : (s : Segment) (ss : List Segment) (a : ℕ) → last_page s < a / 4096 → first_cell (s ∷ ss) a ≡ first_cell ss a
 cell-past s ss a past =
-    ap (λ (b : Bool). cond (leb (first_page s) (a / 4096) && b) (Some (cell_with s.rights (byte_at s a))) (first_cell ss a)) (leb-no (a / 4096) (last_page s) past)
+    ap (λ (b : Bool). cond (leb (first_page s) (a / 4096) && b) (Some (cell_with s.rights (byte_at s a))) (first_cell ss a)) (lt-leb (a / 4096) (last_page s) past)
     ∙ ap (λ (b : Bool). cond b (Some (cell_with s.rights (byte_at s a))) (first_cell ss a)) (and-no (leb (first_page s) (a / 4096)))
 
 -- what stands at an address of a segment, whose pages are above this one
@@ -76,5 +67,5 @@ all-loaded p profile i d lt k small =
     let ok : IsLoadable s = All-get_or IsLoadable p.segments i d lt profile.loadable in
     let here : IsHere 0 p.segments s k = cells-here p.segments 0 profile.ascending profile.loadable i d lt k small in
     get-memory_of (first_cell p.segments) (s.vaddr + k)
-    ∙ ap (λ (b : Bool). cond b (first_cell p.segments (s.vaddr + k)) None) (ltb-yes (s.vaddr + k) (2 ^ 32) (low-address s.vaddr s.memsz k ok.below small))
+    ∙ ap (λ (b : Bool). cond b (first_cell p.segments (s.vaddr + k)) None) (lt-ltb (s.vaddr + k) (2 ^ 32) (low-address s.vaddr s.memsz k ok.below small))
     ∙ here.cell

@@ -3,6 +3,7 @@ use Rattle.std.proofs.Common.{◌≡◌, ℕ, suc, zero, ◌+◌, ◌-◌, ◌*�
 use Rattle.std.specs.Prelude.{◌&&◌, Option, Some, None, All, drop, slice_index, slice_index_or}
 use Rattle.std.specs.FinMap.{get}
 use Rattle.std.proofs.lemmas.Bool.Decides.{leb_tells, nat_tests}
+use Rattle.std.proofs.lemmas.List.Elements.{All-head, All-tail}
 use Rattle.std.proofs.lemmas.List.{get_or-append_right, get_or_append_left, get_or-replicate, get_or_past, take_all, take_rest, length-append, length-replicate}
 use Rattle.machine_model.specs.Memory.{Memory, Cell, memory_of}
 use Rattle.machine_model.specs.Access.{HoldsBytes, byte_of, mapped, cell_with}
@@ -126,12 +127,6 @@ mapped-segment s rest bytes ok size is = mapped-is (first_cell rest) (first_cell
               ap (λ (b : Bool). cond (b && ltb q (4096 * first_page s + length bytes)) (Some (cell_with s.rights (slice_index bytes (q - 4096 * first_page s)))) (first_cell rest q)) f.0
               ∙ sym (ap (λ (b : Bool). cond (b && leb (q / 4096) (last_page s)) (Some (cell_with s.rights (byte_at s q))) (first_cell rest q)) (sym (page_from (first_page s) q) ∙ f.0))
         ]
-
-All-tail : {X : Type 0} (P : X → Type 0) (x : X) (xs : List X) → All P (x ∷ xs) → All P xs
-All-tail P x xs h k d lt = h (suc k) d (omega (arith, lt))
-
-All-head : {X : Type 0} (P : X → Type 0) (x : X) (xs : List X) → All P (x ∷ xs) → P x
-All-head P x xs h = h 0 x (omega arith)
 
 -- below the pages of segments and below the stack nothing stands
 pub first_cell-below : (page : ℕ) (segments : List Segment) (a : ℕ) → All IsLoadable segments → AreAscending page segments → a < 4096 * page → a < 0x7FFF0000 → first_cell segments a ≡ None

@@ -5,6 +5,7 @@ use Rattle.std.specs.List.{position_from}
 use Rattle.std.proofs.lemmas.Iterator.Adapters.{position_from-zero}
 use Rattle.std.proofs.lemmas.List.Quantifiers.{position-Some}
 use Rattle.std.proofs.Math.ListN.{get_or-map}
+use Rattle.std.proofs.lemmas.Bool.{eqb-true}
 use Rattle.std.proofs.lemmas.Bool.Decides.{nat_tests, eqb_tells}
 use Rattle.std.proofs.lemmas.Grind.{common_steps}
 use Rattle.memory.specs.Words.{Word, word_fault}
@@ -112,9 +113,6 @@ set-step true false x y z e = refl
 set-step false true x y z e = refl
 set-step false false x y z e = refl
 
-at_eq : (m n : ℕ) → (m == n) ≡ true → m ≡ n
-at_eq m n e = grind (arith, nat_tests)
-
 pub among-set : (write : Bool) (parts : List Pages) (rest : Option Word) (i n : ℕ) (d new : Pages) → i < length parts → has_word (slice_index_or parts i d) n ≡ true → ((k : ℕ) → k < i → has_word (slice_index_or parts k d) n ≡ false)
     → new.first ≡ (slice_index_or parts i d).first → length new.words ≡ length (slice_index_or parts i d).words → ((m : ℕ) → m ≢ n → has_word (slice_index_or parts i d) m ≡ true → word_in write new m ≡ word_in write (slice_index_or parts i d) m)
     → (m : ℕ) → word_among write (slice_set parts i new) rest m ≡ with_word (word_among write parts rest) n (Some (word_in write new n)) m
@@ -133,7 +131,7 @@ among-set write (q ∷ qs) rest zero n d new h t b first len same m =
     here e = ap (λ (r : Bool). cond r (Some (word_in write new m)) (word_among write qs rest m)) (ap (has_word q) e ∙ t) ∙ ap (λ k. Some (word_in write new k)) e
 among-set write (q ∷ qs) rest (suc i) n d new h t b first len same m =
     ap (cond (has_word q m) (Some (word_in write q m))) (among-set write qs rest i n d new (omega arith) t (λ k lt. b (suc k) (omega arith)) first len same m)
-    ∙ set-step (m == n) (has_word q m) (Some (word_in write new n)) (Some (word_in write q m)) (word_among write qs rest m) (λ e. ap (has_word q) (at_eq m n e) ∙ b 0 (omega arith))
+    ∙ set-step (m == n) (has_word q m) (Some (word_in write new n)) (Some (word_in write q m)) (word_among write qs rest m) (λ e. ap (has_word q) (eqb-true m n e) ∙ b 0 (omega arith))
 
 -- the first of the shared runs, where the own runs have no word
 pub shared-first : {X : Type 0} (v : X → Pages) (xs : List X) (x : X) (rest : Option Word) (n : ℕ) → 1 ≤ length xs → x ≡ slice_index_or xs 0 x → has_word (v x) n ≡ true → word_among false (map v xs) rest n ≡ Some (word_in false (v x) n)

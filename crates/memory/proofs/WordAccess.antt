@@ -1,6 +1,7 @@
 -- An access over a memory by its words.
 use Rattle.std.proofs.Common.{◌≡◌, ℕ, suc, zero, ◌+◌, ◌*◌, ◌/◌, ◌%◌, ◌^◌, ◌<◌, ◌≤◌, Bool, true, false, cond, List, refl, ap, ◌∙◌, arith}
 use Rattle.std.specs.Prelude.{◌==◌, nat_lt, Option, Some, None, option_map, Ok, Err}
+use Rattle.std.proofs.lemmas.Bool.{eqb-true}
 use Rattle.std.proofs.lemmas.Bool.Decides.{nat_tests}
 use Rattle.std.specs.FinMap.{get}
 use Rattle.machine_model.specs.Memory.{Cell}
@@ -43,9 +44,6 @@ value_at-word words w n j zero q h b e is = refl
 value_at-word words w n j (suc k) q h b e is =
     rw (get-word words (Some w) n j q h (omega arith) e is, value_at-word words w n (j + 1) k (q + 1) h (omega arith) (omega arith) is) refl
 
-eq_true : (a b : ℕ) → (a == b) ≡ true → a ≡ b
-eq_true a b h = grind (arith, nat_tests)
-
 taken : (right : Rights → Bool) (words : ℕ → Option Word) (w : Option Word) (n j k q : ℕ) → n < 2 ^ 30 → j + suc k ≤ 4 → q ≡ 4 * n + j → words n ≡ w → or_fault (range_fault right (memory_of_words words) q (suc k)) (value_at (memory_of_words words) q (suc k)) ≡ word_taken right w j (suc k)
 taken right words None n j k q h b e is = rw (range_fault-word right words None n j k q h b e is) refl
 taken right words (Some w) n j k q h b e is =
@@ -58,8 +56,8 @@ taken right words (Some w) n j k q h b e is =
 by_width : (right : Rights → Bool) (words : ℕ → Option Word) (at : ℕ) (width : Width) → at < 2 ^ 32 → (at % size width == 0) ≡ true
     → or_fault (range_fault right (memory_of_words words) at (size width)) (value_at (memory_of_words words) at (size width)) ≡ word_taken right (words (at / 4)) (at % 4) (size width)
 by_width right words at width.Byte h e = taken right words (words (at / 4)) (at / 4) (at % 4) 0 at (omega arith) (omega arith) (omega arith) refl
-by_width right words at width.Half h e = let f : at % 2 ≡ 0 = eq_true _ _ e in taken right words (words (at / 4)) (at / 4) (at % 4) 1 at (omega arith) (omega arith) (omega arith) refl
-by_width right words at width.Word h e = let f : at % 4 ≡ 0 = eq_true _ _ e in taken right words (words (at / 4)) (at / 4) (at % 4) 3 at (omega arith) (omega arith) (omega arith) refl
+by_width right words at width.Half h e = let f : at % 2 ≡ 0 = eqb-true _ _ e in taken right words (words (at / 4)) (at / 4) (at % 4) 1 at (omega arith) (omega arith) (omega arith) refl
+by_width right words at width.Word h e = let f : at % 4 ≡ 0 = eqb-true _ _ e in taken right words (words (at / 4)) (at / 4) (at % 4) 3 at (omega arith) (omega arith) (omega arith) refl
 
 -- what an aligned access gives, by the word it lies in
 pub taken-aligned : (right : Rights → Bool) (words : ℕ → Option Word) (at : ℕ) (width : Width) (w : Option Word) → at < 2 ^ 32 → (at % size width == 0) ≡ true → words (at / 4) ≡ w
@@ -68,8 +66,8 @@ taken-aligned right words at width w h e is = rw e (by_width right words at widt
 
 range_by_width : (right : Rights → Bool) (words : ℕ → Option Word) (at : ℕ) (width : Width) → at < 2 ^ 32 → (at % size width == 0) ≡ true → range_fault right (memory_of_words words) at (size width) ≡ word_fault right (words (at / 4))
 range_by_width right words at width.Byte h e = range_fault-word right words (words (at / 4)) (at / 4) (at % 4) 0 at (omega arith) (omega arith) (omega arith) refl
-range_by_width right words at width.Half h e = let f : at % 2 ≡ 0 = eq_true _ _ e in range_fault-word right words (words (at / 4)) (at / 4) (at % 4) 1 at (omega arith) (omega arith) (omega arith) refl
-range_by_width right words at width.Word h e = let f : at % 4 ≡ 0 = eq_true _ _ e in range_fault-word right words (words (at / 4)) (at / 4) (at % 4) 3 at (omega arith) (omega arith) (omega arith) refl
+range_by_width right words at width.Half h e = let f : at % 2 ≡ 0 = eqb-true _ _ e in range_fault-word right words (words (at / 4)) (at / 4) (at % 4) 1 at (omega arith) (omega arith) (omega arith) refl
+range_by_width right words at width.Word h e = let f : at % 4 ≡ 0 = eqb-true _ _ e in range_fault-word right words (words (at / 4)) (at / 4) (at % 4) 3 at (omega arith) (omega arith) (omega arith) refl
 
 -- why an aligned access is refused, by the word it lies in
 pub access_fault-aligned : (right : Rights → Bool) (words : ℕ → Option Word) (at : ℕ) (width : Width) (w : Option Word) → at < 2 ^ 32 → (at % size width == 0) ≡ true → words (at / 4) ≡ w → access_fault right (memory_of_words words) at width ≡ word_fault right w
@@ -77,7 +75,7 @@ access_fault-aligned right words at width w h e is = rw e (range_by_width right 
 
 pub fetched-aligned : (words : ℕ → Option Word) (at : ℕ) (w : Option Word) → at < 2 ^ 32 → (at % 4 == 0) ≡ true → words (at / 4) ≡ w → fetched (memory_of_words words) at ≡ word_taken to_execute w 0 4
 fetched-aligned words at w h e is =
-    let place : at % 4 ≡ 0 = eq_true _ _ e in
+    let place : at % 4 ≡ 0 = eqb-true _ _ e in
     taken-aligned to_execute words at width.Word w h e is ∙ ap (λ j. word_taken to_execute w j 4) place
 
 -- what a word that may be read gives
