@@ -7,5 +7,3 @@ pub mod Decoding
 pub mod Pages
 pub mod Loaded
 pub mod Ways
-pub mod Fused
-pub mod Says

@@ -1,18 +1,15 @@
 //! A process's machine state: how it begins, its runs, and replies to its calls.
 #![tactic(auto)]
 
-mod choosing;
 mod decoded;
 mod doing;
 mod fast;
-mod fusing;
 mod instruction;
 mod kept;
 mod kinds;
 mod laws;
 mod loading;
 mod machine;
-mod op;
 mod sequences;
 mod stopped;
 mod table;

@@ -4,7 +4,7 @@ ghost use Rattle.machine_model.specs.Access.{HoldsBytes, is_writable, put_bytes}
 ghost use Rattle.machine_model.specs.Effects.{reg as register};
 ghost use Rattle.machine_model.specs.States.{run as run_from, hart, reached_at, stands_at, state, replied};
 ghost use Rattle.machine_model.specs.First.{first_state, first_registers};
-ghost use Rattle.machine.specs.Kept.{Kept};
+ghost use Rattle.operations.specs.Kept.{Kept};
 
 use crate::decoded::tables_of;
 use crate::fast::run_tables;
