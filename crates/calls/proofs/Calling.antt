@@ -11,7 +11,7 @@ use Rattle.kernel_model.proofs.Asked.{IsAsked, asked_by}
 use Rattle.processes.specs.Parts.{Part, part_at, descriptors_in, children_in, statuses_of}
 use Rattle.calls.specs.Plans.{IsRow, IsNext, IsPossible, CarriesBytes, NamesFiles, Says, effect_of, effect_with}
 use Rattle.calls.specs.Sights.{Sight, row_from, MayPlanCall, PlansCall}
-use Rattle.calls.specs.Wholes.{IsWhole}
+use Rattle.kernel_model.specs.Wholes.{IsWhole}
 use Rattle.calls.specs.declared.plan.Plan.{Plan}
 use Rattle.calls.specs.declared.row.Row.{Row}
 use Rattle.calls.proofs.Sound.{Kept, IsFine, IsSound, named-after, row-sound}

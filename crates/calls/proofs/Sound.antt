@@ -12,7 +12,7 @@ use Rattle.disk_model.specs.declared.change.NamedFile.{NamedFile}
 use Rattle.disk_model.specs.Numbers.{Numbered, place_of}
 use Rattle.machine_model.specs.Access.{is_writable}
 use Rattle.machine_model.specs.Memory.{Memory}
-use Rattle.kernel_model.specs.Rows.{Effect, number, with_bytes, row, pipe_size, directory, descriptor_at, ends_of}
+use Rattle.kernel_model.specs.Rows.{Effect, number, with_bytes, row, most_files, pipe_size, directory, descriptor_at, ends_of}
 use Rattle.kernel_model.specs.State.{TapeState, PipeState, unread, changed_by}
 use Rattle.kernel_model.specs.Limits.{AreNumbered}
 use Rattle.kernel_model.specs.Steps.{set_slots, change_of, change_by}
@@ -36,7 +36,7 @@ use Rattle.kernel_model.proofs.Numbering.{made_grows}
 use Rattle.pipes.specs.Seen.{Seen}
 use Rattle.calls.specs.Plans.{NamesFile, NamesFiles, MayAllStep, IsNext, CarriesBytes, IsPossible, AreLeft, AtMostOneEntry, OpensNone, OpensAlone, MayBePlaced}
 use Rattle.calls.specs.Shares.{pipe_of, shared_of}
-use Rattle.calls.specs.Wholes.{IsWhole}
+use Rattle.kernel_model.specs.Wholes.{IsWhole}
 use Rattle.calls.proofs.Files.{NamesFiles-more, NamesFile-descriptor_at}
 use Rattle.calls.proofs.Fitting.{bytes-placed}
 use Rattle.calls.proofs.Stepping.{adds-open-none, drops-open-none, HasFew, adds-may, drops-may, length-ends_of}
@@ -53,7 +53,7 @@ pub record Kept : Type 0 where
 
 -- what is known of it
 pub record IsFine (c : Kept) (r : Request) : Type 0 where
-  pub few : length c.files.living ≤ 32
+  pub few : length c.files.living ≤ most_files
   pub numbered : AreNumbered c.files
   pub named : NamesFiles c.files.made c.descriptors
   pub whole : IsWhole r

@@ -1,6 +1,5 @@
 -- The definitions.
 pub mod Errors
-pub mod Wholes
 pub mod Places
 pub mod Shares
 pub mod Plans

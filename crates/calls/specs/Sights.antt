@@ -6,7 +6,7 @@ use Rattle.disk_model.specs.declared.change.NamedFile.{NamedFile}
 use Rattle.kernel_model.specs.Limits.{AreNumbered}
 use Rattle.machine_model.specs.States.{State}
 use Rattle.kernel_model.specs.Requests.{request_of}
-use Rattle.kernel_model.specs.Rows.{Effect, row}
+use Rattle.kernel_model.specs.Rows.{Effect, row, longest_file, most_files}
 use Rattle.kernel_model.specs.State.{Shared, TapeState, changed_by}
 use Rattle.kernel_model.specs.Steps.{set_slots}
 use Rattle.kernel_model.specs.declared.descriptor.Descriptor.{Descriptor}
@@ -43,8 +43,8 @@ row_from seen pid ds request = row (shared_of (statuses_of seen.parts) seen.file
 pub record MayPlanCall (seen : Sight) (pid : ℕ) : Type 0 where
   pub from_1 : 0 < pid
   pub there : pid ≤ length seen.parts
-  pub few : length seen.files.living ≤ 32
-  pub short : AllByRecursion (λ (f : NamedFile). length f.bytes ≤ 16384) seen.files.living
+  pub few : length seen.files.living ≤ most_files
+  pub short : AllByRecursion (λ (f : NamedFile). length f.bytes ≤ longest_file) seen.files.living
   pub numbered : AreNumbered seen.files
   pub named : NamesFiles seen.files.made (descriptors_in (part_at seen.parts pid))
 

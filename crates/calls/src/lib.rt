@@ -1,4 +1,4 @@
-//! The calls of the kernel: what a process asks for, and what that comes to.
+//! The calls of the kernel: what a request of a process comes to.
 #![tactic(auto)]
 
 mod ends;
@@ -10,7 +10,6 @@ mod pipe;
 mod plan;
 mod read;
 mod rename;
-mod request;
 mod row;
 mod seek;
 mod tables;
@@ -24,6 +23,5 @@ pub use ends::plan_end;
 pub use errno::Errno;
 pub use kernel_model::{Descriptor, Output, PipeStep, Request, Slot, TapeRead, Verdict};
 pub use plan::{Plan, plan_call};
-pub use request::request_of;
 pub use tables::KernelTables;
 pub use tapes::TapeTable;

@@ -1,5 +1,5 @@
 //! The row of open.
-ghost use Rattle.std.specs.Prelude.{◌≡◌, ◌<◌, ◌==◌, length, IfOk};
+ghost use Rattle.std.specs.Prelude.{◌<◌, ◌==◌, IfOk};
 ghost use Rattle.kernel_model.specs.Limits.{AreNumbered};
 ghost use Rattle.kernel_model.specs.Rows.{directory, only, number, opened, open_emptied, open_there, open_new, open_made, open_free, row_open};
 ghost use Rattle.calls.specs.Plans.{IsRow};

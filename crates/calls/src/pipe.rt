@@ -1,5 +1,5 @@
 //! The row of pipe.
-ghost use Rattle.std.specs.Prelude.{◌≡◌, ◌<◌, ◌≤◌, ◌++◌, length, IfOk};
+ghost use Rattle.std.specs.Prelude.{◌≡◌, ◌<◌, ◌++◌, length, IfOk};
 ghost use Rattle.std.specs.Int.{w32, to_le_bytes};
 ghost use Rattle.kernel_model.specs.Rows.{pipe_made, row_pipe};
 ghost use Rattle.calls.specs.Plans.{IsRow};

@@ -4,11 +4,12 @@ ghost use Rattle.std.specs.List.{AllByRecursion};
 ghost use Rattle.disk_model.specs.declared.change.NamedFile.{NamedFile};
 ghost use Rattle.disk_model.specs.Numbers.{place_of};
 ghost use Rattle.kernel_model.specs.Limits.{AreNumbered};
+ghost use Rattle.kernel_model.specs.Rows.{longest_file, most_files};
 ghost use Rattle.kernel_model.specs.Steps.{change_of};
+ghost use Rattle.kernel_model.specs.Wholes.{IsWhole};
 ghost use Rattle.processes.specs.Parts.{part_at, descriptors_in};
 ghost use Rattle.calls.specs.Plans.{IsRow, effect_of, Says, CarriesBytes};
 ghost use Rattle.calls.specs.Sights.{sight_of, row_from, MayPlanCall, PlansCall};
-ghost use Rattle.calls.specs.Wholes.{IsWhole};
 
 use crate::ends::{close, exit};
 use crate::errno::Errno;
@@ -86,7 +87,7 @@ impl Plan {
 
 /// The place of the file of this number among those that live.
 fn place_of(files: &FileTable, file: u64) -> Option<u16>
-    requires { length files.now.living ≤ 32 }
+    requires { length files.now.living ≤ most_files }
     ensures { result ≡ place_of files.now file }
 {
     let place = files.place(file)?;
@@ -95,7 +96,7 @@ fn place_of(files: &FileTable, file: u64) -> Option<u16>
 
 /// The change by which an edit of a file is made: it names the file by its place. None where the file does not live.
 fn change_of(files: &FileTable, edit: FileEdit) -> Option<Change>
-    requires { length files.now.living ≤ 32 }
+    requires { length files.now.living ≤ most_files }
     ensures { result ≡ change_of files.now edit }
 {
     match edit {
@@ -123,7 +124,7 @@ fn change_of(files: &FileTable, edit: FileEdit) -> Option<Change>
 
 /// The plan of a row of the table: its edit of a file becomes a change, by the file's place. Takes no memory.
 fn planned(files: &FileTable, mut row: Row) -> Plan
-    requires { length files.now.living ≤ 32 }
+    requires { length files.now.living ≤ most_files }
     ensures { Says files.now result (effect_of row) }
 {
     match row.edit.take() {
@@ -151,7 +152,7 @@ fn plan_row(
     request: Request,
 ) -> Result<Row, AllocError>
     requires numbered { AreNumbered tables.now.files.now }
-    requires short { AllByRecursion (λ (f : NamedFile). length f.bytes ≤ 16384) tables.now.files.now.living }
+    requires short { AllByRecursion (λ (f : NamedFile). length f.bytes ≤ longest_file) tables.now.files.now.living }
     requires whole { IsWhole request }
     ensures row { IfOk result (λ row. IsRow row (row_from (sight_of tables.now) pid descriptors.now request)) }
     ensures carries { IfOk result (λ row. IfSome row.edit CarriesBytes) }

@@ -4,18 +4,18 @@ ghost use Rattle.std.specs.List.{AllByRecursion};
 ghost use Rattle.disk_model.specs.declared.change.NamedFile.{NamedFile};
 ghost use Rattle.disk_model.specs.Numbers.{file_of};
 ghost use Rattle.kernel_model.specs.Requests.{most_bytes};
-ghost use Rattle.kernel_model.specs.Rows.{only, number, failure, bad_descriptor, bad_argument, bad_address, descriptor_at, may_read, read_tape, read_file, take_some, read_pipe, read_from, row_read};
+ghost use Rattle.kernel_model.specs.Rows.{longest_file, only, number, failure, bad_descriptor, bad_argument, bad_address, descriptor_at, may_read, read_tape, read_file, take_some, read_pipe, read_from, row_read};
 ghost use Rattle.calls.specs.Plans.{IsRow};
 ghost use Rattle.calls.specs.Shares.{pipe_of, things};
 
 use crate::ends::on_pipe;
 use crate::errno::Errno;
-use crate::request::MOST_BYTES;
 use crate::row::Row;
 use crate::tables::KernelTables;
 use crate::tapes::TapeTable;
 use crate::verdict::{number, with_bytes};
 use byte_list::Bytes;
+use disk_model::LONGEST_FILE_WRITE;
 use files::FileTable;
 use kernel_model::{Carrier, Descriptor, PipeEnd, PipeStep, TapeRead, Verdict};
 use pipes::{Pipe, PipeTable};
@@ -50,7 +50,7 @@ pub fn read(
     fd: u32,
     place: Place,
 ) -> Result<Row, AllocError>
-    requires { AllByRecursion (λ (f : NamedFile). length f.bytes ≤ 16384) tables.now.files.now.living }
+    requires { AllByRecursion (λ (f : NamedFile). length f.bytes ≤ longest_file) tables.now.files.now.living }
     ensures { IfOk result (λ row. IsRow row
         (row_read (things tables.now.files.now tables.now.pipes.now tables.now.tapes.now)
         (descriptor_at descriptors.now fd) fd place.at place.n place.fits)) }
@@ -67,7 +67,7 @@ fn read_tested(
     fd: usize,
     place: Place,
 ) -> Result<Row, AllocError>
-    requires { AllByRecursion (λ (f : NamedFile). length f.bytes ≤ 16384) tables.now.files.now.living }
+    requires { AllByRecursion (λ (f : NamedFile). length f.bytes ≤ longest_file) tables.now.files.now.living }
     ensures { IfOk result (λ row. IsRow row (
         if not (may_read tables.now.files.now from) then failure bad_descriptor
         else if nat_lt most_bytes place.n then failure bad_argument
@@ -78,7 +78,7 @@ fn read_tested(
     if !may_read(tables.files, from) {
         return Ok(Row::failure(alloc, Errno::BadDescriptor));
     }
-    if place.n > MOST_BYTES {
+    if place.n > LONGEST_FILE_WRITE {
         return Ok(Row::failure(alloc, Errno::BadArgument));
     }
     if place.n == 0 {
@@ -98,7 +98,7 @@ fn read_from(
     fd: usize,
     place: Place,
 ) -> Result<Row, AllocError>
-    requires short { AllByRecursion (λ (f : NamedFile). length f.bytes ≤ 16384) tables.now.files.now.living }
+    requires short { AllByRecursion (λ (f : NamedFile). length f.bytes ≤ longest_file) tables.now.files.now.living }
     requires n { place.n ≤ most_bytes }
     ensures { IfOk result (λ row. IsRow row
         (read_from (things tables.now.files.now tables.now.pipes.now tables.now.tapes.now) from fd place.at place.n)) }
@@ -153,7 +153,7 @@ fn read_file(
     offset: u32,
     place: Place,
 ) -> Result<Row, AllocError>
-    requires short { AllByRecursion (λ (f : NamedFile). length f.bytes ≤ 16384) files.now.living }
+    requires short { AllByRecursion (λ (f : NamedFile). length f.bytes ≤ longest_file) files.now.living }
     requires n { place.n ≤ most_bytes }
     ensures { IfOk result
         (λ row. IsRow row (read_file fd file offset place.at place.n (file_of files.now file))) }

@@ -1,10 +1,10 @@
 //! The row of rename.
-ghost use Rattle.std.specs.Prelude.{◌≡◌, ◌+◌, IfOk, Some};
+ghost use Rattle.std.specs.Prelude.{◌+◌, IfOk, Some};
 ghost use Rattle.kernel_model.specs.Limits.{AreNumbered};
 ghost use Rattle.kernel_model.specs.Requests.{longest_names};
 ghost use Rattle.kernel_model.specs.Rows.{directory, rename_file, rename_named, rename_to, row_rename};
+ghost use Rattle.kernel_model.specs.Wholes.{AreWhole};
 ghost use Rattle.calls.specs.Plans.{IsRow};
-ghost use Rattle.calls.specs.Wholes.{AreWhole};
 
 use crate::errno::Errno;
 use crate::names::{is_bad_length, is_name, number_named};

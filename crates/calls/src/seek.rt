@@ -1,5 +1,5 @@
 //! The row of seek.
-ghost use Rattle.std.specs.Prelude.{◌≡◌, IfOk};
+ghost use Rattle.std.specs.Prelude.{IfOk};
 ghost use Rattle.kernel_model.specs.Rows.{descriptor_at, row_seek, seek_to};
 ghost use Rattle.calls.specs.Plans.{IsRow};
 

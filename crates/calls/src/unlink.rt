@@ -1,5 +1,5 @@
 //! The row of unlink.
-ghost use Rattle.std.specs.Prelude.{◌≡◌, IfOk};
+ghost use Rattle.std.specs.Prelude.{IfOk};
 ghost use Rattle.kernel_model.specs.Limits.{AreNumbered};
 ghost use Rattle.kernel_model.specs.Rows.{directory, row_unlink, unlink_file};
 ghost use Rattle.calls.specs.Plans.{IsRow};

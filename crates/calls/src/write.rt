@@ -1,20 +1,19 @@
 //! The row of write.
-ghost use Rattle.std.specs.Prelude.{◌≡◌, ◌≤◌, ◌<◌, ◌+◌, ◌==◌, ◌∷◌, nat_lt, not, [], Some, length, slice_get, map, IfOk, IfSome, if◌then◌else◌};
+ghost use Rattle.std.specs.Prelude.{◌≡◌, ◌≤◌, ◌<◌, ◌+◌, ◌==◌, nat_lt, not, [], Some, length, slice_get, map, IfOk, IfSome, if◌then◌else◌};
 ghost use Rattle.std.specs.List.{AllByRecursion};
 ghost use Rattle.kernel_model.specs.Requests.{most_bytes};
 ghost use Rattle.kernel_model.specs.Rows.{longest_file, only, number, failure, bad_descriptor, bad_argument, descriptor_at, may_write, write_file, put_some, write_pipe, write_to, write_read, row_write};
+ghost use Rattle.kernel_model.specs.Wholes.{AreWhole};
 ghost use Rattle.calls.specs.Plans.{IsRow, CarriesBytes};
 ghost use Rattle.calls.specs.Shares.{pipe_of, things};
-ghost use Rattle.calls.specs.Wholes.{AreWhole};
 
 use crate::ends::on_pipe;
 use crate::errno::Errno;
-use crate::request::MOST_BYTES;
 use crate::row::Row;
 use crate::tables::KernelTables;
 use crate::verdict::number;
 use byte_list::Bytes;
-use disk_model::LONGEST_FILE;
+use disk_model::{LONGEST_FILE, LONGEST_FILE_WRITE};
 use files::{FileTable, part_of};
 use kernel_model::{Carrier, Descriptor, FileEdit, Output, PipeEnd, PipeStep, Verdict};
 use pipes::{Pipe, PipeTable};
@@ -81,7 +80,7 @@ fn write_tested(
     if !may_write(tables.files, to) {
         return Ok(Row::failure(alloc, Errno::BadDescriptor));
     }
-    if n > MOST_BYTES {
+    if n > LONGEST_FILE_WRITE {
         return Ok(Row::failure(alloc, Errno::BadArgument));
     }
     if n == 0 {

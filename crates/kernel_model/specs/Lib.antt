@@ -1,6 +1,7 @@
 pub mod Entries
 pub mod State
 pub mod Requests
+pub mod Wholes
 pub mod Rows
 pub mod Steps
 pub mod Paths

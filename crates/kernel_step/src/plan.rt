@@ -12,12 +12,13 @@ ghost use Rattle.kernel_step.specs.Ready.{MayEnter};
 
 use crate::system::System;
 use crate::task::Task;
-use calls::{PipeStep, Plan, Verdict, plan_call, plan_end, request_of};
+use calls::{PipeStep, Plan, Verdict, plan_call, plan_end};
 use commit_deps::Carrier;
 use machine::Machine;
 use machine_model::{Cause, Stop};
 use pipes::Pipe;
 use processes::{Descriptors, ProcTable};
+use requests::request_of;
 use std::alloc::{AllocError, Global};
 use withheld::{Trace, zero_reply};
 

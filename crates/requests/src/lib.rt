@@ -1,21 +1,20 @@
-//! The call at which a machine stands.
+//! What a machine asks for that stands at a call.
+#![tactic(auto)]
+
 ghost use Rattle.std.specs.Prelude.{◌≡◌, ◌+◌, ◌==◌, ◌||◌, None, IfOk, IsOk};
 ghost use Rattle.kernel_model.specs.Requests.{read_bytes, may_be_placed, longest_names, most_bytes, word_size, request_of as request_at};
-ghost use Rattle.calls.specs.Wholes.{AreWhole, IsWhole, HoldsNone};
+ghost use Rattle.kernel_model.specs.Wholes.{AreWhole, IsWhole, HoldsNone};
 
 use byte_list::Bytes;
-use disk_model::LONGEST_NAME;
+use disk_model::{LONGEST_FILE_WRITE, LONGEST_NAME};
 use formats::Reg;
 use kernel_model::Request;
 use machine::Machine;
 use memory::CopyFault;
 use std::alloc::{AllocError, Global};
 
-/// The most bytes that one call moves.
-pub const MOST_BYTES: u32 = 1024;
-
 /// The most bytes of two names.
-pub const LONGEST_NAMES: u32 = 64;
+const LONGEST_NAMES: u32 = 64;
 
 /// The bytes of two words, as which a pipe's descriptors are written.
 const PAIR_SIZE: u32 = 8;
@@ -68,7 +67,7 @@ fn named_pair(
 fn may_be_placed(machine: &Machine, at: u32, n: u32) -> bool
     ensures { result ≡ may_be_placed machine.now.hart.memory most_bytes at n }
 {
-    n <= MOST_BYTES && machine.space().writable(at, n)
+    n <= LONGEST_FILE_WRITE && machine.space().writable(at, n)
 }
 
 /// Whether a wait asks for no status, by the address 0, or the process may write one at the address.
@@ -93,7 +92,7 @@ pub fn request_of(alloc: Global, machine: &Machine) -> Result<Request, AllocErro
         2 => Ok(Request::Write {
             fd: a0,
             n: a2,
-            bytes: named_bytes(alloc, machine, a1, a2, MOST_BYTES)?,
+            bytes: named_bytes(alloc, machine, a1, a2, LONGEST_FILE_WRITE)?,
         }),
         3 => Ok(Request::Read {
             fd: a0,
