@@ -27,18 +27,18 @@ use Rattle.kernel_step.specs.Tests.{full_of, lent_of, turn_refusal_of}
 use Rattle.kernel_step.specs.declared.system.System.{System}
 use Rattle.kernel_step.specs.declared.task.Task.{Task}
 use Rattle.kernel_step.specs.declared.whereabouts.Whereabouts.TheVariants.{Here}
-use Rattle.kernel_step.proofs.FewLoans.{few-same}
-use Rattle.kernel_step.proofs.Lists.{map-set-same, count-set-same, count-map}
+use Rattle.kernel_step.proofs.FewLoans.{out-lent, few-same}
+use Rattle.kernel_step.proofs.Lists.{map-set-same, count-set-same}
 use Rattle.kernel_step.proofs.Refusing.{IsFineTurn, turn-fine}
 use Rattle.kernel_step.proofs.Quiet.{own-silent, screens-quiet, changes-part}
-use Rattle.kernel_step.proofs.EnterParts.{parts-quiet, pipes-quiet, counted-quiet}
+use Rattle.kernel_step.proofs.EnterParts.{pipes-quiet, counted-quiet}
 use Rattle.kernel_step.proofs.Turning.{IsProcessOf, process-there, turn-bare, turn-place, turn-happens, turn-child, turn-parts, turn_of, world_with, ran-tasks}
 
 -- ---- what the definitions see
 pub full-is : (b : Boot) (history : List Event) (tasks : List Task) (last : ℕ)
     → full_of (length history) tasks ≡ nat_le limit (length history + 2 * loans_out (kernel_of b history tasks last))
 full-is b history tasks last =
-    ap (λ n. nat_le limit (length history + 2 * n)) (sym (count-map lending_of (λ (l : Lending). is_some l.out) tasks))
+    ap (λ n. nat_le limit (length history + 2 * n)) (sym (out-lent tasks))
 
 pub turn-refusal-is : (b : Boot) (history : List Event) (tasks : List Task) (s : System) (last pid n : ℕ) → KeepsRun b history tasks s
     → turn_refusal_of tasks (full_of (length history) tasks) pid n ≡ refusal (kernel_of b history tasks last) (Turn pid n)
@@ -57,7 +57,7 @@ same-core b history history' tasks tasks' s d same_history same_tasks same_marks
     (record {
       mirrors = record {
         each = h.mirrors.each;
-        changes = record { changes = h.mirrors.changes.changes; formed = h.mirrors.changes.formed; files = h.mirrors.changes.files; made = h.mirrors.changes.made; numbered = h.mirrors.changes.numbered; fresh = h.mirrors.changes.fresh };
+        changes = record { changes = h.mirrors.changes.changes; formed = h.mirrors.changes.formed; files = h.mirrors.changes.files; made = h.mirrors.changes.made; fresh = h.mirrors.changes.fresh };
         tapes = h.mirrors.tapes;
         parts = h.mirrors.parts;
         pipes = h.mirrors.pipes;
@@ -115,8 +115,7 @@ turned-core b history history' old new s d pid n a h grown t =
         each = ran-tasks w s.served old new pid n t.place t.count t.stop h.mirrors.each t.placed.number t.ran fine.running few;
         changes = changes-part w (happens w (Turn pid n)) s (record s { dependencies = d }) (own_entry pid) (own-silent pid) log files refl refl h.mirrors.changes;
         tapes = h.mirrors.tapes ∙ sym (ap (λ (v : World). v.sync.tapes) next);
-        parts = parts-quiet w (happens w (Turn pid n)) s.processes.parts s.processes.parts (ap (λ (v : World). v.sync.files.made) next)
-            (ap (λ (v : World). map part_of v.sync.processes) next ∙ turn-parts w.sync.processes pid n of.process of.there) refl h.mirrors.parts;
+        parts = h.mirrors.parts ∙ sym (ap (λ (v : World). map part_of v.sync.processes) next ∙ turn-parts w.sync.processes pid n of.process of.there);
         pipes = pipes-quiet w (happens w (Turn pid n)) s.pipes s.pipes (own_entry pid) log (ap (λ (v : World). v.sync.pipes) next) refl h.mirrors.pipes;
         counted = counted-quiet w (happens w (Turn pid n)) s.served s.served (own_entry pid) log (omega arith) h.mirrors.counted;
         kept = subst (λ (l : List Entry). Keeps l d.marks) (sym log) (t.noted w.log h.mirrors.kept);

@@ -19,18 +19,18 @@ use Rattle.machine_model.specs.First.{first_state}
 use Rattle.disk_model.specs.declared.change.NamedFile.{NamedFile}
 use Rattle.disk_model.specs.Numbers.{numbered}
 use Rattle.disk_model.proofs.Tidy.{tidy_after}
-use Rattle.kernel_model.proofs.Numbering.{numbered_first}
 use Rattle.kernel_step.specs.Booting.{program_of, boot_with, nothing_lent}
 use Rattle.kernel_step.specs.Stands.{KeepsRun}
 use Rattle.kernel_step.specs.First.{IsFirst, AreFirst, parts_from, AreEmpty}
-use Rattle.kernel_step.specs.Mirrors.{IsTask, IsPart, ArePipes}
+use Rattle.kernel_step.specs.Mirrors.{IsTask, ArePipes}
 use Rattle.kernel_step.specs.Seen.{Withholds, AreScreens}
 use Rattle.kernel_step.specs.Waiting.{is_asleep}
 use Rattle.kernel_step.specs.Tasks.{machine_of, out_of, process_of, bare, status_of, lending_of, count_out, needed, unsettled, AreFewLoans}
 use Rattle.kernel_step.specs.declared.booting.Program.{Program}
 use Rattle.kernel_step.specs.declared.system.System.{System}
 use Rattle.kernel_step.specs.declared.task.Task.{Task}
-use Rattle.kernel_step.proofs.Lists.{count-cons, count-map, get-snoc}
+use Rattle.kernel_step.proofs.FewLoans.{out-lent}
+use Rattle.kernel_step.proofs.Lists.{count-cons, get-snoc}
 
 -- ---- the processes
 first-status : (i : ℕ) (p : Program) (t : Task) → IsFirst i p t → status_of t ≡ None
@@ -83,7 +83,7 @@ none-out (p ∷ ps) = count-cons (λ (l : Lending). is_some l.out) (nothing_lent
 
 pub first-out : (programs : List Program) (tasks : List Task) → AreFirst programs tasks → count_out tasks ≡ 0
 first-out programs tasks h =
-    sym (count-map lending_of (λ (l : Lending). is_some l.out) tasks)
+    sym (out-lent tasks)
     ∙ ap (λ (ls : List Lending). count_by (λ (l : Lending). is_some l.out) ls) (lendings-first programs tasks h)
     ∙ none-out programs
 
@@ -133,13 +133,6 @@ first-task b served i p t h = record {
 pub parts-first : (k : ℕ) (programs : List Program) → parts_from k programs ≡ map part_of (processes_from k (map program_of programs))
 parts-first k [] = refl
 parts-first k (p ∷ ps) = ap (λ (xs : List Part). boot_part k p.terminal ∷ xs) (parts-first (k + 1) ps)
-
-parts-fine : (files k : ℕ) (programs : List Program) → AllByRecursion (IsPart files) (parts_from k programs)
-parts-fine files k [] = tt
-parts-fine files k (p ∷ ps) = (
-  record { named = (tt, (tt, (tt, (tt, (tt, (tt, (tt, (tt, (tt, (tt, (tt, (tt, (tt, (tt, (tt, (tt, tt)))))))))))))))) },
-  parts-fine files (k + 1) ps,
-)
 
 -- one program more
 pub parts-more : (k i : ℕ) (programs : List Program) (p : Program) → slice_get programs i ≡ Some p
@@ -191,12 +184,9 @@ first-core programs tapes files disk gate tasks s made first empty keeps changes
           (one.0, one.1, first-process i one.0 t one.2 ∙ ap (λ j. bare (first_process j (program_of one.0))) (sym place)));
       each = λ i t there. let one = first.each i t there in first-task (boot_with programs tapes files disk gate) s.served i one.0 t one.2;
     };
-    changes = record { changes = changes; formed = tt; files = same_files; made = made; numbered = numbered_first files; fresh = few-made files made };
+    changes = record { changes = changes; formed = tt; files = same_files; made = made; fresh = few-made files made };
     tapes = same_tapes;
-    parts = record {
-      same = parts ∙ parts-first 0 programs;
-      each = subst (λ (xs : List Part). AllByRecursion (IsPart (length files)) xs) (sym parts) (parts-fine (length files) 0 programs);
-    };
+    parts = parts ∙ parts-first 0 programs;
     pipes = subst (λ (x : List Seen). ArePipes (first_world (boot_with programs tapes files disk gate)) x) (sym pipes) (record { shown = record { shown = refl; within = tt }; few = tt });
     counted = omega (arith, served);
     kept = keeps;

@@ -14,28 +14,14 @@ use Rattle.kernel_model.specs.declared.event.Event.{Event}
 use Rattle.kernel_model.specs.declared.event.Event.TheVariants.{Enter}
 use Rattle.kernel_step.specs.Stands.{run_of, kernel_of, KeepsRun}
 use Rattle.kernel_step.specs.Mirrors.{Mirrors}
-use Rattle.kernel_step.specs.Tasks.{out_of, process_of, lending_of, count_out, AreFewLoans}
+use Rattle.kernel_step.specs.Tasks.{process_of, lending_of, count_out, AreFewLoans}
 use Rattle.kernel_step.specs.Tests.{full_of, lent_of, enter_refusal_of}
 use Rattle.kernel_step.specs.declared.system.System.{System}
 use Rattle.kernel_step.specs.declared.task.Task.{Task}
 use Rattle.kernel_step.proofs.EnterFine.{fine-full}
-use Rattle.kernel_step.proofs.FewLoans.{few-same, few-longer, few-child}
+use Rattle.kernel_step.proofs.FewLoans.{out-lent, same-out, few-same, few-longer, few-child}
 use Rattle.kernel_step.proofs.Lists.{count-cons}
 use Rattle.kernel_step.proofs.Turning.{enter-bare}
-
-count-out : (tasks : List Task) → count_by (λ (l : Lending). is_some l.out) (map lending_of tasks) ≡ count_out tasks
-count-out [] = refl
-count-out (t ∷ ts) =
-    count-cons (λ (l : Lending). is_some l.out) (lending_of t) (map lending_of ts)
-    ∙ ap (λ n. (if is_some (out_of t) then 1 else 0) + n) (count-out ts)
-    ∙ sym (count-cons (λ (u : Task). is_some (out_of u)) t ts)
-
--- the tasks are lent as before
-pub same-out : (old new : List Task) → map lending_of new ≡ map lending_of old → count_out new ≡ count_out old
-same-out old new same =
-    sym (count-out new)
-    ∙ ap (λ (ls : List Lending). count_by (λ (l : Lending). is_some l.out) ls) same
-    ∙ count-out old
 
 -- a process that was made is not lent
 count-snoc : (ls : List Lending) → count_by (λ (l : Lending). is_some l.out) (ls ++ never_lent ∷ []) ≡ count_by (λ (l : Lending). is_some l.out) ls
@@ -51,10 +37,10 @@ count-child ls (Some child) = count-snoc ls
 
 pub child-out : (old new : List Task) (o : Option ℕ) → map lending_of new ≡ with_child (map lending_of old) o → count_out new ≡ count_out old
 child-out old new o grown =
-    sym (count-out new)
+    sym (out-lent new)
     ∙ ap (λ (ls : List Lending). count_by (λ (l : Lending). is_some l.out) ls) grown
     ∙ count-child (map lending_of old) o
-    ∙ count-out old
+    ∙ out-lent old
 
 -- the log has an entry for each event
 log-more : (w : World) (es : List Event) → length (after w es).log ≡ length w.log + length es
@@ -86,7 +72,7 @@ pub refusal-is : (b : Boot) (history : List Event) (tasks : List Task) (s : Syst
 refusal-is b history tasks s last pid h =
     ap (λ (ps : List Process). enter_refusal (process_at ps pid) (lent_of tasks pid) (full_of (length history) tasks)) h.mirrors.each.processes
     ∙ enter-bare (run_of b history).sync.processes pid (lent_of tasks pid) (full_of (length history) tasks)
-    ∙ ap (λ n. enter_refusal (process_at (run_of b history).sync.processes pid) (lent_of tasks pid) (nat_le limit (length history + 2 * n))) (sym (count-out tasks))
+    ∙ ap (λ n. enter_refusal (process_at (run_of b history).sync.processes pid) (lent_of tasks pid) (nat_le limit (length history + 2 * n))) (sym (out-lent tasks))
 
 -- how the processes stand with their loans after an Enter
 abbrev pub Grows : List Task → List Task → System → ℕ → Type 0

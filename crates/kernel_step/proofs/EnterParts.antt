@@ -2,68 +2,34 @@
 use Rattle.std.proofs.Common.{◌≡◌, ℕ, zero, suc, ◌+◌, ◌*◌, ◌≤◌, List, [], ◌∷◌, ◌++◌, length, map, slice_set, Option, Some, None, refl, sym, ap, subst, ◌∙◌, arith}
 use Rattle.std.proofs.lemmas.List.{map-set, map-append, length_push}
 use Rattle.std.specs.List.{AllByRecursion}
-use Rattle.disk_model.proofs.Lists.{each_get, each_set, each_append, each_more}
-use Rattle.calls.specs.Plans.{NamesFiles, MayAllStep, all_seen}
+use Rattle.calls.specs.Plans.{MayAllStep, all_seen}
 use Rattle.calls.specs.declared.plan.Plan.{Plan}
 use Rattle.pipes.specs.Seen.{Seen, Shows}
 use Rattle.pipes.specs.Stepping.{HasAtMost, MayStep, seen_after}
-use Rattle.processes.specs.Parts.{Part, part_of, part_at, with_part}
+use Rattle.processes.specs.Parts.{Part, part_of, with_part}
 use Rattle.kernel_model.specs.Entries.{Entry}
-use Rattle.kernel_model.specs.State.{Process, PipeState, process_at, put_process, changed_by, stepped, all_stepped}
+use Rattle.kernel_model.specs.State.{Process, PipeState, process_at, put_process, stepped, all_stepped}
 use Rattle.kernel_model.specs.Steps.{Transition, forked}
 use Rattle.kernel_model.specs.World.{World}
 use Rattle.kernel_model.specs.declared.effect.PipeStep.{PipeStep}
-use Rattle.kernel_step.specs.Entering.{descriptors_after, part_after, process_after, born, parts_after, planned}
-use Rattle.kernel_step.specs.Mirrors.{IsPart, AreParts, ArePipes}
+use Rattle.kernel_step.specs.Entering.{part_after, process_after, born, parts_after}
+use Rattle.kernel_step.specs.Mirrors.{ArePipes}
 use Rattle.kernel_step.proofs.EnterPlans.{part-seen}
-use Rattle.kernel_model.proofs.Numbering.{made_grows}
-use Rattle.kernel_step.proofs.EnterTasks.{world_after, names-more}
+use Rattle.kernel_step.proofs.EnterTasks.{world_after}
 
 -- ---- the parts
 born-forked : (p : Process) (o : Option ℕ) → born (Some (part_of p)) o ≡ map part_of (forked p o)
 born-forked p None = refl
 born-forked p (Some child) = refl
 
-parts-same : (ps : List Process) (pid : ℕ) (p : Process) (plan : Plan) → process_at ps pid ≡ Some p
+pub parts-planned : (ps : List Process) (pid : ℕ) (p : Process) (plan : Plan) → process_at ps pid ≡ Some p
     → parts_after (map part_of ps) pid plan ≡ map part_of (put_process ps pid (process_after p plan) ++ forked p plan.child)
-parts-same ps zero p plan e = cc
-parts-same ps (suc k) p plan e =
+parts-planned ps zero p plan e = cc
+parts-planned ps (suc k) p plan e =
     ap (λ (o : Option Part). with_part (map part_of ps) (suc k) o (λ x. part_after x plan) ++ born o plan.child) (part-seen ps (suc k) p e)
     ∙ ap (λ (xs : List Part). xs ++ born (Some (part_of p)) plan.child) (sym (map-set part_of ps k (process_after p plan)))
     ∙ ap (λ (xs : List Part). map part_of (slice_set ps k (process_after p plan)) ++ xs) (born-forked p plan.child)
     ∙ sym (map-append part_of (slice_set ps k (process_after p plan)) (forked p plan.child))
-
-part-more : (n m : ℕ) (part : Part) → n ≤ m → IsPart n part → IsPart m part
-part-more n m part more h = record { named = names-more n m more part.descriptors h.named }
-
-born-parts : (n m : ℕ) (part : Part) (o : Option ℕ) → n ≤ m → IsPart n part → AllByRecursion (IsPart m) (born (Some part) o)
-born-parts n m part None more h = tt
-born-parts n m part (Some child) more h = (record { named = names-more n m more part.descriptors h.named }, tt)
-
-after-parts : (parts : List Part) (pid n m : ℕ) (part : Part) (plan : Plan) → part_at parts pid ≡ Some part → n ≤ m
-    → NamesFiles m (descriptors_after part.descriptors plan.verdict plan.slots.items)
-    → AllByRecursion (IsPart n) parts → AllByRecursion (IsPart m) (parts_after parts pid plan)
-after-parts parts zero n m part plan e more named h = cc
-after-parts parts (suc k) n m part plan e more named h =
-    let one : IsPart n part = each_get (IsPart n) parts k part h e in
-    subst (λ (o : Option Part). AllByRecursion (IsPart m) (with_part parts (suc k) o (λ x. part_after x plan) ++ born o plan.child)) (sym e)
-    (each_append (IsPart m) (slice_set parts k (part_after part plan)) (born (Some part) plan.child)
-    (each_set (IsPart m) parts k (part_after part plan) (record { named = named })
-    (each_more (IsPart n) (IsPart m) (λ x g. part-more n m x more g) parts h))
-    (born-parts n m part plan.child more one))
-
-pub parts-planned : (w : World) (parts parts' : List Part) (pid : ℕ) (p : Process) (plan : Plan) → AreParts w parts → process_at w.sync.processes pid ≡ Some p
-    → NamesFiles (changed_by w.sync.files plan.change).made (descriptors_after p.descriptors plan.verdict plan.slots.items)
-    → parts' ≡ parts_after parts pid plan → AreParts (world_after w (planned w.sync pid p plan)) parts'
-parts-planned w parts parts' pid p plan h there named is =
-    let at : part_at parts pid ≡ Some (part_of p) = ap (λ (xs : List Part). part_at xs pid) h.same ∙ part-seen w.sync.processes pid p there in
-    record {
-      same = is ∙ ap (λ (xs : List Part). parts_after xs pid plan) h.same ∙ parts-same w.sync.processes pid p plan there;
-      each =
-          subst (λ (xs : List Part). AllByRecursion (IsPart (changed_by w.sync.files plan.change).made) xs) (sym is)
-          (after-parts parts pid w.sync.files.made (changed_by w.sync.files plan.change).made (part_of p) plan at
-          (made_grows w.sync.files plan.change) named h.each);
-    }
 
 -- ---- the pipes
 -- the laws of a step of a pipe: what is seen of the pipes after it, and that it adds at most one descriptor to an end
@@ -110,15 +76,6 @@ pipes-quiet w v seen seen' e log pipes same h =
           subst (λ (ps : List PipeState). AllByRecursion (HasAtMost (16 * length v.log)) ps) (sym pipes)
           (few-more (16 * length w.log) (16 * length v.log) w.sync.pipes (omega (arith, longer, size)) h.few);
     }
-
-pub parts-quiet : (w v : World) (parts parts' : List Part) → v.sync.files.made ≡ w.sync.files.made → map part_of v.sync.processes ≡ map part_of w.sync.processes
-    → parts' ≡ parts → AreParts w parts → AreParts v parts'
-parts-quiet w v parts parts' files processes same h = record {
-  same = same ∙ h.same ∙ sym processes;
-  each =
-      subst (λ (n : ℕ). AllByRecursion (IsPart n) parts') (sym files)
-      (subst (λ (xs : List Part). AllByRecursion (IsPart w.sync.files.made) xs) (sym same) h.each);
-}
 
 pub counted-quiet : (w v : World) (served served' : ℕ) (e : Entry) → v.log ≡ w.log ++ e ∷ [] → served' ≤ served + 1 → served ≤ length w.log → served' ≤ length v.log
 counted-quiet w v served served' e log more h =

@@ -7,7 +7,7 @@ use Rattle.machine_model.specs.declared.stop.Stop.{Stop}
 use Rattle.machine_model.specs.declared.stop.Stop.TheVariants.{Limit, Call, Trap}
 use Rattle.machine_model.specs.declared.stop.Cause.{Cause}
 use Rattle.machine_model.proofs.Halting.{next-not_limit}
-use Rattle.calls.specs.Plans.{effect_with, Says, IsPossible, NamesFiles, AreLeft, OpensAlone, MayBePlaced, EditsAs, EditsPipesAlone, IsNext, MayAllStep}
+use Rattle.calls.specs.Plans.{effect_with, Says, IsPossible, AreLeft, OpensAlone, MayBePlaced, EditsAs, EditsPipesAlone, IsNext, MayAllStep}
 use Rattle.calls.specs.Sights.{Sight, IsSightOfShared, PlansCall}
 use Rattle.calls.specs.declared.plan.Plan.{Plan}
 use Rattle.processes.specs.Parts.{Part, part_of, part_at, descriptors_in, children_in, statuses_of}
@@ -21,7 +21,6 @@ use Rattle.kernel_model.specs.declared.descriptor.Descriptor.{Descriptor}
 use Rattle.kernel_model.specs.declared.effect.FileEdit.{FileEdit}
 use Rattle.kernel_model.specs.declared.effect.Output.{Output}
 use Rattle.kernel_model.specs.declared.effect.PipeStep.{PipeStep}
-use Rattle.kernel_model.specs.declared.effect.Slot.{Slot}
 use Rattle.kernel_model.specs.declared.effect.TapeRead.{TapeRead}
 use Rattle.kernel_model.specs.declared.event.Event.TheVariants.{Enter}
 use Rattle.kernel_model.specs.declared.request.Request.{Request}
@@ -198,21 +197,6 @@ told-row s Waits stands place = tt
 told-row s (Replies r) stands place = (stands, place)
 told-row s (Ends status) stands place = tt
 
-pub closed-names : (n : ℕ) (ds : List (Option Descriptor)) → NamesFiles n (map (λ d. None) ds)
-closed-names n [] = tt
-closed-names n (d ∷ ds) = (tt, closed-names n ds)
-
-names-after : (n m : ℕ) (ds : List (Option Descriptor)) (verdict : Verdict) (slots : List Slot) → NamesFiles n (set_slots ds slots)
-    → ((r : Verdict) → verdict ≡ Waits → slots ≡ []) → NamesFiles n (descriptors_after ds verdict slots)
-names-after n m ds Waits slots h none = subst (λ (xs : List Slot). NamesFiles n (set_slots ds xs)) (none Waits refl) h
-names-after n m ds (Replies r) slots h none = h
-names-after n m ds (Ends status) slots h none = closed-names n ds
-
-waits-nothing : (plan : Plan) (verdict : Verdict) → EditsAs verdict plan → verdict ≡ Waits → plan.slots.items ≡ []
-waits-nothing plan Waits edits e = edits.0.slots
-waits-nothing plan (Replies r) edits e = cc
-waits-nothing plan (Ends status) edits e = cc
-
 -- what is seen, as a state that may be looked at
 abbrev sight_shared : Sight → List PipeState → Seen
 sight_shared seen pipes = record { statuses = statuses_of seen.parts; files = seen.files; pipes = pipes; tapes = seen.tapes }
@@ -235,7 +219,6 @@ call-plans seen pid s plan stands ends calls =
       one_child = calls.one_entry.child_or_collects;
       possible = calls.possible;
       left = calls.left;
-      named = names-after (changed_by seen.files plan.change).made 0 ds plan.verdict plan.slots.items calls.named (λ r waits. waits-nothing plan plan.verdict calls.edits waits);
       steps = record { kind = calls.opens; few = calls.few };
       may = calls.steps x ends.most look ends.few ends.room;
       child = calls.child;
@@ -261,9 +244,6 @@ trap-plans seen pid s plan cause status stands number is none edits opens few ma
       one_child = inl (ap (λ (e : Effect). e.child) is);
       possible = subst (λ (o : Option Change). IfSome o (IsPossible seen.files.living)) (sym none) tt;
       left = subst (λ (o : Option TapeRead). IfSome o (AreLeft seen.tapes)) (sym (ap (λ (e : Effect). e.tape) is)) tt;
-      named =
-          subst (λ (v : Verdict). NamesFiles (changed_by seen.files plan.change).made (descriptors_after ds v plan.slots.items)) (sym (ap (λ (e : Effect). e.verdict) is))
-          (closed-names (changed_by seen.files plan.change).made ds);
       steps = record { kind = opens; few = few };
       may = may;
       child = subst (λ (o : Option ℕ). IfSome o (IsNext (length seen.parts))) (sym (ap (λ (e : Effect). e.child) is)) tt;

@@ -5,9 +5,8 @@ use Rattle.std.proofs.lemmas.List.{map-set, length-set, map-append, append-nil}
 use Rattle.std.proofs.lemmas.Bool.{eq-eqb, ne_eqb}
 use Rattle.disk_model.specs.Storage.{is_empty}
 use Rattle.machine_model.specs.States.{State, replied}
-use Rattle.calls.specs.Plans.{NamesFile, NamesFiles, IsNext}
+use Rattle.calls.specs.Plans.{IsNext}
 use Rattle.calls.specs.declared.plan.Plan.{Plan}
-use Rattle.disk_model.proofs.Lists.{each_more}
 use Rattle.commit_deps.specs.Marks.{IsMarkOf}
 use Rattle.kernel_model.specs.Entries.{Entry, Item, Got, End as Ended}
 use Rattle.kernel_model.specs.Loans.{is_waiting}
@@ -16,8 +15,6 @@ use Rattle.kernel_model.specs.State.{Process, put_process}
 use Rattle.kernel_model.specs.Steps.{Transition, forked, zero_reply}
 use Rattle.kernel_model.specs.World.{World}
 use Rattle.kernel_model.specs.declared.carrier.Carrier.{Carrier}
-use Rattle.kernel_model.specs.declared.descriptor.Descriptor.{Descriptor}
-use Rattle.kernel_model.specs.declared.descriptor.Descriptor.TheVariants as descriptor
 use Rattle.kernel_model.specs.declared.request.Verdict.{Verdict}
 use Rattle.kernel_model.specs.declared.request.Verdict.TheVariants.{Waits, Replies, Ends}
 use Rattle.kernel_step.specs.Entering.{item_of, machine_after, status_after, writes_of, entry_of, process_after, planned, IsTold, IsForked, MakesTask}
@@ -33,7 +30,7 @@ use Rattle.kernel_step.proofs.Lists.{get-set, get-joined}
 use Rattle.kernel_step.proofs.Quiet.{told-own, told-made, waiting-more}
 use Rattle.kernel_step.proofs.Turning.{IsProcessOf}
 
--- the run after a transition that the disk does not see
+-- the run after a transition that the device does not see
 abbrev pub world_after : World → Transition → World
 world_after w t = record { sync = t.state; log = w.log ++ t.entry ∷ []; storage = w.storage }
 
@@ -79,17 +76,6 @@ since-served : (v : Verdict) (served : ℕ) (waited : Option ℕ) → IfSome wai
 since-served Waits served waited h = omega arith
 since-served (Replies r) served waited h = since-more served (served + 1) waited (omega arith) h
 since-served (Ends status) served waited h = since-more served (served + 1) waited (omega arith) h
-
--- ---- descriptors name files, of which there may be more
-name-more : (n m : ℕ) → n ≤ m → (d : Option Descriptor) → NamesFile n d → NamesFile m d
-name-more n m more (Some (descriptor.File file offset writes)) named = omega arith
-name-more n m more (Some (descriptor.Tape tape)) named = tt
-name-more n m more (Some (descriptor.Terminal terminal)) named = tt
-name-more n m more (Some (descriptor.Pipe end)) named = tt
-name-more n m more None named = tt
-
-pub names-more : (n m : ℕ) → n ≤ m → (ds : List (Option Descriptor)) → NamesFiles n ds → NamesFiles m ds
-names-more n m more ds named = each_more (NamesFile n) (NamesFile m) (name-more n m more) ds named
 
 -- ---- traces
 -- that of the process that was told something

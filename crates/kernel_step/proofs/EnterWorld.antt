@@ -6,14 +6,14 @@ use Rattle.std.specs.List.{AllByRecursion}
 use Rattle.disk_model.specs.declared.change.Change.{Change}
 use Rattle.disk_model.specs.declared.change.NamedFile.{NamedFile}
 use Rattle.disk_model.specs.Numbers.{Numbered}
-use Rattle.kernel_model.specs.Limits.{AreNumbered}
-use Rattle.kernel_model.proofs.Numbering.{made_by_one, numbered_changed}
+use Rattle.kernel_model.specs.Limits.{AreNumbered, KeepLimits}
+use Rattle.kernel_model.proofs.Numbering.{made_by_one}
 use Rattle.disk_model.specs.Files.{IsFormed, IsMade, MayCome, changed}
 use Rattle.disk_model.specs.Rebuild.{CanBeRebuilt}
-use Rattle.disk_model.proofs.Lists.{each_get, each_append}
+use Rattle.disk_model.proofs.Lists.{each_append}
 use Rattle.disk_model.specs.Storage.{Storage}
 use Rattle.machine_model.specs.States.{State}
-use Rattle.calls.specs.Plans.{IsPossible, NamesFiles, EditsAs, IsNext, all_seen}
+use Rattle.calls.specs.Plans.{IsPossible, NamesFile, NamesFiles, EditsAs, IsNext, all_seen}
 use Rattle.calls.specs.declared.plan.Plan.{Plan}
 use Rattle.commit_deps.specs.Keeps.{Keeps}
 use Rattle.commit_deps.specs.Kept.{Kept}
@@ -25,22 +25,27 @@ use Rattle.kernel_model.specs.Answers.{Lending, outcome_of, with_child}
 use Rattle.kernel_model.specs.Entries.{Entry, Item}
 use Rattle.kernel_model.specs.Shown.{told as told-of, end_in}
 use Rattle.kernel_model.specs.Paths.{changes_in_log}
+use Rattle.kernel_model.specs.Rows.{descriptor_at}
 use Rattle.kernel_model.specs.State.{Process, TapeState, changed_by, read_by}
 use Rattle.kernel_model.specs.Steps.{Transition, step}
 use Rattle.kernel_model.specs.World.{World, happens}
 use Rattle.kernel_model.proofs.Runs.{changes_in_log-entry, append-nil}
 use Rattle.kernel_model.specs.declared.answer.Outcome.{Outcome}
+use Rattle.kernel_model.specs.declared.descriptor.Descriptor.{Descriptor}
+use Rattle.kernel_model.specs.declared.descriptor.Descriptor.TheVariants as descriptor
 use Rattle.kernel_model.specs.declared.event.Event.TheVariants.{Enter}
 use Rattle.kernel_model.specs.declared.request.Verdict.{Verdict}
 use Rattle.kernel_model.specs.declared.request.Verdict.TheVariants.{Waits, Replies, Ends}
 use Rattle.calls.specs.Sights.{Sight}
-use Rattle.kernel_step.specs.Entering.{IsSightOf, item_of, descriptors_after, sight_in, MayPlan, entry_of, parts_after, planned, PlansEnter, MakesTask, IsNoted, IsFinished, IsEntered, IsDone, IsTold, IsSameTask, IsSystemWith, IsSameSystem}
+use Rattle.kernel_step.specs.Entering.{IsSightOf, item_of, sight_in, MayPlan, entry_of, parts_after, planned, PlansEnter, IsChild, MakesTask, IsNoted, IsFinished, IsCarriedOut, IsEntered, IsDone, IsTold, IsSameTask, IsSystemWith, IsSameSystem}
 use Rattle.withheld.specs.Withheld.{Withheld, Held, whats}
-use Rattle.kernel_step.specs.Mirrors.{IsTask, AreTasks, IsPart, AreChanges, AreParts, ArePipes, Mirrors}
+use Rattle.kernel_step.specs.Mirrors.{IsTask, AreTasks, AreChanges, ArePipes, Mirrors}
+use Rattle.kernel_step.specs.Ready.{IsPrepared}
 use Rattle.kernel_step.specs.Seen.{AreScreens}
 use Rattle.kernel_step.specs.Settling.{marked_with}
 use Rattle.kernel_step.specs.Tasks.{machine_of, out_of, process_of, bare, lending_of, status_of, needed}
 use Rattle.kernel_step.specs.Waiting.{is_asleep, served_after}
+use Rattle.kernel_step.specs.declared.plan.Entering.{Entering}
 use Rattle.kernel_step.specs.declared.system.System.{System}
 use Rattle.kernel_step.specs.declared.task.Task.{Task}
 use Rattle.kernel_step.proofs.EnterFine.{IsFineTask}
@@ -49,6 +54,7 @@ use Rattle.kernel_step.proofs.EnterPlans.{part-seen}
 use Rattle.kernel_step.proofs.EnterTasks.{world_after, told-tasks, served-by-one}
 use Rattle.kernel_step.proofs.Lists.{get-set, map-set-same}
 use Rattle.kernel_step.proofs.EnterLists.{withholds-moved}
+use Rattle.kernel_step.proofs.Telling.{told-same}
 use Rattle.kernel_step.proofs.Turning.{IsProcessOf, process-there}
 
 -- ---- the laws of the disk
@@ -67,7 +73,7 @@ pub record EnterLaws : Type 0 where
 
 -- ---- what the plan rests on
 pub sight-is : (w : World) (tasks : List Task) (s : System) → Mirrors w tasks s → IsSightOf w.sync (sight_in s)
-sight-is w tasks s h = record { parts = h.parts.same; files = h.changes.files; pipes = h.pipes.shown; tapes = h.tapes }
+sight-is w tasks s h = record { parts = h.parts; files = h.changes.files; pipes = h.pipes.shown; tapes = h.tapes }
 
 -- there are as many tasks as parts
 pub as-many : (w : World) (tasks : List Task) (s : System) → Mirrors w tasks s → length tasks ≡ length s.processes.parts
@@ -76,27 +82,37 @@ as-many w tasks s h =
     ∙ ap (λ (ps : List Process). length ps) h.each.processes
     ∙ length-map w.sync.processes bare
     ∙ sym (length-map w.sync.processes part_of)
-    ∙ ap (λ (xs : List Part). length xs) (sym h.parts.same)
+    ∙ ap (λ (xs : List Part). length xs) (sym h.parts)
 
 -- what the table has of a process
 pub part-there : (w : World) (tasks : List Task) (s : System) (pid : ℕ) (t : Task) → Mirrors w tasks s → (of : IsProcessOf w.sync.processes pid t)
     → part_at s.processes.parts pid ≡ Some (part_of of.process)
-part-there w tasks s pid t h of = ap (λ (xs : List Part). part_at xs pid) h.parts.same ∙ part-seen w.sync.processes pid of.process of.there
+part-there w tasks s pid t h of = ap (λ (xs : List Part). part_at xs pid) h.parts ∙ part-seen w.sync.processes pid of.process of.there
 
 -- one more file may be counted
 pub fresh-files : (w : World) (s : System) → AreChanges w s → length w.log ≤ 2 ^ 40 → s.files.made + 1 < 2 ^ 64
 fresh-files w s h short = omega (arith, h.fresh, ap (λ (fs : Numbered). fs.made) h.files, short)
 
-pub may-plan : RebuiltLaw → (w : World) (tasks : List Task) (s : System) (pid place : ℕ) (t : Task) → Mirrors w tasks s → length w.log ≤ 2 ^ 40
+-- descriptors of which none stands for a file that was never made
+names-files : (count : ℕ) (ds : List (Option Descriptor))
+    → ((fd file offset : ℕ) (writes : Bool) → descriptor_at ds fd ≡ Some (descriptor.File file offset writes) → file < count) → NamesFiles count ds
+names-files count [] h = tt
+names-files count (d ∷ ds) h = (one d (λ file offset writes is. h 0 file offset writes is), names-files count ds (λ fd. h (suc fd)))
+  where
+    one : (d : Option Descriptor) → ((file offset : ℕ) (writes : Bool) → d ≡ Some (descriptor.File file offset writes) → file < count) → NamesFile count d
+    one (Some (descriptor.File file offset writes)) g = g file offset writes refl
+    one (Some (descriptor.Tape tape)) g = tt
+    one (Some (descriptor.Terminal terminal)) g = tt
+    one (Some (descriptor.Pipe end)) g = tt
+    one None g = tt
+
+pub may-plan : RebuiltLaw → (w : World) (tasks : List Task) (s : System) (pid place : ℕ) (t : Task) → Mirrors w tasks s → KeepLimits w.sync → length w.log ≤ 2 ^ 40
     → pid ≡ place + 1 → slice_get tasks place ≡ Some t → MayPlan (sight_in s) pid
-may-plan law w tasks s pid place t h short number there =
+may-plan law w tasks s pid place t h limits short number there =
     let made : IsMade s.files.living = subst (λ (fs : Numbered). IsMade fs.living) (sym h.changes.files) h.changes.made in
     let rebuilt : CanBeRebuilt s.files.living = law s.files.living made in
     let of : IsProcessOf w.sync.processes pid t = process-there w s.served tasks pid place t h.each number there in
     let at : part_at s.processes.parts pid ≡ Some (part_of of.process) = part-there w tasks s pid t h of in
-    let next : pid ≡ suc place = omega arith in
-    let part : IsPart w.sync.files.made (part_of of.process) =
-    each_get (IsPart w.sync.files.made) s.processes.parts place (part_of of.process) h.parts.each (ap (λ (k : ℕ). part_at s.processes.parts k) (sym next) ∙ at) in
     let within : place < length tasks = slice_get_within tasks place t there in
     let size : length tasks ≡ length s.processes.parts = as-many w tasks s h in
     record {
@@ -105,10 +121,11 @@ may-plan law w tasks s pid place t h short number there =
         there = omega (arith, number, within, size);
         few = rebuilt.few;
         short = rebuilt.short;
-        numbered = subst AreNumbered (sym h.changes.files) h.changes.numbered;
+        numbered = subst AreNumbered (sym h.changes.files) limits.numbered;
         named =
             subst (λ (o : Option Part). NamesFiles s.files.made (descriptors_in o)) (sym at)
-            (subst (λ (fs : Numbered). NamesFiles fs.made of.process.descriptors) (sym h.changes.files) part.named);
+            (subst (λ (fs : Numbered). NamesFiles fs.made of.process.descriptors) (sym h.changes.files)
+            (names-files w.sync.files.made of.process.descriptors (limits.processes pid of.process of.there).named));
       };
       ends = record { pipes = w.sync.pipes; most = 16 * length w.log; shown = h.pipes.shown; few = h.pipes.few; room = omega (arith, short) };
     }
@@ -150,7 +167,6 @@ changes-more law w t s s' change makes files possible more new h =
           (each_append IsFormed (changes_in_log w.log) one h.formed (formed-one s.files.living change possible));
       files = same;
       made = subst (λ (fs : Numbered). IsMade fs.living) (sym new ∙ same) (made-one law s.files change possible made);
-      numbered = subst AreNumbered (sym files) (numbered_changed w.sync.files change h.numbered);
       fresh = omega (
         arith,
         h.fresh,
@@ -210,7 +226,6 @@ done-runs laws w tasks s s' pid place full t t' outcome child h number there fin
     let entry : (step w.sync (Enter pid)).entry ≡ x = ap (λ (y : Transition). y.entry) goes in
     let v : World = world_after w (planned w.sync pid of.process plan) in
     let size : length s.processes.parts ≡ length tasks = sym (as-many w tasks s h) in
-    let at : part_at s.processes.parts pid ≡ Some (part_of of.process) = part-there w tasks s pid t h of in
     let marked = noted-mark w s x s'.dependencies.marks done.mark done.system.noted h.changes h.kept in
     record {
       mirrors = subst (λ (y : World). Mirrors y (slice_set tasks place t' ++ option_to_list child) s') (sym (enter-happens w pid (planned w.sync pid of.process plan) goes)) (record {
@@ -223,10 +238,7 @@ done-runs laws w tasks s s' pid place full t t' outcome child h number there fin
         changes = changes-more laws.changes w (planned w.sync pid of.process plan) s s' plan.change refl refl done.plans.possible done.system.changes done.system.files h.changes;
         tapes = done.system.tapes ∙ ap (λ (ts : List TapeState). read_by ts plan.tape) h.tapes;
         parts =
-            parts-planned w s.processes.parts s'.processes.parts pid of.process plan h.parts of.there
-            (subst (λ (fs : Numbered). NamesFiles (changed_by fs plan.change).made (descriptors_after of.process.descriptors plan.verdict plan.slots.items)) h.changes.files
-            (subst (λ (o : Option Part). NamesFiles (changed_by s.files plan.change).made (descriptors_after (descriptors_in o) plan.verdict plan.slots.items)) at done.plans.named))
-            done.system.parts;
+            done.system.parts ∙ ap (λ (xs : List Part). parts_after xs pid plan) h.parts ∙ parts-planned w.sync.processes pid of.process plan of.there;
         pipes =
             subst (λ (y : List Seen). ArePipes v y) (sym done.system.pipes)
             (pipes-planned laws.pipes w s.pipes plan.pipes.items (planned w.sync pid of.process plan) refl done.plans.steps.few done.plans.may h.pipes);
@@ -249,7 +261,7 @@ done-runs laws w tasks s s' pid place full t t' outcome child h number there fin
     }
 
 -- an Enter whose change of the files is done, whose event is noted, and of which then the rest is done
-pub finished-entered : (pid : ℕ) (plan : Plan) (mark : ℕ) (s s1 s3 : System) (d : Kept)
+finished-entered : (pid : ℕ) (plan : Plan) (mark : ℕ) (s s1 s3 : System) (d : Kept)
     → IsSystemWith (changed_by s.files plan.change) s s1
     → IsNoted (entry_of pid plan) (length s1.changes.items) s1.dependencies.marks d.marks mark
     → IsFinished pid plan mark (record s1 { dependencies = d }) s3
@@ -271,7 +283,7 @@ finished-entered pid plan mark s s1 s3 d ready noted done =
     }
 
 -- the process was told this
-pub finished-told : (verdict : Verdict) (mark : ℕ) (files : Numbered) (s s1 : System) (t u : Task) → IsSystemWith files s s1
+finished-told : (verdict : Verdict) (mark : ℕ) (files : Numbered) (s s1 : System) (t u : Task) → IsSystemWith files s s1
     → IsTold verdict mark s1.served t u → IsTold verdict mark s.served t u
 finished-told verdict mark files s s1 t u ready done = subst (λ (n : ℕ). IsTold verdict mark n t u) ready.served done
 
@@ -289,6 +301,26 @@ shared-turned files s s1 d ready = record {
   committer = ready.committer;
   screens = ready.screens;
 }
+
+-- an Enter that was prepared from the task t, which is u now that it has room for more, and was carried out
+pub carried-done : (pid : ℕ) (m : State) (t u v : Task) (s s1 s2 : System) (e : Entering) (outcome : Outcome) (child : Option Task) → machine_of t ≡ m
+    → IsPrepared pid m t.trace s s1 e → IsSameTask t u → IsCarriedOut e u v s1 s2 outcome child → IsDone pid t v s s2 outcome child
+carried-done pid m t u v s s1 s2 e outcome child here prepared same carried =
+    let plan : Plan = e.plan in
+    let entering = prepared.entering in
+    record {
+      plan = plan;
+      mark = carried.mark;
+      plans = subst (λ (x : State). PlansEnter (sight_in s) pid x plan) (sym here) entering.plan;
+      told =
+          told-same plan.verdict carried.mark s.served t u v same
+          (finished-told plan.verdict carried.mark (changed_by s.files plan.change) s s1 u v prepared.changed carried.told);
+      made = carried.made plan.child (machine_of t) t.trace (subst (λ (x : State). IsChild plan.child x t.trace e.child) (sym here) entering.child);
+      system =
+          subst (λ (k : ℕ). IsEntered k plan carried.mark s s2) entering.process
+          (finished-entered e.pid plan carried.mark s s1 s2 carried.dependencies prepared.changed carried.noted carried.rest);
+      outcome_is = carried.outcome_is;
+    }
 
 -- ---- only room was taken
 pub same-status : (t t' : Task) → IsSameTask t t' → status_of t' ≡ status_of t
@@ -330,11 +362,10 @@ same-mirrors w tasks s s' place t t' there same rest h =
         formed = h.changes.formed;
         files = rest.files ∙ h.changes.files;
         made = h.changes.made;
-        numbered = h.changes.numbered;
         fresh = h.changes.fresh;
       };
       tapes = rest.tapes ∙ h.tapes;
-      parts = subst (λ (xs : List Part). AreParts w xs) (sym rest.parts) h.parts;
+      parts = rest.parts ∙ h.parts;
       pipes = subst (λ (y : List Seen). ArePipes w y) (sym rest.pipes) h.pipes;
       counted = subst (λ (n : ℕ). n ≤ length w.log) (sym rest.served) h.counted;
       kept = subst (λ (ms : List Marked). Keeps w.log ms) (sym rest.marks) h.kept;

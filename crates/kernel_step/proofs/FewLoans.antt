@@ -1,10 +1,21 @@
--- Each process had few loans.
-use Rattle.std.proofs.Common.{◌≡◌, ℕ, ◌+◌, ◌≤◌, inl, inr, false, List, map, slice_get, slice_set, Option, Some, None, is_some, refl, sym, subst, arith}
+-- How many loans are out, and that each process had few.
+use Rattle.std.proofs.Common.{◌≡◌, ℕ, ◌+◌, ◌≤◌, inl, inr, false, List, map, slice_get, slice_set, Option, Some, None, is_some, count_by, refl, sym, ap, subst, ◌∙◌, arith}
 use Rattle.std.proofs.lemmas.List.{map-set}
 use Rattle.kernel_model.specs.Answers.{Lending, never_lent, with_child}
-use Rattle.kernel_step.specs.Tasks.{out_of, lending_of, unsettled, AreFewLoans}
+use Rattle.kernel_step.specs.Tasks.{out_of, lending_of, count_out, unsettled, AreFewLoans}
 use Rattle.kernel_step.specs.declared.task.Task.{Task}
-use Rattle.kernel_step.proofs.Lists.{get-map, get-set, get-snoc}
+use Rattle.kernel_step.proofs.Lists.{get-map, get-set, get-snoc, count-map}
+
+-- as many loans are out as tasks
+pub out-lent : (tasks : List Task) → count_by (λ (l : Lending). is_some l.out) (map lending_of tasks) ≡ count_out tasks
+out-lent tasks = count-map lending_of (λ (l : Lending). is_some l.out) tasks
+
+-- the tasks are lent as before
+pub same-out : (old new : List Task) → map lending_of new ≡ map lending_of old → count_out new ≡ count_out old
+same-out old new same =
+    sym (out-lent new)
+    ∙ ap (λ (ls : List Lending). count_by (λ (l : Lending). is_some l.out) ls) same
+    ∙ out-lent old
 
 -- there may be more events
 pub few-longer : (n m : ℕ) (ls : List Lending) → n ≤ m → AreFewLoans n ls → AreFewLoans m ls

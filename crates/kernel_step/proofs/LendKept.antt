@@ -1,8 +1,8 @@
 -- A kernel whose next process is lent.
-use Rattle.std.proofs.Common.{◌≡◌, ℕ, suc, ◌+◌, ◌-◌, ◌*◌, ◌^◌, ◌<◌, ◌≤◌, inl, inr, Bool, true, false, ◌&&◌, not, nat_lt, nat_le, cond, List, [], ◌∷◌, ◌++◌, length, take, drop, map, slice_get, slice_set, slice_index_or, Option, Some, None, is_some, IfSome, option_map, refl, sym, ap, subst, ◌∙◌, arith}
+use Rattle.std.proofs.Common.{◌≡◌, ℕ, suc, ◌+◌, ◌-◌, ◌*◌, ◌^◌, ◌<◌, ◌≤◌, inl, inr, Bool, true, false, ◌&&◌, not, nat_lt, nat_le, cond, List, [], ◌++◌, length, take, drop, map, slice_get, slice_set, slice_index_or, Option, Some, None, is_some, IfSome, option_map, refl, sym, ap, subst, ◌∙◌, arith}
 use Rattle.kernel_step.proofs.Lists.{get-set}
 use Rattle.kernel_step.proofs.EnterFine.{none-some}
-use Rattle.std.specs.Prelude.{find, fold, if◌then◌else◌}
+use Rattle.std.specs.Prelude.{find, if◌then◌else◌}
 use Rattle.std.proofs.lemmas.Bool.{ltb-false, leb-true, and_parts, not-true}
 use Rattle.std.proofs.lemmas.List.{map-set, length-map}
 use Rattle.std.proofs.lemmas.List.Sums.{sum_by-set}
@@ -29,13 +29,9 @@ use Rattle.withheld.specs.Withheld.{Withheld, whats}
 use Rattle.kernel_model.specs.Shown.{told, end_in}
 use Rattle.kernel_model.specs.Entries.{Item}
 use Rattle.kernel_step.specs.declared.task.Task.{Task}
-use Rattle.kernel_step.proofs.FewLoans.{few-put, few-here}
+use Rattle.kernel_step.proofs.FewLoans.{out-lent, few-put, few-here}
 use Rattle.kernel_step.proofs.LendPick.{find-round}
 use Rattle.kernel_step.proofs.Turning.{IsProcessOf, process-there}
-
-sum_from-map : {A B : Type 0} (f : A → B) (w : B → ℕ) (n : ℕ) (xs : List A) → fold (λ a y. a + w y) n (map f xs) ≡ fold (λ a x. a + w (f x)) n xs
-sum_from-map f w n [] = refl
-sum_from-map f w n (x ∷ xs) = sum_from-map f w (n + w (f x)) xs
 
 -- one more is out
 count_out-lent : (quantum : ℕ) (tasks : List Task) (place : ℕ) (t u : Task) → slice_get tasks place ≡ Some t → is_some (out_of t) ≡ false
@@ -52,7 +48,7 @@ count_out-lent quantum tasks place t u there here out =
     omega arith
 
 pub loans_out-is : (b : Boot) (history : List Event) (tasks : List Task) (last : ℕ) → loans_out (kernel_of b history tasks last) ≡ count_out tasks
-loans_out-is b history tasks last = sum_from-map lending_of (λ (l : Lending). cond (is_some l.out) 1 0) 0 tasks
+loans_out-is b history tasks last = out-lent tasks
 
 -- the refusal is that of the tasks
 pub full-is : (b : Boot) (history : List Event) (tasks : List Task) (last : ℕ)

@@ -11,8 +11,8 @@ use Rattle.machine_model.specs.States.{State}
 use Rattle.pipes.specs.Seen.{Seen}
 use Rattle.processes.specs.Parts.{Part}
 use Rattle.withheld.specs.Withheld.{Withheld, Held, IsSame, whats}
-use Rattle.kernel_step.specs.Entering.{MayBeTold, IsChild}
-use Rattle.kernel_step.specs.Ready.{MayEnter, HasRoomForEnter, IsPrepared, IsReady}
+use Rattle.kernel_step.specs.Entering.{entry_of, MayBeTold, IsChild}
+use Rattle.kernel_step.specs.Ready.{MayEnter, HasRoomForEnter, IsPrepared, IsReady, MayBeNoted}
 use Rattle.kernel_step.specs.Tasks.{machine_of, out_of, status_of}
 use Rattle.kernel_step.specs.declared.plan.Entering.{Entering}
 use Rattle.kernel_step.specs.declared.system.System.{System}
@@ -69,4 +69,15 @@ is-ready u m parent trace s s1 d pid history e may prepared holds same here is t
         may = subst (λ (ps : List Seen). MayAllStep ps e.plan.pipes.items) (sym changed.pipes) plans.may;
         few = subst (λ (n : ℕ). n < 2 ^ 63) (sym changed.served) may.few;
       };
+    }
+
+-- its event may be noted
+pub may-note : (m : State) (trace : Withheld Item) (s s1 : System) (d : Kept) (pid : ℕ) (e : Entering) → IsPrepared pid m trace s s1 e
+    → length e.writes.items ≤ d.room → MayBeNoted (record s1 { dependencies = d }) e
+may-note m trace s s1 d pid e prepared room =
+    let entering = prepared.entering in
+    record {
+      room = room;
+      reads = subst (λ (k : ℕ). e.reads.items ≡ (entry_of k e.plan).reads) (sym entering.process) entering.reads;
+      writes = subst (λ (k : ℕ). e.writes.items ≡ (entry_of k e.plan).writes) (sym entering.process) entering.writes;
     }

@@ -5,7 +5,6 @@ use Rattle.std.proofs.lemmas.Bool.{ne_eqb}
 use Rattle.disk_model.specs.Files.{IsFormed, IsMade}
 use Rattle.disk_model.specs.declared.change.Change.{Change}
 use Rattle.disk_model.specs.Numbers.{Numbered}
-use Rattle.kernel_model.specs.Limits.{AreNumbered}
 use Rattle.kernel_model.specs.Entries.{Entry, Item, Got}
 use Rattle.kernel_model.specs.Loans.{waits_after, is_waiting}
 use Rattle.kernel_model.specs.Paths.{changes_in_log, with_change}
@@ -91,7 +90,6 @@ changes-part w v s s' e silent log files same_changes same_files h =
       formed = subst (λ (cs : List Change). AllByRecursion IsFormed cs) (sym same) h.formed;
       files = same_files ∙ h.files ∙ sym files;
       made = subst (λ (fs : Numbered). IsMade fs.living) (sym files) h.made;
-      numbered = subst AreNumbered (sym files) h.numbered;
       fresh = omega (arith, h.fresh, ap (λ (fs : Numbered). fs.made) files, ap (λ (l : List Entry). length l) log, length-append w.log (e ∷ []));
     }
 

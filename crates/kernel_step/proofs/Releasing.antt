@@ -1,16 +1,15 @@
 -- What a running kernel shows and hands out is what the run releases.
-use Rattle.std.proofs.Common.{◌≡◌, ℕ, Bool, true, false, nat_le, if◌then◌else◌, List, [], ◌∷◌, slice_get, length, map, suc, Option, Some, is_some, refl, ap, ◌∙◌}
+use Rattle.std.proofs.Common.{◌≡◌, ℕ, Bool, true, false, nat_le, if◌then◌else◌, List, [], ◌∷◌, slice_get, length, map, suc, ◌+◌, Option, Some, is_some, refl, sym, ap, subst, ◌∙◌}
 use Rattle.kernel_model.specs.Paths.{is_durable}
-use Rattle.kernel_model.specs.Shown.{Given, prefix, released}
+use Rattle.kernel_model.specs.Shown.{Given, prefix, released, told, handed}
 use Rattle.kernel_model.specs.State.{Process, process_at}
-use Rattle.kernel_model.specs.World.{Boot}
+use Rattle.kernel_model.specs.World.{Boot, World}
 use Rattle.withheld.specs.Withheld.{Withheld, Held, whats, released as released_of}
-use Rattle.kernel_step.specs.Stands.{run_of, KeepsRun}
+use Rattle.kernel_step.specs.Stands.{run_of, Stands}
 use Rattle.kernel_step.specs.Seen.{AreMarked, Withholds}
-use Rattle.kernel_step.specs.Tests.{IsPlaceOf}
-use Rattle.kernel_step.specs.declared.system.System.{System}
+use Rattle.kernel_step.specs.Tests.{IsTaskOf}
+use Rattle.kernel_step.specs.declared.running.Running.{Running}
 use Rattle.kernel_step.specs.declared.task.Task.{Task}
-use Rattle.kernel_model.specs.declared.event.Event.{Event}
 use Rattle.kernel_step.proofs.Turning.{IsProcessOf, process-there}
 
 -- ---- what is released
@@ -38,9 +37,20 @@ marked-length [] (h ∷ hs) m = absurd m
 marked-length (g ∷ gs) [] m = absurd m
 marked-length (g ∷ gs) (h ∷ hs) m = ap (λ n. suc n) (marked-length gs hs m.2)
 
+-- what the task of a process has handed out is what the run hands out of it
+pub handed-is : (b : Boot) (r : Running) (tasks : List Task) (pid : ℕ) (t : Task) → Stands b r → tasks ≡ r.tasks.items → IsTaskOf tasks pid t
+    → released_of t.trace ≡ handed (run_of b r.history.items) pid
+handed-is b r tasks pid t h same of =
+    let w : World = run_of b r.history.items in
+    let there : slice_get r.tasks.items of.place ≡ Some t = subst (λ (ts : List Task). slice_get ts of.place ≡ Some t) same of.there in
+    released-is w.storage.committed (told (of.place + 1) w.log) t.trace (h.parts.mirrors.each.each of.place t there).trace
+    ∙ ap (λ (p : ℕ). handed w p) (sym of.placed.number)
+
 -- ---- whether there is such a process
-pub there-is : (b : Boot) (history : List Event) (tasks : List Task) (s : System) (pid place : ℕ) (t : Task) → KeepsRun b history tasks s
-    → IsPlaceOf tasks pid place → slice_get tasks place ≡ Some t → is_some (process_at (run_of b history).sync.processes pid) ≡ true
-there-is b history tasks s pid place t h placed there =
-    let of : IsProcessOf (run_of b history).sync.processes pid t = process-there (run_of b history) s.served tasks pid place t h.mirrors.each placed.number there in
-    ap (λ (o : Option Process). is_some o) of.there
+pub there-is : (b : Boot) (r : Running) (tasks : List Task) (pid : ℕ) (t : Task) → Stands b r → tasks ≡ r.tasks.items → IsTaskOf tasks pid t
+    → is_some (process_at (run_of b r.history.items).sync.processes pid) ≡ true
+there-is b r tasks pid t h same of =
+    let w : World = run_of b r.history.items in
+    let there : slice_get r.tasks.items of.place ≡ Some t = subst (λ (ts : List Task). slice_get ts of.place ≡ Some t) same of.there in
+    let p : IsProcessOf w.sync.processes pid t = process-there w r.system.served r.tasks.items pid of.place t h.parts.mirrors.each of.placed.number there in
+    ap (λ (o : Option Process). is_some o) p.there

@@ -15,6 +15,7 @@ use Rattle.kernel_model.specs.declared.answer.Answer.TheVariants as answer_of
 use Rattle.kernel_model.specs.declared.answer.Outcome.{Outcome}
 use Rattle.kernel_model.specs.declared.event.Event.{Event}
 use Rattle.kernel_model.specs.declared.event.Event.TheVariants.{Turn, Enter}
+use Rattle.commit_deps.specs.Kept.{Kept}
 use Rattle.kernel_step.specs.Stands.{run_of, kernel_of, KeepsRun}
 use Rattle.kernel_step.specs.Entering.{IsSameTask, IsSameSystem}
 use Rattle.kernel_step.specs.Loaned.{loan_result}
@@ -25,9 +26,9 @@ use Rattle.kernel_step.specs.declared.loan.Done.{Done}
 use Rattle.kernel_step.specs.declared.running.Running.{Running}
 use Rattle.kernel_step.specs.declared.system.System.{System}
 use Rattle.kernel_step.specs.declared.task.Task.{Task}
-use Rattle.kernel_step.proofs.EnterCore.{same-out, child-out}
+use Rattle.kernel_step.proofs.EnterCore.{child-out}
 use Rattle.kernel_step.proofs.EnterWorld.{EnterLaws, same-mirrors, same-lendings}
-use Rattle.kernel_step.proofs.FewLoans.{few-longer, few-same, few-put, few-at, few-child}
+use Rattle.kernel_step.proofs.FewLoans.{same-out, few-longer, few-same, few-put, few-at, few-child}
 use Rattle.kernel_step.proofs.Lists.{get-map, count-cons, some-there}
 use Rattle.kernel_step.proofs.SettleWorld.{run-reaches, back-mirrors, both-run}
 use Rattle.kernel_step.proofs.Turning.{IsProcessOf, process-there, turn-child}
@@ -295,6 +296,20 @@ kept-kernel b history history' tasks last place t u there same_history same =
 pub same-task-as : (t : Task) → IsSameTask t t
 same-task-as t =
     record { pid = refl; machine = refl; trace = record { items = refl; committed = refl }; waited = refl; loans = refl; out = refl }
+
+-- only room was taken for what the marks say
+pub only-room : (s : System) (d : Kept) → d.marks ≡ s.dependencies.marks → IsSameSystem s (record s { dependencies = d })
+only-room s d marks = record {
+  marks = marks;
+  changes = refl;
+  files = refl;
+  tapes = refl;
+  pipes = refl;
+  parts = refl;
+  served = refl;
+  committer = refl;
+  screens = λ committed log screens. screens;
+}
 
 -- no task has changed
 pub unsettled-same : (old new : Running) (place : ℕ) → place < length old.tasks.items → new.tasks.items ≡ old.tasks.items → IsSameSystem old.system new.system

@@ -20,7 +20,7 @@ use Rattle.kernel_step.specs.declared.system.System.{System}
 use Rattle.kernel_step.specs.declared.task.Task.{Task}
 use Rattle.kernel_step.specs.declared.whereabouts.Whereabouts.TheVariants.{Here}
 use Rattle.kernel_step.proofs.EnterFine.{IsFineTask}
-use Rattle.kernel_step.proofs.EnterParts.{parts-quiet, pipes-quiet, counted-quiet}
+use Rattle.kernel_step.proofs.EnterParts.{pipes-quiet, counted-quiet}
 use Rattle.kernel_step.proofs.EnterWorld.{EnterLaws, IsRun, done-runs, same-task}
 use Rattle.kernel_step.proofs.Lists.{get-set, get-set-here}
 use Rattle.kernel_step.proofs.Quiet.{own-silent, screens-quiet, trace-quiet, changes-part, waits-own}
@@ -119,7 +119,7 @@ back-mirrors w tasks s s' pid place n q m t u h number there out reached few bac
       });
       changes = changes-part w v s s' (own_entry pid) (own-silent pid) refl refl noted.changes noted.files h.changes;
       tapes = noted.tapes ∙ h.tapes;
-      parts = parts-quiet w v s.processes.parts s'.processes.parts refl (turn-parts w.sync.processes pid n of.process of.there) noted.parts h.parts;
+      parts = noted.parts ∙ h.parts ∙ sym (turn-parts w.sync.processes pid n of.process of.there);
       pipes = pipes-quiet w v s.pipes s'.pipes (own_entry pid) refl refl noted.pipes h.pipes;
       counted = counted-quiet w v s.served s'.served (own_entry pid) refl (let is : s'.served ≡ s.served = noted.served in omega (arith, is)) h.counted;
       kept = noted.noted w.log h.kept;

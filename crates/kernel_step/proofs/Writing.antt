@@ -1,5 +1,5 @@
--- The disk's events of the parts are those of the run.
-use Rattle.std.proofs.Common.{◌≡◌, ℕ, suc, ◌+◌, ◌*◌, ◌^◌, ◌<◌, ◌≤◌, Bool, true, false, not, List, [], ◌∷◌, ◌++◌, length, map, drop, slice_get, Option, Some, None, is_some, IfSome, is_none, count_by, if◌then◌else◌, Result, Ok, Err, refl, sym, ap, subst, ◌∙◌, arith}
+-- The device's events of the parts are those of the run.
+use Rattle.std.proofs.Common.{◌≡◌, ℕ, suc, ◌+◌, ◌*◌, ◌^◌, ◌<◌, ◌≤◌, Bool, true, false, not, List, [], ◌∷◌, ◌++◌, length, map, drop, slice_get, Option, Some, None, is_some, IfSome, is_none, if◌then◌else◌, Result, Ok, Err, refl, sym, ap, subst, ◌∙◌, arith}
 use Rattle.std.proofs.lemmas.List.{length_push}
 use Rattle.std.specs.Prelude.{IfOk, IfErr, OnOk, OnErr}
 use Rattle.std.specs.List.{AllByRecursion}
@@ -38,11 +38,10 @@ use Rattle.kernel_step.specs.Tasks.{machine_of, out_of, process_of, status_of, l
 use Rattle.kernel_step.specs.Tests.{full_of}
 use Rattle.kernel_step.specs.declared.system.System.{System}
 use Rattle.kernel_step.specs.declared.task.Task.{Task}
-use Rattle.kernel_step.proofs.FewLoans.{few-same}
+use Rattle.kernel_step.proofs.FewLoans.{same-out, few-same}
 use Rattle.kernel_step.proofs.Applying.{full-is, refused-applies}
-use Rattle.kernel_step.proofs.Lists.{count-map}
 use Rattle.kernel_step.proofs.Refusing.{none-of-two, none-of-four}
-use Rattle.kernel_step.proofs.EnterParts.{parts-quiet, pipes-quiet, counted-quiet}
+use Rattle.kernel_step.proofs.EnterParts.{pipes-quiet, counted-quiet}
 use Rattle.kernel_step.proofs.EnterLists.{withholds-moved}
 use Rattle.kernel_step.proofs.Quiet.{disk-silent, screens-quiet, trace-quiet, changes-part, waits-disk}
 
@@ -50,7 +49,7 @@ use Rattle.kernel_step.proofs.Quiet.{disk-silent, screens-quiet, trace-quiet, ch
 abbrev pub SilentLaw : Type 0
 SilentLaw = (log : List Entry) (marks : List Marked) (e : Entry) → e.writes ≡ [] → Keeps log marks → Keeps (log ++ e ∷ []) marks
 
--- the run after an event of the disk that leads to this storage
+-- the run after an event of the device that leads to this storage
 abbrev pub stored_world : World → Storage → World
 stored_world w st = record { sync = w.sync; log = w.log ++ disk_entry ∷ []; storage = st }
 
@@ -134,7 +133,7 @@ screens-still c log screens h = record {
   each = λ t s there. (s, there, record { items = refl; committed = (h.each t s there).committed });
 }
 
--- ---- all parts after an event of the disk
+-- ---- all parts after an event of the device
 -- the pipes, the table of processes and the count of what was told stay
 pub record IsSameRest (old new : System) : Type 0 where
   pub pipes : new.pipes ≡ old.pipes
@@ -149,7 +148,7 @@ stored-mirrors law w st st' old new s s' h same moved advanced marks changes fil
   each = subst (λ (n : ℕ). AreTasks (stored_world w st) n new) (sym rest.served) (tasks-moved w s.served st old new h.each moved);
   changes = changes-part w (stored_world w st) s s' disk_entry disk-silent refl refl changes files h.changes;
   tapes = tapes ∙ h.tapes;
-  parts = parts-quiet w (stored_world w st) s.processes.parts s'.processes.parts refl refl rest.parts h.parts;
+  parts = rest.parts ∙ h.parts;
   pipes = pipes-quiet w (stored_world w st) s.pipes s'.pipes disk_entry refl refl rest.pipes h.pipes;
   counted = counted-quiet w (stored_world w st) s.served s'.served disk_entry refl (let is : s'.served ≡ s.served = rest.served in omega (arith, is)) h.counted;
   kept = subst (λ (ms : List Marked). Keeps (w.log ++ disk_entry ∷ []) ms) (sym marks) (law w.log s.dependencies.marks disk_entry refl h.kept);
@@ -167,17 +166,14 @@ still-mirrors law w st st' tasks s h same committed =
     (subst (λ (c : ℕ). AreAdvanced c s.screens.items s.screens.items) (sym committed) (screens-still w.storage.committed w.log s.screens.items h.screens))
     refl refl refl refl (record { pipes = refl; parts = refl; served = refl }) refl
 
--- ---- the kernel after an event of the disk
+-- ---- the kernel after an event of the device
 pub stored-core : (b : Boot) (history history' : List Event) (old new : List Task) (s s' : System) (e : Event) (st : Storage) (full : Bool)
     → KeepsRun b history old s → full ≡ full_of (length history) old → full ≡ false → history' ≡ history ++ e ∷ []
     → happens (run_of b history) e ≡ stored_world (run_of b history) st
     → AreMoved st.committed old new → Mirrors (stored_world (run_of b history) st) new s'
     → KeepsRun b history' new s'
 stored-core b history history' old new s s' e st full h is fine grown happen moved mirrors =
-    let out : count_out new ≡ count_out old =
-    sym (count-map lending_of (λ (l : Lending). is_some l.out) new)
-    ∙ ap (λ (ls : List Lending). count_by (λ (l : Lending). is_some l.out) ls) (tasks-lendings st.committed old new moved)
-    ∙ count-map lending_of (λ (l : Lending). is_some l.out) old in
+    let out : count_out new ≡ count_out old = same-out old new (tasks-lendings st.committed old new moved) in
     let space : length history + 2 * count_out old < 2 ^ 40 = leb-false (2 ^ 40) (length history + 2 * count_out old) (sym is ∙ fine) in
     let longer : length (history ++ e ∷ []) ≡ length history + 1 = length_push history e in
     subst (λ (es : List Event). KeepsRun b es new s') (sym grown) (record {

@@ -6,12 +6,12 @@ use Rattle.disk_model.specs.Numbers.{Numbered}
 use Rattle.machine_model.specs.Access.{is_writable}
 use Rattle.machine_model.specs.States.{State, stands_at, replied}
 use Rattle.machine_model.specs.declared.stop.Stop.TheVariants.{Call}
-use Rattle.calls.specs.Plans.{effect_with, IsPossible, NamesFiles, AreLeft, EditsAs, IsNext, MayAllStep, OpensAlone, OpensNone, all_seen}
+use Rattle.calls.specs.Plans.{effect_with, IsPossible, AreLeft, EditsAs, IsNext, MayAllStep, OpensAlone, OpensNone, all_seen}
 use Rattle.calls.specs.Sights.{Sight, MayPlanCall}
 use Rattle.calls.specs.declared.plan.Plan.{Plan}
 use Rattle.commit_deps.specs.Keeps.{Keeps}
 use Rattle.commit_deps.specs.Marks.{IsMarkOf}
-use Rattle.commit_deps.specs.Kept.{Marked}
+use Rattle.commit_deps.specs.Kept.{Kept, Marked}
 use Rattle.kernel_model.specs.Answers.{outcome_of}
 use Rattle.kernel_model.specs.Entries.{Entry, Item, Got, End as Ended}
 use Rattle.kernel_model.specs.Paths.{changes_in_log}
@@ -31,7 +31,7 @@ use Rattle.kernel_model.specs.declared.request.Verdict.TheVariants.{Waits, Repli
 use Rattle.pipes.specs.Seen.{Seen, Shows, seen_of as seen_pipe}
 use Rattle.pipes.specs.Stepping.{HasAtMost}
 use Rattle.withheld.specs.Withheld.{Withheld, all_held, IsSame}
-use Rattle.processes.specs.Parts.{Part, part_of, part_at, with_part, child_part, descriptors_in}
+use Rattle.processes.specs.Parts.{Part, part_of, part_at, with_part, child_part}
 use Rattle.kernel_step.specs.Seen.{AreScreens}
 use Rattle.kernel_step.specs.Tasks.{machine_of, out_of}
 use Rattle.kernel_step.specs.Waiting.{served_after, waited_after}
@@ -177,7 +177,6 @@ pub record PlansEnter (seen : Sight) (pid : ℕ) (s : State) (plan : Plan) : Typ
   pub one_child : (plan.child ≡ None) ⊎ (plan.collects ≡ None)
   pub possible : IfSome plan.change (IsPossible seen.files.living)
   pub left : IfSome plan.tape (AreLeft seen.tapes)
-  pub named : NamesFiles (changed_by seen.files plan.change).made (descriptors_after (descriptors_in (part_at seen.parts pid)) plan.verdict plan.slots.items)
   pub steps : AreSteps plan.pipes.items
   pub may : MayAllStep seen.pipes plan.pipes.items
   pub child : IfSome plan.child (IsNext (length seen.parts))
@@ -299,6 +298,17 @@ pub record IsFinished (pid : ℕ) (plan : Plan) (mark : ℕ) (old new : System) 
   pub served : new.served ≡ served_after plan.verdict old.served
   pub committer : new.committer ≡ old.committer
   pub screens : ArePrinted plan.output mark old.screens.items new.screens.items
+
+-- An Enter that was prepared is carried out: its event is noted, the rest of it is done, the task was told what it came to, and so
+-- was the process that it made, if it made one.
+pub record IsCarriedOut (e : Entering) (old new : Task) (before later : System) (outcome : Outcome) (child : Option Task) : Type 0 where
+  pub mark : ℕ
+  pub dependencies : Kept
+  pub noted : IsNoted (entry_of e.pid e.plan) (length before.changes.items) before.dependencies.marks dependencies.marks mark
+  pub rest : IsFinished e.pid e.plan mark (record before { dependencies = dependencies }) later
+  pub told : IsTold e.plan.verdict mark before.served old new
+  pub made : (number : Option ℕ) (s : State) (parent : Withheld Item) → IsChild number s parent e.child → MakesTask number mark s parent child
+  pub outcome_is : outcome ≡ outcome_of (item_of e.plan.verdict)
 
 -- what is shared after an Enter, whose event has this mark
 pub record IsEntered (pid : ℕ) (plan : Plan) (mark : ℕ) (old new : System) : Type 0 where

@@ -1,5 +1,5 @@
 -- Which process is lent next, and what a loan does to its task.
-use Rattle.std.specs.Prelude.{◌≡◌, ℕ, ◌+◌, ◌-◌, ◌*◌, ◌^◌, ◌&&◌, not, nat_lt, nat_le, Bool, true, if◌then◌else◌, List, take, drop, Option, Some, None, is_some, MatchOption, position, slice_get, slice_set}
+use Rattle.std.specs.Prelude.{◌≡◌, ℕ, ◌+◌, ◌-◌, ◌*◌, ◌^◌, ◌&&◌, not, nat_lt, nat_le, Bool, true, if◌then◌else◌, List, take, drop, Option, Some, None, is_some, position, slice_get, slice_set}
 use Rattle.kernel_model.specs.declared.standing.Standing.{Standing}
 use Rattle.kernel_model.specs.declared.standing.Standing.TheVariants as standing
 use Rattle.kernel_step.specs.Tasks.{machine_of, out_of, status_of, count_out}
@@ -62,7 +62,3 @@ pub record Lent (quantum served from : ℕ) (old new : List Task) (loan : Loan) 
   pub later : Task
   pub lent : IsLent quantum task later
   pub after : new ≡ slice_set old place later
-
--- the next task was lent, or none was where none fits
-abbrev pub LendsNext : ℕ → ℕ → ℕ → List Task → List Task → Option Loan → Type 0
-LendsNext quantum served from old new given = MatchOption given ((next_fit quantum served from old ≡ None) × (new ≡ old)) (λ loan. Lent quantum served from old new loan)

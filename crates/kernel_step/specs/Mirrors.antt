@@ -3,11 +3,9 @@ use Rattle.std.specs.Prelude.{◌≡◌, ℕ, ◌+◌, ◌*◌, ◌^◌, ◌≤�
 use Rattle.std.specs.List.{AllByRecursion}
 use Rattle.disk_model.specs.Files.{IsFormed, IsMade}
 use Rattle.commit_deps.specs.Keeps.{Keeps}
-use Rattle.calls.specs.Plans.{NamesFiles}
 use Rattle.pipes.specs.Seen.{Seen, Shows}
 use Rattle.pipes.specs.Stepping.{HasAtMost}
-use Rattle.processes.specs.Parts.{Part, part_of}
-use Rattle.kernel_model.specs.Limits.{AreNumbered}
+use Rattle.processes.specs.Parts.{part_of}
 use Rattle.kernel_model.specs.Paths.{changes_in_log}
 use Rattle.kernel_model.specs.Loans.{is_waiting}
 use Rattle.kernel_model.specs.Shown.{told}
@@ -32,36 +30,26 @@ pub record AreTasks (w : World) (served : ℕ) (tasks : List Task) : Type 0 wher
   pub processes : map process_of tasks ≡ map bare w.sync.processes
   pub each : (place : ℕ) (t : Task) → slice_get tasks place ≡ Some t → IsTask w served place t
 
--- the changes are those of the log, and each can be spelled; the files are those of the run, possible changes make them, and they
--- are numbered; at most 32 were there at first, and each event made at most one more
+-- the changes are those of the log, and each can be spelled; the files are those of the run, and possible changes make them; at
+-- most 32 were there at first, and each event made at most one more
 pub record AreChanges (w : World) (system : System) : Type 0 where
   pub changes : system.changes.items ≡ changes_in_log w.log
   pub formed : AllByRecursion IsFormed (changes_in_log w.log)
   pub files : system.files ≡ w.sync.files
   pub made : IsMade w.sync.files.living
-  pub numbered : AreNumbered w.sync.files
   pub fresh : w.sync.files.made ≤ 32 + length w.log
-
--- a process's descriptors name files that were made
-pub record IsPart (files : ℕ) (part : Part) : Type 0 where
-  pub named : NamesFiles files part.descriptors
-
--- the table of processes has the parts of the run's processes
-pub record AreParts (w : World) (parts : List Part) : Type 0 where
-  pub same : parts ≡ map part_of w.sync.processes
-  pub each : AllByRecursion (IsPart w.sync.files.made) parts
 
 -- the pipes are those of the run, and each event added no more than 16 descriptors to an end
 pub record ArePipes (w : World) (seen : List Seen) : Type 0 where
   pub shown : Shows w.sync.pipes seen
   pub few : AllByRecursion (HasAtMost (16 * length w.log)) w.sync.pipes
 
--- all parts keep what the run says
+-- all parts keep what the run says; the table of processes has the parts of the run's processes
 pub record Mirrors (w : World) (tasks : List Task) (system : System) : Type 0 where
   pub each : AreTasks w system.served tasks
   pub changes : AreChanges w system
   pub tapes : system.tapes ≡ w.sync.tapes
-  pub parts : AreParts w system.processes.parts
+  pub parts : system.processes.parts ≡ map part_of w.sync.processes
   pub pipes : ArePipes w system.pipes
   pub counted : system.served ≤ length w.log
   pub kept : Keeps w.log system.dependencies.marks

@@ -12,7 +12,7 @@ use Rattle.machine_model.specs.States.{State, stands_at}
 use Rattle.pipes.specs.Seen.{Seen}
 use Rattle.processes.specs.Table.{Table, HasRoom as HasChildRoom}
 use Rattle.withheld.specs.Withheld.{Withheld, whats}
-use Rattle.kernel_step.specs.Entering.{sight_in, MayBeTold, MayPlan, HasSpaceFor, IsSpare, IsEntering, IsSystemWith}
+use Rattle.kernel_step.specs.Entering.{sight_in, entry_of, MayBeTold, MayPlan, HasSpaceFor, IsSpare, IsEntering, IsSystemWith}
 use Rattle.kernel_step.specs.Tasks.{machine_of, out_of, status_of}
 use Rattle.kernel_step.specs.declared.plan.Entering.{Entering}
 use Rattle.kernel_step.specs.declared.system.System.{System}
@@ -49,6 +49,12 @@ pub record HasRoomForEnter (history : Vec Event) (trace : Withheld Item) (s : Sy
 pub record IsPrepared (pid : ℕ) (m : State) (trace : Withheld Item) (old new : System) (e : Entering) : Type 0 where
   pub entering : IsEntering (sight_in old) pid m trace e
   pub changed : IsSystemWith (changed_by old.files e.plan.change) old new
+
+-- the event of an Enter may be noted: there is room for what it writes, and what it reads and writes is what its plan says
+pub record MayBeNoted (s : System) (e : Entering) : Type 0 where
+  pub room : length e.writes.items ≤ s.dependencies.room
+  pub reads : e.reads.items ≡ (entry_of e.pid e.plan).reads
+  pub writes : e.writes.items ≡ (entry_of e.pid e.plan).writes
 
 -- ---- the rest of an Enter
 

@@ -1,4 +1,4 @@
--- What the disk's events do.
+-- What the device's events do.
 use Rattle.std.specs.Prelude.{◌≡◌, ℕ, Bool, List, [], ◌∷◌, ◌++◌, drop, None}
 use Rattle.disk_model.specs.declared.change.Change.{Change}
 use Rattle.disk_model.specs.declared.change.NamedFile.{NamedFile}
@@ -16,7 +16,7 @@ pub record WasCut (old new : Storage) (changes : List Change) (files : List Name
   pub answer : a ≡ answer_of.Cut (changes_to_commit new) (writes_to_come new)
   pub history : events' ≡ events ++ Cut ∷ []
 
--- a Cut was refused: neither the disk nor the history has changed
+-- a Cut was refused: neither the storage nor the history has changed
 pub record IsUncut (old new : Storage) (events events' : List Event) : Type 0 where
   pub committer : new ≡ old
   pub history : events' ≡ events

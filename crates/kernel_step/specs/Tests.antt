@@ -1,5 +1,5 @@
 -- The refusals of a process's events, by its task.
-use Rattle.std.specs.Prelude.{◌≡◌, ℕ, ◌+◌, ◌*◌, ◌^◌, ◌<◌, nat_le, Bool, List, length, map, Option, is_some}
+use Rattle.std.specs.Prelude.{◌≡◌, ℕ, ◌+◌, ◌*◌, ◌^◌, ◌<◌, nat_le, Bool, List, length, map, slice_get, Option, Some, is_some}
 use Rattle.kernel_model.specs.declared.answer.Refused.{Refused}
 use Rattle.kernel_model.specs.State.{process_at}
 use Rattle.kernel_model.specs.Answers.{lending_at, quantum_out, turn_refusal, enter_refusal}
@@ -26,3 +26,9 @@ enter_refusal_of tasks full pid = enter_refusal (process_at (map process_of task
 pub record IsPlaceOf (tasks : List Task) (pid place : ℕ) : Type 0 where
   pub number : pid ≡ place + 1
   pub there : place < length tasks
+
+-- this is the task of a process
+pub record IsTaskOf (tasks : List Task) (pid : ℕ) (t : Task) : Type 0 where
+  pub place : ℕ
+  pub placed : IsPlaceOf tasks pid place
+  pub there : slice_get tasks place ≡ Some t

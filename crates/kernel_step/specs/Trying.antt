@@ -1,6 +1,7 @@
 -- What a Turn and an Enter do to a running kernel.
 use Rattle.std.specs.Prelude.{◌≡◌, ℕ, ◌+◌, ◌*◌, ◌^◌, ◌<◌, ◌≤◌, Bool, [], ◌∷◌, ◌++◌, length, map, None}
 use Rattle.kernel_model.specs.Answers.{entered, outcome_of, with_child}
+use Rattle.kernel_model.specs.Limits.{KeepLimits}
 use Rattle.kernel_model.specs.Ran.{ran_in}
 use Rattle.kernel_model.specs.Steps.{step}
 use Rattle.kernel_model.specs.World.{World, happens}
@@ -44,11 +45,12 @@ pub record IsTurnRefused (old new : Running) : Type 0 where
 
 -- ---- an Enter
 
--- an Enter may be tried: the parts keep what some run says, and the history, with two events kept for each loan that is out, is not
--- too long
+-- an Enter may be tried: the parts keep what some run says, whose tables keep their limits, and the history, with two events kept for
+-- each loan that is out, is not too long
 pub record MayTryEnter (r : Running) : Type 0 where
   pub world : World
   pub mirrors : Mirrors world r.tasks.items r.system
+  pub limits : KeepLimits world.sync
   pub short : length world.log ≤ 2 ^ 40
   pub room : length r.history.items + 2 * count_out r.tasks.items ≤ 2 ^ 40
 

@@ -4,7 +4,6 @@ ghost use Rattle.kernel_step.specs.Stands.{Stands, Steps};
 
 use crate::running::Running;
 use crate::storing::{complete, cut, fail, release};
-use crate::tasks::is_full;
 use commit_deps::silent_events_leave_marks;
 use kernel_model::{Answer, Event, Refused};
 
@@ -31,7 +30,7 @@ impl Running {
         ensures { (b : Boot) → Stands b self.old → Steps b Event.Cut self.old self.new result }
     {
         silent_events_leave_marks();
-        let full = is_full(self.history.len(), &self.tasks);
+        let full = self.is_full();
         cut(&mut self.history, &mut self.system, full)
     }
 
@@ -41,7 +40,7 @@ impl Running {
         ensures { (b : Boot) → Stands b self.old → Steps b (Event.Complete at) self.old self.new result }
     {
         silent_events_leave_marks();
-        let full = is_full(self.history.len(), &self.tasks);
+        let full = self.is_full();
         let committed = complete(&mut self.history, full, &mut self.system.committer, at)?;
         release(&mut self.tasks, &mut self.system.screens, committed);
         Ok(Answer::Completed { committed })
@@ -53,7 +52,7 @@ impl Running {
         ensures { (b : Boot) → Stands b self.old → Steps b (Event.Fail at) self.old self.new result }
     {
         silent_events_leave_marks();
-        let full = is_full(self.history.len(), &self.tasks);
+        let full = self.is_full();
         fail(&mut self.history, full, &mut self.system.committer, at)
     }
 }

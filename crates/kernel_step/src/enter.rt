@@ -10,14 +10,15 @@ ghost use Rattle.kernel_step.specs.Tasks.{machine_of, out_of};
 ghost use Rattle.kernel_step.specs.Tests.{enter_refusal_of};
 ghost use Rattle.kernel_step.specs.Unchanged.{AreUnchanged};
 
-use crate::finishing::{finish, note_enter};
+use crate::finishing::carry_out;
+use crate::plan::Caller;
 use crate::room::prepare;
 use crate::running::Running;
 use crate::system::System;
 use crate::task::Task;
-use crate::tasks::{enter_place, is_full};
+use crate::tasks::enter_place;
 use disk_model::{checkpoints_fit, made_files_change};
-use kernel_model::{Answer, Event, Outcome, Refused};
+use kernel_model::{Answer, Event, Outcome, Refused, tables_keep_their_limits};
 use pipes::{ends_grow_by_one, steps_are_shown};
 use std::alloc::AllocError;
 
@@ -57,11 +58,9 @@ fn enter_task(
     ensures err { OnErr result (AreUnchanged task.old task.new system.old system.new history.old.items history.new.items) }
 {
     let machine = task.whereabouts.machine();
-    let entering = prepare(history, system, pid, machine, &mut task.trace)?;
-    let mark = note_enter(&mut system.dependencies, &entering, system.changes.len());
-    let (outcome, child) = finish(task, system, entering, mark);
-    history.push(Event::Enter { pid }).unwrap();
-    Ok((outcome, child))
+    let caller = Caller { pid, machine };
+    let entering = prepare(history, system, &caller, &mut task.trace)?;
+    Ok(carry_out(history, system, task, entering))
 }
 
 impl Running {
@@ -70,6 +69,7 @@ impl Running {
         requires { (b : Boot) × Stands b self.old }
         ensures { (b : Boot) → Stands b self.old → Steps b (Event.Enter pid) self.old self.new result }
     {
+        tables_keep_their_limits();
         self.try_enter(pid)
     }
 
@@ -85,7 +85,7 @@ impl Running {
         made_files_change();
         steps_are_shown();
         ends_grow_by_one();
-        let full = is_full(self.history.len(), &self.tasks);
+        let full = self.is_full();
         let place = enter_place(&self.tasks, full, pid)?;
         self.tasks.reserve(1)?;
         let task = &mut self.tasks[place];

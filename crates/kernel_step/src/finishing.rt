@@ -1,5 +1,5 @@
 //! The rest of an Enter, once nothing of it may fail.
-ghost use Rattle.std.specs.Prelude.{ℕ, ◌≡◌, ◌<◌, ◌≤◌, ◌^◌, ◌++◌, Option, length, Some, None, is_some, if◌then◌else◌, vec_len, vec_capacity, option_to_list};
+ghost use Rattle.std.specs.Prelude.{ℕ, ◌≡◌, ◌<◌, ◌≤◌, ◌^◌, ◌++◌, ◌∷◌, [], Option, length, Some, None, is_some, if◌then◌else◌, vec_len, vec_capacity, option_to_list};
 ghost use Rattle.std.specs.List.{AllByRecursion};
 ghost use Rattle.machine_model.specs.States.{State};
 ghost use Rattle.calls.specs.Plans.{MayAllStep, OpensNone, all_seen};
@@ -9,8 +9,8 @@ ghost use Rattle.kernel_model.specs.Answers.{outcome_of};
 ghost use Rattle.kernel_model.specs.Entries.{Item};
 ghost use Rattle.kernel_model.specs.State.{read_by};
 ghost use Rattle.withheld.specs.Withheld.{Withheld};
-ghost use Rattle.kernel_step.specs.Entering.{entry_of, item_of, parts_after, with_children, IsSpare, IsTold, HasSpaceFor, ArePrinted, IsChild, MakesTask, IsNoted, IsFinished};
-ghost use Rattle.kernel_step.specs.Ready.{MayChangeParts, MayChangeSystem, IsReady};
+ghost use Rattle.kernel_step.specs.Entering.{entry_of, item_of, parts_after, with_children, IsSpare, IsTold, HasSpaceFor, ArePrinted, IsChild, MakesTask, IsNoted, IsFinished, IsCarriedOut};
+ghost use Rattle.kernel_step.specs.Ready.{MayChangeParts, MayChangeSystem, IsReady, MayBeNoted};
 ghost use Rattle.kernel_step.specs.Waiting.{served_after};
 
 use crate::plan::Entering;
@@ -20,7 +20,7 @@ use crate::task::Task;
 use calls::{PipeStep, Plan, Slot, Verdict};
 use commit_deps::{Dependencies, Mark};
 use disk_model::Change;
-use kernel_model::{Outcome, Output};
+use kernel_model::{Event, Outcome, Output};
 use pipes::{Pipe, PipeTable};
 use processes::ProcTable;
 use withheld::Withheld;
@@ -36,7 +36,7 @@ fn change_number(change: &Option<Change>, changes: usize) -> Option<u64>
 }
 
 /// Notes the event of an Enter that is prepared, where there are so many changes, and answers its mark. Takes no memory.
-pub fn note_enter(dependencies: &mut Dependencies, entering: &Entering, changes: usize) -> Mark
+fn note_enter(dependencies: &mut Dependencies, entering: &Entering, changes: usize) -> Mark
     requires room { length entering.now.writes.items ≤ dependencies.old.room }
     requires few { changes < 2 ^ 63 }
     requires reads { entering.now.reads.items ≡ (entry_of entering.now.pid entering.now.plan).reads }
@@ -185,7 +185,7 @@ fn keep(changes: &mut Vec<Change>, change: Option<Change>)
 
 /// Does the rest of an Enter that is prepared, of a process whose machine is here, and whose event is noted with this mark. Answers
 /// what it came to, and the process that it made, if it made one. Takes no memory.
-pub fn finish(
+fn finish(
     task: &mut Task,
     system: &mut System,
     entering: Entering,
@@ -211,4 +211,25 @@ pub fn finish(
     keep(&mut system.changes, change);
     let outcome = tell(task, verdict, before, mark);
     (outcome, tell_child(system.alloc, child, mark))
+}
+
+/// Carries an Enter out that is prepared, of a process whose machine is here: its event is noted and joins the history, and the
+/// rest of it is done. Answers what it came to, and the process that it made, if it made one. Takes no memory.
+pub fn carry_out(
+    history: &mut Vec<Event>,
+    system: &mut System,
+    task: &mut Task,
+    entering: Entering,
+) -> (Outcome, Option<Task>)
+    requires ready { IsReady task.old system.old entering }
+    requires noting { MayBeNoted system.old entering }
+    requires events { vec_len history.old < vec_capacity history.old }
+    ensures carried { IsCarriedOut entering task.old task.new system.old system.new result.0 result.1 }
+    ensures history { history.new.items ≡ history.old.items ++ Event.Enter entering.pid ∷ [] }
+{
+    let pid = entering.pid;
+    let mark = note_enter(&mut system.dependencies, &entering, system.changes.len());
+    let (outcome, child) = finish(task, system, entering, mark);
+    history.push(Event::Enter { pid }).unwrap();
+    (outcome, child)
 }

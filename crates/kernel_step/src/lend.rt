@@ -1,12 +1,12 @@
 //! Machines lent out.
-ghost use Rattle.std.specs.Prelude.{◌≡◌, ◌+◌, ◌*◌, ◌^◌, ◌<◌, ◌≤◌, None, true, is_some, map, take, drop, position, IfOk, IfErr, OnOk, OnErr};
+ghost use Rattle.std.specs.Prelude.{◌≡◌, ◌+◌, ◌*◌, ◌^◌, ◌<◌, ◌≤◌, None, take, drop, position, IfOk, IfErr, OnOk, OnErr};
 ghost use Rattle.kernel_model.specs.Loans.{Lends};
 ghost use Rattle.kernel_model.specs.World.{Boot};
 ghost use Rattle.kernel_step.specs.Stands.{Stands, kernel_in};
 ghost use Rattle.kernel_model.specs.declared.answer.Refused.TheVariants.{OutOfMemory};
-ghost use Rattle.kernel_step.specs.Lending.{full_for_loan_of, is_fit, next_fit, IsLent, IsNextLoanOf, LendsNext};
+ghost use Rattle.kernel_step.specs.Lending.{full_for_loan_of, is_fit, next_fit, IsLent, IsNextLoanOf};
 ghost use Rattle.kernel_step.specs.Loaned.{lent_out};
-ghost use Rattle.kernel_step.specs.Tasks.{machine_of, out_of, count_out, lending_of, AreFewLoans};
+ghost use Rattle.kernel_step.specs.Tasks.{machine_of, out_of, count_out};
 
 use crate::loan::Loan;
 use crate::running::Running;
@@ -62,7 +62,7 @@ fn tasks_before(tasks: &[Task], count: usize) -> &[Task]
 }
 
 /// The place of the next process after the first so many that may be lent, by rising place and round again.
-pub(crate) fn next_lendable(tasks: &[Task], from: usize, served: u64, quantum: u32) -> Option<usize>
+fn next_lendable(tasks: &[Task], from: usize, served: u64, quantum: u32) -> Option<usize>
     ensures { result ≡ next_fit quantum served from tasks.now }
 {
     match first_lendable(tasks_after(tasks, from), served, quantum) {
@@ -102,29 +102,15 @@ fn lend_task(alloc: Global, task: &mut Task, quantum: u32) -> Result<Loan, Refus
     })
 }
 
-/// Lends the next process after the first so many that may be lent, if there is one. Where memory runs out nothing has
-/// changed.
-fn lend_next(
-    alloc: Global,
-    tasks: &mut [Task],
-    from: usize,
-    served: u64,
-    quantum: u32,
-) -> Result<Option<Loan>, Refused>
-    requires { AreFewLoans (2 ^ 40) (map lending_of tasks.old) }
-    ensures done { IfOk result (λ given. LendsNext quantum served from tasks.old tasks.new given) }
-    ensures cause { IfErr result (λ why. why ≡ OutOfMemory) }
-    ensures some { OnErr result (is_some (next_fit quantum served from tasks.old) ≡ true) }
-    ensures same { OnErr result (tasks.new ≡ tasks.old) }
-{
-    let Some(place) = next_lendable(tasks, from, served, quantum) else {
-        return Ok(None);
-    };
-    let loan = lend_task(alloc, &mut tasks[place], quantum)?;
-    Ok(Some(loan))
-}
-
 impl Running {
+    /// The place of the process that is lent next for a quantum of instructions, if one may be.
+    pub(crate) fn next_lendable(&self, quantum: u32) -> Option<usize>
+        ensures { result ≡ next_fit quantum self.now.system.served self.now.last_lent self.now.tasks.items }
+    {
+        let from = self.last_lent as usize;
+        next_lendable(&self.tasks, from, self.system.served, quantum)
+    }
+
     /// Lends the first lendable process after the one last lent, by rising number and round again, to run at most a
     /// quantum of instructions. A process is lendable where it has not ended, is not lent, does not wait, and has room for
     /// quantum + 1 more instructions. None where there is none. Refused: Budget, where the history has no room for the two
@@ -137,12 +123,10 @@ impl Running {
         if is_full_for_loan(self.history.len(), &self.tasks) {
             return Err(Refused::Budget);
         }
-        let from = self.last_lent as usize;
-        let served = self.system.served;
-        let Some(loan) = lend_next(self.system.alloc, &mut self.tasks, from, served, quantum)?
-        else {
+        let Some(place) = self.next_lendable(quantum) else {
             return Ok(None);
         };
+        let loan = lend_task(self.system.alloc, &mut self.tasks[place], quantum)?;
         self.last_lent = loan.pid;
         Ok(Some(loan))
     }

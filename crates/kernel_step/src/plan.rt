@@ -22,6 +22,13 @@ use requests::request_of;
 use std::alloc::{AllocError, Global};
 use withheld::{Trace, zero_reply};
 
+/// A process that enters the kernel: its number, and its machine, where that stands.
+#[derive(Clone, Copy)]
+pub struct Caller<'a> {
+    pub pid: u32,
+    pub machine: &'a Machine,
+}
+
 /// What an Enter of a process comes to: its plan, all carriers that its event reads and writes, and the pipe and the process
 /// that it makes, if it makes one. The process is not told anything yet.
 #[derive(Drop)]
@@ -51,19 +58,19 @@ fn descriptors_of(processes: &ProcTable, pid: u32) -> &Descriptors
 }
 
 /// The plan of the Enter of a process whose machine stands here, at a call or at a trap.
-fn plan_enter(system: &System, pid: u32, machine: &Machine, stop: Stop) -> Result<Plan, AllocError>
-    requires stands { stands_at machine.now ≡ Some stop }
-    requires fine { MayPlan (sight_in system.now) pid }
-    ensures { IfOk result (λ plan. PlansEnter (sight_in system.now) pid machine.now plan) }
+fn plan_enter(system: &System, caller: &Caller<'_>, stop: Stop) -> Result<Plan, AllocError>
+    requires stands { stands_at caller.now.machine.now ≡ Some stop }
+    requires fine { MayPlan (sight_in system.now) caller.now.pid }
+    ensures { IfOk result (λ plan. PlansEnter (sight_in system.now) caller.now.pid caller.now.machine.now plan) }
 {
     match stop {
         Stop::Trap(cause) => {
-            let descriptors = descriptors_of(&system.processes, pid);
+            let descriptors = descriptors_of(&system.processes, caller.pid);
             plan_end(system.alloc, descriptors, trap_status(cause))
         }
         _ => {
-            let request = request_of(system.alloc, machine)?;
-            plan_call(system.alloc, &system.tables(), pid, request)
+            let request = request_of(system.alloc, caller.machine)?;
+            plan_call(system.alloc, &system.tables(), caller.pid, request)
         }
     }
 }
@@ -135,25 +142,20 @@ fn prepare_child(
 }
 
 impl Entering {
-    /// What an Enter of a process comes to whose machine and trace are these.
-    pub fn new(
-        system: &System,
-        pid: u32,
-        machine: &Machine,
-        trace: &Trace,
-    ) -> Result<Entering, AllocError>
-        requires { MayEnter system.now pid machine.now trace.now }
-        ensures { IfOk result (λ e. IsEntering (sight_in system.now) pid machine.now trace.now e) }
+    /// What an Enter of a process comes to whose trace is this.
+    pub fn new(system: &System, caller: &Caller<'_>, trace: &Trace) -> Result<Entering, AllocError>
+        requires { MayEnter system.now caller.now.pid caller.now.machine.now trace.now }
+        ensures { IfOk result (λ e. IsEntering (sight_in system.now) caller.now.pid caller.now.machine.now trace.now e) }
     {
         let alloc = system.alloc;
-        let stop = machine.stopped().unwrap();
-        let plan = plan_enter(system, pid, machine, stop)?;
-        let reads = with_own(alloc, pid, &plan.reads)?;
-        let writes = all_writes(alloc, pid, &plan)?;
+        let stop = caller.machine.stopped().unwrap();
+        let plan = plan_enter(system, caller, stop)?;
+        let reads = with_own(alloc, caller.pid, &plan.reads)?;
+        let writes = all_writes(alloc, caller.pid, &plan)?;
         let spare = spare_pipe(alloc, &plan.pipes)?;
-        let child = prepare_child(alloc, plan.child, machine, trace)?;
+        let child = prepare_child(alloc, plan.child, caller.machine, trace)?;
         Ok(Entering {
-            pid,
+            pid: caller.pid,
             plan,
             reads,
             writes,

@@ -5,14 +5,13 @@ ghost use Rattle.withheld.specs.Withheld.{IsSame};
 ghost use Rattle.kernel_step.specs.Entering.{HasSpaceFor, StayScreens, IsSameSystem, IsSystemWith};
 ghost use Rattle.kernel_step.specs.Ready.{MayEnter, HasRoomForPlan, HasRoomForEnter, IsPrepared};
 
-use crate::plan::Entering;
+use crate::plan::{Caller, Entering};
 use crate::system::System;
 use crate::turn::reserve;
 use calls::Plan;
 use disk_model::Change;
 use files::FileTable;
 use kernel_model::{Event, Output};
-use machine::Machine;
 use std::alloc::AllocError;
 use withheld::{Trace, Withheld};
 
@@ -92,23 +91,22 @@ fn take_room(
     Ok(())
 }
 
-/// Finds what an Enter of a process comes to whose machine and trace are these, takes all memory for it, and for a Turn before
-/// it, and does its change of the files, which is the last step that may fail. Where memory runs out nothing has changed.
+/// Finds what an Enter of a process comes to whose trace is this, takes all memory for it, and for a Turn before it, and does its
+/// change of the files, which is the last step that may fail. Where memory runs out nothing has changed.
 pub fn prepare(
     history: &mut Vec<Event>,
     system: &mut System,
-    pid: u32,
-    machine: &Machine,
+    caller: &Caller<'_>,
     trace: &mut Trace,
 ) -> Result<Entering, AllocError>
-    requires { MayEnter system.old pid machine.now trace.old }
+    requires { MayEnter system.old caller.now.pid caller.now.machine.now trace.old }
     ensures history { history.new.items ≡ history.old.items }
     ensures trace { IsSame trace.old trace.new }
-    ensures prepared { IfOk result (λ e. IsPrepared pid machine.now trace.old system.old system.new e) }
+    ensures prepared { IfOk result (λ e. IsPrepared caller.now.pid caller.now.machine.now trace.old system.old system.new e) }
     ensures holds { IfOk result (λ e. HasRoomForEnter history.new trace.new system.new e) }
     ensures err { OnErr result (IsSameSystem system.old system.new) }
 {
-    let entering = Entering::new(system, pid, machine, trace)?;
+    let entering = Entering::new(system, caller, trace)?;
     take_room(history, system, trace, &entering)?;
     Ok(entering)
 }

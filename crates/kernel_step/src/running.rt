@@ -1,8 +1,11 @@
 //! A kernel that runs: its parts, and what they stand for.
-ghost use Rattle.std.specs.Prelude.{◌≡◌};
+ghost use Rattle.std.specs.Prelude.{◌≡◌, ◌+◌, ◌*◌, ◌^◌, ◌≤◌, length};
+ghost use Rattle.kernel_step.specs.Tasks.{count_out};
+ghost use Rattle.kernel_step.specs.Tests.{full_of};
 
 use crate::system::System;
 use crate::task::Task;
+use crate::tasks::is_full;
 use kernel_model::Event;
 
 /// The parts of a running kernel, as its events leave them. What it was booted from they do not have: contracts speak of every boot
@@ -31,6 +34,14 @@ impl Drop for Running {
 }
 
 impl Running {
+    /// Whether the history has no room for one more event, with two kept for each loan that is out.
+    pub(crate) fn is_full(&self) -> bool
+        requires { length self.now.history.items + 2 * count_out self.now.tasks.items ≤ 2 ^ 40 }
+        ensures { result ≡ full_of (length self.now.history.items) self.now.tasks.items }
+    {
+        is_full(self.history.len(), &self.tasks)
+    }
+
     /// What all processes share alone; the rest is let go.
     pub(crate) fn into_system(self) -> System
         ensures { result ≡ self.system }

@@ -8,8 +8,9 @@ ghost use Rattle.kernel_step.specs.Settling.{IsLoanOf, IsBack, MaySettleTurn, Is
 ghost use Rattle.kernel_step.specs.Unchanged.{AreUnchanged};
 
 use crate::enter::join;
-use crate::finishing::{finish, note_enter};
+use crate::finishing::carry_out;
 use crate::loan::{Done, Rejected};
+use crate::plan::Caller;
 use crate::room::prepare;
 use crate::running::Running;
 use crate::system::System;
@@ -18,7 +19,7 @@ use crate::tasks::place_of;
 use crate::turn::{note_own, reserve};
 use crate::whereabouts::Whereabouts;
 use disk_model::{checkpoints_fit, made_files_change};
-use kernel_model::{Answer, Event, Refused};
+use kernel_model::{Answer, Event, Refused, tables_keep_their_limits};
 use machine::Machine;
 use pipes::{ends_grow_by_one, steps_are_shown};
 
@@ -58,7 +59,11 @@ fn settle_enter(
     ensures back { IfErr result (LackedMemory done) }
 {
     let pid = done.pid;
-    let Ok(entering) = prepare(history, system, pid, &done.machine, &mut task.trace) else {
+    let caller = Caller {
+        pid,
+        machine: &done.machine,
+    };
+    let Ok(entering) = prepare(history, system, &caller, &mut task.trace) else {
         return Err(Rejected {
             why: Refused::OutOfMemory,
             done,
@@ -71,11 +76,9 @@ fn settle_enter(
         ..
     } = done;
     note_own(&mut system.dependencies, pid);
-    let mark = note_enter(&mut system.dependencies, &entering, system.changes.len());
-    come_back(task, machine);
-    let (outcome, child) = finish(task, system, entering, mark);
     history.push(Event::Turn { pid, n: count }).unwrap();
-    history.push(Event::Enter { pid }).unwrap();
+    come_back(task, machine);
+    let (outcome, child) = carry_out(history, system, task, entering);
     let answer = Answer::Settled {
         count,
         stop,
@@ -96,6 +99,7 @@ impl Running {
         made_files_change();
         steps_are_shown();
         ends_grow_by_one();
+        tables_keep_their_limits();
         let Some(place) = place_of(&self.tasks, done.pid) else {
             return Err(Rejected {
                 why: Refused::Stranger,

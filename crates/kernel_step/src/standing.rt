@@ -6,9 +6,8 @@ ghost use Rattle.kernel_model.specs.World.{Boot};
 ghost use Rattle.kernel_model.specs.declared.answer.Refused.TheVariants.{NoProcess};
 ghost use Rattle.kernel_step.specs.Stands.{Stands, kernel_in};
 
-use crate::lend::next_lendable;
 use crate::running::Running;
-use crate::tasks::{count_out, place_of};
+use crate::tasks::{count_out, task_of};
 use kernel_model::{Refused, Standing};
 
 impl Running {
@@ -16,8 +15,7 @@ impl Running {
     pub fn over(&self, quantum: u32) -> bool
         ensures { (b : Boot) → Stands b self.now → result ≡ is_over (kernel_in b self.now) quantum }
     {
-        let from = self.last_lent as usize;
-        let next = next_lendable(&self.tasks, from, self.system.served, quantum);
+        let next = self.next_lendable(quantum);
         count_out(&self.tasks) == 0 && next.is_none()
     }
 
@@ -27,12 +25,7 @@ impl Running {
         ensures there { OnOk result ((b : Boot) → Stands b self.now → is_some (process_of (kernel_in b self.now) pid) ≡ true) }
         ensures none { IfErr result (λ why. (b : Boot) → Stands b self.now → (why ≡ NoProcess) × (process_of (kernel_in b self.now) pid ≡ None)) }
     {
-        match place_of(&self.tasks, pid) {
-            Some(place) => {
-                let task = &self.tasks[place];
-                Ok(task.standing(self.system.served))
-            }
-            None => Err(Refused::NoProcess),
-        }
+        let task = task_of(&self.tasks, pid)?;
+        Ok(task.standing(self.system.served))
     }
 }

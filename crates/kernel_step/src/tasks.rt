@@ -1,9 +1,9 @@
 //! The tasks of all processes.
 ghost use Rattle.std.specs.Prelude.{◌≡◌, ◌+◌, ◌*◌, ◌^◌, ◌≤◌, ◌<◌, None, Some, true, is_some, length, map, slice_get, MatchOption, IfOk, IfErr, OnErr};
 ghost use Rattle.kernel_model.specs.State.{process_at};
-ghost use Rattle.kernel_model.specs.declared.answer.Refused.TheVariants.{Lent};
+ghost use Rattle.kernel_model.specs.declared.answer.Refused.TheVariants.{NoProcess, Lent};
 ghost use Rattle.kernel_step.specs.Tasks.{machine_of, out_of, process_of, count_out, RanAt};
-ghost use Rattle.kernel_step.specs.Tests.{full_of, turn_refusal_of, enter_refusal_of, IsPlaceOf};
+ghost use Rattle.kernel_step.specs.Tests.{full_of, turn_refusal_of, enter_refusal_of, IsPlaceOf, IsTaskOf};
 ghost use Rattle.kernel_step.specs.Advanced.{AreMoved};
 ghost use Rattle.kernel_step.specs.declared.task.Task.{Task};
 
@@ -21,6 +21,18 @@ pub fn place_of(tasks: &[Task], pid: u32) -> Option<usize>
         Some(place)
     } else {
         None
+    }
+}
+
+/// The task of the process of a number. Refused: NoProcess.
+pub fn task_of(tasks: &[Task], pid: u32) -> Result<&Task, Refused>
+    ensures task { IfOk result (λ task. IsTaskOf tasks.now pid task.now) }
+    ensures cause { IfErr result (λ why. why ≡ NoProcess) }
+    ensures none { OnErr result (process_at (map process_of tasks.now) pid ≡ None) }
+{
+    match place_of(tasks, pid) {
+        Some(place) => Ok(&tasks[place]),
+        None => Err(Refused::NoProcess),
     }
 }
 

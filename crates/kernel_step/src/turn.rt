@@ -8,7 +8,7 @@ ghost use Rattle.kernel_step.specs.Trying.{is_history_full, MayTryTurn, IsTurnAc
 ghost use Rattle.kernel_step.specs.Tests.{turn_refusal_of};
 
 use crate::running::Running;
-use crate::tasks::{is_full, run_at, turn_place};
+use crate::tasks::{run_at, turn_place};
 use commit_deps::{Carrier, Dependencies};
 use kernel_model::{Answer, Event, Refused};
 use std::alloc::AllocError;
@@ -56,7 +56,7 @@ impl Running {
         ensures refused { IfErr result (Refuses (turn_refusal_of self.old.tasks.items (is_history_full self.old) pid n)) }
         ensures same { OnErr result (IsTurnRefused self.old self.new) }
     {
-        let full = is_full(self.history.len(), &self.tasks);
+        let full = self.is_full();
         let place = turn_place(&self.tasks, full, pid, n)?;
         reserve(&mut self.history, &mut self.system.dependencies, 1, 1)?;
         let (count, stop) = run_at(&mut self.tasks, place, n)?;

@@ -13,7 +13,7 @@ ghost use Rattle.withheld.specs.Withheld.{holds_back};
 ghost use Rattle.kernel_step.specs.Stands.{Stands, kernel_in};
 
 use crate::running::Running;
-use crate::tasks::place_of;
+use crate::tasks::task_of;
 use kernel_model::{Event, Refused};
 use machine_model::Reply;
 use simdisk::SimDisk;
@@ -45,13 +45,8 @@ impl Running {
         ensures there { OnOk result ((b : Boot) → Stands b self.now → is_some (process_of (kernel_in b self.now) pid) ≡ true) }
         ensures none { IfErr result (λ why. (b : Boot) → Stands b self.now → (why ≡ NoProcess) × (process_of (kernel_in b self.now) pid ≡ None)) }
     {
-        match place_of(&self.tasks, pid) {
-            Some(place) => {
-                let task = &self.tasks[place];
-                Ok(task.trace.replies())
-            }
-            None => Err(Refused::NoProcess),
-        }
+        let task = task_of(&self.tasks, pid)?;
+        Ok(task.trace.replies())
     }
 
     /// The status with which a process ended, where all its replies are handed out and its end rests on committed changes
@@ -61,13 +56,8 @@ impl Running {
         ensures there { OnOk result ((b : Boot) → Stands b self.now → is_some (process_of (kernel_in b self.now) pid) ≡ true) }
         ensures none { IfErr result (λ why. (b : Boot) → Stands b self.now → (why ≡ NoProcess) × (process_of (kernel_in b self.now) pid ≡ None)) }
     {
-        match place_of(&self.tasks, pid) {
-            Some(place) => {
-                let task = &self.tasks[place];
-                Ok(task.trace.ended())
-            }
-            None => Err(Refused::NoProcess),
-        }
+        let task = task_of(&self.tasks, pid)?;
+        Ok(task.trace.ended())
     }
 
     /// The accepted events, in order.

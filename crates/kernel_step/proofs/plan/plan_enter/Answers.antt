@@ -12,7 +12,7 @@ use Rattle.kernel_step.proofs.plan.plan_enter.Goals as goal
 
 pub returns-in-Trap : goal.returns-in-Trap
 returns-in-Trap c =
-    trap-result (sight_in c.args.system.now) c.args.pid c.args.machine.now c.plan_end.result c.in-Trap.cause c.trap_status.result
+    trap-result (sight_in c.args.system.now) c.args.caller.now.pid c.args.caller.now.machine.now c.plan_end.result c.in-Trap.cause c.trap_status.result
     (c.requires.stands ∙ ap (λ (s : Stop). Some s) c.in-Trap.is)
     c.trap_status.ensures
     (subst (λ (ds : List (Option Descriptor)). IfOk c.plan_end.result (λ plan. effect_with plan None ≡ row_end ds c.trap_status.result)) c.descriptors_of-descriptors.ensures c.plan_end.ensures.row)
@@ -23,13 +23,13 @@ returns-in-Trap c =
     (c.plan_end.ensures.steps c.args.system.now.pipes)
 
 pub plan_call-requires-clause-may : goal.plan_call-requires-clause-may
-plan_call-requires-clause-may c = subst (λ (seen : Sight). MayPlanCall seen c.args.pid) (sym c.tables.ensures) c.requires.fine.call
+plan_call-requires-clause-may c = subst (λ (seen : Sight). MayPlanCall seen c.args.caller.now.pid) (sym c.tables.ensures) c.requires.fine.call
 
 pub returns-in_ok-request-in_default : goal.returns-in_ok-request-in_default
 returns-in_ok-request-in_default c =
-    let call : c.args.stop ≡ Call = stands-call c.args.machine.now c.args.stop c.requires.stands (λ cause is. c.in_default.not-Trap cause is) in
-    result-plans (sight_in c.args.system.now) c.args.pid c.args.machine.now c.plan_call.result c.in_ok-request-in_default.request
+    let call : c.args.stop ≡ Call = stands-call c.args.caller.now.machine.now c.args.stop c.requires.stands (λ cause is. c.in_default.not-Trap cause is) in
+    result-plans (sight_in c.args.system.now) c.args.caller.now.pid c.args.caller.now.machine.now c.plan_call.result c.in_ok-request-in_default.request
     (c.requires.stands ∙ ap (λ (s : Stop). Some s) call)
     (c.in_ok-request-in_default.ensures.request)
     c.requires.fine.ends
-    (subst (λ (seen : Sight). IfOk c.plan_call.result (λ plan. PlansCall seen c.args.pid c.in_ok-request-in_default.request plan)) c.tables.ensures c.plan_call.ensures)
+    (subst (λ (seen : Sight). IfOk c.plan_call.result (λ plan. PlansCall seen c.args.caller.now.pid c.in_ok-request-in_default.request plan)) c.tables.ensures c.plan_call.ensures)

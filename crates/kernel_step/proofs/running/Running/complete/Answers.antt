@@ -1,21 +1,15 @@
 -- A Complete of the parts is a Complete of the run.
-use Rattle.std.proofs.Common.{◌≡◌, ap, ◌∙◌, length, List, rules, Ok, Err, refl}
+use Rattle.std.proofs.Common.{Ok, Err, refl}
 use Rattle.std.proofs.lemmas.Result.{err_from_is_err_and}
 use Rattle.kernel_model.specs.declared.answer.Answer.TheVariants as answer_of
 use Rattle.kernel_model.specs.declared.event.Event.TheVariants.{Complete}
-use Rattle.kernel_step.specs.Tests.{full_of}
-use Rattle.kernel_step.specs.declared.task.Task.{Task}
 use Rattle.kernel_step.proofs.Counting.{counted-other}
 use Rattle.kernel_step.proofs.Writing.{completed-core, completed-applies, complete-refused, same-stored}
 use Rattle.kernel_step.proofs.running.Running.complete.Goals as goal
 
 pub returns-in_err-committed : goal.returns-in_err-committed
 returns-in_err-committed c = λ b h.
-    let size : c.args.self.now.history.len ≡ length c.args.self.now.history.items = search rules in
-    let full : c.is_full-full.result ≡ full_of (length c.args.self.now.history.items) c.args.self.now.tasks.items =
-    c.is_full-full.ensures ∙ ap (λ n. full_of n c.deref.result.now) (c.len.ensures ∙ size)
-    ∙ ap (λ (ts : List Task). full_of (length c.args.self.now.history.items) ts) c.deref.ensures.value in
-    let applies = complete-refused b c.args.self.now.history.items c.complete.new.history.items c.args.self.now.tasks.items c.args.self.now.system c.args.self.now.last_lent c.args.at c.is_full-full.result c.in_err-committed.field-0.0 h.parts full
+    let applies = complete-refused b c.args.self.now.history.items c.complete.new.history.items c.args.self.now.tasks.items c.args.self.now.system c.args.self.now.last_lent c.args.at c.is_full-full.result c.in_err-committed.field-0.0 h.parts c.is_full-full.ensures
     c.in_err-committed.ensures.refused c.in_err-committed.ensures.same_history in
     let p = err_from_is_err_and c.from_residual.result c.from_residual.ensures.1 in
     rw (p.1, p.2) (record {
@@ -28,18 +22,14 @@ returns-in_err-committed c = λ b h.
 
 pub returns : goal.returns
 returns c = λ b h.
-    let size : c.args.self.now.history.len ≡ length c.args.self.now.history.items = search rules in
-    let full : c.is_full-full.result ≡ full_of (length c.args.self.now.history.items) c.args.self.now.tasks.items =
-    c.is_full-full.ensures ∙ ap (λ n. full_of n c.deref.result.now) (c.len.ensures ∙ size)
-    ∙ ap (λ (ts : List Task). full_of (length c.args.self.now.history.items) ts) c.deref.ensures.value in
     let applies = completed-applies b c.args.self.now.history.items c.complete.new.history.items c.args.self.now.tasks.items c.release.new.tasks.items
-    c.args.self.now.system c.complete.new.committer c.args.self.now.last_lent c.args.at c.in_ok-committed.committed c.is_full-full.result h.parts full
+    c.args.self.now.system c.complete.new.committer c.args.self.now.last_lent c.args.at c.in_ok-committed.committed c.is_full-full.result h.parts c.is_full-full.ensures
     c.in_ok-committed.ensures.done c.in_ok-committed.ensures.history c.release.ensures.tasks in
     record {
       stands = record {
         parts =
             completed-core c.silent_events_leave_marks.ensures b c.args.self.now.history.items c.complete.new.history.items c.args.self.now.tasks.items c.release.new.tasks.items
-            c.args.self.now.system (record c.args.self.now.system { screens = c.release.new.screens; committer = c.complete.new.committer }) c.args.at c.in_ok-committed.committed c.is_full-full.result h.parts full
+            c.args.self.now.system (record c.args.self.now.system { screens = c.release.new.screens; committer = c.complete.new.committer }) c.args.at c.in_ok-committed.committed c.is_full-full.result h.parts c.is_full-full.ensures
             c.in_ok-committed.ensures.done c.in_ok-committed.ensures.history c.release.ensures.tasks c.release.ensures.screens refl refl refl refl
             (record { pipes = refl; parts = refl; served = refl });
         counted =

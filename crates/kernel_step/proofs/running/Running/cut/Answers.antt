@@ -1,10 +1,8 @@
 -- A Cut of the parts is a Cut of the run.
-use Rattle.std.proofs.Common.{◌≡◌, refl, subst, ap, ◌∙◌, sym, length, List, rules}
+use Rattle.std.proofs.Common.{refl, subst, sym}
 use Rattle.kernel_model.specs.declared.event.Event.TheVariants.{Cut}
 use Rattle.kernel_step.specs.Stands.{run_of, KeepsRun}
-use Rattle.kernel_step.specs.Tests.{full_of}
 use Rattle.kernel_step.specs.declared.system.System.{System}
-use Rattle.kernel_step.specs.declared.task.Task.{Task}
 use Rattle.kernel_step.proofs.Counting.{counted-other}
 use Rattle.kernel_step.proofs.Writing.{cut-core, cut-applies, changes-formed, files-made}
 use Rattle.kernel_step.proofs.running.Running.cut.Goals as goal
@@ -18,18 +16,14 @@ cut-requires-clause-formed c =
 
 pub returns : goal.returns
 returns c = λ b h.
-    let size : c.args.self.now.history.len ≡ length c.args.self.now.history.items = search rules in
-    let full : c.is_full-full.result ≡ full_of (length c.args.self.now.history.items) c.args.self.now.tasks.items =
-    c.is_full-full.ensures ∙ ap (λ n. full_of n c.deref.result.now) (c.len.ensures ∙ size)
-    ∙ ap (λ (ts : List Task). full_of (length c.args.self.now.history.items) ts) c.deref.ensures.value in
-    let applies = cut-applies b c.args.self.now.history.items c.cut.new.history.items c.args.self.now.tasks.items c.args.self.now.system c.cut.new.system.committer c.args.self.now.last_lent c.is_full-full.result c.cut.result h.parts full
+    let applies = cut-applies b c.args.self.now.history.items c.cut.new.history.items c.args.self.now.tasks.items c.args.self.now.system c.cut.new.system.committer c.args.self.now.last_lent c.is_full-full.result c.cut.result h.parts c.is_full-full.ensures
     c.cut.ensures.done c.cut.ensures.refused c.cut.ensures.same in
     record {
       stands = record {
         parts =
             subst (λ (s : System). KeepsRun b c.cut.new.history.items c.args.self.now.tasks.items s) (sym c.cut.ensures.only)
             (cut-core c.silent_events_leave_marks.ensures b c.args.self.now.history.items c.cut.new.history.items c.args.self.now.tasks.items c.args.self.now.system c.cut.new.system.committer
-            c.is_full-full.result c.cut.result h.parts full c.cut.ensures.done c.cut.ensures.same);
+            c.is_full-full.result c.cut.result h.parts c.is_full-full.ensures c.cut.ensures.done c.cut.ensures.same);
         counted =
             counted-other b c.args.self.now.history.items c.cut.new.history.items c.args.self.now.tasks.items c.args.self.now.tasks.items c.args.self.now.last_lent c.args.self.now.ran Cut c.cut.result refl h.counted applies;
       };

@@ -8,6 +8,7 @@ pub try_enter-requires : goal.try_enter-requires
 try_enter-requires c = record {
   world = run_of c.requires.0 c.args.self.now.history.items;
   mirrors = c.requires.1.parts.mirrors;
+  limits = c.tables_keep_their_limits.ensures.tables c.requires.0 c.args.self.now.history.items;
   short = log-short c.requires.0 c.args.self.now.history.items c.args.self.now.tasks.items c.args.self.now.system c.requires.1.parts;
   room = c.requires.1.parts.room;
 }

@@ -1,90 +1,110 @@
 -- The next process is lent.
-use Rattle.std.proofs.Common.{rules, ◌≡◌, ℕ, ◌+◌, ◌*◌, ◌^◌, ◌≤◌, List, length, map, false, true, is_some, Option, Some, None, Err, refl, sym, ap, subst, ◌∙◌, arith}
-use Rattle.std.specs.Vec.{with_items}
-use Rattle.std.proofs.lemmas.List.{with_items_is}
-use Rattle.kernel_step.specs.Lending.{full_for_loan_of, next_fit, Lent, LendsNext}
-use Rattle.kernel_step.specs.Tasks.{count_out, lending_of, AreFewLoans}
-use Rattle.kernel_step.specs.declared.loan.Loan.{Loan}
+use Rattle.std.proofs.lemmas.List.{set-get_or}
+use Rattle.std.proofs.Common.{rules, ◌≡◌, ℕ, ◌+◌, ◌*◌, ◌^◌, ◌≤◌, length, false, true, is_some, Option, Some, None, Err, refl, sym, ap, subst, ◌∙◌, arith, List, slice_set}
+use Rattle.kernel_step.specs.Lending.{full_for_loan_of, next_fit, Lent}
+use Rattle.kernel_step.specs.Tasks.{machine_of, out_of, count_out}
 use Rattle.kernel_step.specs.declared.task.Task.{Task}
 use Rattle.kernel_model.specs.declared.answer.Refused.TheVariants.{OutOfMemory}
-use Rattle.kernel_model.specs.declared.event.Event.{Event}
-use Rattle.kernel_step.proofs.FewLoans.{few-longer}
-use Rattle.kernel_step.proofs.LendKept.{lent-core, lends-one, lends-none, lends-wanting}
+use Rattle.kernel_step.proofs.EnterFine.{none-some}
+use Rattle.kernel_step.proofs.FewLoans.{few-here}
+use Rattle.kernel_step.proofs.LendKept.{fits, lent-core, lends-one, lends-none, lends-wanting}
+use Rattle.kernel_step.proofs.LendNext.{IsFitThere, fit-there}
 use Rattle.kernel_step.specs.Stands.{KeepsRun, kernel_in}
 use Rattle.kernel_step.proofs.running.Running.lend.Goals as goal
+use Rattle.kernel_step.proofs.running.Running.lend.Goals.{After-index_mut, In_ok-loan, In_err-loan}
 
--- what was lent of the tasks, which were and are these, and now are so in the kernel
-given-of : (quantum served from : ℕ) (slice old new kept : List Task) (given : Option Loan) → slice ≡ old → kept ≡ new
-    → LendsNext quantum served from slice new given → LendsNext quantum served from old kept given
-given-of quantum served from slice old new kept given was same h =
-    subst (λ (ts : List Task). LendsNext quantum served from ts kept given) was
-    (subst (λ (ts : List Task). LendsNext quantum served from slice ts given) (sym same) h)
+-- ---- the task
+next : (c : After-index_mut) → next_fit c.args.quantum c.args.self.now.system.served c.args.self.now.last_lent c.args.self.now.tasks.items ≡ Some c.in-Some.place
+next c = cc
 
-pub lend_next-requires : goal.lend_next-requires
-lend_next-requires c =
-    let history : List Event = c.args.self.now.history.items in
+fit : (c : After-index_mut) → IsFitThere c.args.quantum c.args.self.now.system.served c.args.self.now.tasks.items c.in-Some.place c.index_mut.result.now
+fit c =
+    fit-there c.args.quantum c.args.self.now.system.served c.args.self.now.last_lent c.args.self.now.tasks.items c.in-Some.place c.index_mut.result.now
+    (next c) c.index_mut.ensures.value
+
+pub lend_task-requires-clause-here : goal.lend_task-requires-clause-here
+lend_task-requires-clause-here c =
+    let t : Task = c.index_mut.result.now in
+    none-some (out_of t) (fits c.args.quantum c.args.self.now.system.served t (fit (goal.at.lend_task-requires-clause-here c).After-index_mut).fit).here
+
+pub lend_task-requires-clause-room : goal.lend_task-requires-clause-room
+lend_task-requires-clause-room c =
+    let t : Task = c.index_mut.result.now in
+    let few : (machine_of t).count + (c.args.quantum + 1) ≤ 2 ^ 40 =
+    (fits c.args.quantum c.args.self.now.system.served t (fit (goal.at.lend_task-requires-clause-room c).After-index_mut).fit).few in
+    omega (arith, few)
+
+pub lend_task-requires-clause-few : goal.lend_task-requires-clause-few
+lend_task-requires-clause-few c =
+    let t : Task = c.index_mut.result.now in
+    let at = fit (goal.at.lend_task-requires-clause-few c).After-index_mut in
     let h = c.requires.1.parts in
-    let room : length history + 2 * count_out c.args.self.now.tasks.items ≤ 2 ^ 40 = h.room in
-    subst (λ (ts : List Task). AreFewLoans (2 ^ 40) (map lending_of ts)) (sym c.deref_mut.ensures.value)
-    (few-longer (length history) (2 ^ 40) (map lending_of c.args.self.now.tasks.items) (omega (arith, room)) h.loans)
+    let room : length c.args.self.now.history.items + 2 * count_out c.args.self.now.tasks.items ≤ 2 ^ 40 = h.room in
+    let had : t.loans ≤ length c.args.self.now.history.items =
+    few-here (length c.args.self.now.history.items) c.args.self.now.tasks.items c.in-Some.place t h.loans at.there
+    (fits c.args.quantum c.args.self.now.system.served t at.fit).here in
+    omega (arith, room, had)
 
-pub returns-in_default-clause-stands : goal.returns-in_default-clause-stands
-returns-in_default-clause-stands c = λ b h.
-    let whole : length c.lend_next.new.tasks ≡ c.args.self.now.tasks.len = omega arith in
-    let same : (with_items c.args.self.now.tasks c.lend_next.new.tasks).items ≡ c.lend_next.new.tasks = with_items_is c.args.self.now.tasks c.lend_next.new.tasks whole in
-    let room : full_for_loan_of (length c.args.self.now.history.items) c.args.self.now.tasks.items ≡ false = cc in
-    let done : LendsNext c.args.quantum c.args.self.now.system.served c.args.self.now.last_lent c.deref_mut.result.now c.lend_next.new.tasks None =
-    subst (λ (o : Option Loan). LendsNext c.args.quantum c.args.self.now.system.served c.args.self.now.last_lent c.deref_mut.result.now c.lend_next.new.tasks o) c.in_default.is c.in_ok-loan.ensures.done in
-    let was : c.deref_mut.result.now ≡ c.args.self.now.tasks.items = c.deref_mut.ensures.value in
-    record { parts = subst (λ (ts : List Task). KeepsRun b c.args.self.now.history.items ts c.args.self.now.system) (sym (same ∙ done.1 ∙ was)) h.parts; counted = h.counted }
-
+-- ---- the kernel
 pub returns-in_default-clause-lends : goal.returns-in_default-clause-lends
 returns-in_default-clause-lends c = λ b h.
-    let whole : length c.lend_next.new.tasks ≡ c.args.self.now.tasks.len = omega arith in
-    let same : (with_items c.args.self.now.tasks c.lend_next.new.tasks).items ≡ c.lend_next.new.tasks = with_items_is c.args.self.now.tasks c.lend_next.new.tasks whole in
     let room : full_for_loan_of (length c.args.self.now.history.items) c.args.self.now.tasks.items ≡ false = cc in
-    let done : LendsNext c.args.quantum c.args.self.now.system.served c.args.self.now.last_lent c.deref_mut.result.now c.lend_next.new.tasks None =
-    subst (λ (o : Option Loan). LendsNext c.args.quantum c.args.self.now.system.served c.args.self.now.last_lent c.deref_mut.result.now c.lend_next.new.tasks o) c.in_default.is c.in_ok-loan.ensures.done in
-    let was : c.deref_mut.result.now ≡ c.args.self.now.tasks.items = c.deref_mut.ensures.value in
-    lends-none b c.args.self.now.history.items c.args.self.now.tasks.items (with_items c.args.self.now.tasks c.lend_next.new.tasks).items c.args.self.now.system c.args.self.now.last_lent c.args.quantum (kernel_in b c.args.self.now) refl h.parts room
-    (ap (λ ts. next_fit c.args.quantum c.args.self.now.system.served c.args.self.now.last_lent ts) (sym was) ∙ done.0) (same ∙ done.1 ∙ was)
+    let none : next_fit c.args.quantum c.args.self.now.system.served c.args.self.now.last_lent c.args.self.now.tasks.items ≡ None = cc in
+    lends-none b c.args.self.now.history.items c.args.self.now.tasks.items c.args.self.now.tasks.items c.args.self.now.system c.args.self.now.last_lent c.args.quantum
+    (kernel_in b c.args.self.now) refl h.parts room none refl
+
+lent : (c : In_ok-loan) → Lent c.args.quantum c.args.self.now.system.served c.args.self.now.last_lent c.args.self.now.tasks.items
+    (slice_set c.args.self.now.tasks.items c.in-Some.place c.lend_task.new.task) c.in_ok-loan.loan
+lent c =
+    let next : next_fit c.args.quantum c.args.self.now.system.served c.args.self.now.last_lent c.args.self.now.tasks.items ≡ Some c.in-Some.place = cc in
+    let at =
+    fit-there c.args.quantum c.args.self.now.system.served c.args.self.now.last_lent c.args.self.now.tasks.items c.in-Some.place c.index_mut.result.now next
+    c.index_mut.ensures.value in
+    record {
+      place = c.in-Some.place;
+      task = c.index_mut.result.now;
+      next = next;
+      there = at.there;
+      fit = at.fit;
+      given = c.in_ok-loan.ensures.loan;
+      later = c.lend_task.new.task;
+      lent = c.in_ok-loan.ensures.task;
+      after = refl;
+    }
 
 pub returns-clause-stands : goal.returns-clause-stands
 returns-clause-stands c = λ b h.
-    let whole : length c.lend_next.new.tasks ≡ c.args.self.now.tasks.len = omega arith in
-    let same : (with_items c.args.self.now.tasks c.lend_next.new.tasks).items ≡ c.lend_next.new.tasks = with_items_is c.args.self.now.tasks c.lend_next.new.tasks whole in
     let room : full_for_loan_of (length c.args.self.now.history.items) c.args.self.now.tasks.items ≡ false = cc in
-    let done : LendsNext c.args.quantum c.args.self.now.system.served c.args.self.now.last_lent c.deref_mut.result.now c.lend_next.new.tasks (Some c.in-Some.loan) =
-    subst (λ (o : Option Loan). LendsNext c.args.quantum c.args.self.now.system.served c.args.self.now.last_lent c.deref_mut.result.now c.lend_next.new.tasks o) c.in-Some.is c.in_ok-loan.ensures.done in
-    let lent : Lent c.args.quantum c.args.self.now.system.served c.args.self.now.last_lent c.args.self.now.tasks.items (with_items c.args.self.now.tasks c.lend_next.new.tasks).items c.in-Some.loan =
-    given-of c.args.quantum c.args.self.now.system.served c.args.self.now.last_lent c.deref_mut.result.now c.args.self.now.tasks.items c.lend_next.new.tasks
-    (with_items c.args.self.now.tasks c.lend_next.new.tasks).items (Some c.in-Some.loan) c.deref_mut.ensures.value same done in
     record {
-      parts = lent-core b c.args.self.now.history.items c.args.self.now.tasks.items (with_items c.args.self.now.tasks c.lend_next.new.tasks).items c.args.self.now.system c.args.quantum c.args.self.now.last_lent c.in-Some.loan h.parts room lent;
+      parts =
+          lent-core b c.args.self.now.history.items c.args.self.now.tasks.items (slice_set c.args.self.now.tasks.items c.in-Some.place c.lend_task.new.task)
+          c.args.self.now.system c.args.quantum c.args.self.now.last_lent c.in_ok-loan.loan h.parts room (lent (goal.at.returns-clause-stands c).In_ok-loan);
       counted = h.counted;
     }
 
 pub returns-clause-lends : goal.returns-clause-lends
 returns-clause-lends c = λ b h.
-    let whole : length c.lend_next.new.tasks ≡ c.args.self.now.tasks.len = omega arith in
-    let same : (with_items c.args.self.now.tasks c.lend_next.new.tasks).items ≡ c.lend_next.new.tasks = with_items_is c.args.self.now.tasks c.lend_next.new.tasks whole in
     let room : full_for_loan_of (length c.args.self.now.history.items) c.args.self.now.tasks.items ≡ false = cc in
-    let done : LendsNext c.args.quantum c.args.self.now.system.served c.args.self.now.last_lent c.deref_mut.result.now c.lend_next.new.tasks (Some c.in-Some.loan) =
-    subst (λ (o : Option Loan). LendsNext c.args.quantum c.args.self.now.system.served c.args.self.now.last_lent c.deref_mut.result.now c.lend_next.new.tasks o) c.in-Some.is c.in_ok-loan.ensures.done in
-    let lent : Lent c.args.quantum c.args.self.now.system.served c.args.self.now.last_lent c.args.self.now.tasks.items (with_items c.args.self.now.tasks c.lend_next.new.tasks).items c.in-Some.loan =
-    given-of c.args.quantum c.args.self.now.system.served c.args.self.now.last_lent c.deref_mut.result.now c.args.self.now.tasks.items c.lend_next.new.tasks
-    (with_items c.args.self.now.tasks c.lend_next.new.tasks).items (Some c.in-Some.loan) c.deref_mut.ensures.value same done in
-    lends-one b c.args.self.now.history.items c.args.self.now.tasks.items (with_items c.args.self.now.tasks c.lend_next.new.tasks).items c.args.self.now.system c.args.self.now.last_lent c.args.quantum c.in-Some.loan (kernel_in b c.args.self.now) refl
-    h.parts room lent
+    lends-one b c.args.self.now.history.items c.args.self.now.tasks.items (slice_set c.args.self.now.tasks.items c.in-Some.place c.lend_task.new.task)
+    c.args.self.now.system c.args.self.now.last_lent c.args.quantum c.in_ok-loan.loan (kernel_in b c.args.self.now) refl h.parts room (lent (goal.at.returns-clause-lends c).In_ok-loan)
+
+-- ---- memory ran out
+still : (c : In_err-loan) → slice_set c.args.self.now.tasks.items c.in-Some.place c.lend_task.new.task ≡ c.args.self.now.tasks.items
+still c =
+    ap (λ (u : Task). slice_set c.args.self.now.tasks.items c.in-Some.place u) (c.in_err-loan.ensures.same ∙ c.index_mut.ensures.value)
+    ∙ set-get_or c.args.self.now.tasks.items c.in-Some.place c.index_mut.result.now
+
+pub returns-in_err-loan-clause-stands : goal.returns-in_err-loan-clause-stands
+returns-in_err-loan-clause-stands c = λ b h. record {
+  parts = subst (λ (ts : List Task). KeepsRun b c.args.self.now.history.items ts c.args.self.now.system) (sym (still (goal.at.returns-in_err-loan-clause-stands c).In_err-loan)) h.parts;
+  counted = h.counted;
+}
 
 pub returns-in_err-loan-clause-lends : goal.returns-in_err-loan-clause-lends
 returns-in_err-loan-clause-lends c = λ b h.
-    let whole : length c.lend_next.new.tasks ≡ c.args.self.now.tasks.len = omega arith in
-    let same : (with_items c.args.self.now.tasks c.lend_next.new.tasks).items ≡ c.lend_next.new.tasks = with_items_is c.args.self.now.tasks c.lend_next.new.tasks whole in
     let room : full_for_loan_of (length c.args.self.now.history.items) c.args.self.now.tasks.items ≡ false = cc in
-    let was : c.deref_mut.result.now ≡ c.args.self.now.tasks.items = c.deref_mut.ensures.value in
     let some : is_some (next_fit c.args.quantum c.args.self.now.system.served c.args.self.now.last_lent c.args.self.now.tasks.items) ≡ true =
-    subst (λ (ts : List Task). is_some (next_fit c.args.quantum c.args.self.now.system.served c.args.self.now.last_lent ts) ≡ true) was c.in_err-loan.ensures.some in
+    ap (λ (o : Option ℕ). is_some o) (next (goal.at.returns-in_err-loan-clause-lends c).After-index_mut) in
     let wanting : c.from_residual.result ≡ Err OutOfMemory = search rules in
-    rw wanting (lends-wanting b c.args.self.now.history.items c.args.self.now.tasks.items (with_items c.args.self.now.tasks c.lend_next.new.tasks).items c.args.self.now.system c.args.self.now.last_lent c.args.quantum (kernel_in b c.args.self.now) refl h.parts room
-    some (same ∙ c.in_err-loan.ensures.same ∙ was))
+    rw wanting (lends-wanting b c.args.self.now.history.items c.args.self.now.tasks.items (slice_set c.args.self.now.tasks.items c.in-Some.place c.lend_task.new.task)
+    c.args.self.now.system c.args.self.now.last_lent c.args.quantum (kernel_in b c.args.self.now) refl h.parts room some (still (goal.at.returns-in_err-loan-clause-lends c).In_err-loan))

@@ -94,6 +94,7 @@ settle_call-requires c =
                 (c.requires.1.parts.mirrors.each.each c.in-Some.place c.index-task.result.now (there at)) of.out);
             plan =
                 may-plan c.checkpoints_fit.ensures (run_of c.requires.0 c.args.self.now.history.items) c.args.self.now.tasks.items c.args.self.now.system c.args.done.pid c.in-Some.place c.index-task.result.now c.requires.1.parts.mirrors
+                (c.tables_keep_their_limits.ensures.tables c.requires.0 c.args.self.now.history.items)
                 (log-short c.requires.0 c.args.self.now.history.items c.args.self.now.tasks.items c.args.self.now.system c.requires.1.parts) (placed at).number (there at);
             few = served-few c.requires.0 c.args.self.now.history.items c.args.self.now.tasks.items c.args.self.now.system c.requires.1.parts;
             fresh = fresh-files (run_of c.requires.0 c.args.self.now.history.items) c.args.self.now.system c.requires.1.parts.mirrors.changes

@@ -3,7 +3,7 @@ use Rattle.std.proofs.Common.{◌≡◌, ◌<◌, ◌++◌, ◌∙◌, ℕ, ◌+
 use Rattle.kernel_step.specs.declared.task.Task.{Task}
 use Rattle.kernel_step.proofs.EnterResults.{on-err-any}
 use Rattle.kernel_step.proofs.Lists.{get-there}
-use Rattle.kernel_step.proofs.SettleCore.{unsettled-same}
+use Rattle.kernel_step.proofs.SettleCore.{only-room, unsettled-same}
 use Rattle.kernel_step.proofs.running.Running.settle_call.Goals as goal
 use Rattle.kernel_step.proofs.running.Running.settle_call.Goals.{After-index_mut-task}
 
@@ -36,17 +36,8 @@ returns-clause-done c =
 
 pub returns-then-is_err-clause-same : goal.returns-then-is_err-clause-same
 returns-then-is_err-clause-same c =
-    unsettled-same c.args.self.now _ c.args.place c.requires.within c.reserve.ensures.items (record {
-      marks = refl;
-      changes = refl;
-      files = refl;
-      tapes = refl;
-      pipes = refl;
-      parts = refl;
-      served = refl;
-      committer = refl;
-      screens = λ committed log screens. screens;
-    }) refl refl refl
+    unsettled-same c.args.self.now _ c.args.place c.requires.within c.reserve.ensures.items
+    (only-room c.args.self.now.system c.args.self.now.system.dependencies refl) refl refl refl
 
 pub returns-in_err-answer-clause-same : goal.returns-in_err-answer-clause-same
 returns-in_err-answer-clause-same c =

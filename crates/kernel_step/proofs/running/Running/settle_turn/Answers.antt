@@ -5,22 +5,13 @@ use Rattle.kernel_model.specs.declared.event.Event.{Event}
 use Rattle.kernel_model.specs.declared.event.Event.TheVariants.{Turn}
 use Rattle.kernel_step.specs.Parts.{IsOwnNoted}
 use Rattle.kernel_step.proofs.Lists.{get-there}
-use Rattle.kernel_step.proofs.SettleCore.{unsettled-same}
+use Rattle.kernel_step.proofs.SettleCore.{only-room, unsettled-same}
 use Rattle.kernel_step.proofs.running.Running.settle_turn.Goals as goal
 
 pub returns-then-is_err-clause-same : goal.returns-then-is_err-clause-same
 returns-then-is_err-clause-same c =
-    unsettled-same c.args.self.now _ c.args.place c.requires.within refl (record {
-      marks = c.reserve.ensures.same_marks;
-      changes = refl;
-      files = refl;
-      tapes = refl;
-      pipes = refl;
-      parts = refl;
-      served = refl;
-      committer = refl;
-      screens = λ committed log screens. screens;
-    }) c.reserve.ensures.same_history refl refl
+    unsettled-same c.args.self.now _ c.args.place c.requires.within refl
+    (only-room c.args.self.now.system c.reserve.new.dependencies c.reserve.ensures.same_marks) c.reserve.ensures.same_history refl refl
 
 pub returns-clause-done : goal.returns-clause-done
 returns-clause-done c =

@@ -1,5 +1,5 @@
 -- The parts do what the run says.
-use Rattle.std.proofs.Common.{◌≡◌, ◌∙◌, ℕ, ◌^◌, ◌≤◌, refl, ap, sym, subst, ◌++◌, List, Option, None, Some, length, slice_get, slice_set, map, option_to_list, Bool, arith, rules}
+use Rattle.std.proofs.Common.{◌≡◌, ◌∙◌, ℕ, ◌^◌, ◌≤◌, refl, ap, sym, subst, ◌++◌, List, Option, None, Some, length, slice_get, slice_set, map, option_to_list, Bool, arith}
 use Rattle.kernel_model.specs.Answers.{with_child}
 use Rattle.kernel_model.specs.Answers.{entered as answer_to}
 use Rattle.kernel_model.specs.World.{World, happens}
@@ -7,7 +7,7 @@ use Rattle.kernel_model.specs.declared.answer.Outcome.{Outcome}
 use Rattle.kernel_model.specs.declared.event.Event.TheVariants.{Enter}
 use Rattle.kernel_step.specs.Entering.{IsDone}
 use Rattle.kernel_step.specs.Mirrors.{Mirrors}
-use Rattle.kernel_step.specs.Tests.{IsPlaceOf, full_of, enter_refusal_of}
+use Rattle.kernel_step.specs.Tests.{IsPlaceOf, enter_refusal_of}
 use Rattle.kernel_step.specs.Tasks.{lending_of}
 use Rattle.kernel_step.specs.declared.system.System.{System}
 use Rattle.kernel_step.specs.declared.task.Task.{Task}
@@ -20,7 +20,7 @@ use Rattle.kernel_step.proofs.running.Running.try_enter.Goals.{After-index_mut-t
 
 -- ---- the task
 placed : (c : After-index_mut-task) → IsPlaceOf c.args.self.now.tasks.items c.args.pid c.in_ok-place.place
-placed c = subst (λ (ts : List Task). IsPlaceOf ts c.args.pid c.in_ok-place.place) c.deref-2.ensures.value c.in_ok-place.ensures.place
+placed c = subst (λ (ts : List Task). IsPlaceOf ts c.args.pid c.in_ok-place.place) c.deref.ensures.value c.in_ok-place.ensures.place
 
 there : (c : After-index_mut-task) → slice_get c.args.self.now.tasks.items c.in_ok-place.place ≡ Some c.index_mut-task.result.now
 there c =
@@ -30,7 +30,7 @@ there c =
 fine : (c : After-index_mut-task) → IsFineTask c.index_mut-task.result.now c.is_full-full.result
 fine c =
     fine-task c.args.self.now.tasks.items c.is_full-full.result c.args.pid c.in_ok-place.place c.index_mut-task.result.now (placed c).number (there c)
-    (subst (λ (ts : List Task). enter_refusal_of ts c.is_full-full.result c.args.pid ≡ None) c.deref-2.ensures.value c.in_ok-place.ensures.fine)
+    (subst (λ (ts : List Task). enter_refusal_of ts c.is_full-full.result c.args.pid ≡ None) c.deref.ensures.value c.in_ok-place.ensures.fine)
 
 -- ---- the Enter
 pub enter_task-requires-clause-here : goal.enter_task-requires-clause-here
@@ -48,7 +48,7 @@ enter_task-requires-clause-fine c =
       running = ready.running;
       plan =
           may-plan c.checkpoints_fit.ensures c.requires.world c.args.self.now.tasks.items c.args.self.now.system c.args.pid c.in_ok-place.place c.index_mut-task.result.now
-          c.requires.mirrors c.requires.short (placed t).number (there t);
+          c.requires.mirrors c.requires.limits c.requires.short (placed t).number (there t);
       few = omega (arith, served, short);
       fresh = fresh-files c.requires.world c.args.self.now.system c.requires.mirrors.changes c.requires.short;
     }
@@ -70,14 +70,10 @@ returns-clause-done c =
     let run = runs (goal.at.returns-clause-done c).After-index_mut-task u c.enter_task.new.system c.in_ok-outcome.outcome child c.in_ok-outcome.ensures.done in
     let grown : c.join.new.tasks.items ≡ slice_set tasks c.in_ok-place.place u ++ option_to_list child =
     c.join.ensures ∙ ap (λ (ts : List Task). slice_set ts c.in_ok-place.place u ++ option_to_list child) c.in_ok-reserve.ensures.items in
-    let size : c.args.self.now.history.len ≡ length c.args.self.now.history.items = search rules in
-    let full : c.is_full-full.result ≡ full_of (length c.args.self.now.history.items) tasks =
-    c.is_full-full.ensures ∙ ap (λ n. full_of n c.deref.result.now) (c.len.ensures ∙ size)
-    ∙ ap (λ (ts : List Task). full_of (length c.args.self.now.history.items) ts) c.deref.ensures.value in
     record {
       fine =
-          ap (λ (f : Bool). enter_refusal_of tasks f c.args.pid) (sym full)
-          ∙ subst (λ (ts : List Task). enter_refusal_of ts c.is_full-full.result c.args.pid ≡ None) c.deref-2.ensures.value c.in_ok-place.ensures.fine;
+          ap (λ (f : Bool). enter_refusal_of tasks f c.args.pid) (sym c.is_full-full.ensures)
+          ∙ subst (λ (ts : List Task). enter_refusal_of ts c.is_full-full.result c.args.pid ≡ None) c.deref.ensures.value c.in_ok-place.ensures.fine;
       answer = λ w h. c.entered.ensures ∙ ap (λ (o : Outcome). answer_to o) (run w h).outcome_is;
       mirrors = λ w h. subst (λ (ts : List Task). Mirrors (happens w (Enter c.args.pid)) ts c.enter_task.new.system) (sym grown) (run w h).mirrors;
       lendings = λ w h.

@@ -20,7 +20,7 @@ fine-here tasks full pid place n placed accepted lent =
 
 pub returns-in_err-count-clause-refused : goal.returns-in_err-count-clause-refused
 returns-in_err-count-clause-refused c =
-    let same : c.deref-2.result.now ≡ c.deref_mut.result.now = cc in
+    let same : c.deref.result.now ≡ c.deref_mut.result.now = cc in
     absurd (fine-here c.deref_mut.result.now c.is_full-full.result c.args.pid c.in_ok-place.place c.args.n
     (subst (λ (ts : List Task). IsPlaceOf ts c.args.pid c.in_ok-place.place) same c.in_ok-place.ensures.place)
     (subst (λ (ts : List Task). turn_refusal_of ts c.is_full-full.result c.args.pid c.args.n ≡ None) same c.in_ok-place.ensures.fine)
