@@ -3,4 +3,3 @@ pub mod Accepting
 pub mod Applying
 pub mod Draining
 pub mod Parts
-pub mod Seeing

@@ -4,20 +4,20 @@ use Rattle.kernel_model.specs.Answers.{Kernel, now, process_of}
 use Rattle.kernel_model.specs.Shown.{handed, end_in}
 use Rattle.kernel_model.specs.declared.answer.Refused.TheVariants.{NoProcess}
 use Rattle.kernel.specs.Booting.{boot_of}
-use Rattle.kernel.proofs.Seeing.{if-ok, on-ok, if-err}
+use Rattle.std.proofs.lemmas.Result.{IfOk-weaker, on_ok_weaker, IfErr-weaker}
 use Rattle.kernel.proofs.cores.Core.ended.Goals as goal
 
 pub returns-clause-status : goal.returns-clause-status
 returns-clause-status c =
-    if-ok c.ended.result (λ status all. all (boot_of c.self.inside.booted) c.self.invariant.stands ∙ ap (λ (k : Kernel). end_in (handed (now k) c.args.pid)) c.self.view_is)
+    IfOk-weaker c.ended.result _ _ (λ status all. all (boot_of c.self.inside.booted) c.self.invariant.stands ∙ ap (λ (k : Kernel). end_in (handed (now k) c.args.pid)) c.self.view_is)
     c.ended.ensures.status
 
 pub returns-clause-there : goal.returns-clause-there
 returns-clause-there c =
-    on-ok c.ended.result (λ all. subst (λ (k : Kernel). is_some (process_of k c.args.pid) ≡ true) c.self.view_is (all (boot_of c.self.inside.booted) c.self.invariant.stands))
+    on_ok_weaker c.ended.result (λ all. subst (λ (k : Kernel). is_some (process_of k c.args.pid) ≡ true) c.self.view_is (all (boot_of c.self.inside.booted) c.self.invariant.stands))
     c.ended.ensures.there
 
 pub returns-clause-none : goal.returns-clause-none
 returns-clause-none c =
-    if-err c.ended.result (λ why all. subst (λ (k : Kernel). (why ≡ NoProcess) × (process_of k c.args.pid ≡ None)) c.self.view_is
+    IfErr-weaker c.ended.result _ _ (λ why all. subst (λ (k : Kernel). (why ≡ NoProcess) × (process_of k c.args.pid ≡ None)) c.self.view_is
     (all (boot_of c.self.inside.booted) c.self.invariant.stands)) c.ended.ensures.none

@@ -4,20 +4,20 @@ use Rattle.kernel_model.specs.Answers.{Kernel, now, process_of}
 use Rattle.kernel_model.specs.Shown.{handed, replies_in}
 use Rattle.kernel_model.specs.declared.answer.Refused.TheVariants.{NoProcess}
 use Rattle.kernel.specs.Booting.{boot_of}
-use Rattle.kernel.proofs.Seeing.{if-ok, on-ok, if-err}
+use Rattle.std.proofs.lemmas.Result.{IfOk-weaker, on_ok_weaker, IfErr-weaker}
 use Rattle.kernel.proofs.cores.Core.trace.Goals as goal
 
 pub returns-clause-replies : goal.returns-clause-replies
 returns-clause-replies c =
-    if-ok c.trace.result (λ rs all. all (boot_of c.self.inside.booted) c.self.invariant.stands ∙ ap (λ (k : Kernel). replies_in (handed (now k) c.args.pid)) c.self.view_is)
+    IfOk-weaker c.trace.result _ _ (λ rs all. all (boot_of c.self.inside.booted) c.self.invariant.stands ∙ ap (λ (k : Kernel). replies_in (handed (now k) c.args.pid)) c.self.view_is)
     c.trace.ensures.replies
 
 pub returns-clause-there : goal.returns-clause-there
 returns-clause-there c =
-    on-ok c.trace.result (λ all. subst (λ (k : Kernel). is_some (process_of k c.args.pid) ≡ true) c.self.view_is (all (boot_of c.self.inside.booted) c.self.invariant.stands))
+    on_ok_weaker c.trace.result (λ all. subst (λ (k : Kernel). is_some (process_of k c.args.pid) ≡ true) c.self.view_is (all (boot_of c.self.inside.booted) c.self.invariant.stands))
     c.trace.ensures.there
 
 pub returns-clause-none : goal.returns-clause-none
 returns-clause-none c =
-    if-err c.trace.result (λ why all. subst (λ (k : Kernel). (why ≡ NoProcess) × (process_of k c.args.pid ≡ None)) c.self.view_is
+    IfErr-weaker c.trace.result _ _ (λ why all. subst (λ (k : Kernel). (why ≡ NoProcess) × (process_of k c.args.pid ≡ None)) c.self.view_is
     (all (boot_of c.self.inside.booted) c.self.invariant.stands)) c.trace.ensures.none
