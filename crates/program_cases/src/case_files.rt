@@ -1,7 +1,6 @@
-//! The cases of a file, by the notation that its name ends with: `.calls` for programs that call the kernel (`kernel_calls`),
-//! `.sessions` for runs of the program by its command line (`sessions`). A file begins with a comment, and each case with a line
-//! `== TITLE`.
-use crate::{kernel_calls, sessions};
+//! The cases of a file, by the notation that its name ends with: `.calls` for programs that call the kernel, `.sessions` for runs of
+//! the program by its command line. A file begins with a comment, and each case with a line `== TITLE`.
+use crate::playing::{play_calls, play_session};
 use anyhow::{Error, bail};
 use std::fs;
 use std::rt::Files;
@@ -15,9 +14,9 @@ fn check_case<R: Files + AllocGlobal + Threads + Wait + Sync>(
     case: &str,
 ) -> Result<(), Error> {
     if name.ends_with(".calls") {
-        kernel_calls::check(rt, case)
+        play_calls(rt, case)
     } else {
-        sessions::check(rt, case)
+        play_session(rt, case)
     }
 }
 

@@ -1,6 +1,6 @@
 //! The line of a disk that cannot be read.
-use crate::compare::compare;
 use anyhow::{Error, ensure};
+use case_texts::compare;
 use kernel::{BootFault, DiskFault};
 use monitor::Fault;
 use std::alloc::Global;

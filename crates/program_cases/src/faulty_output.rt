@@ -35,6 +35,22 @@ const SCRIPT: &[u8] =
 /// What is said where the output fails.
 const FAILED: &str = "bench: input or output failed\n";
 
+/// Compares how a run with room for so many writes ended, how many it made, and what it said, with what is wanted.
+fn compare_end(
+    room: usize,
+    (ended, writes, err): (u8, usize, &[u8]),
+    status: u8,
+    said: &str,
+) -> Result<(), Error> {
+    ensure!(ended == status, "room for {room} writes: status {ended}");
+    ensure!(writes == room, "room for {room} writes: {writes} writes");
+    ensure!(
+        err == said.as_bytes(),
+        "room for {room} writes: another line"
+    );
+    Ok(())
+}
+
 /// Runs the program with these words, parted by blanks, on the script: it fills the output's room, and ends with this status
 /// and this text on standard error.
 fn check_room<R: Files + AllocGlobal + Threads + Wait + Sync>(
@@ -49,14 +65,7 @@ fn check_room<R: Files + AllocGlobal + Threads + Wait + Sync>(
     let mut out = Output { writes: 0, room };
     let mut err = Vec::new(rt.alloc());
     let ended = monitor::bench(rt, &words, &mut input, &mut out, &mut err);
-    let writes = out.writes;
-    ensure!(ended == status, "room for {room} writes: status {ended}");
-    ensure!(writes == room, "room for {room} writes: {writes} writes");
-    ensure!(
-        err.as_slice() == said.as_bytes(),
-        "room for {room} writes: another line"
-    );
-    Ok(())
+    compare_end(room, (ended, out.writes, err.as_slice()), status, said)
 }
 
 /// One write is enough for all output, of a script and of help; where there is none, the status is 6.
@@ -70,17 +79,19 @@ pub fn check_faulty_output<R: Files + AllocGlobal + Threads + Wait + Sync>(
     Ok(String::from_str(rt.alloc(), "outputs that take one write or none")?)
 }
 
+/// Assembles the source `endless.s` to the image `endless`.
+fn assemble_endless<R: Files + AllocGlobal + Threads + Wait + Sync>(rt: &R) -> Result<(), Error> {
+    let status = run(rt, "asm endless.s endless", b"")?.status;
+    ensure!(status == 0, "endless.s: status {status}");
+    Ok(())
+}
+
 /// A program that writes a byte which rests on a change, and then never ends. Its run ends only since that byte goes out while
 /// the program runs, and cannot be written. It reads the source `endless.s`.
 pub fn check_endless_run<R: Files + AllocGlobal + Threads + Wait + Sync>(
     rt: &R,
 ) -> Result<String, Error> {
-    let assembled = run(rt, "asm endless.s endless", b"")?;
-    ensure!(
-        assembled.status == 0,
-        "endless.s: status {}",
-        assembled.status
-    );
+    assemble_endless(rt)?;
     check_room(rt, "run endless", 0, 6, FAILED)?;
     fs::remove_file(rt, "endless")?;
     Ok(String::from_str(rt.alloc(), "a run without end whose output fails")?)

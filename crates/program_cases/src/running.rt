@@ -1,25 +1,9 @@
 //! Runs of the whole program, over text in memory.
+use case_texts::Ran;
 use std::alloc::{AllocError, Global};
 use std::rt::Files;
 use std::sync::Wait;
 use std::thread::Threads;
-
-/// What a run wrote, and its exit status.
-pub struct Ran {
-    pub out: Vec<u8>,
-    pub err: Vec<u8>,
-    pub status: u8,
-}
-
-impl Drop for Ran {
-    fn drop(self) {
-        let Ran {
-            out: _out,
-            err: _err,
-            status: _,
-        } = self;
-    }
-}
 
 /// The words of a line, which are parted by blanks.
 pub fn words_of(alloc: Global, line: &str) -> Result<Vec<String>, AllocError> {

@@ -11,15 +11,11 @@
 //!
 //! In input `\t`, `\r`, `\s` and `\xff` stand for a tab, a carriage return, a blank and the byte ff. Empty lines and
 //! lines that begin with `#` are skipped.
-use crate::compare::compare;
+use crate::comparing::compare;
 use crate::hex_parts::push_parts;
-use crate::running::{Ran, run};
+use crate::ran::Ran;
 use anyhow::{Error, bail, ensure};
-use std::alloc::Global;
-use std::fs;
-use std::rt::Files;
-use std::sync::Wait;
-use std::thread::Threads;
+use std::alloc::{AllocError, Global};
 
 /// What stands for bytes that a line does not show, and the byte, each after a backslash.
 const ESCAPES: [(&str, u8); 4] = [("t", b'\t'), ("r", b'\r'), ("s", b' '), ("xff", 0xFF)];
@@ -49,7 +45,7 @@ fn push_text(input: &mut Vec<u8>, text: &str) -> Result<(), Error> {
 }
 
 /// A run of the program, and what is wanted of it.
-struct Run {
+pub struct Run {
     words: String,
     input: Vec<u8>,
     /// What it prints; None: whatever it does.
@@ -147,8 +143,26 @@ impl Run {
         Ok(true)
     }
 
-    /// Compares what a run wrote with what is wanted.
-    fn compare(&self, ran: &Ran) -> Result<(), Error> {
+    /// The words with which the program is run, parted by blanks.
+    pub fn words(&self) -> &str {
+        self.words.as_str()
+    }
+
+    /// What stands on its input.
+    pub fn input(&self) -> &[u8] {
+        self.input.as_slice()
+    }
+
+    /// Compares what came of the run with what is wanted.
+    pub fn compare(&self, ran: &Ran) -> Result<(), Error> {
+        match self.compare_all(ran) {
+            Ok(()) => Ok(()),
+            Err(error) => bail!("$ {}: {error}", self.words),
+        }
+    }
+
+    /// Compares its output, its standard error and its status.
+    fn compare_all(&self, ran: &Ran) -> Result<(), Error> {
         let status = ran.status;
         match &self.out {
             Some(out) => compare(str::from_utf8(&ran.out)?, out.as_str())?,
@@ -161,14 +175,20 @@ impl Run {
         ensure!(status == self.status, "the status was {status}");
         Ok(())
     }
+}
 
-    /// Runs the program, and compares.
-    fn check<R: Files + AllocGlobal + Threads + Wait + Sync>(&self, rt: &R) -> Result<(), Error> {
-        let ran = run(rt, self.words.as_str(), self.input.as_slice())?;
-        match self.compare(&ran) {
-            Ok(()) => Ok(()),
-            Err(error) => bail!("$ {}: {error}", self.words),
-        }
+/// A file's name, and bytes.
+pub struct NamedBytes {
+    pub name: String,
+    pub bytes: Vec<u8>,
+}
+
+impl Drop for NamedBytes {
+    fn drop(self) {
+        let NamedBytes {
+            name: _name,
+            bytes: _bytes,
+        } = self;
     }
 }
 
@@ -182,114 +202,95 @@ fn bytes_of(alloc: Global, parts: &str) -> Result<Vec<u8>, Error> {
     Ok(hex::decode(alloc, digits.as_str())?)
 }
 
-/// Writes a file of these bytes.
-fn write_bytes<R: Files + AllocGlobal>(rt: &R, name: &str, parts: &str) -> Result<(), Error> {
-    let bytes = bytes_of(rt.alloc(), parts)?;
-    Ok(fs::write(rt, name, bytes.as_slice())?)
+impl NamedBytes {
+    /// The bytes of parts in hexadecimal, or none for `-`.
+    fn of_parts(alloc: Global, name: &str, parts: &str) -> Result<NamedBytes, Error> {
+        let bytes = bytes_of(alloc, parts)?;
+        let name = String::from_str(alloc, name)?;
+        Ok(NamedBytes { name, bytes })
+    }
+
+    /// Adds a line.
+    fn push_line(&mut self, text: &str) -> Result<(), AllocError> {
+        self.bytes.extend_from_slice(text.as_bytes())?;
+        self.bytes.push(b'\n')?;
+        Ok(())
+    }
+
+    /// Compares what the file holds with these bytes.
+    pub fn compare(&self, file: &[u8]) -> Result<(), Error> {
+        let name = self.name.as_str();
+        let len = file.len();
+        ensure!(
+            file == self.bytes.as_slice(),
+            "{name} holds {len} other bytes"
+        );
+        Ok(())
+    }
 }
 
-/// Compares a file with these bytes.
-fn compare_bytes<R: Files + AllocGlobal>(rt: &R, name: &str, parts: &str) -> Result<(), Error> {
-    let bytes = bytes_of(rt.alloc(), parts)?;
-    let file = fs::read(rt, name)?;
-    let len = file.len();
-    ensure!(
-        file.as_slice() == bytes.as_slice(),
-        "{name} holds {len} other bytes"
-    );
+/// A step of a case.
+#[derive(Drop)]
+pub enum Step {
+    /// The program is run.
+    Run(Run),
+    /// A file of lines is written.
+    Lines(NamedBytes),
+    /// A file of bytes is written.
+    Bytes(NamedBytes),
+    /// The file of this name is removed.
+    Remove(String),
+    /// The file has these bytes.
+    Holds(NamedBytes),
+    /// There is no file of this name.
+    Missing(String),
+}
+
+impl Step {
+    /// Reads a line that says more of the step, by its mark; answers whether it does.
+    fn goes_on(&mut self, alloc: Global, mark: &str, text: &str) -> Result<bool, Error> {
+        match self {
+            Step::Run(run) => run.read(alloc, mark, text),
+            Step::Lines(file) if mark == "|" => {
+                file.push_line(text)?;
+                Ok(true)
+            }
+            _ => Ok(false),
+        }
+    }
+}
+
+/// Where a line has no form, and where there is a file that is to be missing.
+const NOT_SO: &str = "this has no form, or does not hold";
+
+/// Refused where a file is there that is to be missing.
+pub fn check_missing(is_missing: bool) -> Result<(), Error> {
+    ensure!(is_missing, "{NOT_SO}");
     Ok(())
 }
 
-/// What a line without a mark of a run does to the files.
-fn do_to_file<R: Files + AllocGlobal>(rt: &R, words: &[&str]) -> Result<(), Error> {
+/// The run of a line `$ WORDS`.
+fn run_of(alloc: Global, line: &str) -> Result<Run, Error> {
+    Run::new(alloc, line.trim_start_matches('$').trim())
+}
+
+/// The step that begins with a line of these words.
+fn step_of(alloc: Global, line: &str, words: &[&str]) -> Result<Step, Error> {
     match words {
-        ["bytes", name, parts] => write_bytes(rt, name, parts),
-        ["remove", name] => Ok(fs::remove_file(rt, name)?),
-        ["holds", name, parts] => compare_bytes(rt, name, parts),
-        ["missing", name] if fs::read(rt, name).is_err() => Ok(()),
-        _ => bail!("this has no form, or does not hold"),
+        ["$", ..] => Ok(Step::Run(run_of(alloc, line)?)),
+        ["file", name] => Ok(Step::Lines(NamedBytes::of_parts(alloc, name, "-")?)),
+        ["bytes", name, parts] => Ok(Step::Bytes(NamedBytes::of_parts(alloc, name, parts)?)),
+        ["remove", name] => Ok(Step::Remove(String::from_str(alloc, name)?)),
+        ["holds", name, parts] => Ok(Step::Holds(NamedBytes::of_parts(alloc, name, parts)?)),
+        ["missing", name] => Ok(Step::Missing(String::from_str(alloc, name)?)),
+        _ => bail!("{NOT_SO}"),
     }
 }
 
-/// A file whose lines are being read.
-struct TextFile {
-    name: String,
-    text: String,
-}
-
-impl Drop for TextFile {
-    fn drop(self) {
-        let TextFile {
-            name: _name,
-            text: _text,
-        } = self;
-    }
-}
-
-/// A case that is being read: what its last lines say as yet.
-#[derive(Drop)]
-enum Reading {
-    Nothing,
-    Run(Run),
-    File(TextFile),
-}
-
-impl Reading {
-    /// Does what was read.
-    fn end<R: Files + AllocGlobal + Threads + Wait + Sync>(&self, rt: &R) -> Result<(), Error> {
-        match self {
-            Reading::Nothing => Ok(()),
-            Reading::Run(run) => run.check(rt),
-            Reading::File(file) => Ok(fs::write(rt, file.name.as_str(), file.text.as_str())?),
-        }
-    }
-
-    /// Reads a line that goes on with what was read, by its mark; answers whether it does.
-    fn goes_on(&mut self, alloc: Global, mark: &str, text: &str) -> Result<bool, Error> {
-        match self {
-            Reading::Run(run) => run.read(alloc, mark, text),
-            Reading::File(file) if mark == "|" => {
-                file.text.push_str(text)?;
-                file.text.push_str("\n")?;
-                Ok(true)
-            }
-            Reading::File(_) | Reading::Nothing => Ok(false),
-        }
-    }
-}
-
-/// Begins with a run of the program.
-fn begin_run(alloc: Global, line: &str) -> Result<Reading, Error> {
-    let words = line.trim_start_matches('$').trim();
-    Ok(Reading::Run(Run::new(alloc, words)?))
-}
-
-/// Begins with a file.
-fn begin_file(alloc: Global, name: &str) -> Result<Reading, Error> {
-    Ok(Reading::File(TextFile {
-        name: String::from_str(alloc, name)?,
-        text: String::new(alloc),
-    }))
-}
-
-/// Begins with a line of these words.
-fn begin_words<R: Files + AllocGlobal>(
-    rt: &R,
-    line: &str,
-    words: &[&str],
-) -> Result<Reading, Error> {
-    match words {
-        [] => Ok(Reading::Nothing),
-        ["$", ..] => begin_run(rt.alloc(), line),
-        ["file", name] => begin_file(rt.alloc(), name),
-        others => do_to_file(rt, others).map(|()| Reading::Nothing),
-    }
-}
-
-/// Begins with a line that does not go on with what was read.
-fn begin<R: Files + AllocGlobal>(rt: &R, line: &str) -> Result<Reading, Error> {
-    let words: Vec<&str> = line.split_whitespace().collect(rt.alloc())?;
-    begin_words(rt, line, words.as_slice())
+/// The step that begins with a line.
+fn begin(alloc: Global, line: &str) -> Result<Step, Error> {
+    let words: Vec<&str> = line.split_whitespace().collect(alloc)?;
+    step_of(alloc, line, words.as_slice())
 }
 
 /// The mark of a line, and the text after its blank.
@@ -297,30 +298,30 @@ fn parted(line: &str) -> (&str, &str) {
     line.split_once(' ').unwrap_or((line, ""))
 }
 
-/// Reads a line of a case.
-fn read_line<R: Files + AllocGlobal + Threads + Wait + Sync>(
-    rt: &R,
-    reading: &mut Reading,
-    line: &str,
-) -> Result<(), Error> {
+/// Whether a line goes on with the last step, which then has read it.
+fn goes_on(alloc: Global, steps: &mut [Step], line: &str) -> Result<bool, Error> {
     let (mark, text) = parted(line);
-    if !reading.goes_on(rt.alloc(), mark, text)? {
-        reading.end(rt)?;
-        *reading = begin(rt, line)?;
+    match steps.last_mut() {
+        Some(step) => step.goes_on(alloc, mark, text),
+        None => Ok(false),
+    }
+}
+
+/// Reads a line of a case.
+fn read_line(alloc: Global, steps: &mut Vec<Step>, line: &str) -> Result<(), Error> {
+    if !goes_on(alloc, steps.as_mut_slice(), line)? {
+        steps.push(begin(alloc, line)?)?;
     }
     Ok(())
 }
 
-/// Runs a case, whose first line is its title.
-pub fn check<R: Files + AllocGlobal + Threads + Wait + Sync>(
-    rt: &R,
-    case: &str,
-) -> Result<(), Error> {
-    let mut reading = Reading::Nothing;
+/// The steps of a case, whose first line is its title.
+pub fn session_steps(alloc: Global, case: &str) -> Result<Vec<Step>, Error> {
+    let mut steps = Vec::new(alloc);
     for line in case.lines().skip(1) {
         if !line.is_empty() && !line.starts_with('#') {
-            read_line(rt, &mut reading, line)?;
+            read_line(alloc, &mut steps, line)?;
         }
     }
-    reading.end(rt)
+    Ok(steps)
 }

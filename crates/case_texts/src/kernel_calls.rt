@@ -19,19 +19,18 @@
 //! - any other line of a script, and the line that it prints.
 //!
 //! What a turn prints is left out; what stands after `#` is a comment.
-use crate::compare::compare;
+use crate::comparing::compare;
 use crate::hex_parts::push_parts;
 use crate::notation::{Form, Program, Replies, image_of_rights, program_line};
-use crate::running::{Ran, run};
+use crate::ran::Ran;
 use anyhow::{Error, bail, ensure};
 use std::alloc::{AllocError, Global};
-use std::fs;
-use std::rt::Files;
-use std::sync::Wait;
-use std::thread::Threads;
+
+/// The name of the file in which the program of a line `image T` stands.
+pub const IMAGE_NAME: &str = "rights";
 
 /// A case: its script so far, what is to be printed, the replies of its programs, and its image's file.
-struct Case {
+pub struct CallsCase {
     file: Vec<u8>,
     script: String,
     printed: String,
@@ -39,9 +38,9 @@ struct Case {
     programs: Vec<Replies>,
 }
 
-impl Drop for Case {
+impl Drop for CallsCase {
     fn drop(self) {
-        let Case {
+        let CallsCase {
             file: _file,
             script: _script,
             printed: _printed,
@@ -51,9 +50,41 @@ impl Drop for Case {
     }
 }
 
-impl Case {
-    fn new(alloc: Global) -> Case {
-        Case {
+impl CallsCase {
+    /// Reads a case, whose first line is its title.
+    pub fn read(alloc: Global, text: &str) -> Result<CallsCase, Error> {
+        let mut case = CallsCase::new(alloc);
+        for line in text.lines().skip(1) {
+            let line = bare(line);
+            if !line.is_empty() {
+                case.read_line(alloc, line)?;
+            }
+        }
+        Ok(case)
+    }
+
+    /// The script that is to be run.
+    pub fn script(&self) -> &[u8] {
+        self.script.as_bytes()
+    }
+
+    /// The bytes of the file that has to stand beside the script, under its name; none where there is no line `image T`.
+    pub fn image(&self) -> &[u8] {
+        self.file.as_slice()
+    }
+
+    /// Compares what the script's run printed with what is wanted.
+    pub fn compare(&self, alloc: Global, ran: &Ran) -> Result<(), Error> {
+        let printed = without_turns(alloc, ran.out.as_slice())?;
+        compare(printed.as_str(), self.printed.as_str())?;
+        let status = ran.status;
+        ensure!(status == 0, "the status was {status}");
+        Ok(())
+    }
+
+    /// A case of which nothing was read.
+    fn new(alloc: Global) -> CallsCase {
+        CallsCase {
             file: Vec::new(alloc),
             script: String::new(alloc),
             printed: String::new(alloc),
@@ -76,7 +107,7 @@ impl Case {
     /// Sets up a program of these words that stands in a file.
     fn set_up_image(&mut self, alloc: Global, terminal: &str, words: &[u32]) -> Result<(), Error> {
         self.file = image_of_rights(alloc, words)?;
-        let line = format!(in alloc; "image {terminal} rights")?;
+        let line = format!(in alloc; "image {terminal} {IMAGE_NAME}")?;
         Ok(self.set_up(line.as_str())?)
     }
 
@@ -261,7 +292,7 @@ impl Case {
     }
 
     /// Reads a line of the case.
-    fn read(&mut self, alloc: Global, line: &str) -> Result<(), Error> {
+    fn read_line(&mut self, alloc: Global, line: &str) -> Result<(), Error> {
         if let Some((line, wanted)) = line.split_once(" => ") {
             self.end_program(alloc)?;
             return self.wanted(alloc, line, wanted);
@@ -303,49 +334,4 @@ fn bare(line: &str) -> &str {
         Some((line, _)) => line.trim(),
         None => line.trim(),
     }
-}
-
-/// Reads a case, whose first line is its title.
-fn read_case(alloc: Global, text: &str) -> Result<Case, Error> {
-    let mut case = Case::new(alloc);
-    for line in text.lines().skip(1) {
-        let line = bare(line);
-        if !line.is_empty() {
-            case.read(alloc, line)?;
-        }
-    }
-    Ok(case)
-}
-
-/// Runs a case's script, beside its image's file, if it has one.
-fn run_case<R: Files + AllocGlobal + Threads + Wait + Sync>(
-    rt: &R,
-    case: &Case,
-) -> Result<Ran, Error> {
-    if case.file.is_empty() {
-        return Ok(run(rt, "", case.script.as_bytes())?);
-    }
-    fs::write(rt, "rights", case.file.as_slice())?;
-    let ran = run(rt, "", case.script.as_bytes())?;
-    fs::remove_file(rt, "rights")?;
-    Ok(ran)
-}
-
-/// Compares what a run printed.
-fn compare_run(alloc: Global, ran: &Ran, wanted: &str) -> Result<(), Error> {
-    let printed = without_turns(alloc, ran.out.as_slice())?;
-    compare(printed.as_str(), wanted)?;
-    let status = ran.status;
-    ensure!(status == 0, "the status was {status}");
-    Ok(())
-}
-
-/// Runs a case, and compares what it prints.
-pub fn check<R: Files + AllocGlobal + Threads + Wait + Sync>(
-    rt: &R,
-    text: &str,
-) -> Result<(), Error> {
-    let case = read_case(rt.alloc(), text)?;
-    let ran = run_case(rt, &case)?;
-    compare_run(rt.alloc(), &ran, case.printed.as_str())
 }

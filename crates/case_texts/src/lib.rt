@@ -1,0 +1,15 @@
+//! Cases of the program `bench`, as they stand in files: what a case sets up and runs, as values, and what came of a run beside what
+//! is wanted. Two notations: `kernel_calls` for programs that call the kernel, `sessions` for runs by the command line.
+#![tactic(auto)]
+
+mod comparing;
+mod hex_parts;
+mod kernel_calls;
+mod notation;
+mod ran;
+mod sessions;
+
+pub use comparing::compare;
+pub use kernel_calls::{CallsCase, IMAGE_NAME};
+pub use ran::Ran;
+pub use sessions::{NamedBytes, Run, Step, check_missing, session_steps};
