@@ -1,6 +1,6 @@
 //! The files on disks.
-use crate::disk_file::disk_in;
 use crate::fault::Fault;
+use host_files::disk_in;
 use scripts::print_files;
 use std::io::Write;
 use std::rt::Files;

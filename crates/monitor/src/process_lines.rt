@@ -3,9 +3,6 @@ use crate::fault::Fault;
 use kernel::{Core, Refused, Standing};
 use std::io::Write;
 
-/// The most processes of a run.
-const MOST_PROCESSES: u32 = 1024;
-
 /// Prints the status with which a process ended, where it is handed out.
 fn print_end<E: Write>(
     pid: u32,
@@ -33,9 +30,9 @@ fn print_process<E: Write>(
     }
 }
 
-/// Prints a line for each process, by rising number.
+/// Prints a line for each process, by rising number: the first number without a process comes after them.
 pub fn print_processes<E: Write>(core: &Core, err: &mut E) -> Result<(), Fault> {
-    for pid in 1..=MOST_PROCESSES {
+    for pid in 1..=u32::MAX {
         match core.standing(pid) {
             Ok(standing) => print_process(core, pid, standing, err)?,
             Err(_) => return Ok(()),

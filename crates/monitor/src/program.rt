@@ -1,15 +1,11 @@
 //! The whole program.
-use crate::command::{Task, parse};
 use crate::fault::Fault;
 use crate::file_lines::list_files;
-use crate::list::list;
-use crate::reading::{image_in, trace_in};
 use crate::running::run_images;
-use crate::source::{Assembled, assemble_source};
 use clap::Error;
 use clap::error::ErrorKind;
-use debug_commands::debug;
-use machine_model::Reply;
+use command_line::{Task, parse};
+use host_files::{assemble_file, debug_file, list_file};
 use scripts::replay;
 use std::io::{BufWriter, Read, Write};
 use std::rt::Files;
@@ -37,59 +33,10 @@ fn replay_file<R: Files + AllocGlobal, O: Write>(
     Ok(replay(rt, text.as_str(), out)?)
 }
 
-/// Assembles the source in a file.
-fn assemble_file<R: Files + AllocGlobal>(rt: &R, source: &str) -> Result<Assembled, Fault> {
-    let text = fs::read_to_string(rt, source)?;
-    assemble_source(rt.alloc(), text.as_str())
-}
-
-/// Writes the image of what was assembled to a file, and prints the line.
-fn write_assembled<R: Files, O: Write>(
-    rt: &R,
-    assembled: &Assembled,
-    image: &str,
-    out: &mut O,
-) -> Result<(), Fault> {
-    fs::write(rt, image, assembled.file.as_slice())?;
-    let line = assembled.line.as_str();
-    writeln!(out, "{line}")?;
-    Ok(())
-}
-
-/// Lists the image in a file.
-fn list_file<R: Files + AllocGlobal, O: Write>(
-    rt: &R,
-    path: &str,
-    out: &mut O,
-) -> Result<(), Fault> {
-    list(&image_in(rt, path)?, out)
-}
-
-/// The replies of the trace in a file, and none where no file is given.
-fn replies_in<R: Files + AllocGlobal>(rt: &R, path: Option<&str>) -> Result<Vec<Reply>, Fault> {
-    match path {
-        Some(path) => trace_in(rt, path),
-        None => Ok(Vec::new(rt.alloc())),
-    }
-}
-
-/// Debugs the image in a file, by the commands on the input.
-fn debug_file<R: Files + AllocGlobal, I: Read, O: Write>(
-    rt: &R,
-    image: &str,
-    trace: Option<&str>,
-    input: &mut I,
-    out: &mut O,
-) -> Result<(), Fault> {
-    let image = image_in(rt, image)?;
-    let replies = replies_in(rt, trace)?;
-    Ok(debug(rt.alloc(), image, replies, input, out)?)
-}
-
 /// Does a task.
 fn perform<R: Files + AllocGlobal + Threads + Wait + Sync, I: Read, O: Write, E: Write>(
     rt: &R,
-    task: Task<'_>,
+    task: &Task<'_>,
     input: &mut I,
     out: &mut O,
     err: &mut E,
@@ -97,20 +44,18 @@ fn perform<R: Files + AllocGlobal + Threads + Wait + Sync, I: Read, O: Write, E:
     match task {
         Task::ReplayInput => replay_input(rt, input, out),
         Task::ReplayFile(path) => replay_file(rt, path, out),
-        Task::Assemble { source, image } => {
-            write_assembled(rt, &assemble_file(rt, source)?, image, out)
-        }
-        Task::List(path) => list_file(rt, path, out),
-        Task::Debug { image, trace } => debug_file(rt, image, trace, input, out),
+        Task::Assemble { source, image } => Ok(assemble_file(rt, source, image, out)?),
+        Task::List(path) => Ok(list_file(rt, path, out)?),
+        Task::Debug { image, trace } => Ok(debug_file(rt, image, *trace, input, out)?),
         Task::Disk(path) => list_files(rt, path, out),
-        Task::Run(options) => run_images(rt, &options, out, err),
+        Task::Run(options) => run_images(rt, options, out, err),
     }
 }
 
 /// Does a task. What it printed goes out, also where a fault ends it early.
 fn run<R: Files + AllocGlobal + Threads + Wait + Sync, I: Read, O: Write, E: Write>(
     rt: &R,
-    task: Task<'_>,
+    task: &Task<'_>,
     input: &mut I,
     out: &mut O,
     err: &mut E,
@@ -171,7 +116,7 @@ fn obey<R: Files + AllocGlobal + Threads + Wait + Sync, I: Read, O: Write, E: Wr
 ) -> u8 {
     match parse(rt.alloc(), words) {
         Err(error) => end_usage(&error, out, err),
-        Ok(task) => match run(rt, task, input, out, err) {
+        Ok(task) => match run(rt, &task, input, out, err) {
             Ok(()) => 0,
             Err(fault) => end(fault, err),
         },

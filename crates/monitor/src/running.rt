@@ -3,13 +3,12 @@ ghost use Rattle.std.specs.Prelude.{◌≡◌, ◌≤◌, ◌<◌, true, length,
 ghost use Rattle.std.specs.List.{AllByRecursion};
 ghost use Rattle.disk_model.specs.Storage.{is_quiet};
 
-use crate::disk_file::{disk_or_zeros, keep, zeros};
 use crate::fault::Fault;
 use crate::process_lines::print_processes;
-use crate::reading::{bytes_in, image_in};
-use crate::run_options::RunOptions;
 use byte_list::Bytes;
-use executor::run;
+use command_line::{RunNumbers, RunOptions};
+use executor::{Settings, run};
+use host_files::{bytes_in, disk_or_zeros, image_in, keep, zeros};
 use kernel::{Core, Program, SimDisk};
 use scripts::MOST_TAPE_BYTES;
 use std::io::Write;
@@ -57,8 +56,8 @@ fn device_in<R: Files + AllocGlobal>(rt: &R, path: Option<&str>) -> Result<SimDi
     ensures { IfOk result (λ device. is_quiet device ≡ true) }
 {
     match path {
-        Some(path) => disk_or_zeros(rt, path),
-        None => zeros(rt.alloc()),
+        Some(path) => Ok(disk_or_zeros(rt, path)?),
+        None => Ok(zeros(rt.alloc())?),
     }
 }
 
@@ -70,10 +69,19 @@ fn boot<R: Files + AllocGlobal>(rt: &R, options: &RunOptions<'_>) -> Result<Core
     Ok(Core::boot(rt.alloc(), device, programs, tapes)?)
 }
 
+/// The settings of a run with these numbers.
+fn settings_of(numbers: RunNumbers) -> Settings {
+    Settings {
+        workers: numbers.workers,
+        quantum: numbers.quantum,
+        terminal: numbers.terminal,
+    }
+}
+
 /// Keeps the disk that a run leaves, if it is to be kept.
 fn keep_disk<R: Files + AllocGlobal>(rt: &R, path: Option<&str>, core: Core) -> Result<(), Fault> {
     match path {
-        Some(path) => keep(rt, path, &core.halt(&[])),
+        Some(path) => Ok(keep(rt, path, &core.halt(&[]))?),
         None => Ok(()),
     }
 }
@@ -87,7 +95,7 @@ pub fn run_images<R: Files + AllocGlobal + Threads + Wait + Sync, O: Write, E: W
     err: &mut E,
 ) -> Result<(), Fault> {
     let core = boot(rt, options)?;
-    let core = run(rt, rt.alloc(), core, options.settings, out)?;
+    let core = run(rt, rt.alloc(), core, settings_of(options.numbers), out)?;
     out.flush()?;
     let told = print_processes(&core, err);
     keep_disk(rt, options.disk, core)?;

@@ -46,12 +46,25 @@ pub fn option<'a>(alloc: Global, name: &'a str, value: &'a str, help: &'a str) -
         .action(ArgAction::Set)
 }
 
+/// A command of this name, which its usage gives as `whole`.
+pub fn command<'a>(
+    alloc: Global,
+    name: &'a str,
+    whole: &'a str,
+    about: &'a str,
+) -> Result<Command<'a>, AllocError> {
+    Ok(Command::new(alloc, name).bin_name(whole)?.about(about))
+}
+
 /// The command `asm`, under its whole name.
 fn assembling<'a>(alloc: Global) -> Result<Command<'a>, AllocError> {
-    Command::new(alloc, "asm")
-        .bin_name("bench asm")?
-        .about("Assemble a source, and write its image")
-        .arg(argument(alloc, "SOURCE", "the source's file"))?
+    let asm = command(
+        alloc,
+        "asm",
+        "bench asm",
+        "Assemble a source, and write its image",
+    )?;
+    asm.arg(argument(alloc, "SOURCE", "the source's file"))?
         .arg(argument(
             alloc,
             "IMAGE",
@@ -109,15 +122,16 @@ fn with<'a>(
     program.subcommand(command?)
 }
 
+/// The program with the commands that replay, assemble and list.
+fn first_commands<'a>(alloc: Global) -> Result<Command<'a>, AllocError> {
+    let bench = with(program(alloc)?, replaying(alloc))?;
+    with(with(bench, assembling(alloc))?, listing(alloc))
+}
+
 /// The program with its commands.
 fn commands<'a>(alloc: Global) -> Result<Command<'a>, AllocError> {
-    let bench = program(alloc)?;
-    let bench = with(bench, replaying(alloc))?;
-    let bench = with(bench, assembling(alloc))?;
-    let bench = with(bench, listing(alloc))?;
-    let bench = with(bench, debugging(alloc))?;
-    let bench = with(bench, listing_files(alloc))?;
-    with(bench, running(alloc))
+    let bench = with(first_commands(alloc)?, debugging(alloc))?;
+    with(with(bench, listing_files(alloc))?, running(alloc))
 }
 
 /// What the arguments of the command `asm` ask for.

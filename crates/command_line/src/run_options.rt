@@ -1,11 +1,10 @@
 //! The command `run`, and its options.
-ghost use Rattle.std.specs.Prelude.{◌≤◌, vec_len, length};
+ghost use Rattle.std.specs.Prelude.{◌<◌, ◌≤◌, vec_len, length};
 
-use crate::command::option;
+use crate::command::{command, option};
 use clap::builder::ValueParser;
 use clap::{Arg, ArgAction, ArgMatches, Command};
-use executor::Settings;
-use scripts::MOST_PROGRAMS;
+use kernel_model::TERMINALS;
 use std::alloc::{AllocError, Global};
 
 /// The paths of 1 to 8 images.
@@ -26,10 +25,25 @@ impl<'a> ImagePaths<'a> {
     }
 }
 
+/// The numbers of a run.
+#[derive(Clone, Copy)]
+pub struct RunNumbers {
+    /// How many workers there are, 1 to 16.
+    pub workers: u32,
+    /// The most instructions that a worker runs at a time, from 1 on.
+    pub quantum: u32,
+    /// The terminal that is printed, 0 to 7.
+    pub terminal: u32,
+    ghost some: { 1 ≤ workers },
+    ghost few: { workers ≤ 16 },
+    ghost moves: { 1 ≤ quantum },
+    ghost there: { terminal < 8 },
+}
+
 /// What is to be run, and how.
 #[derive(Drop)]
 pub struct RunOptions<'a> {
-    pub settings: Settings,
+    pub numbers: RunNumbers,
     /// The path of the disk's file, if the disk is kept.
     pub disk: Option<&'a str>,
     /// The path of what stands on tape 0, if anything does.
@@ -42,50 +56,80 @@ fn number<'a>(option: Arg<'a>, range: ValueParser<'a>, default: &'a str) -> Arg<
     option.value_parser(range).default_value(default)
 }
 
-/// The images of a run.
+/// The images of a run, each of which has a terminal.
 fn images<'a>(alloc: Global) -> Arg<'a> {
     Arg::new(alloc, "IMAGE")
         .help("the files of 1 to 8 images, for the terminals 0, 1, ..")
         .required(true)
-        .num_args(1..=MOST_PROGRAMS)
+        .num_args(1..=TERMINALS)
         .action(ArgAction::Append)
 }
 
-/// The command `run`, under its whole name.
-pub fn running<'a>(alloc: Global) -> Result<Command<'a>, AllocError> {
+/// The option of the number of workers.
+fn workers<'a>(alloc: Global) -> Arg<'a> {
     let workers = option(alloc, "workers", "N", "how many workers there are, 1 to 16");
+    number(workers, ValueParser::unsigned(1, 16), "4")
+}
+
+/// The option of the most instructions of a loan.
+fn quantum<'a>(alloc: Global) -> Arg<'a> {
     let quantum = option(
         alloc,
         "quantum",
         "Q",
         "the most instructions that a worker runs at a time, 1 to 1000000",
     );
-    let terminal = option(alloc, "term", "T", "the terminal that is printed, 0 to 7");
-    Command::new(alloc, "run")
-        .bin_name("bench run")?
-        .about("Run images by worker threads, and print what a terminal shows")
-        .arg(number(workers, ValueParser::unsigned(1, 16), "4"))?
-        .arg(number(quantum, ValueParser::unsigned(1, 1_000_000), "10000"))?
-        .arg(option(
-            alloc,
-            "disk",
-            "FILE",
-            "the disk's file, zeros if there is none; it is written at the end",
-        ))?
-        .arg(option(
-            alloc,
-            "tape",
-            "FILE",
-            "what the first image's program may read",
-        ))?
-        .arg(number(terminal, ValueParser::unsigned(0, 7), "0"))?
-        .arg(images(alloc))
+    number(quantum, ValueParser::unsigned(1, 1_000_000), "10000")
 }
 
-/// The settings of these numbers. None where one is out of range.
-fn settings(workers: u32, quantum: u32, terminal: u32) -> Option<Settings> {
+/// The option of the terminal.
+fn terminal<'a>(alloc: Global) -> Arg<'a> {
+    let terminal = option(alloc, "term", "T", "the terminal that is printed, 0 to 7");
+    number(terminal, ValueParser::unsigned(0, 7), "0")
+}
+
+/// A command with the options that say how workers run.
+fn with_workers<'a>(alloc: Global, run: Command<'a>) -> Result<Command<'a>, AllocError> {
+    run.arg(workers(alloc))?.arg(quantum(alloc))
+}
+
+/// A command with the options that name files.
+fn with_files<'a>(alloc: Global, run: Command<'a>) -> Result<Command<'a>, AllocError> {
+    let disk = option(
+        alloc,
+        "disk",
+        "FILE",
+        "the disk's file, zeros if there is none; it is written at the end",
+    );
+    run.arg(disk)?.arg(option(
+        alloc,
+        "tape",
+        "FILE",
+        "what the first image's program may read",
+    ))
+}
+
+/// A command with what is run, and what is printed of it.
+fn with_images<'a>(alloc: Global, run: Command<'a>) -> Result<Command<'a>, AllocError> {
+    run.arg(terminal(alloc))?.arg(images(alloc))
+}
+
+/// The command `run`, under its whole name.
+pub fn running<'a>(alloc: Global) -> Result<Command<'a>, AllocError> {
+    let run = command(
+        alloc,
+        "run",
+        "bench run",
+        "Run images by worker threads, and print what a terminal shows",
+    )?;
+    let run = with_workers(alloc, run)?;
+    with_images(alloc, with_files(alloc, run)?)
+}
+
+/// A run's numbers. None where one is out of range.
+fn run_numbers(workers: u32, quantum: u32, terminal: u32) -> Option<RunNumbers> {
     if workers >= 1 && workers <= 16 && quantum >= 1 && terminal < 8 {
-        Some(Settings {
+        Some(RunNumbers {
             workers,
             quantum,
             terminal,
@@ -95,12 +139,12 @@ fn settings(workers: u32, quantum: u32, terminal: u32) -> Option<Settings> {
     }
 }
 
-/// The settings that the arguments ask for.
-fn settings_of(matches: &ArgMatches<'_>) -> Option<Settings> {
+/// The numbers that the arguments ask for.
+fn numbers_of(matches: &ArgMatches<'_>) -> Option<RunNumbers> {
     let workers = matches.get_one::<u32>("workers")?;
     let quantum = matches.get_one::<u32>("quantum")?;
     let terminal = matches.get_one::<u32>("term")?;
-    settings(workers, quantum, terminal)
+    run_numbers(workers, quantum, terminal)
 }
 
 /// The paths of the images, where they are 1 to 8.
@@ -111,7 +155,7 @@ fn images_of<'a>(
     let Some(paths) = matches.get_strs("IMAGE") else {
         return Ok(None);
     };
-    if paths.is_empty() || paths.len() > MOST_PROGRAMS {
+    if paths.is_empty() || paths.len() > TERMINALS {
         return Ok(None);
     }
     let paths = Vec::from_slice(alloc, paths)?;
@@ -124,14 +168,14 @@ pub fn run_options<'a>(
     alloc: Global,
     matches: &ArgMatches<'a>,
 ) -> Result<Option<RunOptions<'a>>, AllocError> {
-    let Some(settings) = settings_of(matches) else {
+    let Some(numbers) = numbers_of(matches) else {
         return Ok(None);
     };
     let Some(images) = images_of(alloc, matches)? else {
         return Ok(None);
     };
     Ok(Some(RunOptions {
-        settings,
+        numbers,
         disk: matches.get_str("disk"),
         tape: matches.get_str("tape"),
         images,

@@ -1,21 +1,14 @@
 //! What is read from files of the host.
-use crate::fault::Fault;
-use debug_commands::read_trace;
-use machine_model::{Image, Reply};
+use crate::fault::FileFault;
+use machine_model::Image;
 use std::io::Read;
 use std::rt::Files;
 use std::{fs, io};
 
 /// The image in a file.
-pub fn image_in<R: Files + AllocGlobal>(rt: &R, path: &str) -> Result<Image, Fault> {
+pub fn image_in<R: Files + AllocGlobal>(rt: &R, path: &str) -> Result<Image, FileFault> {
     let file = fs::read(rt, path)?;
     Ok(elf32::parse(rt.alloc(), &file)?)
-}
-
-/// The replies of the trace in a file.
-pub fn trace_in<R: Files + AllocGlobal>(rt: &R, path: &str) -> Result<Vec<Reply>, Fault> {
-    let text = fs::read_to_string(rt, path)?;
-    Ok(read_trace(rt.alloc(), text.as_str())?)
 }
 
 /// The bytes of a file that has at most so many; of a longer one the first ones, one more than that.

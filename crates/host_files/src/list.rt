@@ -1,12 +1,14 @@
 //! Listings of images.
-use crate::fault::Fault;
+use crate::fault::FileFault;
+use crate::reading::image_in;
 use byteorder::{ByteOrder, LittleEndian};
 use formats::decode;
 use machine_model::{Image, Segment};
 use std::io::Write;
+use std::rt::Files;
 
 /// Prints the line of a word: its address, the word, and the instruction that it means, if it means one.
-fn list_word<O: Write>(at: u32, word: u32, out: &mut O) -> Result<(), Fault> {
+fn list_word<O: Write>(at: u32, word: u32, out: &mut O) -> Result<(), FileFault> {
     match decode(word) {
         Some(instruction) => writeln!(out, "{at:08x}: {word:08x}  {instruction}")?,
         None => writeln!(out, "{at:08x}: {word:08x}  .word 0x{word:08x}")?,
@@ -15,7 +17,7 @@ fn list_word<O: Write>(at: u32, word: u32, out: &mut O) -> Result<(), Fault> {
 }
 
 /// Prints a line for each word of a segment's file bytes, from the first byte on.
-fn list_segment<O: Write>(segment: &Segment, out: &mut O) -> Result<(), Fault> {
+fn list_segment<O: Write>(segment: &Segment, out: &mut O) -> Result<(), FileFault> {
     let mut at = segment.vaddr;
     for bytes in segment.bytes.as_slice().chunks_exact(4) {
         let word = LittleEndian::read_u32(bytes);
@@ -28,11 +30,20 @@ fn list_segment<O: Write>(segment: &Segment, out: &mut O) -> Result<(), Fault> {
 
 /// Prints a line for each word of the file bytes in segments that may be executed; a rest of one to three bytes is left
 /// out.
-pub fn list<O: Write>(image: &Image, out: &mut O) -> Result<(), Fault> {
+fn list<O: Write>(image: &Image, out: &mut O) -> Result<(), FileFault> {
     for segment in image.segments() {
         if segment.rights.execute {
             list_segment(segment, out)?;
         }
     }
     Ok(())
+}
+
+/// Lists the image in a file.
+pub fn list_file<R: Files + AllocGlobal, O: Write>(
+    rt: &R,
+    path: &str,
+    out: &mut O,
+) -> Result<(), FileFault> {
+    list(&image_in(rt, path)?, out)
 }

@@ -2,10 +2,9 @@
 ghost use Rattle.std.specs.Prelude.{◌≡◌, true, IfOk};
 ghost use Rattle.disk_model.specs.Storage.{is_quiet};
 
-use crate::fault::Fault;
+use crate::fault::FileFault;
 use crate::reading::bytes_in;
-use kernel::SimDisk;
-use simdisk::SIZE;
+use simdisk::{SIZE, SimDisk};
 use std::alloc::Global;
 use std::fs::OpenFile;
 use std::io::{ErrorKind, Write};
@@ -13,33 +12,33 @@ use std::rt::Files;
 use std::{fs, io};
 
 /// The disk of the bytes of a file.
-fn disk_of(alloc: Global, bytes: &[u8]) -> Result<SimDisk, Fault>
+fn disk_of(alloc: Global, bytes: &[u8]) -> Result<SimDisk, FileFault>
     ensures { IfOk result (λ device. is_quiet device ≡ true) }
 {
     Ok(SimDisk::open(alloc, bytes)?)
 }
 
 /// A disk of zeros.
-pub fn zeros(alloc: Global) -> Result<SimDisk, Fault>
+pub fn zeros(alloc: Global) -> Result<SimDisk, FileFault>
     ensures { IfOk result (λ device. is_quiet device ≡ true) }
 {
     Ok(SimDisk::zero(alloc)?)
 }
 
 /// The disk in a file.
-pub fn disk_in<R: Files + AllocGlobal>(rt: &R, path: &str) -> Result<SimDisk, Fault> {
+pub fn disk_in<R: Files + AllocGlobal>(rt: &R, path: &str) -> Result<SimDisk, FileFault> {
     let bytes = bytes_in(rt, path, SIZE)?;
     disk_of(rt.alloc(), &bytes)
 }
 
 /// The disk in a file; a disk of zeros where there is no such file.
-pub fn disk_or_zeros<R: Files + AllocGlobal>(rt: &R, path: &str) -> Result<SimDisk, Fault>
+pub fn disk_or_zeros<R: Files + AllocGlobal>(rt: &R, path: &str) -> Result<SimDisk, FileFault>
     ensures { IfOk result (λ device. is_quiet device ≡ true) }
 {
     match bytes_in(rt, path, SIZE) {
         Ok(bytes) => disk_of(rt.alloc(), &bytes),
         Err(error) if error.kind() == ErrorKind::NotFound => zeros(rt.alloc()),
-        Err(error) => Err(Fault::from(error)),
+        Err(error) => Err(FileFault::from(error)),
     }
 }
 
@@ -58,12 +57,12 @@ fn replace<R: Files>(rt: &R, path: &str, beside: &str, bytes: &[u8]) -> io::Resu
 
 /// Keeps a disk in a file. It is written to a file beside it, of the same path with `.new` after it, which then takes its place: so
 /// whenever the program is killed, the file is whole, as it was or as it is to be.
-pub fn keep<R: Files + AllocGlobal>(rt: &R, path: &str, device: &SimDisk) -> Result<(), Fault> {
+pub fn keep<R: Files + AllocGlobal>(rt: &R, path: &str, device: &SimDisk) -> Result<(), FileFault> {
     let beside = format!(in rt.alloc(); "{path}.new")?;
     if let Err(error) = replace(rt, path, beside.as_str(), device.bytes()) {
         // What was written beside it is of no use; where it cannot be removed either, it stays.
         let _ = fs::remove_file(rt, beside.as_str());
-        return Err(Fault::from(error));
+        return Err(FileFault::from(error));
     }
     Ok(())
 }

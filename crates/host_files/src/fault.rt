@@ -1,0 +1,95 @@
+//! Why a file is refused.
+use assembler::{AsmFault, Cause};
+use debug_commands::SessionFault;
+use elf32::ElfFault;
+use simdisk::DiskRefusal;
+use std::alloc::{AllocError, AllocFailed};
+use std::io;
+use thiserror::Error;
+
+/// Why what a file is read for cannot be done.
+#[derive(Clone, Copy, Debug, Error)]
+pub enum FileFault {
+    /// The first fault of a source.
+    #[error("source refused: {number} {fault}")]
+    Source { number: u8, fault: AsmFault },
+    /// A file that holds no image, and the first check that it fails.
+    #[error("image refused: {number} {fault}")]
+    Image { number: u8, fault: ElfFault },
+    /// The first line of a trace that is no reply.
+    #[error("trace refused at line {line}")]
+    Trace { line: usize },
+    /// A disk of another length than a disk's.
+    #[error("disk refused: 4 BadLength")]
+    DiskLength,
+    #[error("out of memory")]
+    OutOfMemory,
+    /// A file that cannot be read or is no text, or a stream or a file that cannot be written.
+    #[error("input or output failed")]
+    InputOutput,
+}
+
+impl From<AllocError> for FileFault {
+    fn from(_error: AllocError) -> FileFault {
+        FileFault::OutOfMemory
+    }
+}
+
+impl<T: Drop> From<AllocFailed<T>> for FileFault {
+    fn from(_failed: AllocFailed<T>) -> FileFault {
+        FileFault::OutOfMemory
+    }
+}
+
+impl From<AsmFault> for FileFault {
+    fn from(fault: AsmFault) -> FileFault {
+        match fault.why {
+            Cause::OutOfMemory => FileFault::OutOfMemory,
+            why => FileFault::Source {
+                number: why.number(),
+                fault,
+            },
+        }
+    }
+}
+
+impl From<ElfFault> for FileFault {
+    fn from(fault: ElfFault) -> FileFault {
+        match fault {
+            ElfFault::OutOfMemory => FileFault::OutOfMemory,
+            fault => FileFault::Image {
+                number: fault.number(),
+                fault,
+            },
+        }
+    }
+}
+
+/// The disks that are made here are zeros, or those of a file.
+impl From<DiskRefusal> for FileFault {
+    fn from(refusal: DiskRefusal) -> FileFault {
+        match refusal {
+            DiskRefusal::BadLength => FileFault::DiskLength,
+            _ => FileFault::OutOfMemory,
+        }
+    }
+}
+
+impl From<SessionFault> for FileFault {
+    fn from(fault: SessionFault) -> FileFault {
+        match fault {
+            SessionFault::Trace { line } => FileFault::Trace { line },
+            SessionFault::OutOfMemory => FileFault::OutOfMemory,
+            SessionFault::InputOutput => FileFault::InputOutput,
+        }
+    }
+}
+
+impl From<io::Error> for FileFault {
+    fn from(error: io::Error) -> FileFault {
+        match error.kind() {
+            io::ErrorKind::OutOfMemory => FileFault::OutOfMemory,
+            _ => FileFault::InputOutput,
+        }
+    }
+}

@@ -1,0 +1,16 @@
+//! Files of the host, by their paths: sources are assembled, images listed and debugged, disks read and kept.
+#![tactic(auto)]
+
+mod debugging;
+mod disk_file;
+mod fault;
+mod list;
+mod reading;
+mod source;
+
+pub use debugging::debug_file;
+pub use disk_file::{disk_in, disk_or_zeros, keep, zeros};
+pub use fault::FileFault;
+pub use list::list_file;
+pub use reading::{bytes_in, image_in};
+pub use source::assemble_file;
