@@ -17,6 +17,14 @@ pub(crate) struct Screen<'o, O> {
     ghost there: { terminal < 8 },
 }
 
+/// A copy of the bytes after the first so many.
+fn copy_after(alloc: Global, shown: &[u8], written: usize) -> Result<Vec<u8>, AllocError> {
+    match shown.get(written..) {
+        Some(bytes) => Vec::from_slice(alloc, bytes),
+        None => Ok(Vec::new(alloc)),
+    }
+}
+
 /// The bytes that a terminal shows after the first so many, copied under the lock.
 fn bytes_after<N: Naming, R: Wait>(
     rt: &R,
@@ -27,12 +35,8 @@ fn bytes_after<N: Naming, R: Wait>(
 ) -> Result<Vec<u8>, AllocError>
     requires { terminal < 8 }
 {
-    let mut copy = Vec::new(alloc);
     let bench = bench.lock(rt);
-    if let Some(bytes) = bench.core().shown(terminal).get(written..) {
-        copy.extend_from_slice(bytes)?;
-    }
-    Ok(copy)
+    copy_after(alloc, bench.core().shown(terminal), written)
 }
 
 impl<'o, O: Write> Screen<'o, O> {

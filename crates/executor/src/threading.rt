@@ -88,12 +88,27 @@ fn run_named<N: Naming + Send + Sync, R: Threads + Wait + Sync, O: Write>(
         return Err(RunFault::OutOfMemory);
     };
     let reader = BoardReader::new(board, pass);
-    run_pool(rt, alloc, &pool, share, reader, settings.quantum, screen)?;
+    run_pool(rt, alloc, pool, share, reader, settings.quantum, screen)
+}
+
+/// The run of a pool, and the core that it leaves.
+fn run_pool<N: Naming + Send + Sync, R: Threads + Wait + Sync, O: Write>(
+    rt: &R,
+    alloc: Global,
+    pool: Pool<'_, N>,
+    share: Share<N>,
+    reader: BoardReader<'_, N>,
+    quantum: u32,
+    screen: &mut Screen<'_, O>,
+) -> Result<Core, RunFault>
+    requires { pool.workers < share.parts }
+{
+    run_seats(rt, alloc, &pool, share, reader, quantum, screen)?;
     Ok(gather(pool.end(), Vec::new(alloc)))
 }
 
-/// The run of a pool.
-fn run_pool<N: Naming + Send + Sync, R: Threads + Wait + Sync, O: Write>(
+/// The run of a pool's seats.
+fn run_seats<N: Naming + Send + Sync, R: Threads + Wait + Sync, O: Write>(
     rt: &R,
     alloc: Global,
     pool: &Pool<'_, N>,
