@@ -228,7 +228,7 @@ pub fn image_of_rights(alloc: Global, words: &[u32]) -> Result<Vec<u8>, Error> {
 }
 
 /// How a program is set up.
-#[derive(Clone, Copy, PartialEq, Eq)]
+#[derive(Clone, Copy)]
 pub enum Form {
     /// By its words.
     Words,
