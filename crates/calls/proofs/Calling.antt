@@ -1,6 +1,7 @@
 -- A plan that says the row of a request is what the request comes to, and may be done.
 use Rattle.std.proofs.Common.{◌≡◌, ◌∙◌, ◌≤◌, ℕ, List, length, Option, IfSome, sym, ap, subst, arith}
 use Rattle.std.proofs.lemmas.List.{length-map}
+use Rattle.disk_model.specs.Files.{IsPossible}
 use Rattle.disk_model.specs.Numbers.{Numbered}
 use Rattle.disk_model.specs.declared.change.Change.{Change}
 use Rattle.kernel_model.specs.State.{changed_by}
@@ -9,7 +10,7 @@ use Rattle.kernel_model.specs.declared.descriptor.Descriptor.{Descriptor}
 use Rattle.kernel_model.specs.declared.request.Request.{Request}
 use Rattle.kernel_model.proofs.Asked.{IsAsked, asked_by}
 use Rattle.processes.specs.Parts.{Part, part_at, descriptors_in, children_in, statuses_of}
-use Rattle.calls.specs.Plans.{IsRow, IsNext, IsPossible, CarriesBytes, NamesFiles, Says, effect_of, effect_with}
+use Rattle.calls.specs.Plans.{IsRow, IsNext, CarriesBytes, NamesFiles, Says, effect_of, effect_with}
 use Rattle.calls.specs.Sights.{Sight, row_from, MayPlanCall, PlansCall}
 use Rattle.kernel_model.specs.Wholes.{IsWhole}
 use Rattle.calls.specs.declared.plan.Plan.{Plan}

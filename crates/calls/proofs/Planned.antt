@@ -2,6 +2,7 @@
 use Rattle.std.proofs.Common.{◌≡◌, ◌≤◌, inr, ℕ, List, length, Option, Some, None, Result, Ok, Err, IfOk, IfSome, sym, ap, ◌∙◌, subst, arith}
 use Rattle.std.proofs.lemmas.List.{length-map}
 use Rattle.std.specs.declared.alloc.AllocError.{AllocError}
+use Rattle.disk_model.specs.Files.{IsPossible}
 use Rattle.disk_model.specs.Numbers.{Numbered}
 use Rattle.kernel_model.specs.Rows.{Effect, closing}
 use Rattle.kernel_model.specs.Steps.{change_by}
@@ -17,7 +18,7 @@ use Rattle.kernel_model.specs.declared.request.Verdict.{Verdict}
 use Rattle.kernel_model.specs.declared.request.Verdict.TheVariants.{Waits, Replies, Ends}
 use Rattle.calls.specs.declared.plan.Plan.{Plan}
 use Rattle.calls.specs.declared.row.Row.{Row}
-use Rattle.calls.specs.Plans.{IsRow, effect_of, effect_with, IsPossible, CarriesBytes, MayAllStep, OpensAlone, EditsPipesAlone, EditsAs}
+use Rattle.calls.specs.Plans.{IsRow, effect_of, effect_with, CarriesBytes, MayAllStep, OpensAlone, EditsPipesAlone, EditsAs}
 use Rattle.pipes.specs.Seen.{Seen}
 use Rattle.calls.proofs.Stepping.{drops-may, drops-open-none}
 use Rattle.calls.proofs.Sound.{MayBeMade, EditsLittle, EditsWhere}

@@ -6,13 +6,15 @@ use Rattle.std.specs.List.{AllByRecursion}
 use Rattle.std.specs.Option.{ForSome}
 use Rattle.std.proofs.lemmas.List.{length-drop, length-map}
 use Rattle.std.proofs.lemmas.Option.{slice_get-map}
+use Rattle.disk_model.specs.Files.{IsPossible}
+use Rattle.disk_model.specs.Limits.{most_files}
 use Rattle.disk_model.specs.declared.change.Change.{Change}
 use Rattle.disk_model.specs.declared.change.Change.TheVariants as change
 use Rattle.disk_model.specs.declared.change.NamedFile.{NamedFile}
 use Rattle.disk_model.specs.Numbers.{Numbered, place_of}
 use Rattle.machine_model.specs.Access.{is_writable}
 use Rattle.machine_model.specs.Memory.{Memory}
-use Rattle.kernel_model.specs.Rows.{Effect, number, with_bytes, row, most_files, pipe_size, directory, descriptor_at, ends_of}
+use Rattle.kernel_model.specs.Rows.{Effect, number, with_bytes, row, pipe_size, directory, descriptor_at, ends_of}
 use Rattle.kernel_model.specs.State.{TapeState, PipeState, unread, changed_by}
 use Rattle.kernel_model.specs.Limits.{AreNumbered}
 use Rattle.kernel_model.specs.Steps.{set_slots, change_of, change_by}
@@ -34,7 +36,7 @@ use Rattle.kernel_model.proofs.Limits.{each_slot}
 use Rattle.kernel_model.proofs.Names.{differs, name_bytes, name_new, named_made, number_has_name, place_there}
 use Rattle.kernel_model.proofs.Numbering.{made_grows}
 use Rattle.pipes.specs.Seen.{Seen}
-use Rattle.calls.specs.Plans.{NamesFile, NamesFiles, MayAllStep, IsNext, CarriesBytes, IsPossible, AreLeft, AtMostOneEntry, OpensNone, OpensAlone, MayBePlaced}
+use Rattle.calls.specs.Plans.{NamesFile, NamesFiles, MayAllStep, IsNext, CarriesBytes, AreLeft, AtMostOneEntry, OpensNone, OpensAlone, MayBePlaced}
 use Rattle.calls.specs.Shares.{pipe_of, shared_of}
 use Rattle.kernel_model.specs.Wholes.{IsWhole}
 use Rattle.calls.proofs.Files.{NamesFiles-more, NamesFile-descriptor_at}

@@ -107,10 +107,6 @@ CarriesBytes (edit.Empty file) = Unit {0}
 CarriesBytes (edit.Remove file) = Unit {0}
 CarriesBytes (edit.Rename file name) = Unit {0}
 
--- a change that a record may spell, and that is possible with these files
-abbrev pub IsPossible : List NamedFile → Change → Type 0
-IsPossible files c = IsFormed c × MayCome files c
-
 -- so many bytes are left of the tape that they are read from
 abbrev pub AreLeft : List TapeState → TapeRead → Type 0
 AreLeft tapes r = IfSome (slice_get tapes r.tape) (λ tape. r.count ≤ length (drop tape.place tape.bytes))

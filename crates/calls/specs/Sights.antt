@@ -1,12 +1,14 @@
 -- What calls may look at, when a call may be planned from it, and what holds of the plan.
 use Rattle.std.specs.Prelude.{◌≡◌, ℕ, ◌+◌, ◌^◌, ◌<◌, ◌≤◌, List, length, Option, IfSome}
 use Rattle.std.specs.List.{AllByRecursion}
+use Rattle.disk_model.specs.Files.{IsPossible}
+use Rattle.disk_model.specs.Limits.{longest_file, most_files}
 use Rattle.disk_model.specs.Numbers.{Numbered}
 use Rattle.disk_model.specs.declared.change.NamedFile.{NamedFile}
 use Rattle.kernel_model.specs.Limits.{AreNumbered}
 use Rattle.machine_model.specs.States.{State}
 use Rattle.kernel_model.specs.Requests.{request_of}
-use Rattle.kernel_model.specs.Rows.{Effect, row, longest_file, most_files}
+use Rattle.kernel_model.specs.Rows.{Effect, row}
 use Rattle.kernel_model.specs.State.{Shared, TapeState, changed_by}
 use Rattle.kernel_model.specs.Steps.{set_slots}
 use Rattle.kernel_model.specs.declared.descriptor.Descriptor.{Descriptor}
@@ -14,7 +16,7 @@ use Rattle.kernel_model.specs.declared.request.Request.{Request}
 use Rattle.pipes.specs.Seen.{Seen}
 use Rattle.pipes.specs.Stepping.{HasAtMost}
 use Rattle.processes.specs.Parts.{Part, part_at, descriptors_in, children_in, statuses_of}
-use Rattle.calls.specs.Plans.{Says, IsPossible, NamesFiles, AreLeft, AtMostOneEntry, OpensAlone, EditsAs, MayAllStep, IsNext, MayBePlaced}
+use Rattle.calls.specs.Plans.{Says, NamesFiles, AreLeft, AtMostOneEntry, OpensAlone, EditsAs, MayAllStep, IsNext, MayBePlaced}
 use Rattle.calls.specs.Shares.{IsKept, shared_of}
 use Rattle.calls.specs.declared.plan.Plan.{Plan}
 use Rattle.calls.specs.declared.tables.KernelTables.{KernelTables}

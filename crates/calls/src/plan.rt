@@ -1,10 +1,10 @@
 //! What a call comes to, before anything is changed: the table of calls.
 ghost use Rattle.std.specs.Prelude.{◌≡◌, ◌≤◌, ◌<◌, length, IfOk, IfSome};
 ghost use Rattle.std.specs.List.{AllByRecursion};
+ghost use Rattle.disk_model.specs.Limits.{longest_file, most_files};
 ghost use Rattle.disk_model.specs.declared.change.NamedFile.{NamedFile};
 ghost use Rattle.disk_model.specs.Numbers.{place_of};
 ghost use Rattle.kernel_model.specs.Limits.{AreNumbered};
-ghost use Rattle.kernel_model.specs.Rows.{longest_file, most_files};
 ghost use Rattle.kernel_model.specs.Steps.{change_of};
 ghost use Rattle.kernel_model.specs.Wholes.{IsWhole};
 ghost use Rattle.processes.specs.Parts.{part_at, descriptors_in};

@@ -1,10 +1,11 @@
 //! The row of read.
 ghost use Rattle.std.specs.Prelude.{◌≡◌, ◌≤◌, ◌==◌, nat_lt, not, length, take, drop, slice_get, map, option_map, Some, IfOk, if◌then◌else◌};
 ghost use Rattle.std.specs.List.{AllByRecursion};
+ghost use Rattle.disk_model.specs.Limits.{longest_file};
 ghost use Rattle.disk_model.specs.declared.change.NamedFile.{NamedFile};
 ghost use Rattle.disk_model.specs.Numbers.{file_of};
 ghost use Rattle.kernel_model.specs.Requests.{most_bytes};
-ghost use Rattle.kernel_model.specs.Rows.{longest_file, only, number, failure, bad_descriptor, bad_argument, bad_address, descriptor_at, may_read, read_tape, read_file, take_some, read_pipe, read_from, row_read};
+ghost use Rattle.kernel_model.specs.Rows.{only, number, failure, bad_descriptor, bad_argument, bad_address, descriptor_at, may_read, read_tape, read_file, take_some, read_pipe, read_from, row_read};
 ghost use Rattle.calls.specs.Plans.{IsRow};
 ghost use Rattle.calls.specs.Shares.{pipe_of, things};
 

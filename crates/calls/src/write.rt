@@ -1,8 +1,9 @@
 //! The row of write.
 ghost use Rattle.std.specs.Prelude.{◌≡◌, ◌≤◌, ◌<◌, ◌+◌, ◌==◌, nat_lt, not, [], Some, length, slice_get, map, IfOk, IfSome, if◌then◌else◌};
 ghost use Rattle.std.specs.List.{AllByRecursion};
+ghost use Rattle.disk_model.specs.Limits.{longest_file};
 ghost use Rattle.kernel_model.specs.Requests.{most_bytes};
-ghost use Rattle.kernel_model.specs.Rows.{longest_file, only, number, failure, bad_descriptor, bad_argument, descriptor_at, may_write, write_file, put_some, write_pipe, write_to, write_read, row_write};
+ghost use Rattle.kernel_model.specs.Rows.{only, number, failure, bad_descriptor, bad_argument, descriptor_at, may_write, write_file, put_some, write_pipe, write_to, write_read, row_write};
 ghost use Rattle.kernel_model.specs.Wholes.{AreWhole};
 ghost use Rattle.calls.specs.Plans.{IsRow, CarriesBytes};
 ghost use Rattle.calls.specs.Shares.{pipe_of, things};

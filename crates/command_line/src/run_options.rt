@@ -1,10 +1,11 @@
 //! The command `run`, and its options.
 ghost use Rattle.std.specs.Prelude.{◌<◌, ◌≤◌, vec_len, length};
+ghost use Rattle.kernel_model.specs.World.{most_programs, terminal_count};
 
 use crate::command::{command, option};
 use clap::builder::ValueParser;
 use clap::{Arg, ArgAction, ArgMatches, Command};
-use kernel_model::TERMINALS;
+use kernel_model::{MOST_PROGRAMS, TERMINALS};
 use std::alloc::{AllocError, Global};
 
 /// The paths of 1 to 8 images.
@@ -12,14 +13,14 @@ use std::alloc::{AllocError, Global};
 pub struct ImagePaths<'a> {
     paths: Vec<&'a str>,
     ghost some: { 1 ≤ vec_len paths },
-    ghost few: { vec_len paths ≤ 8 },
+    ghost few: { vec_len paths ≤ most_programs },
 }
 
 impl<'a> ImagePaths<'a> {
     /// The paths in order.
     pub fn as_slice(&self) -> &[&'a str]
         ensures some { 1 ≤ length result.now }
-        ensures few { length result.now ≤ 8 }
+        ensures few { length result.now ≤ most_programs }
     {
         self.paths.as_slice()
     }
@@ -37,7 +38,7 @@ pub struct RunNumbers {
     ghost some: { 1 ≤ workers },
     ghost few: { workers ≤ 16 },
     ghost moves: { 1 ≤ quantum },
-    ghost there: { terminal < 8 },
+    ghost there: { terminal < terminal_count },
 }
 
 /// What is to be run, and how.
@@ -61,7 +62,7 @@ fn images<'a>(alloc: Global) -> Arg<'a> {
     Arg::new(alloc, "IMAGE")
         .help("the files of 1 to 8 images, for the terminals 0, 1, ..")
         .required(true)
-        .num_args(1..=TERMINALS)
+        .num_args(1..=MOST_PROGRAMS)
         .action(ArgAction::Append)
 }
 
@@ -128,7 +129,7 @@ pub fn running<'a>(alloc: Global) -> Result<Command<'a>, AllocError> {
 
 /// A run's numbers. None where one is out of range.
 fn run_numbers(workers: u32, quantum: u32, terminal: u32) -> Option<RunNumbers> {
-    if workers >= 1 && workers <= 16 && quantum >= 1 && terminal < 8 {
+    if workers >= 1 && workers <= 16 && quantum >= 1 && terminal < TERMINALS as u32 {
         Some(RunNumbers {
             workers,
             quantum,
@@ -155,7 +156,7 @@ fn images_of<'a>(
     let Some(paths) = matches.get_strs("IMAGE") else {
         return Ok(None);
     };
-    if paths.is_empty() || paths.len() > TERMINALS {
+    if paths.is_empty() || paths.len() > MOST_PROGRAMS {
         return Ok(None);
     }
     let paths = Vec::from_slice(alloc, paths)?;

@@ -47,6 +47,7 @@ use anyhow::{Error, bail};
 use bursts::{Done, Rejected};
 use files::part_of;
 use kernel::{Event, SimDisk};
+use kernel_model::TERMINALS;
 use simdisk::DiskRefusal;
 use std::alloc::Global;
 use std::fmt::Debug;
@@ -265,7 +266,7 @@ impl Case {
         name: &str,
     ) -> Result<(), Error> {
         let text = fs::read_to_string(rt, name)?;
-        if terminal >= 8 {
+        if terminal >= TERMINALS as u32 {
             bail!("there is no such terminal");
         }
         self.sources.push(Source { terminal, text })?;

@@ -1,6 +1,7 @@
 //! Cores of the programs and tapes that a case gives.
 ghost use Rattle.std.specs.Prelude.{◌≡◌, ◌<◌, IfOk, length};
 ghost use Rattle.std.specs.List.{AllByRecursion};
+ghost use Rattle.kernel_model.specs.World.{terminal_count};
 
 use anyhow::{Error, bail};
 use assembler::assemble;
@@ -8,13 +9,14 @@ use bursts::{Done, Rejected, Totals, run_loan, totals_of};
 use byte_list::Bytes;
 use files::{FileList, FileTable};
 use kernel::{Answer, BootFault, Core, DiskFault, Event, Program, Refused, SimDisk};
+use kernel_model::{MOST_PROGRAMS, TAPES, TERMINALS};
 use std::alloc::{AllocError, Global};
 
 /// A program that can be booted any number of times: its terminal, and its source.
 pub struct Source {
     pub terminal: u32,
     pub text: String,
-    ghost known: { terminal < 8 },
+    ghost known: { terminal < terminal_count },
 }
 
 impl Drop for Source {
@@ -29,7 +31,7 @@ impl Drop for Source {
 /// Programs to be booted once.
 fn programs_of(alloc: Global, sources: &[Source]) -> Result<Vec<Program>, Error>
     ensures len { IfOk result (λ booted. length booted.items ≡ length sources.now) }
-    ensures terminals { IfOk result (λ booted. AllByRecursion (λ p. p.terminal < 8) booted.items) }
+    ensures terminals { IfOk result (λ booted. AllByRecursion (λ p. p.terminal < terminal_count) booted.items) }
 {
     let mut booted = Vec::new(alloc);
     for source in sources {
@@ -78,7 +80,7 @@ impl TestCore {
         tapes: &[Vec<u8>],
         device: &SimDisk,
     ) -> Result<Result<TestCore, BootFault>, Error> {
-        if sources.is_empty() || sources.len() > 8 || tapes.len() > 8 {
+        if sources.is_empty() || sources.len() > MOST_PROGRAMS || tapes.len() > TAPES {
             bail!("a core has one to eight programs, and at most eight tapes");
         }
         let device = SimDisk::open(alloc, device.bytes())?;
@@ -134,7 +136,7 @@ impl TestCore {
 
     /// What a terminal shows: nothing, where there is no such terminal.
     pub fn shown(&self, terminal: u32) -> &[u8] {
-        if terminal < 8 {
+        if terminal < TERMINALS as u32 {
             self.core.shown(terminal)
         } else {
             &[]

@@ -2,6 +2,7 @@
 //! by machines alone, one after the other.
 ghost use Rattle.std.specs.Prelude.{◌≡◌, ◌≤◌, ◌<◌, length, vec_len, IfOk};
 ghost use Rattle.std.specs.List.{AllByRecursion};
+ghost use Rattle.kernel_model.specs.World.{terminal_count};
 
 use anyhow::{Error, bail};
 use assembler::assemble;
@@ -87,7 +88,7 @@ fn image_of(alloc: Global, load: &Load) -> Result<Image, Error> {
 /// The programs of a load, each with a terminal of its own.
 fn programs_of(alloc: Global, load: &Load) -> Result<Vec<Program>, Error>
     ensures len { IfOk result (λ programs. length programs.items ≡ 8) }
-    ensures terminals { IfOk result (λ programs. AllByRecursion (λ p. p.terminal < 8) programs.items) }
+    ensures terminals { IfOk result (λ programs. AllByRecursion (λ p. p.terminal < terminal_count) programs.items) }
 {
     let mut programs = Vec::new(alloc);
     for terminal in 0..PROGRAMS {

@@ -74,6 +74,10 @@ MayCome files (Empty place) = place < length files
 MayCome files (Remove place) = place < length files
 MayCome files (Rename place name) = (place < length files) × ((f : NamedFile) → slice_get files place ≡ Some f → f.name ≡ name → ⊥)
 
+-- a change that may come to these files: it is formed, and possible with them
+abbrev pub IsPossible : List NamedFile → Change → Type 0
+IsPossible files c = IsFormed c × MayCome files c
+
 -- each of these changes is formed, and possible where it comes
 abbrev pub Follow : List NamedFile → List Change → Type 0
 Follow files [] = Unit {0}

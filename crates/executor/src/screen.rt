@@ -1,5 +1,6 @@
 //! What a terminal shows, written out.
 ghost use Rattle.std.specs.Prelude.{◌<◌};
+ghost use Rattle.kernel_model.specs.World.{terminal_count};
 
 use crate::fault::RunFault;
 use bursts::{Bench, Naming};
@@ -14,7 +15,7 @@ pub(crate) struct Screen<'o, O> {
     out: &'o mut O,
     terminal: u32,
     written: usize,
-    ghost there: { terminal < 8 },
+    ghost there: { terminal < terminal_count },
 }
 
 /// A copy of the bytes after the first so many.
@@ -33,7 +34,7 @@ fn bytes_after<N: Naming, R: Wait>(
     terminal: u32,
     written: usize,
 ) -> Result<Vec<u8>, AllocError>
-    requires { terminal < 8 }
+    requires { terminal < terminal_count }
 {
     let bench = bench.lock(rt);
     copy_after(alloc, bench.core().shown(terminal), written)
@@ -42,7 +43,7 @@ fn bytes_after<N: Naming, R: Wait>(
 impl<'o, O: Write> Screen<'o, O> {
     /// A screen on which nothing stands.
     pub fn new(out: &'o mut O, terminal: u32) -> Screen<'o, O>
-        requires { terminal < 8 }
+        requires { terminal < terminal_count }
     {
         Screen {
             out,

@@ -1,5 +1,6 @@
 //! How a run is done.
 ghost use Rattle.std.specs.Prelude.{◌<◌, ◌≤◌};
+ghost use Rattle.kernel_model.specs.World.{terminal_count};
 
 /// How a run is done.
 #[derive(Clone, Copy)]
@@ -13,5 +14,5 @@ pub struct Settings {
     ghost some: { 1 ≤ workers },
     ghost few: { workers ≤ 16 },
     ghost moves: { 1 ≤ quantum },
-    ghost there: { terminal < 8 },
+    ghost there: { terminal < terminal_count },
 }

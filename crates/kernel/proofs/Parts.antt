@@ -9,7 +9,7 @@ use Rattle.machine_model.specs.States.{stands_at}
 use Rattle.kernel_model.specs.Answers.{Kernel, Lending, Applies, AllAccepted, now, committed, changes, with_event, with_events}
 use Rattle.kernel_model.specs.Loans.{LoanOut, LoanResult, Lends, returned, events_of}
 use Rattle.kernel_model.specs.Ran.{ran_by_turns, ran_in}
-use Rattle.kernel_model.proofs.Runs.{ran-with_event}
+use Rattle.kernel_model.proofs.Runs.{ran-with_event, history-with_events}
 use Rattle.kernel_model.specs.Rows.{most_processes}
 use Rattle.kernel_model.specs.World.{Boot}
 use Rattle.kernel_model.specs.declared.answer.Answer.{Answer}
@@ -99,10 +99,6 @@ settled-few k r few fine = by (is_some (stands_at r.reached.state))
     by true = omega (arith, one)
     by false = omega (arith, one)
 
-history-after : (k : Kernel) (es : List Event) → (with_events k es).history ≡ k.history ++ es
-history-after k [] = sym (append-nil k.history)
-history-after k (e ∷ es) = history-after (with_event k e) es ∙ append_assoc k.history (e ∷ []) es
-
 -- a loan's result is taken back, or not
 pub settled-core : (b : Boot) (old new : Running) (sums later : Sums) (done : Done) (result : Result Answer Rejected) → IsCore b old sums
     → Settles b done old new result → OnOk result (later.turns ≡ sums.turns + done.pid)
@@ -110,7 +106,7 @@ pub settled-core : (b : Boot) (old new : Running) (sums later : Sums) (done : Do
 settled-core b old new sums later done (Ok a) h s turns enters same =
     let r : LoanResult = loan_result done in
     let k : Kernel = returned (kernel_in b old) done.pid in
-    let grown : new.history.items ≡ old.history.items ++ events_of r = ap (λ (k : Kernel). k.history) s.events ∙ history-after k (events_of r) in
+    let grown : new.history.items ≡ old.history.items ++ events_of r = ap (λ (k : Kernel). k.history) s.events ∙ history-with_events k (events_of r) in
     grown-core b old new sums later k.lendings k.last_lent (events_of r) h s.stands s.fine grown
     (turns ∙ ap (λ n. sums.turns + n) (sym (turns-of r)))
     (enters ∙ ap (λ (a : Answer). sums.enters + (if tells_enter a then done.pid else 0)) s.answer ∙ ap (λ n. sums.enters + n) (sym (enters-of (kernel_in b old) r)))

@@ -4,7 +4,7 @@ use Rattle.std.specs.List.{AllByRecursion}
 use Rattle.kernel_model.specs.Answers.{Kernel, AllAccepted, now, never_lent, loans_out, limit, committed, changes}
 use Rattle.kernel_model.specs.Ran.{ran_by_turns}
 use Rattle.kernel_model.specs.Rows.{most_processes}
-use Rattle.kernel_model.specs.World.{BootProgram, Boot}
+use Rattle.kernel_model.specs.World.{BootProgram, Boot, most_programs, tape_count, terminal_count}
 use Rattle.kernel_laws.specs.Resuming.{IsSound}
 use Rattle.kernel.specs.Sums.{process_of_turn, process_of_enter, sum_of_turns, sum_of_enters}
 
@@ -14,11 +14,11 @@ pub record IsBooted (b : Boot) : Type 0 where
   pub sound : IsSound b
   -- it has 1 to 8 programs
   pub some : 1 ≤ length b.programs
-  pub few : length b.programs ≤ 8
+  pub few : length b.programs ≤ most_programs
   -- each with a terminal from 0 to 7
-  pub terminals : AllByRecursion (λ (p : BootProgram). p.terminal < 8) b.programs
+  pub terminals : AllByRecursion (λ (p : BootProgram). p.terminal < terminal_count) b.programs
   -- and at most 8 tapes
-  pub tapes : length b.tapes ≤ 8
+  pub tapes : length b.tapes ≤ tape_count
 
 -- a core of this boot before any event and any loan
 abbrev pub at_boot : Boot → Kernel

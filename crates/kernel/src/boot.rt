@@ -4,7 +4,7 @@ ghost use Rattle.std.specs.List.{AllByRecursion};
 ghost use Rattle.disk_model.specs.declared.change.NamedFile.{NamedFile};
 ghost use Rattle.disk_model.specs.Held.{IsHeld};
 ghost use Rattle.disk_model.specs.Storage.{is_quiet};
-ghost use Rattle.kernel_model.specs.World.{HoldsItsFiles};
+ghost use Rattle.kernel_model.specs.World.{HoldsItsFiles, most_programs, tape_count, terminal_count};
 ghost use Rattle.kernel_model.specs.Bytes.{ProgramsHoldBytes, TapesHoldBytes};
 ghost use Rattle.kernel_step.specs.Booting.{program_of, nothing_lent};
 ghost use Rattle.kernel.specs.Booting.{TellsBootFault, boot_fault, number_of};
@@ -80,9 +80,9 @@ impl Core {
         tapes: Vec<Bytes>,
     ) -> Result<Core, BootFault>
         requires some { 1 ≤ length programs.items }
-        requires few { length programs.items ≤ 8 }
-        requires terminals { AllByRecursion (λ p. p.terminal < 8) programs.items }
-        requires few_tapes { length tapes.items ≤ 8 }
+        requires few { length programs.items ≤ most_programs }
+        requires terminals { AllByRecursion (λ p. p.terminal < terminal_count) programs.items }
+        requires few_tapes { length tapes.items ≤ tape_count }
         requires quiet { is_quiet device ≡ true }
         ensures programs { IfOk result (λ core. core.boot.programs ≡ map program_of programs.items) }
         ensures given_tapes { IfOk result (λ core. core.boot.tapes ≡ tapes.items) }

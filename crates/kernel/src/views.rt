@@ -3,6 +3,7 @@ ghost use Rattle.std.specs.Prelude.{◌≡◌, ◌<◌, None, true, is_some, IfO
 ghost use Rattle.kernel_model.specs.Answers.{now, process_of, committed as committed_in, changes as changes_in, in_flight as least_in_flight, wants_cut as is_cut_wanted};
 ghost use Rattle.kernel_model.specs.Ran.{ran_by_turns};
 ghost use Rattle.kernel_model.specs.Shown.{shown as shown_of, handed, replies_in, end_in};
+ghost use Rattle.kernel_model.specs.World.{terminal_count};
 ghost use Rattle.kernel_model.specs.declared.answer.Refused.TheVariants.{NoProcess};
 ghost use Rattle.kernel.specs.Sums.{sum_of_turns, sum_of_enters};
 
@@ -15,7 +16,7 @@ impl Core {
     /// The bytes that a terminal, 0 to 7, shows: the longest prefix of those written to it that rests on committed changes
     /// alone.
     pub fn shown(&self, terminal: u32) -> &[u8]
-        requires { terminal < 8 }
+        requires { terminal < terminal_count }
         ensures { result.now ≡ shown_of (now self.now) terminal }
     {
         self.running.shown(terminal)

@@ -2,7 +2,7 @@
 use Rattle.std.proofs.Common.{◌≤◌, List, [], ◌∷◌, length, take, Option, Some, None, option_to_list, IfSome, refl, sym, subst}
 use Rattle.disk_model.specs.declared.change.Change.{Change}
 use Rattle.disk_model.specs.declared.change.NamedFile.{NamedFile}
-use Rattle.disk_model.specs.Files.{Follow, IsMade, files_after}
+use Rattle.disk_model.specs.Files.{Follow, IsMade, files_after, IsPossible}
 use Rattle.disk_model.specs.Held.{IsHeld}
 use Rattle.disk_model.specs.Runs.{Run, changes_in_moves}
 use Rattle.disk_model.specs.Crash.{IsCrashOf}
@@ -17,7 +17,6 @@ use Rattle.kernel_model.proofs.Runs.{changes_in_log-entry}
 use Rattle.kernel_laws.specs.Crashes.{SurvivesCrash}
 use Rattle.kernel_laws.proofs.DiskLaws.{DiskLaws}
 use Rattle.kernel_laws.proofs.DiskRuns.{IsDiskRun, disk_run}
-use Rattle.kernel_laws.proofs.Possible.{IsPossible}
 use Rattle.kernel_laws.proofs.Sound.{AreFit, step_fit, first_world_fit}
 
 -- what holds all along

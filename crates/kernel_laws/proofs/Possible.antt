@@ -4,7 +4,8 @@ use Rattle.std.specs.Prelude.{if◌then◌else◌, option_map}
 use Rattle.std.specs.Int.{w32, to_le_bytes}
 use Rattle.std.specs.List.{AllByRecursion}
 use Rattle.std.proofs.lemmas.List.{length-drop, length-map}
-use Rattle.disk_model.specs.Files.{IsFormed, MayCome, FileHoldsBytes, FilesHoldBytes}
+use Rattle.disk_model.specs.Files.{IsFormed, MayCome, FileHoldsBytes, FilesHoldBytes, IsPossible}
+use Rattle.disk_model.specs.Limits.{most_files}
 use Rattle.disk_model.specs.Numbers.{Numbered, place_of}
 use Rattle.disk_model.specs.declared.change.Change.{Change}
 use Rattle.disk_model.specs.declared.change.Change.TheVariants as change
@@ -43,16 +44,13 @@ PipeHoldsBytes p = AreBytes p.written
 
 -- there are few files, which are numbered, and files, pipes and tapes hold bytes
 pub record IsReadable (s : Shared) : Type 0 where
-  pub few : length s.files.living ≤ 32
+  pub few : length s.files.living ≤ most_files
   pub numbered : AreNumbered s.files
   pub files : FilesHoldBytes s.files.living
   pub pipes : AllByRecursion PipeHoldsBytes s.pipes
   pub tapes : AllByRecursion TapeHoldsBytes s.tapes
 
 -- ---- effects
-
-abbrev pub IsPossible : List NamedFile → Change → Type 0
-IsPossible files c = IsFormed c × MayCome files c
 
 -- what the caller is told carries bytes alone
 abbrev pub TellsBytes : Verdict → Type 0

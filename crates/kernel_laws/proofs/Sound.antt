@@ -3,7 +3,7 @@ use Rattle.std.proofs.Common.{◌≡◌, ℕ, zero, suc, ◌+◌, ◌<◌, List,
 use Rattle.std.specs.List.{AllByRecursion}
 use Rattle.disk_model.specs.declared.change.Change.{Change}
 use Rattle.disk_model.specs.Numbers.{Numbered}
-use Rattle.disk_model.specs.Files.{IsMade}
+use Rattle.disk_model.specs.Files.{IsMade, IsPossible}
 use Rattle.disk_model.proofs.Lists.{each_get, each_set, each_append}
 use Rattle.machine_model.specs.Access.{HoldsBytes}
 use Rattle.machine_model.specs.States.{stands_at}
@@ -24,7 +24,7 @@ use Rattle.kernel_model.proofs.Transitions.{each_event, of_step}
 use Rattle.kernel_model.proofs.Limits.{each_process, each_put, with_each}
 use Rattle.kernel_laws.proofs.Bytes.{AreBytes, run_holds, replied_holds}
 use Rattle.kernel_laws.proofs.DiskLaws.{DiskLaws}
-use Rattle.kernel_laws.proofs.Possible.{IsPossible, TellsBytes, PutsBytes, PutBytes, PipeHoldsBytes, TapeHoldsBytes, IsReadable, IsSound, effect_sound}
+use Rattle.kernel_laws.proofs.Possible.{TellsBytes, PutsBytes, PutBytes, PipeHoldsBytes, TapeHoldsBytes, IsReadable, IsSound, effect_sound}
 
 -- the memory of the process holds bytes
 abbrev pub IsFit : Process → Type 0

@@ -1,6 +1,7 @@
 -- Requests whose bytes are as many as they say.
 use Rattle.std.specs.Prelude.{◌≡◌, ℕ, ◌+◌, ◌≤◌, length, List, Option, None, IfSome}
-use Rattle.kernel_model.specs.Requests.{most_bytes, longest_name, longest_names}
+use Rattle.disk_model.specs.Limits.{longest_name}
+use Rattle.kernel_model.specs.Requests.{most_bytes, longest_names}
 use Rattle.kernel_model.specs.declared.request.Request.{Request}
 use Rattle.kernel_model.specs.declared.request.Request.TheVariants.{Exit, Write, Read, Open, Close, Pipe, Fork, Wait, GetPid, Seek, Sync, Unlink, Rename, Unknown}
 

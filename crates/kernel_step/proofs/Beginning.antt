@@ -3,6 +3,7 @@ use Rattle.std.proofs.Common.{◌≡◌, ℕ, zero, suc, ◌+◌, ◌≤◌, inl
 use Rattle.std.proofs.lemmas.List.{length_push}
 use Rattle.std.specs.List.{AllByRecursion}
 use Rattle.commit_deps.specs.Keeps.{Keeps}
+use Rattle.disk_model.specs.Limits.{most_files}
 use Rattle.pipes.specs.Seen.{Seen}
 use Rattle.processes.specs.Parts.{Part, part_of, boot_part}
 use Rattle.disk_model.specs.Files.{IsMade}
@@ -166,8 +167,8 @@ first-screens screens h = record {
 }
 
 -- there are few files
-few-made : (files : List NamedFile) → IsMade files → length files ≤ 32 + 0
-few-made files made = let few : length files ≤ 32 = subst (λ (fs : List NamedFile). length fs ≤ 32) (sym made.2) (tidy_after made.0 made.1).few in omega arith
+few-made : (files : List NamedFile) → IsMade files → length files ≤ most_files + 0
+few-made files made = let few : length files ≤ most_files = subst (λ (fs : List NamedFile). length fs ≤ most_files) (sym made.2) (tidy_after made.0 made.1).few in omega arith
 
 -- ---- all parts
 pub first-core : (programs : List Program) (tapes : List (List ℕ)) (files : List NamedFile) (disk : List ℕ) (gate : ℕ) (tasks : List Task) (s : System)

@@ -14,7 +14,7 @@ use Rattle.machine_model.specs.Numbers.{cause_number}
 use Rattle.kernel_model.specs.Rows.{Effect as Row, row, row_end, most_processes}
 use Rattle.kernel_model.specs.State.{SyncState, Process, shared, process_at, put_process, with_process}
 use Rattle.kernel_model.specs.Steps.{Transition, step, impossible, own_entry, after_run, after_turn, after_reply, after_end, forked, effect_at, after_effect, after_effect_if, after_enter}
-use Rattle.kernel_model.specs.World.{Boot, World, first_world, happens, processes_from}
+use Rattle.kernel_model.specs.World.{Boot, World, first_world, happens, processes_from, most_programs}
 use Rattle.kernel_model.specs.declared.answer.Answer.{Answer}
 use Rattle.kernel_model.specs.declared.answer.Refused.{Refused}
 use Rattle.kernel_model.specs.declared.event.Event.{Event}
@@ -216,7 +216,7 @@ first-length : (i : ℕ) (programs : List Program) → length (processes_from i 
 first-length i [] = refl
 first-length i (p ∷ ps) = ap suc (first-length (i + 1) ps)
 
-pub first-counted : (programs : List Program) (tapes : List (List ℕ)) (files : List NamedFile) (disk : List ℕ) (gate : ℕ) → length programs ≤ 8
+pub first-counted : (programs : List Program) (tapes : List (List ℕ)) (files : List NamedFile) (disk : List ℕ) (gate : ℕ) → length programs ≤ most_programs
     → IsCounted (boot_with programs tapes files disk gate) [] 0
 first-counted programs tapes files disk gate few =
     let size = first-length 0 programs in

@@ -8,12 +8,12 @@ use Rattle.disk_model.specs.declared.change.NamedFile.{NamedFile}
 use Rattle.disk_model.specs.Numbers.{Numbered}
 use Rattle.kernel_model.specs.Limits.{AreNumbered, KeepLimits}
 use Rattle.kernel_model.proofs.Numbering.{made_by_one}
-use Rattle.disk_model.specs.Files.{IsFormed, IsMade, MayCome, changed}
+use Rattle.disk_model.specs.Files.{IsFormed, IsMade, MayCome, changed, IsPossible}
 use Rattle.disk_model.specs.Rebuild.{CanBeRebuilt}
 use Rattle.disk_model.proofs.Lists.{each_append}
 use Rattle.disk_model.specs.Storage.{Storage}
 use Rattle.machine_model.specs.States.{State}
-use Rattle.calls.specs.Plans.{IsPossible, NamesFile, NamesFiles, EditsAs, IsNext, all_seen}
+use Rattle.calls.specs.Plans.{NamesFile, NamesFiles, EditsAs, IsNext, all_seen}
 use Rattle.calls.specs.declared.plan.Plan.{Plan}
 use Rattle.commit_deps.specs.Keeps.{Keeps}
 use Rattle.commit_deps.specs.Kept.{Kept}

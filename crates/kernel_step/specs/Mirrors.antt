@@ -3,6 +3,7 @@ use Rattle.std.specs.Prelude.{◌≡◌, ℕ, ◌+◌, ◌*◌, ◌^◌, ◌≤�
 use Rattle.std.specs.List.{AllByRecursion}
 use Rattle.disk_model.specs.Files.{IsFormed, IsMade}
 use Rattle.commit_deps.specs.Keeps.{Keeps}
+use Rattle.disk_model.specs.Limits.{most_files}
 use Rattle.pipes.specs.Seen.{Seen, Shows}
 use Rattle.pipes.specs.Stepping.{HasAtMost}
 use Rattle.processes.specs.Parts.{part_of}
@@ -37,7 +38,7 @@ pub record AreChanges (w : World) (system : System) : Type 0 where
   pub formed : AllByRecursion IsFormed (changes_in_log w.log)
   pub files : system.files ≡ w.sync.files
   pub made : IsMade w.sync.files.living
-  pub fresh : w.sync.files.made ≤ 32 + length w.log
+  pub fresh : w.sync.files.made ≤ most_files + length w.log
 
 -- the pipes are those of the run, and each event added no more than 16 descriptors to an end
 pub record ArePipes (w : World) (seen : List Seen) : Type 0 where

@@ -3,6 +3,7 @@ use Rattle.std.specs.Prelude.{◌≡◌, ℕ, List, [], ◌∷◌, length, slice
 use Rattle.commit_deps.specs.Marks.{IsMarkOf}
 use Rattle.kernel_model.specs.Entries.{Entry}
 use Rattle.kernel_model.specs.Shown.{Given, printed}
+use Rattle.kernel_model.specs.World.{terminal_count}
 use Rattle.withheld.specs.Withheld.{Withheld, Held}
 
 -- each item is what the event at its place gave, with the mark of that event
@@ -19,5 +20,5 @@ pub record Withholds {A : Type 0} (c : ℕ) (given : List (Given A)) (w : Withhe
 
 -- the screens of terminals 0 to 7 after this log, where c changes are committed
 pub record AreScreens (c : ℕ) (log : List Entry) (screens : List (Withheld ℕ)) : Type 0 where
-  pub count : length screens ≡ 8
+  pub count : length screens ≡ terminal_count
   pub each : (t : ℕ) (s : Withheld ℕ) → slice_get screens t ≡ Some s → Withholds c (printed t log) s

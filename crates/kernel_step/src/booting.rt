@@ -4,7 +4,7 @@ ghost use Rattle.std.specs.List.{AllByRecursion};
 ghost use Rattle.disk_model.specs.Files.{IsMade};
 ghost use Rattle.disk_model.specs.Numbers.{numbered};
 ghost use Rattle.disk_model.specs.Runs.{first_storage};
-ghost use Rattle.kernel_model.specs.World.{Boot};
+ghost use Rattle.kernel_model.specs.World.{Boot, most_programs};
 ghost use Rattle.kernel_model.specs.Bytes.{ProgramsHoldBytes, TapesHoldBytes};
 ghost use Rattle.kernel_step.specs.Booting.{boot_with, nothing_lent};
 ghost use Rattle.kernel_step.specs.First.{AreFirst, AreEmpty, parts_from};
@@ -51,7 +51,7 @@ impl Running {
         files: FileTable,
         committer: Committer,
     ) -> Result<Running, AllocError>
-        requires few { length programs.now ≤ 8 }
+        requires few { length programs.now ≤ most_programs }
         requires made { IsMade files.living }
         requires numbered { files ≡ numbered files.living }
         ensures stands { IfOk result (λ r. (disk : List ℕ) (gate : ℕ) → committer ≡ first_storage disk gate
@@ -105,7 +105,7 @@ fn are_bytes(bytes: &[u8])
 
 /// The tasks of these programs, processes 1 and up.
 fn first_tasks(alloc: Global, programs: &[Program]) -> Result<Vec<Task>, AllocError>
-    requires { length programs.now ≤ 8 }
+    requires { length programs.now ≤ most_programs }
     ensures { IfOk result (λ tasks. AreFirst programs.now tasks.items) }
 {
     let mut tasks = Vec::new(alloc);
@@ -119,7 +119,7 @@ fn first_tasks(alloc: Global, programs: &[Program]) -> Result<Vec<Task>, AllocEr
 
 /// What is kept of the processes of these programs beside their machines: program i reads tape i.
 fn first_processes(alloc: Global, programs: &[Program]) -> Result<ProcTable, AllocError>
-    requires { length programs.now ≤ 8 }
+    requires { length programs.now ≤ most_programs }
     ensures { IfOk result (λ processes. processes.parts ≡ parts_from 0 programs.now) }
 {
     let mut processes = ProcTable::new(alloc);

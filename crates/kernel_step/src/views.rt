@@ -7,7 +7,7 @@ ghost use Rattle.simdisk.specs.Room.{crashed};
 ghost use Rattle.kernel_model.specs.Answers.{now, process_of, committed as committed_in, changes as changes_in, in_flight as least_in_flight, wants_cut as is_cut_wanted};
 ghost use Rattle.kernel_model.specs.Ran.{ran_by_turns};
 ghost use Rattle.kernel_model.specs.Shown.{shown as shown_of, handed, replies_in, end_in};
-ghost use Rattle.kernel_model.specs.World.{Boot};
+ghost use Rattle.kernel_model.specs.World.{Boot, terminal_count};
 ghost use Rattle.kernel_model.specs.declared.answer.Refused.TheVariants.{NoProcess};
 ghost use Rattle.withheld.specs.Withheld.{holds_back};
 ghost use Rattle.kernel_step.specs.Stands.{Stands, kernel_in};
@@ -31,7 +31,7 @@ impl Running {
     /// alone.
     pub fn shown(&self, terminal: u32) -> &[u8]
         requires kept { (b : Boot) × Stands b self.now }
-        requires there { terminal < 8 }
+        requires there { terminal < terminal_count }
         ensures { (b : Boot) → Stands b self.now → result.now ≡ shown_of (now (kernel_in b self.now)) terminal }
     {
         let screen = &self.system.screens[terminal as usize];

@@ -1,6 +1,7 @@
 //! Each exported function once: what small machines ask for, what that comes to, an end, and tapes.
 ghost use Rattle.std.specs.Prelude.{◌≡◌, ◌≤◌, length, IfOk, IfSome};
 ghost use Rattle.std.specs.List.{AllByRecursion};
+ghost use Rattle.disk_model.specs.Limits.{longest_file};
 ghost use Rattle.disk_model.specs.declared.change.NamedFile.{NamedFile};
 ghost use Rattle.kernel_model.specs.Limits.{AreNumbered};
 ghost use Rattle.kernel_model.specs.Wholes.{IsWhole};
@@ -110,7 +111,7 @@ fn file_of_abc(alloc: Global) -> Result<FileTable, AllocError>
     ensures made { IfOk result (λ files. files.made ≡ 1) }
     ensures numbered { IfOk result AreNumbered }
     ensures short { IfOk result
-        (λ files. AllByRecursion (λ (f : NamedFile). length f.bytes ≤ 16384) files.living) }
+        (λ files. AllByRecursion (λ (f : NamedFile). length f.bytes ≤ longest_file) files.living) }
 {
     let mut files = FileTable::new(alloc);
     files.create(Bytes::copy_of(alloc, b"f")?)?;

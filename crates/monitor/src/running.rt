@@ -2,6 +2,7 @@
 ghost use Rattle.std.specs.Prelude.{◌≡◌, ◌≤◌, ◌<◌, true, length, IfOk};
 ghost use Rattle.std.specs.List.{AllByRecursion};
 ghost use Rattle.disk_model.specs.Storage.{is_quiet};
+ghost use Rattle.kernel_model.specs.World.{most_programs, tape_count, terminal_count};
 
 use crate::fault::Fault;
 use crate::process_lines::print_processes;
@@ -27,7 +28,7 @@ fn tape_in<R: Files + AllocGlobal>(rt: &R, path: &str) -> Result<Bytes, Fault> {
 
 /// The tapes of a run: the first one, from a file, or none.
 fn tapes_in<R: Files + AllocGlobal>(rt: &R, path: Option<&str>) -> Result<Vec<Bytes>, Fault>
-    ensures { IfOk result (λ tapes. length tapes.items ≤ 8) }
+    ensures { IfOk result (λ tapes. length tapes.items ≤ tape_count) }
 {
     let alloc = rt.alloc();
     match path {
@@ -38,9 +39,9 @@ fn tapes_in<R: Files + AllocGlobal>(rt: &R, path: Option<&str>) -> Result<Vec<By
 
 /// The programs of images, each with the terminal of its place.
 fn programs_in<R: Files + AllocGlobal>(rt: &R, paths: &[&str]) -> Result<Vec<Program>, Fault>
-    requires few { length paths.now ≤ 8 }
+    requires few { length paths.now ≤ most_programs }
     ensures len { IfOk result (λ programs. length programs.items ≡ length paths.now) }
-    ensures terminals { IfOk result (λ programs. AllByRecursion (λ p. p.terminal < 8) programs.items) }
+    ensures terminals { IfOk result (λ programs. AllByRecursion (λ p. p.terminal < terminal_count) programs.items) }
 {
     let mut programs = Vec::new(rt.alloc());
     for path in paths {

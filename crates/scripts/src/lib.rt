@@ -10,4 +10,4 @@ mod setup;
 pub use fault::ScriptFault;
 pub use file_lines::print_files;
 pub use playing::replay;
-pub use script::{MOST_PROGRAMS, MOST_TAPE_BYTES};
+pub use script::MOST_TAPE_BYTES;

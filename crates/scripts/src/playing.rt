@@ -1,5 +1,6 @@
 //! The run of a script.
 ghost use Rattle.std.specs.Prelude.{◌≤◌, vec_len};
+ghost use Rattle.kernel_model.specs.World.{most_programs};
 
 use crate::fault::ScriptFault;
 use crate::file_lines::print_files;
@@ -246,7 +247,7 @@ fn boot_and_play<R: Files + AllocGlobal, O: Write>(
     out: &mut O,
 ) -> Result<(), ScriptFault>
     requires some { 1 ≤ vec_len programs }
-    requires few { vec_len programs ≤ 8 }
+    requires few { vec_len programs ≤ most_programs }
 {
     let (setup, core) = Setup::boot(rt, programs, tapes)?;
     play_all(rt.alloc(), &setup, core, steps, out)

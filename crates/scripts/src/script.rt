@@ -1,15 +1,13 @@
 //! Scripts: programs to be booted, and what is done with them line by line.
 ghost use Rattle.std.specs.Prelude.{◌≡◌, ◌<◌, ◌≤◌, IfOk, IfSome, length, vec_len};
+ghost use Rattle.kernel_model.specs.World.{most_programs, tape_count, terminal_count};
 
 use crate::fault::ScriptFault;
 use byte_list::Bytes;
 use kernel::Event;
-use kernel_model::{TAPES, TERMINALS};
+use kernel_model::{MOST_PROGRAMS, TAPES, TERMINALS};
 use line_words::{bytes_of, hexadecimal};
 use std::alloc::{AllocError, Global};
-
-/// The most programs of a run.
-pub const MOST_PROGRAMS: usize = 8;
 
 /// The most words of a program: 60 pages.
 const MOST_WORDS: usize = 61440;
@@ -62,7 +60,7 @@ pub struct ScriptTape {
     pub number: u32,
     /// At most 65,536.
     pub bytes: Bytes,
-    ghost there: { number < 8 },
+    ghost there: { number < tape_count },
     ghost short: { length bytes ≤ 65536 },
 }
 
@@ -103,7 +101,7 @@ pub enum Step {
 #[derive(Clone, Copy)]
 pub struct Terminal {
     pub number: u32,
-    ghost there: { number < 8 },
+    ghost there: { number < terminal_count },
 }
 
 /// A script: its programs in order, the tapes that it gives, at most one of each number, and its steps in order.
@@ -264,8 +262,8 @@ fn push_program(
     programs: &mut Vec<ScriptProgram>,
     program: ScriptProgram,
 ) -> Result<bool, AllocError>
-    requires { vec_len programs.old ≤ 8 }
-    ensures { vec_len programs.new ≤ 8 }
+    requires { vec_len programs.old ≤ most_programs }
+    ensures { vec_len programs.new ≤ most_programs }
 {
     if programs.len() >= MOST_PROGRAMS {
         return Ok(false);
@@ -286,8 +284,8 @@ fn push_tape(tapes: &mut Vec<ScriptTape>, tape: ScriptTape) -> Result<bool, Allo
 impl Script {
     /// Adds a line, if it may stand after those before it.
     fn push(&mut self, line: Line) -> Result<bool, AllocError>
-        requires { vec_len self.old.programs ≤ 8 }
-        ensures { vec_len self.new.programs ≤ 8 }
+        requires { vec_len self.old.programs ≤ most_programs }
+        ensures { vec_len self.new.programs ≤ most_programs }
     {
         match line {
             Line::Step(step) => {
@@ -303,8 +301,8 @@ impl Script {
     /// Reads a line that is neither empty nor a comment, and adds it, if it has a form and may stand here. Words are parted
     /// by one space each.
     fn read(&mut self, alloc: Global, text: &str) -> Result<bool, AllocError>
-        requires { vec_len self.old.programs ≤ 8 }
-        ensures { vec_len self.new.programs ≤ 8 }
+        requires { vec_len self.old.programs ≤ most_programs }
+        ensures { vec_len self.new.programs ≤ most_programs }
     {
         let words: Vec<&str> = text.split(' ').collect(alloc)?;
         self.read_words(alloc, words.as_slice())
@@ -312,8 +310,8 @@ impl Script {
 
     /// Adds the line of these words, if it has a form and may stand here.
     fn read_words(&mut self, alloc: Global, words: &[&str]) -> Result<bool, AllocError>
-        requires { vec_len self.old.programs ≤ 8 }
-        ensures { vec_len self.new.programs ≤ 8 }
+        requires { vec_len self.old.programs ≤ most_programs }
+        ensures { vec_len self.new.programs ≤ most_programs }
     {
         match line_of(alloc, words)? {
             Some(line) => self.push(line),
@@ -327,7 +325,7 @@ impl Script {
     /// end at a line feed; empty ones and those that begin with `#` are skipped.
     pub fn parse(alloc: Global, text: &str) -> Result<Script, ScriptFault>
         ensures some { IfOk result (λ script. 1 ≤ vec_len script.programs) }
-        ensures few { IfOk result (λ script. vec_len script.programs ≤ 8) }
+        ensures few { IfOk result (λ script. vec_len script.programs ≤ most_programs) }
     {
         let mut script = Script {
             programs: Vec::new(alloc),

@@ -2,6 +2,7 @@
 ghost use Rattle.std.specs.Prelude.{◌≡◌, ◌≤◌, ◌<◌, true, length, vec_len, IfOk};
 ghost use Rattle.std.specs.List.{AllByRecursion};
 ghost use Rattle.disk_model.specs.Storage.{is_quiet};
+ghost use Rattle.kernel_model.specs.World.{most_programs, terminal_count, tape_count};
 
 use crate::fault::ScriptFault;
 use crate::script::{ScriptProgram, ScriptTape, Source, Terminal, Words};
@@ -56,7 +57,7 @@ impl Drop for Bootable {
 impl Bootable {
     /// The program, to be booted once.
     fn program(&self, alloc: Global) -> Result<Program, ScriptFault>
-        ensures { IfOk result (λ program. program.terminal < 8) }
+        ensures { IfOk result (λ program. program.terminal < terminal_count) }
     {
         Ok(Program {
             image: self.code.image(alloc)?,
@@ -70,7 +71,7 @@ pub struct Setup {
     programs: Vec<Bootable>,
     tapes: Vec<ScriptTape>,
     ghost some: { 1 ≤ vec_len programs },
-    ghost few: { vec_len programs ≤ 8 },
+    ghost few: { vec_len programs ≤ most_programs },
 }
 
 impl Drop for Setup {
@@ -91,7 +92,7 @@ impl Setup {
         tapes: Vec<ScriptTape>,
     ) -> Result<(Setup, Core), ScriptFault>
         requires some { 1 ≤ vec_len programs }
-        requires few { vec_len programs ≤ 8 }
+        requires few { vec_len programs ≤ most_programs }
     {
         let alloc = rt.alloc();
         let (kept, programs) = read_programs(rt, programs)?;
@@ -121,8 +122,8 @@ fn boot_on(
 ) -> Result<Core, ScriptFault>
     requires quiet { is_quiet device ≡ true }
     requires some { 1 ≤ length programs.items }
-    requires few { length programs.items ≤ 8 }
-    requires terminals { AllByRecursion (λ p. p.terminal < 8) programs.items }
+    requires few { length programs.items ≤ most_programs }
+    requires terminals { AllByRecursion (λ p. p.terminal < terminal_count) programs.items }
 {
     let tapes = tapes_of(alloc, tapes)?;
     Ok(Core::boot(alloc, device, programs, tapes)?)
@@ -133,7 +134,7 @@ fn read_program<R: Files + AllocGlobal>(
     rt: &R,
     program: ScriptProgram,
 ) -> Result<(Bootable, Program), ScriptFault>
-    ensures { IfOk result (λ read. read.1.terminal < 8) }
+    ensures { IfOk result (λ read. read.1.terminal < terminal_count) }
 {
     let kept = Bootable {
         terminal: program.terminal,
@@ -150,7 +151,7 @@ fn read_programs<R: Files + AllocGlobal>(
 ) -> Result<(Vec<Bootable>, Vec<Program>), ScriptFault>
     ensures kept { IfOk result (λ read. length read.0.items ≡ vec_len programs) }
     ensures len { IfOk result (λ read. length read.1.items ≡ vec_len programs) }
-    ensures terminals { IfOk result (λ read. AllByRecursion (λ p. p.terminal < 8) read.1.items) }
+    ensures terminals { IfOk result (λ read. AllByRecursion (λ p. p.terminal < terminal_count) read.1.items) }
 {
     let mut kept = Vec::new(rt.alloc());
     let mut booted = Vec::new(rt.alloc());
@@ -165,7 +166,7 @@ fn read_programs<R: Files + AllocGlobal>(
 /// Programs to be booted once more.
 fn programs_of(alloc: Global, programs: &[Bootable]) -> Result<Vec<Program>, ScriptFault>
     ensures len { IfOk result (λ booted. length booted.items ≡ length programs.now) }
-    ensures terminals { IfOk result (λ booted. AllByRecursion (λ p. p.terminal < 8) booted.items) }
+    ensures terminals { IfOk result (λ booted. AllByRecursion (λ p. p.terminal < terminal_count) booted.items) }
 {
     let mut booted = Vec::new(alloc);
     for program in programs {
@@ -184,7 +185,7 @@ fn tape_of(alloc: Global, tapes: &[ScriptTape], number: u32) -> Result<Bytes, Al
 
 /// The eight tapes of a boot, by their numbers: those that a script gives, the others empty.
 fn tapes_of(alloc: Global, tapes: &[ScriptTape]) -> Result<Vec<Bytes>, ScriptFault>
-    ensures { IfOk result (λ booted. length booted.items ≡ 8) }
+    ensures { IfOk result (λ booted. length booted.items ≡ tape_count) }
 {
     let mut booted = Vec::new(alloc);
     for number in 0..TAPES as u32 {

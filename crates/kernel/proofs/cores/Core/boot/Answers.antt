@@ -6,7 +6,7 @@ use Rattle.disk_model.specs.declared.change.NamedFile.{NamedFile}
 use Rattle.disk_model.specs.Held.{IsHeldTo}
 use Rattle.kernel_model.specs.Bytes.{ProgramsHoldBytes, TapesHoldBytes}
 use Rattle.kernel_model.specs.Answers.{AllAccepted}
-use Rattle.kernel_model.specs.World.{BootProgram, Boot, HoldsItsFiles}
+use Rattle.kernel_model.specs.World.{BootProgram, Boot, HoldsItsFiles, tape_count, terminal_count}
 use Rattle.kernel_model.specs.declared.event.Event.{Event}
 use Rattle.kernel_step.specs.Booting.{program_of, boot_with, nothing_lent}
 use Rattle.kernel_step.specs.Stands.{Stands}
@@ -45,11 +45,11 @@ programs-hold c = subst (λ (b : Boot). ProgramsHoldBytes b) (boot-is c) (c.in_o
 tapes-hold : (c : In_ok-running) → TapesHoldBytes (boot_of (booted c))
 tapes-hold c = subst (λ (b : Boot). TapesHoldBytes b) (boot-is c) (c.in_ok-running.ensures.tapes c.args.device.disk c.in_ok-files.gate)
 
-terminals-are : (ps : List Program) → AllByRecursion (λ (p : Program). p.terminal < 8) ps → AllByRecursion (λ (p : BootProgram). p.terminal < 8) (map program_of ps)
+terminals-are : (ps : List Program) → AllByRecursion (λ (p : Program). p.terminal < terminal_count) ps → AllByRecursion (λ (p : BootProgram). p.terminal < terminal_count) (map program_of ps)
 terminals-are [] h = tt
 terminals-are (p ∷ ps) h = (h.0, terminals-are ps h.1)
 
-tapes-few : (c : In_ok-running) → length (boot_of (booted c)).tapes ≤ 8
+tapes-few : (c : In_ok-running) → length (boot_of (booted c)).tapes ≤ tape_count
 tapes-few c = subst (λ (v : Vec _ _). length v.items ≤ 8) (sym c.in_ok-tapes.ensures) c.requires.few_tapes
 
 pub invariant_of-result : goal.invariant_of-result
