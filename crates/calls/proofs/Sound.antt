@@ -33,7 +33,8 @@ use Rattle.kernel_model.specs.declared.request.Verdict.TheVariants.{Waits, Repli
 use Rattle.kernel_model.proofs.Asked.{IsAsked}
 use Rattle.kernel_model.proofs.Cases.{GoesToFile, IsMadeNew, IsRenamed, of_row}
 use Rattle.kernel_model.proofs.Limits.{each_slot}
-use Rattle.kernel_model.proofs.Names.{differs, name_bytes, name_new, named_made, number_has_name, place_there}
+use Rattle.disk_model.proofs.Naming.{differs}
+use Rattle.kernel_model.proofs.Names.{name_bytes, name_new, named_made, number_has_name, place_there}
 use Rattle.kernel_model.proofs.Numbering.{made_grows}
 use Rattle.pipes.specs.Seen.{Seen}
 use Rattle.calls.specs.Plans.{NamesFile, NamesFiles, MayAllStep, IsNext, CarriesBytes, AreLeft, AtMostOneEntry, OpensNone, OpensAlone, MayBePlaced}
