@@ -16,9 +16,8 @@ use crate::tables::KernelTables;
 use crate::tapes::TapeTable;
 use crate::verdict::{number, with_bytes};
 use byte_list::Bytes;
-use disk_model::LONGEST_FILE_WRITE;
 use files::FileTable;
-use kernel_model::{Carrier, Descriptor, PipeEnd, PipeStep, TapeRead, Verdict};
+use kernel_model::{Carrier, Descriptor, MOST_BYTES, PipeEnd, PipeStep, TapeRead, Verdict};
 use pipes::{Pipe, PipeTable};
 use processes::Descriptors;
 use std::alloc::{AllocError, Global};
@@ -79,7 +78,7 @@ fn read_tested(
     if !may_read(tables.files, from) {
         return Ok(Row::failure(alloc, Errno::BadDescriptor));
     }
-    if place.n > LONGEST_FILE_WRITE {
+    if place.n > MOST_BYTES {
         return Ok(Row::failure(alloc, Errno::BadArgument));
     }
     if place.n == 0 {

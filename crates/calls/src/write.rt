@@ -14,9 +14,9 @@ use crate::row::Row;
 use crate::tables::KernelTables;
 use crate::verdict::number;
 use byte_list::Bytes;
-use disk_model::{LONGEST_FILE, LONGEST_FILE_WRITE};
+use disk_model::LONGEST_FILE;
 use files::{FileTable, part_of};
-use kernel_model::{Carrier, Descriptor, FileEdit, Output, PipeEnd, PipeStep, Verdict};
+use kernel_model::{Carrier, Descriptor, FileEdit, MOST_BYTES, Output, PipeEnd, PipeStep, Verdict};
 use pipes::{Pipe, PipeTable};
 use processes::Descriptors;
 use std::alloc::{AllocError, Global};
@@ -81,7 +81,7 @@ fn write_tested(
     if !may_write(tables.files, to) {
         return Ok(Row::failure(alloc, Errno::BadDescriptor));
     }
-    if n > LONGEST_FILE_WRITE {
+    if n > MOST_BYTES {
         return Ok(Row::failure(alloc, Errno::BadArgument));
     }
     if n == 0 {

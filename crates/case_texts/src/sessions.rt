@@ -261,11 +261,14 @@ impl Step {
 }
 
 /// Where a line has no form, and where there is a file that is to be missing.
-const NOT_SO: &str = "this has no form, or does not hold";
+const NO_FORM: &str = "this has no form";
+
+/// What is said of a file that is to be missing.
+const IS_THERE: &str = "this file is there";
 
 /// Refused where a file is there that is to be missing.
 pub fn check_missing(is_missing: bool) -> Result<(), Error> {
-    ensure!(is_missing, "{NOT_SO}");
+    ensure!(is_missing, "{IS_THERE}");
     Ok(())
 }
 
@@ -283,7 +286,7 @@ fn step_of(alloc: Global, line: &str, words: &[&str]) -> Result<Step, Error> {
         ["remove", name] => Ok(Step::Remove(String::from_str(alloc, name)?)),
         ["holds", name, parts] => Ok(Step::Holds(NamedBytes::of_parts(alloc, name, parts)?)),
         ["missing", name] => Ok(Step::Missing(String::from_str(alloc, name)?)),
-        _ => bail!("{NOT_SO}"),
+        _ => bail!("{NO_FORM}"),
     }
 }
 
@@ -319,7 +322,7 @@ fn read_line(alloc: Global, steps: &mut Vec<Step>, line: &str) -> Result<(), Err
 pub fn session_steps(alloc: Global, case: &str) -> Result<Vec<Step>, Error> {
     let mut steps = Vec::new(alloc);
     for line in case.lines().skip(1) {
-        if !line.is_empty() && !line.starts_with('#') {
+        if !line.trim().is_empty() && !line.starts_with('#') {
             read_line(alloc, &mut steps, line)?;
         }
     }

@@ -65,7 +65,7 @@ IsFormed (Empty place) = place < 2 ^ 16
 IsFormed (Remove place) = place < 2 ^ 16
 IsFormed (Rename place name) = (place < 2 ^ 16) × IsName name
 
--- a change that is possible with these files: a new name among at most 32, a file that is there, a file of at most 16,384 bytes,
+-- a change that may come to these files, if it is formed: a new name among at most 32, a file that is there, a file of at most 16,384 bytes,
 -- another name than the file has
 abbrev pub MayCome : List NamedFile → Change → Type 0
 MayCome files (Create name) = AllByRecursion (λ (f : NamedFile). f.name ≡ name → ⊥) files × (length files < most_files)
@@ -74,11 +74,11 @@ MayCome files (Empty place) = place < length files
 MayCome files (Remove place) = place < length files
 MayCome files (Rename place name) = (place < length files) × ((f : NamedFile) → slice_get files place ≡ Some f → f.name ≡ name → ⊥)
 
--- a change that may come to these files: it is formed, and possible with them
+-- a possible change: it is formed, and may come to these files
 abbrev pub IsPossible : List NamedFile → Change → Type 0
 IsPossible files c = IsFormed c × MayCome files c
 
--- each of these changes is formed, and possible where it comes
+-- each of these changes is formed, and may come where it comes
 abbrev pub Follow : List NamedFile → List Change → Type 0
 Follow files [] = Unit {0}
 Follow files (c ∷ cs) = IsFormed c × MayCome files c × Follow (changed files c) cs

@@ -9,5 +9,5 @@ pub const LONGEST_NAME: u32 = 32;
 /// The most bytes of a file.
 pub const LONGEST_FILE: u32 = 16_384;
 
-/// The most bytes that one change writes to a file, and so that one call moves.
+/// The most bytes that one change writes to a file.
 pub const LONGEST_FILE_WRITE: u32 = 1024;

@@ -1,4 +1,5 @@
-//! What instructions make of two words, and what branches test of them.
+//! What instructions make of two words, and what branches test of them. (The operations of the crate `operations` are decoded
+//! words.)
 ghost use Rattle.std.specs.Prelude.{◌≡◌};
 ghost use Rattle.isa_table.specs.Operations.{holds_of, value_of};
 

@@ -2,6 +2,7 @@
 ghost use Rattle.std.specs.Prelude.{◌≡◌, ◌<◌, ◌≤◌, ◌++◌, ◌∷◌, List, length, IfOk, OnOk};
 ghost use Rattle.std.specs.Int.{w16, w32, to_le_bytes};
 ghost use Rattle.std.specs.List.{AllByRecursion};
+ghost use Rattle.disk_model.specs.Limits.{longest_file_write};
 ghost use Rattle.disk_model.specs.Files.{IsFormed};
 ghost use Rattle.disk_model.specs.Spelling.{spelling, body_of as body};
 
@@ -27,7 +28,7 @@ fn push_place(out: &mut Vec<u8>, kind: u8, file: u16) -> Result<(), AllocError>
 
 /// Appends an offset, and bytes after their length.
 fn push_bytes(out: &mut Vec<u8>, offset: u32, bytes: &[u8]) -> Result<(), AllocError>
-    requires { length bytes.now ≤ 1024 }
+    requires { length bytes.now ≤ longest_file_write }
     ensures { OnOk result (out.new.items
         ≡ out.old.items ++ to_le_bytes w32 offset ++ to_le_bytes w16 (length bytes.now) ++ bytes.now) }
 {

@@ -13,7 +13,7 @@ mod standing;
 
 pub use answer::{Answer, Outcome, Refused};
 pub use carrier::Carrier;
-pub use counts::{MOST_PROGRAMS, TAPES, TERMINALS};
+pub use counts::{MOST_BYTES, MOST_PROGRAMS, TAPES, TERMINALS};
 pub use descriptor::{Descriptor, PipeEnd};
 pub use effect::{FileEdit, Output, PipeStep, Slot, TapeRead};
 pub use event::Event;

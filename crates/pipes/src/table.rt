@@ -30,13 +30,14 @@ impl Drop for PipeTable {
 
 impl Model for PipeTable {
     ghost use Rattle.std.specs.Prelude.{◌≤◌, List, vec_len, vec_capacity};
+    ghost use Rattle.kernel_model.specs.Rows.{most_pipes};
     ghost use Rattle.pipes.specs.Seen.{Seen};
 
     ghost Value = { List Seen };
 
     ghost view = { λ t. t.pipes.items };
 
-    ghost invariant = { λ t. (vec_len t.pipes ≤ 1024) × (1024 ≤ vec_capacity t.pipes) };
+    ghost invariant = { λ t. (vec_len t.pipes ≤ most_pipes) × (most_pipes ≤ vec_capacity t.pipes) };
 }
 
 impl PipeTable {

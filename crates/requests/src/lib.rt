@@ -6,15 +6,15 @@ ghost use Rattle.kernel_model.specs.Requests.{read_bytes, may_be_placed, longest
 ghost use Rattle.kernel_model.specs.Wholes.{AreWhole, IsWhole, HoldsNone};
 
 use byte_list::Bytes;
-use disk_model::{LONGEST_FILE_WRITE, LONGEST_NAME};
+use disk_model::LONGEST_NAME;
 use formats::Reg;
-use kernel_model::Request;
+use kernel_model::{MOST_BYTES, Request};
 use machine::Machine;
 use memory::CopyFault;
 use std::alloc::{AllocError, Global};
 
 /// The most bytes of two names.
-const LONGEST_NAMES: u32 = 64;
+const LONGEST_NAMES: u32 = 2 * LONGEST_NAME;
 
 /// The bytes of two words, as which a pipe's descriptors are written.
 const PAIR_SIZE: u32 = 8;
@@ -67,7 +67,7 @@ fn named_pair(
 fn may_be_placed(machine: &Machine, at: u32, n: u32) -> bool
     ensures { result ≡ may_be_placed machine.now.hart.memory most_bytes at n }
 {
-    n <= LONGEST_FILE_WRITE && machine.space().writable(at, n)
+    n <= MOST_BYTES && machine.space().writable(at, n)
 }
 
 /// Whether a wait asks for no status, by the address 0, or the process may write one at the address.
@@ -92,7 +92,7 @@ pub fn request_of(alloc: Global, machine: &Machine) -> Result<Request, AllocErro
         2 => Ok(Request::Write {
             fd: a0,
             n: a2,
-            bytes: named_bytes(alloc, machine, a1, a2, LONGEST_FILE_WRITE)?,
+            bytes: named_bytes(alloc, machine, a1, a2, MOST_BYTES)?,
         }),
         3 => Ok(Request::Read {
             fd: a0,
