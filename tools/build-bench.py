@@ -1,11 +1,13 @@
 #!/usr/bin/env python3
-"""Proves the crates below the program `bench`, as many side by side as there are processors, and then builds the program.
+"""Proves the crates below the program `bench`, as many side by side as there are processors, builds the program, and becomes it,
+with the words given.
 
 `rt lib` proves a crate, and meanwhile no other `rt` may work on a crate below it. So each lane has a copy of the sources, in a
 folder for the time of this run, with links to what is proved. What a lane has proved is linked into `crates/NAME/out` of the
 repository as soon as it is done: a run that is interrupted loses nothing but the functions that were just being proved.
 
 BENCH_JOBS says how many processors are used: all of them if it is not set, or fewer where memory is short."""
+import fcntl
 import os
 import shutil
 import signal
@@ -20,6 +22,12 @@ PROGRAM = "bench"
 SOURCES = ("src", "specs", "proofs")
 # The memory that a check takes, in bytes, as most do.
 CHECK_TAKES = 3_000_000_000
+INTERRUPTS = (signal.SIGINT, signal.SIGTERM, signal.SIGHUP)
+LANES = "bench-lanes-"
+
+
+class Failed(Exception):
+    """Why the program could not be built."""
 
 
 def crates_below():
@@ -45,23 +53,36 @@ def crates_below():
 
 def lanes_that_fit():
     """Returns how many checks may run side by side."""
-    if os.environ.get("BENCH_JOBS"):
-        return max(int(os.environ["BENCH_JOBS"]), 1)
-    with open("/proc/meminfo", encoding="ascii") as file:
-        available = next((int(it.split()[1]) * 1024 for it in file if it.startswith("MemAvailable:")), CHECK_TAKES)
-    return max(min(len(os.sched_getaffinity(0)), available // CHECK_TAKES), 1)
+    asked = os.environ.get("BENCH_JOBS")
+    if asked:
+        if not asked.isdigit() or int(asked) < 1:
+            raise Failed(f"BENCH_JOBS is a number from 1 on, and no {asked}")
+        return int(asked)
+    try:
+        with open("/proc/meminfo", encoding="ascii") as file:
+            available = next(int(it.split()[1]) * 1024 for it in file if it.startswith("MemAvailable:"))
+    except (OSError, StopIteration):
+        available = CHECK_TAKES * 2
+    return max(min(os.cpu_count() or 1, available // CHECK_TAKES), 1)
 
 
 def files_of(name):
-    """Returns the files that the proof of a crate reads."""
+    """Returns the folders and files that the proof of a crate reads."""
     for kind in SOURCES:
         for at, _, files in os.walk(f"{TOP}/crates/{name}/{kind}"):
+            yield at
             yield from (f"{at}/{it}" for it in files)
 
 
 def mark_of(name):
     """Returns the file that is as old as the start of the build that proved a crate."""
     return f"{TOP}/crates/{name}/out/proved"
+
+
+def touch(path, when):
+    """Makes an empty file that is as old as this moment."""
+    with open(path, "w", encoding="ascii"):
+        os.utime(path, (when, when))
 
 
 def time_of(path):
@@ -72,7 +93,8 @@ def link(at, to):
     """Has the folder `to` hold what the folder `at` holds, by links where the file system has them."""
     if not os.path.isdir(at):
         return
-    shutil.rmtree(to, ignore_errors=True)
+    beside = f"{to}.new"
+    shutil.rmtree(beside, ignore_errors=True)
 
     def place(one, other):
         try:
@@ -80,13 +102,16 @@ def link(at, to):
         except OSError:
             shutil.copy2(one, other)
 
-    shutil.copytree(at, to, copy_function=place)
+    os.makedirs(os.path.dirname(to), exist_ok=True)
+    shutil.copytree(at, beside, copy_function=place)
+    shutil.rmtree(to, ignore_errors=True)
+    os.rename(beside, to)
 
 
 def lines_of(name):
     """Returns how many lines the crate's files have, by which the time of its proof is guessed."""
     count = 0
-    for path in files_of(name):
+    for path in filter(os.path.isfile, files_of(name)):
         with open(path, "rb") as file:
             count += file.read().count(b"\n")
     return count
@@ -98,7 +123,7 @@ class Build:
         self.names = [it for it in self.below if it != PROGRAM]
         self.room, self.began, self.start = room, time.monotonic(), time.time()
         self.proved = self.already_proved()
-        self.count, self.lanes = len(self.proved), lanes_that_fit()
+        self.count, self.lanes = len(self.proved), min(lanes_that_fit(), len(self.names))
         self.begun, self.running = set(self.proved), {}
         self.failed = None
         self.changed = threading.Condition()
@@ -155,6 +180,21 @@ class Build:
                     return name, max(self.lanes // min(busy + len(ready) - 1, self.lanes), 1)
                 self.changed.wait()
 
+    def call(self, folder, *words):
+        """Runs `rt` in a folder, and returns what it printed where it failed. Nothing is begun once the build has failed."""
+        with self.changed:
+            if self.failed:
+                return self.failed
+            run = subprocess.Popen(
+                ["rt", *words], cwd=folder, stdin=subprocess.DEVNULL, stdout=subprocess.PIPE, stderr=subprocess.STDOUT,
+                text=True, errors="replace", start_new_session=True,
+            )
+            self.running[folder] = run
+        said = run.communicate()[0]
+        with self.changed:
+            del self.running[folder]
+        return None if run.returncode == 0 else said
+
     def prove(self, lane, name, jobs):
         """Proves one crate in a lane, and returns what `rt` printed where it failed."""
         for it in self.all_below(name):
@@ -162,88 +202,122 @@ class Build:
                 link(f"{TOP}/crates/{it}/out/rlib", f"{lane}/crates/{it}/out/rlib")
         here, there = f"{lane}/crates/{name}", f"{TOP}/crates/{name}"
         link(f"{there}/out", f"{here}/out")
-        run = subprocess.Popen(
-            ["rt", "lib", "--jobs", str(jobs)],
-            cwd=here, stdin=subprocess.DEVNULL, stdout=subprocess.PIPE, stderr=subprocess.STDOUT, text=True, errors="replace",
-            start_new_session=True,
-        )
-        self.running[name] = run
-        said = run.communicate()[0]
-        del self.running[name]
+        failed = self.call(here, "lib", "--jobs", str(jobs))
         link(f"{here}/out", f"{there}/out")
-        if run.returncode:
-            return said
-        with open(mark_of(name), "w", encoding="ascii"):
-            os.utime(mark_of(name), (self.start, self.start))
-        return None
+        if failed is None:
+            touch(mark_of(name), self.start)
+        return failed
 
     def work(self, number):
-        lane = self.make_lane(number)
-        while True:
-            name, jobs = self.next_crate()
-            if name is None:
-                return
-            said = self.prove(lane, name, jobs)
-            with self.changed:
-                if said is None:
-                    self.proved.add(name)
-                else:
-                    self.failed = self.failed or said
-                self.changed.notify_all()
+        try:
+            lane = self.make_lane(number)
+            while True:
+                name, jobs = self.next_crate()
+                if name is None:
+                    return
+                failed = self.prove(lane, name, jobs)
+                if failed is not None:
+                    self.stop(failed)
+                with self.changed:
+                    self.proved |= {name} if failed is None else set()
+                    self.changed.notify_all()
+        except OSError as error:
+            self.stop(str(error))
 
-    def stop(self):
+    def stop(self, why):
         """Ends what runs, and begins nothing more."""
         with self.changed:
-            self.failed = self.failed or "interrupted"
+            self.failed = self.failed or why
             self.changed.notify_all()
-        for run in list(self.running.values()):
-            try:
-                os.killpg(run.pid, signal.SIGTERM)
-            except ProcessLookupError:
-                pass
+            for run in self.running.values():
+                try:
+                    os.killpg(run.pid, signal.SIGTERM)
+                except ProcessLookupError:
+                    pass
 
-    def run(self):
-        """Proves all crates and builds the program. Returns what `rt` printed where it failed."""
+    def prove_all(self):
         lanes = [threading.Thread(target=self.work, args=(it,)) for it in range(self.lanes)]
-        for it in lanes:
-            it.start()
         try:
             for it in lanes:
-                it.join()
-        except KeyboardInterrupt:
-            self.stop()
+                it.start()
             for it in lanes:
                 it.join()
-            raise
-        if self.failed:
-            return self.failed
+        finally:
+            # After an interrupt, a lane still links what it has.
+            self.stop("interrupted")
+            for it in lanes:
+                if it.ident is not None:
+                    it.join()
+
+    def run(self):
+        """Proves all crates and builds the program."""
+        if len(self.proved) < len(self.names):
+            self.prove_all()
+        if len(self.proved) < len(self.names):
+            raise Failed(self.failed)
+        self.failed = None
         self.say("building the program,", PROGRAM)
-        ran = subprocess.run(
-            ["rt", "run", "--", "--help"], cwd=f"{TOP}/crates/{PROGRAM}", stdin=subprocess.DEVNULL,
-            stdout=subprocess.PIPE, stderr=subprocess.STDOUT, text=True, errors="replace", check=False,
-        )
-        return None if ran.returncode == 0 else ran.stdout
+        try:
+            failed = self.call(f"{TOP}/crates/{PROGRAM}", "run", "--", "--help")
+        except KeyboardInterrupt:
+            self.stop("interrupted")
+            raise
+        if failed is not None:
+            raise Failed(failed)
 
 
 def interrupt(*_):
+    # A second one would cut off what the first one tidies up.
+    for it in INTERRUPTS:
+        signal.signal(it, signal.SIG_IGN)
     raise KeyboardInterrupt
 
 
+def make_room():
+    """Makes the folder of the lanes, on the file system of the repository, so that links can be made."""
+    out = f"{TOP}/crates/{PROGRAM}/out"
+    os.makedirs(out, exist_ok=True)
+    for name in os.listdir(out):
+        if name.startswith(LANES):
+            shutil.rmtree(f"{out}/{name}", ignore_errors=True)
+    is_near = os.stat(tempfile.gettempdir()).st_dev == os.stat(TOP).st_dev
+    return tempfile.mkdtemp(prefix=LANES, dir=None if is_near else out)
+
+
+def build():
+    """Builds the program, while no other run of this script works in the repository."""
+    if not shutil.which("rt"):
+        raise Failed("the toolchain's command rt is not on the path")
+    with open(f"{TOP}/crates.txt", encoding="utf-8") as lock:
+        try:
+            fcntl.flock(lock, fcntl.LOCK_EX | fcntl.LOCK_NB)
+        except BlockingIOError:
+            print("bench: waiting for another build in this folder", file=sys.stderr)
+            fcntl.flock(lock, fcntl.LOCK_EX)
+        room, start = make_room(), time.time()
+        try:
+            Build(room).run()
+        finally:
+            shutil.rmtree(room, ignore_errors=True)
+        touch(f"{TOP}/crates/{PROGRAM}/out/built", start)
+
+
 def main():
-    for it in (signal.SIGTERM, signal.SIGHUP):
-        signal.signal(it, interrupt)
-    room = tempfile.mkdtemp(prefix="bench-lanes-")
+    for it in INTERRUPTS:
+        if signal.getsignal(it) != signal.SIG_IGN:
+            signal.signal(it, interrupt)
     try:
-        said = Build(room).run()
+        build()
     except KeyboardInterrupt:
         print("bench: interrupted; what is proved is kept", file=sys.stderr)
         return 130
-    finally:
-        shutil.rmtree(room, ignore_errors=True)
-    if said is not None:
-        print("bench: the program could not be built; the log's end:", *said.splitlines()[-20:], sep="\n", file=sys.stderr)
+    except (Failed, OSError) as why:
+        print("bench: the program could not be built; the log's end:", *str(why).splitlines()[-20:], sep="\n", file=sys.stderr)
         return 1
-    return 0
+    # Python ignores it, and the program would too.
+    signal.signal(signal.SIGPIPE, signal.SIG_DFL)
+    program = f"{TOP}/crates/{PROGRAM}/out/{PROGRAM}"
+    os.execv(program, [program, *sys.argv[1:]])
 
 
 if __name__ == "__main__":
