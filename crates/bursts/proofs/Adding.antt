@@ -2,11 +2,11 @@
 use Rattle.std.proofs.Common.{◌≡◌, ◌+◌, ◌∙◌, refl, sym, ap, subst, List, [], ◌∷◌, ◌++◌, length, Bool, true, false, is_some, Some, None, arith}
 use Rattle.std.proofs.lemmas.Bool.{false≢true}
 use Rattle.std.specs.Prelude.{if◌then◌else◌}
-use Rattle.std.proofs.lemmas.List.{length-append, append_assoc, append-nil}
+use Rattle.std.proofs.lemmas.List.{length-append}
 use Rattle.std.proofs.lemmas.List.Sums.{sum_by-append}
 use Rattle.kernel_model.proofs.Runs.{history-with_events}
 use Rattle.machine_model.specs.States.{stands_at}
-use Rattle.kernel_model.specs.Answers.{Kernel, answer, with_event, with_events}
+use Rattle.kernel_model.specs.Answers.{Kernel, answer, with_event}
 use Rattle.kernel_model.specs.Loans.{LoanResult, returned, events_of, settled, settled_answer, outcome_after}
 use Rattle.kernel_model.specs.Ran.{ran_by_turns, ran_in}
 use Rattle.kernel_model.specs.declared.answer.Answer.{Answer}

@@ -1,9 +1,6 @@
 -- What the code plans for a call, against the table of calls, and what a kernel may rest on in a plan.
 use Rattle.std.specs.Prelude.{◌≡◌, ℕ, ◌+◌, ◌<◌, ◌≤◌, ◌⊎◌, true, List, [], ◌∷◌, length, drop, slice_get, Option, Some, None, IfSome}
 use Rattle.std.specs.List.{AllByRecursion}
-use Rattle.disk_model.specs.declared.change.Change.{Change}
-use Rattle.disk_model.specs.declared.change.NamedFile.{NamedFile}
-use Rattle.disk_model.specs.Files.{IsFormed, MayCome}
 use Rattle.disk_model.specs.Numbers.{Numbered}
 use Rattle.machine_model.specs.Access.{is_writable}
 use Rattle.machine_model.specs.Memory.{Memory}

@@ -1,6 +1,6 @@
 -- Places of a program with its trace, by their counts.
 use Rattle.std.proofs.Common.{◌≡◌, ℕ, suc, zero, ◌+◌, ◌*◌, ◌<◌, ◌≤◌, List, [], ◌∷◌, ◌++◌, length, drop, Some, None, refl, sym, ap, subst, ◌∙◌, arith, inl, inr}
-use Rattle.std.specs.Prelude.{◌⊎◌, Option, slice_get}
+use Rattle.std.specs.Prelude.{Option}
 use Rattle.std.proofs.lemmas.Option.{same_Some, none-some}
 use Rattle.machine_model.proofs.Lists.{slice_get-push}
 use Rattle.slab.specs.Slab.{Slab}

@@ -2,11 +2,11 @@
 use Rattle.std.proofs.Common.{◌≡◌, ℕ, ◌+◌, ◌*◌, ◌≤◌, Bool, true, false, List, [], ◌∷◌, ◌++◌, length, is_some, Option, Some, None, Result, Ok, Err, refl, sym, ap, subst, ◌∙◌, arith}
 use Rattle.std.specs.Prelude.{◌^◌, if◌then◌else◌, map, fold, cond, count_by, IfOk, OnOk, OnErr}
 use Rattle.std.specs.List.{AllByRecursion}
-use Rattle.std.proofs.lemmas.List.{length-append, append_assoc, append-nil}
+use Rattle.std.proofs.lemmas.List.{length-append}
 use Rattle.std.proofs.lemmas.List.Sums.{sum_by-append}
 use Rattle.disk_model.proofs.Lists.{each_append}
 use Rattle.machine_model.specs.States.{stands_at}
-use Rattle.kernel_model.specs.Answers.{Kernel, Lending, Applies, AllAccepted, now, committed, changes, with_event, with_events}
+use Rattle.kernel_model.specs.Answers.{Kernel, Lending, Applies, AllAccepted, now, committed, changes}
 use Rattle.kernel_model.specs.Loans.{LoanOut, LoanResult, Lends, returned, events_of}
 use Rattle.kernel_model.specs.Ran.{ran_by_turns, ran_in}
 use Rattle.kernel_model.proofs.Runs.{ran-with_event, history-with_events}

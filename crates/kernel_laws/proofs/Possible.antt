@@ -4,7 +4,7 @@ use Rattle.std.specs.Prelude.{if◌then◌else◌, option_map}
 use Rattle.std.specs.Int.{w32, to_le_bytes}
 use Rattle.std.specs.List.{AllByRecursion}
 use Rattle.std.proofs.lemmas.List.{length-drop, length-map}
-use Rattle.disk_model.specs.Files.{IsFormed, MayCome, FileHoldsBytes, FilesHoldBytes, IsPossible}
+use Rattle.disk_model.specs.Files.{FileHoldsBytes, FilesHoldBytes, IsPossible}
 use Rattle.disk_model.specs.Limits.{most_files}
 use Rattle.disk_model.specs.Numbers.{Numbered, place_of}
 use Rattle.disk_model.specs.declared.change.Change.{Change}
