@@ -1,12 +1,10 @@
 //! The core that many workers share, with its board and its books.
-ghost use Rattle.std.specs.Prelude.{◌≡◌, ◌≢◌, ◌+◌, ◌≤◌, true, IfOk, IfErr, OnOk, OnErr};
+ghost use Rattle.std.specs.Prelude.{◌≡◌, ◌≤◌, true};
 ghost use Rattle.crossbeam_utils.specs.Seq.{cell_view};
-ghost use Rattle.kernel_model.specs.Answers.{now, committed as committed_in, changes as changes_in, Applies, AllAccepted};
-ghost use Rattle.kernel_model.specs.Ran.{ran_by_turns};
-ghost use Rattle.kernel_model.specs.Loans.{Lends, IsOfLoan, is_over, returned, events_of, settled, settled_answer};
-ghost use Rattle.kernel_model.specs.declared.answer.Refused.TheVariants.{Stranger, OutOfMemory};
+ghost use Rattle.kernel_model.specs.Answers.{now, committed as committed_in, changes as changes_in, Applies};
+ghost use Rattle.kernel_model.specs.Loans.{Lends, is_over};
 ghost use Rattle.kernel_model.specs.declared.event.Event.{Event};
-ghost use Rattle.kernel_step.specs.Loaned.{lent_out, loan_result};
+ghost use Rattle.kernel_step.specs.Loaned.{lent_out, Settles};
 ghost use Rattle.bursts.specs.Pairs.{publisher, pair_of};
 ghost use Rattle.bursts.specs.Totals.{none, history_totals, settled_totals, one_event as one_event_more, is_of_disk};
 ghost use Rattle.bursts.specs.Holdings.{parts_in, sum_of, GrowsBySettle, GrowsByOne};
@@ -104,15 +102,7 @@ impl<'a, N: Naming> Bench<'a, N> {
         done: Done,
         share: &mut Share<N>,
     ) -> Result<Answer, Rejected>
-        ensures own { OnOk result (IsOfLoan self.old (loan_result done)) }
-        ensures fine { OnOk result (AllAccepted (returned self.old done.pid) (events_of (loan_result done))) }
-        ensures events { OnOk result (self.new ≡ settled self.old (loan_result done)) }
-        ensures answer { IfOk result (λ a. a ≡ settled_answer self.old (loan_result done)) }
-        ensures ran { OnOk result (ran_by_turns self.new ≡ ran_by_turns self.old + done.count) }
-        ensures stranger { IfErr result (λ r. r.why ≡ Stranger → ¬ (IsOfLoan self.old (loan_result done))) }
-        ensures own_only { IfErr result (λ r. r.why ≢ Stranger → (r.why ≡ OutOfMemory) × IsOfLoan self.old (loan_result done)) }
-        ensures back { IfErr result (λ r. r.done ≡ done) }
-        ensures err { OnErr result (self.new ≡ self.old) }
+        ensures settles { Settles self.old done self.new result }
         ensures share { GrowsBySettle done.pid share.old share.new result }
     {
         counts_never_fall();

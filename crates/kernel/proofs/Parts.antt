@@ -17,7 +17,7 @@ use Rattle.kernel_model.specs.declared.answer.Refused.{Refused}
 use Rattle.kernel_model.specs.declared.event.Event.{Event}
 use Rattle.kernel_model.specs.declared.event.Event.TheVariants.{Turn, Enter}
 use Rattle.kernel_step.specs.Loaned.{loan_result}
-use Rattle.kernel_step.specs.Stands.{Stands, Steps, Settles, kernel_in}
+use Rattle.kernel_step.specs.Stands.{Stands, Steps, TakesBack, kernel_in}
 use Rattle.kernel_step.specs.Tasks.{lending_of, out_of, count_out}
 use Rattle.kernel_step.specs.declared.loan.Done.{Done}
 use Rattle.kernel_step.specs.declared.loan.Rejected.{Rejected}
@@ -101,18 +101,18 @@ settled-few k r few fine = by (is_some (stands_at r.reached.state))
 
 -- a loan's result is taken back, or not
 pub settled-core : (b : Boot) (old new : Running) (sums later : Sums) (done : Done) (result : Result Answer Rejected) → IsCore b old sums
-    → Settles b done old new result → OnOk result (later.turns ≡ sums.turns + done.pid)
+    → TakesBack b done old new result → OnOk result (later.turns ≡ sums.turns + done.pid)
     → IfOk result (λ a. later.enters ≡ sums.enters + (if tells_enter a then done.pid else 0)) → OnErr result (later ≡ sums) → IsCore b new later
 settled-core b old new sums later done (Ok a) h s turns enters same =
     let r : LoanResult = loan_result done in
     let k : Kernel = returned (kernel_in b old) done.pid in
-    let grown : new.history.items ≡ old.history.items ++ events_of r = ap (λ (k : Kernel). k.history) s.events ∙ history-with_events k (events_of r) in
-    grown-core b old new sums later k.lendings k.last_lent (events_of r) h s.stands s.fine grown
+    let grown : new.history.items ≡ old.history.items ++ events_of r = ap (λ (k : Kernel). k.history) s.settles.events ∙ history-with_events k (events_of r) in
+    grown-core b old new sums later k.lendings k.last_lent (events_of r) h s.stands s.settles.fine grown
     (turns ∙ ap (λ n. sums.turns + n) (sym (turns-of r)))
-    (enters ∙ ap (λ (a : Answer). sums.enters + (if tells_enter a then done.pid else 0)) s.answer ∙ ap (λ n. sums.enters + n) (sym (enters-of (kernel_in b old) r)))
-    (settled-numbers k r h.stands.counted.few s.fine) (settled-few k r h.stands.counted.few s.fine)
+    (enters ∙ ap (λ (a : Answer). sums.enters + (if tells_enter a then done.pid else 0)) s.settles.answer ∙ ap (λ n. sums.enters + n) (sym (enters-of (kernel_in b old) r)))
+    (settled-numbers k r h.stands.counted.few s.settles.fine) (settled-few k r h.stands.counted.few s.settles.fine)
 settled-core b old new sums later done (Err r) h s turns enters same =
-    still-core b old new later (subst (λ (z : Sums). IsCore b old z) (sym same) h) s.stands (ap (λ (k : Kernel). k.history) s.err)
+    still-core b old new later (subst (λ (z : Sums). IsCore b old z) (sym same) h) s.stands (ap (λ (k : Kernel). k.history) s.settles.err)
 
 -- a loan joins no history
 pub lent-core : (b : Boot) (old new : Running) (sums : Sums) (quantum : ℕ) (result : Result (Option LoanOut) Refused) → IsCore b old sums → Stands b new
@@ -149,8 +149,3 @@ pub applied-ran : (old new : Kernel) (e : Event) (result : Result Answer Refused
     → IfOk result (λ a. ran_by_turns new ≡ ran_by_turns old + ran_in a)
 applied-ran old new e (Ok a) h = ap ran_by_turns h.2 ∙ ran-with_event old e ∙ ap (λ (x : Answer). ran_by_turns old + ran_in x) (sym h.1)
 applied-ran old new e (Err why) h = tt
-
-pub settled-ran : (b : Boot) (old new : Running) (done : Done) (result : Result Answer Rejected) → Stands b old → Settles b done old new result
-    → OnOk result (ran_by_turns (kernel_in b new) ≡ ran_by_turns (kernel_in b old) + done.count)
-settled-ran b old new done (Ok a) h s = sym s.stands.counted.turns ∙ s.ran ∙ ap (λ n. n + done.count) h.counted.turns
-settled-ran b old new done (Err r) h s = tt

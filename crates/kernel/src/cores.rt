@@ -1,11 +1,10 @@
 //! The core, and its events.
-ghost use Rattle.std.specs.Prelude.{◌≡◌, ◌≢◌, ◌+◌, IfOk, IfErr, OnOk, OnErr};
-ghost use Rattle.kernel_model.specs.Answers.{Applies, AllAccepted};
+ghost use Rattle.std.specs.Prelude.{◌≡◌, ◌+◌, IfOk};
+ghost use Rattle.kernel_model.specs.Answers.{Applies};
 ghost use Rattle.kernel_model.specs.Ran.{ran_by_turns, ran_in};
-ghost use Rattle.kernel_model.specs.Loans.{Lends, IsOfLoan, returned, events_of, settled, settled_answer};
-ghost use Rattle.kernel_model.specs.declared.answer.Refused.TheVariants.{Stranger, OutOfMemory};
+ghost use Rattle.kernel_model.specs.Loans.{Lends};
 ghost use Rattle.kernel_model.specs.World.{Boot};
-ghost use Rattle.kernel_step.specs.Loaned.{lent_out, loan_result};
+ghost use Rattle.kernel_step.specs.Loaned.{lent_out, Settles};
 ghost use Rattle.kernel_step.specs.Stands.{Stands, kernel_in};
 
 use crate::sums::Sums;
@@ -114,15 +113,7 @@ impl Core {
     /// a trap, an Enter. Refused, with the result: Stranger, exactly where it is not of the loan that its process is out
     /// on (the process is not lent, or the number, the quantum or the state from which it began differs); OutOfMemory.
     pub fn settle(&mut self, done: Done) -> Result<Answer, Rejected>
-        ensures own { OnOk result (IsOfLoan self.old (loan_result done)) }
-        ensures fine { OnOk result (AllAccepted (returned self.old done.pid) (events_of (loan_result done))) }
-        ensures events { OnOk result (self.new ≡ settled self.old (loan_result done)) }
-        ensures answer { IfOk result (λ a. a ≡ settled_answer self.old (loan_result done)) }
-        ensures ran { OnOk result (ran_by_turns self.new ≡ ran_by_turns self.old + done.count) }
-        ensures stranger { IfErr result (λ r. r.why ≡ Stranger → ¬ (IsOfLoan self.old (loan_result done))) }
-        ensures own_only { IfErr result (λ r. r.why ≢ Stranger → (r.why ≡ OutOfMemory) × IsOfLoan self.old (loan_result done)) }
-        ensures back { IfErr result (λ r. r.done ≡ done) }
-        ensures err { OnErr result (self.new ≡ self.old) }
+        ensures { Settles self.old done self.new result }
     {
         let pid = done.pid;
         let result = self.running.settle(done);

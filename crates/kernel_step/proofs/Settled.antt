@@ -1,17 +1,17 @@
 -- A loan's result, taken back or not.
-use Rattle.std.proofs.Common.{◌≡◌, ◌∙◌, ℕ, ◌+◌, List, Some, None, Result, Ok, Err, sym, ap, subst, slice_get}
+use Rattle.std.proofs.Common.{◌≡◌, ◌∙◌, ℕ, ◌+◌, List, Some, None, Result, Ok, Err, refl, sym, ap, subst, slice_get}
 use Rattle.std.specs.Prelude.{IfOk, IfErr, OnErr}
 use Rattle.machine_model.specs.States.{stands_at}
 use Rattle.machine_model.specs.declared.stop.Stop.{Stop}
 use Rattle.kernel_model.specs.Loans.{IsOfLoan}
 use Rattle.kernel_model.specs.World.{Boot}
 use Rattle.kernel_model.specs.declared.answer.Answer.{Answer}
-use Rattle.kernel_model.specs.declared.answer.Refused.TheVariants.{OutOfMemory}
+use Rattle.kernel_model.specs.declared.answer.Refused.TheVariants.{Stranger, OutOfMemory}
 use Rattle.kernel_model.specs.declared.event.Event.{Event}
 use Rattle.kernel_step.specs.Counted.{IsCounted}
 use Rattle.kernel_step.specs.Loaned.{loan_result}
 use Rattle.kernel_step.specs.Settling.{IsLoanOf, IsTurnSettled, IsCallSettled, IsNotSettled, LackedMemory}
-use Rattle.kernel_step.specs.Stands.{kernel_of, kernel_in, KeepsRun, Stands, Settles}
+use Rattle.kernel_step.specs.Stands.{kernel_of, kernel_in, KeepsRun, Stands, TakesBack}
 use Rattle.kernel_step.specs.declared.loan.Done.{Done}
 use Rattle.kernel_step.specs.declared.loan.Rejected.{Rejected}
 use Rattle.kernel_step.specs.declared.running.Running.{Running}
@@ -34,31 +34,34 @@ IsTakenTo b d place old new a t u tasks = IsTaken b old.history.items new.histor
 settles : (b : Boot) (old new : Running) (place : ℕ) (t : Task) (d : Done) (r : Result Answer Rejected) → Stands b old
     → d.pid ≡ place + 1 → slice_get old.tasks.items place ≡ Some t → IsLoanOf t d
     → IfOk r (λ a. IsTakenAndCounted b d place old new a) → OnErr r (IsNotSettled place old new) → IfErr r (λ e. LackedMemory d e)
-    → Settles b d old new r
+    → TakesBack b d old new r
 settles b old new place t d (Ok a) h number there of done same back =
     let history : List Event = old.history.items in
     let later : List Event = new.history.items in
     let tasks : List Task = old.tasks.items in
     let after : List Task = new.tasks.items in
     let all = done.taken in
-    record {
-      stands = record {
-        parts = taken-core b history later tasks after old.system new.system old.last_lent place all.task all.after d a h.parts all.there all.of all.taken;
-        counted =
-            counted-settle b history later tasks after old.system new.system old.last_lent place old.ran new.ran t d (Ok a) h.parts number there of h.counted
-            all tt done.ran tt;
+    let stands : Stands b new = record {
+      parts = taken-core b history later tasks after old.system new.system old.last_lent place all.task all.after d a h.parts all.there all.of all.taken;
+      counted =
+          counted-settle b history later tasks after old.system new.system old.last_lent place old.ran new.ran t d (Ok a) h.parts number there of h.counted
+          all tt done.ran tt;
+    }
+    in record {
+      stands = stands;
+      settles = record {
+        own = own-loan b history tasks old.system old.last_lent place t d h.parts number there of;
+        fine = events-accepted b history tasks old.system old.last_lent place t d h.parts number there of;
+        events =
+            ap (λ last. kernel_of b later after last) done.last_lent
+            ∙ taken-events b history later tasks after new.system old.last_lent place all.task all.after d a number all.there all.taken;
+        answer = all.taken.answer;
+        ran = sym stands.counted.turns ∙ done.ran ∙ ap (λ n. n + d.count) h.counted.turns;
+        stranger = tt;
+        own_only = tt;
+        back = tt;
+        err = tt;
       };
-      own = own-loan b history tasks old.system old.last_lent place t d h.parts number there of;
-      fine = events-accepted b history tasks old.system old.last_lent place t d h.parts number there of;
-      events =
-          ap (λ last. kernel_of b later after last) done.last_lent
-          ∙ taken-events b history later tasks after new.system old.last_lent place all.task all.after d a number all.there all.taken;
-      answer = all.taken.answer;
-      ran = done.ran;
-      stranger = tt;
-      own_only = tt;
-      back = tt;
-      err = tt;
     }
 settles b old new place t d (Err e) h number there of done same back =
     let history : List Event = old.history.items in
@@ -75,25 +78,45 @@ settles b old new place t d (Err e) h number there of done same back =
             subst (λ (xs : List Event). IsCounted b xs new.ran) (sym same.history)
             (subst (λ (n : ℕ). IsCounted b history n) (sym same.ran) h.counted);
       };
-      own = tt;
-      fine = tt;
-      events = tt;
-      answer = tt;
-      ran = tt;
-      stranger = λ why of_loan. let cause : e.why ≡ OutOfMemory = back.cause in cc;
-      own_only = λ other. (back.cause, own);
-      back = back.back;
-      err =
-          ap (λ last. kernel_of b later after last) same.last_lent
-          ∙ ap (λ (ts : List Task). kernel_of b later ts old.last_lent) same.tasks
-          ∙ kept-kernel b history later tasks old.last_lent place same.task same.after same.there same.history same.same;
+      settles = record {
+        own = tt;
+        fine = tt;
+        events = tt;
+        answer = tt;
+        ran = tt;
+        stranger = λ why of_loan. let cause : e.why ≡ OutOfMemory = back.cause in cc;
+        own_only = λ other. (back.cause, own);
+        back = back.back;
+        err =
+            ap (λ last. kernel_of b later after last) same.last_lent
+            ∙ ap (λ (ts : List Task). kernel_of b later ts old.last_lent) same.tasks
+            ∙ kept-kernel b history later tasks old.last_lent place same.task same.after same.there same.history same.same;
+      };
     }
+
+-- a result that is of no loan
+pub stranger-back : (b : Boot) (r : Running) (d : Done) → Stands b r → ¬ (IsOfLoan (kernel_in b r) (loan_result d))
+    → TakesBack b d r r (Err (record { why = Stranger; done = d }))
+stranger-back b r d h other = record {
+  stands = h;
+  settles = record {
+    own = tt;
+    fine = tt;
+    events = tt;
+    answer = tt;
+    ran = tt;
+    stranger = λ why. other;
+    own_only = λ cause. absurd (cause refl);
+    back = refl;
+    err = refl;
+  };
+}
 
 -- a result whose machine stands nowhere
 pub turn-settles : (b : Boot) (old new : Running) (place : ℕ) (t : Task) (d : Done) (r : Result Answer Rejected) → Stands b old
     → d.pid ≡ place + 1 → slice_get old.tasks.items place ≡ Some t → IsLoanOf t d → stands_at d.machine ≡ None
     → IfOk r (λ a. IsTurnSettled d place old new a) → OnErr r (IsNotSettled place old new) → IfErr r (λ e. LackedMemory d e)
-    → Settles b d old new r
+    → TakesBack b d old new r
 turn-settles b old new place t d (Ok a) h number there of stands done same back =
     let own : IsLoanOf done.task d = subst (λ (x : Task). IsLoanOf x d) (get-one old.tasks.items place t done.task there done.there) of in
     settles b old new place t d (Ok a) h number there of (record {
@@ -116,7 +139,7 @@ turn-settles b old new place t d (Err e) h number there of stands done same back
 pub call-settles : EnterLaws → (b : Boot) (old new : Running) (place : ℕ) (t : Task) (d : Done) (at : Stop) (r : Result Answer Rejected) → Stands b old
     → d.pid ≡ place + 1 → slice_get old.tasks.items place ≡ Some t → IsLoanOf t d → stands_at d.machine ≡ Some at
     → IfOk r (λ a. IsCallSettled d place old new a) → OnErr r (IsNotSettled place old new) → IfErr r (λ e. LackedMemory d e)
-    → Settles b d old new r
+    → TakesBack b d old new r
 call-settles laws b old new place t d at (Ok a) h number there of stands done same back =
     let own : IsLoanOf done.task d = subst (λ (x : Task). IsLoanOf x d) (get-one old.tasks.items place t done.task there done.there) of in
     settles b old new place t d (Ok a) h number there of (record {

@@ -1,10 +1,15 @@
 -- What loans and their results stand for.
-use Rattle.std.specs.Prelude.{Option, Result, Ok, Err, option_map}
+use Rattle.std.specs.Prelude.{◌+◌, ◌≡◌, ◌≢◌, Option, Result, Ok, Err, IfOk, IfErr, OnOk, OnErr, option_map}
 use Rattle.machine_model.specs.States.{reached_at}
-use Rattle.kernel_model.specs.Loans.{LoanOut, LoanResult}
+use Rattle.kernel_model.specs.Answers.{Kernel, AllAccepted}
+use Rattle.kernel_model.specs.Loans.{LoanOut, LoanResult, IsOfLoan, returned, events_of, settled, settled_answer}
+use Rattle.kernel_model.specs.Ran.{ran_by_turns}
+use Rattle.kernel_model.specs.declared.answer.Answer.{Answer}
 use Rattle.kernel_model.specs.declared.answer.Refused.{Refused}
+use Rattle.kernel_model.specs.declared.answer.Refused.TheVariants.{Stranger, OutOfMemory}
 use Rattle.kernel_step.specs.declared.loan.Loan.{Loan}
 use Rattle.kernel_step.specs.declared.loan.Done.{Done}
+use Rattle.kernel_step.specs.declared.loan.Rejected.{Rejected}
 
 -- a loan as it is handed out
 abbrev pub loan_out : Loan → LoanOut
@@ -18,3 +23,16 @@ lent_out (Err why) = Err why
 -- a loan's result as it is handed in
 abbrev pub loan_result : Done → LoanResult
 loan_result d = record { process = d.pid; number = d.number; quantum = d.quantum; began = d.began.value; reached = reached_at d.count d.machine d.stop }
+
+-- A loan's result is taken back where it is of the loan that its process is out on, and becomes its events, all of them accepted;
+-- where it is refused, nothing has changed, and it is handed back.
+pub record Settles (old : Kernel) (done : Done) (new : Kernel) (result : Result Answer Rejected) : Type 0 where
+  pub own : OnOk result (IsOfLoan old (loan_result done))
+  pub fine : OnOk result (AllAccepted (returned old done.pid) (events_of (loan_result done)))
+  pub events : OnOk result (new ≡ settled old (loan_result done))
+  pub answer : IfOk result (λ a. a ≡ settled_answer old (loan_result done))
+  pub ran : OnOk result (ran_by_turns new ≡ ran_by_turns old + done.count)
+  pub stranger : IfErr result (λ r. r.why ≡ Stranger → ¬ (IsOfLoan old (loan_result done)))
+  pub own_only : IfErr result (λ r. r.why ≢ Stranger → (r.why ≡ OutOfMemory) × IsOfLoan old (loan_result done))
+  pub back : IfErr result (λ r. r.done ≡ done)
+  pub err : OnErr result (new ≡ old)

@@ -1,14 +1,12 @@
 -- What the parts of a running kernel stand for.
-use Rattle.std.specs.Prelude.{ℕ, ◌+◌, ◌*◌, ◌^◌, ◌≤◌, ◌≡◌, ◌≢◌, List, length, map, Result, IfOk, IfErr, OnOk, OnErr}
+use Rattle.std.specs.Prelude.{ℕ, ◌+◌, ◌*◌, ◌^◌, ◌≤◌, List, length, map, Result}
 use Rattle.kernel_model.specs.World.{Boot, World, first_world, after}
-use Rattle.kernel_model.specs.Answers.{Kernel, Applies, AllAccepted}
-use Rattle.kernel_model.specs.Loans.{IsOfLoan, returned, events_of, settled, settled_answer}
+use Rattle.kernel_model.specs.Answers.{Kernel, Applies}
 use Rattle.kernel_model.specs.declared.answer.Answer.{Answer}
 use Rattle.kernel_model.specs.declared.answer.Refused.{Refused}
-use Rattle.kernel_model.specs.declared.answer.Refused.TheVariants.{Stranger, OutOfMemory}
 use Rattle.kernel_model.specs.declared.event.Event.{Event}
 use Rattle.kernel_step.specs.Counted.{IsCounted}
-use Rattle.kernel_step.specs.Loaned.{loan_result}
+use Rattle.kernel_step.specs.Loaned.{Settles}
 use Rattle.kernel_step.specs.Mirrors.{Mirrors}
 use Rattle.kernel_step.specs.Tasks.{lending_of, count_out, AreFewLoans}
 use Rattle.kernel_step.specs.declared.loan.Done.{Done}
@@ -46,16 +44,7 @@ pub record Steps (b : Boot) (e : Event) (old new : Running) (result : Result Ans
   pub stands : Stands b new
   pub applies : Applies (kernel_in b old) e (kernel_in b new) result
 
--- A loan's result is taken back where it is of the loan that its process is out on, and becomes its events; where it is refused,
--- nothing has changed, and it is handed back.
-pub record Settles (b : Boot) (done : Done) (old new : Running) (result : Result Answer Rejected) : Type 0 where
+-- After a loan's result is taken back the parts stand for the run with its events; where it is refused, nothing has changed.
+pub record TakesBack (b : Boot) (done : Done) (old new : Running) (result : Result Answer Rejected) : Type 0 where
   pub stands : Stands b new
-  pub own : OnOk result (IsOfLoan (kernel_in b old) (loan_result done))
-  pub fine : OnOk result (AllAccepted (returned (kernel_in b old) done.pid) (events_of (loan_result done)))
-  pub events : OnOk result (kernel_in b new ≡ settled (kernel_in b old) (loan_result done))
-  pub answer : IfOk result (λ a. a ≡ settled_answer (kernel_in b old) (loan_result done))
-  pub ran : OnOk result (new.ran ≡ old.ran + done.count)
-  pub stranger : IfErr result (λ r. r.why ≡ Stranger → ¬ (IsOfLoan (kernel_in b old) (loan_result done)))
-  pub own_only : IfErr result (λ r. r.why ≢ Stranger → (r.why ≡ OutOfMemory) × IsOfLoan (kernel_in b old) (loan_result done))
-  pub back : IfErr result (λ r. r.done ≡ done)
-  pub err : OnErr result (kernel_in b new ≡ kernel_in b old)
+  pub settles : Settles (kernel_in b old) done (kernel_in b new) result

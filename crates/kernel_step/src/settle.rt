@@ -1,7 +1,7 @@
 //! Loans' results taken back.
 ghost use Rattle.std.specs.Prelude.{◌≡◌, ◌++◌, ◌∷◌, [], ◌↔◌, IsTrue, Some, IfOk, IfErr, OnOk, OnErr};
 ghost use Rattle.kernel_model.specs.World.{Boot};
-ghost use Rattle.kernel_step.specs.Stands.{Stands, Settles};
+ghost use Rattle.kernel_step.specs.Stands.{Stands, TakesBack};
 ghost use Rattle.kernel_model.specs.declared.answer.Outcome.{Outcome};
 ghost use Rattle.kernel_step.specs.Ready.{MayEnter};
 ghost use Rattle.kernel_step.specs.Settling.{IsLoanOf, IsBack, MaySettleTurn, IsTurnSettled, IsTurnEntered, MaySettleCall, IsCallSettled, IsNotSettled, LackedMemory};
@@ -93,7 +93,7 @@ impl Running {
     /// on (the process is not lent, or the number, the quantum or the state from which it began differs); OutOfMemory.
     pub fn settle(&mut self, done: Done) -> Result<Answer, Rejected>
         requires { (b : Boot) × Stands b self.old }
-        ensures { (b : Boot) → Stands b self.old → Settles b done self.old self.new result }
+        ensures { (b : Boot) → Stands b self.old → TakesBack b done self.old self.new result }
     {
         checkpoints_fit();
         made_files_change();

@@ -1,5 +1,5 @@
 -- The parts follow the result's events.
-use Rattle.std.proofs.Common.{◌≡◌, ◌∙◌, refl, sym, ap, subst, List, Bool, true, false, Option, Some, None, is_some, IsTrue, map, slice_get, rules}
+use Rattle.std.proofs.Common.{◌≡◌, ◌∙◌, sym, ap, subst, List, Bool, true, false, Option, Some, None, is_some, IsTrue, map, slice_get, rules}
 use Rattle.std.proofs.lemmas.Bool.{false≢true}
 use Rattle.machine_model.specs.declared.stop.Stop.{Stop}
 use Rattle.kernel_model.specs.State.{process_at}
@@ -14,7 +14,7 @@ use Rattle.kernel_step.proofs.Lists.{get-there}
 use Rattle.kernel_step.proofs.EnterCore.{log-short, served-few}
 use Rattle.kernel_step.proofs.EnterWorld.{fresh-files, may-plan}
 use Rattle.kernel_step.proofs.SettleCore.{loan-own, not-there, get-one}
-use Rattle.kernel_step.proofs.Settled.{turn-settles, call-settles}
+use Rattle.kernel_step.proofs.Settled.{stranger-back, turn-settles, call-settles}
 use Rattle.kernel_step.proofs.SettleWorld.{out-running}
 use Rattle.kernel_step.proofs.running.Running.settle.Goals as goal
 use Rattle.kernel_step.proofs.running.Running.settle.Goals.{After-index-task}
@@ -32,40 +32,19 @@ of-loan t d x is h = h (subst (λ (y : Bool). IsTrue y) (sym is) (let yes : IsTr
 
 -- ---- a stranger
 pub returns-in_default : goal.returns-in_default
-returns-in_default c = λ b h. record {
-  stands = h;
-  own = tt;
-  fine = tt;
-  events = tt;
-  answer = tt;
-  ran = tt;
-  stranger = λ why own. not-there b c.args.self.now.history.items c.args.self.now.tasks.items c.args.self.now.last_lent c.args.done
-      (subst (λ (ts : List Task). process_at (map process_of ts) c.args.done.pid ≡ None) c.deref.ensures.value c.in_default.ensures) own;
-  own_only = λ other. absurd (other refl);
-  back = refl;
-  err = refl;
-}
+returns-in_default c = λ b h. stranger-back b c.args.self.now c.args.done h
+    (not-there b c.args.self.now.history.items c.args.self.now.tasks.items c.args.self.now.last_lent c.args.done
+    (subst (λ (ts : List Task). process_at (map process_of ts) c.args.done.pid ≡ None) c.deref.ensures.value c.in_default.ensures))
 
 pub returns-then-not-is_of_loan : goal.returns-then-not-is_of_loan
 returns-then-not-is_of_loan c = λ b h.
     let at = (goal.at.returns-then-not-is_of_loan c).After-index-task in
-    record {
-      stands = h;
-      own = tt;
-      fine = tt;
-      events = tt;
-      answer = tt;
-      ran = tt;
-      stranger = λ why own.
-          let of : IsLoanOf c.index-task.result.now c.args.done =
-          loan-own b c.args.self.now.history.items c.args.self.now.tasks.items c.args.self.now.system c.args.self.now.last_lent c.in-Some.place c.index-task.result.now c.args.done h.parts (placed at).number (there at) own in
-          let yes : IsTrue c.is_of_loan.result = c.is_of_loan.ensures.1 of in
-          let no : IsTrue false = subst (λ (x : Bool). IsTrue x) c.if-not-is_of_loan.true yes in
-          absurd (false≢true no);
-      own_only = λ other. absurd (other refl);
-      back = refl;
-      err = refl;
-    }
+    stranger-back b c.args.self.now c.args.done h (λ own.
+    let of : IsLoanOf c.index-task.result.now c.args.done =
+    loan-own b c.args.self.now.history.items c.args.self.now.tasks.items c.args.self.now.system c.args.self.now.last_lent c.in-Some.place c.index-task.result.now c.args.done h.parts (placed at).number (there at) own in
+    let yes : IsTrue c.is_of_loan.result = c.is_of_loan.ensures.1 of in
+    let no : IsTrue false = subst (λ (x : Bool). IsTrue x) c.if-not-is_of_loan.true yes in
+    absurd (false≢true no))
 
 -- ---- its own
 pub settle_turn-requires : goal.settle_turn-requires
