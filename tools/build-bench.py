@@ -22,6 +22,8 @@ PROGRAM = "bench"
 SOURCES = ("src", "specs", "proofs")
 # The memory that a check takes, in bytes, as most do.
 CHECK_TAKES = 3_000_000_000
+# With more than one job, a check takes up to twice the processor time, and mostly ends no sooner.
+ONE_JOB = ("--jobs", "1")
 INTERRUPTS = (signal.SIGINT, signal.SIGTERM, signal.SIGHUP)
 LANES = "bench-lanes-"
 
@@ -166,18 +168,17 @@ class Build:
         return found
 
     def next_crate(self):
-        """Waits until a crate may be begun, and returns it and the processors that are for it; none when all are begun."""
+        """Waits until a crate may be begun, and returns it; none when all are begun."""
         with self.changed:
             while True:
                 if self.failed or len(self.begun) == len(self.names):
-                    return None, 0
+                    return None
                 ready = [it for it in self.names if it not in self.begun and set(self.below[it]) <= self.proved]
                 if ready:
                     name = max(ready, key=self.ahead.get)
                     self.begun.add(name)
-                    busy = len(self.begun) - len(self.proved)
                     self.say("proving", name)
-                    return name, max(self.lanes // min(busy + len(ready) - 1, self.lanes), 1)
+                    return name
                 self.changed.wait()
 
     def call(self, folder, *words):
@@ -195,14 +196,14 @@ class Build:
             del self.running[folder]
         return None if run.returncode == 0 else said
 
-    def prove(self, lane, name, jobs):
+    def prove(self, lane, name):
         """Proves one crate in a lane, and returns what `rt` printed where it failed."""
         for it in self.all_below(name):
             if not os.path.isdir(f"{lane}/crates/{it}/out/rlib"):
                 link(f"{TOP}/crates/{it}/out/rlib", f"{lane}/crates/{it}/out/rlib")
         here, there = f"{lane}/crates/{name}", f"{TOP}/crates/{name}"
         link(f"{there}/out", f"{here}/out")
-        failed = self.call(here, "lib", "--jobs", str(jobs))
+        failed = self.call(here, "lib", *ONE_JOB)
         link(f"{here}/out", f"{there}/out")
         if failed is None:
             touch(mark_of(name), self.start)
@@ -212,10 +213,10 @@ class Build:
         try:
             lane = self.make_lane(number)
             while True:
-                name, jobs = self.next_crate()
+                name = self.next_crate()
                 if name is None:
                     return
-                failed = self.prove(lane, name, jobs)
+                failed = self.prove(lane, name)
                 if failed is not None:
                     self.stop(failed)
                 with self.changed:
@@ -258,7 +259,7 @@ class Build:
         self.failed = None
         self.say("building the program,", PROGRAM)
         try:
-            failed = self.call(f"{TOP}/crates/{PROGRAM}", "run", "--", "--help")
+            failed = self.call(f"{TOP}/crates/{PROGRAM}", "run", *ONE_JOB, "--", "--help")
         except KeyboardInterrupt:
             self.stop("interrupted")
             raise

@@ -18,3 +18,7 @@ returns-in-Write-clause-inside c =
     let is : c.args.change.now ≡ Write c.in-Write.file c.in-Write.offset c.in-Write.bytes = search rules in
     let gives : (d : NamedFile) → c.in-Write.offset + length c.in-Write.bytes ≤ length (slice_index_or c.args.self.now c.in-Write.file d).bytes → IsOk c.write.result = search rules in
     inside_of c.args.self.now c.args.change.now c.in-Write.file c.in-Write.offset c.in-Write.bytes (IsOk c.write.result) there is gives
+
+-- Without an answer this would be proved too; with one, an edit that breaks it is refused sooner.
+pub returns-in-Write-clause-ok : goal.returns-in-Write-clause-ok
+returns-in-Write-clause-ok c = search rules

@@ -1,5 +1,5 @@
 -- One more byte is written, and the rights stay.
-use Rattle.std.proofs.Common.{◌≡◌, ℕ, suc, ◌+◌, ◌-◌, ◌%◌, ◌^◌, List, [], ◌∷◌, length, drop, get_or, sym, ap, ◌∙◌, arith, drop-cons}
+use Rattle.std.proofs.Common.{◌≡◌, ℕ, suc, ◌+◌, ◌-◌, ◌%◌, ◌^◌, List, [], ◌∷◌, length, drop, get_or, sym, ap, ◌∙◌, arith, drop-cons, rules}
 use Rattle.std.specs.FinMap.{get}
 use Rattle.machine_model.specs.Memory.{Memory}
 use Rattle.machine_model.specs.Access.{range_fault, put_bytes, to_write}
@@ -25,3 +25,19 @@ loop-i-preserved c =
           ∙ range_fault-put_bytes to_write (get_or bytes i 0 ∷ []) m a (c.args.at + (i + 1)) (length bytes - (i + 1))
           ∙ fault_at-None to_write (get m a) _ (sym (range_fault-next to_write m c.args.at (length bytes) i c.loop-i-test.true) ∙ c.loop-i.invariant.writable);
     }
+
+-- Without answers these would be proved too; with them, an edit that breaks one is refused sooner.
+pub returns-in-Some-clause-answer : goal.returns-in-Some-clause-answer
+returns-in-Some-clause-answer c = search rules
+
+pub loop-i-init : goal.loop-i-init
+loop-i-init c = search rules
+
+pub overflow_cast-i : goal.overflow_cast-i
+overflow_cast-i c = search rules
+
+pub overflow_add-at : goal.overflow_add-at
+overflow_add-at c = search rules
+
+pub returns-clause-answer : goal.returns-clause-answer
+returns-clause-answer c = search rules
