@@ -1,5 +1,5 @@
 -- The same items.
-use Rattle.std.proofs.Common.{ap, ◌∙◌}
+use Rattle.std.proofs.Common.{ap, ◌∙◌, rules}
 use Rattle.std.proofs.lemmas.List.{append-nil}
 use Rattle.kernel_model.specs.Entries.{Item}
 use Rattle.withheld.specs.Withheld.{Withheld}
@@ -14,3 +14,7 @@ returns-clause-items c =
     ∙ ap as_items c.reserve.ensures.same.items
     ∙ ap as_items c.in_ok-replies.ensures.items
     ∙ all.same
+
+-- Without an answer this would be proved too; with one, an edit that breaks it is refused sooner.
+pub returns-clause-room : goal.returns-clause-room
+returns-clause-room c = search rules

@@ -1,5 +1,5 @@
 use Rattle.std.proofs.Common.{rules}
-use Rattle.processes.proofs.descriptors.Descriptors.get.Goals as goal
+use Rattle.pipes.proofs.table.PipeTable.new.Goals as goal
 
 -- Without an answer this would be proved too; with one, an edit that breaks it is refused sooner.
 pub returns : goal.returns
