@@ -1,4 +1,5 @@
-use Rattle.std.proofs.Common.{◌≡◌, ◌∙◌, arith}
+use Rattle.std.proofs.Common.{◌≡◌, ◌∙◌, arith, rules}
+use Rattle.std.proofs.lemmas.Grind.{common_steps}
 use Rattle.pool.specs.declared.hand.Hand.{Hand}
 use Rattle.pool.specs.Hands.{no_hand}
 use Rattle.pool.specs.Seats.{IsNew}
@@ -20,3 +21,19 @@ loop-preserved g c =
       others.0,
       all_more (IsNew c.args.self.now.workers) _ _ _ c.push_reserved.ensures.items i.8 c.seat_at.ensures,
     )
+
+-- Without answers these would be proved too; with them, an edit that breaks one is refused sooner.
+pub returns-in_err-deques-clause-refused : goal.returns-in_err-deques-clause-refused
+returns-in_err-deques-clause-refused g c = search rules
+
+pub returns-in_err-all-clause-refused : goal.returns-in_err-all-clause-refused
+returns-in_err-all-clause-refused g c = search rules
+
+pub returns-in_err-seats-clause-refused : goal.returns-in_err-seats-clause-refused
+returns-in_err-seats-clause-refused g c = search rules
+
+pub part_of-requires : goal.part_of-requires
+part_of-requires g c = search rules
+
+pub returns-clause-parts : goal.returns-clause-parts
+returns-clause-parts g c = search rules
