@@ -1,5 +1,4 @@
 use Rattle.std.proofs.Common.{◌≡◌, ◌∙◌, arith, rules}
-use Rattle.std.proofs.lemmas.Grind.{common_steps}
 use Rattle.pool.specs.declared.hand.Hand.{Hand}
 use Rattle.pool.specs.Hands.{no_hand}
 use Rattle.pool.specs.Seats.{IsNew}
