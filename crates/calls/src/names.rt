@@ -1,8 +1,9 @@
 //! Names of files.
 ghost use Rattle.std.specs.Prelude.{◌≡◌};
+ghost use Rattle.disk_model.specs.Files.{is_name_byte};
 ghost use Rattle.std.specs.List.{list_all};
 ghost use Rattle.kernel_model.specs.Limits.{AreNumbered};
-ghost use Rattle.kernel_model.specs.Rows.{directory, is_bad_length, is_name_byte, number_named};
+ghost use Rattle.kernel_model.specs.Rows.{directory, is_bad_length, number_named};
 
 use disk_model::LONGEST_NAME;
 use files::FileTable;

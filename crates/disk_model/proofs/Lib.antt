@@ -1,6 +1,7 @@
 -- The lemmas, lowest first.
 pub mod Lists
 pub mod Naming
+pub mod Numbering
 pub mod Tidy
 pub mod Places
 pub mod Reading
@@ -11,3 +12,4 @@ pub mod Between
 pub mod Rebuilding
 pub mod Whole
 pub mod Orderly
+pub mod Cutting

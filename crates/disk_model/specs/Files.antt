@@ -1,5 +1,5 @@
 -- Files, and what a change does to them.
-use Rattle.std.specs.Prelude.{◌≡◌, ℕ, ◌+◌, ◌-◌, ◌<◌, ◌≤◌, ◌^◌, List, [], ◌∷◌, ◌++◌, length, take, drop, replicate, slice_get, slice_set, if◌then◌else◌, Option, Some, None}
+use Rattle.std.specs.Prelude.{◌≡◌, ℕ, ◌+◌, ◌-◌, ◌<◌, ◌≤◌, ◌^◌, List, [], ◌∷◌, ◌++◌, length, take, drop, replicate, slice_get, slice_set, if◌then◌else◌, Option, Some, None, Bool, nat_le, ◌&&◌, ◌==◌, not}
 use Rattle.std.specs.Str.{bytes_eq}
 use Rattle.std.specs.List.{AllByRecursion, position, remove}
 use Rattle.disk_model.specs.Limits.{most_files, longest_name, longest_file, longest_file_write}
@@ -52,6 +52,10 @@ files_after files (c ∷ cs) = files_after (changed files c) cs
 -- a byte of a file's name: 0x21 to 0x7E, without the slash
 abbrev pub IsNameByte : ℕ → Type 0
 IsNameByte b = (33 ≤ b) × (b ≤ 126) × (b ≡ 47 → ⊥)
+
+-- the same as a test
+abbrev pub is_name_byte : ℕ → Bool
+is_name_byte b = nat_le 33 b && nat_le b 126 && not (b == 47)
 
 -- a name: 1 to 32 bytes of names
 abbrev pub IsName : List ℕ → Type 0

@@ -7,13 +7,14 @@ use Rattle.elf32.specs.declared.header.FileHeader.{FileHeader}
 use Rattle.elf32.specs.declared.header.ProgramHeader.{ProgramHeader}
 use Rattle.machine_model.specs.declared.image.Segment.{Segment}
 use Rattle.machine_model.specs.Images.{IsLoadable}
-use Rattle.elf32.specs.Fields.{number_at, half_at, word_at, file_header, program_header, headers_in}
+use Rattle.elf32.specs.Fields.{half_at, word_at, file_header, program_header, headers_in}
+use Rattle.machine_model.specs.Bytes.{value_in}
 use Rattle.elf32.specs.Files.{AreNear, file_header_of, flags_of, program_header_of, offset_after, end_after, table_after}
 
-half_back : (n : ℕ) → n < 2 ^ 16 → number_at (low_bytes 2 n) 0 2 ≡ n
+half_back : (n : ℕ) → n < 2 ^ 16 → value_in (low_bytes 2 n) 0 2 ≡ n
 half_back n small = omega (arith, small)
 
-word_back : (n : ℕ) → n < 2 ^ 32 → number_at (low_bytes 4 n) 0 4 ≡ n
+word_back : (n : ℕ) → n < 2 ^ 32 → value_in (low_bytes 4 n) 0 4 ≡ n
 word_back n small = omega (arith, small)
 
 -- the file header of a program
@@ -37,7 +38,7 @@ header_for entry count = record {
 pub file_header_back : (entry count : ℕ) (rest : List ℕ) → entry < 2 ^ 32 → count < 2 ^ 16 → file_header (file_header_of entry count ++ rest) ≡ header_for entry count
 unfolding half_at word_at file_header file_header_of
 file_header_back entry count rest small few =
-    ap (λ (n : ℕ). header_for n (number_at (low_bytes 2 count) 0 2)) (word_back entry small)
+    ap (λ (n : ℕ). header_for n (value_in (low_bytes 2 count) 0 2)) (word_back entry small)
     ∙ ap (λ (n : ℕ). header_for entry n) (half_back count few)
 
 -- a program header of these words
@@ -59,7 +60,7 @@ program_header_for offset s = made offset s.vaddr (length s.bytes) s.memsz (flag
 
 -- the word as it is read
 abbrev as_read : ℕ → ℕ
-as_read n = number_at (low_bytes 4 n) 0 4
+as_read n = value_in (low_bytes 4 n) 0 4
 
 at_most : (b : Bool) (n : ℕ) → cond b n 0 ≤ n
 at_most true n = omega arith

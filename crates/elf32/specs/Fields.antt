@@ -1,20 +1,16 @@
 -- The fields of an ELF32 file, by their names in the System V gABI. Each is little-endian.
-use Rattle.std.specs.Prelude.{ℕ, zero, suc, ◌+◌, ◌*◌, ◌^◌, List, [], ◌∷◌, drop, slice_index}
+use Rattle.std.specs.Prelude.{ℕ, zero, suc, List, [], ◌∷◌, drop}
+use Rattle.machine_model.specs.Bytes.{value_in}
 use Rattle.elf32.specs.declared.header.FileHeader.{FileHeader}
 use Rattle.elf32.specs.declared.header.ProgramHeader.{ProgramHeader}
 
--- the number that n bytes from a place on spell, the lowest first
-abbrev pub number_at : List ℕ → ℕ → ℕ → ℕ
-number_at bytes at zero = 0
-number_at bytes at (suc n) = slice_index bytes at + 2 ^ 8 * number_at bytes (at + 1) n
-
 -- the half word at a place
 unfoldable pub half_at : List ℕ → ℕ → ℕ
-half_at bytes at = number_at bytes at 2
+half_at bytes at = value_in bytes at 2
 
 -- the word at a place
 unfoldable pub word_at : List ℕ → ℕ → ℕ
-word_at bytes at = number_at bytes at 4
+word_at bytes at = value_in bytes at 4
 
 -- The file header: after 16 bytes of identification two halves, five words and six halves, 52 bytes in all.
 unfoldable pub file_header : List ℕ → FileHeader

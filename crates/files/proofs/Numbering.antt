@@ -1,15 +1,11 @@
 -- Numbers beside files.
-use Rattle.std.proofs.Common.{◌≡◌, ℕ, zero, suc, ◌+◌, ◌<◌, ◌≤◌, ◌-◌, List, [], ◌∷◌, ◌++◌, length, take, drop, Option, Some, None, refl, sym, ap, ◌∙◌, arith, length-append}
+use Rattle.std.proofs.Common.{◌≡◌, ℕ, zero, suc, ◌+◌, ◌<◌, ◌≤◌, ◌-◌, List, [], ◌∷◌, ◌++◌, length, take, drop, Option, sym, ap, ◌∙◌, arith, length-append}
 use Rattle.std.specs.List.{remove}
-use Rattle.std.proofs.lemmas.List.{take_all, drop_all, append-nil, length-take, length-drop, length-set}
+use Rattle.std.proofs.lemmas.List.{take_all, drop_all, append-nil, length-take, length-drop}
 use Rattle.disk_model.specs.Numbers.{numbers_from}
 use Rattle.disk_model.specs.Files.{with_name}
 use Rattle.disk_model.specs.declared.change.NamedFile.{NamedFile}
-
--- there is a number for each file
-pub numbers_length : (n : ℕ) (files : List NamedFile) → length (numbers_from n files) ≡ length files
-numbers_length n [] = refl
-numbers_length n (f ∷ fs) = ap suc (numbers_length (n + 1) fs)
+use Rattle.disk_model.proofs.Numbering.{numbers_length, name_length}
 
 next_from : (n k : ℕ) (files : List NamedFile) → k < length files → take (suc k) (numbers_from n files) ≡ take k (numbers_from n files) ++ (n + k) ∷ []
 next_from n k [] h = absurd (let no : ⊥ = omega arith in no)
@@ -34,13 +30,9 @@ remove_none xs n h = ap (λ l. l ++ drop (suc n) xs) (take_all n xs h) ∙ ap (�
 remove_length : {A : Type 0} (xs : List A) (n : ℕ) → n < length xs → length (remove xs n) ≡ length xs - 1
 remove_length xs n h = omega (arith, length-append (take n xs) (drop (suc n) xs), length-take n xs, length-drop (suc n) xs)
 
-with_name_length : (files : List NamedFile) (place : ℕ) (o : Option NamedFile) (name : List ℕ) → length (with_name files place o name) ≡ length files
-with_name_length files place None name = refl
-with_name_length files place (Some f) name = length-set files place (record { name = name; bytes = f.bytes })
-
 -- one file fewer, and one number fewer
 pub moved_length : (files : List NamedFile) (numbers : List ℕ) (place : ℕ) (o : Option NamedFile) (name : List ℕ) (l : ℕ)
     → length numbers ≡ length files → l < length files → length (remove numbers l) ≡ length (remove (with_name files place o name) l)
 moved_length files numbers place o name l same h =
     remove_length numbers l (omega arith) ∙ ap (λ n. n - 1) same
-    ∙ sym (remove_length (with_name files place o name) l (omega (arith, with_name_length files place o name)) ∙ ap (λ n. n - 1) (with_name_length files place o name))
+    ∙ sym (remove_length (with_name files place o name) l (omega (arith, name_length files place o name)) ∙ ap (λ n. n - 1) (name_length files place o name))

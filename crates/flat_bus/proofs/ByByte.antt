@@ -7,13 +7,14 @@ use Rattle.std.proofs.lemmas.Bool.Decides.{nat_tests, eqb_tells}
 use Rattle.std.proofs.Math.ListN.{length-set}
 use Rattle.std.specs.FinMap.{get, insert}
 use Rattle.machine_model.specs.Memory.{Cell}
+use Rattle.machine_model.specs.Bytes.{value_in, put_in}
 use Rattle.machine_model.proofs.Memories.{get-memory_of, same_memory, get-insert}
 use Rattle.machine_model.specs.Access.{to_read, with_byte, put_bytes, range_fault, value_at, loaded, access_fault, or_fault, size, stored, low_bytes}
 use Rattle.machine_model.specs.declared.access.Rights.{Rights}
 use Rattle.machine_model.specs.declared.access.Width.{Width}
 use Rattle.machine_model.specs.declared.access.Width.TheVariants as width
 use Rattle.machine_model.specs.declared.access.BusFault.TheVariants.{Unmapped}
-use Rattle.flat_bus.specs.Bytes.{cell_of, memory_of_bytes, value_of, put_in}
+use Rattle.flat_bus.specs.Bytes.{cell_of, memory_of_bytes}
 
 -- what stands at any address
 get-any : (bytes : List ℕ) (q : ℕ) → get (memory_of_bytes bytes) q ≡ cond (nat_lt q (2 ^ 32)) (option_map cell_of (slice_get bytes q)) None
@@ -65,7 +66,7 @@ range-past : (right : Rights → Bool) (bytes : List ℕ) (at n : ℕ) → lengt
 range-past right bytes at n h = rw (get-past bytes at h) refl
 
 -- the memory spells what the list spells
-value_at-here : (bytes : List ℕ) (at n : ℕ) → at + n ≤ length bytes → length bytes < 2 ^ 32 → value_at (memory_of_bytes bytes) at n ≡ value_of bytes at n
+value_at-here : (bytes : List ℕ) (at n : ℕ) → at + n ≤ length bytes → length bytes < 2 ^ 32 → value_at (memory_of_bytes bytes) at n ≡ value_in bytes at n
 value_at-here bytes at zero h k = refl
 value_at-here bytes at (suc n) h k = rw (get-here bytes at (omega arith) (omega arith), value_at-here bytes (at + 1) n (omega arith) k) refl
 
@@ -94,7 +95,7 @@ fault-past right bytes at width.Half len h e = rw e (range-past right bytes at 1
 fault-past right bytes at width.Word len h e = rw e (range-past right bytes at 3 (omega arith))
 
 -- what a load there answers
-pub loaded-here : (bytes : List ℕ) (at : ℕ) (width : Width) → length bytes ≡ 64 → at < 64 → (at % size width == 0) ≡ true → loaded (memory_of_bytes bytes) at width ≡ Ok (value_of bytes at (size width))
+pub loaded-here : (bytes : List ℕ) (at : ℕ) (width : Width) → length bytes ≡ 64 → at < 64 → (at % size width == 0) ≡ true → loaded (memory_of_bytes bytes) at width ≡ Ok (value_in bytes at (size width))
 loaded-here bytes at width len h e =
     let fits : at + size width ≤ 64 = room at width e h in
     ap (λ f. or_fault f (value_at (memory_of_bytes bytes) at (size width))) (fault-here to_read bytes at width refl len h e) ∙ ap (λ (v : ℕ). Ok v) (value_at-here bytes at (size width) (omega arith) (omega arith))

@@ -1,7 +1,8 @@
 //! The memory, as a bus.
 ghost use Rattle.std.specs.Prelude.{◌≡◌, ◌+◌, ◌%◌, ◌==◌, ◌≤◌, length};
 ghost use Rattle.machine_model.specs.Access.{size, low_bytes};
-ghost use Rattle.flat_bus.specs.Bytes.{memory_of_bytes, value_of, put_in};
+ghost use Rattle.machine_model.specs.Bytes.{value_in, put_in};
+ghost use Rattle.flat_bus.specs.Bytes.{memory_of_bytes};
 
 use machine_model::{Bus, BusFault, Width};
 
@@ -33,7 +34,7 @@ fn end(bytes: &[u8; 64]) -> u32
 /// The number that the bytes at an address spell.
 fn read(bytes: &[u8; 64], at: u32, width: Width) -> u32
     requires { at + size width ≤ 64 }
-    ensures { result ≡ value_of bytes.now at (size width) }
+    ensures { result ≡ value_in bytes.now at (size width) }
 {
     let first = at as usize;
     match width {

@@ -9,11 +9,11 @@ use Rattle.std.proofs.lemmas.Nat.{from_le_bytes-to_le_bytes_2, from_le_bytes-to_
 use Rattle.disk_model.specs.declared.change.Change.{Change}
 use Rattle.disk_model.specs.declared.change.Change.TheVariants.{Create, Write, Empty, Remove, Rename}
 use Rattle.disk_model.specs.declared.change.NamedFile.{NamedFile}
-use Rattle.disk_model.specs.Files.{IsFormed, IsName, IsNameByte, MayCome, Follow, changed, files_after}
+use Rattle.disk_model.specs.Files.{IsFormed, IsName, IsNameByte, MayCome, Follow, changed, files_after, is_name_byte}
 use Rattle.disk_model.specs.Spelling.{spelling, body_of}
 use Rattle.journal.specs.declared.fault.DiskFault.{DiskFault}
 use Rattle.journal.proofs.Names.{none_found, not_called}
-use Rattle.journal.specs.Reading.{◌>>=◌, number_at, text_at, name_at, create_at, write_at, empty_at, remove_at, rename_at, change_at, changes_at, all_changed, is_unnamed, is_called, may_come, is_name_byte, all_name_bytes}
+use Rattle.journal.specs.Reading.{◌>>=◌, number_at, text_at, name_at, create_at, write_at, empty_at, remove_at, rename_at, change_at, changes_at, all_changed, is_unnamed, is_called, may_come, all_name_bytes}
 
 text_again : (text rest : List ℕ) → text_at (length text) (text ++ rest) ≡ Ok (text, rest)
 text_again text rest =

@@ -8,11 +8,11 @@ use Rattle.std.proofs.lemmas.List.{take-append-drop, length-take, get_or-drop, g
 use Rattle.std.proofs.lemmas.Nat.{le_bytes_2, le_bytes_4}
 use Rattle.disk_model.specs.declared.change.Change.{Change}
 use Rattle.disk_model.specs.declared.change.Change.TheVariants.{Write}
-use Rattle.disk_model.specs.Files.{IsFormed, IsName, IsNameByte}
+use Rattle.disk_model.specs.Files.{IsFormed, IsName, IsNameByte, is_name_byte}
 use Rattle.disk_model.specs.Spelling.{spelling, body_of}
 use Rattle.journal.specs.declared.fault.DiskFault.{DiskFault}
 use Rattle.journal.specs.declared.fault.DiskFault.TheVariants.{BadRecord}
-use Rattle.journal.specs.Reading.{◌>>=◌, number_at, text_at, name_at, create_at, write_at, empty_at, remove_at, rename_at, change_at, changes_at, is_name_byte, all_name_bytes}
+use Rattle.journal.specs.Reading.{◌>>=◌, number_at, text_at, name_at, create_at, write_at, empty_at, remove_at, rename_at, change_at, changes_at, all_name_bytes}
 
 abbrev pub IsBytes : List ℕ → Type 0
 IsBytes bytes = (i : ℕ) → get_or bytes i 0 < 256

@@ -6,7 +6,7 @@ use Rattle.std.specs.Str.{bytes_eq}
 use Rattle.disk_model.specs.declared.change.Change.{Change}
 use Rattle.disk_model.specs.declared.change.Change.TheVariants.{Create, Write, Empty, Remove, Rename}
 use Rattle.disk_model.specs.declared.change.NamedFile.{NamedFile}
-use Rattle.disk_model.specs.Files.{changed}
+use Rattle.disk_model.specs.Files.{changed, is_name_byte}
 use Rattle.disk_model.specs.Held.{selected_half, start_of, end_of}
 use Rattle.disk_model.specs.Limits.{most_files, longest_name, longest_file, longest_file_write}
 use Rattle.journal.specs.declared.fault.DiskFault.{DiskFault}
@@ -37,10 +37,6 @@ number_at w bytes = if nat_lt (length bytes) (byte_len w) then Err BadRecord els
 -- so many bytes, and those after them
 abbrev pub text_at : ℕ → List ℕ → Result (List ℕ × List ℕ) DiskFault
 text_at n bytes = if nat_lt (length bytes) n then Err BadRecord else Ok (take n bytes, drop n bytes)
-
--- a byte of a name: 0x21 to 0x7E, without the slash
-abbrev pub is_name_byte : ℕ → Bool
-is_name_byte b = nat_le 33 b && nat_le b 126 && not (b == 47)
 
 -- all of these are bytes of a name
 abbrev pub all_name_bytes : List ℕ → Bool

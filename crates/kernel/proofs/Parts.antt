@@ -1,6 +1,6 @@
 -- What becomes of a core's parts.
-use Rattle.std.proofs.Common.{◌≡◌, ℕ, ◌+◌, ◌*◌, ◌≤◌, Bool, true, false, List, [], ◌∷◌, ◌++◌, length, is_some, Option, Some, None, Result, Ok, Err, refl, sym, ap, subst, ◌∙◌, arith}
-use Rattle.std.specs.Prelude.{◌^◌, if◌then◌else◌, map, fold, cond, count_by, IfOk, OnOk, OnErr}
+use Rattle.std.proofs.Common.{◌≡◌, ℕ, ◌+◌, ◌*◌, ◌≤◌, Bool, true, false, List, [], ◌∷◌, ◌++◌, length, is_some, Option, Some, None, Result, Ok, Err, sym, ap, subst, ◌∙◌, arith}
+use Rattle.std.specs.Prelude.{◌^◌, if◌then◌else◌, IfOk, OnOk, OnErr}
 use Rattle.std.specs.List.{AllByRecursion}
 use Rattle.std.proofs.lemmas.List.{length-append}
 use Rattle.std.proofs.lemmas.List.Sums.{sum_by-append}
@@ -18,11 +18,10 @@ use Rattle.kernel_model.specs.declared.event.Event.{Event}
 use Rattle.kernel_model.specs.declared.event.Event.TheVariants.{Turn, Enter}
 use Rattle.kernel_step.specs.Loaned.{loan_result}
 use Rattle.kernel_step.specs.Stands.{Stands, Steps, TakesBack, kernel_in}
-use Rattle.kernel_step.specs.Tasks.{lending_of, out_of, count_out}
+use Rattle.kernel_step.proofs.FewLoans.{out-lent}
 use Rattle.kernel_step.specs.declared.loan.Done.{Done}
 use Rattle.kernel_step.specs.declared.loan.Rejected.{Rejected}
 use Rattle.kernel_step.specs.declared.running.Running.{Running}
-use Rattle.kernel_step.specs.declared.task.Task.{Task}
 use Rattle.kernel.specs.Keeping.{KeepsLimits, at_boot}
 use Rattle.kernel.specs.Parts.{IsCore}
 use Rattle.kernel.specs.Sums.{process_of_turn, process_of_enter, sum_of_turns, sum_of_enters, tells_enter}
@@ -121,22 +120,13 @@ lent-core b old new sums quantum (Ok None) h stands lends = still-core b old new
 lent-core b old new sums quantum (Ok (Some loan)) h stands lends = still-core b old new sums h stands (ap (λ (k : Kernel). k.history) lends.1.noted)
 lent-core b old new sums quantum (Err why) h stands lends = still-core b old new sums h stands (ap (λ (k : Kernel). k.history) lends.2)
 
--- as many loans are out as tasks
-out-from : (n : ℕ) (tasks : List Task) → fold (λ (a : ℕ) (l : Lending). a + cond (is_some l.out) 1 0) n (map lending_of tasks)
-    ≡ fold (λ (a : ℕ) (t : Task). a + cond (is_some (out_of t)) 1 0) n tasks
-out-from n [] = refl
-out-from n (t ∷ ts) = out-from (n + cond (is_some (out_of t)) 1 0) ts
-
-loans-out : (tasks : List Task) → count_by (λ (l : Lending). is_some l.out) (map lending_of tasks) ≡ count_out tasks
-loans-out tasks = out-from 0 tasks
-
 -- what the parts keep
 pub core-keeps : (b : Boot) (r : Running) (sums : Sums) → IsCore b r sums → (ran : ℕ) → ran ≡ ran_by_turns (kernel_in b r) → ran ≤ 2 ^ 50
     → committed (now (kernel_in b r)) ≤ changes (now (kernel_in b r)) → KeepsLimits (kernel_in b r)
 core-keeps b r sums h count ran few among = record {
   boot = h.booted;
   accepted = h.accepted;
-  room = let out = loans-out r.tasks.items in let room = h.stands.parts.room in omega (arith, out, room);
+  room = let out = out-lent r.tasks.items in let room = h.stands.parts.room in omega (arith, out, room);
   ran = omega (arith, ran, few);
   processes = h.stands.counted.few;
   numbers = h.numbers;

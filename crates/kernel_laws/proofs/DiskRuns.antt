@@ -52,8 +52,8 @@ event_changes w (Complete at) = refl
 event_changes w (Fail at) = refl
 
 -- the changes so far, and the disk
-abbrev pub run_of : World → Run
-run_of w = record { changes = changes_in_log w.log; storage = w.storage }
+abbrev pub device_run : World → Run
+device_run w = record { changes = changes_in_log w.log; storage = w.storage }
 
 come_runs : (files : List NamedFile) (cs : List Change) (st : Storage) (o : Option Change)
     → run_after files (record { changes = cs; storage = st }) (come o) ≡ record { changes = cs ++ option_to_list o; storage = st }
@@ -67,7 +67,7 @@ same_changes log = changes_in_log-entry log disk_entry ∙ append-nil (changes_i
 
 -- an event does to the disk what its moves do
 event_runs : (files : List NamedFile) (w : World) (e : Event) → IsFoldOf files w
-    → run_after files (run_of w) (moves_of e (step w.sync e).entry.change) ≡ run_of (happens w e)
+    → run_after files (device_run w) (moves_of e (step w.sync e).entry.change) ≡ device_run (happens w e)
 unfolding moves_of
 event_runs files w (Turn pid n) folded =
     come_runs files (changes_in_log w.log) w.storage (step w.sync (Turn pid n)).entry.change
@@ -90,7 +90,7 @@ pub record IsDiskRun (b : Boot) (w : World) : Type 0 where
   pub folded : IsFoldOf b.files w
   pub moves : List Move
   pub changes : changes_in_moves moves ≡ changes_in_log w.log
-  pub runs : run_after b.files (first_run b.disk b.gate) moves ≡ run_of w
+  pub runs : run_after b.files (first_run b.disk b.gate) moves ≡ device_run w
 
 happens_runs : (b : Boot) (w : World) (e : Event) → IsDiskRun b w → IsDiskRun b (happens w e)
 happens_runs b w e h =

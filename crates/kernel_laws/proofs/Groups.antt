@@ -12,13 +12,13 @@ use Rattle.kernel_model.specs.World.{World, Boot, first_world, happens, after}
 use Rattle.kernel_model.specs.declared.event.Event.{Event}
 use Rattle.kernel_model.specs.declared.event.Event.TheVariants.{Complete}
 use Rattle.kernel_laws.proofs.DiskLaws.{OrderLaw}
-use Rattle.kernel_laws.proofs.DiskRuns.{run_of, disk_run}
+use Rattle.kernel_laws.proofs.DiskRuns.{device_run, disk_run}
 
 -- ---- the group
-pub run_orderly : OrderLaw → (b : Boot) (es : List Event) → IsOrderly (run_of (after (first_world b) es))
+pub run_orderly : OrderLaw → (b : Boot) (es : List Event) → IsOrderly (device_run (after (first_world b) es))
 run_orderly law b es = let r = disk_run b es in subst IsOrderly r.runs (law b.disk b.gate b.files r.moves)
 
-pub failed_uncommitted : (w : World) → IsOrderly (run_of w) → is_empty w.storage.device.failed ≡ false → committed w < changes w
+pub failed_uncommitted : (w : World) → IsOrderly (device_run w) → is_empty w.storage.device.failed ≡ false → committed w < changes w
 failed_uncommitted w h some =
     let busy = and_right (is_empty w.storage.device.in_flight) (is_empty w.storage.device.failed) some in
     let more = h.more busy in let most = h.most busy in omega arith
@@ -69,7 +69,7 @@ committed_by (x ∷ left) [] stages st some =
     ap (λ (b : Bool). if b then st.next_committed else st.committed) (sym (not_one (suc (length (x ∷ left)) + piece_count stages) (omega arith)))
 committed_by (x ∷ left) (y ∷ broken) stages st some = refl
 
-pub commits : (w : World) (at : ℕ) → IsOrderly (run_of w) → is_some (piece_at w.storage.device.in_flight at) ≡ true
+pub commits : (w : World) (at : ℕ) → IsOrderly (device_run w) → is_some (piece_at w.storage.device.in_flight at) ≡ true
     → committed (happens w (Complete at))
     ≡ (if is_empty w.storage.device.failed && writes_to_come w.storage == 1 then w.storage.next_committed else committed w)
 commits w at h there = go (piece_at w.storage.device.in_flight at) refl there

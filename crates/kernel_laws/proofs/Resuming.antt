@@ -9,9 +9,9 @@ use Rattle.kernel_laws.specs.Crashes.{HoldsPrefix, SurvivesCrash}
 use Rattle.kernel_model.specs.Answers.{committed}
 use Rattle.kernel_model.specs.Bytes.{ProgramsHoldBytes, TapesHoldBytes}
 use Rattle.kernel_model.specs.Paths.{changes_in_log}
-use Rattle.kernel_model.specs.World.{World, Boot, HoldsItsFiles, first_world, after}
+use Rattle.kernel_model.specs.World.{World, Boot, HoldsItsFiles, first_world, after, run_of}
 use Rattle.kernel_model.specs.declared.event.Event.{Event}
-use Rattle.kernel_laws.specs.Resuming.{IsSound, MayLeave, GoesOn, Crashed, end_of, AreRuns, last_boot, ArePrefixes}
+use Rattle.kernel_laws.specs.Resuming.{IsSound, MayLeave, GoesOn, Crashed, AreRuns, last_boot, ArePrefixes}
 
 -- a disk holds one list of files, up to one gate
 abbrev pub HeldOnce : Type 0
@@ -59,7 +59,7 @@ pub chain : HeldOnce → CrashLaw → TurnLaw → (rs : List Crashed) (b : Boot)
     → (prefixes : List (List Change)) × ArePrefixes b rs prefixes × ((last_boot b rs).files ≡ files_after b.files (joined prefixes))
 chain once law turn [] b h = ([], tt, refl)
 chain once law turn (r ∷ rs) b h =
-    let one : GoesOn b (end_of b r.events) r.next = goes-on once law b r.events r.next h.0 (sound-first r.next rs h.2).held h.1 in
+    let one : GoesOn b (run_of b r.events) r.next = goes-on once law b r.events r.next h.0 (sound-first r.next rs h.2).held h.1 in
     let rest = chain once law turn rs r.next h.2 in (
       one.kept ∷ rest.0,
       (one.prefix, rest.1),

@@ -3,11 +3,10 @@ use Rattle.std.proofs.Common.{◌≡◌, ℕ, ◌<◌, ◌≤◌, Bool, true, fa
 use Rattle.std.specs.Prelude.{if◌then◌else◌}
 use Rattle.std.proofs.lemmas.List.{length-append}
 use Rattle.disk_model.specs.declared.change.Change.{Change}
-use Rattle.disk_model.specs.declared.change.NamedFile.{NamedFile}
 use Rattle.disk_model.specs.declared.change.Piece.{Piece}
-use Rattle.disk_model.specs.Storage.{Storage, cut, completed_by, failed_by, fits, group, group_of, checkpoint, is_empty, is_quiet, piece_at}
-use Rattle.disk_model.specs.Rebuild.{rebuild}
+use Rattle.disk_model.specs.Storage.{Storage, completed_by, failed_by, is_empty, is_quiet, piece_at}
 use Rattle.disk_model.specs.Runs.{IsOrderly}
+use Rattle.disk_model.proofs.Cutting.{cut-committed}
 use Rattle.kernel_model.specs.Answers.{Kernel, now, committed, changes, with_event, with_events, writes_to_come}
 use Rattle.kernel_model.specs.Paths.{changes_in_log}
 use Rattle.kernel_model.specs.Steps.{step}
@@ -16,25 +15,17 @@ use Rattle.kernel_model.specs.declared.event.Event.{Event}
 use Rattle.kernel_model.specs.declared.event.Event.TheVariants.{Turn, Enter, Cut, Complete, Fail}
 use Rattle.kernel_model.proofs.Runs.{changes_in_log-entry, now-with_event}
 use Rattle.kernel_laws.proofs.DiskLaws.{OrderLaw}
-use Rattle.kernel_laws.proofs.DiskRuns.{run_of}
+use Rattle.kernel_laws.proofs.DiskRuns.{device_run}
 use Rattle.kernel_laws.proofs.Groups.{commits, run_orderly}
 
 -- ---- how many changes are committed
-cut-keeps : (st : Storage) (cs : List Change) (files : List NamedFile) → (cut st cs files).committed ≡ st.committed
-cut-keeps st [] files = refl
-cut-keeps st (c ∷ cs) files = by (is_quiet st.device) (fits st (group_of (c ∷ cs)))
-  where
-    by : (quiet fit : Bool) → (if quiet then (if fit then group st (group_of (c ∷ cs)) else checkpoint st (length (c ∷ cs)) (rebuild files)) else st).committed ≡ st.committed
-    by true true = refl
-    by true false = refl
-    by false fit = refl
 
 -- a write that is there is in flight
 in-flight : (ps : List Piece) (at : ℕ) → is_some (piece_at ps at) ≡ true → is_empty ps ≡ false
 in-flight [] at there = cc
 in-flight (p ∷ ps) at there = refl
 
-completion-keeps : (w : World) (at : ℕ) → IsOrderly (run_of w) → committed w ≤ committed (happens w (Complete at))
+completion-keeps : (w : World) (at : ℕ) → IsOrderly (device_run w) → committed w ≤ committed (happens w (Complete at))
 completion-keeps w at h = go (piece_at w.storage.device.in_flight at) refl
   where
     by : (b : Bool) → w.storage.committed < w.storage.next_committed → w.storage.committed ≤ (if b then w.storage.next_committed else w.storage.committed)
@@ -57,11 +48,11 @@ failure-keeps : (st : Storage) (at : ℕ) (o : Option Piece) → (failed_by st a
 failure-keeps st at None = refl
 failure-keeps st at (Some p) = refl
 
-committed-rises : (w : World) (e : Event) → IsOrderly (run_of w) → committed w ≤ committed (happens w e)
+committed-rises : (w : World) (e : Event) → IsOrderly (device_run w) → committed w ≤ committed (happens w e)
 committed-rises w (Turn pid n) h = omega arith
 committed-rises w (Enter pid) h = omega arith
 committed-rises w Cut h =
-    let same = cut-keeps w.storage (drop w.storage.committed (changes_in_log w.log)) w.sync.files.living in omega (arith, same)
+    let same = cut-committed w.storage (drop w.storage.committed (changes_in_log w.log)) w.sync.files.living in omega (arith, same)
 committed-rises w (Complete at) h = completion-keeps w at h
 committed-rises w (Fail at) h = let same = failure-keeps w.storage at (piece_at w.storage.device.in_flight at) in omega (arith, same)
 

@@ -6,7 +6,7 @@ use Rattle.disk_model.specs.Crash.{IsCrashOf}
 use Rattle.kernel_model.specs.Answers.{committed}
 use Rattle.kernel_model.specs.Bytes.{ProgramsHoldBytes, TapesHoldBytes}
 use Rattle.kernel_model.specs.Paths.{changes_in_log}
-use Rattle.kernel_model.specs.World.{World, Boot, HoldsItsFiles, first_world, after}
+use Rattle.kernel_model.specs.World.{World, Boot, HoldsItsFiles, run_of}
 use Rattle.kernel_model.specs.declared.event.Event.{Event}
 
 -- a boot whose runs survive crashes: its disk holds the files that it names, and the memory of each program and each tape hold
@@ -36,14 +36,10 @@ pub record Crashed : Type 0 where
   pub events : List Event
   pub next : Boot
 
--- how a run ends that begins with this boot
-abbrev pub end_of : Boot → List Event → World
-end_of b events = after (first_world b) events
-
 -- from this boot on, each of these runs ends in a crash, and the next one is booted on a disk that the crash may leave
 abbrev pub AreRuns : Boot → List Crashed → Type 0
 AreRuns b [] = IsSound b
-AreRuns b (r ∷ rs) = IsSound b × MayLeave (end_of b r.events) r.next.disk × AreRuns r.next rs
+AreRuns b (r ∷ rs) = IsSound b × MayLeave (run_of b r.events) r.next.disk × AreRuns r.next rs
 
 -- the boot of the last run
 abbrev pub last_boot : Boot → List Crashed → Boot
@@ -55,4 +51,4 @@ abbrev pub ArePrefixes : Boot → List Crashed → List (List Change) → Type 0
 ArePrefixes b [] [] = Unit {0}
 ArePrefixes b [] (kept ∷ prefixes) = ⊥
 ArePrefixes b (r ∷ rs) [] = ⊥
-ArePrefixes b (r ∷ rs) (kept ∷ prefixes) = IsPrefix (end_of b r.events) kept × ArePrefixes r.next rs prefixes
+ArePrefixes b (r ∷ rs) (kept ∷ prefixes) = IsPrefix (run_of b r.events) kept × ArePrefixes r.next rs prefixes

@@ -12,14 +12,14 @@ ghost use Rattle.kernel_model.specs.Drains.{Drains};
 ghost use Rattle.kernel_model.specs.Shown.{handed, printed, shown, told};
 ghost use Rattle.kernel_model.specs.declared.event.Event.{Event};
 ghost use Rattle.kernel_model.specs.declared.event.Event.TheVariants.{Complete};
-ghost use Rattle.kernel_model.specs.World.{World, Boot, HoldsItsFiles, first_world, happens, after};
+ghost use Rattle.kernel_model.specs.World.{World, Boot, HoldsItsFiles, first_world, happens, after, run_of};
 ghost use Rattle.kernel_model.specs.Bytes.{ProgramsHoldBytes, TapesHoldBytes};
 ghost use Rattle.kernel_model.specs.Fine.{Fine, IsFine, after_fine, gathered, unfolded};
 ghost use Rattle.kernel_model.specs.Views.{SameView, contents};
 ghost use Rattle.kernel_laws.specs.Promises.{IsSynchronous};
 ghost use Rattle.kernel_laws.specs.Crashes.{SurvivesCrash};
 ghost use Rattle.kernel_laws.specs.Kept.{KeepsWhatWasSeen};
-ghost use Rattle.kernel_laws.specs.Resuming.{IsSound, MayLeave, GoesOn, Crashed, AreRuns, ArePrefixes, end_of, last_boot};
+ghost use Rattle.kernel_laws.specs.Resuming.{IsSound, MayLeave, GoesOn, Crashed, AreRuns, ArePrefixes, last_boot};
 ghost use Rattle.kernel_laws.specs.Gathering.{HasNoTurn, IsGathered};
 
 use disk_model::{
@@ -75,10 +75,10 @@ pub fn shown_is_kept()
 /// of the run's changes, with each committed change in it. And so it goes on through any number of runs and crashes: the last
 /// one's files are those of the first boot after such a prefix of each run's changes, one after the other.
 pub fn runs_go_on()
-    ensures held { (b : Boot) (es : List Event) (left : List ℕ) → IsSound b → MayLeave (end_of b es) left
+    ensures held { (b : Boot) (es : List Event) (left : List ℕ) → IsSound b → MayLeave (run_of b es) left
         → (files : List NamedFile) × IsHeld left files }
-    ensures next { (b : Boot) (es : List Event) (next : Boot) → IsSound b → HoldsItsFiles next → MayLeave (end_of b es) next.disk
-        → GoesOn b (end_of b es) next }
+    ensures next { (b : Boot) (es : List Event) (next : Boot) → IsSound b → HoldsItsFiles next → MayLeave (run_of b es) next.disk
+        → GoesOn b (run_of b es) next }
     ensures chain { (runs : List Crashed) (b : Boot) → AreRuns b runs
         → (prefixes : List (List Change)) × ArePrefixes b runs prefixes × ((last_boot b runs).files ≡ files_after b.files (joined prefixes)) }
 {

@@ -5,6 +5,7 @@ use Rattle.std.specs.List.{list_all}
 use Rattle.std.specs.Str.{bytes_eq}
 use Rattle.std.proofs.lemmas.Bool.{and_parts, leb-false, ltb-false, not-false, or_parts}
 use Rattle.disk_model.specs.declared.change.NamedFile.{NamedFile}
+use Rattle.disk_model.specs.Files.{is_name_byte}
 use Rattle.disk_model.specs.Numbers.{Numbered, file_of, lives}
 use Rattle.disk_model.proofs.Lists.{some_of}
 use Rattle.machine_model.specs.declared.stop.Stop.{Stop}
@@ -12,7 +13,7 @@ use Rattle.machine_model.specs.declared.stop.Stop.TheVariants.{Limit, Call, Trap
 use Rattle.disk_model.specs.Limits.{most_files, longest_name, longest_file}
 use Rattle.kernel_model.specs.Requests.{most_bytes, request_of}
 use Rattle.machine_model.specs.Numbers.{cause_number}
-use Rattle.kernel_model.specs.Rows.{Effect, looking_at, Directory, directory, number_named, is_bad_length, seek_file, seek_to, row_unlink, unlink_named, unlink_file, row_rename, rename_read, rename_file, rename_to, EndedChild, only, number, failure, bad_address, carrier_of, ends_of, row, row_end, row_write, write_read, write_to, write_file, write_pipe, put_some, may_write, row_read, read_from, read_file, read_tape, read_pipe, take_some, may_read, row_close, row_open, open_named, open_free, open_file, open_there, open_emptied, open_new, row_pipe, pipe_free, pipe_made, row_fork, row_wait, wait_ended, first_ended, free_descriptor, free_after, is_name_byte, descriptor_at, most_pipes, most_processes, pipe_size}
+use Rattle.kernel_model.specs.Rows.{Effect, looking_at, Directory, directory, number_named, is_bad_length, seek_file, seek_to, row_unlink, unlink_named, unlink_file, row_rename, rename_read, rename_file, rename_to, EndedChild, only, number, failure, bad_address, carrier_of, ends_of, row, row_end, row_write, write_read, write_to, write_file, write_pipe, put_some, may_write, row_read, read_from, read_file, read_tape, read_pipe, take_some, may_read, row_close, row_open, open_named, open_free, open_file, open_there, open_emptied, open_new, row_pipe, pipe_free, pipe_made, row_fork, row_wait, wait_ended, first_ended, free_descriptor, free_after, descriptor_at, most_pipes, most_processes, pipe_size}
 use Rattle.kernel_model.specs.State.{Process, Shared, PipeState, TapeState, unread}
 use Rattle.kernel_model.specs.Steps.{effect_at}
 use Rattle.kernel_model.specs.declared.carrier.Carrier.{Carrier}

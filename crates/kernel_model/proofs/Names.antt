@@ -8,12 +8,12 @@ use Rattle.std.proofs.lemmas.List.{length-map}
 use Rattle.std.proofs.lemmas.List.Quantifiers.{position-Some}
 use Rattle.std.proofs.lemmas.Option.{slice_get-get_or}
 use Rattle.std.proofs.lemmas.Slice.Eq.{bytes_eq-Decides}
-use Rattle.disk_model.specs.Files.{IsNameByte}
+use Rattle.disk_model.specs.Files.{IsNameByte, is_name_byte}
 use Rattle.disk_model.specs.declared.change.NamedFile.{NamedFile}
 use Rattle.disk_model.proofs.Naming.{differs}
 use Rattle.disk_model.specs.Numbers.{Numbered, at_place, place_of}
 use Rattle.kernel_model.specs.Limits.{AreNumbered, RiseFrom}
-use Rattle.kernel_model.specs.Rows.{directory, number_named, is_name_byte, names_of}
+use Rattle.kernel_model.specs.Rows.{directory, number_named, names_of}
 
 -- what stands at a place that is given is one of the list
 pub at_some : {A : Type 0} (xs : List A) (o : Option ℕ) (x : A) → at_place xs o ≡ Some x → (place : ℕ) × (o ≡ Some place) × (slice_get xs place ≡ Some x)

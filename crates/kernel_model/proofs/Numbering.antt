@@ -1,5 +1,5 @@
 -- The numbers of files: they rise, each below the number of the next file, which never falls.
-use Rattle.std.proofs.Common.{◌≡◌, ℕ, zero, suc, ◌+◌, ◌≤◌, List, [], ◌∷◌, ◌++◌, length, take, drop, Option, Some, None, refl, sym, ap, ◌∙◌, subst, arith, length-append}
+use Rattle.std.proofs.Common.{◌≡◌, ℕ, zero, suc, ◌+◌, ◌≤◌, List, [], ◌∷◌, ◌++◌, length, take, drop, Option, Some, None, refl, sym, ◌∙◌, subst, arith, length-append}
 use Rattle.std.specs.Prelude.{slice_get}
 use Rattle.std.specs.List.{remove}
 use Rattle.std.proofs.lemmas.List.{length-take, length-drop, length-set}
@@ -8,6 +8,7 @@ use Rattle.disk_model.specs.Numbers.{Numbered, numbered, numbers_from}
 use Rattle.disk_model.specs.declared.change.Change.{Change}
 use Rattle.disk_model.specs.declared.change.Change.TheVariants as change
 use Rattle.disk_model.specs.declared.change.NamedFile.{NamedFile}
+use Rattle.disk_model.proofs.Numbering.{numbers_length, name_length}
 use Rattle.kernel_model.specs.Limits.{AreNumbered, RiseFrom}
 use Rattle.kernel_model.specs.State.{changed_by}
 
@@ -25,10 +26,6 @@ numbers_rise low [] = tt
 numbers_rise low (f ∷ fs) =
     let same : low + 1 + length fs ≡ low + length (f ∷ fs) = omega arith in
     (omega arith, omega arith, subst (λ (high : ℕ). RiseFrom (low + 1) high (numbers_from (low + 1) fs)) same (numbers_rise (low + 1) fs))
-
-numbers_length : (low : ℕ) (files : List NamedFile) → length (numbers_from low files) ≡ length files
-numbers_length low [] = refl
-numbers_length low (f ∷ fs) = ap suc (numbers_length (low + 1) fs)
 
 -- nor does it rise by more than one
 pub made_by_one : (files : Numbered) (o : Option Change) → (changed_by files o).made ≤ files.made + 1
@@ -79,10 +76,6 @@ without_length xs ys (Some k) same = omega (
 bytes_length : (files : List NamedFile) (place : ℕ) (o : Option NamedFile) (f : List ℕ → List ℕ) → length (with_bytes files place o f) ≡ length files
 bytes_length files place None f = refl
 bytes_length files place (Some file) f = length-set files place (record { name = file.name; bytes = f file.bytes })
-
-name_length : (files : List NamedFile) (place : ℕ) (o : Option NamedFile) (name : List ℕ) → length (with_name files place o name) ≡ length files
-name_length files place None name = refl
-name_length files place (Some file) name = length-set files place (record { name = name; bytes = file.bytes })
 
 -- they are so after each change
 pub numbered_changed : (files : Numbered) (o : Option Change) → AreNumbered files → AreNumbered (changed_by files o)

@@ -6,6 +6,7 @@ use Rattle.std.specs.List.{list_all, position}
 use Rattle.std.specs.Str.{bytes_eq}
 use Rattle.std.specs.Int.{w32, to_le_bytes}
 use Rattle.disk_model.specs.declared.change.NamedFile.{NamedFile}
+use Rattle.disk_model.specs.Files.{is_name_byte}
 use Rattle.disk_model.specs.Numbers.{Numbered, at_place, file_of, lives}
 use Rattle.disk_model.specs.Limits.{most_files, longest_name, longest_file}
 use Rattle.kernel_model.specs.Requests.{most_bytes}
@@ -328,10 +329,6 @@ directory files = record { names = names_of files.living; numbers = files.number
 -- the number of the file of a name
 abbrev pub number_named : Directory → List ℕ → Option ℕ
 number_named dir name = at_place dir.numbers (position (λ other. bytes_eq other name) dir.names)
-
--- a byte of a name: 0x21 to 0x7E, without the slash
-abbrev pub is_name_byte : ℕ → Bool
-is_name_byte b = nat_le 33 b && nat_le b 126 && not (b == 47)
 
 -- a name has another length than 1 to 32 bytes
 abbrev pub is_bad_length : ℕ → Bool

@@ -103,3 +103,7 @@ first_world b = record {
   log = [];
   storage = first_storage b.disk b.gate;
 }
+
+-- the run of these events
+abbrev pub run_of : Boot → List Event → World
+run_of b events = after (first_world b) events

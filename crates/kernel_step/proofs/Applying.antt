@@ -11,14 +11,14 @@ use Rattle.kernel_model.specs.Answers.{Refuses, Applies, refusal, turn_refusal, 
 use Rattle.kernel_model.specs.Entries.{Entry}
 use Rattle.kernel_model.specs.State.{Process, process_at}
 use Rattle.kernel_model.specs.Steps.{own_entry, after_run}
-use Rattle.kernel_model.specs.World.{Boot, World, first_world, happens}
+use Rattle.kernel_model.specs.World.{Boot, World, first_world, happens, run_of}
 use Rattle.kernel_model.proofs.Runs.{after-append}
 use Rattle.kernel_model.specs.declared.answer.Answer.{Answer}
 use Rattle.kernel_model.specs.declared.answer.Answer.TheVariants as answer_of
 use Rattle.kernel_model.specs.declared.answer.Refused.{Refused}
 use Rattle.kernel_model.specs.declared.event.Event.{Event}
 use Rattle.kernel_model.specs.declared.event.Event.TheVariants.{Turn}
-use Rattle.kernel_step.specs.Stands.{run_of, kernel_of, KeepsRun}
+use Rattle.kernel_step.specs.Stands.{kernel_of, KeepsRun}
 use Rattle.kernel_step.specs.Mirrors.{Mirrors}
 use Rattle.kernel_step.specs.Parts.{Turned}
 use Rattle.kernel_step.specs.Seen.{AreScreens}

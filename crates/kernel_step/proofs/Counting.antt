@@ -14,7 +14,7 @@ use Rattle.machine_model.specs.Numbers.{cause_number}
 use Rattle.kernel_model.specs.Rows.{Effect as Row, row, row_end, most_processes}
 use Rattle.kernel_model.specs.State.{SyncState, Process, shared, process_at, put_process, with_process}
 use Rattle.kernel_model.specs.Steps.{Transition, step, impossible, own_entry, after_run, after_turn, after_reply, after_end, forked, effect_at, after_effect, after_effect_if, after_enter}
-use Rattle.kernel_model.specs.World.{Boot, World, first_world, happens, processes_from, most_programs}
+use Rattle.kernel_model.specs.World.{Boot, World, first_world, happens, processes_from, most_programs, run_of}
 use Rattle.kernel_model.specs.declared.answer.Answer.{Answer}
 use Rattle.kernel_model.specs.declared.answer.Refused.{Refused}
 use Rattle.kernel_model.specs.declared.event.Event.{Event}
@@ -26,7 +26,7 @@ use Rattle.kernel_model.proofs.Limits.{put_length}
 use Rattle.kernel_model.proofs.Runs.{after-append, append-nil, now-with_event, instructions-append, ran-answer}
 use Rattle.disk_model.specs.declared.change.NamedFile.{NamedFile}
 use Rattle.kernel_step.specs.Booting.{program_of, boot_with}
-use Rattle.kernel_step.specs.Stands.{run_of, kernel_of, KeepsRun}
+use Rattle.kernel_step.specs.Stands.{kernel_of, KeepsRun}
 use Rattle.kernel_step.specs.Counted.{done_by, IsCounted}
 use Rattle.kernel_step.specs.Loaned.{loan_result}
 use Rattle.kernel_step.specs.Mirrors.{AreTasks}

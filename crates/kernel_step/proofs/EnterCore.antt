@@ -6,13 +6,13 @@ use Rattle.std.specs.Prelude.{IfOk, IfErr, OnOk, OnErr}
 use Rattle.kernel_model.specs.Answers.{Refuses, Applies, refusal, enter_refusal, limit, outcome_of, entered, Lending, never_lent, with_child}
 use Rattle.kernel_model.specs.State.{Process, process_at}
 use Rattle.kernel_model.specs.Steps.{step}
-use Rattle.kernel_model.specs.World.{Boot, World, first_world, happens, after}
+use Rattle.kernel_model.specs.World.{Boot, World, first_world, happens, after, run_of}
 use Rattle.kernel_model.proofs.Runs.{after-append}
 use Rattle.kernel_model.specs.declared.answer.Answer.{Answer}
 use Rattle.kernel_model.specs.declared.answer.Refused.{Refused}
 use Rattle.kernel_model.specs.declared.event.Event.{Event}
 use Rattle.kernel_model.specs.declared.event.Event.TheVariants.{Enter}
-use Rattle.kernel_step.specs.Stands.{run_of, kernel_of, KeepsRun}
+use Rattle.kernel_step.specs.Stands.{kernel_of, KeepsRun}
 use Rattle.kernel_step.specs.Mirrors.{Mirrors}
 use Rattle.kernel_step.specs.Tasks.{process_of, lending_of, count_out, AreFewLoans}
 use Rattle.kernel_step.specs.Tests.{full_of, lent_of, enter_refusal_of}

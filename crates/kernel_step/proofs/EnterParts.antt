@@ -15,7 +15,7 @@ use Rattle.kernel_model.specs.declared.effect.PipeStep.{PipeStep}
 use Rattle.kernel_step.specs.Entering.{part_after, process_after, born, parts_after}
 use Rattle.kernel_step.specs.Mirrors.{ArePipes}
 use Rattle.kernel_step.proofs.EnterPlans.{part-seen}
-use Rattle.kernel_step.proofs.EnterTasks.{world_after}
+use Rattle.kernel_step.proofs.Turning.{world_with}
 
 -- ---- the parts
 born-forked : (p : Process) (o : Option ℕ) → born (Some (part_of p)) o ≡ map part_of (forked p o)
@@ -52,7 +52,7 @@ few-all laws n m pipes [] room h = few-more n m pipes (omega (arith, room)) h
 few-all laws n m pipes (step ∷ steps) room h = few-all laws (n + 1) m (stepped pipes step) steps (omega (arith, room)) (laws.grown n pipes step h)
 
 pub pipes-planned : PipeLaws → (w : World) (seen : List Seen) (steps : List PipeStep) (t : Transition) → t.state.pipes ≡ all_stepped w.sync.pipes steps
-    → length steps ≤ 16 → MayAllStep seen steps → ArePipes w seen → ArePipes (world_after w t) (all_seen seen steps)
+    → length steps ≤ 16 → MayAllStep seen steps → ArePipes w seen → ArePipes (world_with w t) (all_seen seen steps)
 pipes-planned laws w seen steps t is few may h =
     let longer : length (w.log ++ t.entry ∷ []) ≡ length w.log + 1 = length_push w.log t.entry in
     record {

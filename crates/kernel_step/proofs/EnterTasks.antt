@@ -12,7 +12,7 @@ use Rattle.kernel_model.specs.Entries.{Entry, Item, Got, End as Ended}
 use Rattle.kernel_model.specs.Loans.{is_waiting}
 use Rattle.kernel_model.specs.Shown.{given_by, is_made, told, end_in}
 use Rattle.kernel_model.specs.State.{Process, put_process}
-use Rattle.kernel_model.specs.Steps.{Transition, forked, zero_reply}
+use Rattle.kernel_model.specs.Steps.{forked, zero_reply}
 use Rattle.kernel_model.specs.World.{World}
 use Rattle.kernel_model.specs.declared.carrier.Carrier.{Carrier}
 use Rattle.kernel_model.specs.declared.request.Verdict.{Verdict}
@@ -28,11 +28,7 @@ use Rattle.kernel_step.proofs.EnterFine.{IsFineTask}
 use Rattle.kernel_step.proofs.EnterLists.{withholds-more, withholds-same, items-here, items-elsewhere}
 use Rattle.kernel_step.proofs.Lists.{get-set, get-joined}
 use Rattle.kernel_step.proofs.Quiet.{told-own, told-made, waiting-more}
-use Rattle.kernel_step.proofs.Turning.{IsProcessOf}
-
--- the run after a transition that the device does not see
-abbrev pub world_after : World → Transition → World
-world_after w t = record { sync = t.state; log = w.log ++ t.entry ∷ []; storage = w.storage }
+use Rattle.kernel_step.proofs.Turning.{IsProcessOf, world_with}
 
 -- ---- waiting
 -- whether process p waits after an event, by what the event did
@@ -170,7 +166,7 @@ told-task : (w : World) (served pid place n : ℕ) (full : Bool) (q : Process) (
     → pid ≡ place + 1 → place < n → IsFineTask t full → IfSome plan.child (IsNext n)
     → IsMarkOf mark w.log (entry_of pid plan)
     → IsTold plan.verdict mark served t t'
-    → IsTask w served place t → IsTask (world_after w (planned w.sync pid q plan)) (served_after plan.verdict served) place t'
+    → IsTask w served place t → IsTask (world_with w (planned w.sync pid q plan)) (served_after plan.verdict served) place t'
 told-task w served pid place n full q t t' plan mark number within fine child is_mark new h =
     let out : out_of t' ≡ None = new.out ∙ fine.here in
     let none : needed (out_of t') ≡ 0 = ap needed out in
@@ -195,7 +191,7 @@ told-task w served pid place n full q t t' plan mark number within fine child is
 
 other-task : (w : World) (served pid place k n : ℕ) (q : Process) (u : Task) (plan : Plan)
     → pid ≡ place + 1 → (k ≡ place → ⊥) → k < n → IfSome plan.child (IsNext n)
-    → IsTask w served k u → IsTask (world_after w (planned w.sync pid q plan)) (served_after plan.verdict served) k u
+    → IsTask w served k u → IsTask (world_with w (planned w.sync pid q plan)) (served_after plan.verdict served) k u
 other-task w served pid place k n q u plan number other within child h = record {
   number = h.number;
   trace = trace-other w.storage.committed w.log (entry_of pid plan) (k + 1) u.trace (λ same. other (omega arith)) (unmade plan.child n k child within) h.trace;
@@ -216,7 +212,7 @@ child-task : (w : World) (served pid place n : ℕ) (full : Bool) (q : Process) 
     → pid ≡ place + 1 → IsFineTask t full → IfSome plan.child (IsNext n) → plan.child ≡ Some u.pid → is_some (item_of plan.verdict) ≡ true
     → IsMarkOf mark w.log (entry_of pid plan)
     → IsForked mark (machine_of t) t.trace u
-    → IsTask w served place t → IsTask (world_after w (planned w.sync pid q plan)) (served_after plan.verdict served) n u
+    → IsTask w served place t → IsTask (world_with w (planned w.sync pid q plan)) (served_after plan.verdict served) n u
 child-task w served pid place n full q t u plan mark number fine child is tells is_mark new h =
     let none : needed (out_of u) ≡ 0 = ap needed new.out in
     let count : (machine_of u).count ≡ (machine_of t).count + 1 = ap (λ (s : State). s.count) new.machine in
@@ -258,10 +254,10 @@ pub told-tasks : (w : World) (served : ℕ) (tasks : List Task) (pid place : ℕ
     → IsTold plan.verdict mark served t t'
     → MakesTask plan.child mark (machine_of t) t.trace child
     → AreTasks w served tasks
-    → AreTasks (world_after w (planned w.sync pid of.process plan)) (served_after plan.verdict served) (slice_set tasks place t' ++ option_to_list child)
+    → AreTasks (world_with w (planned w.sync pid of.process plan)) (served_after plan.verdict served) (slice_set tasks place t' ++ option_to_list child)
 told-tasks w served tasks pid place full t t' plan mark child number there fine of next tells is_mark new made h =
     let q : Process = of.process in
-    let v : World = world_after w (planned w.sync pid q plan) in
+    let v : World = world_with w (planned w.sync pid q plan) in
     let after : ℕ = served_after plan.verdict served in
     let is_suc : pid ≡ suc place = omega arith in
     let size : length (slice_set tasks place t') ≡ length tasks = length-set tasks place t' in

@@ -51,11 +51,11 @@ use Rattle.kernel_step.specs.declared.task.Task.{Task}
 use Rattle.kernel_step.proofs.EnterFine.{IsFineTask}
 use Rattle.kernel_step.proofs.EnterParts.{PipeLaws, parts-planned, pipes-planned, counted-quiet}
 use Rattle.kernel_step.proofs.EnterPlans.{part-seen}
-use Rattle.kernel_step.proofs.EnterTasks.{world_after, told-tasks, served-by-one}
+use Rattle.kernel_step.proofs.EnterTasks.{told-tasks, served-by-one}
 use Rattle.kernel_step.proofs.Lists.{get-set, map-set-same}
 use Rattle.kernel_step.proofs.EnterLists.{withholds-moved}
 use Rattle.kernel_step.proofs.Telling.{told-same}
-use Rattle.kernel_step.proofs.Turning.{IsProcessOf, process-there}
+use Rattle.kernel_step.proofs.Turning.{IsProcessOf, process-there, world_with}
 
 -- ---- the laws of the disk
 -- a checkpoint of files that possible changes made is possible
@@ -137,8 +137,8 @@ pub enter-steps : (w : World) (seen : Sight) (pid : ℕ) (full : Bool) (t : Task
 enter-steps w seen pid full t plan of sight fine plans =
     plans.goes w.sync of.process sight of.there of.state (of.status ∙ fine.running)
 
-pub enter-happens : (w : World) (pid : ℕ) (t : Transition) → step w.sync (Enter pid) ≡ t → happens w (Enter pid) ≡ world_after w t
-enter-happens w pid t goes = ap (λ (x : Transition). world_after w x) goes
+pub enter-happens : (w : World) (pid : ℕ) (t : Transition) → step w.sync (Enter pid) ≡ t → happens w (Enter pid) ≡ world_with w t
+enter-happens w pid t goes = ap (λ (x : Transition). world_with w x) goes
 
 -- ---- the changes
 made-one : ChangeLaw → (files : Numbered) (o : Option Change) → IfSome o (IsPossible files.living) → IsMade files.living → IsMade (changed_by files o).living
@@ -153,7 +153,7 @@ changes-more : ChangeLaw → (w : World) (t : Transition) (s s' : System) (chang
     → t.entry.change ≡ change → t.state.files ≡ changed_by w.sync.files change
     → IfSome change (IsPossible s.files.living)
     → s'.changes.items ≡ s.changes.items ++ option_to_list change → s'.files ≡ changed_by s.files change
-    → AreChanges w s → AreChanges (world_after w t) s'
+    → AreChanges w s → AreChanges (world_with w t) s'
 changes-more law w t s s' change makes files possible more new h =
     let one : List Change = option_to_list change in
     let all : changes_in_log (w.log ++ t.entry ∷ []) ≡ changes_in_log w.log ++ one =
@@ -224,7 +224,7 @@ done-runs laws w tasks s s' pid place full t t' outcome child h number there fin
     let goes : step w.sync (Enter pid) ≡ planned w.sync pid of.process plan =
     enter-steps w (sight_in s) pid full t plan of (sight-is w tasks s h) fine done.plans in
     let entry : (step w.sync (Enter pid)).entry ≡ x = ap (λ (y : Transition). y.entry) goes in
-    let v : World = world_after w (planned w.sync pid of.process plan) in
+    let v : World = world_with w (planned w.sync pid of.process plan) in
     let size : length s.processes.parts ≡ length tasks = sym (as-many w tasks s h) in
     let marked = noted-mark w s x s'.dependencies.marks done.mark done.system.noted h.changes h.kept in
     record {

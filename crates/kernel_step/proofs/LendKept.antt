@@ -12,11 +12,11 @@ use Rattle.machine_model.specs.States.{State}
 use Rattle.kernel_model.specs.Answers.{Kernel, Lending, Refuses, lending_at, quantum_out, process_of as process_in, is_lent, loans_out, now, limit, has_ended, count_at}
 use Rattle.kernel_model.specs.Loans.{is_waiting, is_lendable, pick, is_full_for_loan, loan_count, loans_in, loan_refusal, put_lending, with_loan, numbers_to, IsNextLoan}
 use Rattle.kernel_model.specs.State.{Process}
-use Rattle.kernel_model.specs.World.{Boot, World}
+use Rattle.kernel_model.specs.World.{Boot, World, run_of}
 use Rattle.kernel_model.specs.declared.answer.Refused.{Refused}
 use Rattle.kernel_model.specs.declared.answer.Refused.TheVariants as refused
 use Rattle.kernel_model.specs.declared.event.Event.{Event}
-use Rattle.kernel_step.specs.Stands.{run_of, kernel_of, KeepsRun}
+use Rattle.kernel_step.specs.Stands.{kernel_of, KeepsRun}
 use Rattle.kernel_step.specs.Lending.{full_for_loan_of, is_fit, next_fit, IsLent, Lent}
 use Rattle.kernel_step.specs.Loaned.{loan_out}
 use Rattle.kernel_step.specs.Mirrors.{IsTask, AreTasks}

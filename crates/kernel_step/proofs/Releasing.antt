@@ -3,9 +3,9 @@ use Rattle.std.proofs.Common.{◌≡◌, ℕ, Bool, true, false, nat_le, if◌th
 use Rattle.kernel_model.specs.Paths.{is_durable}
 use Rattle.kernel_model.specs.Shown.{Given, prefix, released, told, handed}
 use Rattle.kernel_model.specs.State.{Process, process_at}
-use Rattle.kernel_model.specs.World.{Boot, World}
+use Rattle.kernel_model.specs.World.{Boot, World, run_of}
 use Rattle.withheld.specs.Withheld.{Withheld, Held, whats, released as released_of}
-use Rattle.kernel_step.specs.Stands.{run_of, Stands}
+use Rattle.kernel_step.specs.Stands.{Stands}
 use Rattle.kernel_step.specs.Seen.{AreMarked, Withholds}
 use Rattle.kernel_step.specs.Tests.{IsTaskOf}
 use Rattle.kernel_step.specs.declared.running.Running.{Running}

@@ -9,13 +9,13 @@ use Rattle.kernel_model.specs.Answers.{Kernel, Lending, AllAccepted, refusal, tu
 use Rattle.kernel_model.specs.Loans.{returned, events_of, put_lending, loans_in}
 use Rattle.kernel_model.specs.State.{Process, process_at, put_process}
 use Rattle.kernel_model.specs.Steps.{after_run}
-use Rattle.kernel_model.specs.World.{Boot, World, first_world}
+use Rattle.kernel_model.specs.World.{Boot, World, first_world, run_of}
 use Rattle.kernel_model.proofs.Runs.{after-append}
 use Rattle.kernel_model.specs.declared.answer.Refused.{Refused}
 use Rattle.kernel_model.specs.declared.answer.Refused.TheVariants as refused
 use Rattle.kernel_model.specs.declared.event.Event.{Event}
 use Rattle.kernel_model.specs.declared.event.Event.TheVariants.{Turn, Enter}
-use Rattle.kernel_step.specs.Stands.{run_of, kernel_of, KeepsRun}
+use Rattle.kernel_step.specs.Stands.{kernel_of, KeepsRun}
 use Rattle.kernel_step.specs.Loaned.{loan_result}
 use Rattle.kernel_step.specs.Settling.{IsLoanOf}
 use Rattle.kernel_step.specs.Tasks.{machine_of, out_of, lending_of, count_out, needed}

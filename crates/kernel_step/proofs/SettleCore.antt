@@ -8,7 +8,7 @@ use Rattle.kernel_model.specs.Answers.{Kernel, Lending, lending_at, quantum_out,
 use Rattle.kernel_model.specs.Loans.{LoanResult, IsOfLoan, loans_in, put_lending, events_of, returned, settled, settled_answer, outcome_after}
 use Rattle.kernel_model.specs.State.{Process, process_at}
 use Rattle.kernel_model.specs.Steps.{step}
-use Rattle.kernel_model.specs.World.{Boot, World, first_world, happens, after}
+use Rattle.kernel_model.specs.World.{Boot, World, first_world, happens, after, run_of}
 use Rattle.kernel_model.proofs.Runs.{after-append, after-after, now-with_event}
 use Rattle.kernel_model.specs.declared.answer.Answer.{Answer}
 use Rattle.kernel_model.specs.declared.answer.Answer.TheVariants as answer_of
@@ -16,7 +16,7 @@ use Rattle.kernel_model.specs.declared.answer.Outcome.{Outcome}
 use Rattle.kernel_model.specs.declared.event.Event.{Event}
 use Rattle.kernel_model.specs.declared.event.Event.TheVariants.{Turn, Enter}
 use Rattle.commit_deps.specs.Kept.{Kept}
-use Rattle.kernel_step.specs.Stands.{run_of, kernel_of, KeepsRun}
+use Rattle.kernel_step.specs.Stands.{kernel_of, KeepsRun}
 use Rattle.kernel_step.specs.Entering.{IsSameTask, IsSameSystem}
 use Rattle.kernel_step.specs.Loaned.{loan_result}
 use Rattle.kernel_step.specs.Mirrors.{Mirrors}

@@ -3,12 +3,12 @@ use Rattle.std.proofs.Common.{◌≡◌, ℕ, suc, ◌+◌, ◌==◌, ◌&&◌, 
 use Rattle.kernel_model.specs.Answers.{Kernel, Lending, quantum_out, process_of as process_in, is_lent, now, has_ended}
 use Rattle.kernel_model.specs.Loans.{is_waiting, pick, is_over, standing_of}
 use Rattle.kernel_model.specs.State.{Process}
-use Rattle.kernel_model.specs.World.{Boot, World}
+use Rattle.kernel_model.specs.World.{Boot, World, run_of}
 use Rattle.kernel_model.specs.declared.event.Event.{Event}
 use Rattle.kernel_model.specs.declared.standing.Standing.{Standing}
 use Rattle.kernel_model.specs.declared.standing.Standing.TheVariants.{Ended, Lent, Waits, Free}
 use Rattle.kernel_step.specs.Lending.{next_fit, standing_in}
-use Rattle.kernel_step.specs.Stands.{run_of, kernel_of, kernel_in, KeepsRun, Stands}
+use Rattle.kernel_step.specs.Stands.{kernel_of, kernel_in, KeepsRun, Stands}
 use Rattle.kernel_step.specs.Tasks.{out_of, status_of, count_out}
 use Rattle.kernel_step.specs.Tests.{IsTaskOf}
 use Rattle.kernel_step.specs.Waiting.{is_asleep}

@@ -111,6 +111,8 @@ pub enter-bare : (ps : List Process) (pid : ℕ) (lent full : Bool) → enter_re
 enter-bare ps pid lent full = ap (λ (o : Option Process). enter_refusal o lent full) (at-bare ps pid) ∙ enter-by (process_at ps pid) lent full
 
 -- ---- a Turn of the run
+
+-- the run after a transition that the device does not see
 abbrev pub world_with : World → Transition → World
 world_with w t = record { sync = t.state; log = w.log ++ t.entry ∷ []; storage = w.storage }
 

@@ -1,5 +1,5 @@
 -- The device's events of the parts are those of the run.
-use Rattle.std.proofs.Common.{◌≡◌, ℕ, suc, ◌+◌, ◌*◌, ◌^◌, ◌<◌, ◌≤◌, Bool, true, false, not, List, [], ◌∷◌, ◌++◌, length, map, drop, slice_get, Option, Some, None, is_some, IfSome, is_none, if◌then◌else◌, Result, Ok, Err, refl, sym, ap, subst, ◌∙◌, arith}
+use Rattle.std.proofs.Common.{◌≡◌, ℕ, suc, ◌+◌, ◌*◌, ◌^◌, ◌<◌, ◌≤◌, Bool, false, not, List, [], ◌∷◌, ◌++◌, length, map, drop, slice_get, Option, Some, None, is_some, IfSome, is_none, Result, Ok, Err, refl, sym, ap, subst, ◌∙◌, arith}
 use Rattle.std.proofs.lemmas.List.{length_push}
 use Rattle.std.specs.Prelude.{IfOk, IfErr, OnOk, OnErr}
 use Rattle.std.specs.List.{AllByRecursion}
@@ -7,18 +7,17 @@ use Rattle.std.proofs.lemmas.Bool.{leb-false}
 use Rattle.commit_deps.specs.Keeps.{Keeps}
 use Rattle.commit_deps.specs.Kept.{Marked}
 use Rattle.disk_model.specs.Files.{IsFormed, IsMade}
-use Rattle.disk_model.specs.Storage.{Storage, cut, group, checkpoint, group_of, group_or_checkpoint, fits, completed, failed, failed_by, is_empty, is_quiet, piece_at}
-use Rattle.disk_model.specs.Rebuild.{rebuild}
+use Rattle.disk_model.specs.Storage.{Storage, cut, completed, failed, failed_by, is_empty, piece_at}
 use Rattle.disk_model.proofs.Lists.{each_drop}
+use Rattle.disk_model.proofs.Cutting.{cut-committed}
 use Rattle.disk_model.specs.declared.change.Change.{Change}
-use Rattle.disk_model.specs.declared.change.NamedFile.{NamedFile}
 use Rattle.disk_model.specs.Numbers.{Numbered}
 use Rattle.kernel_model.specs.Answers.{Refuses, Applies, refusal, cut_refusal, write_refusal, is_full, Lending, changes_to_commit, writes_to_come}
 use Rattle.kernel_model.specs.Entries.{Entry, Item}
 use Rattle.kernel_model.specs.Paths.{changes_in_log}
 use Rattle.kernel_model.specs.Shown.{told, printed, end_in}
 use Rattle.kernel_model.specs.Steps.{disk_entry}
-use Rattle.kernel_model.specs.World.{Boot, World, first_world, happens}
+use Rattle.kernel_model.specs.World.{Boot, World, first_world, happens, run_of}
 use Rattle.kernel_model.proofs.Runs.{after-append}
 use Rattle.kernel_model.specs.declared.answer.Answer.{Answer}
 use Rattle.kernel_model.specs.declared.answer.Answer.TheVariants as answer_of
@@ -29,7 +28,7 @@ use Rattle.kernel_model.specs.declared.event.Event.TheVariants.{Cut, Complete, F
 use Rattle.machine_model.specs.States.{State}
 use Rattle.kernel_step.specs.Waiting.{is_asleep}
 use Rattle.kernel_step.specs.Advanced.{AreAdvanced, IsMoved, AreMoved}
-use Rattle.kernel_step.specs.Stands.{run_of, kernel_of, KeepsRun}
+use Rattle.kernel_step.specs.Stands.{kernel_of, KeepsRun}
 use Rattle.withheld.specs.Withheld.{Withheld, Held, whats}
 use Rattle.kernel_step.specs.Mirrors.{IsTask, AreTasks, AreChanges, Mirrors}
 use Rattle.kernel_step.specs.Seen.{AreScreens}
@@ -275,17 +274,6 @@ complete-refused b history history' tasks s last at full why h is refuses same =
     refused-applies b history history' tasks tasks last (Complete at) (write_refusal s.committer at full) why same refl (write-refusal-is b history tasks s last at full h is) refuses
 
 -- ---- a Cut
-cut-committed : (st : Storage) (cs : List Change) (files : List NamedFile) → (cut st cs files).committed ≡ st.committed
-cut-committed st [] files = refl
-cut-committed st (c ∷ cs) files = elim (is_quiet st.device) as (λ q. (if q then group_or_checkpoint st (c ∷ cs) files else st).committed ≡ st.committed) [
-  | false ↦ refl
-  | true ↦ elim (fits st (group_of (c ∷ cs))) as (λ f.
-      (if f then group st (group_of (c ∷ cs)) else checkpoint st (length (c ∷ cs)) (rebuild files)).committed ≡ st.committed) [
-        | true ↦ refl
-        | false ↦ refl
-      ]
-]
-
 pub changes-formed : (w : World) (s : System) (n : ℕ) → AreChanges w s → AllByRecursion IsFormed (drop n s.changes.items)
 changes-formed w s n h = subst (λ (cs : List Change). AllByRecursion IsFormed (drop n cs)) (sym h.changes)
     (each_drop IsFormed n (changes_in_log w.log) h.formed)

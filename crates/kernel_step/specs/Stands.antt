@@ -1,6 +1,6 @@
 -- What the parts of a running kernel stand for.
 use Rattle.std.specs.Prelude.{ℕ, ◌+◌, ◌*◌, ◌^◌, ◌≤◌, List, length, map, Result}
-use Rattle.kernel_model.specs.World.{Boot, World, first_world, after}
+use Rattle.kernel_model.specs.World.{Boot, run_of}
 use Rattle.kernel_model.specs.Answers.{Kernel, Applies}
 use Rattle.kernel_model.specs.declared.answer.Answer.{Answer}
 use Rattle.kernel_model.specs.declared.answer.Refused.{Refused}
@@ -14,10 +14,6 @@ use Rattle.kernel_step.specs.declared.loan.Rejected.{Rejected}
 use Rattle.kernel_step.specs.declared.running.Running.{Running}
 use Rattle.kernel_step.specs.declared.system.System.{System}
 use Rattle.kernel_step.specs.declared.task.Task.{Task}
-
--- the run of a history
-abbrev pub run_of : Boot → List Event → World
-run_of b history = after (first_world b) history
 
 -- what a kernel with this history and these tasks is to its callers
 abbrev pub kernel_of : Boot → List Event → List Task → ℕ → Kernel

@@ -1,7 +1,8 @@
 -- Where the pages of a process are kept: in runs of words.
 use Rattle.std.specs.Prelude.{◌≡◌, ℕ, ◌-◌, ◌*◌, ◌&&◌, Bool, true, false, nat_lt, nat_le, if◌then◌else◌, ◌/◌, ◌%◌, List, [], ◌∷◌, length, slice_index_or, slice_set, Option, Some, None}
-use Rattle.memory.specs.Words.{Word, put_in, word_fault, memory_of_words}
+use Rattle.memory.specs.Words.{Word, word_fault, memory_of_words}
 use Rattle.machine_model.specs.Access.{put_bytes, to_write}
+use Rattle.machine_model.specs.Bytes.{put_in}
 use Rattle.std.specs.Simd.{first_chunks}
 use Rattle.machine_model.specs.declared.access.Rights.{Rights}
 

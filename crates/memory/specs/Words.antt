@@ -1,5 +1,6 @@
 -- A memory by its words: four bytes with the rights of their page.
-use Rattle.std.specs.Prelude.{◌≡◌, ℕ, suc, zero, ◌+◌, ◌*◌, ◌/◌, ◌%◌, ◌^◌, Bool, true, if◌then◌else◌, List, [], ◌∷◌, slice_index, slice_set, Option, Some, None, option_map, Result, Ok, Err}
+use Rattle.std.specs.Prelude.{◌≡◌, ℕ, ◌/◌, ◌%◌, Bool, true, if◌then◌else◌, List, slice_index, Option, Some, None, option_map, Result, Ok, Err}
+use Rattle.machine_model.specs.Bytes.{value_in}
 use Rattle.machine_model.specs.Memory.{Memory, Cell, memory_of}
 use Rattle.machine_model.specs.declared.access.Rights.{Rights}
 use Rattle.machine_model.specs.declared.access.BusFault.{BusFault}
@@ -20,11 +21,6 @@ cell_at words a = option_map (cell_of (a % 4)) (words (a / 4))
 abbrev pub memory_of_words : (ℕ → Option Word) → Memory
 memory_of_words words = memory_of (cell_at words)
 
--- n bytes of a word from place j on, little-endian
-abbrev pub value_in : List ℕ → ℕ → ℕ → ℕ
-value_in bytes j zero = 0
-value_in bytes j (suc n) = slice_index bytes j + 2 ^ 8 * value_in bytes (j + 1) n
-
 -- n bytes of a word that may be used by a right
 abbrev pub word_taken : (Rights → Bool) → Option Word → ℕ → ℕ → Result ℕ BusFault
 word_taken right None j n = Err Unmapped
@@ -34,11 +30,6 @@ word_taken right (Some w) j n = if right w.rights then Ok (value_in w.bytes j n)
 abbrev pub word_fault : (Rights → Bool) → Option Word → Option BusFault
 word_fault right None = Some Unmapped
 word_fault right (Some w) = if right w.rights then None else Some NoRight
-
--- these bytes from place j of a word on
-abbrev pub put_in : List ℕ → ℕ → List ℕ → List ℕ
-put_in bytes j [] = bytes
-put_in bytes j (b ∷ bs) = put_in (slice_set bytes j b) (j + 1) bs
 
 -- these are the bytes of a word that may be read
 abbrev pub IsReadable : Option Word → List ℕ → Type 0

@@ -1,9 +1,9 @@
 -- The number is read after the bytes before it.
 use Rattle.std.proofs.lemmas.List.{take_rest}
 use Rattle.elf32.specs.Fields.{half_at}
-use Rattle.elf32.proofs.Numbers.{number_at-drop}
+use Rattle.elf32.proofs.Numbers.{value_in-drop}
 use Rattle.elf32.proofs.header.half.Goals as goal
 
 pub returns : goal.returns
 unfolding half_at
-returns c = rw (c.read_u16.ensures, take_rest) (number_at-drop 2 c.args.at c.args.bytes.now)
+returns c = rw (c.read_u16.ensures, take_rest) (value_in-drop 2 c.args.at c.args.bytes.now)

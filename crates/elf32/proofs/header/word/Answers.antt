@@ -1,9 +1,9 @@
 -- The number is read after the bytes before it.
 use Rattle.std.proofs.lemmas.List.{take_rest}
 use Rattle.elf32.specs.Fields.{word_at}
-use Rattle.elf32.proofs.Numbers.{number_at-drop}
+use Rattle.elf32.proofs.Numbers.{value_in-drop}
 use Rattle.elf32.proofs.header.word.Goals as goal
 
 pub returns : goal.returns
 unfolding word_at
-returns c = rw (c.read_u32.ensures, take_rest) (number_at-drop 4 c.args.at c.args.bytes.now)
+returns c = rw (c.read_u32.ensures, take_rest) (value_in-drop 4 c.args.at c.args.bytes.now)

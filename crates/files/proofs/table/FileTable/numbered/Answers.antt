@@ -1,7 +1,8 @@
 -- The next number comes in, and at the end there is one for each file.
 use Rattle.std.proofs.Common.{rules, arith, ◌≡◌, ◌<◌, ℕ, List, [], ◌∷◌, ◌++◌, length, sym, ap, ◌∙◌}
 use Rattle.disk_model.specs.Numbers.{Numbered, numbers_from}
-use Rattle.files.proofs.Numbering.{next_number, all_numbers, numbers_length}
+use Rattle.disk_model.proofs.Numbering.{numbers_length}
+use Rattle.files.proofs.Numbering.{next_number, all_numbers}
 use Rattle.files.proofs.table.FileTable.numbered.Goals as goal
 
 pub loop-number-preserved : goal.loop-number-preserved

@@ -1,7 +1,8 @@
 -- A Cut of the parts is a Cut of the run.
 use Rattle.std.proofs.Common.{refl, subst, sym}
 use Rattle.kernel_model.specs.declared.event.Event.TheVariants.{Cut}
-use Rattle.kernel_step.specs.Stands.{run_of, KeepsRun}
+use Rattle.kernel_model.specs.World.{run_of}
+use Rattle.kernel_step.specs.Stands.{KeepsRun}
 use Rattle.kernel_step.specs.declared.system.System.{System}
 use Rattle.kernel_step.proofs.Counting.{counted-other}
 use Rattle.kernel_step.proofs.Writing.{cut-core, cut-applies, changes-formed, files-made}

@@ -1,5 +1,5 @@
 -- An Enter of the parts is an Enter of the run.
-use Rattle.kernel_step.specs.Stands.{run_of}
+use Rattle.kernel_model.specs.World.{run_of}
 use Rattle.kernel_step.proofs.EnterCore.{log-short}
 use Rattle.kernel_step.proofs.Trying.{enter-steps-run}
 use Rattle.kernel_step.proofs.running.Running.enter.Goals as goal

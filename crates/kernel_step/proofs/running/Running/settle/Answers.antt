@@ -3,8 +3,8 @@ use Rattle.std.proofs.Common.{◌≡◌, ◌∙◌, sym, ap, subst, List, Bool, 
 use Rattle.std.proofs.lemmas.Bool.{false≢true}
 use Rattle.machine_model.specs.declared.stop.Stop.{Stop}
 use Rattle.kernel_model.specs.State.{process_at}
+use Rattle.kernel_model.specs.World.{run_of}
 use Rattle.kernel_step.specs.Settling.{IsLoanOf}
-use Rattle.kernel_step.specs.Stands.{run_of}
 use Rattle.kernel_step.specs.Tasks.{process_of, status_of}
 use Rattle.kernel_step.specs.Tests.{IsPlaceOf}
 use Rattle.kernel_step.specs.declared.loan.Done.{Done}

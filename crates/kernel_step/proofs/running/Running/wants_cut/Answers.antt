@@ -3,8 +3,8 @@ use Rattle.std.proofs.Common.{◌≡◌, ◌&&◌, ap, ◌∙◌, ℕ, Bool, Lis
 use Rattle.std.specs.List.{list_any}
 use Rattle.disk_model.specs.Storage.{Storage, is_quiet}
 use Rattle.kernel_model.specs.Answers.{is_held_back, terminals}
+use Rattle.kernel_model.specs.World.{run_of}
 use Rattle.withheld.specs.Withheld.{Withheld, holds_back}
-use Rattle.kernel_step.specs.Stands.{run_of}
 use Rattle.kernel_step.proofs.Holding.{held-back}
 use Rattle.kernel_step.proofs.running.Running.wants_cut.Goals as goal
 
