@@ -56,49 +56,74 @@ pub fn command<'a>(
     Ok(Command::new(alloc, name).bin_name(whole)?.about(about))
 }
 
-/// The command `asm`, under its whole name.
-fn assembling<'a>(alloc: Global) -> Result<Command<'a>, AllocError> {
-    let asm = command(
-        alloc,
-        "asm",
-        "bench asm",
-        "Assemble a source, and write its image",
-    )?;
-    asm.arg(argument(alloc, "SOURCE", "the source's file"))?
-        .arg(argument(
-            alloc,
+/// A command that takes files.
+struct FileCommand {
+    name: &'static str,
+    /// The name as its usage gives it.
+    whole: &'static str,
+    about: &'static str,
+    /// The arguments, each with its help.
+    arguments: &'static [(&'static str, &'static str)],
+    /// The option, with the name of its value and its help, if there is one.
+    option: Option<(&'static str, &'static str, &'static str)>,
+}
+
+const REPLAY: FileCommand = FileCommand {
+    name: "replay",
+    whole: "bench replay",
+    about: "Run a script, and print what each of its lines gives",
+    arguments: &[("SCRIPT", "the script's file")],
+    option: None,
+};
+
+const ASSEMBLE: FileCommand = FileCommand {
+    name: "asm",
+    whole: "bench asm",
+    about: "Assemble a source, and write its image",
+    arguments: &[
+        ("SOURCE", "the source's file"),
+        (
             "IMAGE",
             "the image's file, which is written anew; another than the source's",
-        ))
-}
+        ),
+    ],
+    option: None,
+};
 
-/// The command `replay`.
-fn replaying<'a>(alloc: Global) -> Result<Command<'a>, AllocError> {
-    Command::new(alloc, "replay")
-        .about("Run a script, and print what each of its lines gives")
-        .arg(argument(alloc, "SCRIPT", "the script's file"))
-}
+const LIST: FileCommand = FileCommand {
+    name: "list",
+    whole: "bench list",
+    about: "Print the words of an image that may be executed",
+    arguments: &[("IMAGE", "the image's file")],
+    option: None,
+};
 
-/// The command `list`.
-fn listing<'a>(alloc: Global) -> Result<Command<'a>, AllocError> {
-    Command::new(alloc, "list")
-        .about("Print the words of an image that may be executed")
-        .arg(argument(alloc, "IMAGE", "the image's file"))
-}
+const DEBUG: FileCommand = FileCommand {
+    name: "debug",
+    whole: "bench debug",
+    about: "Debug an image, by commands on standard input",
+    arguments: &[("IMAGE", "the image's file")],
+    option: Some(("trace", "FILE", "the replies that its calls take")),
+};
 
-/// The command `debug`.
-fn debugging<'a>(alloc: Global) -> Result<Command<'a>, AllocError> {
-    Command::new(alloc, "debug")
-        .about("Debug an image, by commands on standard input")
-        .arg(argument(alloc, "IMAGE", "the image's file"))?
-        .arg(option(alloc, "trace", "FILE", "the replies that its calls take"))
-}
+const DISK: FileCommand = FileCommand {
+    name: "disk",
+    whole: "bench disk",
+    about: "Print the files on a disk, and their lengths",
+    arguments: &[("FILE", "the disk's file")],
+    option: None,
+};
 
-/// The command `disk`.
-fn listing_files<'a>(alloc: Global) -> Result<Command<'a>, AllocError> {
-    Command::new(alloc, "disk")
-        .about("Print the files on a disk, and their lengths")
-        .arg(argument(alloc, "FILE", "the disk's file"))
+/// A command of a row.
+fn taking_files<'a>(alloc: Global, row: &FileCommand) -> Result<Command<'a>, AllocError> {
+    let mut made = command(alloc, row.name, row.whole, row.about)?;
+    for &(name, help) in row.arguments {
+        made = made.arg(argument(alloc, name, help))?;
+    }
+    match row.option {
+        Some((name, value, help)) => made.arg(option(alloc, name, value, help)),
+        None => Ok(made),
+    }
 }
 
 /// The program without its commands. Its usage begins with its name, so that it can be pasted.
@@ -114,6 +139,9 @@ fn program<'a>(alloc: Global) -> Result<Command<'a>, AllocError> {
     Ok(bench)
 }
 
+/// The commands that take files, in the order of the help.
+const FILE_COMMANDS: &[FileCommand] = &[REPLAY, ASSEMBLE, LIST, DEBUG, DISK];
+
 /// The program with one more command, where memory sufficed for that command.
 fn with<'a>(
     program: Command<'a>,
@@ -122,16 +150,13 @@ fn with<'a>(
     program.subcommand(command?)
 }
 
-/// The program with the commands that replay, assemble and list.
-fn first_commands<'a>(alloc: Global) -> Result<Command<'a>, AllocError> {
-    let bench = with(program(alloc)?, replaying(alloc))?;
-    with(with(bench, assembling(alloc))?, listing(alloc))
-}
-
 /// The program with its commands.
 fn commands<'a>(alloc: Global) -> Result<Command<'a>, AllocError> {
-    let bench = with(first_commands(alloc)?, debugging(alloc))?;
-    with(with(bench, listing_files(alloc))?, running(alloc))
+    let mut bench = program(alloc)?;
+    for row in FILE_COMMANDS {
+        bench = with(bench, taking_files(alloc, row))?;
+    }
+    with(bench, running(alloc))
 }
 
 /// What the arguments of the command `asm` ask for.
@@ -191,7 +216,7 @@ fn task_of<'a>(
 
 /// The refusal of an image that would be written over its own source.
 fn same_path(alloc: Global) -> Result<Error, AllocError> {
-    let mut asm = assembling(alloc)?;
+    let mut asm = taking_files(alloc, &ASSEMBLE)?;
     asm.error(
         ErrorKind::ArgumentConflict,
         "<SOURCE> and <IMAGE> are the same path",

@@ -10,3 +10,9 @@ returns-in_err-magnitude-in_default c = grind (arith, common_steps)
 
 pub returns-in_ok-magnitude-in_default : goal.returns-in_ok-magnitude-in_default
 returns-in_ok-magnitude-in_default c = grind (arith, common_steps)
+
+pub below_zero-requires : goal.below_zero-requires
+below_zero-requires c = c.in_ok-magnitude-in-45.ensures.bound
+
+pub above_zero-requires : goal.above_zero-requires
+above_zero-requires c = c.in_ok-magnitude-in_default.ensures.bound

@@ -1,5 +1,5 @@
 -- A core at boot.
-use Rattle.std.proofs.Common.{◌≡◌, ◌+◌, ◌<◌, ◌≤◌, [], ◌∷◌, length, map, ap, sym, subst, ◌∙◌, List, Vec, ℕ, rules, arith}
+use Rattle.std.proofs.Common.{◌≡◌, ◌+◌, ◌<◌, ◌≤◌, [], ◌∷◌, length, map, ap, sym, subst, ◌∙◌, List, Vec, ℕ, refl, rules, arith}
 use Rattle.std.specs.List.{AllByRecursion}
 use Rattle.std.proofs.lemmas.List.{length-map}
 use Rattle.disk_model.specs.declared.change.NamedFile.{NamedFile}
@@ -52,6 +52,7 @@ terminals-are (p ∷ ps) h = (h.0, terminals-are ps h.1)
 tapes-few : (c : In_ok-running) → length (boot_of (booted c)).tapes ≤ tape_count
 tapes-few c = subst (λ (v : Vec _ _). length v.items ≤ 8) (sym c.in_ok-tapes.ensures) c.requires.few_tapes
 
+-- a boot that is refused for want of memory
 pub invariant_of-result : goal.invariant_of-result
 invariant_of-result c =
     let none : c.in_ok-running.running.history.items ≡ [] = c.in_ok-running.ensures.history (boot_of (booted c)) in
@@ -86,3 +87,42 @@ returns-clause-tapes c = tapes-hold c
 
 pub returns-in_err-files-clause-only : goal.returns-in_err-files-clause-only
 returns-in_err-files-clause-only c = λ files held. let one = c.in_err-files.ensures.only held.0 files held.1 in search rules
+
+pub new-committer-requires-clause-quiet : goal.new-committer-requires-clause-quiet
+new-committer-requires-clause-quiet c = c.requires.quiet
+
+pub new-committer-requires-clause-half : goal.new-committer-requires-clause-half
+new-committer-requires-clause-half c = c.in_ok-files.ensures.gate.0
+
+pub new-committer-requires-clause-within : goal.new-committer-requires-clause-within
+new-committer-requires-clause-within c = c.in_ok-files.ensures.gate.1
+
+pub new-requires-clause-few : goal.new-requires-clause-few
+new-requires-clause-few c = rw c.deref.ensures.value c.requires.few
+
+pub new-requires-clause-made : goal.new-requires-clause-made
+new-requires-clause-made c = search (rules, c.held_files_are_made.ensures)
+
+pub new-requires-clause-numbered : goal.new-requires-clause-numbered
+new-requires-clause-numbered c = c.in_ok-files.ensures.numbered
+
+pub returns-clause-programs : goal.returns-clause-programs
+returns-clause-programs c = refl
+
+pub returns-clause-given_tapes : goal.returns-clause-given_tapes
+returns-clause-given_tapes c = ap (λ (v : Vec _ _). v.items) c.in_ok-tapes.ensures
+
+pub returns-clause-disk : goal.returns-clause-disk
+returns-clause-disk c = disk-is c
+
+pub returns-clause-last_lent : goal.returns-clause-last_lent
+returns-clause-last_lent c = c.in_ok-running.ensures.last_lent (boot_of (booted c))
+
+pub returns-clause-held : goal.returns-clause-held
+returns-clause-held c = held-is c
+
+pub returns-clause-fault : goal.returns-clause-fault
+returns-clause-fault c = tt
+
+pub returns-clause-only : goal.returns-clause-only
+returns-clause-only c = λ files held. tt

@@ -1,6 +1,7 @@
 -- Each event of the drain goes on with it, or ends it.
 use Rattle.std.proofs.Common.{◌<◌, ◌≤◌, ◌∙◌, not, ap, sym, arith}
-use Rattle.std.proofs.lemmas.Result.{err_from_is_err_and}
+use Rattle.std.proofs.lemmas.Grind.{common_steps}
+use Rattle.std.proofs.lemmas.Result.{IfOk-from_err, err_from_is_err_and}
 use Rattle.disk_model.specs.Storage.{is_empty}
 use Rattle.kernel_model.specs.Answers.{Kernel, now, committed, changes}
 use Rattle.kernel_model.specs.Drains.{completion_or_cut}
@@ -46,3 +47,12 @@ returns-clause-handed c =
     let k : Kernel = c.loop-self.self in
     let all : changes (now k) ≤ committed (now k) = omega (arith, c.loop-self-test.false, c.committed.ensures, c.changes.ensures) in
     λ p. c.all_is_shown.ensures.traces k.boot k.history (drained c.args.self.now k c.loop-self.invariant all).outcome.1 p
+
+pub loop-self-smaller : goal.loop-self-smaller
+loop-self-smaller c = grind (arith, common_steps)
+
+pub returns-in_err-apply-clause-shown : goal.returns-in_err-apply-clause-shown
+returns-in_err-apply-clause-shown c = IfOk-from_err c.from_residual.result _ c.from_residual.ensures.0
+
+pub returns-in_err-apply-clause-handed : goal.returns-in_err-apply-clause-handed
+returns-in_err-apply-clause-handed c = IfOk-from_err c.from_residual.result _ c.from_residual.ensures.0
