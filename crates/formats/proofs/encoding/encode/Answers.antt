@@ -1,4 +1,4 @@
--- Without answers these would be proved too, but much slower.
+-- A word that is written means its instruction, and it alone.
 use Rattle.std.proofs.Common.{arith}
 use Rattle.formats.proofs.Rows.{means-instr_of}
 use Rattle.formats.proofs.Spelling.{means_once}

@@ -52,7 +52,6 @@ terminals-are (p ∷ ps) h = (h.0, terminals-are ps h.1)
 tapes-few : (c : In_ok-running) → length (boot_of (booted c)).tapes ≤ tape_count
 tapes-few c = subst (λ (v : Vec _ _). length v.items ≤ 8) (sym c.in_ok-tapes.ensures) c.requires.few_tapes
 
--- a boot that is refused for want of memory
 pub invariant_of-result : goal.invariant_of-result
 invariant_of-result c =
     let none : c.in_ok-running.running.history.items ≡ [] = c.in_ok-running.ensures.history (boot_of (booted c)) in
