@@ -2,7 +2,7 @@
 ghost use Rattle.std.specs.Prelude.{◌≡◌, IfOk};
 
 use crate::machine::Machine;
-use crate::table::Table;
+use interpreter::{Hart, Table};
 use isa_table::Regs;
 use memory::KeptSpace;
 use std::alloc::{AllocError, Global};
@@ -31,7 +31,7 @@ impl Drop for KeptMachine {
 
 impl Model for KeptMachine {
     ghost use Rattle.machine_model.specs.States.{State, state_code, state, hart};
-    ghost use Rattle.machine.specs.Tables.{AllMatch};
+    ghost use Rattle.interpreter.specs.Tables.{AllMatch};
 
     ghost Value = { State };
 
@@ -53,8 +53,8 @@ impl Machine {
         ensures { IfOk result (λ k. k ≡ self.now) }
     {
         Ok(KeptMachine {
-            regs: self.regs,
-            space: self.space.keep(alloc, before.map(|kept| &kept.space))?,
+            regs: self.hart.regs,
+            space: self.hart.space.keep(alloc, before.map(|kept| &kept.space))?,
             count: self.count,
             tables: Arc::try_clone(&self.tables)?,
         })
@@ -67,8 +67,10 @@ impl KeptMachine {
         ensures { IfOk result (λ m. m ≡ self.now) }
     {
         Ok(Machine {
-            regs: self.regs,
-            space: self.space.space(alloc)?,
+            hart: Hart {
+                regs: self.regs,
+                space: self.space.space(alloc)?,
+            },
             count: self.count(),
             tables: Arc::try_clone(&self.tables)?,
         })

@@ -1,18 +1,10 @@
 //! A process's machine state: how it begins, its runs, and replies to its calls.
 #![tactic(auto)]
 
-mod decoded;
-mod doing;
-mod fast;
-mod instruction;
 mod kept;
-mod kinds;
 mod laws;
 mod loading;
 mod machine;
-mod sequences;
-mod stopped;
-mod table;
 
 pub use kept::KeptMachine;
 pub use laws::segments_are_loaded;

@@ -1,17 +1,13 @@
 //! A process's machine.
 ghost use Rattle.std.specs.Prelude.{◌≡◌, ◌≢◌, ◌↔◌, ℕ, ◌+◌, ◌%◌, ◌<◌, ◌≤◌, ◌^◌, true, length, Some, IfOk, IsTrue};
-ghost use Rattle.machine_model.specs.Access.{HoldsBytes, is_writable, put_bytes};
+ghost use Rattle.machine_model.specs.Access.{HoldsBytes, is_writable};
 ghost use Rattle.machine_model.specs.Effects.{reg as register};
 ghost use Rattle.machine_model.specs.States.{run as run_from, hart, reached_at, stands_at, state, replied};
 ghost use Rattle.machine_model.specs.First.{first_state, first_registers};
-ghost use Rattle.operations.specs.Kept.{Kept};
 
-use crate::decoded::tables_of;
-use crate::fast::run_tables;
 use crate::loading::space_of;
-use crate::stopped::stop_at;
-use crate::table::Table;
 use formats::Reg;
+use interpreter::{Hart, Table, place, run_tables, stop_at, tables_of};
 use isa_table::Regs;
 use machine_model::{Image, Reply, Stop};
 use memory::Space;
@@ -22,8 +18,7 @@ use std::sync::Arc;
 /// A process's machine: its registers, its memory, and how many instructions it has done, at most 2^40. The words of each
 /// segment that may be executed and not written are decoded once, when an image is loaded, and clones share them.
 pub struct Machine {
-    pub(crate) regs: Regs,
-    pub(crate) space: Space,
+    pub(crate) hart: Hart,
     pub(crate) count: u64,
     pub(crate) tables: Arc<Vec<Table>>,
 }
@@ -31,8 +26,7 @@ pub struct Machine {
 impl Drop for Machine {
     fn drop(self) {
         let Machine {
-            regs: _,
-            space: _space,
+            hart: _hart,
             count: _,
             tables: _tables,
         } = self;
@@ -40,17 +34,17 @@ impl Drop for Machine {
 }
 
 impl Model for Machine {
-    ghost use Rattle.machine_model.specs.States.{State, state_code, state, hart};
+    ghost use Rattle.machine_model.specs.States.{State, state_code, state, hart as hart_of};
 
     ghost Value = { State };
 
     ghost coded = { state_code };
 
-    ghost use Rattle.machine.specs.Tables.{AllMatch};
+    ghost use Rattle.interpreter.specs.Tables.{AllMatch};
 
-    ghost view = { λ m. state (hart m.regs.x m.regs.pc m.space) m.count };
+    ghost view = { λ m. state (hart_of m.hart.regs.x m.hart.regs.pc m.hart.space) m.count };
 
-    ghost invariant = { λ m. AllMatch m.tables.value.items m.space };
+    ghost invariant = { λ m. AllMatch m.tables.value.items m.hart.space };
 }
 
 impl Machine {
@@ -62,8 +56,10 @@ impl Machine {
         let space = space_of(alloc, image.segments())?;
         let tables = tables_of(alloc, &space, image.segments())?;
         Ok(Machine {
-            regs: first_regs(image.entry()),
-            space,
+            hart: Hart {
+                regs: first_regs(image.entry()),
+                space,
+            },
             count: 0,
             tables: Arc::new(alloc, tables)?,
         })
@@ -76,8 +72,10 @@ impl Machine {
         ensures { IfOk result (λ m. m ≡ state (hart first_registers entry space) 0) }
     {
         Ok(Machine {
-            regs: first_regs(entry),
-            space,
+            hart: Hart {
+                regs: first_regs(entry),
+                space,
+            },
             count: 0,
             tables: Arc::new(alloc, Vec::new(alloc))?,
         })
@@ -93,7 +91,7 @@ impl Machine {
         ensures limit { (result.1 ≡ Stop.Limit) ↔ (result.0 ≡ max) }
         ensures standing { result.1 ≢ Stop.Limit → stands_at self.new ≡ Some result.1 }
     {
-        let (done, stop) = run_tables(&mut self.regs, &mut self.space, self.tables.as_slice(), max);
+        let (done, stop) = run_tables(&mut self.hart, self.tables.as_slice(), max);
         self.count += u64::from(done);
         (done, stop)
     }
@@ -102,7 +100,7 @@ impl Machine {
     pub fn stopped(&self) -> Option<Stop>
         ensures { result ≡ stands_at self.now }
     {
-        stop_at(&self.regs, &self.space)
+        stop_at(&self.hart)
     }
 
     /// Answers the call at which the machine stands: a0 is set, the bytes are placed, and the call counts as one
@@ -113,9 +111,9 @@ impl Machine {
         requires place { is_writable self.old.hart.memory reply.now.at (length reply.now.bytes) ≡ true }
         ensures { self.new ≡ replied self.old reply.now }
     {
-        place(&mut self.space, reply.at, reply.bytes.as_slice());
-        self.regs.x[10] = reply.a0;
-        self.regs.pc = self.regs.pc.wrapping_add(4);
+        place(&mut self.hart.space, reply.at, reply.bytes.as_slice());
+        self.hart.regs.x[10] = reply.a0;
+        self.hart.regs.pc = self.hart.regs.pc.wrapping_add(4);
         self.count += 1;
     }
 
@@ -124,7 +122,7 @@ impl Machine {
         ensures value { result ≡ register self.now.hart r }
         ensures zero { r ≡ 0 → result ≡ 0 }
     {
-        self.regs.x[r.number() as usize]
+        self.hart.regs.x[r.number() as usize]
     }
 
     /// The program counter, a multiple of 4.
@@ -132,7 +130,7 @@ impl Machine {
         ensures value { result ≡ self.now.hart.pc }
         ensures aligned { result % 4 ≡ 0 }
     {
-        self.regs.pc
+        self.hart.regs.pc
     }
 
     /// How many instructions were done, calls with a reply among them.
@@ -146,14 +144,16 @@ impl Machine {
     pub fn space(&self) -> &Space
         ensures { result.now ≡ self.now.hart.memory }
     {
-        &self.space
+        &self.hart.space
     }
 
     /// Whether two machines are in the same state.
     pub fn is_same(&self, other: &Machine) -> bool
         ensures { IsTrue result ↔ (self.now ≡ other.now) }
     {
-        self.count == other.count && self.regs == other.regs && self.space.is_same(&other.space)
+        self.count == other.count
+            && self.hart.regs == other.hart.regs
+            && self.hart.space.is_same(&other.hart.space)
     }
 
     /// A machine in the same state. Pages and decoded words that may not be written are shared with it.
@@ -161,8 +161,10 @@ impl Machine {
         ensures { IfOk result (λ m. m ≡ self.now) }
     {
         Ok(Machine {
-            regs: self.regs,
-            space: self.space.try_clone(alloc)?,
+            hart: Hart {
+                regs: self.hart.regs,
+                space: self.hart.space.try_clone(alloc)?,
+            },
             count: self.count,
             tables: Arc::try_clone(&self.tables)?,
         })
@@ -178,13 +180,4 @@ fn first_regs(entry: u32) -> Regs
     let mut x = [0; 32];
     x[2] = 0x8000_0000;
     Regs { x, pc: entry }
-}
-
-/// Puts bytes where they may be written.
-fn place(space: &mut Space, at: u32, bytes: &[u8])
-    requires { is_writable space.old at (length bytes.now) ≡ true }
-    ensures memory { space.new ≡ put_bytes space.old at bytes.now }
-    ensures kept { Kept space.old space.new }
-{
-    let _ = space.copy_out(at, bytes);
 }

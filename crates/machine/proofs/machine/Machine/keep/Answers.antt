@@ -1,11 +1,11 @@
 -- The tables match what is kept too.
 use Rattle.std.proofs.Common.{List, sym, ap, subst}
 use Rattle.machine_model.specs.Memory.{Memory}
-use Rattle.machine.specs.declared.table.Table.{Table}
-use Rattle.machine.specs.Tables.{AllMatch}
+use Rattle.interpreter.specs.declared.table.Table.{Table}
+use Rattle.interpreter.specs.Tables.{AllMatch}
 use Rattle.machine.proofs.machine.Machine.keep.Goals as goal
 
 pub invariant_of-result : goal.invariant_of-result
 invariant_of-result c =
     subst (λ (m : Memory). AllMatch c.in_ok-try_clone.field-0.value.items m) (sym c.in_ok-keep.ensures)
-    (subst (λ (tables : List Table). AllMatch tables c.self.inside.space) (sym (ap (λ v. v.items) c.in_ok-try_clone.ensures)) c.self.invariant)
+    (subst (λ (tables : List Table). AllMatch tables c.self.inside.hart.space) (sym (ap (λ v. v.items) c.in_ok-try_clone.ensures)) c.self.invariant)

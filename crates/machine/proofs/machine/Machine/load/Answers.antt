@@ -1,7 +1,7 @@
 -- The tables match the first memory.
 use Rattle.std.proofs.Common.{List, ap, subst, sym, rules}
-use Rattle.machine.specs.declared.table.Table.{Table}
-use Rattle.machine.specs.Tables.{AllMatch}
+use Rattle.interpreter.specs.declared.table.Table.{Table}
+use Rattle.interpreter.specs.Tables.{AllMatch}
 use Rattle.machine.proofs.machine.Machine.load.Goals as goal
 
 pub invariant_of-result : goal.invariant_of-result

@@ -1,24 +1,25 @@
 -- A run leaves what the tables match, and stops where it should.
 use Rattle.std.proofs.Common.{◌≡◌, ℕ, ◌+◌, Some, sym, ap, subst, ◌∙◌, List}
 use Rattle.machine_model.specs.States.{state, hart, stands_at}
-use Rattle.machine.specs.Tables.{AllMatch}
-use Rattle.machine.specs.declared.table.Table.{Table}
-use Rattle.machine.proofs.Keeping.{matches-kept}
+use Rattle.interpreter.specs.Tables.{AllMatch}
+use Rattle.interpreter.specs.declared.table.Table.{Table}
 use Rattle.machine.proofs.Limits.{reached_at-is_run}
 use Rattle.machine.proofs.machine.Machine.run.Goals as goal
 
 pub run_tables-done-requires : goal.run_tables-done-requires
 run_tables-done-requires c =
     let same : c.self.inside.tables.value.items ≡ c.as_slice.result.now = sym (c.as_slice.ensures.value ∙ ap (λ v. v.items) c.deref.ensures) in
-    subst (λ (ts : List Table). AllMatch ts c.self.inside.space) same c.self.invariant
+    subst (λ (ts : List Table). AllMatch ts c.self.inside.hart.space) same c.self.invariant
 
 pub invariant_of-self : goal.invariant_of-self
-invariant_of-self c = λ i table is. matches-kept table.first table.ops.items c.self.inside.space c.run_tables-done.new.space c.run_tables-done.ensures.kept (c.self.invariant i table is)
+invariant_of-self c =
+    let same : c.self.inside.tables.value.items ≡ c.as_slice.result.now = sym (c.as_slice.ensures.value ∙ ap (λ v. v.items) c.deref.ensures) in
+    subst (λ (ts : List Table). AllMatch ts c.run_tables-done.new.h.space) (sym same) c.run_tables-done.ensures.tables
 
 pub returns-clause-limit : goal.returns-clause-limit
 returns-clause-limit c = (reached_at-is_run c.args.max _ _ (c.run_tables-done.ensures.run c.self.inside.count)).limit
 
 pub returns-clause-standing : goal.returns-clause-standing
 returns-clause-standing c =
-    λ stopped. subst (λ (n : ℕ). stands_at (state (hart c.run_tables-done.new.regs.x c.run_tables-done.new.regs.pc c.run_tables-done.new.space) (c.self.inside.count + n)) ≡ Some c.run_tables-done.result.1) (sym c.from.ensures)
+    λ stopped. subst (λ (n : ℕ). stands_at (state (hart c.run_tables-done.new.h.regs.x c.run_tables-done.new.h.regs.pc c.run_tables-done.new.h.space) (c.self.inside.count + n)) ≡ Some c.run_tables-done.result.1) (sym c.from.ensures)
     ((reached_at-is_run c.args.max _ _ (c.run_tables-done.ensures.run c.self.inside.count)).standing stopped)

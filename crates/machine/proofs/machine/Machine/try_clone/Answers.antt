@@ -1,14 +1,14 @@
 -- The tables match the copy too.
 use Rattle.std.proofs.Common.{List, sym, ap, subst, rules}
 use Rattle.machine_model.specs.Memory.{Memory}
-use Rattle.machine.specs.declared.table.Table.{Table}
-use Rattle.machine.specs.Tables.{AllMatch}
+use Rattle.interpreter.specs.declared.table.Table.{Table}
+use Rattle.interpreter.specs.Tables.{AllMatch}
 use Rattle.machine.proofs.machine.Machine.try_clone.Goals as goal
 
 pub invariant_of-result : goal.invariant_of-result
 invariant_of-result c =
     subst (λ (m : Memory). AllMatch c.in_ok-try_clone-2.field-0.value.items m) (sym c.in_ok-try_clone.ensures)
-    (subst (λ (tables : List Table). AllMatch tables c.self.inside.space) (sym (ap (λ v. v.items) c.in_ok-try_clone-2.ensures)) c.self.invariant)
+    (subst (λ (tables : List Table). AllMatch tables c.self.inside.hart.space) (sym (ap (λ v. v.items) c.in_ok-try_clone-2.ensures)) c.self.invariant)
 
 -- Without an answer this would be proved too; with one, an edit that breaks it is refused sooner.
 pub returns : goal.returns
