@@ -1,18 +1,11 @@
 -- Lemmas.
-pub mod Tables
-pub mod OperandLists
-pub mod Encodings
-pub mod Meanings
 pub mod LabelMaps
 pub mod Stepping
-pub mod Registers
-pub mod Expansions
 pub mod Sizes
 pub mod Profiles
 pub mod Assemblies
 pub mod Listings
 pub mod Passes
-pub mod Parts
 pub mod Outcomes
 pub mod StatementBytes
 pub mod LabelPlaces

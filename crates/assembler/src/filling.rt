@@ -4,18 +4,14 @@ ghost use Rattle.assembler.specs.Faults.{out_of_memory};
 ghost use Rattle.assembler.specs.Layout.{numbers_in, spot_of};
 ghost use Rattle.assembler.specs.Filling.{shown, address_of, distance_of, byte_of, put_word, put_numbers, put_bytes, put_string, put_space, put_expansion, instruction_of, instruction_put, bytes_filled, statement_filled, filled, contents_filled};
 
-use crate::encoding::word;
-use crate::expansion::{Expansion, expanded};
 use crate::fault::{AsmFault, Cause, fault_at};
-use crate::fields::modulo_word;
 use crate::labels::{Labels, Spot};
 use crate::layout::{Position, space_bytes, string_in};
-use crate::literal::Literal;
-use crate::mnemonic::Mnemonic;
-use crate::operands::{Operands, Value};
-use crate::statement::{Statement, read_statement, split_label};
-use crate::tokens::{number_of, text_at};
 use asm_text::{Line, Token};
+use statements::{
+    Expansion, Literal, Mnemonic, Operands, Statement, Value, expanded, modulo_word, number_of,
+    read_statement, split_label, text_at, word,
+};
 use std::alloc::Global;
 
 /// A word of text, and the line of its statement.

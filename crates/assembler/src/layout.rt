@@ -3,13 +3,12 @@ ghost use Rattle.std.specs.Prelude.{◌≡◌, ◌≢◌, Ok, Err, IfOk, IfErr, 
 ghost use Rattle.assembler.specs.Faults.{out_of_memory};
 ghost use Rattle.assembler.specs.Layout.{start, start_layout, spot_of, counted, with_words, with_bytes, advanced, within, after, space_units, string_in, numbers_in, space_checked, label_declared, units_of, placed, all_placed, space_bytes};
 
-use crate::expansion::words_taken;
 use crate::fault::{AsmFault, Cause, fault_at};
 use crate::labels::{Labels, Spot};
-use crate::literal::Literal;
-use crate::statement::{Label, Statement, read_statement, split_label};
-use crate::tokens::{number_of, text_at};
 use asm_text::{Line, Token, TokenKind};
+use statements::{
+    Label, Literal, Statement, number_of, read_statement, split_label, text_at, words_taken,
+};
 use std::alloc::Global;
 
 /// How far the sections have come: the section that statements go to, the words of text and the bytes of data. A number

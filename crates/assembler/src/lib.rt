@@ -2,21 +2,12 @@
 #![tactic(auto)]
 
 mod assembly;
-mod encoding;
-mod expansion;
 mod fault;
-mod fields;
 mod filling;
 mod labels;
 mod laws;
 mod layout;
 mod listing;
-mod literal;
-mod mnemonic;
-mod names;
-mod operands;
-mod statement;
-mod tokens;
 
 pub use assembly::assemble;
 pub use fault::{AsmFault, Cause};

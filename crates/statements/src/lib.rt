@@ -1,0 +1,24 @@
+//! Statements of an assembler's source: what a line says after its label, the instructions that it stands for, and their words.
+#![tactic(auto)]
+
+mod encoding;
+mod expansion;
+mod fields;
+mod literal;
+mod mnemonic;
+mod names;
+mod operands;
+mod statement;
+mod tokens;
+
+pub use encoding::word;
+pub use expansion::{Expansion, expanded, words_taken};
+pub use fields::modulo_word;
+pub use literal::Literal;
+pub use mnemonic::{
+    BranchOp, ImmediateOp, Link, LoadOp, Mnemonic, PlainOp, RegisterOp, ShiftOp, StoreOp, UnaryOp,
+    UpperOp,
+};
+pub use operands::{Operands, Value};
+pub use statement::{Label, Statement, read_statement, split_label};
+pub use tokens::{number_of, text_at};
