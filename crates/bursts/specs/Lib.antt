@@ -1,6 +1,5 @@
 -- The definitions.
 pub mod Totals
 pub mod Holdings
-pub mod Pairs
 pub mod Records
 pub mod Work

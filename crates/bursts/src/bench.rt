@@ -5,14 +5,14 @@ ghost use Rattle.kernel_model.specs.Answers.{now, committed as committed_in, cha
 ghost use Rattle.kernel_model.specs.Loans.{Lends, is_over};
 ghost use Rattle.kernel_model.specs.declared.event.Event.{Event};
 ghost use Rattle.kernel_step.specs.Loaned.{lent_out, Settles};
-ghost use Rattle.bursts.specs.Pairs.{publisher, pair_of};
+ghost use Rattle.board.specs.Pairs.{publisher, pair_of};
 ghost use Rattle.bursts.specs.Totals.{none, history_totals, settled_totals, one_event as one_event_more, is_of_disk};
 ghost use Rattle.bursts.specs.Holdings.{parts_in, sum_of, GrowsBySettle, GrowsByOne};
 
-use crate::board::{Board, Writer};
 use crate::naming::Naming;
 use crate::share::{Blanks, Books, Share};
 use crate::totals::{Totals, totals_of};
+use board::{Board, Writer};
 use kernel::{Answer, Core, Done, Event, Loan, Refused, Rejected, counts_never_fall};
 use std::marker::Model;
 use std::sync::Wait;
@@ -39,7 +39,7 @@ impl<'a, N: Naming> Model for Bench<'a, N> {
     ghost use Rattle.std.specs.Prelude.{◌≡◌, true};
     ghost use Rattle.crossbeam_utils.specs.Seq.{cell_view};
     ghost use Rattle.kernel_model.specs.Answers.{now, committed, changes};
-    ghost use Rattle.bursts.specs.Pairs.{pair_of};
+    ghost use Rattle.board.specs.Pairs.{pair_of};
     ghost use Rattle.bursts.specs.Totals.{history_totals};
 
     ghost view = { λ b. b.core };

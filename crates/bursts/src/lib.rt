@@ -2,8 +2,8 @@
 #![tactic(auto)]
 
 mod bench;
-mod board;
 mod burst;
+mod core_board;
 mod desk;
 mod naming;
 mod note;
@@ -12,8 +12,9 @@ mod totals;
 mod worker;
 
 pub use bench::{Bench, gather};
-pub use board::{Board, Pass, View, Writer};
+pub use board::{Board, Opening, Pass, View, Writer};
 pub use burst::run_loan;
+pub use core_board::board_of;
 pub use desk::{Desk, LockedDesk};
 pub use kernel::{Done, Loan, Rejected};
 pub use naming::Naming;

@@ -1,12 +1,13 @@
 //! Which ledgers and which board a run has.
 ghost use Rattle.std.specs.Prelude.{ℕ};
 
+use board::Opening;
 use std::marker::{Brand, PhantomData};
 use std::sync::ledger::Ledger;
 
-/// The names of a run's four ledgers, and the pair with which its board opens. These exist in proofs alone; whoever calls the one
-/// function that makes a run's board and bench picks them.
-pub trait Naming {
+/// The names of a run's four ledgers, beside the pair with which its board opens. These exist in proofs alone; whoever calls the
+/// one function that makes a run's board and bench picks them.
+pub trait Naming: Opening {
     ghost events: { ℕ };
 
     ghost ran: { ℕ };
@@ -14,10 +15,6 @@ pub trait Naming {
     ghost turns: { ℕ };
 
     ghost enters: { ℕ };
-
-    ghost committed: { ℕ };
-
-    ghost changes: { ℕ };
 }
 
 impl Naming for Brand {
@@ -28,10 +25,6 @@ impl Naming for Brand {
     ghost turns = { 0 };
 
     ghost enters = { 0 };
-
-    ghost committed = { 0 };
-
-    ghost changes = { 0 };
 }
 
 /// The ledger of events.

@@ -8,7 +8,7 @@ use crate::rest::Rest;
 use crate::screen::Screen;
 use crate::settings::Settings;
 use crate::watch::Watch;
-use bursts::{Bench, Blanks, Board, Gate, LockedDesk, Naming, Share, gather};
+use bursts::{Bench, Blanks, Gate, LockedDesk, Naming, Share, board_of, gather};
 use kernel::Core;
 use pool::{Pool, Seat, pool_crew};
 use std::alloc::{AllocError, Global};
@@ -81,7 +81,7 @@ fn run_named<N: Naming + Send + Sync, R: Threads + Wait + Sync, O: Write>(
     requires turns { (blanks.turns.name ≡ N.turns) × (blanks.turns.parts ≡ 64) }
     requires enters { (blanks.enters.name ≡ N.enters) × (blanks.enters.parts ≡ 64) }
 {
-    let (board, writer, pass) = Board::<N>::new(alloc, &core)?;
+    let (board, writer, pass) = board_of::<N>(alloc, &core)?;
     let board = &board;
     let (bench, share) = Bench::new(core, board, writer, blanks);
     let Ok(pool) = Pool::new(alloc, bench, settings.workers) else {

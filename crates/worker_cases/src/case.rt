@@ -5,7 +5,7 @@ ghost use Rattle.kernel_model.specs.Answers.{now, committed as committed_in, cha
 use crate::fault::Fault;
 use crate::programs::boot;
 use crate::{by_crew, gated, stealing, stranger, turns};
-use bursts::{Bench, Blanks, Board, Naming, Share, gather, totals_of};
+use bursts::{Bench, Blanks, Naming, Share, board_of, gather, totals_of};
 use kernel::Core;
 use pool::Pool;
 use std::alloc::{AllocError, Global};
@@ -78,7 +78,7 @@ fn play_named<N: Naming + Send + Sync, R: Threads + Wait + Sync>(
     requires turns { (blanks.turns.name ≡ N.turns) × (blanks.turns.parts ≡ 64) }
     requires enters { (blanks.enters.name ≡ N.enters) × (blanks.enters.parts ≡ 64) }
 {
-    let (board, writer, mut pass) = Board::<N>::new(alloc, &core)?;
+    let (board, writer, mut pass) = board_of::<N>(alloc, &core)?;
     let board = &board;
     let (bench, share) = Bench::new(core, board, writer, blanks);
     let (found, core) = play_over(rt, alloc, bench, share, case)?;

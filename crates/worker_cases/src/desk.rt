@@ -7,8 +7,8 @@ use crate::case::QUANTUM;
 use crate::fault::Fault;
 use crate::programs::{Open, boot};
 use bursts::{
-    Bench, Blanks, Board, Desk, LockedDesk, Naming, Pass, Share, Totals, Turned, WorkFault, gather,
-    totals_of, worker_turn,
+    Bench, Blanks, Board, Desk, LockedDesk, Naming, Pass, Share, Totals, Turned, WorkFault,
+    board_of, gather, totals_of, worker_turn,
 };
 use kernel::{Answer, Core};
 use std::alloc::{AllocError, Global};
@@ -160,7 +160,7 @@ fn play_named<N: Naming + Send + Sync, R: Wait + Sync>(
     requires turns { (blanks.turns.name ≡ N.turns) × (blanks.turns.parts ≡ 64) }
     requires enters { (blanks.enters.name ≡ N.enters) × (blanks.enters.parts ≡ 64) }
 {
-    let (board, writer, mut pass) = Board::<N>::new(alloc, &core)?;
+    let (board, writer, mut pass) = board_of::<N>(alloc, &core)?;
     let (bench, mut share) = Bench::new(core, &board, writer, blanks);
     let idle = share.split();
     let lock = Mutex::new(bench);

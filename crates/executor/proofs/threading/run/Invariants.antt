@@ -2,12 +2,13 @@
 use Rattle.kernel_model.specs.Answers.{now, committed, changes}
 use Rattle.executor.proofs.threading.run.Given as goal
 
-abbrev pub ghosts-run_named : goal.ghosts-run_named
-ghosts-run_named g a = record {
+abbrev pub ghosts-run_named-N-Naming : goal.ghosts-run_named-N-Naming
+ghosts-run_named-N-Naming g a = record {
   events = a.blanks.events.name;
   ran = a.blanks.ran.name;
   turns = a.blanks.turns.name;
   enters = a.blanks.enters.name;
-  committed = committed (now a.core);
-  changes = changes (now a.core);
 }
+
+abbrev pub ghosts-run_named-N-Opening : goal.ghosts-run_named-N-Opening
+ghosts-run_named-N-Opening g a = record { committed = committed (now a.core); changes = changes (now a.core) }

@@ -2,7 +2,7 @@
 use Rattle.std.specs.Prelude.{◌≡◌, ℕ, ◌+◌, ◌≤◌, true, false, List, slice_index}
 use mathlib.Core.Option.{some}
 use lib.ListN.{get_elem?}
-use Rattle.bursts.specs.declared.board.View.{View}
+use Rattle.board.specs.declared.board.View.{View}
 
 -- the pair that a pass shows
 abbrev pub pair_of : View → ℕ × ℕ

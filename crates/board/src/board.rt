@@ -1,14 +1,13 @@
-//! The board: how many changes are committed and how many there are, for any thread to read without the core's lock.
+//! The board: how many changes are committed and how many there are, for any thread to read without a lock.
 ghost use Rattle.std.specs.Prelude.{◌≡◌, ◌+◌, ◌≤◌, true, IfOk};
 ghost use Rattle.crossbeam_utils.specs.Seq.{cell_view};
-ghost use Rattle.kernel_model.specs.Answers.{now, committed as committed_in, changes as changes_in};
-ghost use Rattle.bursts.specs.Pairs.{publisher, newcomer, pair_of};
+ghost use Rattle.board.specs.Pairs.{publisher, newcomer, pair_of};
 
-use crate::naming::Naming;
+use crate::opening::Opening;
+use crate::steps::{loads_keep_the_rule, new_passes_keep_the_rule, stores_keep_the_rule};
 use atomic_table::Split;
 use crossbeam_utils::atomic::seq_cell::{Pass as CellPass, RuledSeqCell};
 use crossbeam_utils::rule::{Outcome, Protocol};
-use kernel::Core;
 use std::alloc::{AllocError, Global};
 use std::marker::PhantomData;
 use std::sync::Wait;
@@ -27,8 +26,8 @@ pub struct Rule<N> {
     of: PhantomData<N>,
 }
 
-impl<N: Naming> Protocol<[u64; 2], View> for Rule<N> {
-    ghost use Rattle.bursts.specs.Pairs.{publisher, Follows};
+impl<N: Opening> Protocol<[u64; 2], View> for Rule<N> {
+    ghost use Rattle.board.specs.Pairs.{publisher, Follows};
 
     ghost holds = { Follows };
 
@@ -39,7 +38,7 @@ impl<N: Naming> Protocol<[u64; 2], View> for Rule<N> {
 struct Loads;
 
 impl Outcome<[u64; 2], View> for Loads {
-    ghost use Rattle.bursts.specs.Pairs.{Loaded};
+    ghost use Rattle.board.specs.Pairs.{Loaded};
 
     ghost then = { Loaded };
 }
@@ -48,7 +47,7 @@ impl Outcome<[u64; 2], View> for Loads {
 struct Publishes;
 
 impl Outcome<[u64; 2], View> for Publishes {
-    ghost use Rattle.bursts.specs.Pairs.{Published};
+    ghost use Rattle.board.specs.Pairs.{Published};
 
     ghost then = { Published };
 }
@@ -57,7 +56,7 @@ impl Outcome<[u64; 2], View> for Publishes {
 struct Reading;
 
 impl Split<View> for Reading {
-    ghost use Rattle.bursts.specs.Pairs.{newcomer};
+    ghost use Rattle.board.specs.Pairs.{newcomer};
 
     ghost left = { λ v. v };
 
@@ -75,19 +74,24 @@ pub struct Writer {
 
 /// A pair of numbers, how many changes are committed and how many there are, which are read and written together.
 #[derive(Drop)]
-pub struct Board<N: Naming> {
+pub struct Board<N: Opening> {
     pub cell: RuledSeqCell<[u64; 2], View, Rule<N>, 2>,
 }
 
-impl<N: Naming> Board<N> {
-    /// The board of this core, which opens with the core's pair, the pass that publishes, and a pass that loads.
-    pub fn new(alloc: Global, core: &Core) -> Result<(Board<N>, Writer, Pass), AllocError>
-        requires committed { committed_in (now core.now) ≡ N.committed }
-        requires changes { changes_in (now core.now) ≡ N.changes }
+impl<N: Opening> Board<N> {
+    /// A board that opens with this pair, the pass that publishes, and a pass that loads.
+    pub fn new(
+        alloc: Global,
+        committed: u64,
+        changes: u64,
+    ) -> Result<(Board<N>, Writer, Pass), AllocError>
+        requires committed { committed ≡ N.committed }
+        requires changes { changes ≡ N.changes }
         ensures writer { IfOk result (λ b. (b.1.pass.table_id ≡ b.0.cell.table.shared.table_id) × (cell_view b.1.pass ≡ publisher N.committed N.changes)) }
         ensures pass { IfOk result (λ b. (b.2.table_id ≡ b.0.cell.table.shared.table_id) × (cell_view b.2 ≡ newcomer)) }
     {
-        let (cell, mut pass) = RuledSeqCell::ruled(alloc, [core.committed(), core.changes()])?;
+        let (cell, mut pass) = RuledSeqCell::ruled(alloc, [committed, changes])?;
+        new_passes_keep_the_rule(&pass);
         let reader = cell.split_pass::<Reading>(&mut pass);
         Ok((Board { cell }, Writer { pass }, reader))
     }
@@ -101,6 +105,7 @@ impl<N: Naming> Board<N> {
         ensures pair { result ≡ pair_of (cell_view pass.new) }
         ensures rises { ((cell_view pass.old).committed ≤ result.0) × ((cell_view pass.old).changes ≤ result.1) }
     {
+        loads_keep_the_rule(pass);
         let pair = self.cell.load_as::<Loads, R>(rt, pass);
         (pair[0], pair[1])
     }
@@ -114,7 +119,9 @@ impl<N: Naming> Board<N> {
         ensures publishes { (cell_view writer.new.pass).publishes ≡ true }
         ensures pair { pair_of (cell_view writer.new.pass) ≡ (committed, changes) }
     {
+        let pair = [committed, changes];
+        stores_keep_the_rule(&writer.pass, &pair);
         self.cell
-            .swap_as::<Publishes, R>(rt, &mut writer.pass, [committed, changes]);
+            .swap_as::<Publishes, R>(rt, &mut writer.pass, pair);
     }
 }
