@@ -2,10 +2,10 @@
 use anyhow::Error;
 use std::alloc::AllocError;
 
-/// The digits of a part, and how many times they stand there.
-fn repeated(part: &str) -> Result<(&str, u32), Error> {
+/// A text, and how many times it stands there, as `TEXT*TIMES` or `TEXT` says.
+pub fn repeated(part: &str) -> Result<(&str, u32), Error> {
     match part.split_once('*') {
-        Some((digits, times)) => Ok((digits, times.parse::<u32>()?)),
+        Some((text, times)) => Ok((text, times.parse::<u32>()?)),
         None => Ok((part, 1)),
     }
 }
@@ -25,4 +25,11 @@ pub fn push_parts(out: &mut String, parts: &str) -> Result<(), Error> {
         push_times(out, digits, times)?;
     }
     Ok(())
+}
+
+/// Adds a line of a text and the digits of parts.
+pub fn push_parts_line(out: &mut String, text: &str, parts: &str) -> Result<(), Error> {
+    write!(out, "{text} ")?;
+    push_parts(out, parts)?;
+    Ok(out.push_str("\n")?)
 }

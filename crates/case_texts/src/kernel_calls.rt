@@ -19,11 +19,12 @@
 //! - any other line of a script, and the line that it prints.
 //!
 //! What a turn prints is left out; what stands after `#` is a comment.
-use crate::comparing::compare;
-use crate::hex_parts::push_parts;
-use crate::notation::{Form, Program, Replies, image_of_rights, program_line};
+use crate::comparing::{compare, compare_status};
+use crate::hex_parts::{push_parts_line, repeated};
+use crate::lines::{after_title, push_line, refused, words_of};
+use crate::notation::{Form, Program, Replies, image_of_rights, push_program};
 use crate::ran::Ran;
-use anyhow::{Error, bail, ensure};
+use anyhow::Error;
 use std::alloc::{AllocError, Global};
 
 /// The name of the file in which the program of a line `image T` stands.
@@ -54,7 +55,7 @@ impl CallsCase {
     /// Reads a case, whose first line is its title.
     pub fn read(alloc: Global, text: &str) -> Result<CallsCase, Error> {
         let mut case = CallsCase::new(alloc);
-        for line in text.lines().skip(1) {
+        for line in after_title(text).lines() {
             let line = bare(line);
             if !line.is_empty() {
                 case.read_line(alloc, line)?;
@@ -77,9 +78,7 @@ impl CallsCase {
     pub fn compare(&self, alloc: Global, ran: &Ran) -> Result<(), Error> {
         let printed = without_turns(alloc, ran.out.as_slice())?;
         compare(printed.as_str(), self.printed.as_str())?;
-        let status = ran.status;
-        ensure!(status == 0, "the status was {status}");
-        Ok(())
+        compare_status(ran.status, 0)
     }
 
     /// A case of which nothing was read.
@@ -93,153 +92,50 @@ impl CallsCase {
         }
     }
 
-    /// Sets up a program of these words.
-    fn set_up_words(
-        &mut self,
-        alloc: Global,
-        terminal: &str,
-        words: &[u32],
-    ) -> Result<(), AllocError> {
-        let line = program_line(alloc, terminal, words)?;
-        self.set_up(line.as_str())
-    }
-
     /// Sets up a program of these words that stands in a file.
     fn set_up_image(&mut self, alloc: Global, terminal: &str, words: &[u32]) -> Result<(), Error> {
         self.file = image_of_rights(alloc, words)?;
-        let line = format!(in alloc; "image {terminal} {IMAGE_NAME}")?;
-        Ok(self.set_up(line.as_str())?)
+        Ok(writeln!(self.script, "image {terminal} {IMAGE_NAME}")?)
     }
 
     /// Sets up a program, in its form.
-    fn set_up_program(&mut self, alloc: Global, program: &Program) -> Result<(), Error> {
+    fn set_up(&mut self, alloc: Global, program: &mut Program) -> Result<(), Error> {
         let words = program.words(alloc)?;
         let terminal = program.terminal.as_str();
         match program.form {
-            Form::Words => Ok(self.set_up_words(alloc, terminal, words.as_slice())?),
+            Form::Words => Ok(push_program(&mut self.script, terminal, words.as_slice())?),
             Form::Image => self.set_up_image(alloc, terminal, words.as_slice()),
         }
     }
 
     /// Sets up the program whose source was read, if there is one.
     fn end_program(&mut self, alloc: Global) -> Result<(), Error> {
-        if let Some(program) = self.program.take() {
-            self.set_up_program(alloc, &program)?;
+        if let Some(mut program) = self.program.take() {
+            self.set_up(alloc, &mut program)?;
             self.programs.push(program.into_replies())?;
         }
         Ok(())
     }
 
-    /// Adds a set-up line to the script.
-    fn set_up(&mut self, line: &str) -> Result<(), AllocError> {
-        self.script.push_str(line)?;
-        self.script.push_str("\n")
-    }
-
-    /// Adds the set-up line of a tape.
-    fn tape(&mut self, alloc: Global, number: &str, bytes: &str) -> Result<(), Error> {
-        let mut line = format!(in alloc; "tape {number} ")?;
-        push_parts(&mut line, bytes)?;
-        self.set_up(line.as_str())?;
-        Ok(())
-    }
-
-    /// Adds a line to the script, and what it prints.
-    fn step(&mut self, line: &str, printed: &str) -> Result<(), Error> {
-        self.script.push_str(line)?;
-        self.script.push_str("\n")?;
-        self.printed.push_str(printed)?;
-        self.printed.push_str("\n")?;
-        Ok(())
-    }
-
-    /// The replies of the program that is this process.
-    fn replies_of(&self, pid: &str) -> Result<&Replies, Error> {
-        let number = pid.parse::<usize>()?;
-        match self.programs.get(number.saturating_sub(1)) {
-            Some(replies) => Ok(replies),
-            None => bail!("no program: {pid}"),
-        }
-    }
-
-    /// A process enters the kernel so many times, and each time this is printed.
-    fn enter(
-        &mut self,
-        alloc: Global,
-        pid: &str,
-        times: usize,
-        printed: &str,
-    ) -> Result<(), Error> {
-        let line = format!(in alloc; "turn {pid} 1000000\nenter {pid}")?;
-        for _ in 0..times {
-            self.step(line.as_str(), printed)?;
-        }
-        Ok(())
-    }
-
-    /// How often a process enters the kernel, and what is printed each time, as a word says.
-    fn entering<'a>(&self, pid: &str, word: &'a str) -> Result<(usize, &'a str), Error> {
-        if word == "calls" {
-            return Ok((self.replies_of(pid)?.count, "entered"));
-        }
-        match word.split_once('*') {
-            Some((printed, times)) => Ok((times.parse::<usize>()?, printed)),
-            None => Ok((1, word)),
-        }
-    }
-
     /// A process enters the kernel.
-    fn enters(&mut self, alloc: Global, pid: &str, wanted: &str) -> Result<(), Error> {
+    fn enters(&mut self, pid: &str, wanted: &str) -> Result<(), Error> {
         for word in wanted.split_whitespace() {
-            let (times, printed) = self.entering(pid, word)?;
-            self.enter(alloc, pid, times, printed)?;
+            let (printed, times) = entering(self.programs.as_slice(), pid, word)?;
+            push_enters(&mut self.script, pid, times)?;
+            push_times(&mut self.printed, printed, times)?;
         }
         Ok(())
-    }
-
-    /// What the trace of a process prints.
-    fn trace(&self, alloc: Global, pid: &str, wanted: &str) -> Result<String, Error> {
-        if wanted == "replies" {
-            return Ok(self.replies_of(pid)?.trace(alloc, pid)?);
-        }
-        let mut replies = Replies::none(alloc);
-        if wanted != "-" {
-            replies.push_list(alloc, wanted)?;
-        }
-        Ok(replies.trace(alloc, pid)?)
     }
 
     /// The line `trace P`.
-    fn step_trace(
-        &mut self,
-        alloc: Global,
-        line: &str,
-        pid: &str,
-        wanted: &str,
-    ) -> Result<(), Error> {
-        let printed = self.trace(alloc, pid, wanted)?;
-        self.step(line, printed.as_str().trim_end())
-    }
-
-    /// The line `shown T`.
-    fn step_shown(&mut self, alloc: Global, line: &str, wanted: &str) -> Result<(), Error> {
-        let mut printed = format!(in alloc; "{line} ")?;
-        push_parts(&mut printed, wanted)?;
-        self.step(line, printed.as_str())
-    }
-
-    /// The line `files`.
-    fn step_files(&mut self, alloc: Global, wanted: &str) -> Result<(), Error> {
-        let printed = files_text(alloc, wanted)?;
-        self.step("files", printed.as_str())
-    }
-
-    /// The line `commit`.
-    fn step_commit(&mut self, alloc: Global, wanted: &str) -> Result<(), Error> {
-        let printed = format!(in alloc;
-            "cut {wanted} changes 2 writes\ncompleted, 0 committed\ncompleted, {wanted} committed"
-        )?;
-        self.step("cut\ncomplete 65\ncomplete 64", printed.as_str())
+    fn trace(&mut self, alloc: Global, line: &str, pid: &str, wanted: &str) -> Result<(), Error> {
+        push_line(&mut self.script, line)?;
+        if wanted == "replies" {
+            let replies = replies_of(self.programs.as_slice(), pid)?;
+            return Ok(replies.push_trace(&mut self.printed, pid)?);
+        }
+        let replies = Replies::of_list(alloc, wanted)?;
+        Ok(replies.push_trace(&mut self.printed, pid)?)
     }
 
     /// Does a line of these words that has what is wanted beside it.
@@ -251,18 +147,18 @@ impl CallsCase {
         wanted: &str,
     ) -> Result<(), Error> {
         match words {
-            ["trace", pid] => self.step_trace(alloc, line, pid, wanted),
-            ["shown", _] => self.step_shown(alloc, line, wanted),
-            ["files"] => self.step_files(alloc, wanted),
-            ["commit"] => self.step_commit(alloc, wanted),
-            [pid] if pid.parse::<u32>().is_ok() => self.enters(alloc, pid, wanted),
-            _ => self.step(line, wanted),
+            ["trace", pid] => self.trace(alloc, line, pid, wanted),
+            ["shown", _] => push_shown(&mut self.script, &mut self.printed, line, wanted),
+            ["files"] => Ok(push_files(&mut self.script, &mut self.printed, wanted)?),
+            ["commit"] => Ok(push_commit(&mut self.script, &mut self.printed, wanted)?),
+            [pid] if pid.parse::<u32>().is_ok() => self.enters(pid, wanted),
+            _ => Ok(push_step(&mut self.script, &mut self.printed, line, wanted)?),
         }
     }
 
     /// Does a line that has what is wanted beside it.
     fn wanted(&mut self, alloc: Global, line: &str, wanted: &str) -> Result<(), Error> {
-        let words: Vec<&str> = line.split_whitespace().collect(alloc)?;
+        let words = words_of(alloc, line)?;
         self.do_words(alloc, line, words.as_slice(), wanted)
     }
 
@@ -277,7 +173,7 @@ impl CallsCase {
     fn read_source(&mut self, alloc: Global, line: &str) -> Result<(), Error> {
         match &mut self.program {
             Some(program) => program.read(alloc, line),
-            None => bail!("no program for: {line}"),
+            None => Err(refused("no program for: ", line)),
         }
     }
 
@@ -286,7 +182,7 @@ impl CallsCase {
         match words {
             ["program", terminal] => self.program(alloc, Form::Words, terminal),
             ["image", terminal] => self.program(alloc, Form::Image, terminal),
-            ["tape", number, bytes] => self.tape(alloc, number, bytes),
+            ["tape", number, bytes] => push_tape(&mut self.script, number, bytes),
             _ => self.read_source(alloc, line),
         }
     }
@@ -297,41 +193,116 @@ impl CallsCase {
             self.end_program(alloc)?;
             return self.wanted(alloc, line, wanted);
         }
-        let words: Vec<&str> = line.split_whitespace().collect(alloc)?;
+        let words = words_of(alloc, line)?;
         self.read_words(alloc, line, words.as_slice())
     }
 }
 
-/// What files print.
-fn files_text(alloc: Global, wanted: &str) -> Result<String, AllocError> {
+/// Adds the set-up line of a tape.
+fn push_tape(script: &mut String, number: &str, bytes: &str) -> Result<(), Error> {
+    script.push_str("tape ")?;
+    push_parts_line(script, number, bytes)
+}
+
+/// The replies of the program that is this process.
+fn replies_of<'a>(programs: &'a [Replies], pid: &str) -> Result<&'a Replies, Error> {
+    let number = pid.parse::<usize>()?;
+    match programs.get(number.saturating_sub(1)) {
+        Some(replies) => Ok(replies),
+        None => Err(refused("no program: ", pid)),
+    }
+}
+
+/// What is printed each time that a process enters the kernel, and how often it does, as a word says.
+fn entering<'a>(programs: &[Replies], pid: &str, word: &'a str) -> Result<(&'a str, u32), Error> {
+    if word == "calls" {
+        Ok(("entered", replies_of(programs, pid)?.count))
+    } else {
+        repeated(word)
+    }
+}
+
+/// Adds to a script that a process enters the kernel so many times.
+fn push_enters(script: &mut String, pid: &str, times: u32) -> Result<(), AllocError> {
+    for _ in 0..times {
+        writeln!(script, "turn {pid} 1000000\nenter {pid}")?;
+    }
+    Ok(())
+}
+
+/// Adds a line so many times.
+fn push_times(printed: &mut String, line: &str, times: u32) -> Result<(), AllocError> {
+    for _ in 0..times {
+        push_line(printed, line)?;
+    }
+    Ok(())
+}
+
+/// Adds the line `commit` to a script, and what it prints.
+fn push_commit(script: &mut String, printed: &mut String, wanted: &str) -> Result<(), AllocError> {
+    script.push_str("cut\ncomplete 65\ncomplete 64\n")?;
+    writeln!(
+        printed,
+        "cut {wanted} changes 2 writes\ncompleted, 0 committed\ncompleted, {wanted} committed"
+    )
+}
+
+/// Adds a line to a script, and what it prints.
+fn push_step(
+    script: &mut String,
+    printed: &mut String,
+    line: &str,
+    wanted: &str,
+) -> Result<(), AllocError> {
+    push_line(script, line)?;
+    push_line(printed, wanted)
+}
+
+/// Adds a line `shown T` to a script, and what it prints.
+fn push_shown(
+    script: &mut String,
+    printed: &mut String,
+    line: &str,
+    wanted: &str,
+) -> Result<(), Error> {
+    push_line(script, line)?;
+    push_parts_line(printed, line, wanted)
+}
+
+/// Adds the line `files` to a script, and what it prints.
+fn push_files(script: &mut String, printed: &mut String, wanted: &str) -> Result<(), AllocError> {
+    script.push_str("files\n")?;
     if wanted == "-" {
-        return String::from_str(alloc, "files 0");
+        return printed.push_str("files 0\n");
     }
     let count = wanted.split("; ").count();
-    let mut printed = format!(in alloc; "files {count}")?;
+    writeln!(printed, "files {count}")?;
     for line in wanted.split("; ") {
-        printed.push_str("\n")?;
-        printed.push_str(line)?;
+        push_line(printed, line)?;
     }
-    Ok(printed)
+    Ok(())
+}
+
+/// Adds what was printed, without what turns print.
+fn push_without_turns(kept: &mut String, out: &str) -> Result<(), AllocError> {
+    for line in out.lines() {
+        if !line.starts_with("ran ") {
+            push_line(kept, line)?;
+        }
+    }
+    Ok(())
 }
 
 /// What was printed, without what turns print.
 fn without_turns(alloc: Global, out: &[u8]) -> Result<String, Error> {
+    let out = str::from_utf8(out)?;
     let mut kept = String::new(alloc);
-    for line in str::from_utf8(out)?.lines() {
-        if !line.starts_with("ran ") {
-            kept.push_str(line)?;
-            kept.push_str("\n")?;
-        }
-    }
+    push_without_turns(&mut kept, out)?;
     Ok(kept)
 }
 
 /// A line without its comment and the blanks round it.
 fn bare(line: &str) -> &str {
-    match line.split_once('#') {
-        Some((line, _)) => line.trim(),
-        None => line.trim(),
-    }
+    let (text, _comment) = line.split_once('#').unwrap_or((line, ""));
+    text.trim()
 }

@@ -5,6 +5,7 @@
 mod comparing;
 mod hex_parts;
 mod kernel_calls;
+mod lines;
 mod notation;
 mod ran;
 mod sessions;

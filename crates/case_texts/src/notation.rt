@@ -1,6 +1,7 @@
 //! Programs that call the kernel, in the notation of `kernel_calls`: their sources, and the replies beside their calls.
-use crate::hex_parts::push_parts;
-use anyhow::{Error, bail};
+use crate::hex_parts::push_parts_line;
+use crate::lines::{push_line, refused, two_parts, words_of};
+use anyhow::Error;
 use assembler::{Row, assemble};
 use std::alloc::{AllocError, Global};
 
@@ -49,84 +50,72 @@ fn call_number(word: &str) -> Option<u32> {
 
 /// The instruction that loads an argument, and its operand.
 fn loading(word: &str) -> (&str, &str) {
-    match word.strip_prefix('&') {
-        Some(label) => ("la", label),
-        None if word.starts_with(|c: char| c.is_ascii_digit() || c == '-') => ("li", word),
-        None => ("mv", word),
+    if let Some(label) = word.strip_prefix('&') {
+        return ("la", label);
+    }
+    match word.as_bytes().first() {
+        Some(b'0'..=b'9' | b'-') => ("li", word),
+        _ => ("mv", word),
     }
 }
 
-/// Adds the instruction that loads a call's argument.
-fn push_argument(
-    alloc: Global,
-    source: &mut String,
-    register: &str,
-    word: &str,
-) -> Result<(), AllocError> {
+/// Adds the instruction that loads a call's argument of this number, from 0.
+fn push_argument(source: &mut String, number: usize, word: &str) -> Result<(), AllocError> {
     let (mnemonic, operand) = loading(word);
-    let line = format!(in alloc; "{mnemonic} {register},{operand}\n")?;
-    source.push_str(line.as_str())
+    writeln!(source, "{mnemonic} a{number},{operand}")
 }
 
-/// Adds the instructions that load a call's arguments.
-fn push_arguments(
-    alloc: Global,
-    source: &mut String,
-    arguments: &[&str],
-) -> Result<(), AllocError> {
-    for (register, word) in ["a0", "a1", "a2"].iter().zip(arguments) {
-        push_argument(alloc, source, register, word)?;
-    }
-    Ok(())
-}
-
-/// Adds the instructions of a call.
-fn push_call(
-    alloc: Global,
-    source: &mut String,
-    number: u32,
-    arguments: &[&str],
-) -> Result<(), AllocError> {
-    push_arguments(alloc, source, arguments)?;
-    source.push_str(format!(in alloc; "li a7,{number}\necall\n")?.as_str())
-}
-
-/// Adds a decimal number, in hexadecimal, and what comes after it.
-fn push_number(alloc: Global, out: &mut String, number: &str, after: &str) -> Result<(), Error> {
-    let number = number.parse::<i32>()?;
-    let text = format!(in alloc; "{number:08x} {after}")?;
-    Ok(out.push_str(text.as_str())?)
-}
-
-/// Adds the place and the bytes of a reply.
-fn push_bytes(out: &mut String, at: &str, parts: &str) -> Result<(), Error> {
-    out.push_str(at)?;
-    out.push_str(" ")?;
-    push_parts(out, parts)
-}
-
-/// Adds what prints of a reply, by the words of its text.
-fn push_words(alloc: Global, out: &mut String, reply: &str, words: &[&str]) -> Result<(), Error> {
-    match words {
-        [a0] => push_number(alloc, out, a0, "-"),
-        [a0, "at", at, parts] => {
-            push_number(alloc, out, a0, "")?;
-            push_bytes(out, at, parts)
+/// Adds the instructions of a call, which load its arguments, at most three.
+fn push_call(source: &mut String, call: u32, arguments: &[&str]) -> Result<(), AllocError> {
+    for number in 0..3usize {
+        if let Some(word) = arguments.get(number) {
+            push_argument(source, number, word)?;
         }
-        _ => bail!("no reply: {reply}"),
+    }
+    writeln!(source, "li a7,{call}\necall")
+}
+
+/// Adds a statement with these words: a call by its name or number, or a line of the source as it stands.
+fn push_words(source: &mut String, statement: &str, words: &[&str]) -> Result<(), AllocError> {
+    let Some((first, arguments)) = words.split_first() else {
+        return Ok(());
+    };
+    match call_number(first) {
+        Some(call) => push_call(source, call, arguments),
+        None => push_line(source, statement),
     }
 }
 
-/// Adds the line that prints of a reply.
-fn push_reply(alloc: Global, out: &mut String, reply: &str) -> Result<(), Error> {
-    let words: Vec<&str> = reply.split_whitespace().collect(alloc)?;
-    push_words(alloc, out, reply, words.as_slice())?;
-    Ok(out.push_str("\n")?)
+/// Adds a statement.
+fn push_statement(alloc: Global, source: &mut String, statement: &str) -> Result<(), AllocError> {
+    let words = words_of(alloc, statement)?;
+    push_words(source, statement, words.as_slice())
+}
+
+/// Adds a decimal number, in hexadecimal.
+fn push_number(out: &mut String, number: &str) -> Result<(), Error> {
+    let number = number.parse::<i32>()?;
+    Ok(write!(out, "{number:08x} ")?)
+}
+
+/// Adds the line that prints of a reply, by the words of its text.
+fn push_reply(out: &mut String, reply: &str, words: &[&str]) -> Result<(), Error> {
+    match words {
+        [a0] => {
+            push_number(out, a0)?;
+            Ok(out.push_str("-\n")?)
+        }
+        [a0, "at", at, parts] => {
+            push_number(out, a0)?;
+            push_parts_line(out, at, parts)
+        }
+        _ => Err(refused("no reply: ", reply)),
+    }
 }
 
 /// The replies beside a program's calls.
 pub struct Replies {
-    pub count: usize,
+    pub count: u32,
     printed: String,
 }
 
@@ -140,7 +129,7 @@ impl Drop for Replies {
 }
 
 impl Replies {
-    pub fn none(alloc: Global) -> Replies {
+    fn none(alloc: Global) -> Replies {
         Replies {
             count: 0,
             printed: String::new(alloc),
@@ -149,11 +138,21 @@ impl Replies {
 
     fn push(&mut self, alloc: Global, reply: &str) -> Result<(), Error> {
         self.count = self.count.saturating_add(1);
-        push_reply(alloc, &mut self.printed, reply)
+        let words = words_of(alloc, reply)?;
+        push_reply(&mut self.printed, reply, words.as_slice())
+    }
+
+    /// The replies of a list, which is `-` where there are none.
+    pub fn of_list(alloc: Global, list: &str) -> Result<Replies, Error> {
+        let mut replies = Replies::none(alloc);
+        if list != "-" {
+            replies.push_list(alloc, list)?;
+        }
+        Ok(replies)
     }
 
     /// Adds replies that are parted by `;`.
-    pub fn push_list(&mut self, alloc: Global, replies: &str) -> Result<(), Error> {
+    fn push_list(&mut self, alloc: Global, replies: &str) -> Result<(), Error> {
         for reply in replies.split(';') {
             self.push(alloc, reply)?;
         }
@@ -162,9 +161,7 @@ impl Replies {
 
     /// Adds the same replies again and again, as `N = R; R` says.
     fn push_times(&mut self, alloc: Global, line: &str) -> Result<(), Error> {
-        let Some((times, replies)) = line.split_once(" = ") else {
-            bail!("no replies: {line}");
-        };
+        let (times, replies) = two_parts(line, " = ", "no replies: ")?;
         for _ in 0..times.parse::<u32>()? {
             self.push_list(alloc, replies)?;
         }
@@ -173,9 +170,7 @@ impl Replies {
 
     /// Adds the replies from one number to another, as `N M` says.
     fn push_numbers(&mut self, alloc: Global, range: &str) -> Result<(), Error> {
-        let Some((first, last)) = range.split_once(' ') else {
-            bail!("no numbers: {range}");
-        };
+        let (first, last) = two_parts(range, " ", "no numbers: ")?;
         for number in first.parse::<u32>()?..=last.parse::<u32>()? {
             let reply = format!(in alloc; "{number}")?;
             self.push(alloc, reply.as_str())?;
@@ -183,11 +178,11 @@ impl Replies {
         Ok(())
     }
 
-    /// What a trace of them prints.
-    pub fn trace(&self, alloc: Global, pid: &str) -> Result<String, AllocError> {
+    /// Adds what a trace of them prints.
+    pub fn push_trace(&self, out: &mut String, pid: &str) -> Result<(), AllocError> {
         let count = self.count;
         let lines = self.printed.as_str();
-        format!(in alloc; "trace {pid} {count} replies\n{lines}")
+        write!(out, "trace {pid} {count} replies\n{lines}")
     }
 }
 
@@ -210,6 +205,21 @@ fn push_segment(
     push_word_bytes(file, &header)
 }
 
+/// Adds the program headers of an image whose text has this size.
+fn push_segments(file: &mut Vec<u8>, size: u32) -> Result<(), AllocError> {
+    push_segment(file, 0x10000, [size, size], 5)?;
+    push_segment(file, 0x20000, [0, 4096], 4)?;
+    push_segment(file, 0x30000, [0, 4096], 2)?;
+    push_segment(file, 0x40000, [0, 4096], 1)
+}
+
+/// Adds the program headers of an image, and the page of its text.
+fn push_image(file: &mut Vec<u8>, words: &[u32]) -> Result<(), Error> {
+    push_segments(file, u32::try_from(words.len())?.saturating_mul(4))?;
+    file.resize(4096, 0)?;
+    Ok(push_word_bytes(file, words)?)
+}
+
 /// The file of an image: a program's text, a page that may be read alone, at 0x00020000, one that may be written alone,
 /// at 0x00030000, and one that may be executed alone, at 0x00040000.
 pub fn image_of_rights(alloc: Global, words: &[u32]) -> Result<Vec<u8>, Error> {
@@ -217,13 +227,7 @@ pub fn image_of_rights(alloc: Global, words: &[u32]) -> Result<Vec<u8>, Error> {
         alloc,
         "7f454c460101010000000000000000000200f3000100000000000100340000000000000000000000340020000400000000000000",
     )?;
-    let size = u32::try_from(words.len())?.saturating_mul(4);
-    push_segment(&mut file, 0x10000, [size, size], 5)?;
-    push_segment(&mut file, 0x20000, [0, 4096], 4)?;
-    push_segment(&mut file, 0x30000, [0, 4096], 2)?;
-    push_segment(&mut file, 0x40000, [0, 4096], 1)?;
-    file.resize(4096, 0)?;
-    push_word_bytes(&mut file, words)?;
+    push_image(&mut file, words)?;
     Ok(file)
 }
 
@@ -270,37 +274,9 @@ impl Program {
         Ok(Program {
             form,
             terminal: String::from_str(alloc, terminal)?,
-            source: String::new(alloc),
+            source: String::from_str(alloc, "_start:\n")?,
             replies: Replies::none(alloc),
         })
-    }
-
-    /// Adds a line to the source.
-    fn push_line(&mut self, line: &str) -> Result<(), AllocError> {
-        self.source.push_str(line)?;
-        self.source.push_str("\n")
-    }
-
-    /// Reads a statement with these words.
-    fn read_words(
-        &mut self,
-        alloc: Global,
-        statement: &str,
-        words: &[&str],
-    ) -> Result<(), AllocError> {
-        let Some((first, arguments)) = words.split_first() else {
-            return Ok(());
-        };
-        match call_number(first) {
-            Some(number) => push_call(alloc, &mut self.source, number, arguments),
-            None => self.push_line(statement),
-        }
-    }
-
-    /// Reads a statement: a call by its name or number, or a line of the source as it stands.
-    fn read_statement(&mut self, alloc: Global, statement: &str) -> Result<(), AllocError> {
-        let words: Vec<&str> = statement.split_whitespace().collect(alloc)?;
-        self.read_words(alloc, statement, words.as_slice())
     }
 
     /// Reads a line of the source.
@@ -313,10 +289,10 @@ impl Program {
         }
         match line.split_once(" = ") {
             Some((statement, reply)) => {
-                self.read_statement(alloc, statement)?;
+                push_statement(alloc, &mut self.source, statement)?;
                 self.replies.push(alloc, reply)
             }
-            None => Ok(self.read_statement(alloc, line)?),
+            None => Ok(push_statement(alloc, &mut self.source, line)?),
         }
     }
 
@@ -331,30 +307,19 @@ impl Program {
         replies
     }
 
-    /// The source, whole.
-    fn whole_source(&self, alloc: Global) -> Result<String, AllocError> {
-        let source = self.source.as_str();
-        format!(in alloc; "_start:\n{source}{PLACES}")
-    }
-
-    /// The words of the program.
-    pub fn words(&self, alloc: Global) -> Result<Vec<u32>, Error> {
-        let source = self.whole_source(alloc)?;
-        let (_image, listing) = assemble(alloc, source.as_str())?;
+    /// The words of the program, after whose text the places stand.
+    pub fn words(&mut self, alloc: Global) -> Result<Vec<u32>, Error> {
+        self.source.push_str(PLACES)?;
+        let (_image, listing) = assemble(alloc, self.source.as_str())?;
         Ok(listed_words(alloc, listing.rows())?)
     }
 }
 
-/// Adds a word to a line, in hexadecimal.
-fn push_word(alloc: Global, line: &mut String, word: u32) -> Result<(), AllocError> {
-    line.push_str(format!(in alloc; " {word:08x}")?.as_str())
-}
-
-/// The set-up line of a program.
-pub fn program_line(alloc: Global, terminal: &str, words: &[u32]) -> Result<String, AllocError> {
-    let mut line = format!(in alloc; "program {terminal}")?;
+/// Adds the set-up line of a program.
+pub fn push_program(script: &mut String, terminal: &str, words: &[u32]) -> Result<(), AllocError> {
+    write!(script, "program {terminal}")?;
     for word in words {
-        push_word(alloc, &mut line, *word)?;
+        write!(script, " {word:08x}")?;
     }
-    Ok(line)
+    script.push_str("\n")
 }

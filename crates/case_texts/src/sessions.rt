@@ -11,10 +11,11 @@
 //!
 //! In input `\t`, `\r`, `\s` and `\xff` stand for a tab, a carriage return, a blank and the byte ff. Empty lines and
 //! lines that begin with `#` are skipped.
-use crate::comparing::compare;
+use crate::comparing::{compare, compare_status};
 use crate::hex_parts::push_parts;
+use crate::lines::{after_title, push_line, refused, two_parts, words_of};
 use crate::ran::Ran;
-use anyhow::{Error, bail, ensure};
+use anyhow::{Error, bail};
 use std::alloc::{AllocError, Global};
 
 /// What stands for bytes that a line does not show, and the byte, each after a backslash.
@@ -25,23 +26,54 @@ fn push_escaped(input: &mut Vec<u8>, text: &str) -> Result<(), Error> {
     for (mark, byte) in ESCAPES {
         if let Some(rest) = text.strip_prefix(mark) {
             input.push(byte)?;
-            input.extend_from_slice(rest.as_bytes())?;
-            return Ok(());
+            return Ok(input.extend_from_slice(rest.as_bytes())?);
         }
     }
-    bail!("no such byte: \\{text}")
+    Err(refused("no such byte: \\", text))
 }
 
 /// Adds a text, with the bytes that it does not show.
 fn push_text(input: &mut Vec<u8>, text: &str) -> Result<(), Error> {
-    for (place, piece) in text.split('\\').enumerate() {
-        if place == 0 {
-            input.extend_from_slice(piece.as_bytes())?;
-        } else {
-            push_escaped(input, piece)?;
-        }
+    let Some((shown, rest)) = text.split_once('\\') else {
+        return Ok(input.extend_from_slice(text.as_bytes())?);
+    };
+    input.extend_from_slice(shown.as_bytes())?;
+    for escaped in rest.split('\\') {
+        push_escaped(input, escaped)?;
     }
     Ok(())
+}
+
+/// Adds a line, with the bytes that it does not show.
+fn push_input(input: &mut Vec<u8>, text: &str) -> Result<(), Error> {
+    push_text(input, text)?;
+    Ok(input.extend_from_slice(b"\n")?)
+}
+
+/// Adds a text so many times, as `N TEXT` says.
+fn push_times(input: &mut Vec<u8>, line: &str) -> Result<(), Error> {
+    let (times, text) = two_parts(line, " ", "no text to be repeated: ")?;
+    for _ in 0..times.parse::<u32>()? {
+        push_text(input, text)?;
+    }
+    Ok(())
+}
+
+/// One more line is wanted, but for where whatever comes is.
+fn want_line(wanted: &mut Option<String>, line: &str) -> Result<(), Error> {
+    match wanted {
+        Some(lines) => Ok(push_line(lines, line)?),
+        None => Ok(()),
+    }
+}
+
+/// Compares what a run wrote with what is wanted of it. Where that is something, and nothing came, it is refused for this reason.
+fn compare_output(came: &[u8], wanted: &Option<String>, why: &str) -> Result<(), Error> {
+    match wanted {
+        Some(wanted) => compare(str::from_utf8(came)?, wanted.as_str()),
+        None if came.is_empty() => Err(refused(why, "")),
+        None => Ok(()),
+    }
 }
 
 /// A run of the program, and what is wanted of it.
@@ -78,33 +110,6 @@ impl Run {
         })
     }
 
-    /// Adds a line to the input.
-    fn push_line(&mut self, text: &str) -> Result<(), Error> {
-        push_text(&mut self.input, text)?;
-        self.input.push(b'\n')?;
-        Ok(())
-    }
-
-    /// Adds a text to the input so many times, as `N TEXT` says.
-    fn push_times(&mut self, line: &str) -> Result<(), Error> {
-        let Some((times, text)) = line.split_once(' ') else {
-            bail!("no text to be repeated: {line}");
-        };
-        for _ in 0..times.parse::<u32>()? {
-            push_text(&mut self.input, text)?;
-        }
-        Ok(())
-    }
-
-    /// One more line is to be printed.
-    fn want_line(&mut self, text: &str) -> Result<(), Error> {
-        if let Some(out) = &mut self.out {
-            out.push_str(text)?;
-            out.push_str("\n")?;
-        }
-        Ok(())
-    }
-
     /// The run is to end as `STATUS TEXT` or `STATUS` says.
     fn want_end(&mut self, alloc: Global, line: &str) -> Result<(), Error> {
         match line.split_once(' ') {
@@ -120,24 +125,15 @@ impl Run {
         Ok(())
     }
 
-    /// One more line is to be on standard error.
-    fn want_said(&mut self, text: &str) -> Result<(), Error> {
-        if let Some(err) = &mut self.err {
-            err.push_str(text)?;
-            err.push_str("\n")?;
-        }
-        Ok(())
-    }
-
     /// Reads a line that says more of the run, by its mark; answers whether it does.
     fn read(&mut self, alloc: Global, mark: &str, text: &str) -> Result<bool, Error> {
         match mark {
-            "<" => self.push_line(text)?,
-            "<<" => self.push_times(text)?,
-            ">" => self.want_line(text)?,
+            "<" => push_input(&mut self.input, text)?,
+            "<<" => push_times(&mut self.input, text)?,
+            ">" => want_line(&mut self.out, text)?,
             ">*" => self.out = None,
             "!" => self.want_end(alloc, text)?,
-            "!!" => self.want_said(text)?,
+            "!!" => want_line(&mut self.err, text)?,
             _ => return Ok(false),
         }
         Ok(true)
@@ -163,17 +159,9 @@ impl Run {
 
     /// Compares its output, its standard error and its status.
     fn compare_all(&self, ran: &Ran) -> Result<(), Error> {
-        let status = ran.status;
-        match &self.out {
-            Some(out) => compare(str::from_utf8(&ran.out)?, out.as_str())?,
-            None => ensure!(!ran.out.is_empty(), "nothing was printed"),
-        }
-        match &self.err {
-            Some(err) => compare(str::from_utf8(&ran.err)?, err.as_str())?,
-            None => ensure!(!ran.err.is_empty(), "nothing was said on standard error"),
-        }
-        ensure!(status == self.status, "the status was {status}");
-        Ok(())
+        compare_output(&ran.out, &self.out, "nothing was printed")?;
+        compare_output(&ran.err, &self.err, "nothing was said on standard error")?;
+        compare_status(ran.status, self.status)
     }
 }
 
@@ -194,11 +182,10 @@ impl Drop for NamedBytes {
 
 /// The bytes of parts in hexadecimal, or none for `-`.
 fn bytes_of(alloc: Global, parts: &str) -> Result<Vec<u8>, Error> {
-    if parts == "-" {
-        return Ok(Vec::new(alloc));
-    }
     let mut digits = String::new(alloc);
-    push_parts(&mut digits, parts)?;
+    if parts != "-" {
+        push_parts(&mut digits, parts)?;
+    }
     Ok(hex::decode(alloc, digits.as_str())?)
 }
 
@@ -213,19 +200,17 @@ impl NamedBytes {
     /// Adds a line.
     fn push_line(&mut self, text: &str) -> Result<(), AllocError> {
         self.bytes.extend_from_slice(text.as_bytes())?;
-        self.bytes.push(b'\n')?;
-        Ok(())
+        self.bytes.extend_from_slice(b"\n")
     }
 
     /// Compares what the file holds with these bytes.
     pub fn compare(&self, file: &[u8]) -> Result<(), Error> {
+        if file == self.bytes.as_slice() {
+            return Ok(());
+        }
         let name = self.name.as_str();
         let len = file.len();
-        ensure!(
-            file == self.bytes.as_slice(),
-            "{name} holds {len} other bytes"
-        );
-        Ok(())
+        bail!("{name} holds {len} other bytes")
     }
 }
 
@@ -260,16 +245,13 @@ impl Step {
     }
 }
 
-/// Where a line has no form, and where there is a file that is to be missing.
-const NO_FORM: &str = "this has no form";
-
-/// What is said of a file that is to be missing.
-const IS_THERE: &str = "this file is there";
-
 /// Refused where a file is there that is to be missing.
 pub fn check_missing(is_missing: bool) -> Result<(), Error> {
-    ensure!(is_missing, "{IS_THERE}");
-    Ok(())
+    if is_missing {
+        Ok(())
+    } else {
+        bail!("this file is there")
+    }
 }
 
 /// The run of a line `$ WORDS`.
@@ -286,13 +268,13 @@ fn step_of(alloc: Global, line: &str, words: &[&str]) -> Result<Step, Error> {
         ["remove", name] => Ok(Step::Remove(String::from_str(alloc, name)?)),
         ["holds", name, parts] => Ok(Step::Holds(NamedBytes::of_parts(alloc, name, parts)?)),
         ["missing", name] => Ok(Step::Missing(String::from_str(alloc, name)?)),
-        _ => bail!("{NO_FORM}"),
+        _ => bail!("this has no form"),
     }
 }
 
 /// The step that begins with a line.
 fn begin(alloc: Global, line: &str) -> Result<Step, Error> {
-    let words: Vec<&str> = line.split_whitespace().collect(alloc)?;
+    let words = words_of(alloc, line)?;
     step_of(alloc, line, words.as_slice())
 }
 
@@ -321,7 +303,7 @@ fn read_line(alloc: Global, steps: &mut Vec<Step>, line: &str) -> Result<(), Err
 /// The steps of a case, whose first line is its title.
 pub fn session_steps(alloc: Global, case: &str) -> Result<Vec<Step>, Error> {
     let mut steps = Vec::new(alloc);
-    for line in case.lines().skip(1) {
+    for line in after_title(case).lines() {
         if !line.trim().is_empty() && !line.starts_with('#') {
             read_line(alloc, &mut steps, line)?;
         }
