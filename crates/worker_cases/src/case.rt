@@ -1,16 +1,19 @@
-//! How a case is set up: a core of both programs, its board, its bench, and a pool over it.
+//! How a case is set up: a core of both programs, its board, its bench, and a pool over it with its workers.
 ghost use Rattle.std.specs.Prelude.{◌≡◌, ◌≤◌, ◌<◌};
 ghost use Rattle.kernel_model.specs.Answers.{now, committed as committed_in, changes as changes_in};
 
+use crate::board_reader::BoardReader;
 use crate::fault::Fault;
+use crate::gates::{Calls, Held};
 use crate::programs::boot;
-use crate::{by_crew, gated, stealing, stranger, turns};
-use bursts::{Bench, Blanks, Naming, Share, board_of, gather, totals_of};
+use crate::workers::{Worker, shares_of, workers_of};
+use crate::{by_crew, desk, gated, stealing, stranger, turns};
+use bursts::{Bench, Blanks, Desk, LockedDesk, Naming, Share, board_of, gather, totals_of};
 use kernel::Core;
 use pool::Pool;
 use std::alloc::{AllocError, Global};
 use std::marker::Brand;
-use std::sync::Wait;
+use std::sync::{Mutex, Wait};
 use std::thread::Threads;
 
 /// How many instructions a loan has at most.
@@ -29,6 +32,8 @@ pub enum Case {
     Turns,
     /// A result of another core is handed in before two workers begin.
     Stranger,
+    /// All turns at a desk, with a group that is committed and one that fails.
+    Desk,
 }
 
 impl Case {
@@ -37,30 +42,21 @@ impl Case {
         ensures { (1 ≤ result) × (result ≤ 16) }
     {
         match self {
-            Case::Turns => 1,
+            Case::Turns | Case::Desk => 1,
             _ => 2,
         }
     }
 }
 
-/// What a case came to.
-#[derive(Drop)]
-pub struct Played {
-    /// What was found at the pool, in words.
-    pub found: String,
-    /// What the core came to, in words.
-    pub core: String,
-    /// What its board showed at the end.
-    pub shown: (u64, u64),
-}
-
-/// What was found at a pool, in words, and the shares of those who worked there.
-pub type Found<N> = (String, Vec<Share<N>>);
-
-/// Plays a case over a core of both programs.
-pub fn play<R: Threads + Wait + Sync>(rt: &R, alloc: Global, case: Case) -> Result<Played, Fault> {
+/// Plays a case over a core of both programs, and adds its line.
+pub fn play<R: Threads + Wait + Sync>(
+    rt: &R,
+    alloc: Global,
+    case: Case,
+    line: &mut String,
+) -> Result<(), Fault> {
     let core = boot(alloc)?;
-    play_named::<Brand, R>(rt, alloc, core, Blanks::new(), case)
+    play_named::<Brand, R>(rt, alloc, core, Blanks::new(), case, line)
 }
 
 /// Plays a case over this core, with the names of the ledgers and the board.
@@ -70,7 +66,8 @@ fn play_named<N: Naming + Send + Sync, R: Threads + Wait + Sync>(
     core: Core,
     blanks: Blanks,
     case: Case,
-) -> Result<Played, Fault>
+    line: &mut String,
+) -> Result<(), Fault>
     requires committed { committed_in (now core) ≡ N.committed }
     requires changes { changes_in (now core) ≡ N.changes }
     requires events { (blanks.events.name ≡ N.events) × (blanks.events.parts ≡ 64) }
@@ -78,73 +75,145 @@ fn play_named<N: Naming + Send + Sync, R: Threads + Wait + Sync>(
     requires turns { (blanks.turns.name ≡ N.turns) × (blanks.turns.parts ≡ 64) }
     requires enters { (blanks.enters.name ≡ N.enters) × (blanks.enters.parts ≡ 64) }
 {
-    let (board, writer, mut pass) = board_of::<N>(alloc, &core)?;
+    let (board, writer, pass) = board_of::<N>(alloc, &core)?;
     let board = &board;
+    let mut reader = BoardReader::new(board, pass);
     let (bench, share) = Bench::new(core, board, writer, blanks);
-    let (found, core) = play_over(rt, alloc, bench, share, case)?;
-    let shown = board.seen(rt, &mut pass);
-    Ok(Played { found, core, shown })
+    play_over(rt, alloc, bench, share, &mut reader, case, line)
 }
 
-/// Plays a case at a pool over this bench, with its one share. Answers what was found, and what the core came to.
+/// Plays a case at a pool over this bench, with its one share.
 fn play_over<N: Naming + Send + Sync, R: Threads + Wait + Sync>(
     rt: &R,
     alloc: Global,
     bench: Bench<'_, N>,
     share: Share<N>,
+    reader: &mut BoardReader<'_, N>,
     case: Case,
-) -> Result<(String, String), Fault>
+    line: &mut String,
+) -> Result<(), Fault>
     requires { share.parts ≡ 64 }
 {
     match Pool::new(alloc, bench, case.workers()) {
-        Ok(pool) => play_in(rt, alloc, pool, share, case),
+        Ok(pool) => play_in(rt, alloc, pool, share, reader, case, line),
         Err(_) => Err(Fault::OutOfMemory),
     }
 }
 
-/// Plays a case at this pool, which then ends.
+/// Plays a case at this pool, which then ends, and says what its core came to.
 fn play_in<N: Naming + Send + Sync, R: Threads + Wait + Sync>(
     rt: &R,
     alloc: Global,
     pool: Pool<'_, N>,
     share: Share<N>,
+    reader: &mut BoardReader<'_, N>,
     case: Case,
-) -> Result<(String, String), Fault>
+    line: &mut String,
+) -> Result<(), Fault>
     requires { pool.workers < share.parts }
 {
-    let (found, shares) = play_at(rt, alloc, &pool, share, case)?;
-    let core = words(alloc, gather(pool.end(), shares))?;
-    Ok((found, core))
+    let shares = play_at(rt, alloc, &pool, share, reader, case, line)?;
+    let shown = reader.seen(rt);
+    Ok(say_core(alloc, gather(pool.end(), shares), shown, case, line)?)
 }
 
-/// Plays a case at this pool.
+/// Plays a case by the workers of this pool. Answers all shares.
 fn play_at<N: Naming + Send + Sync, R: Threads + Wait + Sync>(
     rt: &R,
     alloc: Global,
     pool: &Pool<'_, N>,
     share: Share<N>,
+    reader: &mut BoardReader<'_, N>,
     case: Case,
-) -> Result<Found<N>, Fault>
+    line: &mut String,
+) -> Result<Vec<Share<N>>, Fault>
     requires { pool.now.workers < share.parts }
 {
+    let calls = Calls::new();
+    let gate = Held::new(&calls, matches!(case, Case::Gated));
+    let mut share = share;
+    let mut workers = workers_of(alloc, pool, &mut share, gate)?;
+    let mut desk = LockedDesk::new(rt, pool.bench(), share);
+    let played = play_by(
+        rt,
+        alloc,
+        pool.bench(),
+        workers.as_mut_slice(),
+        &mut desk,
+        reader,
+        case,
+        line,
+    );
+    let share = desk.end();
+    played?;
+    say_share(&share, case, line)?;
+    Ok(shares_of(alloc, workers, share)?)
+}
+
+/// Plays a case by these workers and at this desk.
+fn play_by<N: Naming + Send + Sync, D: Desk, R: Threads + Wait + Sync>(
+    rt: &R,
+    alloc: Global,
+    bench: &Mutex<Bench<'_, N>>,
+    workers: &mut [Worker<'_, '_, '_, N>],
+    desk: &mut D,
+    reader: &mut BoardReader<'_, N>,
+    case: Case,
+    line: &mut String,
+) -> Result<(), Fault> {
     match case {
-        Case::ByCrew => by_crew::play(rt, alloc, pool, share),
-        Case::Gated => gated::play(rt, alloc, pool, share),
-        Case::Stealing => stealing::play(rt, alloc, pool, share),
-        Case::Turns => turns::play(rt, alloc, pool, share),
-        Case::Stranger => stranger::play(rt, alloc, pool, share),
+        Case::ByCrew => by_crew::play(rt, bench, workers, desk, line),
+        Case::Gated => gated::play(rt, bench, workers, line),
+        Case::Stealing => stealing::play(rt, bench, workers, line),
+        Case::Turns => turns::play(rt, workers, desk, line),
+        Case::Stranger => stranger::play(rt, alloc, bench, workers, line),
+        Case::Desk => desk::play(rt, reader, desk, line),
     }
 }
 
-/// What a core came to, which then ends, in words.
-fn words(alloc: Global, core: Core) -> Result<String, AllocError> {
-    words_of(alloc, &core)
+/// Says what the desk's share has, of the case that is a desk's.
+fn say_share<N: Naming>(share: &Share<N>, case: Case, line: &mut String) -> Result<(), AllocError> {
+    let Case::Desk = case else {
+        return Ok(());
+    };
+    let totals = share.totals();
+    let parts = share.parts();
+    write!(line, "; its share {totals:?} in {parts} parts")
 }
 
-/// What a core came to, in words: its totals, and what its terminals show.
-fn words_of(alloc: Global, core: &Core) -> Result<String, AllocError> {
+/// Says what a core came to, which then ends.
+fn say_core(
+    alloc: Global,
+    core: Core,
+    shown: (u64, u64),
+    case: Case,
+    line: &mut String,
+) -> Result<(), AllocError> {
+    match case {
+        Case::ByCrew => say_whole(alloc, &core, shown, line),
+        Case::Desk => say_totals(&core, line),
+        _ => Ok(()),
+    }
+}
+
+/// Says a core's totals, what its terminals show, and what its board showed at the end.
+fn say_whole(
+    alloc: Global,
+    core: &Core,
+    shown: (u64, u64),
+    line: &mut String,
+) -> Result<(), AllocError> {
     let totals = totals_of(core);
     let first = hex::encode(alloc, core.shown(0))?;
     let second = hex::encode(alloc, core.shown(1))?;
-    format!(in alloc; "{totals:?}; shown 0 {first}, shown 1 {second}")
+    write!(
+        line,
+        ", then {totals:?}; shown 0 {first}, shown 1 {second}; the board {shown:?}"
+    )
+}
+
+/// Says a core's totals.
+fn say_totals(core: &Core, line: &mut String) -> Result<(), AllocError> {
+    let totals = totals_of(core);
+    write!(line, "; all {totals:?}")
 }

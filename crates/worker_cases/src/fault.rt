@@ -1,52 +1,60 @@
 //! Why a case ends early.
 use kernel::{BootFault, Refused};
-use pool::CrewFault;
-use std::alloc::{AllocError, AllocFailed};
-use thiserror::Error;
+use std::alloc::AllocError;
+use std::fmt;
 
 /// Why a case ends early.
-#[derive(Clone, Copy, Debug, PartialEq, Eq, Error)]
+#[derive(Clone, Copy)]
 pub enum Fault {
     /// Memory could not be had.
-    #[error("out of memory")]
     OutOfMemory,
     /// The core is not booted.
-    #[error("the core is not booted: {0}")]
     Boot(BootFault),
     /// The core refuses a loan or an event.
-    #[error("refused: {0}")]
     Refused(Refused),
     /// Nothing is lent where a loan was to be had.
-    #[error("nothing is lent")]
     NothingLent,
     /// No write is in flight where one was to complete.
-    #[error("no write is in flight")]
     NoWrite,
     /// The crew stops, with a fault of this number.
-    #[error("the crew stops with fault {0}")]
     Crew(u8),
     /// The second worker was not at work while the first was held.
-    #[error("the second worker was not at work while the first was held")]
     Late,
     /// There is no seat.
-    #[error("there is no seat")]
     NoSeat,
     /// A result found no room in the queue.
-    #[error("the queue is full")]
     QueueFull,
     /// A turn at the desk settles nothing.
-    #[error("a turn at the desk settles nothing")]
     NothingSettled,
+}
+
+/// What a fault without a number is.
+fn text_of(fault: Fault) -> &'static str {
+    match fault {
+        Fault::OutOfMemory => "out of memory",
+        Fault::NothingLent => "nothing is lent",
+        Fault::NoWrite => "no write is in flight",
+        Fault::Late => "the second worker was not at work while the first was held",
+        Fault::NoSeat => "there is no seat",
+        Fault::QueueFull => "the queue is full",
+        Fault::NothingSettled => "a turn at the desk settles nothing",
+        Fault::Boot(_) | Fault::Refused(_) | Fault::Crew(_) => "",
+    }
+}
+
+impl fmt::Display for Fault {
+    fn fmt<W: fmt::Write>(&self, f: &mut fmt::Formatter<W>) -> fmt::Result {
+        match self {
+            Fault::Boot(why) => write!(f, "the core is not booted: {why}"),
+            Fault::Refused(why) => write!(f, "refused: {why}"),
+            Fault::Crew(number) => write!(f, "the crew stops with fault {number}"),
+            fault => f.write_str(text_of(*fault)),
+        }
+    }
 }
 
 impl From<AllocError> for Fault {
     fn from(_error: AllocError) -> Fault {
-        Fault::OutOfMemory
-    }
-}
-
-impl<T: Drop> From<AllocFailed<T>> for Fault {
-    fn from(_failed: AllocFailed<T>) -> Fault {
         Fault::OutOfMemory
     }
 }
@@ -60,11 +68,5 @@ impl From<BootFault> for Fault {
 impl From<Refused> for Fault {
     fn from(why: Refused) -> Fault {
         Fault::Refused(why)
-    }
-}
-
-impl From<CrewFault> for Fault {
-    fn from(fault: CrewFault) -> Fault {
-        Fault::Crew(fault.number())
     }
 }

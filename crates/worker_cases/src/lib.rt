@@ -4,11 +4,13 @@
 //! What it answers is the same whatever the schedule: how the workers take turns shows in no line.
 #![tactic(auto)]
 
+mod board_reader;
 mod by_crew;
 mod case;
 mod desk;
 mod fault;
 mod gated;
+mod gates;
 mod lines;
 mod programs;
 mod stealing;

@@ -1,9 +1,14 @@
-//! The two programs, and a gate that holds nobody.
+//! The two programs.
+ghost use Rattle.std.specs.Prelude.{◌≡◌, ◌<◌, true, length, IfOk};
+ghost use Rattle.std.specs.List.{AllByRecursion};
+ghost use Rattle.disk_model.specs.Storage.{is_quiet};
+ghost use Rattle.kernel_model.specs.World.{terminal_count};
+
 use crate::fault::Fault;
-use bursts::{Done, Gate, run_loan};
+use bursts::{Done, run_loan};
 use kernel::{Core, Program, SimDisk};
 use machine_model::Image;
-use std::alloc::Global;
+use std::alloc::{AllocError, Global};
 
 /// A program that creates a file `f`, writes 3 bytes to it, of which the first is `A`, writes that byte to its terminal, and exits.
 const WRITER: [u32; 19] = [
@@ -42,28 +47,33 @@ const PRINTER: [u32; 10] = [
     0x0000_0073,
 ];
 
-/// A gate that holds nobody.
-#[derive(Clone, Copy)]
-pub struct Open;
-
-impl Gate for Open {
-    fn hold(&mut self, _pid: u32) {}
+/// Both programs, on terminals 0 and 1.
+fn programs(alloc: Global) -> Result<Vec<Program>, AllocError>
+    ensures count { IfOk result (λ programs. length programs.items ≡ 2) }
+    ensures terminals { IfOk result (λ programs. AllByRecursion (λ p. p.terminal < terminal_count) programs.items) }
+{
+    let mut programs = Vec::new(alloc);
+    let image = Image::from_text(alloc, &WRITER)?;
+    programs.push(Program { image, terminal: 0 })?;
+    let image = Image::from_text(alloc, &PRINTER)?;
+    programs.push(Program { image, terminal: 1 })?;
+    Ok(programs)
 }
 
-/// A core of both programs, on terminals 0 and 1.
+/// A disk of zeros.
+fn device(alloc: Global) -> Result<SimDisk, Fault>
+    ensures { IfOk result (λ device. is_quiet device ≡ true) }
+{
+    match SimDisk::zero(alloc) {
+        Ok(device) => Ok(device),
+        Err(_) => Err(Fault::OutOfMemory),
+    }
+}
+
+/// A core of both programs.
 pub fn boot(alloc: Global) -> Result<Core, Fault> {
-    let writer = Program {
-        image: Image::from_text(alloc, &WRITER)?,
-        terminal: 0,
-    };
-    let printer = Program {
-        image: Image::from_text(alloc, &PRINTER)?,
-        terminal: 1,
-    };
-    let programs = vec![in alloc; writer, printer]?;
-    let Ok(device) = SimDisk::zero(alloc) else {
-        return Err(Fault::OutOfMemory);
-    };
+    let programs = programs(alloc)?;
+    let device = device(alloc)?;
     Ok(Core::boot(alloc, device, programs, Vec::new(alloc))?)
 }
 

@@ -3,22 +3,23 @@ ghost use Rattle.std.specs.Prelude.{◌<◌};
 
 use crate::case::QUANTUM;
 use crate::fault::Fault;
-use bursts::{Gate, Naming, Share};
+use crate::gates::Held;
+use bursts::{Naming, Share};
 use pool::{Pool, Seat, pool_crew};
 use std::alloc::{AllocError, Global};
 use std::sync::Wait;
 use std::thread::Threads;
 
 /// A worker: its seat, and its gate.
-pub type Worker<'p, 'b, N, G> = (Seat<'p, 'b, N>, G);
+pub type Worker<'p, 'b, 'g, N> = (Seat<'p, 'b, N>, Held<'g>);
 
 /// A worker for each seat of a pool, each with a gate such as this.
-pub fn workers_of<'p, 'b, N: Naming, G: Gate + Copy>(
+pub fn workers_of<'p, 'b, 'g, N: Naming>(
     alloc: Global,
     pool: &'p Pool<'b, N>,
     share: &mut Share<N>,
-    gate: G,
-) -> Result<Vec<Worker<'p, 'b, N, G>>, AllocError>
+    gate: Held<'g>,
+) -> Result<Vec<Worker<'p, 'b, 'g, N>>, AllocError>
     requires { pool.now.workers < share.old.parts }
 {
     let mut workers = Vec::new(alloc);
@@ -28,50 +29,49 @@ pub fn workers_of<'p, 'b, N: Naming, G: Gate + Copy>(
     Ok(workers)
 }
 
-/// The workers work in threads of their own until the work is over.
-pub fn crew<N: Naming + Send + Sync, G: Gate + Send, R: Threads + Wait + Sync>(
-    rt: &R,
-    workers: &mut [Worker<'_, '_, N, G>],
-) -> Result<(), Fault> {
-    pool_crew(rt, workers, QUANTUM)?;
-    Ok(())
+/// The seat of the worker at this place.
+pub fn seat_at<'w, 'p, 'b, N: Naming>(
+    workers: &'w mut [Worker<'p, 'b, '_, N>],
+    place: usize,
+) -> Result<&'w mut Seat<'p, 'b, N>, Fault> {
+    match workers.get_mut(place) {
+        Some(worker) => Ok(&mut worker.0),
+        None => Err(Fault::NoSeat),
+    }
 }
 
-/// The shares of workers that have ended.
-pub fn shares_of<N: Naming, G: Drop>(
+/// The workers work in threads of their own until the work is over. The number of the fault with which they stop, 0 for none.
+pub fn crew_fault<N: Naming + Send + Sync, R: Threads + Wait + Sync>(
+    rt: &R,
+    workers: &mut [Worker<'_, '_, '_, N>],
+) -> u8 {
+    match pool_crew(rt, workers, QUANTUM) {
+        Ok(()) => 0,
+        Err(fault) => fault.number(),
+    }
+}
+
+/// The workers work in threads of their own until the work is over.
+pub fn crew<N: Naming + Send + Sync, R: Threads + Wait + Sync>(
+    rt: &R,
+    workers: &mut [Worker<'_, '_, '_, N>],
+) -> Result<(), Fault> {
+    match crew_fault(rt, workers) {
+        0 => Ok(()),
+        number => Err(Fault::Crew(number)),
+    }
+}
+
+/// The shares of workers that have ended, and one more.
+pub fn shares_of<N: Naming>(
     alloc: Global,
-    workers: Vec<Worker<'_, '_, N, G>>,
+    workers: Vec<Worker<'_, '_, '_, N>>,
+    share: Share<N>,
 ) -> Result<Vec<Share<N>>, AllocError> {
     let mut shares = Vec::new(alloc);
     for (seat, _gate) in workers {
         shares.push(seat.end())?;
     }
-    Ok(shares)
-}
-
-/// The shares of workers that have ended, and one more.
-pub fn shares_with<N: Naming, G: Drop>(
-    alloc: Global,
-    workers: Vec<Worker<'_, '_, N, G>>,
-    share: Share<N>,
-) -> Result<Vec<Share<N>>, Fault> {
-    let mut shares = shares_of(alloc, workers)?;
     shares.push(share)?;
-    Ok(shares)
-}
-
-/// Workers with such gates work at all seats of a pool until the work is over. Answers their shares.
-pub fn work<N: Naming + Send + Sync, G: Gate + Copy + Send, R: Threads + Wait + Sync>(
-    rt: &R,
-    alloc: Global,
-    pool: &Pool<'_, N>,
-    share: &mut Share<N>,
-    gate: G,
-) -> Result<Vec<Share<N>>, Fault>
-    requires { pool.now.workers < share.old.parts }
-{
-    let mut workers = workers_of(alloc, pool, share, gate)?;
-    crew(rt, workers.as_mut_slice())?;
-    let shares = shares_of(alloc, workers)?;
     Ok(shares)
 }
