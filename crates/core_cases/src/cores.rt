@@ -85,8 +85,10 @@ impl TestCore {
         }
         let device = SimDisk::open(alloc, device.bytes())?;
         let programs = programs_of(alloc, sources)?;
-        let booted = Core::boot(alloc, device, programs, tapes_of(alloc, tapes)?);
-        Ok(booted.map(|core| TestCore { core }))
+        match Core::boot(alloc, device, programs, tapes_of(alloc, tapes)?) {
+            Ok(core) => Ok(Ok(TestCore { core })),
+            Err(fault) => Ok(Err(fault)),
+        }
     }
 
     /// A core of these programs and tapes on the completed bytes of a disk.
@@ -118,8 +120,10 @@ impl TestCore {
 
     /// Lends a process, where one may be lent, for a quantum of instructions, and runs the loan apart from the core.
     pub fn burst(&mut self, quantum: u32) -> Result<Option<Done>, Refused> {
-        let loan = self.core.lend(quantum)?;
-        Ok(loan.map(|loan| run_loan(loan)))
+        match self.core.lend(quantum)? {
+            Some(loan) => Ok(Some(run_loan(loan))),
+            None => Ok(None),
+        }
     }
 
     pub fn settle(&mut self, done: Done) -> Result<Answer, Rejected> {
