@@ -145,6 +145,40 @@ fn serve<N: Naming, G: Gate, R: Wait>(
     }
 }
 
+/// What a worker does after a turn.
+#[derive(Drop)]
+enum Next {
+    /// It asks for a loan again at once.
+    Ask,
+    /// It rests before it asks again.
+    Rest,
+    /// It takes no more turns, as one failed, or as the work is over.
+    End(Option<WorkFault>),
+}
+
+/// What a worker does that found no loan.
+fn after_idle_turn<N: Naming, R: Wait>(rt: &R, seat: &mut Seat<'_, '_, N>, quantum: u32) -> Next {
+    match seat.is_over(rt, quantum) {
+        Ok(true) => Next::End(None),
+        Ok(false) => Next::Rest,
+        Err(rejected) => Next::End(Some(WorkFault::Settle(rejected))),
+    }
+}
+
+/// Takes a turn.
+fn take_turn<N: Naming, G: Gate, R: Wait>(
+    rt: &R,
+    seat: &mut Seat<'_, '_, N>,
+    gate: &mut G,
+    quantum: u32,
+) -> Next {
+    match seat.turn(rt, gate, quantum) {
+        Ok(Pooled::Worked(_)) => Next::Ask,
+        Ok(Pooled::Idle) => after_idle_turn(rt, seat, quantum),
+        Err(fault) => Next::End(Some(fault)),
+    }
+}
+
 /// Takes turns until the work is over, and answers the fault of a turn that failed.
 fn work_on<N: Naming, G: Gate, R: Wait>(
     rt: &R,
@@ -155,17 +189,13 @@ fn work_on<N: Naming, G: Gate, R: Wait>(
     let parker = Parker::new();
     let mut idle = 0u32;
     for _ in rt.forever() {
-        match seat.turn(rt, gate, quantum) {
-            Ok(Pooled::Worked(_)) => idle = 0,
-            Ok(Pooled::Idle) => match seat.is_over(rt, quantum) {
-                Ok(true) => return None,
-                Ok(false) => {
-                    rest(rt, &parker, idle);
-                    idle = idle.saturating_add(1);
-                }
-                Err(rejected) => return Some(WorkFault::Settle(rejected)),
-            },
-            Err(fault) => return Some(fault),
+        match take_turn(rt, seat, gate, quantum) {
+            Next::Ask => idle = 0,
+            Next::Rest => {
+                rest(rt, &parker, idle);
+                idle = idle.saturating_add(1);
+            }
+            Next::End(fault) => return fault,
         }
     }
     unreachable!()
