@@ -52,6 +52,13 @@ struct Watch {
     refused: AtomicBool,
 }
 
+impl Watch {
+    /// Keeps a fault, unless one of a pair before it is kept.
+    fn keep<R: Wait>(&self, rt: &R, place: usize, fault: WorkFault) {
+        self.first.lock(rt).keep(place, fault);
+    }
+}
+
 /// One thread for each pair takes turns at its seat until the work is over: no process is lent and none lendable, or the work is to
 /// stop. Refused with the fault of a turn that failed, of several that of the first pair, after the work was made to stop; and
 /// NoThread, before any other, where a thread could not be started, after the same. After a refusal there may still be loans at
@@ -141,7 +148,7 @@ fn serve<N: Naming, G: Gate, R: Wait>(
     }
     if let Some(fault) = work_on(rt, seat, gate, quantum) {
         seat.stop(rt);
-        watch.first.lock(rt).keep(place, fault);
+        watch.keep(rt, place, fault);
     }
 }
 

@@ -117,11 +117,16 @@ impl<'p, 'b, N: Naming> Seat<'p, 'b, N> {
         }
     }
 
+    /// Whether no process is lent and none lendable, or the work is to stop.
+    fn is_bench_over<R: Wait>(&self, rt: &R, quantum: u32) -> bool {
+        self.pool.bench().lock(rt).over(quantum)
+    }
+
     /// Settles what is in the queue, and answers whether the work is over: no process is lent and none lendable, or the work is to
     /// stop. Refused where a result is not taken back.
     pub(crate) fn is_over<R: Wait>(&mut self, rt: &R, quantum: u32) -> Result<bool, Rejected> {
         accepted(self.settle_all(rt))?;
-        Ok(self.pool.bench().lock(rt).over(quantum))
+        Ok(self.is_bench_over(rt, quantum))
     }
 
     /// Says at the bench that the work is to stop.
