@@ -61,6 +61,20 @@ fn lend_some<N: Naming>(
     Ok(first)
 }
 
+/// The same, under the lock.
+fn lend_under_lock<N: Naming, R: Wait>(
+    rt: &R,
+    lock: &Mutex<Bench<'_, N>>,
+    own: &mut Own,
+    spare: &mut Option<Loan>,
+    quantum: u32,
+) -> Result<Option<Loan>, Refused>
+    ensures { own.new.taken ≡ own.old.taken }
+{
+    let mut guard = lock_soon(rt, lock);
+    lend_some(&mut *guard, own, spare, quantum)
+}
+
 /// A loan: the one to spare, or the next of the worker's own deque, or a stolen one, or, under the lock, the first of up to
 /// eight that are lent. At most one deque's pass shows a take more, and that is the answer.
 pub(crate) fn fetch<N: Naming, R: Wait>(
@@ -83,6 +97,5 @@ pub(crate) fn fetch<N: Naming, R: Wait>(
     if let Some(loan) = steal_round(rt, others) {
         return Ok(Some(loan));
     }
-    let mut guard = lock_soon(rt, lock);
-    lend_some(&mut *guard, own, spare, quantum)
+    lend_under_lock(rt, lock, own, spare, quantum)
 }
