@@ -1,25 +1,25 @@
 //! What came beside what was wanted.
-use anyhow::{Error, anyhow, bail};
+use anyhow::{Error, bail};
 
-/// Says the first line that differs.
-fn difference(came: &str, wanted: &str) -> Error {
-    let mut lines = came.lines();
-    for line in wanted.lines() {
-        let came = lines.next().unwrap_or("");
-        if came != line {
-            return anyhow!("wanted '{line}', came '{came}'");
-        }
+/// A line that came, where it is another than the one that was wanted.
+fn compare_line(came: &str, wanted: &str) -> Result<(), Error> {
+    if came == wanted {
+        Ok(())
+    } else {
+        bail!("wanted '{wanted}', came '{came}'")
     }
-    anyhow!("the lines came, and more of them or other ends than were wanted")
 }
 
 /// Refused with the first line that differs.
 pub fn compare(came: &str, wanted: &str) -> Result<(), Error> {
     if came == wanted {
-        Ok(())
-    } else {
-        Err(difference(came, wanted))
+        return Ok(());
     }
+    let mut lines = came.lines();
+    for line in wanted.lines() {
+        compare_line(lines.next().unwrap_or(""), line)?;
+    }
+    bail!("the lines came, and more of them or other ends than were wanted")
 }
 
 /// Refused where a status came that is not the one that is wanted.

@@ -120,9 +120,8 @@ impl CallsCase {
     /// A process enters the kernel.
     fn enters(&mut self, pid: &str, wanted: &str) -> Result<(), Error> {
         for word in wanted.split_whitespace() {
-            let (printed, times) = entering(self.programs.as_slice(), pid, word)?;
-            push_enters(&mut self.script, pid, times)?;
-            push_times(&mut self.printed, printed, times)?;
+            let (line, times) = entering(self.programs.as_slice(), pid, word)?;
+            push_enters(&mut self.script, &mut self.printed, pid, line, times)?;
         }
         Ok(())
     }
@@ -130,12 +129,13 @@ impl CallsCase {
     /// The line `trace P`.
     fn trace(&mut self, alloc: Global, line: &str, pid: &str, wanted: &str) -> Result<(), Error> {
         push_line(&mut self.script, line)?;
-        if wanted == "replies" {
-            let replies = replies_of(self.programs.as_slice(), pid)?;
-            return Ok(replies.push_trace(&mut self.printed, pid)?);
-        }
-        let replies = Replies::of_list(alloc, wanted)?;
-        Ok(replies.push_trace(&mut self.printed, pid)?)
+        push_trace(
+            alloc,
+            self.programs.as_slice(),
+            &mut self.printed,
+            pid,
+            wanted,
+        )
     }
 
     /// Does a line of these words that has what is wanted beside it.
@@ -148,11 +148,8 @@ impl CallsCase {
     ) -> Result<(), Error> {
         match words {
             ["trace", pid] => self.trace(alloc, line, pid, wanted),
-            ["shown", _] => push_shown(&mut self.script, &mut self.printed, line, wanted),
-            ["files"] => Ok(push_files(&mut self.script, &mut self.printed, wanted)?),
-            ["commit"] => Ok(push_commit(&mut self.script, &mut self.printed, wanted)?),
             [pid] if pid.parse::<u32>().is_ok() => self.enters(pid, wanted),
-            _ => Ok(push_step(&mut self.script, &mut self.printed, line, wanted)?),
+            _ => push_words(&mut self.script, &mut self.printed, line, words, wanted),
         }
     }
 
@@ -222,20 +219,34 @@ fn entering<'a>(programs: &[Replies], pid: &str, word: &'a str) -> Result<(&'a s
     }
 }
 
-/// Adds to a script that a process enters the kernel so many times.
-fn push_enters(script: &mut String, pid: &str, times: u32) -> Result<(), AllocError> {
+/// Adds to a script that a process enters the kernel so many times, and the line that each prints.
+fn push_enters(
+    script: &mut String,
+    printed: &mut String,
+    pid: &str,
+    line: &str,
+    times: u32,
+) -> Result<(), AllocError> {
     for _ in 0..times {
         writeln!(script, "turn {pid} 1000000\nenter {pid}")?;
+        push_line(printed, line)?;
     }
     Ok(())
 }
 
-/// Adds a line so many times.
-fn push_times(printed: &mut String, line: &str, times: u32) -> Result<(), AllocError> {
-    for _ in 0..times {
-        push_line(printed, line)?;
+/// Adds what the trace of a process prints.
+fn push_trace(
+    alloc: Global,
+    programs: &[Replies],
+    printed: &mut String,
+    pid: &str,
+    wanted: &str,
+) -> Result<(), Error> {
+    if wanted == "replies" {
+        return Ok(replies_of(programs, pid)?.push_trace(printed, pid)?);
     }
-    Ok(())
+    let replies = Replies::of_list(alloc, wanted)?;
+    Ok(replies.push_trace(printed, pid)?)
 }
 
 /// Adds the line `commit` to a script, and what it prints.
@@ -269,18 +280,40 @@ fn push_shown(
     push_parts_line(printed, line, wanted)
 }
 
+/// Adds what some files print, after their number.
+fn push_listed(printed: &mut String, files: &str) -> Result<(), AllocError> {
+    let count = files.split("; ").count();
+    writeln!(printed, "files {count}")?;
+    for file in files.split("; ") {
+        push_line(printed, file)?;
+    }
+    Ok(())
+}
+
 /// Adds the line `files` to a script, and what it prints.
 fn push_files(script: &mut String, printed: &mut String, wanted: &str) -> Result<(), AllocError> {
     script.push_str("files\n")?;
     if wanted == "-" {
-        return printed.push_str("files 0\n");
+        printed.push_str("files 0\n")
+    } else {
+        push_listed(printed, wanted)
     }
-    let count = wanted.split("; ").count();
-    writeln!(printed, "files {count}")?;
-    for line in wanted.split("; ") {
-        push_line(printed, line)?;
+}
+
+/// Adds a line of these words to a script, and what it prints.
+fn push_words(
+    script: &mut String,
+    printed: &mut String,
+    line: &str,
+    words: &[&str],
+    wanted: &str,
+) -> Result<(), Error> {
+    match words {
+        ["shown", _] => push_shown(script, printed, line, wanted),
+        ["files"] => Ok(push_files(script, printed, wanted)?),
+        ["commit"] => Ok(push_commit(script, printed, wanted)?),
+        _ => Ok(push_step(script, printed, line, wanted)?),
     }
-    Ok(())
 }
 
 /// Adds what was printed, without what turns print.

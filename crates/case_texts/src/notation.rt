@@ -168,14 +168,19 @@ impl Replies {
         Ok(())
     }
 
-    /// Adds the replies from one number to another, as `N M` says.
-    fn push_numbers(&mut self, alloc: Global, range: &str) -> Result<(), Error> {
-        let (first, last) = two_parts(range, " ", "no numbers: ")?;
-        for number in first.parse::<u32>()?..=last.parse::<u32>()? {
+    /// Adds the replies from one number to another.
+    fn push_range(&mut self, alloc: Global, first: u32, last: u32) -> Result<(), Error> {
+        for number in first..=last {
             let reply = format!(in alloc; "{number}")?;
             self.push(alloc, reply.as_str())?;
         }
         Ok(())
+    }
+
+    /// Adds the replies from one number to another, as `N M` says.
+    fn push_numbers(&mut self, alloc: Global, range: &str) -> Result<(), Error> {
+        let (first, last) = two_parts(range, " ", "no numbers: ")?;
+        self.push_range(alloc, first.parse::<u32>()?, last.parse::<u32>()?)
     }
 
     /// Adds what a trace of them prints.
@@ -268,6 +273,38 @@ fn listed_words(alloc: Global, rows: &[Row]) -> Result<Vec<u32>, AllocError> {
     Ok(words)
 }
 
+/// Reads a line of a source: a statement, and the reply beside it, if there is one.
+fn read_statement(
+    alloc: Global,
+    source: &mut String,
+    replies: &mut Replies,
+    line: &str,
+) -> Result<(), Error> {
+    match line.split_once(" = ") {
+        Some((statement, reply)) => {
+            push_statement(alloc, source, statement)?;
+            replies.push(alloc, reply)
+        }
+        None => Ok(push_statement(alloc, source, line)?),
+    }
+}
+
+/// Reads a line of a source.
+fn read_source(
+    alloc: Global,
+    source: &mut String,
+    replies: &mut Replies,
+    line: &str,
+) -> Result<(), Error> {
+    if let Some(list) = line.strip_prefix("each ") {
+        replies.push_times(alloc, list)
+    } else if let Some(range) = line.strip_prefix("numbers ") {
+        replies.push_numbers(alloc, range)
+    } else {
+        read_statement(alloc, source, replies, line)
+    }
+}
+
 impl Program {
     /// A program without a line of its source as yet.
     pub fn new(alloc: Global, form: Form, terminal: &str) -> Result<Program, AllocError> {
@@ -281,19 +318,7 @@ impl Program {
 
     /// Reads a line of the source.
     pub fn read(&mut self, alloc: Global, line: &str) -> Result<(), Error> {
-        if let Some(list) = line.strip_prefix("each ") {
-            return self.replies.push_times(alloc, list);
-        }
-        if let Some(range) = line.strip_prefix("numbers ") {
-            return self.replies.push_numbers(alloc, range);
-        }
-        match line.split_once(" = ") {
-            Some((statement, reply)) => {
-                push_statement(alloc, &mut self.source, statement)?;
-                self.replies.push(alloc, reply)
-            }
-            None => Ok(push_statement(alloc, &mut self.source, line)?),
-        }
+        read_source(alloc, &mut self.source, &mut self.replies, line)
     }
 
     /// The replies beside its calls.

@@ -18,18 +18,17 @@ use crate::ran::Ran;
 use anyhow::{Error, bail};
 use std::alloc::{AllocError, Global};
 
-/// What stands for bytes that a line does not show, and the byte, each after a backslash.
-const ESCAPES: [(&str, u8); 4] = [("t", b'\t'), ("r", b'\r'), ("s", b' '), ("xff", 0xFF)];
-
-/// Adds what stands after a backslash.
+/// Adds what stands after a backslash: a byte that a line does not show, and a text.
 fn push_escaped(input: &mut Vec<u8>, text: &str) -> Result<(), Error> {
-    for (mark, byte) in ESCAPES {
-        if let Some(rest) = text.strip_prefix(mark) {
-            input.push(byte)?;
-            return Ok(input.extend_from_slice(rest.as_bytes())?);
-        }
-    }
-    Err(refused("no such byte: \\", text))
+    let (byte, rest) = match text.as_bytes() {
+        [b't', rest @ ..] => (b'\t', rest),
+        [b'r', rest @ ..] => (b'\r', rest),
+        [b's', rest @ ..] => (b' ', rest),
+        [b'x', b'f', b'f', rest @ ..] => (0xFF, rest),
+        _ => return Err(refused("no such byte: \\", text)),
+    };
+    input.push(byte)?;
+    Ok(input.extend_from_slice(rest)?)
 }
 
 /// Adds a text, with the bytes that it does not show.
@@ -259,16 +258,37 @@ fn run_of(alloc: Global, line: &str) -> Result<Run, Error> {
     Run::new(alloc, line.trim_start_matches('$').trim())
 }
 
+/// Why a line is refused that is none of those of a case.
+fn no_form() -> Error {
+    Error::msg("this has no form")
+}
+
+/// The step of a mark and a name.
+fn step_of_name(alloc: Global, mark: &str, name: &str) -> Result<Step, Error> {
+    match mark {
+        "file" => Ok(Step::Lines(NamedBytes::of_parts(alloc, name, "-")?)),
+        "remove" => Ok(Step::Remove(String::from_str(alloc, name)?)),
+        "missing" => Ok(Step::Missing(String::from_str(alloc, name)?)),
+        _ => Err(no_form()),
+    }
+}
+
+/// The step of a mark, a name and bytes.
+fn step_of_bytes(alloc: Global, mark: &str, name: &str, parts: &str) -> Result<Step, Error> {
+    match mark {
+        "bytes" => Ok(Step::Bytes(NamedBytes::of_parts(alloc, name, parts)?)),
+        "holds" => Ok(Step::Holds(NamedBytes::of_parts(alloc, name, parts)?)),
+        _ => Err(no_form()),
+    }
+}
+
 /// The step that begins with a line of these words.
 fn step_of(alloc: Global, line: &str, words: &[&str]) -> Result<Step, Error> {
     match words {
         ["$", ..] => Ok(Step::Run(run_of(alloc, line)?)),
-        ["file", name] => Ok(Step::Lines(NamedBytes::of_parts(alloc, name, "-")?)),
-        ["bytes", name, parts] => Ok(Step::Bytes(NamedBytes::of_parts(alloc, name, parts)?)),
-        ["remove", name] => Ok(Step::Remove(String::from_str(alloc, name)?)),
-        ["holds", name, parts] => Ok(Step::Holds(NamedBytes::of_parts(alloc, name, parts)?)),
-        ["missing", name] => Ok(Step::Missing(String::from_str(alloc, name)?)),
-        _ => bail!("this has no form"),
+        [mark, name] => step_of_name(alloc, mark, name),
+        [mark, name, parts] => step_of_bytes(alloc, mark, name, parts),
+        _ => Err(no_form()),
     }
 }
 
