@@ -42,14 +42,14 @@
 //! - `bytes AT N`: N bytes from this place on, in HEX; `zeros AT N`: whether they are zeros.
 use crate::changers::Changer;
 use crate::cores::{Source, TestCore, recover};
-use crate::plain_files::{PlainFile, has};
+use crate::plain_files::has;
 use anyhow::{Error, bail};
 use bursts::{Done, Rejected};
 use files::part_of;
 use kernel::{Event, SimDisk};
 use kernel_model::TERMINALS;
 use simdisk::DiskRefusal;
-use std::alloc::{AllocError, Global};
+use std::alloc::Global;
 use std::fmt::Debug;
 use std::rt::Files;
 use std::{fs, mem};
@@ -180,23 +180,13 @@ fn count_or_look(
     }
 }
 
-/// Writes byte 0 of a disk, and these bytes from a place on.
-fn write_both(
-    device: &mut SimDisk,
-    selector: u8,
-    at: u32,
-    bytes: &[u8],
-) -> Result<(), DiskRefusal> {
-    device.submit(0, &[selector])?;
-    device.submit(at, bytes)?;
-    device.complete(0)?;
-    device.complete(at)
-}
-
 /// A quiet device with a disk of zeros, but for byte 0 and for these bytes, from this place on.
 fn disk_with(alloc: Global, selector: u8, at: u32, bytes: &[u8]) -> Result<SimDisk, DiskRefusal> {
     let mut device = SimDisk::zero(alloc)?;
-    write_both(&mut device, selector, at, bytes)?;
+    device.submit(0, &[selector])?;
+    device.submit(at, bytes)?;
+    device.complete(0)?;
+    device.complete(at)?;
     Ok(device)
 }
 
@@ -223,69 +213,10 @@ impl Kept {
     }
 }
 
-/// Keeps a result under a name.
-fn keep(alloc: Global, results: &mut Vec<Kept>, name: &str, done: Done) -> Result<(), AllocError> {
-    let name = String::from_str(alloc, name)?;
-    Ok(results.push(Kept { name, done })?)
-}
-
-/// Takes the result of this name, which is gone then.
-fn take_result(results: &mut Vec<Kept>, name: &str) -> Result<Done, Error> {
-    match results.iter().position(|kept| kept.name.as_str() == name) {
-        Some(place) => Ok(results.remove(place).into_done()),
-        None => bail!("no result goes by this name"),
-    }
-}
-
 /// Why a result is refused, and what is given back of it.
 fn rejection_text(alloc: Global, rejected: &Rejected) -> Result<String, Error> {
     let done = &rejected.done;
     text(alloc, (rejected.why, done.pid, done.number, done.count))
-}
-
-/// Sets up a program with this source.
-fn push_source(sources: &mut Vec<Source>, terminal: u32, text: String) -> Result<(), Error> {
-    if terminal >= TERMINALS as u32 {
-        bail!("there is no such terminal");
-    }
-    Ok(sources.push(Source { terminal, text })?)
-}
-
-/// Sets up a program whose source stands in a file.
-fn read_program<R: Files + AllocGlobal>(
-    rt: &R,
-    sources: &mut Vec<Source>,
-    terminal: u32,
-    name: &str,
-) -> Result<(), Error> {
-    push_source(sources, terminal, fs::read_to_string(rt, name)?)
-}
-
-/// Sets up a tape.
-fn push_tape(alloc: Global, tapes: &mut Vec<Vec<u8>>, digits: &str) -> Result<(), Error> {
-    Ok(tapes.push(hex::decode(alloc, digits)?)?)
-}
-
-/// Sets up a disk.
-fn set_disk(
-    alloc: Global,
-    device: &mut SimDisk,
-    (selector, at): (u32, u32),
-    digits: &str,
-) -> Result<(), Error> {
-    let bytes = hex::decode(alloc, digits)?;
-    *device = disk_with(alloc, u8::try_from(selector)?, at, &bytes)?;
-    Ok(())
-}
-
-/// Whether there are only zeros.
-fn are_zeros(bytes: &[u8]) -> bool {
-    for byte in bytes {
-        if *byte != 0 {
-            return false;
-        }
-    }
-    true
 }
 
 /// A case as far as it has run.
@@ -327,21 +258,45 @@ impl Case {
         })
     }
 
+    /// Sets up a program.
+    fn program<R: Files + AllocGlobal>(
+        &mut self,
+        rt: &R,
+        terminal: u32,
+        name: &str,
+    ) -> Result<(), Error> {
+        let text = fs::read_to_string(rt, name)?;
+        if terminal >= TERMINALS as u32 {
+            bail!("there is no such terminal");
+        }
+        self.sources.push(Source { terminal, text })?;
+        Ok(())
+    }
+
+    /// Sets up a tape.
+    fn tape(&mut self, digits: &str) -> Result<(), Error> {
+        self.tapes.push(hex::decode(self.alloc, digits)?)?;
+        Ok(())
+    }
+
+    /// Sets up a disk.
+    fn set_disk(&mut self, selector: u32, at: u32, digits: &str) -> Result<(), Error> {
+        let bytes = hex::decode(self.alloc, digits)?;
+        self.device = disk_with(self.alloc, u8::try_from(selector)?, at, &bytes)?;
+        Ok(())
+    }
+
     /// The other core comes in the place of this one.
     fn swap(&mut self) -> Result<(), Error> {
         mem::swap(&mut self.core, &mut self.other);
         Ok(())
     }
 
-    /// A core that is booted on the disk.
-    fn boot(&self) -> Result<TestCore, Error> {
-        TestCore::boot(self.alloc, &self.sources, &self.tapes, &self.device)
-    }
-
     /// The core, which is booted where there is none.
     fn core(&mut self) -> Result<&mut TestCore, Error> {
         if self.core.is_none() {
-            self.core = Some(self.boot()?);
+            let core = TestCore::boot(self.alloc, &self.sources, &self.tapes, &self.device)?;
+            self.core = Some(core);
         }
         match &mut self.core {
             Some(core) => Ok(core),
@@ -364,14 +319,27 @@ impl Case {
             return Ok(None);
         };
         let pid = done.pid;
-        keep(self.alloc, &mut self.results, name, done)?;
+        let name = String::from_str(self.alloc, name)?;
+        self.results.push(Kept { name, done })?;
         Ok(Some(pid))
+    }
+
+    /// The result of this name, which is gone then.
+    fn result(&mut self, name: &str) -> Result<Done, Error> {
+        match self
+            .results
+            .iter()
+            .position(|kept| kept.name.as_str() == name)
+        {
+            Some(place) => Ok(self.results.remove(place).into_done()),
+            None => bail!("no result goes by this name"),
+        }
     }
 
     /// The core takes a result back: what that comes to.
     fn settle(&mut self, name: &str) -> Result<String, Error> {
         let alloc = self.alloc;
-        let done = take_result(&mut self.results, name)?;
+        let done = self.result(name)?;
         match self.core()?.settle(done) {
             Ok(answer) => text(alloc, answer),
             Err(rejected) => rejection_text(alloc, &rejected),
@@ -394,30 +362,23 @@ impl Case {
         }
     }
 
-    /// Whether the disk holds these files.
-    fn disk_has(&self, files: &[PlainFile]) -> Result<bool, Error> {
-        let found = recover(self.alloc, &self.device)?;
-        Ok(has(found.list(), files))
-    }
-
-    /// Whether a core that is booted on the disk finds these files.
-    fn boot_has(&self, files: &[PlainFile]) -> Result<bool, Error> {
-        let next = self.boot()?;
-        Ok(has(next.boot_files(), files))
-    }
-
     /// Whether the disk holds the files that a program leaves after so many changes, and a core that is booted on it finds
     /// them.
     fn holds(&self, name: &str, changes: u32) -> Result<bool, Error> {
         let files = Changer::of(name).files_after(self.alloc, changes)?;
-        let holds = self.disk_has(&files)?;
-        let finds = self.boot_has(&files)?;
-        Ok(holds && finds)
+        let found = recover(self.alloc, &self.device)?;
+        let next = TestCore::boot(self.alloc, &self.sources, &self.tapes, &self.device)?;
+        Ok(has(found.list(), &files) && has(next.boot_files(), &files))
     }
 
     /// So many bytes of the disk, from this place on.
     fn part(&self, at: u32, count: u32) -> &[u8] {
         part_of(self.device.bytes(), at as usize, count as usize)
+    }
+
+    /// Whether so many bytes of the disk, from this place on, are zeros.
+    fn is_zero(&self, at: u32, count: u32) -> bool {
+        self.part(at, count).iter().all(|byte| *byte == 0)
     }
 
     /// What a line comes to that is about results of loans; another one is about the core.
@@ -440,98 +401,72 @@ impl Case {
             "boot" => self.booted(),
             "files" => text(alloc, self.holds(word(words, 1), second)),
             "bytes" => digits(alloc, self.part(first, second)),
-            "zeros" => text(alloc, are_zeros(self.part(first, second))),
+            "zeros" => text(alloc, self.is_zero(first, second)),
             _ => self.lend_or_look(command, words),
         }
     }
 
-    /// What a line comes to that sets up or ends a core; another one is `recover_or_lend`'s.
-    fn set_or_recover(&mut self, command: &str, words: &[&str]) -> Result<String, Error> {
-        let alloc = self.alloc;
-        let digits = word(words, 1);
-        match word(words, 0) {
-            "tape" => text(alloc, push_tape(alloc, &mut self.tapes, digits)),
-            "disk" => {
-                let place = (number(words, 1), number(words, 2));
-                text(
-                    alloc,
-                    set_disk(alloc, &mut self.device, place, word(words, 3)),
-                )
-            }
-            "other" => text(alloc, self.swap()),
-            "halt" => text(alloc, self.halt(digits)),
-            _ => self.recover_or_lend(command, words),
-        }
-    }
-
-    /// What a line of these words comes to.
+    /// What a line comes to.
     fn answer<R: Files + AllocGlobal>(
         &mut self,
         rt: &R,
         command: &str,
         words: &[&str],
     ) -> Result<String, Error> {
-        if word(words, 0) == "program" {
-            let read = read_program(rt, &mut self.sources, number(words, 1), word(words, 2));
-            return text(self.alloc, read);
+        let alloc = self.alloc;
+        let first = number(words, 1);
+        match word(words, 0) {
+            "program" => text(alloc, self.program(rt, first, word(words, 2))),
+            "tape" => text(alloc, self.tape(word(words, 1))),
+            "disk" => text(
+                alloc,
+                self.set_disk(first, number(words, 2), word(words, 3)),
+            ),
+            "other" => text(alloc, self.swap()),
+            "halt" => text(alloc, self.halt(word(words, 1))),
+            _ => self.recover_or_lend(command, words),
         }
-        self.set_or_recover(command, words)
     }
 
-    /// What a line comes to.
-    fn answer_to<R: Files + AllocGlobal>(
+    /// Whether a line comes to what is wanted; where it does not, it is written what it comes to.
+    fn comes_to<R: Files + AllocGlobal + Eprint>(
         &mut self,
         rt: &R,
         command: &str,
-    ) -> Result<String, Error> {
+        wanted: &str,
+    ) -> Result<bool, Error> {
         let words: Vec<&str> = command.split_whitespace().collect(self.alloc)?;
-        self.answer(rt, command, &words)
+        let answer = self.answer(rt, command, &words)?;
+        is_wanted(rt, command, wanted, answer.as_str())
     }
 }
 
-/// Refused where an answer is not the one that is wanted; then it is written.
-fn check_answer<R: Eprint>(rt: &R, command: &str, wanted: &str, answer: &str) -> Result<(), Error> {
-    if answer == wanted {
-        return Ok(());
+/// Whether an answer is the one that is wanted; where it is not, it is written.
+fn is_wanted<R: Eprint>(rt: &R, command: &str, wanted: &str, answer: &str) -> Result<bool, Error> {
+    if answer != wanted {
+        eprintln!(rt; "{command} => {wanted}\nit comes to: {answer}")?;
     }
-    eprintln!(rt; "{command} => {wanted}\nit comes to: {answer}")?;
-    bail!("a line comes to something else")
+    Ok(answer == wanted)
 }
 
 /// A line without its comment and the blanks round it.
 fn bare(line: &str) -> &str {
-    let (text, _comment) = line.split_once('#').unwrap_or((line, ""));
-    text.trim()
-}
-
-/// The lines of a case after its first, which is its title.
-fn after_title(case: &str) -> &str {
-    match case.split_once('\n') {
-        Some((_title, lines)) => lines,
-        None => "",
+    match line.split_once('#') {
+        Some((line, _)) => line.trim(),
+        None => line.trim(),
     }
-}
-
-/// Runs a line of a case: refused where it comes to something else than what is wanted.
-fn check_line<R: Files + AllocGlobal + Eprint>(
-    rt: &R,
-    case: &mut Case,
-    line: &str,
-) -> Result<(), Error> {
-    let line = bare(line);
-    if line.is_empty() {
-        return Ok(());
-    }
-    let (command, wanted) = line.split_once(" => ").unwrap_or((line, "Ok(())"));
-    let answer = case.answer_to(rt, command)?;
-    check_answer(rt, command, wanted, answer.as_str())
 }
 
 /// Runs a case: refused where one of its lines comes to something else than what is wanted.
-fn check_case<R: Files + AllocGlobal + Eprint>(rt: &R, case: &str) -> Result<(), Error> {
-    let mut run = Case::new(rt.alloc())?;
-    for line in after_title(case).lines() {
-        check_line(rt, &mut run, line)?;
+fn check_case<R: Files + AllocGlobal + Eprint>(rt: &R, lines: &str) -> Result<(), Error> {
+    let mut case = Case::new(rt.alloc())?;
+    for line in lines.lines().skip(1) {
+        let (command, wanted) = bare(line)
+            .split_once(" => ")
+            .unwrap_or((bare(line), "Ok(())"));
+        if !command.is_empty() && !case.comes_to(rt, command, wanted)? {
+            bail!("a line comes to something else");
+        }
     }
     Ok(())
 }

@@ -97,14 +97,9 @@ impl Changer {
         }
     }
 
-    /// Does the write of this number, from 0, to the file of this name, if there is one.
-    fn write(
-        self,
-        alloc: Global,
-        files: &mut [PlainFile],
-        number: u32,
-        (name, offset, last): (u8, usize, u8),
-    ) -> Result<(), AllocError> {
+    /// Does the write of this number, from 0.
+    fn write(self, alloc: Global, files: &mut [PlainFile], number: u32) -> Result<(), AllocError> {
+        let (name, offset, last) = self.target_of(number);
         match file_named(files, name) {
             Some(file) => file.write(offset, &self.bytes_of(alloc, number, last)?),
             None => Ok(()),
@@ -119,9 +114,14 @@ impl Changer {
         number: u32,
     ) -> Result<(), AllocError> {
         match ROUND[number as usize % ROUND.len()] {
-            Step::Make(name) => return make(alloc, files, name),
+            Step::Make(name) => make(alloc, files, name)?,
             Step::Write(name, block) => {
-                return self.write(alloc, files, number, (name, block.saturating_mul(1024), 0));
+                if let Some(file) = file_named(files, name) {
+                    file.write(
+                        block.saturating_mul(1024),
+                        &self.bytes_of(alloc, number, 0)?,
+                    )?;
+                }
             }
             Step::Remove(name) => remove(files, name),
             Step::Rename(old, new) => rename(files, old, new),
@@ -141,10 +141,7 @@ impl Changer {
             Some(name) => make(alloc, files, *name),
             None => match self {
                 Changer::Renamer => self.step(alloc, files, number),
-                _ => {
-                    let number = number.saturating_sub(names.len() as u32);
-                    self.write(alloc, files, number, self.target_of(number))
-                }
+                _ => self.write(alloc, files, number.saturating_sub(names.len() as u32)),
             },
         }
     }

@@ -85,10 +85,8 @@ impl TestCore {
         }
         let device = SimDisk::open(alloc, device.bytes())?;
         let programs = programs_of(alloc, sources)?;
-        match Core::boot(alloc, device, programs, tapes_of(alloc, tapes)?) {
-            Ok(core) => Ok(Ok(TestCore { core })),
-            Err(fault) => Ok(Err(fault)),
-        }
+        let booted = Core::boot(alloc, device, programs, tapes_of(alloc, tapes)?);
+        Ok(booted.map(|core| TestCore { core }))
     }
 
     /// A core of these programs and tapes on the completed bytes of a disk.
@@ -120,10 +118,8 @@ impl TestCore {
 
     /// Lends a process, where one may be lent, for a quantum of instructions, and runs the loan apart from the core.
     pub fn burst(&mut self, quantum: u32) -> Result<Option<Done>, Refused> {
-        match self.core.lend(quantum)? {
-            Some(loan) => Ok(Some(run_loan(loan))),
-            None => Ok(None),
-        }
+        let loan = self.core.lend(quantum)?;
+        Ok(loan.map(|loan| run_loan(loan)))
     }
 
     pub fn settle(&mut self, done: Done) -> Result<Answer, Rejected> {

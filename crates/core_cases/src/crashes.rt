@@ -4,7 +4,7 @@ use crate::changers::Changer;
 use crate::cores::{Source, TestCore, recover};
 use anyhow::{Error, bail};
 use kernel::SimDisk;
-use std::alloc::{AllocError, Global};
+use std::alloc::Global;
 use std::fs;
 use std::rt::Files;
 
@@ -60,138 +60,69 @@ impl Sizes {
     }
 }
 
-/// A list of one tape.
-fn one_tape(alloc: Global, bytes: &[u8]) -> Result<Vec<Vec<u8>>, AllocError> {
-    let mut tapes = Vec::new(alloc);
-    tapes.push(Vec::from_slice(alloc, bytes)?)?;
-    Ok(tapes)
-}
-
-/// Where runs of a program begin: with this tape, on this disk, after so many changes, with this group.
+/// Where runs of a program begin: on this disk, after so many changes, with this group.
 #[derive(Clone, Copy)]
 struct Origin<'a> {
     changer: Changer,
     sizes: Sizes,
     sources: &'a [Source],
-    tape: &'a [u8],
+    tapes: &'a [Vec<u8>],
     device: &'a SimDisk,
     before: u32,
     group: u32,
 }
 
-impl<'a> Origin<'a> {
-    /// The first group of a program, on a disk without a file, with an empty tape.
-    fn first(
-        changer: Changer,
-        sizes: Sizes,
-        sources: &'a [Source],
-        device: &'a SimDisk,
-    ) -> Origin<'a> {
-        Origin {
-            changer,
-            sizes,
-            sources,
-            tape: b"",
-            device,
-            before: 0,
-            group: 0,
-        }
-    }
-
-    /// A core at the beginning.
-    fn boot(&self, alloc: Global) -> Result<TestCore, Error> {
-        let tapes = one_tape(alloc, self.tape)?;
-        TestCore::boot(alloc, self.sources, &tapes, self.device)
-    }
-
-    /// A core commits all groups before this one and cuts it. Answers how many writes commit it.
-    fn cut(&self, core: &mut TestCore, group: u32) -> Result<u64, Error> {
+impl Origin<'_> {
+    /// A core that has committed all groups before this one and has cut it, and how many writes commit it.
+    fn cut(&self, alloc: Global, group: u32) -> Result<(TestCore, u64), Error> {
+        let mut core = TestCore::boot(alloc, self.sources, self.tapes, self.device)?;
         for before in self.group..group {
             core.round(self.sizes.of(before))?;
         }
-        core.cut_after(self.sizes.of(group))
+        let writes = core.cut_after(self.sizes.of(group))?;
+        Ok((core, writes))
     }
 
-    /// So many changes of a run, and those before it.
-    fn with_before(&self, changes: u64) -> Result<u32, Error> {
-        Ok(self.before.saturating_add(u32::try_from(changes)?))
-    }
-
-    /// Refused where a crash with this fill left other files than those after one of so many changes.
-    fn check(
-        &self,
-        alloc: Global,
-        left: &SimDisk,
-        (least, most): (u32, u32),
-        fill: &[u8],
-    ) -> Result<(), Error> {
-        let found = recover(alloc, left)?;
+    /// The disk that a crash of this core with this fill leaves, where the files are right.
+    fn crash(&self, alloc: Global, core: TestCore, fill: &[u8]) -> Result<SimDisk, Error> {
+        let least = self.before.saturating_add(u32::try_from(core.committed())?);
+        let most = self.before.saturating_add(u32::try_from(core.changes())?);
+        let left = core.halt(fill);
+        let found = recover(alloc, &left)?;
         if self.changer.leaves(alloc, found.list(), least, most)? {
-            Ok(())
+            Ok(left)
         } else {
             bail!(
                 "a crash with the fill {fill:?} leaves other files than after {least} to {most} changes"
             )
         }
     }
-
-    /// The disk that a crash of this core with this fill leaves, where the files are right.
-    fn crash(&self, alloc: Global, core: TestCore, fill: &[u8]) -> Result<SimDisk, Error> {
-        let least = self.with_before(core.committed())?;
-        let most = self.with_before(core.changes())?;
-        let left = core.halt(fill);
-        self.check(alloc, &left, (least, most), fill)?;
-        Ok(left)
-    }
-
-    /// The disk that a crash with this fill leaves after so many completions of a group, and how many commit it.
-    fn crash_after(
-        &self,
-        alloc: Global,
-        group: u32,
-        completed: u64,
-        fill: &[u8],
-    ) -> Result<(SimDisk, u64), Error> {
-        let mut core = self.boot(alloc)?;
-        let writes = self.cut(&mut core, group)?;
-        core.commit(completed)?;
-        Ok((self.crash(alloc, core, fill)?, writes))
-    }
-
-    /// Crashes with this fill before the first and after each completion of a group, each in a run of its own, since a
-    /// crash is the end of a core. Answers the disk that the last of them leaves.
-    fn crash_group(&self, alloc: Global, group: u32, fill: &[u8]) -> Result<SimDisk, Error> {
-        for completed in 0..100 {
-            let (left, writes) = self.crash_after(alloc, group, completed, fill)?;
-            if completed == writes {
-                return Ok(left);
-            }
-        }
-        bail!("group {group} has no end")
-    }
 }
 
-/// Crashes with this fill throughout a group of the writer, in runs on the disk that the group before it left. Answers the
-/// disk that this one leaves.
-fn crash_next(
+/// Crashes with this fill before the first and after each completion of a group, each in a run of its own, since a crash is
+/// the end of a core. Answers the disk that the last of them leaves.
+fn crash_group(
     alloc: Global,
-    sources: &[Source],
-    device: &SimDisk,
+    origin: Origin<'_>,
     group: u32,
     fill: &[u8],
 ) -> Result<SimDisk, Error> {
-    let before = WRITER.before(group);
-    let tape = before.saturating_sub(1).to_le_bytes();
-    let origin = Origin {
-        changer: Changer::Writer,
-        sizes: WRITER,
-        sources,
-        tape: &tape,
-        device,
-        before,
-        group,
-    };
-    origin.crash_group(alloc, group, fill)
+    for completed in 0..100 {
+        let (mut core, writes) = origin.cut(alloc, group)?;
+        core.commit(completed)?;
+        let left = origin.crash(alloc, core, fill)?;
+        if completed == writes {
+            return Ok(left);
+        }
+    }
+    bail!("group {group} has no end")
+}
+
+/// A list of one tape.
+fn one_tape(alloc: Global, bytes: &[u8]) -> Result<Vec<Vec<u8>>, Error> {
+    let mut tapes = Vec::new(alloc);
+    tapes.push(Vec::from_slice(alloc, bytes)?)?;
+    Ok(tapes)
 }
 
 /// Crashes with this fill throughout the making of the file and the first 33 groups, two checkpoints among them: each group
@@ -199,7 +130,18 @@ fn crash_next(
 fn crash_groups(alloc: Global, sources: &[Source], fill: &[u8]) -> Result<(), Error> {
     let mut device = SimDisk::zero(alloc)?;
     for group in 0..=33u32 {
-        device = crash_next(alloc, sources, &device, group, fill)?;
+        let before = WRITER.before(group);
+        let tapes = one_tape(alloc, &before.saturating_sub(1).to_le_bytes())?;
+        let origin = Origin {
+            changer: Changer::Writer,
+            sizes: WRITER,
+            sources,
+            tapes: &tapes,
+            device: &device,
+            before,
+            group,
+        };
+        device = crash_group(alloc, origin, group, fill)?;
     }
     Ok(())
 }
@@ -208,9 +150,18 @@ fn crash_groups(alloc: Global, sources: &[Source], fill: &[u8]) -> Result<(), Er
 /// the first group after it.
 fn crash_one_run(alloc: Global, sources: &[Source], fill: &[u8]) -> Result<(), Error> {
     let device = SimDisk::zero(alloc)?;
-    let origin = Origin::first(Changer::Writer, WRITER, sources, &device);
+    let tapes = one_tape(alloc, b"")?;
+    let origin = Origin {
+        changer: Changer::Writer,
+        sizes: WRITER,
+        sources,
+        tapes: &tapes,
+        device: &device,
+        before: 0,
+        group: 0,
+    };
     for group in [0, 1, 16, 17] {
-        origin.crash_group(alloc, group, fill)?;
+        crash_group(alloc, origin, group, fill)?;
     }
     Ok(())
 }
@@ -218,9 +169,18 @@ fn crash_one_run(alloc: Global, sources: &[Source], fill: &[u8]) -> Result<(), E
 /// Crashes with this fill throughout the groups of one run of the renamer.
 fn crash_renamings(alloc: Global, sources: &[Source], fill: &[u8]) -> Result<(), Error> {
     let device = SimDisk::zero(alloc)?;
-    let origin = Origin::first(Changer::Renamer, RENAMER, sources, &device);
+    let tapes = one_tape(alloc, b"")?;
+    let origin = Origin {
+        changer: Changer::Renamer,
+        sizes: RENAMER,
+        sources,
+        tapes: &tapes,
+        device: &device,
+        before: 0,
+        group: 0,
+    };
     for group in 0..RENAMER_GROUPS {
-        origin.crash_group(alloc, group, fill)?;
+        crash_group(alloc, origin, group, fill)?;
     }
     Ok(())
 }
@@ -228,35 +188,31 @@ fn crash_renamings(alloc: Global, sources: &[Source], fill: &[u8]) -> Result<(),
 /// The disk of a run of the renamer whose next group makes a checkpoint.
 fn before_checkpoint(alloc: Global, sources: &[Source]) -> Result<SimDisk, Error> {
     let device = SimDisk::zero(alloc)?;
-    let mut core = Origin::first(Changer::Renamer, RENAMER, sources, &device).boot(alloc)?;
+    let tapes = one_tape(alloc, b"")?;
+    let mut core = TestCore::boot(alloc, sources, &tapes, &device)?;
     core.rounds(alloc, 33, 63)?;
     Ok(core.halt(b""))
 }
 
 /// Crashes with this fill throughout a checkpoint of the renamer, and the group after it in the same run.
-fn crash_both(alloc: Global, origin: &Origin<'_>, fill: &[u8]) -> Result<(), Error> {
-    let left = origin.crash_group(alloc, 0, fill)?;
-    let Some(1) = left.bytes().first() else {
-        bail!("the group made no checkpoint");
-    };
-    origin.crash_group(alloc, 1, fill)?;
-    Ok(())
-}
-
-/// Crashes with this fill throughout a checkpoint of the renamer and the group after it, in runs that begin before both.
 fn crash_checkpoint(alloc: Global, sources: &[Source], fill: &[u8]) -> Result<(), Error> {
     let device = before_checkpoint(alloc, sources)?;
-    let tape = BEFORE_CHECKPOINT.to_le_bytes();
+    let tapes = one_tape(alloc, &BEFORE_CHECKPOINT.to_le_bytes())?;
     let origin = Origin {
         changer: Changer::Renamer,
         sizes: CHECKPOINT,
         sources,
-        tape: &tape,
+        tapes: &tapes,
         device: &device,
         before: BEFORE_CHECKPOINT,
         group: 0,
     };
-    crash_both(alloc, &origin, fill)
+    let left = crash_group(alloc, origin, 0, fill)?;
+    if left.bytes().first() != Some(&1) {
+        bail!("the group made no checkpoint");
+    }
+    crash_group(alloc, origin, 1, fill)?;
+    Ok(())
 }
 
 /// A list of one program, for terminal 0, whose source stands in this file.
