@@ -1,7 +1,6 @@
 //! The cases of a file, by the notation that its name ends with: `.calls` for programs that call the kernel, `.sessions` for runs of
 //! the program by its command line. A file begins with a comment, and each case with a line `== TITLE`.
 use crate::playing::{play_calls, play_session};
-use crate::whole_program::WholeProgram;
 use anyhow::{Error, bail};
 use std::fs;
 use std::rt::Files;
@@ -9,27 +8,27 @@ use std::sync::Wait;
 use std::thread::Threads;
 
 /// Runs a case, in the notation that the name of its file ends with.
-fn check_case<P: WholeProgram, R: Files + AllocGlobal + Threads + Wait + Sync>(
+fn check_case<R: Files + AllocGlobal + Threads + Wait + Sync>(
     rt: &R,
     name: &str,
     case: &str,
 ) -> Result<(), Error> {
     if name.ends_with(".calls") {
-        play_calls::<P, _>(rt, case)
+        play_calls(rt, case)
     } else {
-        play_session::<P, _>(rt, case)
+        play_session(rt, case)
     }
 }
 
 /// Runs the cases of a file, and answers how many they are.
-fn check_cases<P: WholeProgram, R: Files + AllocGlobal + Threads + Wait + Sync>(
+fn check_cases<R: Files + AllocGlobal + Threads + Wait + Sync>(
     rt: &R,
     name: &str,
 ) -> Result<usize, Error> {
     let text = fs::read_to_string(rt, name)?;
     let mut count = 0usize;
     for case in text.as_str().split("\n== ").skip(1) {
-        if let Err(error) = check_case::<P, _>(rt, name, case) {
+        if let Err(error) = check_case(rt, name, case) {
             let title = case.lines().next().unwrap_or("");
             bail!("{name}: {title}: {error}");
         }
@@ -39,10 +38,10 @@ fn check_cases<P: WholeProgram, R: Files + AllocGlobal + Threads + Wait + Sync>(
 }
 
 /// Runs the cases of a file, and answers a line that says how many they are.
-pub fn check_file<P: WholeProgram, R: Files + AllocGlobal + Threads + Wait + Sync>(
+pub fn check_file<R: Files + AllocGlobal + Threads + Wait + Sync>(
     rt: &R,
     name: &str,
 ) -> Result<String, Error> {
-    let count = check_cases::<P, _>(rt, name)?;
+    let count = check_cases(rt, name)?;
     Ok(format!(in rt.alloc(); "{name}: {count} cases")?)
 }

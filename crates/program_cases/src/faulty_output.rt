@@ -1,6 +1,5 @@
 //! Outputs that take few writes: what the program printed goes out at once, and its status says where it could not.
 use crate::running::{run, words_of};
-use crate::whole_program::WholeProgram;
 use anyhow::{Error, ensure};
 use std::fs;
 use std::io::{self, ErrorKind, Write};
@@ -54,7 +53,7 @@ fn compare_end(
 
 /// Runs the program with these words, parted by blanks, on the script: it fills the output's room, and ends with this status
 /// and this text on standard error.
-fn check_room<P: WholeProgram, R: Files + AllocGlobal + Threads + Wait + Sync>(
+fn check_room<R: Files + AllocGlobal + Threads + Wait + Sync>(
     rt: &R,
     line: &str,
     room: usize,
@@ -65,37 +64,35 @@ fn check_room<P: WholeProgram, R: Files + AllocGlobal + Threads + Wait + Sync>(
     let mut input = SCRIPT;
     let mut out = Output { writes: 0, room };
     let mut err = Vec::new(rt.alloc());
-    let ended = P::run(rt, &words, &mut input, &mut out, &mut err);
+    let ended = monitor::bench(rt, &words, &mut input, &mut out, &mut err);
     compare_end(room, (ended, out.writes, err.as_slice()), status, said)
 }
 
 /// One write is enough for all output, of a script and of help; where there is none, the status is 6.
-pub fn check_faulty_output<P: WholeProgram, R: Files + AllocGlobal + Threads + Wait + Sync>(
+pub fn check_faulty_output<R: Files + AllocGlobal + Threads + Wait + Sync>(
     rt: &R,
 ) -> Result<String, Error> {
     for line in ["", "--help"] {
-        check_room::<P, _>(rt, line, 1, 0, "")?;
-        check_room::<P, _>(rt, line, 0, 6, FAILED)?;
+        check_room(rt, line, 1, 0, "")?;
+        check_room(rt, line, 0, 6, FAILED)?;
     }
     Ok(String::from_str(rt.alloc(), "outputs that take one write or none")?)
 }
 
 /// Assembles the source `endless.s` to the image `endless`.
-fn assemble_endless<P: WholeProgram, R: Files + AllocGlobal + Threads + Wait + Sync>(
-    rt: &R,
-) -> Result<(), Error> {
-    let status = run::<P, _>(rt, "asm endless.s endless", b"")?.status;
+fn assemble_endless<R: Files + AllocGlobal + Threads + Wait + Sync>(rt: &R) -> Result<(), Error> {
+    let status = run(rt, "asm endless.s endless", b"")?.status;
     ensure!(status == 0, "endless.s: status {status}");
     Ok(())
 }
 
 /// A program that writes a byte which rests on a change, and then never ends. Its run ends only since that byte goes out while
 /// the program runs, and cannot be written. It reads the source `endless.s`.
-pub fn check_endless_run<P: WholeProgram, R: Files + AllocGlobal + Threads + Wait + Sync>(
+pub fn check_endless_run<R: Files + AllocGlobal + Threads + Wait + Sync>(
     rt: &R,
 ) -> Result<String, Error> {
-    assemble_endless::<P, _>(rt)?;
-    check_room::<P, _>(rt, "run endless", 0, 6, FAILED)?;
+    assemble_endless(rt)?;
+    check_room(rt, "run endless", 0, 6, FAILED)?;
     fs::remove_file(rt, "endless")?;
     Ok(String::from_str(rt.alloc(), "a run without end whose output fails")?)
 }

@@ -1,27 +1,21 @@
 //! The ends where the host does not give the arguments, to which no case comes.
-use crate::whole_program::WholeProgram;
 use anyhow::{Error, ensure};
 use case_texts::compare;
 use std::alloc::Global;
 use std::io::{self, ErrorKind};
 
 /// Where the arguments cannot be read for this reason, the program ends with this status, and says this line.
-fn check_end<P: WholeProgram>(
-    alloc: Global,
-    kind: ErrorKind,
-    status: u8,
-    line: &str,
-) -> Result<(), Error> {
+fn check_end(alloc: Global, kind: ErrorKind, status: u8, line: &str) -> Result<(), Error> {
     let mut err = Vec::new(alloc);
-    let ended = P::end_without_arguments(&io::Error::from(kind), &mut err);
+    let ended = monitor::end_without_arguments(&io::Error::from(kind), &mut err);
     ensure!(ended == status, "the status was {ended}");
     compare(str::from_utf8(&err)?, line)
 }
 
 /// Want of memory is status 5, and an argument that is no text a faulty command line.
-pub fn check_lost_arguments<P: WholeProgram>(alloc: Global) -> Result<String, Error> {
-    check_end::<P>(alloc, ErrorKind::OutOfMemory, 5, "bench: out of memory\n")?;
-    check_end::<P>(
+pub fn check_lost_arguments(alloc: Global) -> Result<String, Error> {
+    check_end(alloc, ErrorKind::OutOfMemory, 5, "bench: out of memory\n")?;
+    check_end(
         alloc,
         ErrorKind::InvalidData,
         1,

@@ -1,6 +1,5 @@
 //! Cases done step by step, each beside what is wanted of it.
 use crate::running::run;
-use crate::whole_program::WholeProgram;
 use anyhow::Error;
 use case_texts::{CallsCase, IMAGE_NAME, Ran, Step, check_missing, session_steps};
 use std::fs;
@@ -9,36 +8,36 @@ use std::sync::Wait;
 use std::thread::Threads;
 
 /// Runs a case's script, beside its image's file, if it has one.
-fn run_calls<P: WholeProgram, R: Files + AllocGlobal + Threads + Wait + Sync>(
+fn run_calls<R: Files + AllocGlobal + Threads + Wait + Sync>(
     rt: &R,
     case: &CallsCase,
 ) -> Result<Ran, Error> {
     if case.image().is_empty() {
-        return Ok(run::<P, _>(rt, "", case.script())?);
+        return Ok(run(rt, "", case.script())?);
     }
     fs::write(rt, IMAGE_NAME, case.image())?;
-    let ran = run::<P, _>(rt, "", case.script())?;
+    let ran = run(rt, "", case.script())?;
     fs::remove_file(rt, IMAGE_NAME)?;
     Ok(ran)
 }
 
 /// Runs a case of programs that call the kernel.
-pub fn play_calls<P: WholeProgram, R: Files + AllocGlobal + Threads + Wait + Sync>(
+pub fn play_calls<R: Files + AllocGlobal + Threads + Wait + Sync>(
     rt: &R,
     text: &str,
 ) -> Result<(), Error> {
     let case = CallsCase::read(rt.alloc(), text)?;
-    let ran = run_calls::<P, _>(rt, &case)?;
+    let ran = run_calls(rt, &case)?;
     case.compare(rt.alloc(), &ran)
 }
 
 /// Does a step of a case by the command line.
-fn play_step<P: WholeProgram, R: Files + AllocGlobal + Threads + Wait + Sync>(
+fn play_step<R: Files + AllocGlobal + Threads + Wait + Sync>(
     rt: &R,
     step: &Step,
 ) -> Result<(), Error> {
     match step {
-        Step::Run(wanted) => wanted.compare(&run::<P, _>(rt, wanted.words(), wanted.input())?),
+        Step::Run(wanted) => wanted.compare(&run(rt, wanted.words(), wanted.input())?),
         Step::Lines(file) | Step::Bytes(file) => {
             Ok(fs::write(rt, file.name.as_str(), file.bytes.as_slice())?)
         }
@@ -49,13 +48,13 @@ fn play_step<P: WholeProgram, R: Files + AllocGlobal + Threads + Wait + Sync>(
 }
 
 /// Does the steps of a case by the command line.
-pub fn play_session<P: WholeProgram, R: Files + AllocGlobal + Threads + Wait + Sync>(
+pub fn play_session<R: Files + AllocGlobal + Threads + Wait + Sync>(
     rt: &R,
     text: &str,
 ) -> Result<(), Error> {
     let steps = session_steps(rt.alloc(), text)?;
     for step in &steps {
-        play_step::<P, _>(rt, step)?;
+        play_step(rt, step)?;
     }
     Ok(())
 }

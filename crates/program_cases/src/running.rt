@@ -1,5 +1,4 @@
 //! Runs of the whole program, over text in memory.
-use crate::whole_program::WholeProgram;
 use case_texts::Ran;
 use std::alloc::{AllocError, Global};
 use std::rt::Files;
@@ -16,7 +15,7 @@ pub fn words_of(alloc: Global, line: &str) -> Result<Vec<String>, AllocError> {
 }
 
 /// Runs the program with these words, parted by blanks, on an input.
-pub fn run<P: WholeProgram, R: Files + AllocGlobal + Threads + Wait + Sync>(
+pub fn run<R: Files + AllocGlobal + Threads + Wait + Sync>(
     rt: &R,
     words: &str,
     input: &[u8],
@@ -25,6 +24,6 @@ pub fn run<P: WholeProgram, R: Files + AllocGlobal + Threads + Wait + Sync>(
     let mut out = Vec::new(rt.alloc());
     let mut err = Vec::new(rt.alloc());
     let mut input = input;
-    let status = P::run(rt, &list, &mut input, &mut out, &mut err);
+    let status = monitor::bench(rt, &list, &mut input, &mut out, &mut err);
     Ok(Ran { out, err, status })
 }

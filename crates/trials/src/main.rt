@@ -4,7 +4,6 @@
 //! At the first case that comes out otherwise, and at a word that names nothing, the program ends with status 1, and says which.
 #![tactic(auto)]
 
-mod compared;
 mod usage;
 mod words;
 

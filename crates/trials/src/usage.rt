@@ -8,6 +8,7 @@ NAME.cores: the cases of this file, of cores
 NAME.image: this image at many limits
 faulty-output: outputs that take one write or none
 endless-run: a run without end whose output fails
+damaged-disk: a disk that cannot be read
 lost-arguments: arguments that cannot be read
 writer-crashes: crashes of writer.s
 renamer-crashes: crashes of renamer.s

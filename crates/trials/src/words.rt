@@ -1,5 +1,4 @@
 //! What each word names.
-use crate::compared::Monitor;
 use crate::usage;
 use anyhow::{Error, bail};
 use std::rt::Files;
@@ -13,9 +12,10 @@ fn computed<R: AllocGlobal + Eprint + Files + Threads + Wait + Sync>(
     word: &str,
 ) -> Result<Option<String>, Error> {
     let lines = match word {
-        "faulty-output" => program_cases::check_faulty_output::<Monitor, _>(rt)?,
-        "endless-run" => program_cases::check_endless_run::<Monitor, _>(rt)?,
-        "lost-arguments" => program_cases::check_lost_arguments::<Monitor>(rt.alloc())?,
+        "faulty-output" => program_cases::check_faulty_output(rt)?,
+        "endless-run" => program_cases::check_endless_run(rt)?,
+        "damaged-disk" => program_cases::check_damaged_disk(rt.alloc())?,
+        "lost-arguments" => program_cases::check_lost_arguments(rt.alloc())?,
         "writer-crashes" => core_cases::crash_writer(rt)?,
         "renamer-crashes" => core_cases::crash_renamer(rt)?,
         "workers" => worker_cases::play_cases(rt)?,
@@ -50,7 +50,7 @@ pub fn report<R: AllocGlobal + Clock + Eprint + Files + Threads + Wait + Sync>(
     word: &str,
 ) -> Result<String, Error> {
     if word.ends_with(".calls") || word.ends_with(".sessions") {
-        program_cases::check_file::<Monitor, _>(rt, word)
+        program_cases::check_file(rt, word)
     } else if word.ends_with(".cores") {
         core_cases::check_file(rt, word)
     } else if word.ends_with(".image") {

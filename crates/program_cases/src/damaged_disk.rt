@@ -1,0 +1,16 @@
+//! The line of a disk that cannot be read.
+use anyhow::{Error, ensure};
+use case_texts::compare;
+use kernel::{BootFault, DiskFault};
+use monitor::Fault;
+use std::alloc::Global;
+
+/// It names the first fault, and the status is 3.
+pub fn check_damaged_disk(alloc: Global) -> Result<String, Error> {
+    let fault = Fault::from(BootFault::Disk(DiskFault::PastHalf));
+    let status = fault.status();
+    ensure!(status == 3, "the status was {status}");
+    let line = format!(in alloc; "{fault}")?;
+    compare(line.as_str(), "bench: disk refused: 3 PastHalf")?;
+    Ok(String::from_str(alloc, "a disk that cannot be read")?)
+}
