@@ -13,6 +13,7 @@ pub struct BoardReader<'a, N: Naming> {
 }
 
 impl<'a, N: Naming> BoardReader<'a, N> {
+    /// The board, seen by this pass of it.
     pub fn new(board: &'a Board<N>, pass: Pass) -> BoardReader<'a, N>
         requires { pass.table_id ≡ board.now.cell.table.shared.table_id }
     {

@@ -4,7 +4,7 @@ ghost use Rattle.kernel_model.specs.Answers.{now, committed as committed_in, cha
 
 use crate::board_reader::BoardReader;
 use crate::fault::Fault;
-use crate::gates::{Calls, Held};
+use crate::gates::{CaseGate, Lendings};
 use crate::programs::boot;
 use crate::workers::{Worker, shares_of, workers_of};
 use crate::{by_crew, desk, gated, stealing, stranger, turns};
@@ -19,7 +19,7 @@ use std::thread::Threads;
 /// How many instructions a loan has at most.
 pub const QUANTUM: u32 = 100;
 
-/// What is done at a pool.
+/// What is done at a pool, or at a desk.
 #[derive(Clone, Copy)]
 pub enum Case {
     /// Two workers run both programs to their ends; then a third desk commits.
@@ -129,8 +129,8 @@ fn play_at<N: Naming + Send + Sync, R: Threads + Wait + Sync>(
 ) -> Result<Vec<Share<N>>, Fault>
     requires { pool.now.workers < share.parts }
 {
-    let calls = Calls::new();
-    let gate = Held::new(&calls, matches!(case, Case::Gated));
+    let lendings = Lendings::none();
+    let gate = CaseGate::new(&lendings, matches!(case, Case::Gated));
     let mut share = share;
     let mut workers = workers_of(alloc, pool, &mut share, gate)?;
     let mut desk = LockedDesk::new(rt, pool.bench(), share);
@@ -171,7 +171,7 @@ fn play_by<N: Naming + Send + Sync, D: Desk, R: Threads + Wait + Sync>(
     }
 }
 
-/// Says what the desk's share has, of the case that is a desk's.
+/// Says what the desk's share has, in the case `Desk`.
 fn say_share<N: Naming>(share: &Share<N>, case: Case, line: &mut String) -> Result<(), AllocError> {
     let Case::Desk = case else {
         return Ok(());

@@ -13,58 +13,60 @@ impl Gate for Open {
 
 /// How often process 2 was lent, and whether that came late.
 #[derive(Drop)]
-pub struct Calls {
+pub struct Lendings {
     twos: AtomicU64,
     late: AtomicBool,
 }
 
-impl Calls {
-    pub fn new() -> Calls {
-        Calls {
+impl Lendings {
+    /// None as yet.
+    pub fn none() -> Lendings {
+        Lendings {
             twos: AtomicU64::new(0),
             late: AtomicBool::new(false),
         }
     }
 }
 
-/// A gate that holds the first loan of process 1 until process 2 was lent twice, for a bounded number of polls, if it is to hold
+/// The gate of a worker in a case: it holds the first loan of process 1 until process 2 was lent twice, for a bounded number of polls, if it is to hold
 /// anybody. The worker that lends first leaves process 2 in its deque, and is held; so process 2 runs only where the other worker
 /// steals it.
 #[derive(Clone, Copy)]
-pub struct Held<'a> {
-    calls: &'a Calls,
+pub struct CaseGate<'a> {
+    lendings: &'a Lendings,
     holds: bool,
 }
 
-impl<'a> Held<'a> {
-    pub fn new(calls: &'a Calls, holds: bool) -> Held<'a> {
-        Held { calls, holds }
+impl<'a> CaseGate<'a> {
+    /// A gate that counts these lendings, and holds somebody if it is to.
+    pub fn new(lendings: &'a Lendings, holds: bool) -> CaseGate<'a> {
+        CaseGate { lendings, holds }
     }
 
     /// Whether process 2 was lent twice too late.
     pub fn is_late(&self) -> bool {
-        self.calls.late.load(Ordering::SeqCst)
+        self.lendings.late.load(Ordering::SeqCst)
     }
 }
 
-impl<'a> Gate for Held<'a> {
+impl<'a> Gate for CaseGate<'a> {
     fn hold(&mut self, pid: u32) {
         if pid == 2 {
-            self.calls.twos.fetch_add(1, Ordering::SeqCst);
+            self.lendings.twos.fetch_add(1, Ordering::SeqCst);
         } else if self.holds {
             self.holds = false;
-            wait_for_two(self.calls);
+            wait_for_two(self.lendings);
         }
     }
 }
 
 /// Polls until process 2 was lent twice. It is late where that has not come in 10,000,000 polls.
-fn wait_for_two(calls: &Calls) {
+fn wait_for_two(lendings: &Lendings) {
     for _ in 0..10_000_000 {
-        if calls.twos.load(Ordering::SeqCst) >= 2 {
+        if lendings.twos.load(Ordering::SeqCst) >= 2 {
             return;
         }
         thread::yield_now();
     }
-    calls.late.store(true, Ordering::SeqCst);
+    lendings.late.store(true, Ordering::SeqCst);
 }

@@ -3,7 +3,7 @@ ghost use Rattle.std.specs.Prelude.{◌<◌};
 
 use crate::case::QUANTUM;
 use crate::fault::Fault;
-use crate::gates::Held;
+use crate::gates::CaseGate;
 use bursts::{Naming, Share};
 use pool::{Pool, Seat, pool_crew};
 use std::alloc::{AllocError, Global};
@@ -11,14 +11,14 @@ use std::sync::Wait;
 use std::thread::Threads;
 
 /// A worker: its seat, and its gate.
-pub type Worker<'p, 'b, 'g, N> = (Seat<'p, 'b, N>, Held<'g>);
+pub type Worker<'p, 'b, 'g, N> = (Seat<'p, 'b, N>, CaseGate<'g>);
 
 /// A worker for each seat of a pool, each with a gate such as this.
 pub fn workers_of<'p, 'b, 'g, N: Naming>(
     alloc: Global,
     pool: &'p Pool<'b, N>,
     share: &mut Share<N>,
-    gate: Held<'g>,
+    gate: CaseGate<'g>,
 ) -> Result<Vec<Worker<'p, 'b, 'g, N>>, AllocError>
     requires { pool.now.workers < share.old.parts }
 {
