@@ -2,7 +2,7 @@
 use Rattle.std.proofs.Common.{◌≡◌, ℕ, ◌+◌, ◌*◌, ◌%◌, ◌<◌, ◌≤◌, subst, List, [], ◌∷◌, ◌++◌, length, drop, refl, sym, ap, ◌∙◌, arith, length-drop}
 use Rattle.std.proofs.lemmas.List.{length-append}
 use Rattle.std.proofs.lemmas.List.Elements.{All-cons, All-nil}
-use Rattle.machine_model.specs.Access.{low_bytes}
+use Rattle.memory_model.specs.Access.{low_bytes}
 use Rattle.machine_model.specs.declared.image.Segment.{Segment}
 use Rattle.machine_model.specs.Images.{IsLoadable, IsProfile, bytes_of_words}
 use Rattle.machine_model.proofs.Words.{length-low_bytes}

@@ -1,6 +1,6 @@
 -- What a listing tells of its image.
 use Rattle.std.specs.Prelude.{◌≡◌, ℕ, ◌+◌, List, [], ◌∷◌, ◌++◌}
-use Rattle.machine_model.specs.Access.{low_bytes}
+use Rattle.memory_model.specs.Access.{low_bytes}
 use Rattle.machine_model.specs.Images.{Program}
 use Rattle.machine_model.specs.declared.image.Segment.{Segment}
 use Rattle.assembler.specs.declared.listing.Row.{Row}

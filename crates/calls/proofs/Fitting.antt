@@ -2,9 +2,9 @@
 use Rattle.std.proofs.Common.{◌≡◌, ℕ, zero, suc, ◌+◌, ◌≤◌, Bool, true, false, List, [], ◌∷◌, length, Option, Some, None, is_none, refl, arith}
 use Rattle.std.specs.Prelude.{if◌then◌else◌}
 use Rattle.std.specs.FinMap.{get}
-use Rattle.machine_model.specs.Memory.{Memory, Cell}
-use Rattle.machine_model.specs.Access.{to_write, fault_at, range_fault, is_writable}
-use Rattle.machine_model.specs.declared.access.BusFault.{BusFault}
+use Rattle.memory_model.specs.Memory.{Memory, Cell}
+use Rattle.memory_model.specs.Access.{to_write, fault_at, range_fault, is_writable}
+use Rattle.memory_model.specs.declared.access.BusFault.{BusFault}
 use Rattle.kernel_model.specs.Rows.{with_bytes}
 use Rattle.calls.specs.Plans.{MayBePlaced}
 

@@ -12,8 +12,8 @@ use Rattle.disk_model.specs.declared.change.Change.{Change}
 use Rattle.disk_model.specs.declared.change.Change.TheVariants as change
 use Rattle.disk_model.specs.declared.change.NamedFile.{NamedFile}
 use Rattle.disk_model.specs.Numbers.{Numbered, place_of}
-use Rattle.machine_model.specs.Access.{is_writable}
-use Rattle.machine_model.specs.Memory.{Memory}
+use Rattle.memory_model.specs.Access.{is_writable}
+use Rattle.memory_model.specs.Memory.{Memory}
 use Rattle.kernel_model.specs.Rows.{Effect, number, with_bytes, row, pipe_size, directory, descriptor_at, ends_of}
 use Rattle.kernel_model.specs.State.{TapeState, PipeState, unread, changed_by}
 use Rattle.kernel_model.specs.Limits.{AreNumbered}

@@ -2,8 +2,8 @@
 use Rattle.std.specs.Prelude.{◌≡◌, ℕ, ◌+◌, ◌<◌, ◌≤◌, ◌⊎◌, true, List, [], ◌∷◌, length, drop, slice_get, Option, Some, None, IfSome}
 use Rattle.std.specs.List.{AllByRecursion}
 use Rattle.disk_model.specs.Numbers.{Numbered}
-use Rattle.machine_model.specs.Access.{is_writable}
-use Rattle.machine_model.specs.Memory.{Memory}
+use Rattle.memory_model.specs.Access.{is_writable}
+use Rattle.memory_model.specs.Memory.{Memory}
 use Rattle.kernel_model.specs.Rows.{Effect, most_processes}
 use Rattle.kernel_model.specs.State.{TapeState}
 use Rattle.kernel_model.specs.Steps.{change_by}

@@ -1,6 +1,6 @@
 -- Moves along a trace, one after the other.
 use Rattle.std.proofs.Common.{◌≡◌, ℕ, suc, zero, ◌+◌, ◌-◌, ◌<◌, ◌≤◌, Bool, true, false, cond, List, [], ◌∷◌, length, None, refl, sym, ap, subst, ◌∙◌, arith}
-use Rattle.machine_model.specs.Access.{is_writable}
+use Rattle.memory_model.specs.Access.{is_writable}
 use Rattle.machine_model.specs.States.{State, Stepped, Goes, Halts, next, replied}
 use Rattle.machine_model.specs.declared.reply.Reply.{Reply}
 use Rattle.machine_model.specs.declared.stop.Stop.TheVariants.{Limit, Call, Trap}

@@ -1,6 +1,6 @@
 -- The states of a program whose calls take the replies of a trace, one after the other.
 use Rattle.std.specs.Prelude.{ℕ, zero, suc, if◌then◌else◌, List, [], ◌∷◌, length, Option, Some, None}
-use Rattle.machine_model.specs.Access.{is_writable}
+use Rattle.memory_model.specs.Access.{is_writable}
 use Rattle.machine_model.specs.First.{first_state}
 use Rattle.machine_model.specs.Images.{Program}
 use Rattle.machine_model.specs.States.{State, Stepped, Goes, Halts, next, replied}

@@ -1,14 +1,14 @@
 -- Headers that were written are read again.
 use Rattle.std.proofs.Common.{◌≡◌, ℕ, ◌^◌, ◌<◌, ◌≤◌, Bool, true, false, cond, List, [], ◌∷◌, ◌++◌, length, refl, ap, ◌∙◌, arith}
 use Rattle.std.specs.List.{AllByRecursion}
-use Rattle.machine_model.specs.Access.{low_bytes}
-use Rattle.machine_model.specs.declared.access.Rights.{Rights}
+use Rattle.memory_model.specs.Access.{low_bytes}
+use Rattle.memory_model.specs.declared.access.Rights.{Rights}
 use Rattle.elf32.specs.declared.header.FileHeader.{FileHeader}
 use Rattle.elf32.specs.declared.header.ProgramHeader.{ProgramHeader}
 use Rattle.machine_model.specs.declared.image.Segment.{Segment}
 use Rattle.machine_model.specs.Images.{IsLoadable}
 use Rattle.elf32.specs.Fields.{half_at, word_at, file_header, program_header, headers_in}
-use Rattle.machine_model.specs.Bytes.{value_in}
+use Rattle.memory_model.specs.Bytes.{value_in}
 use Rattle.elf32.specs.Files.{AreNear, file_header_of, flags_of, program_header_of, offset_after, end_after, table_after}
 
 half_back : (n : ℕ) → n < 2 ^ 16 → value_in (low_bytes 2 n) 0 2 ≡ n

@@ -2,7 +2,7 @@
 use Rattle.std.proofs.Common.{◌≡◌, ℕ, ◌+◌, ◌<◌, List, [], ◌∷◌, ◌++◌, length, get_or, take, sym, ap, ◌∙◌}
 use Rattle.std.specs.Int.{to_le_bytes, w16}
 use Rattle.std.proofs.lemmas.List.{append_assoc, append-nil, take_more}
-use Rattle.machine_model.specs.Access.{low_bytes}
+use Rattle.memory_model.specs.Access.{low_bytes}
 use Rattle.elf32.specs.Files.{bytes_of_halves}
 
 bytes_of_halves-push : (halves : List ℕ) (half : ℕ) → bytes_of_halves (halves ++ half ∷ []) ≡ bytes_of_halves halves ++ low_bytes 2 half

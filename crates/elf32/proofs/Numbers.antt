@@ -2,7 +2,7 @@
 use Rattle.std.proofs.Common.{◌≡◌, ℕ, zero, suc, ◌+◌, ◌*◌, List, get_or, drop, refl, ap, ◌∙◌, arith}
 use Rattle.std.proofs.lemmas.List.{get_or-drop}
 use Rattle.byteorder.specs.Endian.{little_from}
-use Rattle.machine_model.specs.Bytes.{value_in}
+use Rattle.memory_model.specs.Bytes.{value_in}
 
 -- the number after the bytes before a place
 pub little_from-drop : (n i at : ℕ) (bytes : List ℕ) → little_from i n (drop at bytes) ≡ value_in bytes (at + i) n

@@ -2,7 +2,7 @@
 use Rattle.std.proofs.Common.{◌≡◌, ℕ, zero, ◌-◌, Bool, true, false, List, [], ◌∷◌, ◌++◌, length, map, take, drop, replicate, refl, sym, ap, ◌∙◌, arith}
 use Rattle.std.specs.Prelude.{◌==◌, not, bit_and}
 use Rattle.std.proofs.lemmas.List.{append_assoc, length-append, length-replicate, take_at, drop_at}
-use Rattle.machine_model.specs.declared.access.Rights.{Rights}
+use Rattle.memory_model.specs.declared.access.Rights.{Rights}
 use Rattle.machine_model.specs.declared.image.Segment.{Segment}
 use Rattle.elf32.specs.Checks.{may_read, may_write, may_execute}
 use Rattle.elf32.specs.Names.{segment_in}

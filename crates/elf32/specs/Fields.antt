@@ -1,6 +1,6 @@
 -- The fields of an ELF32 file, by their names in the System V gABI. Each is little-endian.
 use Rattle.std.specs.Prelude.{ℕ, zero, suc, List, [], ◌∷◌, drop}
-use Rattle.machine_model.specs.Bytes.{value_in}
+use Rattle.memory_model.specs.Bytes.{value_in}
 use Rattle.elf32.specs.declared.header.FileHeader.{FileHeader}
 use Rattle.elf32.specs.declared.header.ProgramHeader.{ProgramHeader}
 

@@ -1,7 +1,7 @@
 -- The file that is written for a program.
 use Rattle.std.specs.Prelude.{◌≡◌, ℕ, ◌+◌, ◌-◌, ◌*◌, ◌/◌, ◌%◌, ◌^◌, ◌<◌, if◌then◌else◌, List, [], ◌∷◌, ◌++◌, length, replicate, None}
-use Rattle.machine_model.specs.Access.{low_bytes}
-use Rattle.machine_model.specs.declared.access.Rights.{Rights}
+use Rattle.memory_model.specs.Access.{low_bytes}
+use Rattle.memory_model.specs.declared.access.Rights.{Rights}
 use Rattle.machine_model.specs.declared.image.Segment.{Segment}
 use Rattle.machine_model.specs.Images.{Program, IsProfile, bytes_of_words}
 use Rattle.elf32.specs.Checks.{first_fault}

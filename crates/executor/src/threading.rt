@@ -2,15 +2,11 @@
 ghost use Rattle.std.specs.Prelude.{◌≡◌, ◌≤◌, ◌<◌};
 ghost use Rattle.kernel_model.specs.Answers.{now, committed as committed_in, changes as changes_in};
 
-use crate::committing::{BoardReader, CommitThread};
-use crate::fault::RunFault;
-use crate::rest::Rest;
-use crate::screen::Screen;
 use crate::settings::Settings;
-use crate::watch::Watch;
-use bursts::{Bench, Blanks, Gate, LockedDesk, Naming, Share, board_of, gather};
+use bursts::{Bench, Blanks, Gate, Naming, Share, board_of, gather};
 use kernel::Core;
 use pool::{Pool, Seat, pool_crew};
+use run_threads::{BoardReader, CommitThread, Rest, RunFault, Screen, Watch};
 use std::alloc::{AllocError, Global};
 use std::io::Write;
 use std::marker::Brand;
@@ -132,7 +128,7 @@ fn run_seats<N: Naming + Send + Sync, R: Threads + Wait + Sync, O: Write>(
         watch: Watch::new(),
         quantum,
     };
-    run_threads(rt, alloc, &threading, screen);
+    run_to_end(rt, alloc, &threading, screen);
     threading.result()
 }
 
@@ -152,7 +148,7 @@ fn workers_of<'p, 'b, N: Naming>(
 }
 
 /// Starts the threads, and writes what the terminal shows until no worker works any more; then waits for the threads.
-fn run_threads<N: Naming + Send + Sync, R: Threads + Wait + Sync, O: Write>(
+fn run_to_end<N: Naming + Send + Sync, R: Threads + Wait + Sync, O: Write>(
     rt: &R,
     alloc: Global,
     threading: &Threading<'_, '_, '_, '_, '_, N, R>,
@@ -179,8 +175,9 @@ fn lead<N: Naming + Send + Sync, R: Threads + Wait + Sync>(
     threading: &Threading<'_, '_, '_, '_, '_, N, R>,
 ) {
     if let Some(workers) = workers_in(rt, &threading.crew) {
-        if let Err(fault) = pool_crew(rt, workers, threading.quantum) {
-            threading.watch.note(rt, RunFault::from(fault));
+        // Workers meet want of memory and a full history alone: all other refusals are of results that are not theirs.
+        if pool_crew(rt, workers, threading.quantum).is_err() {
+            threading.watch.note(rt, RunFault::OutOfMemory);
         }
     }
     threading.watch.end();

@@ -6,14 +6,14 @@ use Rattle.std.proofs.lemmas.List.{get_or-set_same}
 use Rattle.std.proofs.lemmas.Bool.Decides.{nat_tests, eqb_tells}
 use Rattle.std.proofs.Math.ListN.{length-set}
 use Rattle.std.specs.FinMap.{get, insert}
-use Rattle.machine_model.specs.Memory.{Cell}
-use Rattle.machine_model.specs.Bytes.{value_in, put_in}
-use Rattle.machine_model.proofs.Memories.{get-memory_of, same_memory, get-insert}
-use Rattle.machine_model.specs.Access.{to_read, with_byte, put_bytes, range_fault, value_at, loaded, access_fault, or_fault, size, stored, low_bytes}
-use Rattle.machine_model.specs.declared.access.Rights.{Rights}
-use Rattle.machine_model.specs.declared.access.Width.{Width}
-use Rattle.machine_model.specs.declared.access.Width.TheVariants as width
-use Rattle.machine_model.specs.declared.access.BusFault.TheVariants.{Unmapped}
+use Rattle.memory_model.specs.Memory.{Cell}
+use Rattle.memory_model.specs.Bytes.{value_in, put_in}
+use Rattle.memory_model.proofs.Memories.{get-memory_of, same_memory, get-insert}
+use Rattle.memory_model.specs.Access.{to_read, with_byte, put_bytes, range_fault, value_at, loaded, access_fault, or_fault, size, stored, low_bytes}
+use Rattle.memory_model.specs.declared.access.Rights.{Rights}
+use Rattle.memory_model.specs.declared.access.Width.{Width}
+use Rattle.memory_model.specs.declared.access.Width.TheVariants as width
+use Rattle.memory_model.specs.declared.access.BusFault.TheVariants.{Unmapped}
 use Rattle.flat_bus.specs.Bytes.{cell_of, memory_of_bytes}
 
 -- what stands at any address

@@ -1,6 +1,6 @@
 -- A memory of a list of bytes, from address 0 on, with all rights.
 use Rattle.std.specs.Prelude.{ℕ, true, List, slice_get, option_map}
-use Rattle.machine_model.specs.Memory.{Memory, Cell, memory_of}
+use Rattle.memory_model.specs.Memory.{Memory, Cell, memory_of}
 
 -- a byte with all rights
 abbrev pub cell_of : ℕ → Cell

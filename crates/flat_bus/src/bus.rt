@@ -1,10 +1,10 @@
 //! The memory, as a bus.
 ghost use Rattle.std.specs.Prelude.{◌≡◌, ◌+◌, ◌%◌, ◌==◌, ◌≤◌, length};
-ghost use Rattle.machine_model.specs.Access.{size, low_bytes};
-ghost use Rattle.machine_model.specs.Bytes.{value_in, put_in};
+ghost use Rattle.memory_model.specs.Access.{size, low_bytes};
+ghost use Rattle.memory_model.specs.Bytes.{value_in, put_in};
 ghost use Rattle.flat_bus.specs.Bytes.{memory_of_bytes};
 
-use machine_model::{Bus, BusFault, Width};
+use memory_model::{Bus, BusFault, Width};
 
 /// Sixty-four bytes from address 0 on, each of which may be read, written and executed.
 #[derive(Drop)]

@@ -1,11 +1,10 @@
 //! The operations on words that are more than one of Rust's operators.
 ghost use Rattle.std.specs.Prelude.{◌≡◌, pos, ◌*ℤ◌, ◌*◌, ◌/◌, ◌^◌, ◌<◌};
 ghost use Rattle.std.specs.Int.{cast_unsigned, w64};
-ghost use Rattle.machine_model.specs.Access.{size};
+ghost use Rattle.memory_model.specs.Access.{size};
 ghost use Rattle.machine_model.specs.Arithmetic as model;
 ghost use Rattle.machine_model.specs.Effects as effects;
 
-use formats::Immediate;
 use machine_model::Width;
 
 /// An address and an offset, which wraps round.
@@ -14,14 +13,6 @@ pub fn moved(address: u32, offset: i32) -> u32
     ensures { result ≡ effects.moved address offset }
 {
     address.wrapping_add(offset.cast_unsigned())
-}
-
-/// The word that an immediate spells in two's complement.
-#[inline]
-pub fn word_of(imm: Immediate) -> u32
-    ensures { result ≡ model.as_word imm }
-{
-    imm.value().cast_unsigned()
 }
 
 /// A shift to the right that fills with the sign.

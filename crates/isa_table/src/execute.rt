@@ -1,19 +1,19 @@
 //! What each instruction does to the registers and a memory.
 ghost use Rattle.std.specs.Prelude.{◌≡◌, ◌+◌, ◌-◌, ◌*◌, ◌%◌, ◌^◌, slice_index};
-ghost use Rattle.machine_model.specs.Access.{size};
+ghost use Rattle.memory_model.specs.Access.{size};
 ghost use Rattle.machine_model.specs.Arithmetic as model;
 ghost use Rattle.machine_model.specs.Effects as effects;
 ghost use Rattle.machine_model.specs.Effects.{effect, put, fault_cause, links, branches, loads, stores, as_it_is};
-ghost use Rattle.machine_model.specs.Memory.{Memory};
+ghost use Rattle.memory_model.specs.Memory.{Memory};
 ghost use Rattle.machine_model.specs.States.{hart};
 ghost use Rattle.isa_table.specs.Executes.{Executes};
 ghost use Rattle.isa_table.specs.Operations.{holds_of, value_of};
 
-use crate::arithmetic::{moved, shifted_right_signed, sign_extended, word_of};
+use crate::arithmetic::{moved, shifted_right_signed, sign_extended};
 use crate::operation::{Condition, Operation, computed, holds};
 use crate::regs::Regs;
 use formats::{BranchOffset, Immediate, Instr, Reg};
-use machine_model::{Bus, BusFault, Cause, Width};
+use machine_model::{Bus, BusFault, Cause, Width, word_of_immediate};
 
 /// What an instruction came to.
 #[derive(Clone, Copy, Debug, PartialEq, Eq)]
@@ -69,7 +69,7 @@ fn by_immediate(regs: &mut Regs, operation: Operation, rd: Reg, rs1: Reg, imm: I
     ensures x { regs.new.x ≡ put regs.old.x rd (value_of operation (slice_index regs.old.x rs1) (model.as_word imm)) }
     ensures pc { regs.new.pc ≡ (regs.old.pc + 4) % 2 ^ 32 }
 {
-    let value = computed(operation, regs.get(rs1), word_of(imm));
+    let value = computed(operation, regs.get(rs1), word_of_immediate(imm));
     write(regs, rd, value)
 }
 

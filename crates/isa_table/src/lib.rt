@@ -8,7 +8,7 @@ mod regs;
 
 pub use arithmetic::{
     high_product, high_product_mixed, high_product_signed, is_less_signed, moved, quotient,
-    quotient_signed, remainder, remainder_signed, shifted_right_signed, sign_extended, word_of,
+    quotient_signed, remainder, remainder_signed, shifted_right_signed, sign_extended,
 };
 pub use execute::{Outcome, exec, exec_ref};
 pub use machine_model::{BusFault, Cause, Width};

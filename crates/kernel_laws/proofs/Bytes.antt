@@ -6,17 +6,17 @@ use Rattle.std.specs.FinMap.{get}
 use Rattle.formats.specs.Table.{instr_of}
 use Rattle.formats.specs.declared.instr.Instr.{Instr}
 use Rattle.formats.specs.declared.instr.Instr.TheVariants as instr
-use Rattle.machine_model.specs.Memory.{Memory, Cell}
-use Rattle.machine_model.specs.Access.{HoldsBytes, byte_of, fetched, low_bytes, put_bytes, size, stored, to_write, access_fault, with_byte}
+use Rattle.memory_model.specs.Memory.{Memory, Cell}
+use Rattle.memory_model.specs.Access.{HoldsBytes, byte_of, fetched, low_bytes, put_bytes, size, stored, to_write, access_fault, with_byte}
 use Rattle.machine_model.specs.Effects.{Hart, Effect, Becomes, Stands, effect, jumps, load_effect, store_effect, stores, reg}
 use Rattle.machine_model.specs.States.{State, Stepped, Goes, Halts, Ran, counted, by_instr, by_fetch, next, run, replied}
-use Rattle.machine_model.specs.declared.access.BusFault.{BusFault}
-use Rattle.machine_model.specs.declared.access.Width.{Width}
-use Rattle.machine_model.specs.declared.access.Width.TheVariants.{Byte, Half, Word}
+use Rattle.memory_model.specs.declared.access.BusFault.{BusFault}
+use Rattle.memory_model.specs.declared.access.Width.{Width}
+use Rattle.memory_model.specs.declared.access.Width.TheVariants.{Byte, Half, Word}
 use Rattle.machine_model.specs.declared.reply.Reply.{Reply}
 use Rattle.machine_model.specs.declared.stop.Cause.TheVariants as cause
 use Rattle.machine_model.specs.declared.stop.Stop.TheVariants.{Trap}
-use Rattle.machine_model.proofs.Memories.{get-insert}
+use Rattle.memory_model.proofs.Memories.{get-insert}
 use Rattle.machine_model.proofs.Running.{run-zero, run-goes, run-halts}
 
 abbrev pub AreBytes : List ℕ → Type 0

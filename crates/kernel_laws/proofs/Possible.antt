@@ -11,8 +11,8 @@ use Rattle.disk_model.specs.declared.change.Change.{Change}
 use Rattle.disk_model.specs.declared.change.Change.TheVariants as change
 use Rattle.disk_model.specs.declared.change.NamedFile.{NamedFile}
 use Rattle.disk_model.proofs.Lists.{each_get, each_append, each_take, each_drop}
-use Rattle.machine_model.specs.Access.{HoldsBytes}
-use Rattle.machine_model.specs.Memory.{Memory}
+use Rattle.memory_model.specs.Access.{HoldsBytes}
+use Rattle.memory_model.specs.Memory.{Memory}
 use Rattle.machine_model.specs.declared.stop.Stop.{Stop}
 use Rattle.kernel_model.specs.Requests.{request_of}
 use Rattle.kernel_model.specs.Rows.{Effect, number, with_bytes as placed, ends_of, pipe_size}

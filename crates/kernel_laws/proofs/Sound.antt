@@ -5,7 +5,7 @@ use Rattle.disk_model.specs.declared.change.Change.{Change}
 use Rattle.disk_model.specs.Numbers.{Numbered}
 use Rattle.disk_model.specs.Files.{IsMade, IsPossible}
 use Rattle.disk_model.proofs.Lists.{each_get, each_set, each_append}
-use Rattle.machine_model.specs.Access.{HoldsBytes}
+use Rattle.memory_model.specs.Access.{HoldsBytes}
 use Rattle.machine_model.specs.States.{stands_at}
 use Rattle.kernel_model.specs.Bytes.{ProgramsHoldBytes, TapesHoldBytes}
 use Rattle.kernel_model.specs.Limits.{KeepLimits}

@@ -4,8 +4,8 @@ use Rattle.std.proofs.Common.{◌≡◌, ℕ, zero, suc, ◌+◌, ◌<◌, ◌==
 use Rattle.std.specs.Prelude.{if◌then◌else◌, slice_index}
 use Rattle.std.specs.List.{AllByRecursion}
 use Rattle.std.proofs.lemmas.Bool.{and_parts}
-use Rattle.machine_model.specs.Access.{HoldsBytes, bytes_at, range_fault, is_writable, to_read}
-use Rattle.machine_model.specs.Memory.{Memory}
+use Rattle.memory_model.specs.Access.{HoldsBytes, bytes_at, range_fault, is_writable, to_read}
+use Rattle.memory_model.specs.Memory.{Memory}
 use Rattle.machine_model.specs.States.{State}
 use Rattle.disk_model.specs.Limits.{longest_name}
 use Rattle.kernel_model.specs.Requests.{read_bytes, most_bytes, longest_names, pair_size, word_size, request_by, request_of}

@@ -4,7 +4,7 @@ use Rattle.std.specs.Prelude.{option_map}
 use Rattle.std.proofs.lemmas.List.{length-drop, length-map}
 use Rattle.disk_model.specs.declared.change.NamedFile.{NamedFile}
 use Rattle.disk_model.specs.Numbers.{place_of}
-use Rattle.machine_model.specs.Memory.{Memory}
+use Rattle.memory_model.specs.Memory.{Memory}
 use Rattle.machine_model.specs.declared.stop.Stop.{Stop}
 use Rattle.kernel_model.specs.Requests.{request_of}
 use Rattle.disk_model.specs.declared.change.Change.TheVariants as change

@@ -1,7 +1,7 @@
 -- Programs and tapes of bytes.
 use Rattle.std.specs.Prelude.{ℕ, ◌<◌, List}
 use Rattle.std.specs.List.{AllByRecursion}
-use Rattle.machine_model.specs.Access.{HoldsBytes}
+use Rattle.memory_model.specs.Access.{HoldsBytes}
 use Rattle.kernel_model.specs.World.{BootProgram, Boot}
 
 -- the memory of each program holds bytes

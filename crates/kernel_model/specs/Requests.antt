@@ -1,7 +1,7 @@
 -- What a machine that stands at a call asks for.
 use Rattle.std.specs.Prelude.{ℕ, ◌+◌, ◌==◌, ◌&&◌, ◌||◌, nat_le, is_none, Bool, if◌then◌else◌, List, slice_index, Option, Some, None}
-use Rattle.machine_model.specs.Memory.{Memory}
-use Rattle.machine_model.specs.Access.{bytes_at, range_fault, to_read, to_write}
+use Rattle.memory_model.specs.Memory.{Memory}
+use Rattle.memory_model.specs.Access.{bytes_at, range_fault, to_read, to_write}
 use Rattle.machine_model.specs.States.{State}
 use Rattle.disk_model.specs.Limits.{longest_name, longest_file_write}
 use Rattle.kernel_model.specs.declared.request.Request.{Request}

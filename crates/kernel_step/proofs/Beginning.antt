@@ -14,7 +14,7 @@ use Rattle.kernel_model.specs.Shown.{end_in}
 use Rattle.withheld.specs.Withheld.{Withheld, whats, nothing}
 use Rattle.kernel_model.specs.State.{Process}
 use Rattle.kernel_model.specs.World.{BootProgram, Boot, first_world, first_process, processes_from, tapes_of, tape_count}
-use Rattle.machine_model.specs.Access.{HoldsBytes}
+use Rattle.memory_model.specs.Access.{HoldsBytes}
 use Rattle.machine_model.specs.States.{State}
 use Rattle.machine_model.specs.First.{first_state}
 use Rattle.disk_model.specs.declared.change.NamedFile.{NamedFile}

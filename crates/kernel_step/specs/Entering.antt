@@ -4,7 +4,7 @@ use Rattle.std.specs.List.{AllByRecursion}
 use Rattle.std.specs.Option.{ForSome}
 use Rattle.disk_model.specs.Files.{IsPossible}
 use Rattle.disk_model.specs.Numbers.{Numbered}
-use Rattle.machine_model.specs.Access.{is_writable}
+use Rattle.memory_model.specs.Access.{is_writable}
 use Rattle.machine_model.specs.States.{State, stands_at, replied}
 use Rattle.machine_model.specs.declared.stop.Stop.TheVariants.{Call}
 use Rattle.calls.specs.Plans.{effect_with, AreLeft, EditsAs, IsNext, MayAllStep, OpensAlone, OpensNone, all_seen}

@@ -1,6 +1,6 @@
 -- What the parts of a kernel are at boot.
 use Rattle.std.specs.Prelude.{◌≡◌, ℕ, ◌+◌, List, [], ◌∷◌, length, slice_get, Some, None}
-use Rattle.machine_model.specs.Access.{HoldsBytes}
+use Rattle.memory_model.specs.Access.{HoldsBytes}
 use Rattle.machine_model.specs.First.{first_state}
 use Rattle.processes.specs.Parts.{Part, boot_part}
 use Rattle.withheld.specs.Withheld.{Withheld, nothing}

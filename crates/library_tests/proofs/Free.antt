@@ -3,10 +3,10 @@ use Rattle.std.proofs.Common.{◌≡◌, ℕ, ◌+◌, ◌^◌, ◌<◌, ◌≤�
 use Rattle.std.specs.Prelude.{◌&&◌, ◌⊎◌, nat_lt, nat_le, Option, None}
 use Rattle.std.specs.FinMap.{get}
 use Rattle.std.proofs.lemmas.Bool.Decides.{nat_tests}
-use Rattle.machine_model.specs.Memory.{Memory, Cell, memory_of}
-use Rattle.machine_model.specs.Access.{mapped}
-use Rattle.machine_model.specs.declared.access.Rights.{Rights}
-use Rattle.machine_model.proofs.Memories.{get-memory_of}
+use Rattle.memory_model.specs.Memory.{Memory, Cell, memory_of}
+use Rattle.memory_model.specs.Access.{mapped}
+use Rattle.memory_model.specs.declared.access.Rights.{Rights}
+use Rattle.memory_model.proofs.Memories.{get-memory_of}
 
 none_anyway : (b : Bool) (c : Option Cell) → c ≡ None → cond b c None ≡ None
 none_anyway true c e = e

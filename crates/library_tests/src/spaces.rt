@@ -1,7 +1,7 @@
 //! Tests over two pages.
 ghost use Rattle.std.specs.Prelude.{◌≡◌, ◌+◌, ◌%◌, ◌^◌, ◌≤◌, None, IfOk, length};
-ghost use Rattle.machine_model.specs.Memory.{memory_of};
-ghost use Rattle.machine_model.specs.Access.{mapped};
+ghost use Rattle.memory_model.specs.Memory.{memory_of};
+ghost use Rattle.memory_model.specs.Access.{mapped};
 
 use crate::asserting::assert_row;
 use machine_model::{Bus, BusFault, Rights, Width};

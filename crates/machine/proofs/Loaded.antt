@@ -4,8 +4,8 @@ use Rattle.std.specs.Prelude.{◌&&◌, Some, None, All, slice_index}
 use Rattle.std.specs.FinMap.{get}
 use Rattle.std.proofs.lemmas.Bool.{le-leb, lt-leb, lt-ltb}
 use Rattle.std.proofs.lemmas.List.Elements.{All-head, All-tail, All-get_or}
-use Rattle.machine_model.specs.Access.{cell_with}
-use Rattle.machine_model.proofs.Memories.{get-memory_of}
+use Rattle.memory_model.specs.Access.{cell_with}
+use Rattle.memory_model.proofs.Memories.{get-memory_of}
 use Rattle.machine_model.specs.declared.image.Segment.{Segment}
 use Rattle.machine_model.specs.Images.{Program, IsLoadable, IsProfile, AreAscending, first_page, last_page}
 use Rattle.machine_model.specs.First.{has_page, byte_at, first_cell, first_state}

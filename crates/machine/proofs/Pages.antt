@@ -5,10 +5,10 @@ use Rattle.std.specs.FinMap.{get}
 use Rattle.std.proofs.lemmas.Bool.Decides.{leb_tells, nat_tests}
 use Rattle.std.proofs.lemmas.List.Elements.{All-head, All-tail}
 use Rattle.std.proofs.lemmas.List.{get_or-append_right, get_or_append_left, get_or-replicate, get_or_past, take_all, take_rest, length-append, length-replicate}
-use Rattle.machine_model.specs.Memory.{Memory, Cell, memory_of}
-use Rattle.machine_model.specs.Access.{HoldsBytes, byte_of, mapped, cell_with}
-use Rattle.machine_model.specs.declared.access.Rights.{Rights}
-use Rattle.machine_model.proofs.Memories.{get-memory_of, same_memory}
+use Rattle.memory_model.specs.Memory.{Memory, Cell, memory_of}
+use Rattle.memory_model.specs.Access.{HoldsBytes, byte_of, mapped, cell_with}
+use Rattle.memory_model.specs.declared.access.Rights.{Rights}
+use Rattle.memory_model.proofs.Memories.{get-memory_of, same_memory}
 use Rattle.machine_model.specs.declared.image.Segment.{Segment}
 use Rattle.machine_model.specs.Images.{IsLoadable, AreAscending, first_page, last_page, page_count}
 use Rattle.machine_model.specs.First.{first_cell, byte_at}

@@ -1,7 +1,7 @@
 //! What the definitions say of every program that may be loaded.
 ghost use Rattle.std.specs.Prelude.{◌≡◌, ℕ, ◌+◌, ◌<◌, Some, All, slice_index};
 ghost use Rattle.std.specs.FinMap.{get};
-ghost use Rattle.machine_model.specs.Access.{cell_with};
+ghost use Rattle.memory_model.specs.Access.{cell_with};
 ghost use Rattle.machine_model.specs.declared.image.Segment.{Segment};
 ghost use Rattle.machine_model.specs.Images.{Program, IsProfile};
 ghost use Rattle.machine_model.specs.First.{first_state};

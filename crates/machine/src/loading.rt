@@ -1,7 +1,7 @@
 //! The memory in which a program begins.
 ghost use Rattle.std.specs.Prelude.{◌≡◌, ℕ, [], ◌+◌, ◌-◌, ◌*◌, ◌<◌, ◌≤◌, All, length, nat_le, if◌then◌else◌, slice_index, vec_len, IfOk, OnOk};
-ghost use Rattle.machine_model.specs.Memory.{memory_of};
-ghost use Rattle.machine_model.specs.Access.{HoldsBytes};
+ghost use Rattle.memory_model.specs.Memory.{memory_of};
+ghost use Rattle.memory_model.specs.Access.{HoldsBytes};
 ghost use Rattle.machine_model.specs.Images.{IsLoadable, AreAscending, first_page, page_count};
 ghost use Rattle.machine_model.specs.First.{first_cell, byte_at};
 

@@ -1,6 +1,6 @@
 //! A process's machine.
 ghost use Rattle.std.specs.Prelude.{◌≡◌, ◌≢◌, ◌↔◌, ℕ, ◌+◌, ◌%◌, ◌<◌, ◌≤◌, ◌^◌, true, length, Some, IfOk, IsTrue};
-ghost use Rattle.machine_model.specs.Access.{HoldsBytes, is_writable};
+ghost use Rattle.memory_model.specs.Access.{HoldsBytes, is_writable};
 ghost use Rattle.machine_model.specs.Effects.{reg as register};
 ghost use Rattle.machine_model.specs.States.{run as run_from, hart, reached_at, stands_at, state, replied};
 ghost use Rattle.machine_model.specs.First.{first_state, first_registers};

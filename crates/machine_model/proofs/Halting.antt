@@ -4,11 +4,11 @@ use Rattle.std.specs.Prelude.{◌≢◌, Option, Some, None, Result, Ok, Err}
 use Rattle.formats.specs.declared.instr.Instr.{Instr}
 use Rattle.formats.specs.declared.instr.Instr.TheVariants as instr
 use Rattle.formats.specs.Table.{instr_of}
-use Rattle.machine_model.specs.Access.{fetched}
+use Rattle.memory_model.specs.Access.{fetched}
 use Rattle.machine_model.specs.Effects.{Hart, Effect, Becomes, Stands, effect, load_effect, store_effect}
-use Rattle.machine_model.specs.Memory.{Memory}
+use Rattle.memory_model.specs.Memory.{Memory}
 use Rattle.machine_model.specs.States.{State, Halts, counted, by_instr, by_fetch, next}
-use Rattle.machine_model.specs.declared.access.BusFault.{BusFault}
+use Rattle.memory_model.specs.declared.access.BusFault.{BusFault}
 use Rattle.machine_model.specs.declared.stop.Cause.{Cause}
 use Rattle.machine_model.specs.declared.stop.Cause.TheVariants as cause
 use Rattle.machine_model.specs.declared.stop.Stop.{Stop}

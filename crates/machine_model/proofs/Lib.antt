@@ -1,5 +1,4 @@
 pub mod Lists
-pub mod Memories
 pub mod Running
 pub mod Halting
 pub mod Stepping

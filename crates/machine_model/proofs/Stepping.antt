@@ -4,11 +4,11 @@ use Rattle.std.specs.Prelude.{Option, Some, None, Result, Ok, Err}
 use Rattle.formats.specs.declared.instr.Instr.{Instr}
 use Rattle.formats.specs.Meaning.{Means}
 use Rattle.formats.specs.Table.{instr_of}
-use Rattle.machine_model.specs.Access.{fetched}
+use Rattle.memory_model.specs.Access.{fetched}
 use Rattle.machine_model.specs.Effects.{Effect, Becomes, Stands, effect}
 use Rattle.machine_model.specs.States.{State, state, Stepped, Goes, Halts, Ran, reached_at, counted, by_instr, by_fetch, next, after, by_step, run, stands_at}
 use Rattle.machine_model.specs.Steps.{Step, StandsAt, ByFetch, ByWord, ByInstruction, Runs, NextIsStep, RunIsSteps}
-use Rattle.machine_model.specs.declared.access.BusFault.{BusFault}
+use Rattle.memory_model.specs.declared.access.BusFault.{BusFault}
 use Rattle.machine_model.specs.declared.stop.Cause.{Cause}
 use Rattle.machine_model.specs.declared.stop.Cause.TheVariants as cause
 use Rattle.machine_model.specs.declared.stop.Stop.{Stop}

@@ -3,7 +3,7 @@ use Rattle.std.proofs.Common.{◌≡◌, ℕ, suc, zero, ◌+◌, ◌*◌, ◌/�
 use Rattle.std.specs.Prelude.{All}
 use Rattle.std.specs.Int.{to_le_bytes, w32}
 use Rattle.std.proofs.lemmas.List.{append_assoc, append-nil, take_more, length-append}
-use Rattle.machine_model.specs.Access.{low_bytes}
+use Rattle.memory_model.specs.Access.{low_bytes}
 use Rattle.machine_model.specs.declared.image.Segment.{Segment}
 use Rattle.machine_model.specs.Images.{IsLoadable, IsProfile, bytes_of_words, program_of_words}
 

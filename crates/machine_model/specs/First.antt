@@ -1,7 +1,7 @@
 -- The state in which a program begins.
 use Rattle.std.specs.Prelude.{ℕ, ◌-◌, ◌/◌, ◌&&◌, Bool, true, false, nat_le, nat_lt, if◌then◌else◌, List, [], ◌∷◌, replicate, slice_index, slice_set, Option, Some, None}
-use Rattle.machine_model.specs.Access.{cell_with}
-use Rattle.machine_model.specs.Memory.{Cell, memory_of}
+use Rattle.memory_model.specs.Access.{cell_with}
+use Rattle.memory_model.specs.Memory.{Cell, memory_of}
 use Rattle.machine_model.specs.States.{State, hart, state}
 use Rattle.machine_model.specs.declared.image.Segment.{Segment}
 use Rattle.machine_model.specs.Images.{Program, first_page, last_page}

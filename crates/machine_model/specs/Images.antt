@@ -1,7 +1,7 @@
 -- What may be loaded: a program's segments, and where it begins.
 use Rattle.std.specs.Prelude.{◌≡◌, ℕ, ◌+◌, ◌-◌, ◌*◌, ◌/◌, ◌%◌, ◌<◌, ◌≤◌, ◌&&◌, ◌||◌, Bool, true, false, List, [], ◌∷◌, ◌++◌, length, All, Any, sum_by, refl}
 use Rattle.std.specs.Coded.{Coded, code_by, coded×, coded_ℕ, coded_bool, coded_list}
-use Rattle.machine_model.specs.Access.{low_bytes}
+use Rattle.memory_model.specs.Access.{low_bytes}
 use Rattle.machine_model.specs.declared.image.Segment.{Segment}
 
 -- where a program begins, and its segments

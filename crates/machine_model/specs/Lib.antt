@@ -1,6 +1,3 @@
-pub mod Bytes
-pub mod Memory
-pub mod Access
 pub mod Arithmetic
 pub mod Effects
 pub mod States

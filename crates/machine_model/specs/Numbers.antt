@@ -1,14 +1,7 @@
--- The numbers of faults, and of causes of a trap.
+-- The numbers of causes of a trap.
 use Rattle.std.specs.Prelude.{ℕ}
-use Rattle.machine_model.specs.declared.access.BusFault.{BusFault}
-use Rattle.machine_model.specs.declared.access.BusFault.TheVariants.{Unmapped, NoRight, Misaligned}
 use Rattle.machine_model.specs.declared.stop.Cause.{Cause}
 use Rattle.machine_model.specs.declared.stop.Cause.TheVariants as cause
-
-abbrev pub fault_number : BusFault → ℕ
-fault_number Unmapped = 1
-fault_number NoRight = 2
-fault_number Misaligned = 3
 
 abbrev pub cause_number : Cause → ℕ
 cause_number cause.Illegal = 1

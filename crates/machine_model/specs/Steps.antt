@@ -2,10 +2,10 @@
 use Rattle.std.specs.Prelude.{◌≡◌, ℕ, zero, suc, ◌+◌, ◌<◌, ◌↔◌, ◌≢◌, Some, Ok, Err}
 use Rattle.formats.specs.declared.instr.Instr.{Instr}
 use Rattle.formats.specs.Meaning.{Means}
-use Rattle.machine_model.specs.Access.{fetched}
+use Rattle.memory_model.specs.Access.{fetched}
 use Rattle.machine_model.specs.Effects.{Becomes, Stands, effect}
 use Rattle.machine_model.specs.States.{State, next, run, stands_at, Goes, Halts}
-use Rattle.machine_model.specs.declared.access.BusFault.{BusFault}
+use Rattle.memory_model.specs.declared.access.BusFault.{BusFault}
 use Rattle.machine_model.specs.declared.stop.Cause.TheVariants as cause
 use Rattle.machine_model.specs.declared.stop.Stop.{Stop}
 use Rattle.machine_model.specs.declared.stop.Stop.TheVariants.{Limit, Trap}

@@ -2,9 +2,9 @@
 ghost use Rattle.std.specs.Prelude.{◌≡◌, ◌<◌, ◌≤◌, length, IfOk};
 ghost use Rattle.machine_model.specs.Images.{IsProfile, program_of_words};
 
-use crate::access::Rights;
 use crate::little_endian::put_words;
 use byte_list::Bytes;
+use memory_model::Rights;
 use std::alloc::{AllocError, Global};
 use std::marker::Model;
 

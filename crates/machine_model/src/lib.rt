@@ -1,19 +1,18 @@
-//! What a program's machine is: its memory, what each instruction does, its states and its runs, and the images that it is
-//! loaded from.
+//! What a program's machine is: what each instruction does to its registers and its memory, its states and its runs, and the
+//! images that it is loaded from.
 #![tactic(auto)]
 
-mod access;
-mod bus;
 mod image;
+mod immediate;
 mod laws;
 mod little_endian;
 mod reply;
 mod stop;
 
-pub use access::{BusFault, Rights, Width};
-pub use bus::Bus;
 pub use image::{Image, Segment};
+pub use immediate::word_of_immediate;
 pub use laws::{runs, steps};
 pub use little_endian::put_words;
+pub use memory_model::{Bus, BusFault, Rights, Width};
 pub use reply::Reply;
 pub use stop::{Cause, Stop};

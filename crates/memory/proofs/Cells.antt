@@ -4,8 +4,8 @@ use Rattle.std.specs.Prelude.{nat_lt, Option, Some, None, option_map, Result, Ok
 use Rattle.std.specs.Result.{OkIff, result_ok}
 use Rattle.std.specs.FinMap.{get}
 use Rattle.std.proofs.lemmas.Bool.Decides.{nat_tests}
-use Rattle.machine_model.specs.Memory.{Cell}
-use Rattle.machine_model.proofs.Memories.{get-memory_of}
+use Rattle.memory_model.specs.Memory.{Cell}
+use Rattle.memory_model.proofs.Memories.{get-memory_of}
 use Rattle.memory.specs.Words.{Word, cell_of, cell_at, memory_of_words}
 use Rattle.memory.proofs.WordAccess.{get-words}
 

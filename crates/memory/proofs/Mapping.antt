@@ -5,9 +5,9 @@ use Rattle.std.specs.Simd.{first_chunks}
 use Rattle.std.specs.FinMap.{get}
 use Rattle.std.proofs.lemmas.List.{get_or-take, get_or-drop}
 use Rattle.std.proofs.lemmas.Bool.Decides.{nat_tests}
-use Rattle.machine_model.specs.Access.{mapped, cell_with}
-use Rattle.machine_model.specs.declared.access.Rights.{Rights}
-use Rattle.machine_model.proofs.Memories.{get-memory_of, same_memory}
+use Rattle.memory_model.specs.Access.{mapped, cell_with}
+use Rattle.memory_model.specs.declared.access.Rights.{Rights}
+use Rattle.memory_model.proofs.Memories.{get-memory_of, same_memory}
 use Rattle.memory.specs.Words.{Word, cell_of, cell_at, memory_of_words}
 use Rattle.memory.specs.Pages.{Pages, Adds, has_word, word_in, word_among, words_of, pages_of}
 use Rattle.memory.proofs.WordAccess.{get-words, get-word}

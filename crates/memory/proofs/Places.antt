@@ -9,7 +9,7 @@ use Rattle.std.proofs.lemmas.Bool.{eqb-true}
 use Rattle.std.proofs.lemmas.Bool.Decides.{nat_tests, eqb_tells}
 use Rattle.std.proofs.lemmas.Grind.{common_steps}
 use Rattle.memory.specs.Words.{Word, word_fault}
-use Rattle.machine_model.specs.declared.access.BusFault.TheVariants.{NoRight}
+use Rattle.memory_model.specs.declared.access.BusFault.TheVariants.{NoRight}
 use Rattle.memory.proofs.WordStore.{with_word}
 use Rattle.memory.specs.Pages.{Pages, MissesNear, has_word, word_in, word_among}
 

@@ -3,12 +3,12 @@ use Rattle.std.proofs.Common.{◌≡◌, ℕ, suc, zero, ◌+◌, ◌-◌, ◌<�
 use Rattle.std.specs.Prelude.{Option, Some, None}
 use Rattle.std.specs.FinMap.{get}
 use Rattle.std.proofs.lemmas.Bool.Decides.{eqb_tells}
-use Rattle.machine_model.specs.Memory.{Memory, Cell}
-use Rattle.machine_model.specs.Access.{fault_at, range_fault, byte_of, bytes_at, with_byte, put_bytes}
-use Rattle.machine_model.specs.declared.access.Rights.{Rights}
-use Rattle.machine_model.specs.declared.access.BusFault.{BusFault}
-use Rattle.machine_model.specs.declared.access.BusFault.TheVariants.{NoRight}
-use Rattle.machine_model.proofs.Memories.{get-insert}
+use Rattle.memory_model.specs.Memory.{Memory, Cell}
+use Rattle.memory_model.specs.Access.{fault_at, range_fault, byte_of, bytes_at, with_byte, put_bytes}
+use Rattle.memory_model.specs.declared.access.Rights.{Rights}
+use Rattle.memory_model.specs.declared.access.BusFault.{BusFault}
+use Rattle.memory_model.specs.declared.access.BusFault.TheVariants.{NoRight}
+use Rattle.memory_model.proofs.Memories.{get-insert}
 
 one_more : (n i : ℕ) → i < n → n - i ≡ suc (n - (i + 1))
 one_more n i h = omega arith

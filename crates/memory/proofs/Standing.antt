@@ -4,7 +4,7 @@ use Rattle.std.specs.Prelude.{slice_index_or, Option, Some, None, option_map, is
 use Rattle.std.specs.FinMap.{get}
 use Rattle.std.proofs.lemmas.Bool.{cases_lt}
 use Rattle.std.proofs.lemmas.List.{length-map, get_or-map, take_more_same}
-use Rattle.machine_model.specs.Memory.{Cell}
+use Rattle.memory_model.specs.Memory.{Cell}
 use Rattle.memory.specs.Words.{Word, cell_of, memory_of_words}
 use Rattle.memory.specs.Pages.{Pages, has_word, word_in, word_among, words_of}
 use Rattle.memory.proofs.Cells.{get-past, get-cell}

@@ -4,14 +4,14 @@ use Rattle.std.specs.Prelude.{◌==◌, nat_lt, Option, Some, None, option_map, 
 use Rattle.std.proofs.lemmas.Bool.{eqb-true}
 use Rattle.std.proofs.lemmas.Bool.Decides.{nat_tests}
 use Rattle.std.specs.FinMap.{get}
-use Rattle.machine_model.specs.Memory.{Cell}
-use Rattle.machine_model.specs.Bytes.{value_in}
-use Rattle.machine_model.proofs.Memories.{get-memory_of}
-use Rattle.machine_model.specs.Access.{size, range_fault, access_fault, value_at, or_fault, fetched, to_execute, to_read}
-use Rattle.machine_model.specs.declared.access.Rights.{Rights}
-use Rattle.machine_model.specs.declared.access.Width.{Width}
-use Rattle.machine_model.specs.declared.access.Width.TheVariants as width
-use Rattle.machine_model.specs.declared.access.BusFault.TheVariants.{NoRight}
+use Rattle.memory_model.specs.Memory.{Cell}
+use Rattle.memory_model.specs.Bytes.{value_in}
+use Rattle.memory_model.proofs.Memories.{get-memory_of}
+use Rattle.memory_model.specs.Access.{size, range_fault, access_fault, value_at, or_fault, fetched, to_execute, to_read}
+use Rattle.memory_model.specs.declared.access.Rights.{Rights}
+use Rattle.memory_model.specs.declared.access.Width.{Width}
+use Rattle.memory_model.specs.declared.access.Width.TheVariants as width
+use Rattle.memory_model.specs.declared.access.BusFault.TheVariants.{NoRight}
 use Rattle.memory.specs.Words.{Word, IsReadable, cell_of, cell_at, memory_of_words, word_fault, word_taken}
 
 inside : (q : ℕ) (c : Option Cell) → q < 2 ^ 32 → cond (nat_lt q (2 ^ 32)) c None ≡ c

@@ -6,10 +6,10 @@ use Rattle.std.proofs.Math.ListN.{length-set}
 use Rattle.std.proofs.lemmas.List.{get_or-set_same, get_or-set_other}
 use Rattle.std.proofs.lemmas.Bool.Decides.{eqb_tells}
 use Rattle.std.specs.FinMap.{get, insert}
-use Rattle.machine_model.specs.Memory.{Cell}
-use Rattle.machine_model.specs.Bytes.{put_in}
-use Rattle.machine_model.proofs.Memories.{get-memory_of, get-insert, same_memory}
-use Rattle.machine_model.specs.Access.{with_byte, put_bytes}
+use Rattle.memory_model.specs.Memory.{Cell}
+use Rattle.memory_model.specs.Bytes.{put_in}
+use Rattle.memory_model.proofs.Memories.{get-memory_of, get-insert, same_memory}
+use Rattle.memory_model.specs.Access.{with_byte, put_bytes}
 use Rattle.memory.specs.Words.{Word, cell_of, cell_at, memory_of_words}
 use Rattle.memory.proofs.WordAccess.{get-word}
 

@@ -1,7 +1,7 @@
 -- What is done with bytes.
 use Rattle.std.specs.Prelude.{Bool}
-use Rattle.machine_model.specs.Access.{to_read, to_write}
-use Rattle.machine_model.specs.declared.access.Rights.{Rights}
+use Rattle.memory_model.specs.Access.{to_read, to_write}
+use Rattle.memory_model.specs.declared.access.Rights.{Rights}
 use Rattle.memory.specs.declared.copying.Access.{Access}
 use Rattle.memory.specs.declared.copying.Access.TheVariants.{Read, Write}
 

@@ -1,6 +1,6 @@
 -- Why bytes are not copied.
 use Rattle.std.specs.Prelude.{ℕ, List, Option, Some, None, Result, Ok, Err}
-use Rattle.machine_model.specs.declared.access.BusFault.{BusFault}
+use Rattle.memory_model.specs.declared.access.BusFault.{BusFault}
 use Rattle.memory.specs.declared.fault.CopyFault.{CopyFault}
 use Rattle.memory.specs.declared.fault.CopyFault.TheVariants.{Fault, OutOfMemory}
 

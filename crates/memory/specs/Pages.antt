@@ -1,10 +1,10 @@
 -- Where the pages of a process are kept: in runs of words.
 use Rattle.std.specs.Prelude.{◌≡◌, ℕ, ◌-◌, ◌*◌, ◌&&◌, Bool, true, false, nat_lt, nat_le, if◌then◌else◌, ◌/◌, ◌%◌, List, [], ◌∷◌, length, slice_index_or, slice_set, Option, Some, None}
 use Rattle.memory.specs.Words.{Word, word_fault, memory_of_words}
-use Rattle.machine_model.specs.Access.{put_bytes, to_write}
-use Rattle.machine_model.specs.Bytes.{put_in}
+use Rattle.memory_model.specs.Access.{put_bytes, to_write}
+use Rattle.memory_model.specs.Bytes.{put_in}
 use Rattle.std.specs.Simd.{first_chunks}
-use Rattle.machine_model.specs.declared.access.Rights.{Rights}
+use Rattle.memory_model.specs.declared.access.Rights.{Rights}
 
 -- a run of pages with one set of rights, but for the right to write: the number of its first word, and its words
 pub record Pages : Type 0 where

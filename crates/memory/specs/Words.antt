@@ -1,10 +1,10 @@
 -- A memory by its words: four bytes with the rights of their page.
 use Rattle.std.specs.Prelude.{◌≡◌, ℕ, ◌/◌, ◌%◌, Bool, true, if◌then◌else◌, List, slice_index, Option, Some, None, option_map, Result, Ok, Err}
-use Rattle.machine_model.specs.Bytes.{value_in}
-use Rattle.machine_model.specs.Memory.{Memory, Cell, memory_of}
-use Rattle.machine_model.specs.declared.access.Rights.{Rights}
-use Rattle.machine_model.specs.declared.access.BusFault.{BusFault}
-use Rattle.machine_model.specs.declared.access.BusFault.TheVariants.{Unmapped, NoRight}
+use Rattle.memory_model.specs.Bytes.{value_in}
+use Rattle.memory_model.specs.Memory.{Memory, Cell, memory_of}
+use Rattle.memory_model.specs.declared.access.Rights.{Rights}
+use Rattle.memory_model.specs.declared.access.BusFault.{BusFault}
+use Rattle.memory_model.specs.declared.access.BusFault.TheVariants.{Unmapped, NoRight}
 
 -- a word's four bytes, and the rights of its page
 pub record Word : Type 0 where

@@ -2,7 +2,7 @@
 use crate::part::is_aligned;
 use crate::place::{part_of, place_of_shared};
 use crate::space::Space;
-use machine_model::{Bus, BusFault, Width};
+use memory_model::{Bus, BusFault, Width};
 
 impl Bus for Space {
     ghost memory = { λ s. s };

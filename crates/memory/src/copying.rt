@@ -2,7 +2,7 @@
 //! to the program's memory. No byte stands past the greatest address, so a copy that would pass it is Unmapped.
 ghost use Rattle.std.specs.Prelude.{◌≡◌, ◌+◌, ◌/◌, ◌%◌, ◌^◌, ◌<◌, ◌≤◌, IfOk, IfNone, IfSome, OnOk, OnErr, Some, option_map, length};
 ghost use Rattle.std.specs.FinMap.{get};
-ghost use Rattle.machine_model.specs.Access.{range_fault, or_fault, bytes_at, put_bytes, is_writable, to_read, to_write};
+ghost use Rattle.memory_model.specs.Access.{range_fault, or_fault, bytes_at, put_bytes, is_writable, to_read, to_write};
 ghost use Rattle.memory.specs.Access.{right_of};
 ghost use Rattle.memory.specs.CopyFault.{fault_of};
 
@@ -10,7 +10,7 @@ use crate::fault::CopyFault;
 use crate::place::part_of;
 use crate::space::Space;
 use byte_list::Bytes;
-use machine_model::{Bus, BusFault, Rights, Width};
+use memory_model::{Bus, BusFault, Rights, Width};
 use std::alloc::{AllocError, Global};
 
 /// What is done with bytes.

@@ -1,5 +1,5 @@
 //! Why bytes cannot be copied from a program.
-use machine_model::BusFault;
+use memory_model::BusFault;
 use thiserror::Error;
 
 /// Why `Space::copy_in` gives no bytes.

@@ -27,7 +27,7 @@ impl Drop for KeptSpace {
 
 impl Model for KeptSpace {
     ghost use Rattle.std.specs.Prelude.{map};
-    ghost use Rattle.machine_model.specs.Memory.{Memory, memory_code};
+    ghost use Rattle.memory_model.specs.Memory.{Memory, memory_code};
     ghost use Rattle.memory.specs.Words.{memory_of_words};
     ghost use Rattle.memory.specs.Pages.{words_of};
 

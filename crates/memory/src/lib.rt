@@ -17,5 +17,5 @@ mod space;
 
 pub use fault::CopyFault;
 pub use kept::KeptSpace;
-pub use machine_model::{BusFault, Rights};
+pub use memory_model::{BusFault, Rights};
 pub use space::Space;

@@ -1,11 +1,11 @@
 //! A run of pages as words.
 ghost use Rattle.std.specs.Prelude.{◌≡◌, ◌+◌, ◌-◌, ◌*◌, ◌%◌, ◌/◌, ◌^◌, ◌<◌, ◌≤◌, ◌==◌, Bool, Some, IfOk, IfSome, IfNone, IsTrue, ◌↔◌, length, slice_index, true, false};
-ghost use Rattle.machine_model.specs.Access.{size, low_bytes, to_read, to_execute};
-ghost use Rattle.machine_model.specs.Bytes.{value_in, put_in};
+ghost use Rattle.memory_model.specs.Access.{size, low_bytes, to_read, to_execute};
+ghost use Rattle.memory_model.specs.Bytes.{value_in, put_in};
 ghost use Rattle.memory.specs.Words.{word_taken};
 ghost use Rattle.memory.specs.Pages.{has_word, bytes_of, no_pages, word_in, with_bytes, pages_of};
 
-use machine_model::{BusFault, Rights, Width};
+use memory_model::{BusFault, Rights, Width};
 use std::alloc::{AllocError, Global};
 use std::marker::Model;
 

@@ -1,13 +1,13 @@
 //! The pages of a process.
 ghost use Rattle.std.specs.Prelude.{◌≡◌, ℕ, ◌+◌, ◌*◌, ◌%◌, ◌^◌, ◌<◌, ◌≤◌, None, OnOk, OnErr, length};
 ghost use Rattle.std.specs.FinMap.{get};
-ghost use Rattle.machine_model.specs.Memory.{memory_of};
-ghost use Rattle.machine_model.specs.Access.{access_fault, fetched, mapped, to_write};
+ghost use Rattle.memory_model.specs.Memory.{memory_of};
+ghost use Rattle.memory_model.specs.Access.{access_fault, fetched, mapped, to_write};
 
 use crate::own::OwnParts;
 use crate::part::{Part, is_aligned};
 use crate::place::part_of;
-use machine_model::{BusFault, Rights, Width};
+use memory_model::{BusFault, Rights, Width};
 use std::alloc::{AllocError, Global};
 use std::marker::Model;
 use std::sync::Arc;
@@ -31,7 +31,7 @@ impl Drop for Space {
 
 impl Model for Space {
     ghost use Rattle.std.specs.Prelude.{map};
-    ghost use Rattle.machine_model.specs.Memory.{Memory, memory_code};
+    ghost use Rattle.memory_model.specs.Memory.{Memory, memory_code};
     ghost use Rattle.memory.specs.Words.{memory_of_words};
     ghost use Rattle.memory.specs.Pages.{words_of};
 

@@ -3,8 +3,8 @@ use Rattle.std.specs.Prelude.{◌≡◌, ◌≤◌, ℕ, List, [], ◌∷◌, �
 use Rattle.kernel_step.specs.declared.loan.Loan.{Loan}
 use Rattle.bursts.specs.Holdings.{grown}
 use Rattle.bursts.specs.declared.totals.Totals.{Totals}
-use Rattle.bursts.specs.declared.worker.WorkFault.{WorkFault}
-use Rattle.bursts.specs.declared.worker.WorkFault.TheVariants as fault
+use Rattle.bursts.specs.declared.fault.WorkFault.{WorkFault}
+use Rattle.bursts.specs.declared.fault.WorkFault.TheVariants as fault
 use Rattle.pool.specs.declared.settling.Settling.{Settling}
 use Rattle.pool.specs.declared.turning.Pooled.{Pooled}
 use Rattle.pool.specs.declared.turning.Pooled.TheVariants as pooled

@@ -2,8 +2,8 @@
 use Rattle.std.specs.Prelude.{◌≡◌, ℕ, ◌+◌, ◌*◌, List, [], ◌∷◌, ◌++◌, All, Ok}
 use Rattle.formats.specs.Meaning.{Means}
 use Rattle.formats.specs.declared.instr.Instr.{Instr}
-use Rattle.machine_model.specs.Memory.{Memory}
-use Rattle.machine_model.specs.Access.{fetched}
+use Rattle.memory_model.specs.Memory.{Memory}
+use Rattle.memory_model.specs.Access.{fetched}
 use Rattle.machine_model.specs.Images.{Program, IsProfile}
 use Rattle.elf32.specs.Files.{file_of}
 use Rattle.elf32.specs.Names.{Names, IsRefused}

@@ -2,7 +2,8 @@
 use crate::desk::commit;
 use crate::fault::Fault;
 use crate::workers::{Worker, crew};
-use bursts::{Bench, Desk, Naming};
+use bursts::{Bench, Naming};
+use desks::Desk;
 use std::sync::{Mutex, Wait};
 use std::thread::Threads;
 

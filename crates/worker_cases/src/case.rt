@@ -2,15 +2,16 @@
 ghost use Rattle.std.specs.Prelude.{◌≡◌, ◌≤◌, ◌<◌};
 ghost use Rattle.kernel_model.specs.Answers.{now, committed as committed_in, changes as changes_in};
 
-use crate::board_reader::BoardReader;
 use crate::fault::Fault;
 use crate::gates::{CaseGate, Lendings};
 use crate::programs::boot;
 use crate::workers::{Worker, shares_of, workers_of};
 use crate::{by_crew, desk, gated, stealing, stranger, turns};
-use bursts::{Bench, Blanks, Desk, LockedDesk, Naming, Share, board_of, gather, totals_of};
+use bursts::{Bench, Blanks, Naming, Share, board_of, gather, totals_of};
+use desks::{Desk, LockedDesk};
 use kernel::Core;
 use pool::Pool;
+use run_threads::BoardReader;
 use std::alloc::{AllocError, Global};
 use std::marker::Brand;
 use std::sync::{Mutex, Wait};

@@ -1,12 +1,13 @@
 //! All turns of both programs at one desk, with a group that is committed after the first and one that fails at the end, and
 //! what the board shows. Wanted are 17 events: six loans, each of which is a Turn and an Enter; a Cut and two completions; a Cut
 //! and a failure.
-use crate::board_reader::BoardReader;
 use crate::case::QUANTUM;
 use crate::fault::Fault;
 use crate::gates::Open;
-use bursts::{Desk, Naming, Turned, WorkFault, worker_turn};
+use bursts::{Naming, WorkFault};
+use desks::{Desk, Turned, worker_turn};
 use kernel::Answer;
+use run_threads::BoardReader;
 use std::alloc::AllocError;
 use std::sync::Wait;
 

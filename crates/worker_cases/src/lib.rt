@@ -4,7 +4,6 @@
 //! What it answers is the same whatever the schedule: how the workers take turns shows in no line.
 #![tactic(auto)]
 
-mod board_reader;
 mod by_crew;
 mod case;
 mod desk;

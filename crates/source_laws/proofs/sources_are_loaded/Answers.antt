@@ -1,6 +1,6 @@
 -- The laws of the crates below, put together.
 use Rattle.std.specs.Prelude.{All}
-use Rattle.machine_model.specs.Memory.{Memory}
+use Rattle.memory_model.specs.Memory.{Memory}
 use Rattle.machine_model.specs.Images.{IsProfile}
 use Rattle.assembler.specs.Assembly.{data_segments}
 use Rattle.assembler.specs.Sections.{IsByLines, text_of, data_of, data_begins}

@@ -1,6 +1,6 @@
 -- One task more, and in the end all.
 use Rattle.std.proofs.Common.{◌≡◌, List, sym, subst, ◌∙◌, arith, slice_get, Some}
-use Rattle.machine_model.specs.Access.{HoldsBytes}
+use Rattle.memory_model.specs.Access.{HoldsBytes}
 use Rattle.machine_model.specs.States.{State}
 use Rattle.kernel_step.specs.declared.booting.Program.{Program}
 use Rattle.kernel_step.specs.declared.task.Task.{Task}

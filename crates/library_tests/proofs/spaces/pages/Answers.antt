@@ -1,7 +1,7 @@
 -- No page is mapped at first.
 use Rattle.std.proofs.Common.{ap, ◌∙◌}
 use Rattle.std.specs.FinMap.{get}
-use Rattle.machine_model.specs.Memory.{Memory}
+use Rattle.memory_model.specs.Memory.{Memory}
 use Rattle.library_tests.proofs.Free.{free-empty}
 use Rattle.library_tests.proofs.spaces.pages.Goals as goal
 

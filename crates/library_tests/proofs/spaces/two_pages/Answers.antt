@@ -1,7 +1,7 @@
 -- The second page is free once the first is mapped.
 use Rattle.std.proofs.Common.{ap, ◌∙◌, inr, arith, None}
 use Rattle.std.specs.FinMap.{get}
-use Rattle.machine_model.specs.Memory.{Memory, memory_of}
+use Rattle.memory_model.specs.Memory.{Memory, memory_of}
 use Rattle.library_tests.proofs.Free.{free-empty, free-mapped}
 use Rattle.library_tests.proofs.spaces.two_pages.Goals as goal
 

@@ -2,8 +2,8 @@
 use Rattle.std.proofs.Common.{◌≡◌, ◌^◌, Bool, true, false, cond, ap, ◌∙◌, refl}
 use Rattle.std.specs.Prelude.{nat_lt, Option, None}
 use Rattle.std.specs.FinMap.{get}
-use Rattle.machine_model.specs.Memory.{Memory, Cell}
-use Rattle.machine_model.proofs.Memories.{get-memory_of}
+use Rattle.memory_model.specs.Memory.{Memory, Cell}
+use Rattle.memory_model.proofs.Memories.{get-memory_of}
 use Rattle.machine_cases.proofs.written_code.page.Goals as goal
 
 none_anyway : (b : Bool) (none : Option Cell) → none ≡ None → cond b none None ≡ None

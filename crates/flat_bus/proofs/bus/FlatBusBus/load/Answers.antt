@@ -1,6 +1,6 @@
 -- What a load answers: that the address is past the bytes, or what they spell.
 use Rattle.std.proofs.Common.{rules, ◌≡◌, ◌<◌, ◌≤◌, ◌%◌, ◌==◌, length, true, sym, ap, ◌∙◌, arith}
-use Rattle.machine_model.specs.Access.{size, or_fault, value_at, to_read}
+use Rattle.memory_model.specs.Access.{size, or_fault, value_at, to_read}
 use Rattle.flat_bus.specs.Bytes.{memory_of_bytes}
 use Rattle.flat_bus.proofs.ByByte.{fault-past, loaded-here}
 use Rattle.flat_bus.proofs.bus.FlatBusBus.load.Goals as goal

@@ -1,6 +1,6 @@
 -- What a store answers and leaves.
 use Rattle.std.proofs.Common.{rules, ◌≡◌, ◌<◌, ◌≤◌, ◌%◌, ◌==◌, length, true, sym, ap, ◌∙◌, arith, refl}
-use Rattle.machine_model.specs.Access.{size, or_fault, to_write}
+use Rattle.memory_model.specs.Access.{size, or_fault, to_write}
 use Rattle.flat_bus.specs.Bytes.{memory_of_bytes}
 use Rattle.flat_bus.proofs.ByByte.{fault-here, fault-past, stored-here}
 use Rattle.flat_bus.proofs.bus.FlatBusBus.store.Goals as goal

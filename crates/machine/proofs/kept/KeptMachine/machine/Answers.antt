@@ -1,6 +1,6 @@
 -- The tables match the machine's memory too.
 use Rattle.std.proofs.Common.{List, sym, ap, subst, rules}
-use Rattle.machine_model.specs.Memory.{Memory}
+use Rattle.memory_model.specs.Memory.{Memory}
 use Rattle.interpreter.specs.declared.table.Table.{Table}
 use Rattle.interpreter.specs.Tables.{AllMatch}
 use Rattle.machine.proofs.kept.KeptMachine.machine.Goals as goal

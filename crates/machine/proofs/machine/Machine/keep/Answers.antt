@@ -1,6 +1,6 @@
 -- The tables match what is kept too.
 use Rattle.std.proofs.Common.{List, sym, ap, subst}
-use Rattle.machine_model.specs.Memory.{Memory}
+use Rattle.memory_model.specs.Memory.{Memory}
 use Rattle.interpreter.specs.declared.table.Table.{Table}
 use Rattle.interpreter.specs.Tables.{AllMatch}
 use Rattle.machine.proofs.machine.Machine.keep.Goals as goal

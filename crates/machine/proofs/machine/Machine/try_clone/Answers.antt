@@ -1,6 +1,6 @@
 -- The tables match the copy too.
 use Rattle.std.proofs.Common.{List, sym, ap, subst, rules}
-use Rattle.machine_model.specs.Memory.{Memory}
+use Rattle.memory_model.specs.Memory.{Memory}
 use Rattle.interpreter.specs.declared.table.Table.{Table}
 use Rattle.interpreter.specs.Tables.{AllMatch}
 use Rattle.machine.proofs.machine.Machine.try_clone.Goals as goal

@@ -1,6 +1,6 @@
 -- A load gives what stands in the word that it lies in.
 use Rattle.std.proofs.Common.{◌≡◌, ℕ, ◌/◌, ◌%◌, ◌==◌, sym, ap, ◌∙◌, None, true, Some, Option, map, rules, arith}
-use Rattle.machine_model.specs.Access.{size, loaded, to_read}
+use Rattle.memory_model.specs.Access.{size, loaded, to_read}
 use Rattle.memory.specs.Words.{Word}
 use Rattle.memory.specs.Pages.{word_in, words_of}
 use Rattle.memory.proofs.WordAccess.{taken-aligned}

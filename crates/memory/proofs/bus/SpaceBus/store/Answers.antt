@@ -1,8 +1,8 @@
 -- A store changes the word that it lies in, or says why it does not.
 use Rattle.std.proofs.Common.{◌≡◌, ℕ, ◌/◌, ◌%◌, ◌==◌, sym, ap, ◌∙◌, None, Err, true, false, Option, Some, map, rules, arith, position, refl}
-use Rattle.machine_model.specs.Access.{size, access_fault, or_fault, stored, to_write}
-use Rattle.machine_model.specs.declared.access.BusFault.{BusFault}
-use Rattle.machine_model.specs.declared.access.BusFault.TheVariants.{Unmapped, NoRight}
+use Rattle.memory_model.specs.Access.{size, access_fault, or_fault, stored, to_write}
+use Rattle.memory_model.specs.declared.access.BusFault.{BusFault}
+use Rattle.memory_model.specs.declared.access.BusFault.TheVariants.{Unmapped, NoRight}
 use Rattle.memory.specs.Words.{Word, word_fault}
 use Rattle.memory.specs.Pages.{has_word, word_among, words_of}
 use Rattle.memory.proofs.WordAccess.{access_fault-aligned}

@@ -2,8 +2,8 @@
 use Rattle.std.proofs.Common.{◌≡◌, ℕ, ◌/◌, ◌%◌, sym, ap, ◌∙◌, None, Some, Option, map}
 use Rattle.std.specs.Prelude.{option_map}
 use Rattle.std.specs.FinMap.{get}
-use Rattle.machine_model.specs.Memory.{Memory, Cell}
-use Rattle.machine_model.specs.declared.access.Rights.{Rights}
+use Rattle.memory_model.specs.Memory.{Memory, Cell}
+use Rattle.memory_model.specs.declared.access.Rights.{Rights}
 use Rattle.memory.specs.Words.{Word, cell_of}
 use Rattle.memory.specs.Pages.{word_in, words_of}
 use Rattle.memory.proofs.Cells.{get-past, get-cell, not_fitting, fitting}

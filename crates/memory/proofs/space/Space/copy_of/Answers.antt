@@ -2,8 +2,8 @@
 use Rattle.std.proofs.Common.{◌≡◌, ℕ, ◌+◌, ◌-◌, List, [], ◌∷◌, ◌++◌, sym, ap, ◌∙◌, refl, Some, None, Option, append_assoc}
 use Rattle.std.specs.Prelude.{option_map, unwrap_or}
 use Rattle.std.specs.FinMap.{get}
-use Rattle.machine_model.specs.Memory.{Cell}
-use Rattle.machine_model.specs.Access.{byte_of, bytes_at}
+use Rattle.memory_model.specs.Memory.{Cell}
+use Rattle.memory_model.specs.Access.{byte_of, bytes_at}
 use Rattle.memory.proofs.Ranges.{bytes_at-next}
 use Rattle.memory.proofs.space.Space.copy_of.Goals as goal
 

@@ -1,6 +1,6 @@
 -- The bytes so far, and those that are left.
 use Rattle.std.proofs.Common.{◌≡◌, ◌+◌, ◌-◌, ◌++◌}
-use Rattle.machine_model.specs.Access.{bytes_at}
+use Rattle.memory_model.specs.Access.{bytes_at}
 use Rattle.memory.proofs.space.Space.copy_of.Given as goal
 
 abbrev pub invariant-loop-i : goal.invariant-loop-i

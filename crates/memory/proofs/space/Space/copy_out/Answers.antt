@@ -1,8 +1,8 @@
 -- One more byte is written, and the rights stay.
 use Rattle.std.proofs.Common.{◌≡◌, ℕ, suc, ◌+◌, ◌-◌, ◌%◌, ◌^◌, List, [], ◌∷◌, length, drop, get_or, sym, ap, ◌∙◌, arith, drop-cons, rules}
 use Rattle.std.specs.FinMap.{get}
-use Rattle.machine_model.specs.Memory.{Memory}
-use Rattle.machine_model.specs.Access.{range_fault, put_bytes, to_write}
+use Rattle.memory_model.specs.Memory.{Memory}
+use Rattle.memory_model.specs.Access.{range_fault, put_bytes, to_write}
 use Rattle.memory.proofs.Ranges.{range_fault-next, range_fault-put_bytes, fault_at-None}
 use Rattle.memory.proofs.space.Space.copy_out.Goals as goal
 

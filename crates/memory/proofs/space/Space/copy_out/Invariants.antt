@@ -1,6 +1,6 @@
 -- What is left to write may be written.
 use Rattle.std.proofs.Common.{◌≡◌, ◌+◌, ◌-◌, drop, length, None}
-use Rattle.machine_model.specs.Access.{range_fault, put_bytes, to_write}
+use Rattle.memory_model.specs.Access.{range_fault, put_bytes, to_write}
 use Rattle.memory.proofs.space.Space.copy_out.Given as goal
 
 abbrev pub invariant-loop-i : goal.invariant-loop-i

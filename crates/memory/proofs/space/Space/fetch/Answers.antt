@@ -1,6 +1,6 @@
 -- A fetch gives the word that stands there.
 use Rattle.std.proofs.Common.{◌≡◌, ℕ, ◌/◌, ◌%◌, ◌==◌, sym, ap, ◌∙◌, None, true, Some, Option, map, rules, arith}
-use Rattle.machine_model.specs.Access.{fetched}
+use Rattle.memory_model.specs.Access.{fetched}
 use Rattle.memory.specs.Words.{Word}
 use Rattle.memory.specs.Pages.{word_in, words_of}
 use Rattle.memory.proofs.WordAccess.{fetched-aligned}

@@ -1,10 +1,10 @@
 -- One more byte may be accessed.
 use Rattle.std.proofs.Common.{ℕ, ◌+◌, ◌-◌, cond, sym, ap, ◌∙◌, Some, Option, Bool, arith}
 use Rattle.std.specs.FinMap.{get}
-use Rattle.machine_model.specs.Memory.{Cell}
-use Rattle.machine_model.specs.Access.{range_fault, fault_at}
-use Rattle.machine_model.specs.declared.access.BusFault.{BusFault}
-use Rattle.machine_model.specs.declared.access.BusFault.TheVariants.{NoRight}
+use Rattle.memory_model.specs.Memory.{Cell}
+use Rattle.memory_model.specs.Access.{range_fault, fault_at}
+use Rattle.memory_model.specs.declared.access.BusFault.{BusFault}
+use Rattle.memory_model.specs.declared.access.BusFault.TheVariants.{NoRight}
 use Rattle.memory.specs.Access.{right_of}
 use Rattle.memory.proofs.Ranges.{range_fault-next}
 use Rattle.memory.proofs.space.Space.first_fault.Goals as goal

@@ -1,6 +1,6 @@
 -- The bytes so far may be accessed.
 use Rattle.std.proofs.Common.{◌≡◌, ◌+◌, ◌-◌, ◌^◌, ◌≤◌}
-use Rattle.machine_model.specs.Access.{range_fault}
+use Rattle.memory_model.specs.Access.{range_fault}
 use Rattle.memory.specs.Access.{right_of}
 use Rattle.memory.proofs.space.Space.first_fault.Given as goal
 

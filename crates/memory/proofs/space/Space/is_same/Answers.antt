@@ -1,8 +1,8 @@
 -- Memories that stand in each other are equal.
 use Rattle.std.proofs.Common.{sym, ap}
 use Rattle.std.specs.FinMap.{get}
-use Rattle.machine_model.specs.Memory.{Memory}
-use Rattle.machine_model.proofs.Memories.{same_memory}
+use Rattle.memory_model.specs.Memory.{Memory}
+use Rattle.memory_model.proofs.Memories.{same_memory}
 use Rattle.memory.proofs.Standing.{both_ways}
 use Rattle.memory.proofs.space.Space.is_same.Goals as goal
 

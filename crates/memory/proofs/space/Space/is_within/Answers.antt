@@ -5,7 +5,7 @@ use Rattle.std.specs.FinMap.{get}
 use Rattle.std.proofs.lemmas.List.{length-map, get_or-map as get_or-map_within}
 use Rattle.std.proofs.lemmas.Bool.{cases_lt}
 use Rattle.std.proofs.Math.ListN.{get_or-map}
-use Rattle.machine_model.specs.Memory.{Memory}
+use Rattle.memory_model.specs.Memory.{Memory}
 use Rattle.memory.specs.Pages.{Pages, has_word}
 use Rattle.memory.proofs.Standing.{byte_in-own, byte_in-shared, by_run}
 use Rattle.memory.proofs.space.Space.is_within.Goals as goal

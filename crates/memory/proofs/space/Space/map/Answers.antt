@@ -1,8 +1,8 @@
 -- A part that is added adds its pages to the memory.
 use Rattle.std.proofs.Common.{ℕ, ◌*◌, ◌∷◌, None, sym, ap, subst, ◌∙◌, Bool, List, map, cond, Some, false}
 use Rattle.std.specs.FinMap.{get}
-use Rattle.machine_model.specs.Memory.{Memory}
-use Rattle.machine_model.specs.Access.{mapped}
+use Rattle.memory_model.specs.Memory.{Memory}
+use Rattle.memory_model.specs.Access.{mapped}
 use Rattle.memory.specs.Words.{memory_of_words}
 use Rattle.memory.specs.Pages.{Adds, Pages, has_word, word_among, word_in, words_of, pages_of}
 use Rattle.memory.proofs.Mapping.{shared-front, free-words, mapped-words}

@@ -1,6 +1,6 @@
 -- Why a store is refused, by the word that it lies in.
 use Rattle.std.proofs.Common.{◌≡◌, ℕ, ◌/◌, ◌%◌, ◌==◌, sym, ap, ◌∙◌, None, true, Some, Option, map, rules, arith}
-use Rattle.machine_model.specs.Access.{size, access_fault, to_write}
+use Rattle.memory_model.specs.Access.{size, access_fault, to_write}
 use Rattle.memory.specs.Words.{Word, word_fault}
 use Rattle.memory.specs.Pages.{word_in, words_of}
 use Rattle.memory.proofs.WordAccess.{access_fault-aligned}

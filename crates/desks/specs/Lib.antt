@@ -1,0 +1,3 @@
+-- The definitions.
+pub mod Records
+pub mod Work

@@ -1,0 +1,36 @@
+//! What a worker does at a desk.
+ghost use Rattle.desks.specs.Work.{TurnsOut};
+
+use crate::desk::Desk;
+use bursts::{Gate, WorkFault, run_loan};
+use kernel::Answer;
+
+/// What a worker's turn came to.
+#[derive(Drop)]
+pub enum Turned {
+    /// There was no loan.
+    Idle,
+    /// A loan's result was taken back, with this answer.
+    Settled(Answer),
+}
+
+/// One turn of a worker: it asks for one loan, holds the gate, runs the loan, and hands the result in. Between the loan and the
+/// result it has no lock.
+pub fn worker_turn<D: Desk, G: Gate>(
+    desk: &mut D,
+    gate: &mut G,
+    quantum: u32,
+) -> Result<Turned, WorkFault>
+    ensures { TurnsOut (D.account desk.old) quantum (D.account desk.new) result }
+{
+    let loan = match desk.lend(quantum) {
+        Ok(Some(loan)) => loan,
+        Ok(None) => return Ok(Turned::Idle),
+        Err(why) => return Err(WorkFault::Lend(why)),
+    };
+    gate.hold(loan.pid);
+    match desk.settle(run_loan(loan)) {
+        Ok(answer) => Ok(Turned::Settled(answer)),
+        Err(rejected) => Err(WorkFault::Settle(rejected)),
+    }
+}
