@@ -2,6 +2,7 @@
 //! is wanted. Two notations: `kernel_calls` for programs that call the kernel, `sessions` for runs by the command line.
 #![tactic(auto)]
 
+mod command_lines;
 mod comparing;
 mod hex_parts;
 mod kernel_calls;
@@ -10,6 +11,7 @@ mod notation;
 mod ran;
 mod sessions;
 
+pub use command_lines::arguments;
 pub use comparing::compare;
 pub use kernel_calls::{CallsCase, IMAGE_NAME};
 pub use ran::Ran;

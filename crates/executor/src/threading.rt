@@ -6,7 +6,7 @@ use crate::settings::Settings;
 use bursts::{Bench, Blanks, Gate, Naming, Share, board_of, gather};
 use kernel::Core;
 use pool::{Pool, Seat, pool_crew};
-use run_threads::{BoardReader, CommitThread, Rest, RunFault, Screen, Watch};
+use run_threads::{BoardReader, CommitThread, RunFault, Screen, Watch};
 use std::alloc::{AllocError, Global};
 use std::io::Write;
 use std::marker::Brand;
@@ -197,7 +197,7 @@ fn commit<N: Naming, R: Wait>(rt: &R, threading: &Threading<'_, '_, '_, '_, '_, 
     committing.serve(rt, &threading.watch);
 }
 
-/// Writes what the terminal shows, until no worker works any more, or until it cannot be written.
+/// What the thread does that writes what the terminal shows.
 fn show<N: Naming, R: Wait, O: Write>(
     rt: &R,
     alloc: Global,
@@ -205,19 +205,7 @@ fn show<N: Naming, R: Wait, O: Write>(
     screen: &Mutex<&mut Screen<'_, O>>,
 ) {
     let mut screen = screen.lock(rt);
-    let mut rest = Rest::new();
-    for _ in rt.forever() {
-        let is_over = threading.watch.is_over();
-        match screen.refresh(rt, alloc, threading.bench) {
-            Ok(true) => rest.end(),
-            Ok(false) if is_over => return,
-            Ok(false) => rest.take(rt),
-            Err(fault) => {
-                threading.give_up(rt, fault);
-                return;
-            }
-        }
-    }
+    screen.serve(rt, alloc, threading.bench, &threading.watch);
 }
 
 impl<N: Naming, R: Wait> Threading<'_, '_, '_, '_, '_, N, R> {

@@ -1,11 +1,10 @@
 //! The whole program.
-use crate::fault::Fault;
-use crate::file_lines::list_files;
 use crate::running::run_images;
 use clap::Error;
 use clap::error::ErrorKind;
 use command_line::{Task, parse};
 use host_files::{assemble_file, debug_file, list_file};
+use run_files::{Fault, list_files};
 use scripts::replay;
 use std::io::{BufWriter, Read, Write};
 use std::rt::Files;

@@ -1,74 +1,11 @@
 //! Runs of images by many workers.
-ghost use Rattle.std.specs.Prelude.{◌≡◌, ◌≤◌, ◌<◌, true, length, IfOk};
-ghost use Rattle.std.specs.List.{AllByRecursion};
-ghost use Rattle.disk_model.specs.Storage.{is_quiet};
-ghost use Rattle.kernel_model.specs.World.{most_programs, tape_count, terminal_count};
-
-use crate::fault::Fault;
-use crate::process_lines::print_processes;
-use byte_list::Bytes;
 use command_line::{RunNumbers, RunOptions};
 use executor::{Settings, run};
-use host_files::{bytes_in, disk_or_zeros, image_in, keep, zeros};
-use kernel::{Core, Program, SimDisk};
-use scripts::MOST_TAPE_BYTES;
+use run_files::{Fault, boot, keep_disk, print_processes};
 use std::io::Write;
 use std::rt::Files;
 use std::sync::Wait;
 use std::thread::Threads;
-
-/// The tape in a file.
-fn tape_in<R: Files + AllocGlobal>(rt: &R, path: &str) -> Result<Bytes, Fault> {
-    let bytes = bytes_in(rt, path, MOST_TAPE_BYTES)?;
-    if bytes.len() > MOST_TAPE_BYTES {
-        return Err(Fault::InputOutput);
-    }
-    Ok(Bytes::new(bytes))
-}
-
-/// The tapes of a run: the first one, from a file, or none.
-fn tapes_in<R: Files + AllocGlobal>(rt: &R, path: Option<&str>) -> Result<Vec<Bytes>, Fault>
-    ensures { IfOk result (λ tapes. length tapes.items ≤ tape_count) }
-{
-    let alloc = rt.alloc();
-    match path {
-        Some(path) => Ok(vec![in alloc; tape_in(rt, path)?]?),
-        None => Ok(Vec::new(alloc)),
-    }
-}
-
-/// The programs of images, each with the terminal of its place.
-fn programs_in<R: Files + AllocGlobal>(rt: &R, paths: &[&str]) -> Result<Vec<Program>, Fault>
-    requires few { length paths.now ≤ most_programs }
-    ensures len { IfOk result (λ programs. length programs.items ≡ length paths.now) }
-    ensures terminals { IfOk result (λ programs. AllByRecursion (λ p. p.terminal < terminal_count) programs.items) }
-{
-    let mut programs = Vec::new(rt.alloc());
-    for path in paths {
-        let terminal = programs.len() as u32;
-        let image = image_in(rt, path)?;
-        programs.push(Program { image, terminal })?;
-    }
-    Ok(programs)
-}
-
-/// The disk of a run: that of a file, or zeros.
-fn device_in<R: Files + AllocGlobal>(rt: &R, path: Option<&str>) -> Result<SimDisk, Fault>
-    ensures { IfOk result (λ device. is_quiet device ≡ true) }
-{
-    match path {
-        Some(path) => Ok(disk_or_zeros(rt, path)?),
-        None => Ok(zeros(rt.alloc())?),
-    }
-}
-
-/// The core of a run. The tape is read first, then the images by their place, then the disk.
-fn boot<R: Files + AllocGlobal>(rt: &R, options: &RunOptions<'_>) -> Result<Core, Fault> {
-    let tapes = tapes_in(rt, options.tape)?;
-    let programs = programs_in(rt, options.images.as_slice())?;
-    let device = device_in(rt, options.disk)?;
-    Ok(Core::boot(rt.alloc(), device, programs, tapes)?)
-}
 
 /// The settings of a run with these numbers.
 fn settings_of(numbers: RunNumbers) -> Settings {
@@ -76,14 +13,6 @@ fn settings_of(numbers: RunNumbers) -> Settings {
         workers: numbers.workers,
         quantum: numbers.quantum,
         terminal: numbers.terminal,
-    }
-}
-
-/// Keeps the disk that a run leaves, if it is to be kept.
-fn keep_disk<R: Files + AllocGlobal>(rt: &R, path: Option<&str>, core: Core) -> Result<(), Fault> {
-    match path {
-        Some(path) => Ok(keep(rt, path, &core.halt(&[]))?),
-        None => Ok(()),
     }
 }
 

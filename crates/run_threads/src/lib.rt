@@ -11,6 +11,5 @@ mod watch;
 pub use board_reader::BoardReader;
 pub use committing::CommitThread;
 pub use fault::RunFault;
-pub use rest::Rest;
 pub use screen::Screen;
 pub use watch::Watch;

@@ -13,7 +13,7 @@ const PAUSE: u64 = 1;
 /// A thread's turns without work. It gives its processor away at first, and sleeps for a millisecond at a time once it has found
 /// nothing to do for a while, so that waiting costs next to no processor and what comes then waits for a millisecond at most.
 #[derive(Drop)]
-pub struct Rest {
+pub(crate) struct Rest {
     turns: u32,
     parker: Parker,
 }

@@ -3,6 +3,8 @@ ghost use Rattle.std.specs.Prelude.{◌<◌};
 ghost use Rattle.kernel_model.specs.World.{terminal_count};
 
 use crate::fault::RunFault;
+use crate::rest::Rest;
+use crate::watch::Watch;
 use bursts::{Bench, Naming};
 use console::pump;
 use std::alloc::{AllocError, Global};
@@ -61,7 +63,7 @@ impl<'o, O: Write> Screen<'o, O> {
     }
 
     /// Writes what the terminal shows more, and answers whether there was something. The lock is free while it is written.
-    pub fn refresh<N: Naming, R: Wait>(
+    fn refresh<N: Naming, R: Wait>(
         &mut self,
         rt: &R,
         alloc: Global,
@@ -73,6 +75,31 @@ impl<'o, O: Write> Screen<'o, O> {
         }
         self.write(bytes.as_slice())?;
         Ok(true)
+    }
+
+    /// Writes what the terminal shows, until no worker works any more. Where it cannot be written, the fault is kept, and the
+    /// workers are to stop.
+    pub fn serve<N: Naming, R: Wait>(
+        &mut self,
+        rt: &R,
+        alloc: Global,
+        bench: &Mutex<Bench<'_, N>>,
+        watch: &Watch,
+    ) {
+        let mut rest = Rest::new();
+        for _ in rt.forever() {
+            let is_over = watch.is_over();
+            match self.refresh(rt, alloc, bench) {
+                Ok(true) => rest.end(),
+                Ok(false) if is_over => return,
+                Ok(false) => rest.take(rt),
+                Err(fault) => {
+                    watch.note(rt, fault);
+                    bench.lock(rt).stop();
+                    return;
+                }
+            }
+        }
     }
 
     /// Writes the rest of a terminal's bytes.

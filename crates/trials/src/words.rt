@@ -12,10 +12,10 @@ fn computed<R: AllocGlobal + Eprint + Files + Threads + Wait + Sync>(
     word: &str,
 ) -> Result<Option<String>, Error> {
     let lines = match word {
-        "faulty-output" => program_cases::check_faulty_output(rt)?,
-        "endless-run" => program_cases::check_endless_run(rt)?,
-        "damaged-disk" => program_cases::check_damaged_disk(rt.alloc())?,
-        "lost-arguments" => program_cases::check_lost_arguments(rt.alloc())?,
+        "faulty-output" => fault_cases::check_faulty_output(rt)?,
+        "endless-run" => fault_cases::check_endless_run(rt)?,
+        "damaged-disk" => fault_cases::check_damaged_disk(rt.alloc())?,
+        "lost-arguments" => fault_cases::check_lost_arguments(rt.alloc())?,
         "writer-crashes" => core_cases::crash_writer(rt)?,
         "renamer-crashes" => core_cases::crash_renamer(rt)?,
         "workers" => worker_cases::play_cases(rt)?,

@@ -1,7 +1,7 @@
 //! Why the program ends early.
-use executor::RunFault;
 use host_files::FileFault;
 use kernel::{BootFault, DiskFault};
+use run_threads::RunFault;
 use scripts::ScriptFault;
 use std::alloc::{AllocError, AllocFailed};
 use std::io;

@@ -1,6 +1,6 @@
 //! Outputs that take few writes: what the program printed goes out at once, and its status says where it could not.
-use crate::running::{run, words_of};
 use anyhow::{Error, ensure};
+use case_texts::arguments;
 use std::fs;
 use std::io::{self, ErrorKind, Write};
 use std::rt::Files;
@@ -60,7 +60,7 @@ fn check_room<R: Files + AllocGlobal + Threads + Wait + Sync>(
     status: u8,
     said: &str,
 ) -> Result<(), Error> {
-    let words = words_of(rt.alloc(), line)?;
+    let words = arguments(rt.alloc(), line)?;
     let mut input = SCRIPT;
     let mut out = Output { writes: 0, room };
     let mut err = Vec::new(rt.alloc());
@@ -81,7 +81,11 @@ pub fn check_faulty_output<R: Files + AllocGlobal + Threads + Wait + Sync>(
 
 /// Assembles the source `endless.s` to the image `endless`.
 fn assemble_endless<R: Files + AllocGlobal + Threads + Wait + Sync>(rt: &R) -> Result<(), Error> {
-    let status = run(rt, "asm endless.s endless", b"")?.status;
+    let words = arguments(rt.alloc(), "asm endless.s endless")?;
+    let mut input: &[u8] = b"";
+    let mut out = Vec::new(rt.alloc());
+    let mut err = Vec::new(rt.alloc());
+    let status = monitor::bench(rt, &words, &mut input, &mut out, &mut err);
     ensure!(status == 0, "endless.s: status {status}");
     Ok(())
 }

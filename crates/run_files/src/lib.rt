@@ -1,0 +1,13 @@
+//! What the program reads from files of the host for a run of images, what it keeps there, the lines that it prints about files and
+//! processes, and why it ends early.
+#![tactic(auto)]
+
+mod fault;
+mod file_lines;
+mod process_lines;
+mod setup;
+
+pub use fault::Fault;
+pub use file_lines::list_files;
+pub use process_lines::print_processes;
+pub use setup::{boot, keep_disk};
