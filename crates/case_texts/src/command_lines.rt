@@ -1,4 +1,4 @@
-//! Command lines as a program is given them.
+//! Command lines as a program is given them, as words of its own.
 use std::alloc::{AllocError, Global};
 
 /// The words of a command line, which are parted by blanks.

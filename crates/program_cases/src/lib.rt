@@ -1,7 +1,7 @@
 //! Runs of the program `bench` on cases that stand in files, each compared with what stands there beside it. What a case says, and
 //! whether a run came out so, `case_texts` reads and compares.
 //!
-//! `check_file` answers what came out in a line. At the first case that comes out otherwise it is refused, with a text
+//! `check_file` answers a line that says how many cases there are. At the first case that comes out otherwise it refuses, with a text
 //! that says which.
 #![tactic(auto)]
 

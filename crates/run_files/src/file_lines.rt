@@ -1,4 +1,4 @@
-//! The files on disks.
+//! A line for each file on a disk.
 use crate::fault::Fault;
 use host_files::disk_in;
 use scripts::print_files;

@@ -1,5 +1,5 @@
-//! What the program reads from files of the host for a run of images, what it keeps there, the lines that it prints about files and
-//! processes, and why it ends early.
+//! What the program reads from files of the host for a run of images, what it keeps there, and the lines that it prints about files
+//! and processes; and `Fault`, why the program ends early, whatever its command.
 #![tactic(auto)]
 
 mod fault;

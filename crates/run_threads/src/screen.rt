@@ -77,8 +77,8 @@ impl<'o, O: Write> Screen<'o, O> {
         Ok(true)
     }
 
-    /// Writes what the terminal shows, until no worker works any more. Where it cannot be written, the fault is kept, and the
-    /// workers are to stop.
+    /// Writes what the terminal shows, until no worker works any more. A fault, of the output or for want of memory, is kept, and
+    /// has the workers stop.
     pub fn serve<N: Naming, R: Wait>(
         &mut self,
         rt: &R,
