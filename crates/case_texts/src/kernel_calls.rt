@@ -100,7 +100,7 @@ impl CallsCase {
 
     /// Sets up a program, in its form.
     fn set_up(&mut self, alloc: Global, program: &mut Program) -> Result<(), Error> {
-        let words = program.words(alloc)?;
+        let words = program.assemble_words(alloc)?;
         let terminal = program.terminal.as_str();
         match program.form {
             Form::Words => Ok(push_program(&mut self.script, terminal, words.as_slice())?),
@@ -149,7 +149,7 @@ impl CallsCase {
         match words {
             ["trace", pid] => self.trace(alloc, line, pid, wanted),
             [pid] if pid.parse::<u32>().is_ok() => self.enters(pid, wanted),
-            _ => push_words(&mut self.script, &mut self.printed, line, words, wanted),
+            _ => push_script_line(&mut self.script, &mut self.printed, line, words, wanted),
         }
     }
 
@@ -301,7 +301,7 @@ fn push_files(script: &mut String, printed: &mut String, wanted: &str) -> Result
 }
 
 /// Adds a line of these words to a script, and what it prints.
-fn push_words(
+fn push_script_line(
     script: &mut String,
     printed: &mut String,
     line: &str,

@@ -332,8 +332,8 @@ impl Program {
         replies
     }
 
-    /// The words of the program, after whose text the places stand.
-    pub fn words(&mut self, alloc: Global) -> Result<Vec<u32>, Error> {
+    /// The words of the program, after whose text the places stand: they are added to its source, so it is asked once.
+    pub fn assemble_words(&mut self, alloc: Global) -> Result<Vec<u32>, Error> {
         self.source.push_str(PLACES)?;
         let (_image, listing) = assemble(alloc, self.source.as_str())?;
         Ok(listed_words(alloc, listing.rows())?)

@@ -61,7 +61,7 @@ fn lend_some<N: Naming>(
     Ok(first)
 }
 
-/// The same, under the lock.
+/// Up to eight loans, as `lend_some` has them, under the lock.
 fn lend_under_lock<N: Naming, R: Wait>(
     rt: &R,
     lock: &Mutex<Bench<'_, N>>,

@@ -1,5 +1,5 @@
 -- Steps that all gave a value.
-use Rattle.std.proofs.Common.{ℕ, ◌≡◌, Result, Ok, Err, Option, Some, None, refl, ap}
+use Rattle.std.proofs.Common.{◌≡◌, Result, Ok, Err, Option, Some, None, refl, ap}
 use Rattle.std.specs.Option.{ok_or}
 use Rattle.statements.specs.Steps.{and_then}
 

@@ -1,4 +1,5 @@
-//! Statements of an assembler's source: what a line says after its label, the instructions that it stands for, and their words.
+//! Statements of an assembler's source: what a line says, a label and a statement; the instructions that a statement stands for; and
+//! their words.
 #![tactic(auto)]
 
 mod encoding;
