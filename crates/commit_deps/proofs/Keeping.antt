@@ -1,8 +1,6 @@
 -- The marks of carriers stay those of the log.
 use Rattle.std.proofs.Common.{◌≡◌, ℕ, ◌+◌, ◌<◌, ◌≤◌, Bool, true, false, if◌then◌else◌, List, [], ◌∷◌, ◌++◌, length, Option, Some, None, is_some, IfSome, unwrap_or, not, nat_lt, nat_le, ◌||◌, ◌&&◌, max, refl, sym, ap, subst, ◌∙◌, arith, take, drop, get_or}
 use Rattle.std.specs.List.{find, AllByRecursion}
-use Rattle.std.specs.Map.{lookup, set_value}
-use Rattle.indexmap.specs.IndexMap.{insert_entry}
 use Rattle.std.specs.Option.{option_map}
 use Rattle.std.proofs.lemmas.Bool.{false≢true, eqb-true, eq-eqb, leb-true, le-leb, ltb-true, lt-ltb, and_parts, and_from}
 use Rattle.std.proofs.lemmas.List.{take_more}
@@ -23,7 +21,7 @@ use Rattle.commit_deps.proofs.Answering.{both_pass}
 use Rattle.commit_deps.proofs.Readers.{durable-reader, durable-union, durable-event, durable-nothing}
 
 -- ---- two carriers are one
-same-true : (a b : Carrier) → is_same a b ≡ true → a ≡ b
+pub same-true : (a b : Carrier) → is_same a b ≡ true → a ≡ b
 same-true (Proc a) (Proc b) h = ap (λ n. Proc n) (eqb-true a b h)
 same-true (File a) (File b) h = ap (λ n. File n) (eqb-true a b h)
 same-true Names Names h = refl
@@ -42,7 +40,7 @@ same-refl Pipes = refl
 same-refl Tasks = refl
 same-refl (Tape a) = eq-eqb a a refl
 
-same-sym : (a b : Carrier) → is_same a b ≡ is_same b a
+pub same-sym : (a b : Carrier) → is_same a b ≡ is_same b a
 same-sym a b = elim (is_same a b) as (λ v. is_same a b ≡ v → v ≡ is_same b a) [
   | true ↦ λ h. sym (subst (λ (x : Carrier). is_same b x ≡ true) (sym (same-true a b h)) (same-refl b))
   | false ↦ λ h. elim (is_same b a) as (λ w. is_same b a ≡ w → false ≡ w) [
@@ -57,7 +55,7 @@ abbrev pub joined_at : Bool → Option ℕ → ℕ → Option ℕ
 joined_at b o m = if b then Some (max (unwrap_or o 0) m) else o
 
 -- the first mark, where it is of that carrier or not
-cons-at : (y : Carrier) (k : Marked) (ks : List Marked) (d : Bool) → is_same k.0 y ≡ d
+pub cons-at : (y : Carrier) (k : Marked) (ks : List Marked) (d : Bool) → is_same k.0 y ≡ d
     → mark_at y (k ∷ ks) ≡ (if d then Some k.1 else mark_at y ks)
 cons-at y k ks true h = ap (λ (b : Bool). option_map (λ (j : Marked). j.1) (if b then Some k else find (λ (j : Marked). is_same j.0 y) ks)) h
 cons-at y k ks false h = ap (λ (b : Bool). option_map (λ (j : Marked). j.1) (if b then Some k else find (λ (j : Marked). is_same j.0 y) ks)) h
@@ -222,45 +220,6 @@ keeps-silent log marks e silent keeps = record {
         ∙ sym (durable-reader c log e (x ∷ []));
   };
 }
-
--- ---- one mark is written
--- where a carrier is looked up, its mark is found
-pub found-mark : (eq : Carrier → Bool) (x : Carrier) (ks : List Marked) → ((y : Carrier) → eq y ≡ is_same x y) → lookup eq ks ≡ mark_at x ks
-found-mark eq x [] same = refl
-found-mark eq x (k ∷ ks) same =
-    ap (λ (b : Bool). if b then Some k.1 else lookup eq ks) (same k.0 ∙ same-sym x k.0)
-    ∙ ap (λ (o : Option ℕ). if is_same k.0 x then Some k.1 else o) (found-mark eq x ks same)
-    ∙ sym (cons-at x k ks (is_same k.0 x) refl)
-
-set-by : (x : Carrier) (m : ℕ) (k : Marked) (ks : List Marked) (kept : ℕ) (rest : List Marked) (b : Bool) → is_same k.0 x ≡ b
-    → mark_at x (k ∷ ks) ≡ Some kept → (mark_at x ks ≡ Some kept → rest ≡ noted x m ks)
-    → (if b then (k.0, max kept m) ∷ ks else k ∷ rest) ≡ (if b then (k.0, max k.1 m) ∷ ks else k ∷ noted x m ks)
-set-by x m k ks kept rest true h is later =
-    let here : k.1 ≡ kept = (let one : Some k.1 ≡ Some kept = sym (cons-at x k ks true h) ∙ is in cc) in
-    ap (λ (n : ℕ). (k.0, max n m) ∷ ks) (sym here)
-set-by x m k ks kept rest false h is later = ap (λ (ns : List Marked). k ∷ ns) (later (sym (cons-at x k ks false h) ∙ is))
-
-last-by : (x : Carrier) (m : ℕ) (k : Marked) (ks rest : List Marked) (b : Bool) → is_same k.0 x ≡ b
-    → mark_at x (k ∷ ks) ≡ None → (mark_at x ks ≡ None → rest ≡ noted x m ks)
-    → (if b then (k.0, m) ∷ ks else k ∷ rest) ≡ (if b then (k.0, max k.1 m) ∷ ks else k ∷ noted x m ks)
-last-by x m k ks rest true h is later = let one : Some k.1 ≡ None = sym (cons-at x k ks true h) ∙ is in absurd (let no : ⊥ = cc in no)
-last-by x m k ks rest false h is later = ap (λ (ns : List Marked). k ∷ ns) (later (sym (cons-at x k ks false h) ∙ is))
-
--- a mark that is there is joined at its carrier
-pub set-found : (eq : Carrier → Bool) (x : Carrier) (m : ℕ) (ks : List Marked) (kept : ℕ) → ((y : Carrier) → eq y ≡ is_same x y) → mark_at x ks ≡ Some kept
-    → set_value eq ks (max kept m) ≡ noted x m ks
-set-found eq x m [] kept same is = absurd (let no : ⊥ = cc in no)
-set-found eq x m (k ∷ ks) kept same is =
-    ap (λ (b : Bool). if b then (k.0, max kept m) ∷ ks else k ∷ set_value eq ks (max kept m)) (same k.0 ∙ same-sym x k.0)
-    ∙ set-by x m k ks kept (set_value eq ks (max kept m)) (is_same k.0 x) refl is (λ later. set-found eq x m ks kept same later)
-
--- one that is not there comes last
-pub set-last : (eq : Carrier → Carrier → Bool) (x : Carrier) (m : ℕ) (ks : List Marked) → ((y : Carrier) → eq x y ≡ is_same x y) → mark_at x ks ≡ None
-    → insert_entry eq ks x m ≡ noted x m ks
-set-last eq x m [] same is = refl
-set-last eq x m (k ∷ ks) same is =
-    ap (λ (b : Bool). if b then (k.0, m) ∷ ks else k ∷ insert_entry eq ks x m) (same k.0 ∙ same-sym x k.0)
-    ∙ last-by x m k ks (insert_entry eq ks x m) (is_same k.0 x) refl is (λ later. set-last eq x m ks same later)
 
 -- ---- the carriers that no event wrote
 -- one, or none

@@ -6,29 +6,39 @@ ghost use Rattle.commit_deps.specs.Keeps.{mark_of_change};
 ghost use Rattle.kernel_model.specs.Entries.{Entry};
 
 use crate::mark::Mark;
-use indexmap::IndexMap;
 use kernel_model::Carrier;
 use std::alloc::{AllocError, Global};
+use std::collections::HashMap;
 use std::marker::Model;
 
 /// What is kept of the events so far: for each carrier that some event wrote, the changes with a path to a writer of it.
 pub struct Dependencies {
-    marks: IndexMap<Carrier, Mark>,
+    /// The carriers in the order in which they were first written, each with its mark.
+    marks: Vec<(Carrier, Mark)>,
+    /// Where each of them stands there.
+    places: HashMap<Carrier, usize>,
 }
 
 impl Drop for Dependencies {
     fn drop(self) {
-        let Dependencies { marks: _marks } = self;
+        let Dependencies {
+            marks: _marks,
+            places: _places,
+        } = self;
     }
 }
 
 impl Model for Dependencies {
-    ghost use Rattle.indexmap.specs.IndexMap.{spare};
+    ghost use Rattle.std.specs.Prelude.{◌-◌, min, vec_capacity, vec_len};
+    ghost use Rattle.std.specs.HashMap.{spare};
     ghost use Rattle.commit_deps.specs.Kept.{Kept};
+    ghost use Rattle.commit_deps.specs.Places.{SaysPlaces};
 
     ghost Value = { Kept };
 
-    ghost view = { λ d. record { marks = d.marks.entries; room = spare d.marks } };
+    ghost view = { λ d. record { marks = d.marks.items; room = min (vec_capacity d.marks - vec_len d.marks) (spare d.places) } };
+
+    ghost invariant = { λ d. SaysPlaces d.places.entries d.marks.items };
 }
 
 /// The mark of an event's own change, by the change's number from 0.
@@ -43,6 +53,7 @@ fn own_mark(change: Option<u64>) -> Mark
 }
 
 impl Dependencies {
+    ghost use Rattle.commit_deps.specs.Places.{place_at};
     ghost use Rattle.commit_deps.specs.Keeps.{Keeps, mark_at, is_written, greatest_mark, noted, unwritten_count};
     ghost use Rattle.commit_deps.specs.Marks.{IsMarkOf, reader, change_number};
 
@@ -51,15 +62,24 @@ impl Dependencies {
         ensures { Keeps [] result.marks }
     {
         Dependencies {
-            marks: IndexMap::new(alloc),
+            marks: Vec::new(alloc),
+            places: HashMap::new(alloc),
         }
+    }
+
+    /// Where a carrier stands among those that some event wrote.
+    fn place(&self, carrier: Carrier) -> Option<usize>
+        ensures { result ≡ place_at carrier self.now.marks }
+    {
+        self.places.get(&carrier).copied()
     }
 
     /// The mark that is kept of a carrier.
     fn kept_mark(&self, carrier: Carrier) -> Option<Mark>
         ensures { result ≡ mark_at carrier self.now.marks }
     {
-        self.marks.get(&carrier).copied()
+        let place = self.place(carrier)?;
+        Some(self.marks[place].1)
     }
 
     /// The changes on which a reader of this one carrier rests; None where no event wrote it.
@@ -97,7 +117,8 @@ impl Dependencies {
         ensures marks { self.new.marks ≡ self.old.marks }
         ensures room { self.old.room ≤ self.new.room }
     {
-        self.marks.reserve(writes)
+        self.marks.reserve(writes)?;
+        self.places.reserve(writes)
     }
 
     /// How many of these carriers no event wrote: so many marks may come in.
@@ -116,10 +137,15 @@ impl Dependencies {
         ensures marks { self.new.marks ≡ noted carrier mark self.old.marks }
         ensures room { self.old.room ≤ self.new.room + unwritten_count (carrier ∷ []) self.old.marks }
     {
-        match self.marks.get_mut(&carrier) {
-            Some(kept) => *kept = kept.joined(mark),
+        match self.place(carrier) {
+            Some(place) => {
+                let kept = &mut self.marks[place].1;
+                *kept = kept.joined(mark);
+            }
             None => {
-                self.marks.insert(carrier, mark).unwrap();
+                let placed: Result<_, _> = self.places.insert(carrier, self.marks.len());
+                let _none = placed.unwrap();
+                self.marks.push_reserved((carrier, mark));
             }
         }
     }

@@ -1,50 +1,81 @@
 -- The mark is joined at its carrier, or comes last.
-use Rattle.std.proofs.Common.{rules, arith, ◌≡◌, ℕ, Some, None, sym, ap, ◌∙◌}
-use Rattle.std.specs.Map.{set_value}
-use Rattle.indexmap.specs.IndexMap.{insert_entry, spare}
+use Rattle.std.proofs.Common.{rules, arith, ◌≡◌, ◌∙◌, [], ◌∷◌, length, Some, None, sym, ap, if◌then◌else◌}
+use Rattle.std.specs.Vec.{vec_len}
+use Rattle.std.specs.Map.{lookup}
+use Rattle.std.specs.HashMap.{spare}
+use Rattle.kernel_model.specs.declared.carrier.Carrier.{Carrier}
 use Rattle.kernel_model.specs.contracts.carrier.CarrierPartialEq.TheImpl as carrier
 use Rattle.commit_deps.specs.Kept.{Kept}
-use Rattle.commit_deps.specs.Keeps.{mark_at, noted}
-use Rattle.commit_deps.proofs.Keeping.{found-mark, set-found, set-last, absent-unwritten}
+use Rattle.commit_deps.specs.Keeps.{mark_at, noted, unwritten_count}
+use Rattle.commit_deps.specs.Places.{place_at}
+use Rattle.commit_deps.proofs.Keeping.{absent-unwritten}
 use Rattle.commit_deps.proofs.Same.{same-eq}
+use Rattle.commit_deps.proofs.Placing.{place-within, noted-there, places-stay, mark-nowhere, noted-last, says-more}
 use Rattle.commit_deps.proofs.dependencies.Dependencies.note_one.Goals as goal
-use Rattle.commit_deps.proofs.dependencies.Dependencies.note_one.Goals.{In-None}
+use Rattle.commit_deps.proofs.dependencies.Dependencies.note_one.Goals.{In-None, In-Some}
 
--- where nothing was found no event wrote the carrier
-absent : (c : In-None) → mark_at c.args.carrier c.args.self.now.marks ≡ None
-absent c =
-    ap (λ (k : Kept). mark_at c.args.carrier k.marks) (sym c.self.view_is)
-    ∙ sym (found-mark _ c.args.carrier c.self.inside.marks.entries (same-eq c.args.carrier))
-    ∙ sym c.get_mut.ensures.value
-    ∙ search rules
+-- where the carrier's mark stands
+there : (c : In-Some) → place_at c.args.carrier c.self.inside.marks.items ≡ Some c.in-Some.place
+there c = ap (λ (k : Kept). place_at c.args.carrier k.marks) c.self.view_is ∙ search rules
 
-pub unwrap-requires : goal.unwrap-requires
-unwrap-requires c =
-    let one = absent-unwritten c.args.carrier c.args.self.now.marks (absent (goal.at.unwrap-requires c).In-None) in
-    let room : spare c.get_mut.follows.lender-at-none ≡ c.args.self.now.room =
-    ap spare c.get_mut.follows.holds-at-none ∙ ap (λ (k : Kept). k.room) c.self.view_is in
-    c.insert.ensures.succeeds (omega (arith, one, c.requires, room))
+-- it has no mark
+nowhere : (c : In-None) → place_at c.args.carrier c.self.inside.marks.items ≡ None
+nowhere c = ap (λ (k : Kept). place_at c.args.carrier k.marks) c.self.view_is ∙ search rules
+
+-- so there is room for one
+one_more : (c : In-None) → unwritten_count (c.args.carrier ∷ []) c.args.self.now.marks ≡ 1
+one_more c =
+    absent-unwritten c.args.carrier c.args.self.now.marks
+    (ap (λ (k : Kept). mark_at c.args.carrier k.marks) (sym c.self.view_is) ∙ mark-nowhere c.args.carrier c.self.inside.marks.items (nowhere c))
+
+pub index_mut-requires : goal.index_mut-requires
+index_mut-requires c =
+    let within = place-within c.args.carrier c.self.inside.marks.items c.in-Some.place (there (goal.at.index_mut-requires c).In-Some) in
+    let size : vec_len c.self.inside.marks ≡ length c.self.inside.marks.items = search rules in
+    omega (arith, within, size)
+
+pub invariant_of-self : goal.invariant_of-self
+invariant_of-self c x =
+    let at = there (goal.at.invariant_of-self c).In-Some in
+    c.self.invariant x
+    ∙ sym (ap (place_at x) (noted-there c.args.carrier c.args.mark c.self.inside.marks.items c.in-Some.place c.index_mut.result.now c.joined.result at c.index_mut.ensures.value c.joined.ensures)
+    ∙ places-stay c.args.carrier x c.args.mark c.self.inside.marks.items c.in-Some.place at)
 
 pub returns-in-Some-clause-marks : goal.returns-in-Some-clause-marks
 returns-in-Some-clause-marks c =
-    let there : mark_at c.args.carrier c.self.inside.marks.entries ≡ Some c.in-Some.kept.now =
-    sym (found-mark _ c.args.carrier c.self.inside.marks.entries (same-eq c.args.carrier)) ∙ sym c.get_mut.ensures.value ∙ search rules in
-    (c.get_mut.follows.holds c.joined.result).0
-    ∙ ap (λ (n : ℕ). set_value (carrier.ghosts.eq c.args.carrier) c.self.inside.marks.entries n) c.joined.ensures
-    ∙ set-found _ c.args.carrier c.args.mark c.self.inside.marks.entries c.in-Some.kept.now (same-eq c.args.carrier) there
+    noted-there c.args.carrier c.args.mark c.self.inside.marks.items c.in-Some.place c.index_mut.result.now c.joined.result
+    (there (goal.at.returns-in-Some-clause-marks c).In-Some) c.index_mut.ensures.value c.joined.ensures
     ∙ ap (λ (k : Kept). noted c.args.carrier c.args.mark k.marks) c.self.view_is
+
+pub unwrap-none-requires : goal.unwrap-none-requires
+unwrap-none-requires c =
+    let one = one_more (goal.at.unwrap-none-requires c).In-None in
+    let room = ap (λ (k : Kept). k.room) c.self.view_is in
+    c.insert-placed.ensures.succeeds (omega (arith, one, c.requires, room))
+
+pub push_reserved-requires : goal.push_reserved-requires
+push_reserved-requires c =
+    let one = one_more (goal.at.push_reserved-requires c).In-None in
+    let room = ap (λ (k : Kept). k.room) c.self.view_is in
+    omega (arith, one, c.requires, room)
+
+pub invariant_of-self-in-None : goal.invariant_of-self-in-None
+invariant_of-self-in-None c x =
+    let more : (y : Carrier) → lookup (carrier.ghosts.eq y) c.insert-placed.new.self.entries
+    ≡ (if carrier.ghosts.eq c.args.carrier y then Some c.len.result else lookup (carrier.ghosts.eq y) c.self.inside.places.entries) = search rules in
+    let last : c.len.result ≡ length c.self.inside.marks.items = search rules in
+    says-more carrier.ghosts.eq c.self.inside.places.entries c.insert-placed.new.self.entries c.self.inside.marks.items c.args.carrier c.args.mark c.len.result same-eq
+    c.self.invariant (nowhere (goal.at.invariant_of-self-in-None c).In-None) last more x
+    ∙ ap (place_at x) (sym c.push_reserved.ensures.items)
 
 pub returns-in-None-clause-marks : goal.returns-in-None-clause-marks
 returns-in-None-clause-marks c =
-    let placed : c.insert.new.self.entries ≡ insert_entry carrier.ghosts.eq c.get_mut.follows.lender-at-none.entries c.args.carrier c.args.mark = search rules in
-    placed
-    ∙ ap (λ ks. insert_entry carrier.ghosts.eq ks.entries c.args.carrier c.args.mark) c.get_mut.follows.holds-at-none
-    ∙ ap (λ (k : Kept). insert_entry carrier.ghosts.eq k.marks c.args.carrier c.args.mark) c.self.view_is
-    ∙ set-last carrier.ghosts.eq c.args.carrier c.args.mark c.args.self.now.marks (same-eq c.args.carrier) (absent (goal.at.returns-in-None-clause-marks c).In-None)
+    c.push_reserved.ensures.items
+    ∙ noted-last c.args.carrier c.args.mark c.self.inside.marks.items (nowhere (goal.at.returns-in-None-clause-marks c).In-None)
+    ∙ ap (λ (k : Kept). noted c.args.carrier c.args.mark k.marks) c.self.view_is
 
 pub returns-in-None-clause-room : goal.returns-in-None-clause-room
 returns-in-None-clause-room c =
-    let one = absent-unwritten c.args.carrier c.args.self.now.marks (absent (goal.at.returns-in-None-clause-room c).In-None) in
-    let room : spare c.get_mut.follows.lender-at-none ≡ c.args.self.now.room =
-    ap spare c.get_mut.follows.holds-at-none ∙ ap (λ (k : Kept). k.room) c.self.view_is in
-    omega (arith, one, room, c.insert.ensures.spare)
+    let one = one_more (goal.at.returns-in-None-clause-room c).In-None in
+    let room = ap (λ (k : Kept). k.room) c.self.view_is in
+    omega (arith, one, room, c.push_reserved.ensures.len, c.push_reserved.ensures.capacity, c.insert-placed.ensures.spare)
