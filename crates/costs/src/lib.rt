@@ -1,10 +1,9 @@
-//! What a loan, a call, a commit and workers cost, as ratios of two times of one run.
+//! What a loan, a call, a commit and a recovery cost, as ratios of two times of one run.
 #![tactic(auto)]
 
 mod commits;
 mod loans;
 mod reports;
-mod workers;
 mod writes;
 
-pub use reports::{measure, usage};
+pub use reports::{commit_lines, loan_lines, usage, write_lines};

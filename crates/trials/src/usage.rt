@@ -1,5 +1,6 @@
 //! The words that there are.
-use std::alloc::{AllocError, Global};
+use anyhow::Error;
+use std::alloc::Global;
 
 /// The words whose trials are compared with what is wanted, and `help`.
 const COMPARED: &str = "NAME.calls: the cases of this file, of programs that call the kernel
@@ -18,6 +19,11 @@ random-programs: random programs at many limits
 help: these lines";
 
 /// A line for each word.
-pub fn lines(alloc: Global) -> Result<String, AllocError> {
-    format!(in alloc; "{COMPARED}\n{}", costs::usage(alloc)?)
+pub fn lines(alloc: Global) -> Result<String, Error> {
+    let lines = format!(in alloc;
+        "{COMPARED}\n{}\n{}",
+        costs::usage(alloc)?,
+        worker_costs::USAGE
+    )?;
+    Ok(lines)
 }
