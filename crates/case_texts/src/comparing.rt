@@ -1,25 +1,25 @@
 //! What came beside what was wanted.
-use anyhow::{Error, bail};
+use anyhow::{Error, anyhow, bail};
 
-/// A line that came, where it is another than the one that was wanted.
-fn compare_line(came: &str, wanted: &str) -> Result<(), Error> {
-    if came == wanted {
-        Ok(())
-    } else {
-        bail!("wanted '{wanted}', came '{came}'")
+/// How a text differs from the one that was wanted: by the first line that is another one.
+fn difference(came: &str, wanted: &str) -> Error {
+    let mut lines = came.lines();
+    for line in wanted.lines() {
+        let came = lines.next().unwrap_or("");
+        if came != line {
+            return anyhow!("wanted '{line}', came '{came}'");
+        }
     }
+    Error::msg("the lines came, and more of them or other ends than were wanted")
 }
 
 /// Refused with the first line that differs.
 pub fn compare(came: &str, wanted: &str) -> Result<(), Error> {
     if came == wanted {
-        return Ok(());
+        Ok(())
+    } else {
+        Err(difference(came, wanted))
     }
-    let mut lines = came.lines();
-    for line in wanted.lines() {
-        compare_line(lines.next().unwrap_or(""), line)?;
-    }
-    bail!("the lines came, and more of them or other ends than were wanted")
 }
 
 /// Refused where a status came that is not the one that is wanted.

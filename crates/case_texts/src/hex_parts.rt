@@ -1,4 +1,5 @@
 //! Bytes in hexadecimal, in parts: `41+00*3` stands for 41 and three zeros.
+use crate::lines::push_texts;
 use anyhow::Error;
 use std::alloc::AllocError;
 
@@ -27,9 +28,9 @@ pub fn push_parts(out: &mut String, parts: &str) -> Result<(), Error> {
     Ok(())
 }
 
-/// Adds a line of a text and the digits of parts.
-pub fn push_parts_line(out: &mut String, text: &str, parts: &str) -> Result<(), Error> {
-    write!(out, "{text} ")?;
+/// Adds a line of texts and the digits of parts.
+pub fn push_parts_line(out: &mut String, texts: &[&str], parts: &str) -> Result<(), Error> {
+    push_texts(out, texts)?;
     push_parts(out, parts)?;
-    Ok(out.push_str("\n")?)
+    push_texts(out, &["\n"])
 }

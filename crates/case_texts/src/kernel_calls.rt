@@ -21,11 +21,11 @@
 //! What a turn prints is left out; what stands after `#` is a comment.
 use crate::comparing::{compare, compare_status};
 use crate::hex_parts::{push_parts_line, repeated};
-use crate::lines::{after_title, push_line, refused, words_of};
-use crate::notation::{Form, Program, Replies, image_of_rights, push_program};
+use crate::lines::{after_title, push_line, push_texts, refused, words_of};
+use crate::notation::{Form, Program, Replies, fill_image, push_listed_trace, push_program};
 use crate::ran::Ran;
 use anyhow::Error;
-use std::alloc::{AllocError, Global};
+use std::alloc::Global;
 
 /// The name of the file in which the program of a line `image T` stands.
 pub const IMAGE_NAME: &str = "rights";
@@ -56,10 +56,7 @@ impl CallsCase {
     pub fn read(alloc: Global, text: &str) -> Result<CallsCase, Error> {
         let mut case = CallsCase::new(alloc);
         for line in after_title(text).lines() {
-            let line = bare(line);
-            if !line.is_empty() {
-                case.read_line(alloc, line)?;
-            }
+            case.read_line(alloc, bare(line))?;
         }
         Ok(case)
     }
@@ -76,7 +73,7 @@ impl CallsCase {
 
     /// Compares what the script's run printed with what is wanted.
     pub fn compare(&self, alloc: Global, ran: &Ran) -> Result<(), Error> {
-        let printed = without_turns(alloc, ran.out.as_slice())?;
+        let printed = without_turns(alloc, str::from_utf8(ran.out.as_slice())?)?;
         compare(printed.as_str(), self.printed.as_str())?;
         compare_status(ran.status, 0)
     }
@@ -93,9 +90,12 @@ impl CallsCase {
     }
 
     /// Sets up a program of these words that stands in a file.
-    fn set_up_image(&mut self, alloc: Global, terminal: &str, words: &[u32]) -> Result<(), Error> {
-        self.file = image_of_rights(alloc, words)?;
-        Ok(writeln!(self.script, "image {terminal} {IMAGE_NAME}")?)
+    fn set_up_image(&mut self, terminal: &str, words: &[u32]) -> Result<(), Error> {
+        fill_image(&mut self.file, words)?;
+        push_texts(
+            &mut self.script,
+            &["image ", terminal, " ", IMAGE_NAME, "\n"],
+        )
     }
 
     /// Sets up a program, in its form.
@@ -103,8 +103,8 @@ impl CallsCase {
         let words = program.assemble_words(alloc)?;
         let terminal = program.terminal.as_str();
         match program.form {
-            Form::Words => Ok(push_program(&mut self.script, terminal, words.as_slice())?),
-            Form::Image => self.set_up_image(alloc, terminal, words.as_slice()),
+            Form::Words => push_program(&mut self.script, terminal, words.as_slice()),
+            Form::Image => self.set_up_image(terminal, words.as_slice()),
         }
     }
 
@@ -126,16 +126,14 @@ impl CallsCase {
         Ok(())
     }
 
-    /// The line `trace P`.
-    fn trace(&mut self, alloc: Global, line: &str, pid: &str, wanted: &str) -> Result<(), Error> {
-        push_line(&mut self.script, line)?;
-        push_trace(
-            alloc,
-            self.programs.as_slice(),
-            &mut self.printed,
-            pid,
-            wanted,
-        )
+    /// Adds what the trace of a process prints.
+    fn trace(&mut self, alloc: Global, pid: &str, wanted: &str) -> Result<(), Error> {
+        match wanted {
+            "replies" => {
+                replies_of(self.programs.as_slice(), pid)?.push_trace(&mut self.printed, pid)
+            }
+            list => push_listed_trace(alloc, &mut self.printed, pid, list),
+        }
     }
 
     /// Does a line of these words that has what is wanted beside it.
@@ -147,16 +145,16 @@ impl CallsCase {
         wanted: &str,
     ) -> Result<(), Error> {
         match words {
-            ["trace", pid] => self.trace(alloc, line, pid, wanted),
-            [pid] if pid.parse::<u32>().is_ok() => self.enters(pid, wanted),
-            _ => push_script_line(&mut self.script, &mut self.printed, line, words, wanted),
+            ["files"] => return push_files(&mut self.script, &mut self.printed, wanted),
+            ["commit"] => return push_commit(&mut self.script, &mut self.printed, wanted),
+            [pid] if pid.parse::<u32>().is_ok() => return self.enters(pid, wanted),
+            _ => push_line(&mut self.script, line)?,
         }
-    }
-
-    /// Does a line that has what is wanted beside it.
-    fn wanted(&mut self, alloc: Global, line: &str, wanted: &str) -> Result<(), Error> {
-        let words = words_of(alloc, line)?;
-        self.do_words(alloc, line, words.as_slice(), wanted)
+        match words {
+            ["trace", pid] => self.trace(alloc, pid, wanted),
+            ["shown", _] => push_parts_line(&mut self.printed, &[line, " "], wanted),
+            _ => push_line(&mut self.printed, wanted),
+        }
     }
 
     /// Begins to read a program's source.
@@ -177,28 +175,27 @@ impl CallsCase {
     /// Reads a line of these words that sets up.
     fn read_words(&mut self, alloc: Global, line: &str, words: &[&str]) -> Result<(), Error> {
         match words {
+            [] => Ok(()),
             ["program", terminal] => self.program(alloc, Form::Words, terminal),
             ["image", terminal] => self.program(alloc, Form::Image, terminal),
-            ["tape", number, bytes] => push_tape(&mut self.script, number, bytes),
+            ["tape", number, bytes] => {
+                push_parts_line(&mut self.script, &["tape ", number, " "], bytes)
+            }
             _ => self.read_source(alloc, line),
         }
     }
 
     /// Reads a line of the case.
     fn read_line(&mut self, alloc: Global, line: &str) -> Result<(), Error> {
-        if let Some((line, wanted)) = line.split_once(" => ") {
-            self.end_program(alloc)?;
-            return self.wanted(alloc, line, wanted);
-        }
+        let (line, wanted) = line.split_once(" => ").unwrap_or((line, ""));
         let words = words_of(alloc, line)?;
-        self.read_words(alloc, line, words.as_slice())
+        if wanted.is_empty() {
+            self.read_words(alloc, line, words.as_slice())
+        } else {
+            self.end_program(alloc)?;
+            self.do_words(alloc, line, words.as_slice(), wanted)
+        }
     }
-}
-
-/// Adds the set-up line of a tape.
-fn push_tape(script: &mut String, number: &str, bytes: &str) -> Result<(), Error> {
-    script.push_str("tape ")?;
-    push_parts_line(script, number, bytes)
 }
 
 /// The replies of the program that is this process.
@@ -226,62 +223,31 @@ fn push_enters(
     pid: &str,
     line: &str,
     times: u32,
-) -> Result<(), AllocError> {
+) -> Result<(), Error> {
     for _ in 0..times {
-        writeln!(script, "turn {pid} 1000000\nenter {pid}")?;
+        push_texts(script, &["turn ", pid, " 1000000\nenter ", pid, "\n"])?;
         push_line(printed, line)?;
     }
     Ok(())
 }
 
-/// Adds what the trace of a process prints.
-fn push_trace(
-    alloc: Global,
-    programs: &[Replies],
-    printed: &mut String,
-    pid: &str,
-    wanted: &str,
-) -> Result<(), Error> {
-    if wanted == "replies" {
-        return Ok(replies_of(programs, pid)?.push_trace(printed, pid)?);
-    }
-    let replies = Replies::of_list(alloc, wanted)?;
-    Ok(replies.push_trace(printed, pid)?)
-}
-
 /// Adds the line `commit` to a script, and what it prints.
-fn push_commit(script: &mut String, printed: &mut String, wanted: &str) -> Result<(), AllocError> {
+fn push_commit(script: &mut String, printed: &mut String, wanted: &str) -> Result<(), Error> {
     script.push_str("cut\ncomplete 65\ncomplete 64\n")?;
-    writeln!(
+    push_texts(
         printed,
-        "cut {wanted} changes 2 writes\ncompleted, 0 committed\ncompleted, {wanted} committed"
+        &[
+            "cut ",
+            wanted,
+            " changes 2 writes\ncompleted, 0 committed\ncompleted, ",
+            wanted,
+            " committed\n",
+        ],
     )
 }
 
-/// Adds a line to a script, and what it prints.
-fn push_step(
-    script: &mut String,
-    printed: &mut String,
-    line: &str,
-    wanted: &str,
-) -> Result<(), AllocError> {
-    push_line(script, line)?;
-    push_line(printed, wanted)
-}
-
-/// Adds a line `shown T` to a script, and what it prints.
-fn push_shown(
-    script: &mut String,
-    printed: &mut String,
-    line: &str,
-    wanted: &str,
-) -> Result<(), Error> {
-    push_line(script, line)?;
-    push_parts_line(printed, line, wanted)
-}
-
 /// Adds what some files print, after their number.
-fn push_listed(printed: &mut String, files: &str) -> Result<(), AllocError> {
+fn push_listed(printed: &mut String, files: &str) -> Result<(), Error> {
     let count = files.split("; ").count();
     writeln!(printed, "files {count}")?;
     for file in files.split("; ") {
@@ -291,46 +257,22 @@ fn push_listed(printed: &mut String, files: &str) -> Result<(), AllocError> {
 }
 
 /// Adds the line `files` to a script, and what it prints.
-fn push_files(script: &mut String, printed: &mut String, wanted: &str) -> Result<(), AllocError> {
-    script.push_str("files\n")?;
-    if wanted == "-" {
-        printed.push_str("files 0\n")
-    } else {
-        push_listed(printed, wanted)
+fn push_files(script: &mut String, printed: &mut String, wanted: &str) -> Result<(), Error> {
+    push_line(script, "files")?;
+    match wanted {
+        "-" => push_line(printed, "files 0"),
+        files => push_listed(printed, files),
     }
-}
-
-/// Adds a line of these words to a script, and what it prints.
-fn push_script_line(
-    script: &mut String,
-    printed: &mut String,
-    line: &str,
-    words: &[&str],
-    wanted: &str,
-) -> Result<(), Error> {
-    match words {
-        ["shown", _] => push_shown(script, printed, line, wanted),
-        ["files"] => Ok(push_files(script, printed, wanted)?),
-        ["commit"] => Ok(push_commit(script, printed, wanted)?),
-        _ => Ok(push_step(script, printed, line, wanted)?),
-    }
-}
-
-/// Adds what was printed, without what turns print.
-fn push_without_turns(kept: &mut String, out: &str) -> Result<(), AllocError> {
-    for line in out.lines() {
-        if !line.starts_with("ran ") {
-            push_line(kept, line)?;
-        }
-    }
-    Ok(())
 }
 
 /// What was printed, without what turns print.
-fn without_turns(alloc: Global, out: &[u8]) -> Result<String, Error> {
-    let out = str::from_utf8(out)?;
+fn without_turns(alloc: Global, out: &str) -> Result<String, Error> {
     let mut kept = String::new(alloc);
-    push_without_turns(&mut kept, out)?;
+    for line in out.lines() {
+        if !line.starts_with("ran ") {
+            push_line(&mut kept, line)?;
+        }
+    }
     Ok(kept)
 }
 

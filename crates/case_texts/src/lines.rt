@@ -7,10 +7,17 @@ pub fn refused(why: &str, text: &str) -> Error {
     anyhow!("{why}{text}")
 }
 
+/// Adds texts, one after the other.
+pub fn push_texts(out: &mut String, texts: &[&str]) -> Result<(), Error> {
+    for text in texts {
+        out.push_str(text)?;
+    }
+    Ok(())
+}
+
 /// Adds a line, with its end.
-pub fn push_line(out: &mut String, line: &str) -> Result<(), AllocError> {
-    out.push_str(line)?;
-    out.push_str("\n")
+pub fn push_line(out: &mut String, line: &str) -> Result<(), Error> {
+    push_texts(out, &[line, "\n"])
 }
 
 /// The lines of a case after its first, which is its title.

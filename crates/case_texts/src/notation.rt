@@ -1,9 +1,10 @@
 //! Programs that call the kernel, in the notation of `kernel_calls`: their sources, and the replies beside their calls.
 use crate::hex_parts::push_parts_line;
-use crate::lines::{push_line, refused, two_parts, words_of};
+use crate::lines::{push_line, push_texts, refused, two_parts, words_of};
 use anyhow::Error;
 use assembler::{Row, assemble};
 use std::alloc::{AllocError, Global};
+use std::str::SplitWhitespace;
 
 /// What stands after each program's text, in pages that may be read and executed, and not written: the names `f`, `g` and
 /// `h`, pairs of them, letters, a name of 36 letters, and zeros.
@@ -27,25 +28,22 @@ long: .word 0x61616161,0x61616161,0x61616161,0x61616161,0x61616161,0x61616161,0x
 zeros: .space 1028
 ";
 
+/// The calls by their names, from number 1 on.
+const CALLS: &[&str] = &[
+    "exit", "write", "read", "open", "close", "pipe", "fork", "wait", "getpid", "seek", "sync",
+    "unlink", "rename",
+];
+
 /// The number of a call, by its name or as it stands.
 fn call_number(word: &str) -> Option<u32> {
-    let number = match word {
-        "exit" => 1,
-        "write" => 2,
-        "read" => 3,
-        "open" => 4,
-        "close" => 5,
-        "pipe" => 6,
-        "fork" => 7,
-        "wait" => 8,
-        "getpid" => 9,
-        "seek" => 10,
-        "sync" => 11,
-        "unlink" => 12,
-        "rename" => 13,
-        digits => return digits.parse::<u32>().ok(),
-    };
-    Some(number)
+    let mut number = 0u32;
+    for name in CALLS {
+        number = number.wrapping_add(1);
+        if *name == word {
+            return Some(number);
+        }
+    }
+    word.parse::<u32>().ok()
 }
 
 /// The instruction that loads an argument, and its operand.
@@ -59,55 +57,51 @@ fn loading(word: &str) -> (&str, &str) {
     }
 }
 
-/// Adds the instruction that loads a call's argument of this number, from 0.
-fn push_argument(source: &mut String, number: usize, word: &str) -> Result<(), AllocError> {
+/// Adds the instruction that loads a call's argument into this register.
+fn push_argument(source: &mut String, register: &str, word: &str) -> Result<(), Error> {
     let (mnemonic, operand) = loading(word);
-    writeln!(source, "{mnemonic} a{number},{operand}")
+    push_texts(source, &[mnemonic, " ", register, ",", operand, "\n"])
 }
+
+/// The registers of a call's arguments.
+const REGISTERS: &[&str] = &["a0", "a1", "a2"];
 
 /// Adds the instructions of a call, which load its arguments, at most three.
-fn push_call(source: &mut String, call: u32, arguments: &[&str]) -> Result<(), AllocError> {
-    for number in 0..3usize {
-        if let Some(word) = arguments.get(number) {
-            push_argument(source, number, word)?;
+fn push_call(
+    source: &mut String,
+    call: u32,
+    arguments: &mut SplitWhitespace<'_>,
+) -> Result<(), Error> {
+    for register in REGISTERS {
+        if let Some(word) = arguments.next() {
+            push_argument(source, register, word)?;
         }
     }
-    writeln!(source, "li a7,{call}\necall")
+    Ok(writeln!(source, "li a7,{call}\necall")?)
 }
 
-/// Adds a statement with these words: a call by its name or number, or a line of the source as it stands.
-fn push_words(source: &mut String, statement: &str, words: &[&str]) -> Result<(), AllocError> {
-    let Some((first, arguments)) = words.split_first() else {
-        return Ok(());
-    };
-    match call_number(first) {
-        Some(call) => push_call(source, call, arguments),
+/// Adds a statement: a call by its name or number, or a line of the source as it stands.
+fn push_statement(source: &mut String, statement: &str) -> Result<(), Error> {
+    let mut words = statement.split_whitespace();
+    match call_number(words.next().unwrap_or("")) {
+        Some(call) => push_call(source, call, &mut words),
         None => push_line(source, statement),
     }
 }
 
-/// Adds a statement.
-fn push_statement(alloc: Global, source: &mut String, statement: &str) -> Result<(), AllocError> {
-    let words = words_of(alloc, statement)?;
-    push_words(source, statement, words.as_slice())
-}
-
-/// Adds a decimal number, in hexadecimal.
-fn push_number(out: &mut String, number: &str) -> Result<(), Error> {
+/// Adds a decimal number, in hexadecimal, and a text.
+fn push_number(out: &mut String, number: &str, text: &str) -> Result<(), Error> {
     let number = number.parse::<i32>()?;
-    Ok(write!(out, "{number:08x} ")?)
+    Ok(write!(out, "{number:08x} {text}")?)
 }
 
 /// Adds the line that prints of a reply, by the words of its text.
 fn push_reply(out: &mut String, reply: &str, words: &[&str]) -> Result<(), Error> {
     match words {
-        [a0] => {
-            push_number(out, a0)?;
-            Ok(out.push_str("-\n")?)
-        }
+        [a0] => push_number(out, a0, "-\n"),
         [a0, "at", at, parts] => {
-            push_number(out, a0)?;
-            push_parts_line(out, at, parts)
+            push_number(out, a0, at)?;
+            push_parts_line(out, &[" "], parts)
         }
         _ => Err(refused("no reply: ", reply)),
     }
@@ -142,15 +136,6 @@ impl Replies {
         push_reply(&mut self.printed, reply, words.as_slice())
     }
 
-    /// The replies of a list, which is `-` where there are none.
-    pub fn of_list(alloc: Global, list: &str) -> Result<Replies, Error> {
-        let mut replies = Replies::none(alloc);
-        if list != "-" {
-            replies.push_list(alloc, list)?;
-        }
-        Ok(replies)
-    }
-
     /// Adds replies that are parted by `;`.
     fn push_list(&mut self, alloc: Global, replies: &str) -> Result<(), Error> {
         for reply in replies.split(';') {
@@ -169,71 +154,77 @@ impl Replies {
     }
 
     /// Adds the replies from one number to another.
-    fn push_range(&mut self, alloc: Global, first: u32, last: u32) -> Result<(), Error> {
+    fn push_range(&mut self, first: u32, last: u32) -> Result<(), Error> {
         for number in first..=last {
-            let reply = format!(in alloc; "{number}")?;
-            self.push(alloc, reply.as_str())?;
+            self.count = self.count.saturating_add(1);
+            writeln!(self.printed, "{number:08x} -")?;
         }
         Ok(())
     }
 
     /// Adds the replies from one number to another, as `N M` says.
-    fn push_numbers(&mut self, alloc: Global, range: &str) -> Result<(), Error> {
+    fn push_numbers(&mut self, range: &str) -> Result<(), Error> {
         let (first, last) = two_parts(range, " ", "no numbers: ")?;
-        self.push_range(alloc, first.parse::<u32>()?, last.parse::<u32>()?)
+        self.push_range(first.parse::<u32>()?, last.parse::<u32>()?)
     }
 
     /// Adds what a trace of them prints.
-    pub fn push_trace(&self, out: &mut String, pid: &str) -> Result<(), AllocError> {
+    pub fn push_trace(&self, out: &mut String, pid: &str) -> Result<(), Error> {
         let count = self.count;
         let lines = self.printed.as_str();
-        write!(out, "trace {pid} {count} replies\n{lines}")
+        Ok(write!(out, "trace {pid} {count} replies\n{lines}")?)
     }
 }
 
+/// Adds what a trace of the replies of a list prints; the list is `-` where there are none.
+pub fn push_listed_trace(
+    alloc: Global,
+    out: &mut String,
+    pid: &str,
+    list: &str,
+) -> Result<(), Error> {
+    let mut replies = Replies::none(alloc);
+    if list != "-" {
+        replies.push_list(alloc, list)?;
+    }
+    replies.push_trace(out, pid)
+}
+
 /// Adds the bytes of words.
-fn push_word_bytes(file: &mut Vec<u8>, words: &[u32]) -> Result<(), AllocError> {
+fn push_word_bytes(file: &mut Vec<u8>, words: &[u32]) -> Result<(), Error> {
     for word in words {
         file.extend_from_slice(&word.to_le_bytes())?;
     }
     Ok(())
 }
 
-/// Adds the program header of a segment, with its sizes in the file and in memory.
-fn push_segment(
-    file: &mut Vec<u8>,
-    address: u32,
-    [in_file, in_memory]: [u32; 2],
-    rights: u32,
-) -> Result<(), AllocError> {
-    let header = [1, 4096, address, address, in_file, in_memory, rights, 4096];
-    push_word_bytes(file, &header)
-}
+/// The header of an image's file with four segments, whose program headers stand after it.
+const IMAGE_HEADER: &[u32] = &[
+    0x464C457F, 0x00010101, 0, 0, 0x00F30002, 1, 0x10000, 52, 0, 0, 0x00200034, 4, 0,
+];
 
 /// Adds the program headers of an image whose text has this size.
-fn push_segments(file: &mut Vec<u8>, size: u32) -> Result<(), AllocError> {
-    push_segment(file, 0x10000, [size, size], 5)?;
-    push_segment(file, 0x20000, [0, 4096], 4)?;
-    push_segment(file, 0x30000, [0, 4096], 2)?;
-    push_segment(file, 0x40000, [0, 4096], 1)
+fn push_segments(file: &mut Vec<u8>, size: u32) -> Result<(), Error> {
+    let headers = [
+        [1, 4096, 0x10000, 0x10000, size, size, 5, 4096],
+        [1, 4096, 0x20000, 0x20000, 0, 4096, 4, 4096],
+        [1, 4096, 0x30000, 0x30000, 0, 4096, 2, 4096],
+        [1, 4096, 0x40000, 0x40000, 0, 4096, 1, 4096],
+    ];
+    for header in &headers {
+        push_word_bytes(file, header)?;
+    }
+    Ok(())
 }
 
-/// Adds the program headers of an image, and the page of its text.
-fn push_image(file: &mut Vec<u8>, words: &[u32]) -> Result<(), Error> {
+/// Fills the file of an image: a program's text, a page that may be read alone, at 0x00020000, one that may be written
+/// alone, at 0x00030000, and one that may be executed alone, at 0x00040000.
+pub fn fill_image(file: &mut Vec<u8>, words: &[u32]) -> Result<(), Error> {
+    file.clear();
+    push_word_bytes(file, IMAGE_HEADER)?;
     push_segments(file, u32::try_from(words.len())?.saturating_mul(4))?;
     file.resize(4096, 0)?;
-    Ok(push_word_bytes(file, words)?)
-}
-
-/// The file of an image: a program's text, a page that may be read alone, at 0x00020000, one that may be written alone,
-/// at 0x00030000, and one that may be executed alone, at 0x00040000.
-pub fn image_of_rights(alloc: Global, words: &[u32]) -> Result<Vec<u8>, Error> {
-    let mut file = hex::decode(
-        alloc,
-        "7f454c460101010000000000000000000200f3000100000000000100340000000000000000000000340020000400000000000000",
-    )?;
-    push_image(&mut file, words)?;
-    Ok(file)
+    push_word_bytes(file, words)
 }
 
 /// How a program is set up.
@@ -273,38 +264,6 @@ fn listed_words(alloc: Global, rows: &[Row]) -> Result<Vec<u32>, AllocError> {
     Ok(words)
 }
 
-/// Reads a line of a source: a statement, and the reply beside it, if there is one.
-fn read_statement(
-    alloc: Global,
-    source: &mut String,
-    replies: &mut Replies,
-    line: &str,
-) -> Result<(), Error> {
-    match line.split_once(" = ") {
-        Some((statement, reply)) => {
-            push_statement(alloc, source, statement)?;
-            replies.push(alloc, reply)
-        }
-        None => Ok(push_statement(alloc, source, line)?),
-    }
-}
-
-/// Reads a line of a source.
-fn read_source(
-    alloc: Global,
-    source: &mut String,
-    replies: &mut Replies,
-    line: &str,
-) -> Result<(), Error> {
-    if let Some(list) = line.strip_prefix("each ") {
-        replies.push_times(alloc, list)
-    } else if let Some(range) = line.strip_prefix("numbers ") {
-        replies.push_numbers(alloc, range)
-    } else {
-        read_statement(alloc, source, replies, line)
-    }
-}
-
 impl Program {
     /// A program without a line of its source as yet.
     pub fn new(alloc: Global, form: Form, terminal: &str) -> Result<Program, AllocError> {
@@ -316,9 +275,26 @@ impl Program {
         })
     }
 
+    /// Reads a line of the source: a statement, and the reply beside it, if there is one.
+    fn read_statement(&mut self, alloc: Global, line: &str) -> Result<(), Error> {
+        match line.split_once(" = ") {
+            Some((statement, reply)) => {
+                push_statement(&mut self.source, statement)?;
+                self.replies.push(alloc, reply)
+            }
+            None => push_statement(&mut self.source, line),
+        }
+    }
+
     /// Reads a line of the source.
     pub fn read(&mut self, alloc: Global, line: &str) -> Result<(), Error> {
-        read_source(alloc, &mut self.source, &mut self.replies, line)
+        if let Some(list) = line.strip_prefix("each ") {
+            self.replies.push_times(alloc, list)
+        } else if let Some(range) = line.strip_prefix("numbers ") {
+            self.replies.push_numbers(range)
+        } else {
+            self.read_statement(alloc, line)
+        }
     }
 
     /// The replies beside its calls.
@@ -341,10 +317,10 @@ impl Program {
 }
 
 /// Adds the set-up line of a program.
-pub fn push_program(script: &mut String, terminal: &str, words: &[u32]) -> Result<(), AllocError> {
-    write!(script, "program {terminal}")?;
+pub fn push_program(script: &mut String, terminal: &str, words: &[u32]) -> Result<(), Error> {
+    push_texts(script, &["program ", terminal])?;
     for word in words {
         write!(script, " {word:08x}")?;
     }
-    script.push_str("\n")
+    push_texts(script, &["\n"])
 }

@@ -18,26 +18,25 @@ use crate::ran::Ran;
 use anyhow::{Error, bail};
 use std::alloc::{AllocError, Global};
 
+/// What stands after a backslash, with the byte for which it does.
+const ESCAPES: &[(&str, u8)] = &[("t", b'\t'), ("r", b'\r'), ("s", b' '), ("xff", 0xFF)];
+
 /// Adds what stands after a backslash: a byte that a line does not show, and a text.
 fn push_escaped(input: &mut Vec<u8>, text: &str) -> Result<(), Error> {
-    let (byte, rest) = match text.as_bytes() {
-        [b't', rest @ ..] => (b'\t', rest),
-        [b'r', rest @ ..] => (b'\r', rest),
-        [b's', rest @ ..] => (b' ', rest),
-        [b'x', b'f', b'f', rest @ ..] => (0xFF, rest),
-        _ => return Err(refused("no such byte: \\", text)),
-    };
-    input.push(byte)?;
-    Ok(input.extend_from_slice(rest)?)
+    for &(mark, byte) in ESCAPES {
+        if let Some(rest) = text.strip_prefix(mark) {
+            input.push(byte)?;
+            return Ok(input.extend_from_slice(rest.as_bytes())?);
+        }
+    }
+    Err(refused("no such byte: \\", text))
 }
 
 /// Adds a text, with the bytes that it does not show.
 fn push_text(input: &mut Vec<u8>, text: &str) -> Result<(), Error> {
-    let Some((shown, rest)) = text.split_once('\\') else {
-        return Ok(input.extend_from_slice(text.as_bytes())?);
-    };
-    input.extend_from_slice(shown.as_bytes())?;
-    for escaped in rest.split('\\') {
+    let mut parts = text.split('\\');
+    input.extend_from_slice(parts.next().unwrap_or("").as_bytes())?;
+    for escaped in parts {
         push_escaped(input, escaped)?;
     }
     Ok(())
@@ -58,20 +57,19 @@ fn push_times(input: &mut Vec<u8>, line: &str) -> Result<(), Error> {
     Ok(())
 }
 
-/// One more line is wanted, but for where whatever comes is.
-fn want_line(wanted: &mut Option<String>, line: &str) -> Result<(), Error> {
-    match wanted {
-        Some(lines) => Ok(push_line(lines, line)?),
-        None => Ok(()),
-    }
-}
-
 /// Compares what a run wrote with what is wanted of it. Where that is something, and nothing came, it is refused for this reason.
-fn compare_output(came: &[u8], wanted: &Option<String>, why: &str) -> Result<(), Error> {
-    match wanted {
-        Some(wanted) => compare(str::from_utf8(came)?, wanted.as_str()),
-        None if came.is_empty() => Err(refused(why, "")),
-        None => Ok(()),
+fn compare_output(
+    came: &[u8],
+    wanted: &str,
+    something: bool,
+    why: &'static str,
+) -> Result<(), Error> {
+    if !something {
+        compare(str::from_utf8(came)?, wanted)
+    } else if came.is_empty() {
+        Err(Error::msg(why))
+    } else {
+        Ok(())
     }
 }
 
@@ -79,11 +77,15 @@ fn compare_output(came: &[u8], wanted: &Option<String>, why: &str) -> Result<(),
 pub struct Run {
     words: String,
     input: Vec<u8>,
-    /// What it prints; None: whatever it does.
-    out: Option<String>,
+    /// What it prints.
+    out: String,
+    /// Whether it may print whatever it does, but not nothing.
+    prints_something: bool,
     status: u8,
-    /// What it says on standard error; None: something.
-    err: Option<String>,
+    /// What it says on standard error.
+    err: String,
+    /// Whether it may say whatever it does, but not nothing.
+    says_something: bool,
 }
 
 impl Drop for Run {
@@ -92,8 +94,10 @@ impl Drop for Run {
             words: _words,
             input: _input,
             out: _out,
+            prints_something: _,
             status: _,
             err: _err,
+            says_something: _,
         } = self;
     }
 }
@@ -103,38 +107,38 @@ impl Run {
         Ok(Run {
             words: String::from_str(alloc, words)?,
             input: Vec::new(alloc),
-            out: Some(String::new(alloc)),
+            out: String::new(alloc),
+            prints_something: false,
             status: 0,
-            err: Some(String::new(alloc)),
+            err: String::new(alloc),
+            says_something: false,
         })
     }
 
     /// The run is to end as `STATUS TEXT` or `STATUS` says.
-    fn want_end(&mut self, alloc: Global, line: &str) -> Result<(), Error> {
-        match line.split_once(' ') {
-            Some((status, text)) => {
-                self.status = status.parse::<u8>()?;
-                self.err = Some(format!(in alloc; "{text}\n")?);
-            }
-            None => {
-                self.status = line.parse::<u8>()?;
-                self.err = None;
-            }
-        }
-        Ok(())
+    fn want_end(&mut self, line: &str) -> Result<(), Error> {
+        let (status, text) = parted(line);
+        self.status = status.parse::<u8>()?;
+        self.says_something = !line.contains(' ');
+        self.err.clear();
+        push_line(&mut self.err, text)
     }
 
     /// Reads a line that says more of the run, by its mark; answers whether it does.
-    fn read(&mut self, alloc: Global, mark: &str, text: &str) -> Result<bool, Error> {
-        match mark {
-            "<" => push_input(&mut self.input, text)?,
-            "<<" => push_times(&mut self.input, text)?,
-            ">" => want_line(&mut self.out, text)?,
-            ">*" => self.out = None,
-            "!" => self.want_end(alloc, text)?,
-            "!!" => want_line(&mut self.err, text)?,
+    fn read(&mut self, mark: &str, text: &str) -> Result<bool, Error> {
+        let read = match mark {
+            "<" => push_input(&mut self.input, text),
+            "<<" => push_times(&mut self.input, text),
+            ">" => push_line(&mut self.out, text),
+            ">*" => {
+                self.prints_something = true;
+                Ok(())
+            }
+            "!" => self.want_end(text),
+            "!!" => push_line(&mut self.err, text),
             _ => return Ok(false),
-        }
+        };
+        read?;
         Ok(true)
     }
 
@@ -158,8 +162,18 @@ impl Run {
 
     /// Compares its output, its standard error and its status.
     fn compare_all(&self, ran: &Ran) -> Result<(), Error> {
-        compare_output(&ran.out, &self.out, "nothing was printed")?;
-        compare_output(&ran.err, &self.err, "nothing was said on standard error")?;
+        compare_output(
+            &ran.out,
+            &self.out,
+            self.prints_something,
+            "nothing was printed",
+        )?;
+        compare_output(
+            &ran.err,
+            &self.err,
+            self.says_something,
+            "nothing was said on standard error",
+        )?;
         compare_status(ran.status, self.status)
     }
 }
@@ -232,9 +246,9 @@ pub enum Step {
 
 impl Step {
     /// Reads a line that says more of the step, by its mark; answers whether it does.
-    fn goes_on(&mut self, alloc: Global, mark: &str, text: &str) -> Result<bool, Error> {
+    fn goes_on(&mut self, mark: &str, text: &str) -> Result<bool, Error> {
         match self {
-            Step::Run(run) => run.read(alloc, mark, text),
+            Step::Run(run) => run.read(mark, text),
             Step::Lines(file) if mark == "|" => {
                 file.push_line(text)?;
                 Ok(true)
@@ -253,9 +267,9 @@ pub fn check_missing(is_missing: bool) -> Result<(), Error> {
     }
 }
 
-/// The run of a line `$ WORDS`.
-fn run_of(alloc: Global, line: &str) -> Result<Run, Error> {
-    Run::new(alloc, line.trim_start_matches('$').trim())
+/// The step of a line `$ WORDS`.
+fn run_step(alloc: Global, line: &str) -> Result<Step, Error> {
+    Ok(Step::Run(Run::new(alloc, line.trim_start_matches('$').trim())?))
 }
 
 /// Why a line is refused that is none of those of a case.
@@ -285,7 +299,7 @@ fn step_of_bytes(alloc: Global, mark: &str, name: &str, parts: &str) -> Result<S
 /// The step that begins with a line of these words.
 fn step_of(alloc: Global, line: &str, words: &[&str]) -> Result<Step, Error> {
     match words {
-        ["$", ..] => Ok(Step::Run(run_of(alloc, line)?)),
+        ["$", ..] => run_step(alloc, line),
         [mark, name] => step_of_name(alloc, mark, name),
         [mark, name, parts] => step_of_bytes(alloc, mark, name, parts),
         _ => Err(no_form()),
@@ -304,17 +318,17 @@ fn parted(line: &str) -> (&str, &str) {
 }
 
 /// Whether a line goes on with the last step, which then has read it.
-fn goes_on(alloc: Global, steps: &mut [Step], line: &str) -> Result<bool, Error> {
+fn goes_on(steps: &mut [Step], line: &str) -> Result<bool, Error> {
     let (mark, text) = parted(line);
     match steps.last_mut() {
-        Some(step) => step.goes_on(alloc, mark, text),
+        Some(step) => step.goes_on(mark, text),
         None => Ok(false),
     }
 }
 
 /// Reads a line of a case.
 fn read_line(alloc: Global, steps: &mut Vec<Step>, line: &str) -> Result<(), Error> {
-    if !goes_on(alloc, steps.as_mut_slice(), line)? {
+    if !goes_on(steps.as_mut_slice(), line)? {
         steps.push(begin(alloc, line)?)?;
     }
     Ok(())

@@ -2,6 +2,7 @@
 #![tactic(auto)]
 
 mod command;
+mod rows;
 mod run_options;
 
 pub use command::{Task, parse};

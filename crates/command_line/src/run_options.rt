@@ -2,9 +2,8 @@
 ghost use Rattle.std.specs.Prelude.{◌<◌, ◌≤◌, vec_len, length};
 ghost use Rattle.kernel_model.specs.World.{most_programs, terminal_count};
 
-use crate::command::{command, option};
-use clap::builder::ValueParser;
-use clap::{Arg, ArgAction, ArgMatches, Command};
+use crate::rows::{ArgumentRow, CommandRow, Form, NumberRow};
+use clap::ArgMatches;
 use kernel_model::{MOST_PROGRAMS, TERMINALS};
 use std::alloc::{AllocError, Global};
 
@@ -52,80 +51,59 @@ pub struct RunOptions<'a> {
     pub images: ImagePaths<'a>,
 }
 
-/// The option of a number in a range, and the number where it is not given.
-fn number<'a>(option: Arg<'a>, range: ValueParser<'a>, default: &'a str) -> Arg<'a> {
-    option.value_parser(range).default_value(default)
-}
-
-/// The images of a run, each of which has a terminal.
-fn images<'a>(alloc: Global) -> Arg<'a> {
-    Arg::new(alloc, "IMAGE")
-        .help("the files of 1 to 8 images, for the terminals 0, 1, ..")
-        .required(true)
-        .num_args(1..=MOST_PROGRAMS)
-        .action(ArgAction::Append)
-}
-
-/// The option of the number of workers.
-fn workers<'a>(alloc: Global) -> Arg<'a> {
-    let workers = option(alloc, "workers", "N", "how many workers there are, 1 to 16");
-    number(workers, ValueParser::unsigned(1, 16), "4")
-}
-
-/// The option of the most instructions of a loan.
-fn quantum<'a>(alloc: Global) -> Arg<'a> {
-    let quantum = option(
-        alloc,
-        "quantum",
-        "Q",
-        "the most instructions that a worker runs at a time, 1 to 1000000",
-    );
-    number(quantum, ValueParser::unsigned(1, 1_000_000), "10000")
-}
-
-/// The option of the terminal.
-fn terminal<'a>(alloc: Global) -> Arg<'a> {
-    let terminal = option(alloc, "term", "T", "the terminal that is printed, 0 to 7");
-    number(terminal, ValueParser::unsigned(0, 7), "0")
-}
-
-/// A command with the options that say how workers run.
-fn with_workers<'a>(alloc: Global, run: Command<'a>) -> Result<Command<'a>, AllocError> {
-    run.arg(workers(alloc))?.arg(quantum(alloc))
-}
-
-/// A command with the options that name files.
-fn with_files<'a>(alloc: Global, run: Command<'a>) -> Result<Command<'a>, AllocError> {
-    let disk = option(
-        alloc,
-        "disk",
-        "FILE",
-        "the disk's file, zeros if there is none; it is written at the end",
-    );
-    run.arg(disk)?.arg(option(
-        alloc,
-        "tape",
-        "FILE",
-        "what the first image's program may read",
-    ))
-}
-
-/// A command with what is run, and what is printed of it.
-fn with_images<'a>(alloc: Global, run: Command<'a>) -> Result<Command<'a>, AllocError> {
-    run.arg(terminal(alloc))?.arg(images(alloc))
-}
-
-/// The command `run`, under its whole name.
-pub fn running<'a>(alloc: Global) -> Result<Command<'a>, AllocError> {
-    let run = command(
-        alloc,
-        "run",
-        "bench run",
-        "Run images by worker threads, and print what a terminal shows",
-    )?;
-    let run = with_workers(alloc, run)?;
-    with_images(alloc, with_files(alloc, run)?)
-}
+/// The command `run`.
+pub const RUN: CommandRow = CommandRow {
+    name: "run",
+    whole: "bench run",
+    about: "Run images by worker threads, and print what a terminal shows",
+    arguments: &[
+        ArgumentRow {
+            name: "workers",
+            help: "how many workers there are, 1 to 16",
+            form: Form::Number(NumberRow {
+                value: "N",
+                least: 1,
+                most: 16,
+                default: "4",
+            }),
+        },
+        ArgumentRow {
+            name: "quantum",
+            help: "the most instructions that a worker runs at a time, 1 to 1000000",
+            form: Form::Number(NumberRow {
+                value: "Q",
+                least: 1,
+                most: 1_000_000,
+                default: "10000",
+            }),
+        },
+        ArgumentRow {
+            name: "disk",
+            help: "the disk's file, zeros if there is none; it is written at the end",
+            form: Form::Option("FILE"),
+        },
+        ArgumentRow {
+            name: "tape",
+            help: "what the first image's program may read",
+            form: Form::Option("FILE"),
+        },
+        ArgumentRow {
+            name: "term",
+            help: "the terminal that is printed, 0 to 7",
+            form: Form::Number(NumberRow {
+                value: "T",
+                least: 0,
+                most: 7,
+                default: "0",
+            }),
+        },
+        ArgumentRow {
+            name: "IMAGE",
+            help: "the files of 1 to 8 images, for the terminals 0, 1, ..",
+            form: Form::Images,
+        },
+    ],
+};
 
 /// A run's numbers. None where one is out of range.
 fn run_numbers(workers: u32, quantum: u32, terminal: u32) -> Option<RunNumbers> {

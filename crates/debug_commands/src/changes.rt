@@ -1,8 +1,8 @@
 //! What changed in memory.
-use crate::fault::SessionFault;
 use crate::writable::Words;
 use memory::Space;
 use std::io::Write;
+use std::{fmt, io};
 
 /// The most words that are printed at a stop.
 const MOST: u32 = 8;
@@ -12,36 +12,37 @@ fn byte_at(space: &Space, at: u32) -> u8 {
     space.byte(at).unwrap_or(0)
 }
 
+/// The bytes of a word, each of which prints with a blank before it.
+#[derive(Clone, Copy, PartialEq)]
+struct WordBytes([u8; 4]);
+
+impl fmt::Display for WordBytes {
+    fn fmt<W: fmt::Write>(&self, f: &mut fmt::Formatter<W>) -> fmt::Result {
+        for byte in &self.0 {
+            write!(f, " {byte:02x}")?;
+        }
+        Ok(())
+    }
+}
+
 /// The four bytes from an address on.
-fn bytes_at(space: &Space, at: u32) -> [u8; 4] {
-    [
+fn bytes_at(space: &Space, at: u32) -> WordBytes {
+    WordBytes([
         byte_at(space, at),
         byte_at(space, at.wrapping_add(1)),
         byte_at(space, at.wrapping_add(2)),
         byte_at(space, at.wrapping_add(3)),
-    ]
-}
-
-/// Prints four bytes, each with a blank before it.
-fn print_four<O: Write>(bytes: [u8; 4], out: &mut O) -> Result<(), SessionFault> {
-    for byte in bytes {
-        write!(out, " {byte:02x}")?;
-    }
-    Ok(())
+    ])
 }
 
 /// Prints a word that changed, byte by byte, with its bytes before and after.
 fn print_bytes<O: Write>(
     at: u32,
-    before: [u8; 4],
-    after: [u8; 4],
+    before: WordBytes,
+    after: WordBytes,
     out: &mut O,
-) -> Result<(), SessionFault> {
-    write!(out, "  {at:08x}:")?;
-    print_four(before, out)?;
-    out.write_all(b" ->")?;
-    print_four(after, out)?;
-    Ok(out.write_all(b"\n")?)
+) -> io::Result<()> {
+    writeln!(out, "  {at:08x}:{before} ->{after}")
 }
 
 /// Prints the words of these that changed, where fewer than eight were printed before. Answers how many changed, with those before.
@@ -51,7 +52,7 @@ fn print_changed_words<O: Write>(
     words: Words,
     mut changed: u32,
     out: &mut O,
-) -> Result<u32, SessionFault> {
+) -> io::Result<u32> {
     for word in words.first..words.end {
         let at = word.wrapping_mul(4);
         let (old, new) = (bytes_at(before, at), bytes_at(after, at));
@@ -71,7 +72,7 @@ fn print_first_words<O: Write>(
     after: &Space,
     writable: &[Words],
     out: &mut O,
-) -> Result<u32, SessionFault> {
+) -> io::Result<u32> {
     let mut changed = 0;
     for words in writable {
         changed = print_changed_words(before, after, *words, changed, out)?;
@@ -80,12 +81,13 @@ fn print_first_words<O: Write>(
 }
 
 /// Prints how many words changed beside the first eight, if there are any.
-fn print_others<O: Write>(changed: u32, out: &mut O) -> Result<(), SessionFault> {
+fn print_others<O: Write>(changed: u32, out: &mut O) -> io::Result<()> {
     if changed > MOST {
         let more = changed - MOST;
-        writeln!(out, "  and {more} words more")?;
+        writeln!(out, "  and {more} words more")
+    } else {
+        Ok(())
     }
-    Ok(())
 }
 
 /// Prints what changed in memory: the first eight words, a line each, and how many more there are.
@@ -94,7 +96,7 @@ pub fn print_changed_memory<O: Write>(
     after: &Space,
     writable: &[Words],
     out: &mut O,
-) -> Result<(), SessionFault> {
+) -> io::Result<()> {
     if before.is_same(after) {
         return Ok(());
     }

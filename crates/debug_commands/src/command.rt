@@ -77,10 +77,10 @@ fn plain(name: &str) -> Result<Command, CommandFault> {
 /// The command of this name, with the word after it.
 fn with_word(name: &str, word: &str) -> Result<Command, CommandFault> {
     match name {
-        "step" => number_of(word).map(|n| Command::Move(Motion::Step(n))),
-        "rewind" => number_of(word).map(|n| Command::Move(Motion::Rewind(n))),
-        "clear" => number_of(word).map(|n| Command::Clear(n)),
-        "break" => address_of(word).map(|at| Command::Break(at)),
+        "step" => Ok(Command::Move(Motion::Step(number_of(word)?))),
+        "rewind" => Ok(Command::Move(Motion::Rewind(number_of(word)?))),
+        "clear" => Ok(Command::Clear(number_of(word)?)),
+        "break" => Ok(Command::Break(address_of(word)?)),
         _ => Err(CommandFault::Unknown),
     }
 }

@@ -2,18 +2,15 @@
 use debugger::DebugFault;
 use std::alloc::{AllocError, AllocFailed};
 use std::io;
-use thiserror::Error;
 
 /// Why a session with the debugger ends early, or does not begin.
-#[derive(Debug, Drop, Error)]
+#[derive(Clone, Copy)]
 pub enum SessionFault {
     /// The first line of the trace that is no reply.
-    #[error("no reply at line {line} of the trace")]
     Trace { line: usize },
-    #[error("out of memory")]
+    /// Memory ran out.
     OutOfMemory,
     /// The commands could not be read, or what they give could not be written.
-    #[error("input or output failed")]
     InputOutput,
 }
 

@@ -8,13 +8,13 @@ use crate::standing::print_place;
 use crate::writable::Words;
 use debugger::{Cause, DebugFault, Debugger, MOST_INSTRUCTIONS, Machine, Stepped, Stopped};
 use std::alloc::Global;
+use std::io;
 use std::io::Write;
 
 /// Prints the trap at which the machine stands.
-fn print_trap<O: Write>(cause: Cause, out: &mut O) -> Result<(), SessionFault> {
+fn print_trap<O: Write>(cause: Cause, out: &mut O) -> io::Result<()> {
     let number = cause.number();
-    writeln!(out, "trap {number} {cause:?}")?;
-    Ok(())
+    writeln!(out, "trap {number} {cause:?}")
 }
 
 /// Prints what kept a step from being done, if anything did, and answers whether the steps go on.
@@ -23,10 +23,11 @@ fn print_step<O: Write>(
     out: &mut O,
 ) -> Result<bool, SessionFault> {
     match stepped {
-        Ok(Stepped::Went) => Ok(true),
-        Ok(Stepped::Trap(cause)) => print_trap(cause, out).map(|()| false),
-        Err(why) => print_refusal(why, out).map(|()| false),
+        Ok(Stepped::Went) => return Ok(true),
+        Ok(Stepped::Trap(cause)) => print_trap(cause, out)?,
+        Err(why) => print_refusal(why, out)?,
     }
+    Ok(false)
 }
 
 /// Does so many instructions, or fewer where the machine can go no further.
@@ -40,15 +41,19 @@ fn step<O: Write>(debugger: &mut Debugger, n: u64, out: &mut O) -> Result<(), Se
 }
 
 /// Prints why a run stopped.
-fn print_stopped<O: Write>(
-    stopped: Result<Stopped, DebugFault>,
-    out: &mut O,
-) -> Result<(), SessionFault> {
+fn print_stopped<O: Write>(stopped: Stopped, out: &mut O) -> io::Result<()> {
     match stopped {
-        Ok(Stopped::Break(number)) => Ok(writeln!(out, "break {number}")?),
-        Ok(Stopped::Trap(cause)) => print_trap(cause, out),
-        Ok(Stopped::EndOfTrace) => Ok(writeln!(out, "end of trace")?),
-        Ok(Stopped::Limit) => Ok(writeln!(out, "limit")?),
+        Stopped::Break(number) => writeln!(out, "break {number}"),
+        Stopped::Trap(cause) => print_trap(cause, out),
+        Stopped::EndOfTrace => out.write_all(b"end of trace\n"),
+        Stopped::Limit => out.write_all(b"limit\n"),
+    }
+}
+
+/// Prints why a run stopped, or why it was refused.
+fn print_run<O: Write>(run: Result<Stopped, DebugFault>, out: &mut O) -> Result<(), SessionFault> {
+    match run {
+        Ok(stopped) => Ok(print_stopped(stopped, out)?),
         Err(why) => print_refusal(why, out),
     }
 }
@@ -57,7 +62,7 @@ fn print_stopped<O: Write>(
 fn go<O: Write>(debugger: &mut Debugger, motion: Motion, out: &mut O) -> Result<(), SessionFault> {
     match motion {
         Motion::Step(n) => step(debugger, n, out),
-        Motion::Run => print_stopped(debugger.run_to_break(MOST_INSTRUCTIONS), out),
+        Motion::Run => print_run(debugger.run_to_break(MOST_INSTRUCTIONS), out),
         Motion::Rewind(n) => print_refused(debugger.rewind(n), out),
     }
 }
@@ -68,7 +73,7 @@ fn print_stop<O: Write>(
     after: &Machine,
     writable: &[Words],
     out: &mut O,
-) -> Result<(), SessionFault> {
+) -> io::Result<()> {
     print_place(after, out)?;
     print_changed_registers(before, after, out)?;
     print_changed_memory(before.space(), after.space(), writable, out)
@@ -84,5 +89,5 @@ pub fn show_motion<O: Write>(
 ) -> Result<(), SessionFault> {
     let before = debugger.state().try_clone(alloc)?;
     go(debugger, motion, out)?;
-    print_stop(&before, debugger.state(), writable, out)
+    Ok(print_stop(&before, debugger.state(), writable, out)?)
 }

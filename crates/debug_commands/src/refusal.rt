@@ -1,19 +1,20 @@
 //! What the debugger refuses.
 use crate::fault::SessionFault;
 use debugger::DebugFault;
+use std::io;
 use std::io::Write;
 
 /// Prints the number and the name of a refusal.
-fn print_numbered<O: Write>(why: DebugFault, out: &mut O) -> Result<(), SessionFault> {
+fn print_numbered<O: Write>(why: DebugFault, out: &mut O) -> io::Result<()> {
     let number = why.number();
-    Ok(writeln!(out, "refused {number} {why}")?)
+    writeln!(out, "refused {number} {why}")
 }
 
 /// Prints a refusal; want of memory ends the session.
 pub fn print_refusal<O: Write>(why: DebugFault, out: &mut O) -> Result<(), SessionFault> {
     match why {
         DebugFault::OutOfMemory => Err(SessionFault::OutOfMemory),
-        why => print_numbered(why, out),
+        why => Ok(print_numbered(why, out)?),
     }
 }
 

@@ -3,22 +3,19 @@ use crate::fault::SessionFault;
 use debugger::Machine;
 use formats::Reg;
 use std::alloc::Global;
+use std::io;
 use std::io::Write;
 
 /// How many registers there are.
 const REGISTERS: u8 = 32;
 
 /// Prints a register that changed, with the value before and the value after.
-fn print_changed<O: Write>(
-    register: Reg,
-    before: u32,
-    after: u32,
-    out: &mut O,
-) -> Result<(), SessionFault> {
-    if before != after {
-        writeln!(out, "  {register} {before:08x} -> {after:08x}")?;
+fn print_changed<O: Write>(register: Reg, before: u32, after: u32, out: &mut O) -> io::Result<()> {
+    if before == after {
+        Ok(())
+    } else {
+        writeln!(out, "  {register} {before:08x} -> {after:08x}")
     }
-    Ok(())
 }
 
 /// Prints the registers that changed, a line each.
@@ -26,7 +23,7 @@ pub fn print_changed_registers<O: Write>(
     before: &Machine,
     after: &Machine,
     out: &mut O,
-) -> Result<(), SessionFault> {
+) -> io::Result<()> {
     for number in 0..REGISTERS {
         let register = Reg::new(number);
         print_changed(register, before.reg(register), after.reg(register), out)?;
@@ -34,7 +31,12 @@ pub fn print_changed_registers<O: Write>(
     Ok(())
 }
 
-/// Prints a register's name and its value in columns, four registers a line.
+/// What stands after a register of this number, of which four stand in a line.
+fn end_of(number: u8) -> &'static str {
+    if number % 4 == 3 { "\n" } else { "  " }
+}
+
+/// Prints a register's name and its value in columns.
 fn print_column<O: Write>(
     alloc: Global,
     register: Reg,
@@ -42,13 +44,8 @@ fn print_column<O: Write>(
     out: &mut O,
 ) -> Result<(), SessionFault> {
     let name = format!(in alloc; "{register}")?;
-    let end = if register.number() % 4 == 3 {
-        "\n"
-    } else {
-        "  "
-    };
-    write!(out, "{name:<4} {value:08x}{end}")?;
-    Ok(())
+    let end = end_of(register.number());
+    Ok(write!(out, "{name:<4} {value:08x}{end}")?)
 }
 
 /// Prints all registers.

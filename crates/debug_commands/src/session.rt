@@ -8,6 +8,7 @@ use crate::standing::print_place;
 use crate::writable::{Words, writable_words};
 use debugger::{DebugFault, Debugger, Image, Machine, Reply};
 use std::alloc::Global;
+use std::io;
 use std::io::{BufRead, BufReader, Read, Write};
 
 /// Prints the number of a breakpoint that was set, or the refusal.
@@ -52,13 +53,14 @@ fn answer<O: Write>(
     command: Command,
     out: &mut O,
 ) -> Result<bool, SessionFault> {
-    match command {
-        Command::Move(motion) => show_motion(alloc, debugger, writable, motion, out)?,
-        Command::Break(at) => print_set(debugger.break_at(at), at, out)?,
-        Command::Clear(number) => print_cleared(debugger.clear(number as usize), number, out)?,
-        Command::State => print_state(alloc, debugger.state(), out)?,
+    let answered = match command {
+        Command::Move(motion) => show_motion(alloc, debugger, writable, motion, out),
+        Command::Break(at) => print_set(debugger.break_at(at), at, out),
+        Command::Clear(number) => print_cleared(debugger.clear(number as usize), number, out),
+        Command::State => print_state(alloc, debugger.state(), out),
         Command::Quit => return Ok(false),
-    }
+    };
+    answered?;
     Ok(true)
 }
 
@@ -129,6 +131,12 @@ fn answer_all<B: BufRead, O: Write>(
     Ok(())
 }
 
+/// Prints where the machine stands before the first command.
+fn print_start<O: Write>(machine: &Machine, out: &mut O) -> io::Result<()> {
+    print_place(machine, out)?;
+    out.flush()
+}
+
 /// A session with a debugger at a program's first state.
 fn serve<I: Read, O: Write>(
     alloc: Global,
@@ -137,8 +145,7 @@ fn serve<I: Read, O: Write>(
     input: &mut I,
     out: &mut O,
 ) -> Result<(), SessionFault> {
-    print_place(debugger.state(), out)?;
-    out.flush()?;
+    print_start(debugger.state(), out)?;
     let mut lines = BufReader::new(alloc, input)?;
     answer_all(alloc, debugger, writable, &mut lines, out)
 }

@@ -1,33 +1,42 @@
 //! Traces: the replies that a program's calls take.
 use crate::fault::SessionFault;
-use byte_list::Bytes;
 use line_words::{bytes_of, hexadecimal};
 use machine_model::Reply;
 use std::alloc::{AllocError, Global};
 
-/// Where a reply's bytes go, and the bytes: of `AT HEX`, or none of `-`. None where the text has no such form.
-fn stored(alloc: Global, text: &str) -> Result<Option<(u32, Bytes)>, AllocError> {
-    if text == "-" {
-        return Ok(Some((0, Bytes::empty(alloc))));
-    }
-    let Some((at, digits)) = text.split_once(' ') else {
-        return Ok(None);
+/// What a reply returns, where its bytes go, and the digits of these: of `A0 AT HEX`, or of `A0 -` for no bytes. None where a line
+/// has no such form.
+fn parts_of(line: &str) -> Option<(u32, u32, &str)> {
+    let (a0, stored) = line.split_once(' ')?;
+    let (at, digits) = match stored {
+        "-" => ("00000000", stored),
+        stored => stored.split_once(' ')?,
     };
-    match (hexadecimal(at), bytes_of(alloc, digits)?) {
-        (Some(at), Some(bytes)) => Ok(Some((at, bytes))),
-        _ => Ok(None),
-    }
+    Some((hexadecimal(a0)?, hexadecimal(at)?, digits))
 }
 
 /// The reply of a line. None where it has no form of one.
 fn reply_of(alloc: Global, line: &str) -> Result<Option<Reply>, AllocError> {
-    let Some((first, rest)) = line.split_once(' ') else {
+    let Some((a0, at, digits)) = parts_of(line) else {
         return Ok(None);
     };
-    let Some(a0) = hexadecimal(first) else {
-        return Ok(None);
-    };
-    Ok(stored(alloc, rest)?.map(|(at, bytes)| Reply { a0, at, bytes }))
+    match bytes_of(alloc, digits)? {
+        Some(bytes) => Ok(Some(Reply { a0, at, bytes })),
+        None => Ok(None),
+    }
+}
+
+/// Adds the reply of a line of this number.
+fn push_reply(
+    alloc: Global,
+    replies: &mut Vec<Reply>,
+    line: &str,
+    number: usize,
+) -> Result<(), SessionFault> {
+    match reply_of(alloc, line)? {
+        Some(reply) => Ok(replies.push(reply)?),
+        None => Err(SessionFault::Trace { line: number }),
+    }
 }
 
 /// Reads a trace: a line for each reply, `A0 -` or `A0 AT HEX`, A0 and AT of eight hexadecimal digits, HEX of pairs of them or `-`
@@ -39,10 +48,7 @@ pub fn read_trace(alloc: Global, text: &str) -> Result<Vec<Reply>, SessionFault>
     for line in text.split('\n') {
         number = number.saturating_add(1);
         if !line.is_empty() && !line.starts_with('#') {
-            match reply_of(alloc, line)? {
-                Some(reply) => replies.push(reply)?,
-                None => return Err(SessionFault::Trace { line: number }),
-            }
+            push_reply(alloc, &mut replies, line, number)?;
         }
     }
     Ok(replies)

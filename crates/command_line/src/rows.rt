@@ -1,0 +1,115 @@
+//! Commands as rows of a table: what is said of each, and the arguments that it takes.
+use clap::builder::ValueParser;
+use clap::{Arg, ArgAction, Command};
+use kernel_model::MOST_PROGRAMS;
+use std::alloc::{AllocError, Global};
+
+/// A number in a range.
+#[derive(Clone, Copy)]
+pub struct NumberRow {
+    /// The name of the value.
+    pub value: &'static str,
+    pub least: u64,
+    pub most: u64,
+    /// The number where none is given.
+    pub default: &'static str,
+}
+
+/// How an argument is given.
+#[derive(Clone, Copy)]
+pub enum Form {
+    /// By its place; it has to be there.
+    File,
+    /// By its place, 1 to 8 times.
+    Images,
+    /// As an option, once at most, whose value has this name.
+    Option(&'static str),
+    /// As an option, once at most, whose value is a number.
+    Number(NumberRow),
+}
+
+/// An argument of a command.
+pub struct ArgumentRow {
+    pub name: &'static str,
+    pub help: &'static str,
+    pub form: Form,
+}
+
+/// A command.
+pub struct CommandRow {
+    pub name: &'static str,
+    /// The name as its usage gives it.
+    pub whole: &'static str,
+    pub about: &'static str,
+    pub arguments: &'static [ArgumentRow],
+}
+
+/// The argument of a row, as one that may be given once.
+fn once<'a>(alloc: Global, row: &ArgumentRow) -> Arg<'a> {
+    Arg::new(alloc, row.name)
+        .help(row.help)
+        .action(ArgAction::Set)
+}
+
+/// An argument that is given 1 to 8 times.
+fn images<'a>(arg: Arg<'a>) -> Arg<'a> {
+    arg.required(true)
+        .num_args(1..=MOST_PROGRAMS)
+        .action(ArgAction::Append)
+}
+
+/// An option of this name.
+fn option<'a>(arg: Arg<'a>, name: &'a str, value: &'a str) -> Arg<'a> {
+    arg.long(name).value_name(value)
+}
+
+/// An option of this name whose value is a number.
+fn number<'a>(arg: Arg<'a>, name: &'a str, row: NumberRow) -> Arg<'a> {
+    option(arg, name, row.value)
+        .value_parser(ValueParser::unsigned(row.least, row.most))
+        .default_value(row.default)
+}
+
+/// The argument of a row.
+fn argument_of<'a>(alloc: Global, row: &ArgumentRow) -> Arg<'a> {
+    let arg = once(alloc, row);
+    match row.form {
+        Form::File => arg.required(true),
+        Form::Images => images(arg),
+        Form::Option(value) => option(arg, row.name, value),
+        Form::Number(range) => number(arg, row.name, range),
+    }
+}
+
+/// The arguments of rows.
+fn arguments_of<'a>(alloc: Global, rows: &[ArgumentRow]) -> Result<Vec<Arg<'a>>, AllocError> {
+    let mut arguments = Vec::new(alloc);
+    for row in rows {
+        arguments.push(argument_of(alloc, row))?;
+    }
+    Ok(arguments)
+}
+
+/// The command of a row, without its arguments.
+pub fn named<'a>(alloc: Global, row: &CommandRow) -> Result<Command<'a>, AllocError> {
+    Ok(
+        Command::new(alloc, row.name)
+            .bin_name(row.whole)?
+            .about(row.about),
+    )
+}
+
+/// The command of a row.
+pub fn command_of<'a>(alloc: Global, row: &CommandRow) -> Result<Command<'a>, AllocError> {
+    let arguments = arguments_of(alloc, row.arguments)?;
+    named(alloc, row)?.args(arguments)
+}
+
+/// The commands of rows.
+pub fn commands_of<'a>(alloc: Global, rows: &[CommandRow]) -> Result<Vec<Command<'a>>, AllocError> {
+    let mut commands = Vec::new(alloc);
+    for row in rows {
+        commands.push(command_of(alloc, row)?)?;
+    }
+    Ok(commands)
+}
