@@ -52,19 +52,16 @@ use simdisk::DiskRefusal;
 use std::alloc::Global;
 use std::fmt::Debug;
 use std::rt::Files;
-use std::{fs, mem};
+use std::{fs, io, mem};
 
-/// The word at this place, an empty one where there is none.
-fn word<'a>(words: &[&'a str], place: usize) -> &'a str {
-    match words.get(place) {
-        Some(word) => word,
-        None => "",
-    }
+/// The word at this place of a command, an empty one where there is none.
+fn word(command: &str, place: usize) -> &str {
+    command.split_whitespace().nth(place).unwrap_or("")
 }
 
-/// The number that is written as the word at this place, 0 where there is none.
-fn number(words: &[&str], place: usize) -> u32 {
-    word(words, place).parse::<u32>().unwrap_or(0)
+/// The number that is written as the word at this place of a command, 0 where there is none.
+fn number(command: &str, place: usize) -> u32 {
+    word(command, place).parse::<u32>().unwrap_or(0)
 }
 
 /// What a line comes to, as it is written.
@@ -80,34 +77,34 @@ fn digits(alloc: Global, bytes: &[u8]) -> Result<String, Error> {
     Ok(hex::encode(alloc, bytes)?)
 }
 
-/// The event that these words write.
-fn event_of(words: &[&str]) -> Result<Event, Error> {
-    let first = number(words, 1);
-    match word(words, 0) {
-        "turn" => Ok(Event::Turn {
+/// The event of this name and these numbers, if there is one.
+fn event_named(name: &str, first: u32, second: u32) -> Option<Event> {
+    match name {
+        "turn" => Some(Event::Turn {
             pid: first,
-            n: number(words, 2),
+            n: second,
         }),
-        "enter" => Ok(Event::Enter { pid: first }),
-        "cut" => Ok(Event::Cut),
-        "complete" => Ok(Event::Complete { at: first }),
-        "fail" => Ok(Event::Fail { at: first }),
-        _ => bail!("no such command"),
+        "enter" => Some(Event::Enter { pid: first }),
+        "cut" => Some(Event::Cut),
+        "complete" => Some(Event::Complete { at: first }),
+        "fail" => Some(Event::Fail { at: first }),
+        _ => None,
     }
 }
 
-/// The event that a text writes.
-fn event_in(alloc: Global, text: &str) -> Result<Event, Error> {
-    let words: Vec<&str> = text.split_whitespace().collect(alloc)?;
-    event_of(&words)
+/// The event that a command writes.
+fn event_of(command: &str) -> Result<Event, Error> {
+    match event_named(word(command, 0), number(command, 1), number(command, 2)) {
+        Some(event) => Ok(event),
+        None => bail!("no such command"),
+    }
 }
 
-/// The events that are written after the first word.
-fn events_of(alloc: Global, command: &str) -> Result<Vec<Event>, Error> {
-    let (_first, rest) = command.split_once(' ').unwrap_or((command, ""));
+/// The events that are written one after the other.
+fn events_of(alloc: Global, commands: &str) -> Result<Vec<Event>, Error> {
     let mut events = Vec::new(alloc);
-    for text in rest.split(';') {
-        events.push(event_in(alloc, text)?)?;
+    for command in commands.split(';') {
+        events.push(event_of(command)?)?;
     }
     Ok(events)
 }
@@ -118,65 +115,61 @@ fn last_events(core: &TestCore, count: usize) -> &[Event] {
     &history[history.len().saturating_sub(count)..]
 }
 
+/// What a line comes to by which a core runs a script.
+fn run_script(alloc: Global, core: &mut TestCore, command: &str) -> Result<String, Error> {
+    let events = events_of(alloc, command.strip_prefix("script").unwrap_or(""))?;
+    text(alloc, core.run_script(events.as_slice()))
+}
+
 /// What a line comes to by which a core applies events.
-fn apply(
-    alloc: Global,
-    core: &mut TestCore,
-    command: &str,
-    words: &[&str],
-) -> Result<String, Error> {
-    match word(words, 0) {
-        "script" => text(alloc, core.run_script(&events_of(alloc, command)?)),
+fn apply(alloc: Global, core: &mut TestCore, command: &str) -> Result<String, Error> {
+    match word(command, 0) {
+        "script" => run_script(alloc, core, command),
         "drain" => text(alloc, core.drain()),
-        _ => text(alloc, core.apply(event_of(words)?)),
+        _ => {
+            let event = event_of(command)?;
+            text(alloc, core.apply(event))
+        }
     }
 }
 
 /// What a line comes to by which a core runs.
-fn run(alloc: Global, core: &mut TestCore, command: &str, words: &[&str]) -> Result<String, Error> {
-    let first = number(words, 1);
-    let second = u64::from(number(words, 2));
-    match word(words, 0) {
+fn run(alloc: Global, core: &mut TestCore, command: &str) -> Result<String, Error> {
+    let first = number(command, 1);
+    match word(command, 0) {
         "until" => text(alloc, core.change_up_to(u64::from(first))),
         "commit" => text(alloc, core.commit(u64::from(first))),
-        "rounds" => text(alloc, core.rounds(alloc, first, second)),
+        "rounds" => text(
+            alloc,
+            core.rounds(alloc, first, u64::from(number(command, 2))),
+        ),
         "loans" => text(alloc, core.loans(first)),
-        _ => apply(alloc, core, command, words),
+        _ => apply(alloc, core, command),
     }
 }
 
 /// What a line comes to that looks at what a core shows; another one runs it.
-fn look_or_run(
-    alloc: Global,
-    core: &mut TestCore,
-    command: &str,
-    words: &[&str],
-) -> Result<String, Error> {
-    let first = number(words, 1);
-    match word(words, 0) {
+fn look_or_run(alloc: Global, core: &mut TestCore, command: &str) -> Result<String, Error> {
+    let first = number(command, 1);
+    match word(command, 0) {
         "in_flight" => text(alloc, core.in_flight()),
         "shown" => digits(alloc, core.shown(first)),
         "replied" => text(alloc, core.replied(alloc, first)),
         "ended" => text(alloc, core.ended(first)),
-        _ => run(alloc, core, command, words),
+        _ => run(alloc, core, command),
     }
 }
 
 /// What a line comes to that counts what a core did; another one is `look_or_run`'s.
-fn count_or_look(
-    alloc: Global,
-    core: &mut TestCore,
-    command: &str,
-    words: &[&str],
-) -> Result<String, Error> {
-    match word(words, 0) {
+fn count_or_look(alloc: Global, core: &mut TestCore, command: &str) -> Result<String, Error> {
+    match word(command, 0) {
         "history" => text(alloc, core.history()),
         "events" => text(alloc, core.history().len()),
-        "last" => text(alloc, last_events(core, number(words, 1) as usize)),
+        "last" => text(alloc, last_events(core, number(command, 1) as usize)),
         "ran" => text(alloc, core.ran()),
         "totals" => text(alloc, core.totals()),
         "counts" => text(alloc, (core.changes(), core.committed(), core.wants_cut())),
-        _ => look_or_run(alloc, core, command, words),
+        _ => look_or_run(alloc, core, command),
     }
 }
 
@@ -326,14 +319,12 @@ impl Case {
 
     /// The result of this name, which is gone then.
     fn result(&mut self, name: &str) -> Result<Done, Error> {
-        match self
-            .results
-            .iter()
-            .position(|kept| kept.name.as_str() == name)
-        {
-            Some(place) => Ok(self.results.remove(place).into_done()),
-            None => bail!("no result goes by this name"),
+        for place in 0..self.results.len() {
+            if self.results[place].name.as_str() == name {
+                return Ok(self.results.remove(place).into_done());
+            }
         }
+        bail!("no result goes by this name")
     }
 
     /// The core takes a result back: what that comes to.
@@ -382,71 +373,81 @@ impl Case {
     }
 
     /// What a line comes to that is about results of loans; another one is about the core.
-    fn lend_or_look(&mut self, command: &str, words: &[&str]) -> Result<String, Error> {
+    fn lend_or_look(&mut self, command: &str) -> Result<String, Error> {
         let alloc = self.alloc;
-        match word(words, 0) {
-            "lend" => text(alloc, self.lend(number(words, 1), word(words, 2))),
-            "settle" => self.settle(word(words, 1)),
-            _ => count_or_look(alloc, self.core()?, command, words),
+        match word(command, 0) {
+            "lend" => text(alloc, self.lend(number(command, 1), word(command, 2))),
+            "settle" => self.settle(word(command, 1)),
+            _ => count_or_look(alloc, self.core()?, command),
         }
     }
 
     /// What a line comes to that is about the disk; another one is `lend_or_look`'s.
-    fn recover_or_lend(&mut self, command: &str, words: &[&str]) -> Result<String, Error> {
+    fn recover_or_lend(&mut self, command: &str) -> Result<String, Error> {
         let alloc = self.alloc;
-        let first = number(words, 1);
-        let second = number(words, 2);
-        match word(words, 0) {
+        let first = number(command, 1);
+        let second = number(command, 2);
+        match word(command, 0) {
             "recovered" => self.recovered(),
             "boot" => self.booted(),
-            "files" => text(alloc, self.holds(word(words, 1), second)),
+            "files" => text(alloc, self.holds(word(command, 1), second)),
             "bytes" => digits(alloc, self.part(first, second)),
             "zeros" => text(alloc, self.is_zero(first, second)),
-            _ => self.lend_or_look(command, words),
+            _ => self.lend_or_look(command),
+        }
+    }
+
+    /// What a line comes to that sets up a tape or a disk, or another core; another one is `recover_or_lend`'s.
+    fn set_or_recover(&mut self, command: &str) -> Result<String, Error> {
+        let alloc = self.alloc;
+        let first = word(command, 1);
+        match word(command, 0) {
+            "tape" => text(alloc, self.tape(first)),
+            "disk" => text(
+                alloc,
+                self.set_disk(number(command, 1), number(command, 2), word(command, 3)),
+            ),
+            "other" => text(alloc, self.swap()),
+            "halt" => text(alloc, self.halt(first)),
+            _ => self.recover_or_lend(command),
         }
     }
 
     /// What a line comes to.
-    fn answer<R: Files + AllocGlobal>(
-        &mut self,
-        rt: &R,
-        command: &str,
-        words: &[&str],
-    ) -> Result<String, Error> {
+    fn answer<R: Files + AllocGlobal>(&mut self, rt: &R, command: &str) -> Result<String, Error> {
         let alloc = self.alloc;
-        let first = number(words, 1);
-        match word(words, 0) {
-            "program" => text(alloc, self.program(rt, first, word(words, 2))),
-            "tape" => text(alloc, self.tape(word(words, 1))),
-            "disk" => text(
+        match word(command, 0) {
+            "program" => text(
                 alloc,
-                self.set_disk(first, number(words, 2), word(words, 3)),
+                self.program(rt, number(command, 1), word(command, 2)),
             ),
-            "other" => text(alloc, self.swap()),
-            "halt" => text(alloc, self.halt(word(words, 1))),
-            _ => self.recover_or_lend(command, words),
+            _ => self.set_or_recover(command),
         }
     }
 
-    /// Whether a line comes to what is wanted; where it does not, it is written what it comes to.
-    fn comes_to<R: Files + AllocGlobal + Eprint>(
-        &mut self,
-        rt: &R,
-        command: &str,
-        wanted: &str,
-    ) -> Result<bool, Error> {
-        let words: Vec<&str> = command.split_whitespace().collect(self.alloc)?;
-        let answer = self.answer(rt, command, &words)?;
-        is_wanted(rt, command, wanted, answer.as_str())
+    /// Runs a line: refused where it comes to something else than what is wanted.
+    fn check<R: Files + AllocGlobal + Eprint>(&mut self, rt: &R, line: &str) -> Result<(), Error> {
+        let (command, wanted) = parts_of(line);
+        if command.is_empty() {
+            return Ok(());
+        }
+        let answer = self.answer(rt, command)?;
+        compare(rt, command, wanted, answer.as_str())
     }
 }
 
-/// Whether an answer is the one that is wanted; where it is not, it is written.
-fn is_wanted<R: Eprint>(rt: &R, command: &str, wanted: &str, answer: &str) -> Result<bool, Error> {
-    if answer != wanted {
-        eprintln!(rt; "{command} => {wanted}\nit comes to: {answer}")?;
+/// Says what a line comes to.
+fn tell<R: Eprint>(rt: &R, command: &str, wanted: &str, answer: &str) -> io::Result<()> {
+    eprintln!(rt; "{command} => {wanted}\nit comes to: {answer}")
+}
+
+/// Refuses an answer that is not the one that is wanted, and says what it is.
+fn compare<R: Eprint>(rt: &R, command: &str, wanted: &str, answer: &str) -> Result<(), Error> {
+    if answer == wanted {
+        return Ok(());
     }
-    Ok(answer == wanted)
+    tell(rt, command, wanted, answer)?;
+    bail!("a line comes to something else")
 }
 
 /// A line without its comment and the blanks round it.
@@ -457,29 +458,46 @@ fn bare(line: &str) -> &str {
     }
 }
 
-/// Runs a case: refused where one of its lines comes to something else than what is wanted.
-fn check_case<R: Files + AllocGlobal + Eprint>(rt: &R, lines: &str) -> Result<(), Error> {
+/// The command of a line, and what it has to come to.
+fn parts_of(line: &str) -> (&str, &str) {
+    let line = bare(line);
+    line.split_once(" => ").unwrap_or((line, "Ok(())"))
+}
+
+/// Runs the lines of a case: refused where one of them comes to something else than what is wanted.
+fn run_case<R: Files + AllocGlobal + Eprint>(rt: &R, lines: &str) -> Result<(), Error> {
     let mut case = Case::new(rt.alloc())?;
-    for line in lines.lines().skip(1) {
-        let (command, wanted) = bare(line)
-            .split_once(" => ")
-            .unwrap_or((bare(line), "Ok(())"));
-        if !command.is_empty() && !case.comes_to(rt, command, wanted)? {
-            bail!("a line comes to something else");
-        }
+    for line in lines.lines() {
+        case.check(rt, line)?;
     }
     Ok(())
 }
 
-/// Runs the cases of a file, and answers how many there are.
-fn check_cases<R: Files + AllocGlobal + Eprint>(rt: &R, name: &str) -> Result<usize, Error> {
-    let text = fs::read_to_string(rt, name)?;
+/// Runs a case of this file. Where it is refused, the names of the file and of the case come before the reason.
+fn check_case<R: Files + AllocGlobal + Eprint>(
+    rt: &R,
+    name: &str,
+    case: &str,
+) -> Result<(), Error> {
+    let (title, lines) = case.split_once('\n').unwrap_or((case, ""));
+    match run_case(rt, lines) {
+        Ok(()) => Ok(()),
+        Err(error) => bail!("{name}: {title}: {error}"),
+    }
+}
+
+/// Runs the cases of this file, whose text this is, and answers how many there are.
+fn check_cases<R: Files + AllocGlobal + Eprint>(
+    rt: &R,
+    name: &str,
+    text: &str,
+) -> Result<usize, Error> {
+    let Some((_comment, cases)) = text.split_once("\n== ") else {
+        return Ok(0);
+    };
     let mut count = 0usize;
-    for case in text.as_str().split("\n== ").skip(1) {
-        if let Err(error) = check_case(rt, case) {
-            let title = case.lines().next().unwrap_or("");
-            bail!("{name}: {title}: {error}");
-        }
+    for case in cases.split("\n== ") {
+        check_case(rt, name, case)?;
         count = count.saturating_add(1);
     }
     Ok(count)
@@ -488,6 +506,7 @@ fn check_cases<R: Files + AllocGlobal + Eprint>(rt: &R, name: &str) -> Result<us
 /// Runs the cases of a file, and answers a line that says how many they are. Where one comes out otherwise, standard error has
 /// what its line comes to.
 pub fn check_file<R: Files + AllocGlobal + Eprint>(rt: &R, name: &str) -> Result<String, Error> {
-    let count = check_cases(rt, name)?;
+    let text = fs::read_to_string(rt, name)?;
+    let count = check_cases(rt, name, text.as_str())?;
     Ok(format!(in rt.alloc(); "{name}: {count} cases")?)
 }

@@ -1,5 +1,5 @@
 //! The changes that programs make, from which a plain fold makes the files that they leave.
-use crate::plain_files::{PlainFile, file_named, has, make, remove, rename};
+use crate::plain_files::{PlainFile, has, make, remove, rename, write};
 use files::FileList;
 use std::alloc::{AllocError, Global};
 
@@ -100,10 +100,8 @@ impl Changer {
     /// Does the write of this number, from 0.
     fn write(self, alloc: Global, files: &mut [PlainFile], number: u32) -> Result<(), AllocError> {
         let (name, offset, last) = self.target_of(number);
-        match file_named(files, name) {
-            Some(file) => file.write(offset, &self.bytes_of(alloc, number, last)?),
-            None => Ok(()),
-        }
+        let bytes = self.bytes_of(alloc, number, last)?;
+        write(files, name, offset, bytes.as_slice())
     }
 
     /// Does the step of a round that is the change of this number, from 0.
@@ -114,19 +112,20 @@ impl Changer {
         number: u32,
     ) -> Result<(), AllocError> {
         match ROUND[number as usize % ROUND.len()] {
-            Step::Make(name) => make(alloc, files, name)?,
+            Step::Make(name) => make(alloc, files, name),
             Step::Write(name, block) => {
-                if let Some(file) = file_named(files, name) {
-                    file.write(
-                        block.saturating_mul(1024),
-                        &self.bytes_of(alloc, number, 0)?,
-                    )?;
-                }
+                let bytes = self.bytes_of(alloc, number, 0)?;
+                write(files, name, block.saturating_mul(1024), bytes.as_slice())
             }
-            Step::Remove(name) => remove(files, name),
-            Step::Rename(old, new) => rename(files, old, new),
+            Step::Remove(name) => {
+                remove(files, name);
+                Ok(())
+            }
+            Step::Rename(old, new) => {
+                rename(files, old, new);
+                Ok(())
+            }
         }
-        Ok(())
     }
 
     /// Does the change of this number, from 0: first the files are made.

@@ -30,8 +30,7 @@ impl Drop for Source {
 
 /// Programs to be booted once.
 fn programs_of(alloc: Global, sources: &[Source]) -> Result<Vec<Program>, Error>
-    ensures len { IfOk result (λ booted. length booted.items ≡ length sources.now) }
-    ensures terminals { IfOk result (λ booted. AllByRecursion (λ p. p.terminal < terminal_count) booted.items) }
+    ensures { IfOk result (λ booted. AllByRecursion (λ p. p.terminal < terminal_count) booted.items) }
 {
     let mut booted = Vec::new(alloc);
     for source in sources {
@@ -80,13 +79,15 @@ impl TestCore {
         tapes: &[Vec<u8>],
         device: &SimDisk,
     ) -> Result<Result<TestCore, BootFault>, Error> {
-        if sources.is_empty() || sources.len() > MOST_PROGRAMS || tapes.len() > TAPES {
+        let programs = programs_of(alloc, sources)?;
+        if programs.is_empty() || programs.len() > MOST_PROGRAMS || tapes.len() > TAPES {
             bail!("a core has one to eight programs, and at most eight tapes");
         }
         let device = SimDisk::open(alloc, device.bytes())?;
-        let programs = programs_of(alloc, sources)?;
-        let booted = Core::boot(alloc, device, programs, tapes_of(alloc, tapes)?);
-        Ok(booted.map(|core| TestCore { core }))
+        match Core::boot(alloc, device, programs, tapes_of(alloc, tapes)?) {
+            Ok(core) => Ok(Ok(TestCore { core })),
+            Err(fault) => Ok(Err(fault)),
+        }
     }
 
     /// A core of these programs and tapes on the completed bytes of a disk.
@@ -233,15 +234,23 @@ impl TestCore {
         Ok(writes)
     }
 
+    /// A loan for this quantum is run and taken back, where a process may be lent. Answers whether one was.
+    fn loan(&mut self, quantum: u32) -> Result<bool, Error> {
+        let Some(done) = self.burst(quantum)? else {
+            return Ok(false);
+        };
+        match self.settle(done) {
+            Ok(_answer) => Ok(true),
+            Err(_rejected) => bail!("a result is refused"),
+        }
+    }
+
     /// Loans for this quantum are run and taken back until no process is lent, at most a hundred. Answers how many there
     /// were.
     pub fn loans(&mut self, quantum: u32) -> Result<u32, Error> {
         for count in 0..100 {
-            let Some(done) = self.burst(quantum)? else {
+            if !self.loan(quantum)? {
                 return Ok(count);
-            };
-            if self.settle(done).is_err() {
-                bail!("a result is refused");
             }
         }
         bail!("there is no end of loans")

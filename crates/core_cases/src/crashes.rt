@@ -9,7 +9,7 @@ use std::fs;
 use std::rt::Files;
 
 /// The bytes that a crash leaves in the ranges of writes in flight.
-const FILLS: [&[u8]; 3] = [&[0x00], &[0x01], &[0x7F, 0xFF]];
+const FILLS: &[&[u8]] = &[&[0x00], &[0x01], &[0x7F, 0xFF]];
 
 /// How many changes groups have: the first one, and each other one.
 #[derive(Clone, Copy)]
@@ -30,9 +30,6 @@ const RENAMER: Sizes = Sizes {
     others: 13,
 };
 
-/// How many groups of the renamer crash that are records.
-const RENAMER_GROUPS: u32 = 21;
-
 /// How many changes the renamer makes until its next group makes a checkpoint: 33 groups of 63 changes, three rounds each.
 const BEFORE_CHECKPOINT: u32 = 2079;
 
@@ -41,6 +38,30 @@ const BEFORE_CHECKPOINT: u32 = 2079;
 const CHECKPOINT: Sizes = Sizes {
     first: 50,
     others: 50,
+};
+
+/// A run of a program from a disk of zeros, and those of its groups that crash.
+#[derive(Clone, Copy)]
+struct Run {
+    changer: Changer,
+    sizes: Sizes,
+    groups: &'static [u32],
+}
+
+/// Of the writer the making of the file, a group, the first checkpoint, and the first group after it.
+const WRITER_RUN: Run = Run {
+    changer: Changer::Writer,
+    sizes: WRITER,
+    groups: &[0, 1, 16, 17],
+};
+
+/// Of the renamer all groups that are records.
+const RENAMER_RUN: Run = Run {
+    changer: Changer::Renamer,
+    sizes: RENAMER,
+    groups: &[
+        0, 1, 2, 3, 4, 5, 6, 7, 8, 9, 10, 11, 12, 13, 14, 15, 16, 17, 18, 19, 20,
+    ],
 };
 
 impl Sizes {
@@ -60,13 +81,25 @@ impl Sizes {
     }
 }
 
+/// A core of these programs, with this tape alone, on the completed bytes of a disk.
+fn boot(
+    alloc: Global,
+    sources: &[Source],
+    tape: &[u8],
+    device: &SimDisk,
+) -> Result<TestCore, Error> {
+    let mut tapes = Vec::new(alloc);
+    tapes.push(Vec::from_slice(alloc, tape)?)?;
+    TestCore::boot(alloc, sources, tapes.as_slice(), device)
+}
+
 /// Where runs of a program begin: on this disk, after so many changes, with this group.
 #[derive(Clone, Copy)]
 struct Origin<'a> {
     changer: Changer,
     sizes: Sizes,
     sources: &'a [Source],
-    tapes: &'a [Vec<u8>],
+    tape: &'a [u8],
     device: &'a SimDisk,
     before: u32,
     group: u32,
@@ -75,7 +108,7 @@ struct Origin<'a> {
 impl Origin<'_> {
     /// A core that has committed all groups before this one and has cut it, and how many writes commit it.
     fn cut(&self, alloc: Global, group: u32) -> Result<(TestCore, u64), Error> {
-        let mut core = TestCore::boot(alloc, self.sources, self.tapes, self.device)?;
+        let mut core = boot(alloc, self.sources, self.tape, self.device)?;
         for before in self.group..group {
             core.round(self.sizes.of(before))?;
         }
@@ -83,19 +116,28 @@ impl Origin<'_> {
         Ok((core, writes))
     }
 
+    /// After how many changes of the program the core of this run has so many.
+    fn after(&self, changes: u64) -> Result<u32, Error> {
+        Ok(self.before.saturating_add(u32::try_from(changes)?))
+    }
+
+    /// Whether a disk has the files after so many changes, at least these and at most those.
+    fn is_left(&self, alloc: Global, disk: &SimDisk, least: u32, most: u32) -> Result<bool, Error> {
+        let found = recover(alloc, disk)?;
+        Ok(self.changer.leaves(alloc, found.list(), least, most)?)
+    }
+
     /// The disk that a crash of this core with this fill leaves, where the files are right.
     fn crash(&self, alloc: Global, core: TestCore, fill: &[u8]) -> Result<SimDisk, Error> {
-        let least = self.before.saturating_add(u32::try_from(core.committed())?);
-        let most = self.before.saturating_add(u32::try_from(core.changes())?);
+        let least = self.after(core.committed())?;
+        let most = self.after(core.changes())?;
         let left = core.halt(fill);
-        let found = recover(alloc, &left)?;
-        if self.changer.leaves(alloc, found.list(), least, most)? {
-            Ok(left)
-        } else {
-            bail!(
-                "a crash with the fill {fill:?} leaves other files than after {least} to {most} changes"
-            )
+        if self.is_left(alloc, &left, least, most)? {
+            return Ok(left);
         }
+        bail!(
+            "a crash with the fill {fill:?} leaves other files than after {least} to {most} changes"
+        )
     }
 }
 
@@ -118,25 +160,17 @@ fn crash_group(
     bail!("group {group} has no end")
 }
 
-/// A list of one tape.
-fn one_tape(alloc: Global, bytes: &[u8]) -> Result<Vec<Vec<u8>>, Error> {
-    let mut tapes = Vec::new(alloc);
-    tapes.push(Vec::from_slice(alloc, bytes)?)?;
-    Ok(tapes)
-}
-
 /// Crashes with this fill throughout the making of the file and the first 33 groups, two checkpoints among them: each group
 /// in runs on the disk that the one before it left.
 fn crash_groups(alloc: Global, sources: &[Source], fill: &[u8]) -> Result<(), Error> {
     let mut device = SimDisk::zero(alloc)?;
     for group in 0..=33u32 {
         let before = WRITER.before(group);
-        let tapes = one_tape(alloc, &before.saturating_sub(1).to_le_bytes())?;
         let origin = Origin {
             changer: Changer::Writer,
             sizes: WRITER,
             sources,
-            tapes: &tapes,
+            tape: &before.saturating_sub(1).to_le_bytes(),
             device: &device,
             before,
             group,
@@ -146,41 +180,20 @@ fn crash_groups(alloc: Global, sources: &[Source], fill: &[u8]) -> Result<(), Er
     Ok(())
 }
 
-/// Crashes with this fill throughout groups of one run of the writer: the making of the file, a group, the first checkpoint, and
-/// the first group after it.
-fn crash_one_run(alloc: Global, sources: &[Source], fill: &[u8]) -> Result<(), Error> {
+/// Crashes with this fill throughout groups of one run.
+fn crash_run(alloc: Global, run: Run, sources: &[Source], fill: &[u8]) -> Result<(), Error> {
     let device = SimDisk::zero(alloc)?;
-    let tapes = one_tape(alloc, b"")?;
     let origin = Origin {
-        changer: Changer::Writer,
-        sizes: WRITER,
+        changer: run.changer,
+        sizes: run.sizes,
         sources,
-        tapes: &tapes,
+        tape: b"",
         device: &device,
         before: 0,
         group: 0,
     };
-    for group in [0, 1, 16, 17] {
-        crash_group(alloc, origin, group, fill)?;
-    }
-    Ok(())
-}
-
-/// Crashes with this fill throughout the groups of one run of the renamer.
-fn crash_renamings(alloc: Global, sources: &[Source], fill: &[u8]) -> Result<(), Error> {
-    let device = SimDisk::zero(alloc)?;
-    let tapes = one_tape(alloc, b"")?;
-    let origin = Origin {
-        changer: Changer::Renamer,
-        sizes: RENAMER,
-        sources,
-        tapes: &tapes,
-        device: &device,
-        before: 0,
-        group: 0,
-    };
-    for group in 0..RENAMER_GROUPS {
-        crash_group(alloc, origin, group, fill)?;
+    for group in run.groups {
+        crash_group(alloc, origin, *group, fill)?;
     }
     Ok(())
 }
@@ -188,8 +201,7 @@ fn crash_renamings(alloc: Global, sources: &[Source], fill: &[u8]) -> Result<(),
 /// The disk of a run of the renamer whose next group makes a checkpoint.
 fn before_checkpoint(alloc: Global, sources: &[Source]) -> Result<SimDisk, Error> {
     let device = SimDisk::zero(alloc)?;
-    let tapes = one_tape(alloc, b"")?;
-    let mut core = TestCore::boot(alloc, sources, &tapes, &device)?;
+    let mut core = boot(alloc, sources, b"", &device)?;
     core.rounds(alloc, 33, 63)?;
     Ok(core.halt(b""))
 }
@@ -197,12 +209,11 @@ fn before_checkpoint(alloc: Global, sources: &[Source]) -> Result<SimDisk, Error
 /// Crashes with this fill throughout a checkpoint of the renamer, and the group after it in the same run.
 fn crash_checkpoint(alloc: Global, sources: &[Source], fill: &[u8]) -> Result<(), Error> {
     let device = before_checkpoint(alloc, sources)?;
-    let tapes = one_tape(alloc, &BEFORE_CHECKPOINT.to_le_bytes())?;
     let origin = Origin {
         changer: Changer::Renamer,
         sizes: CHECKPOINT,
         sources,
-        tapes: &tapes,
+        tape: &BEFORE_CHECKPOINT.to_le_bytes(),
         device: &device,
         before: BEFORE_CHECKPOINT,
         group: 0,
@@ -223,27 +234,37 @@ fn one_source<R: Files + AllocGlobal>(rt: &R, name: &str) -> Result<Vec<Source>,
     Ok(sources)
 }
 
+/// All crashes of the writer, with each fill.
+fn crash_writers(alloc: Global, sources: &[Source]) -> Result<(), Error> {
+    for fill in FILLS {
+        crash_groups(alloc, sources, fill)?;
+        crash_run(alloc, WRITER_RUN, sources, fill)?;
+    }
+    Ok(())
+}
+
+/// All crashes of the renamer, with each fill.
+fn crash_renamers(alloc: Global, sources: &[Source]) -> Result<(), Error> {
+    for fill in FILLS {
+        crash_run(alloc, RENAMER_RUN, sources, fill)?;
+        crash_checkpoint(alloc, sources, fill)?;
+    }
+    Ok(())
+}
+
 /// All crashes of the writer, which is read from `writer.s`, with each fill.
 pub fn crash_writer<R: Files + AllocGlobal>(rt: &R) -> Result<String, Error> {
-    let alloc = rt.alloc();
     let sources = one_source(rt, "writer.s")?;
-    for fill in FILLS {
-        crash_groups(alloc, &sources, fill)?;
-        crash_one_run(alloc, &sources, fill)?;
-    }
-    Ok(String::from_str(alloc, "crashes throughout 34 groups")?)
+    crash_writers(rt.alloc(), sources.as_slice())?;
+    Ok(String::from_str(rt.alloc(), "crashes throughout 34 groups")?)
 }
 
 /// All crashes of the renamer, which is read from `renamer.s`, with each fill.
 pub fn crash_renamer<R: Files + AllocGlobal>(rt: &R) -> Result<String, Error> {
-    let alloc = rt.alloc();
     let sources = one_source(rt, "renamer.s")?;
-    for fill in FILLS {
-        crash_renamings(alloc, &sources, fill)?;
-        crash_checkpoint(alloc, &sources, fill)?;
-    }
+    crash_renamers(rt.alloc(), sources.as_slice())?;
     Ok(String::from_str(
-        alloc,
+        rt.alloc(),
         "crashes throughout 23 groups that remove and rename files",
     )?)
 }

@@ -11,21 +11,41 @@ pub struct PlainFile {
 
 impl PlainFile {
     /// Writes these bytes from an offset on, in the plainest way.
-    pub fn write(&mut self, offset: usize, bytes: &[u8]) -> Result<(), AllocError> {
+    fn write(&mut self, offset: usize, bytes: &[u8]) -> Result<(), AllocError> {
         let end = offset.saturating_add(bytes.len());
         if self.bytes.len() < end {
             self.bytes.resize(end, 0)?;
         }
-        for (place, byte) in self.bytes.iter_mut().skip(offset).zip(bytes) {
-            *place = *byte;
+        for (place, byte) in bytes.iter().enumerate() {
+            if let Some(old) = self.bytes.get_mut(offset.saturating_add(place)) {
+                *old = *byte;
+            }
         }
         Ok(())
     }
 }
 
 /// The file of this name, if there is one.
-pub fn file_named(files: &mut [PlainFile], name: u8) -> Option<&mut PlainFile> {
-    files.iter_mut().find(|file| file.name == name)
+fn file_named(files: &mut [PlainFile], name: u8) -> Option<&mut PlainFile> {
+    for file in files {
+        if file.name == name {
+            return Some(file);
+        }
+    }
+    None
+}
+
+/// Writes these bytes to the file of this name, from an offset on.
+pub fn write(
+    files: &mut [PlainFile],
+    name: u8,
+    offset: usize,
+    bytes: &[u8],
+) -> Result<(), AllocError> {
+    match file_named(files, name) {
+        Some(file) => file.write(offset, bytes),
+        None => Ok(()),
+    }
 }
 
 /// Makes a file of this name after the others, or empties it where it is there.

@@ -4,24 +4,18 @@ use kernel::BootFault;
 use simdisk::DiskRefusal;
 use std::alloc::{AllocError, AllocFailed};
 use std::io;
-use thiserror::Error;
 
 /// Why the run of a script ends before its end.
-#[derive(Debug, Drop, Error)]
+#[derive(Drop)]
 pub enum ScriptFault {
     /// The first line that has no form, or that may not stand where it stands. Lines are counted from 1.
-    #[error("script refused at line {line}")]
     Refused { line: usize },
     /// A file that holds no image, and the first check that it fails.
-    #[error("image refused: {0}")]
     Image(ElfFault),
     /// A disk on which nothing can be booted.
-    #[error("not booted: {0}")]
     Boot(BootFault),
-    #[error("out of memory")]
     OutOfMemory,
     /// A file that cannot be read, or an output that cannot be written.
-    #[error("input or output failed")]
     InputOutput,
 }
 

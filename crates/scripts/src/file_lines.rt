@@ -1,14 +1,20 @@
 //! Lists of files.
 use crate::fault::ScriptFault;
 use files::FileList;
+use std::io;
 use std::io::Write;
 
-/// Prints a line for each file, in order of creation: its name, and its length.
-pub fn print_files<O: Write>(files: &FileList, out: &mut O) -> Result<(), ScriptFault> {
+/// Writes a line for each file.
+pub fn write_files<O: Write>(files: &FileList, out: &mut O) -> io::Result<()> {
     for place in 0..files.count() {
         let length = files.length(place);
         out.write_all(files.name(place))?;
         writeln!(out, " {length}")?;
     }
     Ok(())
+}
+
+/// Prints a line for each file, in order of creation: its name, and its length.
+pub fn print_files<O: Write>(files: &FileList, out: &mut O) -> Result<(), ScriptFault> {
+    Ok(write_files(files, out)?)
 }

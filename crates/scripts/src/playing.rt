@@ -1,18 +1,14 @@
 //! The run of a script.
-ghost use Rattle.std.specs.Prelude.{◌≤◌, vec_len};
-ghost use Rattle.kernel_model.specs.World.{most_programs};
-
 use crate::fault::ScriptFault;
-use crate::file_lines::print_files;
-use crate::script::{Action, Script, ScriptProgram, ScriptTape, Step, Terminal};
-use crate::setup::Setup;
+use crate::file_lines::write_files;
+use crate::script::{Action, Script, Setup, Step, Terminal};
 use files::FileList;
-use kernel::{Answer, Core, Event, Refused};
+use kernel::{Answer, Core, Event, Refused, SimDisk};
 use machine_model::{Reply, Stop};
-use std::alloc::Global;
-use std::fmt;
+use std::alloc::{AllocError, Global};
 use std::io::Write;
 use std::rt::Files;
+use std::{fmt, io};
 
 /// Where a Turn stopped, as it is printed.
 #[derive(Drop)]
@@ -67,59 +63,51 @@ impl fmt::Display for AnswerText {
     }
 }
 
-/// Prints the number and the name of a refusal.
-fn print_numbered<O: Write>(why: Refused, out: &mut O) -> Result<(), ScriptFault> {
-    let number = why.number();
-    Ok(writeln!(out, "refused {number} {why:?}")?)
-}
-
 /// Prints a refusal; want of memory ends the run.
-fn print_refusal<O: Write>(why: Refused, out: &mut O) -> Result<(), ScriptFault> {
+fn print_refusal<O: Write>(why: Refused, out: &mut O) -> io::Result<()> {
     match why {
-        Refused::OutOfMemory => Err(ScriptFault::OutOfMemory),
-        why => print_numbered(why, out),
+        Refused::OutOfMemory => Err(io::Error::from(AllocError)),
+        why => {
+            let number = why.number();
+            writeln!(out, "refused {number} {why:?}")
+        }
     }
 }
 
 /// Bytes as pairs of hexadecimal digits, or `-` for none.
-fn bytes_text(alloc: Global, bytes: &[u8]) -> Result<String, ScriptFault> {
+fn bytes_text(alloc: Global, bytes: &[u8]) -> Result<String, AllocError> {
     if bytes.is_empty() {
-        return Ok(String::from_str(alloc, "-")?);
+        String::from_str(alloc, "-")
+    } else {
+        hex::encode(alloc, bytes)
     }
-    Ok(hex::encode(alloc, bytes)?)
 }
 
-/// Prints a reply that has bytes: a0, and the bytes after the place where they go.
-fn print_stored<O: Write>(alloc: Global, reply: &Reply, out: &mut O) -> Result<(), ScriptFault> {
-    let a0 = reply.a0;
-    let at = reply.at;
-    let bytes = hex::encode(alloc, reply.bytes.as_slice())?;
-    Ok(writeln!(out, "{a0:08x} {at:08x} {bytes}")?)
+/// Prints a word of a reply: eight digits, and a space.
+fn print_word<O: Write>(word: u32, out: &mut O) -> io::Result<()> {
+    write!(out, "{word:08x} ")
 }
 
 /// Prints a reply: a0, and its bytes after the place where they go, or `-` for none.
-fn print_reply<O: Write>(alloc: Global, reply: &Reply, out: &mut O) -> Result<(), ScriptFault> {
+fn print_reply<O: Write>(alloc: Global, reply: &Reply, out: &mut O) -> io::Result<()> {
+    let bytes = bytes_text(alloc, reply.bytes.as_slice())?;
+    print_word(reply.a0, out)?;
     if !reply.bytes.as_slice().is_empty() {
-        return print_stored(alloc, reply, out);
+        print_word(reply.at, out)?;
     }
-    let a0 = reply.a0;
-    Ok(writeln!(out, "{a0:08x} -")?)
+    writeln!(out, "{bytes}")
 }
 
 /// Prints a terminal's number, and what it shows.
-fn print_bytes<O: Write>(number: u32, bytes: &str, out: &mut O) -> Result<(), ScriptFault> {
-    Ok(writeln!(out, "shown {number} {bytes}")?)
-}
-
-/// What a terminal shows.
 fn print_shown<O: Write>(
     alloc: Global,
     core: &Core,
     terminal: Terminal,
     out: &mut O,
-) -> Result<(), ScriptFault> {
-    let bytes = bytes_text(alloc, core.shown(terminal.number))?;
-    print_bytes(terminal.number, bytes.as_str(), out)
+) -> io::Result<()> {
+    let number = terminal.number;
+    let bytes = bytes_text(alloc, core.shown(number))?;
+    writeln!(out, "shown {number} {bytes}")
 }
 
 /// Prints how many replies there are to a process's calls, and then a line for each.
@@ -128,7 +116,7 @@ fn print_replies<O: Write>(
     pid: u32,
     replies: &[Reply],
     out: &mut O,
-) -> Result<(), ScriptFault> {
+) -> io::Result<()> {
     let count = replies.len();
     writeln!(out, "trace {pid} {count} replies")?;
     for reply in replies {
@@ -138,12 +126,7 @@ fn print_replies<O: Write>(
 }
 
 /// The replies to a process's calls that are handed out, a line each.
-fn print_trace<O: Write>(
-    alloc: Global,
-    core: &Core,
-    pid: u32,
-    out: &mut O,
-) -> Result<(), ScriptFault> {
+fn print_trace<O: Write>(alloc: Global, core: &Core, pid: u32, out: &mut O) -> io::Result<()> {
     match core.trace(pid) {
         Err(why) => print_refusal(why, out),
         Ok(replies) => print_replies(alloc, pid, replies, out),
@@ -151,56 +134,36 @@ fn print_trace<O: Write>(
 }
 
 /// Prints how many files the disk held at boot, and then a line for each.
-fn print_boot_files<O: Write>(files: &FileList, out: &mut O) -> Result<(), ScriptFault> {
+fn print_boot_files<O: Write>(files: &FileList, out: &mut O) -> io::Result<()> {
     let count = files.count();
     writeln!(out, "files {count}")?;
-    print_files(files, out)
+    write_files(files, out)
 }
 
 /// Applies an event, and prints its answer or its refusal.
-fn print_event<O: Write>(core: &mut Core, event: Event, out: &mut O) -> Result<(), ScriptFault> {
+fn print_event<O: Write>(core: &mut Core, event: Event, out: &mut O) -> io::Result<()> {
     match core.apply(event) {
         Ok(answer) => {
             let answer = AnswerText(answer);
-            writeln!(out, "{answer}")?;
-            Ok(())
+            writeln!(out, "{answer}")
         }
         Err(why) => print_refusal(why, out),
     }
 }
 
 /// Drains the core, and prints what is committed then, or the refusal.
-fn print_drain<O: Write>(core: &mut Core, out: &mut O) -> Result<(), ScriptFault> {
+fn print_drain<O: Write>(core: &mut Core, out: &mut O) -> io::Result<()> {
     match core.drain() {
         Ok(()) => {
             let committed = core.committed();
-            writeln!(out, "drained, {committed} committed")?;
-            Ok(())
+            writeln!(out, "drained, {committed} committed")
         }
         Err(why) => print_refusal(why, out),
     }
 }
 
-/// The core of a further boot, on the disk that a crash with this fill leaves.
-fn crash<O: Write>(
-    alloc: Global,
-    setup: &Setup,
-    core: Core,
-    fill: &[u8],
-    out: &mut O,
-) -> Result<Core, ScriptFault> {
-    let next = setup.boot_again(alloc, core.halt(fill))?;
-    writeln!(out, "crashed")?;
-    Ok(next)
-}
-
 /// Acts on the core, and prints what that gives.
-fn act<O: Write>(
-    alloc: Global,
-    core: &mut Core,
-    action: Action,
-    out: &mut O,
-) -> Result<(), ScriptFault> {
+fn act<O: Write>(alloc: Global, core: &mut Core, action: Action, out: &mut O) -> io::Result<()> {
     match action {
         Action::Apply(event) => print_event(core, event, out),
         Action::Drain => print_drain(core, out),
@@ -210,47 +173,48 @@ fn act<O: Write>(
     }
 }
 
+/// The core of a further boot, on the disk that a crash with this fill leaves.
+fn crash<R: Files + AllocGlobal, O: Write>(
+    rt: &R,
+    setup: &mut Setup,
+    core: Core,
+    fill: &[u8],
+    out: &mut O,
+) -> Result<Core, ScriptFault> {
+    let next = setup.boot(rt, core.halt(fill))?;
+    writeln!(out, "crashed")?;
+    Ok(next)
+}
+
 /// Does a step, and prints what it gives. After a crash the core that comes back is another one.
-fn play<O: Write>(
-    alloc: Global,
-    setup: &Setup,
+fn play<R: Files + AllocGlobal, O: Write>(
+    rt: &R,
+    setup: &mut Setup,
     mut core: Core,
     step: &Step,
     out: &mut O,
 ) -> Result<Core, ScriptFault> {
     match step {
-        Step::Act(action) => act(alloc, &mut core, *action, out).map(|()| core),
-        Step::Crash(fill) => crash(alloc, setup, core, fill.as_slice(), out),
+        Step::Act(action) => {
+            act(rt.alloc(), &mut core, *action, out)?;
+            Ok(core)
+        }
+        Step::Crash(fill) => crash(rt, setup, core, fill.as_slice(), out),
     }
 }
 
-/// Does the steps in order, and prints what each gives.
-fn play_all<O: Write>(
-    alloc: Global,
-    setup: &Setup,
-    mut core: Core,
+/// Boots what a script sets up on a disk of zeros, does the steps in order, and prints what each gives.
+fn play_all<R: Files + AllocGlobal, O: Write>(
+    rt: &R,
+    setup: &mut Setup,
     steps: &[Step],
     out: &mut O,
 ) -> Result<(), ScriptFault> {
+    let mut core = setup.boot(rt, SimDisk::zero(rt.alloc())?)?;
     for step in steps {
-        core = play(alloc, setup, core, step, out)?;
+        core = play(rt, setup, core, step, out)?;
     }
     Ok(())
-}
-
-/// Boots what a script sets up, does the steps, and prints what each gives.
-fn boot_and_play<R: Files + AllocGlobal, O: Write>(
-    rt: &R,
-    programs: Vec<ScriptProgram>,
-    tapes: Vec<ScriptTape>,
-    steps: &[Step],
-    out: &mut O,
-) -> Result<(), ScriptFault>
-    requires some { 1 ≤ vec_len programs }
-    requires few { vec_len programs ≤ most_programs }
-{
-    let (setup, core) = Setup::boot(rt, programs, tapes)?;
-    play_all(rt.alloc(), &setup, core, steps, out)
 }
 
 /// Runs a script, and prints what each of its lines gives. The script is read whole before any image that it names.
@@ -259,10 +223,6 @@ pub fn replay<R: Files + AllocGlobal, O: Write>(
     text: &str,
     out: &mut O,
 ) -> Result<(), ScriptFault> {
-    let Script {
-        programs,
-        tapes,
-        steps,
-    } = Script::parse(rt.alloc(), text)?;
-    boot_and_play(rt, programs, tapes, steps.as_slice(), out)
+    let mut script = Script::parse(rt.alloc(), text)?;
+    play_all(rt, &mut script.setup, script.steps.as_slice(), out)
 }

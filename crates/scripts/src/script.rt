@@ -1,6 +1,6 @@
 //! Scripts: programs to be booted, and what is done with them line by line.
-ghost use Rattle.std.specs.Prelude.{◌≡◌, ◌<◌, ◌≤◌, IfOk, IfSome, length, vec_len};
-ghost use Rattle.kernel_model.specs.World.{most_programs, tape_count, terminal_count};
+ghost use Rattle.std.specs.Prelude.{◌<◌, ◌≤◌, length, vec_len};
+ghost use Rattle.kernel_model.specs.World.{terminal_count};
 
 use crate::fault::ScriptFault;
 use byte_list::Bytes;
@@ -43,15 +43,25 @@ impl Words {
 pub enum Source {
     /// The script itself.
     Words(Words),
-    /// The image in a file of the host, at this path.
-    Image(String),
+    /// The image in a file of the host, at this path, which is not read yet.
+    Path(String),
+    /// The bytes of an image's file, as they were when it was read.
+    File(Vec<u8>),
 }
 
 /// A program that a script sets up.
-#[derive(Drop)]
 pub struct ScriptProgram {
     pub terminal: Terminal,
     pub source: Source,
+}
+
+impl Drop for ScriptProgram {
+    fn drop(self) {
+        let ScriptProgram {
+            terminal: _,
+            source: _source,
+        } = self;
+    }
 }
 
 /// A tape that a script sets up.
@@ -60,8 +70,6 @@ pub struct ScriptTape {
     pub number: u32,
     /// At most 65,536.
     pub bytes: Bytes,
-    ghost there: { number < tape_count },
-    ghost short: { length bytes ≤ 65536 },
 }
 
 impl Drop for ScriptTape {
@@ -69,6 +77,21 @@ impl Drop for ScriptTape {
         let ScriptTape {
             number: _,
             bytes: _bytes,
+        } = self;
+    }
+}
+
+/// What a script sets up: its programs in order, and the tapes that it gives, at most one of each number.
+pub struct Setup {
+    pub programs: Vec<ScriptProgram>,
+    pub tapes: Vec<ScriptTape>,
+}
+
+impl Drop for Setup {
+    fn drop(self) {
+        let Setup {
+            programs: _programs,
+            tapes: _tapes,
         } = self;
     }
 }
@@ -104,20 +127,19 @@ pub struct Terminal {
     ghost there: { number < terminal_count },
 }
 
-/// A script: its programs in order, the tapes that it gives, at most one of each number, and its steps in order.
-#[derive(Drop)]
+/// A script: what it sets up, and its steps in order.
 pub struct Script {
-    pub programs: Vec<ScriptProgram>,
-    pub tapes: Vec<ScriptTape>,
+    pub setup: Setup,
     pub steps: Vec<Step>,
 }
 
-/// A line of a script that is neither empty nor a comment.
-#[derive(Drop)]
-enum Line {
-    Program(ScriptProgram),
-    Tape(ScriptTape),
-    Step(Step),
+impl Drop for Script {
+    fn drop(self) {
+        let Script {
+            setup: _setup,
+            steps: _steps,
+        } = self;
+    }
 }
 
 /// A decimal number below 2^32. Leading zeros are allowed, a sign is not.
@@ -125,9 +147,8 @@ fn decimal(word: &str) -> Option<u32> {
     u32::try_from(line_words::decimal(word)?).ok()
 }
 
-/// A terminal's number, in decimal.
-fn terminal_of(word: &str) -> Option<Terminal> {
-    let number = decimal(word)?;
+/// The terminal of this number.
+fn terminal_of(number: u32) -> Option<Terminal> {
     if number < TERMINALS as u32 {
         Some(Terminal { number })
     } else {
@@ -136,9 +157,7 @@ fn terminal_of(word: &str) -> Option<Terminal> {
 }
 
 /// The numbers of words of eight hexadecimal digits. None where one has no such form.
-fn numbers_of(alloc: Global, texts: &[&str]) -> Result<Option<Vec<u32>>, AllocError>
-    ensures { IfOk result (λ numbers. IfSome numbers (λ list. vec_len list ≡ length texts.now)) }
-{
+fn numbers_of(alloc: Global, texts: &[&str]) -> Result<Option<Vec<u32>>, AllocError> {
     let mut numbers = Vec::new(alloc);
     for text in texts {
         match hexadecimal(text) {
@@ -150,27 +169,12 @@ fn numbers_of(alloc: Global, texts: &[&str]) -> Result<Option<Vec<u32>>, AllocEr
 }
 
 /// The words of a program line. None where one has no form, or where there are none or too many.
-fn words_of(alloc: Global, texts: &[&str]) -> Result<Option<Words>, AllocError> {
-    if texts.is_empty() || texts.len() > MOST_WORDS {
-        return Ok(None);
-    }
+fn words_of(alloc: Global, texts: &[&str]) -> Result<Option<Source>, AllocError> {
     match numbers_of(alloc, texts)? {
-        Some(words) => Ok(Some(Words { words })),
-        None => Ok(None),
-    }
-}
-
-/// The line `program T WORD..` of the words after its first. None where they have no such form.
-fn program_of(alloc: Global, words: &[&str]) -> Result<Option<Line>, AllocError> {
-    let [first, texts @ ..] = words else {
-        return Ok(None);
-    };
-    match terminal_of(first) {
-        Some(terminal) => Ok(words_of(alloc, texts)?.map(|words| Line::Program(ScriptProgram {
-            terminal,
-            source: Source::Words(words),
-        }))),
-        None => Ok(None),
+        Some(words) if !words.is_empty() && words.len() <= MOST_WORDS => {
+            Ok(Some(Source::Words(Words { words })))
+        }
+        _ => Ok(None),
     }
 }
 
@@ -179,170 +183,180 @@ fn is_path(word: &str) -> bool {
     !word.is_empty() && word.bytes().all(|byte| byte != b'\t' && byte != b'\r')
 }
 
-/// The line `image T PATH` of the words after its first. None where they have no such form.
-fn image_of(alloc: Global, words: &[&str]) -> Result<Option<Line>, AllocError> {
-    let [first, path] = words else {
-        return Ok(None);
-    };
-    match terminal_of(first) {
-        Some(terminal) if is_path(path) => Ok(Some(Line::Program(ScriptProgram {
-            terminal,
-            source: Source::Image(String::from_str(alloc, path)?),
-        }))),
+/// The path of an image line. None where there is none, or more than one.
+fn path_of(alloc: Global, texts: &[&str]) -> Result<Option<Source>, AllocError> {
+    match texts {
+        [path] if is_path(path) => Ok(Some(Source::Path(String::from_str(alloc, path)?))),
         _ => Ok(None),
     }
 }
 
-/// The tape of this number, with these bytes. None where there is no such number, or they are too many.
-fn numbered_tape(number: u32, bytes: Bytes) -> Option<ScriptTape> {
-    if number < TAPES as u32 && bytes.as_slice().len() <= MOST_TAPE_BYTES {
-        Some(ScriptTape { number, bytes })
-    } else {
-        None
-    }
-}
-
-/// The line `tape T HEX` of the words after its first. None where they have no such form, or the tape is too long.
-fn tape_of(alloc: Global, words: &[&str]) -> Result<Option<Line>, AllocError> {
-    let [first, text] = words else {
-        return Ok(None);
-    };
-    match (decimal(first), bytes_of(alloc, text)?) {
-        (Some(number), Some(bytes)) => {
-            Ok(numbered_tape(number, bytes).map(|tape| Line::Tape(tape)))
-        }
+/// The bytes of a tape line or a crash line. None where they have no form.
+fn only_bytes_of(alloc: Global, texts: &[&str]) -> Result<Option<Bytes>, AllocError> {
+    match texts {
+        [text] => bytes_of(alloc, text),
         _ => Ok(None),
     }
 }
 
-/// The line `crash HEX` of the word after its first. None where it has no such form.
-fn crash_of(alloc: Global, fill: &str) -> Result<Option<Line>, AllocError> {
-    Ok(bytes_of(alloc, fill)?.map(|fill| Line::Step(Step::Crash(fill))))
-}
-
-/// The event of a line, if it has the form of one.
-fn event_of(words: &[&str]) -> Option<Event> {
-    match words {
-        ["turn", pid, n] => Some(Event::Turn {
-            pid: decimal(pid)?,
-            n: decimal(n)?,
-        }),
-        ["enter", pid] => decimal(pid).map(|pid| Event::Enter { pid }),
-        ["cut"] => Some(Event::Cut),
-        ["complete", at] => decimal(at).map(|at| Event::Complete { at }),
-        ["fail", at] => decimal(at).map(|at| Event::Fail { at }),
+/// What a line of this word alone does with the core, if it has the form of that.
+fn plain_action(name: &str) -> Option<Action> {
+    match name {
+        "cut" => Some(Action::Apply(Event::Cut)),
+        "drain" => Some(Action::Drain),
+        "files" => Some(Action::Files),
         _ => None,
     }
 }
 
-/// What a line does with the core, if it has the form of that.
-fn action_of(words: &[&str]) -> Option<Action> {
+/// What a line of this word and a number does with the core, if it has the form of that.
+fn numbered_action(name: &str, number: u32) -> Option<Action> {
+    match name {
+        "enter" => Some(Action::Apply(Event::Enter { pid: number })),
+        "complete" => Some(Action::Apply(Event::Complete { at: number })),
+        "fail" => Some(Action::Apply(Event::Fail { at: number })),
+        "shown" => Some(Action::Shown(terminal_of(number)?)),
+        "trace" => Some(Action::Trace(number)),
+        _ => None,
+    }
+}
+
+/// What a line does with the core, if it has the form of that: its first word, and those after it.
+fn action_of(name: &str, words: &[&str]) -> Option<Action> {
     match words {
-        ["drain"] => Some(Action::Drain),
-        ["shown", number] => terminal_of(number).map(|terminal| Action::Shown(terminal)),
-        ["trace", pid] => decimal(pid).map(|pid| Action::Trace(pid)),
-        ["files"] => Some(Action::Files),
-        others => event_of(others).map(|event| Action::Apply(event)),
+        [] => plain_action(name),
+        [number] => numbered_action(name, decimal(number)?),
+        [pid, n] if name == "turn" => Some(Action::Apply(Event::Turn {
+            pid: decimal(pid)?,
+            n: decimal(n)?,
+        })),
+        _ => None,
     }
 }
 
-/// The line of these words, if they have the form of one.
-fn line_of(alloc: Global, words: &[&str]) -> Result<Option<Line>, AllocError> {
-    match words {
-        ["program", rest @ ..] => program_of(alloc, rest),
-        ["image", rest @ ..] => image_of(alloc, rest),
-        ["tape", rest @ ..] => tape_of(alloc, rest),
-        ["crash", fill] => crash_of(alloc, fill),
-        others => Ok(action_of(others).map(|action| Line::Step(Step::Act(action)))),
-    }
+/// The tape of this number, if there is one.
+pub fn tape_numbered(tapes: &[ScriptTape], number: u32) -> Option<&ScriptTape> {
+    tapes.iter().find(|tape| tape.number == number)
 }
 
-/// Adds a program to those of a script, if it is not a ninth one.
-fn push_program(
-    programs: &mut Vec<ScriptProgram>,
-    program: ScriptProgram,
-) -> Result<bool, AllocError>
-    requires { vec_len programs.old ≤ most_programs }
-    ensures { vec_len programs.new ≤ most_programs }
-{
-    if programs.len() >= MOST_PROGRAMS {
-        return Ok(false);
-    }
-    programs.push(program)?;
-    Ok(true)
-}
-
-/// Adds a tape to those of a script, if it is not the second of its number.
-fn push_tape(tapes: &mut Vec<ScriptTape>, tape: ScriptTape) -> Result<bool, AllocError> {
-    if tapes.iter().any(|given| given.number == tape.number) {
-        return Ok(false);
-    }
-    tapes.push(tape)?;
-    Ok(true)
-}
-
-impl Script {
-    /// Adds a line, if it may stand after those before it.
-    fn push(&mut self, line: Line) -> Result<bool, AllocError>
-        requires { vec_len self.old.programs ≤ most_programs }
-        ensures { vec_len self.new.programs ≤ most_programs }
-    {
-        match line {
-            Line::Step(step) => {
-                self.steps.push(step)?;
+impl Setup {
+    /// Adds a program, if it has a terminal and a source, and is not a ninth one.
+    fn push_program(
+        &mut self,
+        terminal: Option<Terminal>,
+        source: Option<Source>,
+    ) -> Result<bool, AllocError> {
+        match (terminal, source) {
+            (Some(terminal), Some(source)) if self.programs.len() < MOST_PROGRAMS => {
+                self.programs.push(ScriptProgram { terminal, source })?;
                 Ok(true)
             }
-            _ if !self.steps.is_empty() => Ok(false),
-            Line::Program(program) => push_program(&mut self.programs, program),
-            Line::Tape(tape) => push_tape(&mut self.tapes, tape),
+            _ => Ok(false),
         }
     }
 
-    /// Reads a line that is neither empty nor a comment, and adds it, if it has a form and may stand here. Words are parted
-    /// by one space each.
-    fn read(&mut self, alloc: Global, text: &str) -> Result<bool, AllocError>
-        requires { vec_len self.old.programs ≤ most_programs }
-        ensures { vec_len self.new.programs ≤ most_programs }
-    {
-        let words: Vec<&str> = text.split(' ').collect(alloc)?;
-        self.read_words(alloc, words.as_slice())
+    /// Whether a tape of this number may have these bytes: there is such a number, which no tape has yet, and they are not
+    /// too many.
+    fn takes_tape(&self, number: u32, bytes: &[u8]) -> bool {
+        number < TAPES as u32
+            && bytes.len() <= MOST_TAPE_BYTES
+            && tape_numbered(self.tapes.as_slice(), number).is_none()
     }
 
-    /// Adds the line of these words, if it has a form and may stand here.
-    fn read_words(&mut self, alloc: Global, words: &[&str]) -> Result<bool, AllocError>
-        requires { vec_len self.old.programs ≤ most_programs }
-        ensures { vec_len self.new.programs ≤ most_programs }
-    {
-        match line_of(alloc, words)? {
-            Some(line) => self.push(line),
+    /// Adds a tape, if it has a number and bytes that it may have.
+    fn push_tape(&mut self, number: Option<u32>, bytes: Option<Bytes>) -> Result<bool, AllocError> {
+        match (number, bytes) {
+            (Some(number), Some(bytes)) if self.takes_tape(number, bytes.as_slice()) => {
+                self.tapes.push(ScriptTape { number, bytes })?;
+                Ok(true)
+            }
+            _ => Ok(false),
+        }
+    }
+
+    /// Adds what a set-up line sets up, if it has a form: its name, and the words after that.
+    fn read(&mut self, alloc: Global, name: &str, words: &[&str]) -> Result<bool, AllocError> {
+        let [first, rest @ ..] = words else {
+            return Ok(false);
+        };
+        let number = decimal(first);
+        match name {
+            "program" => self.push_program(number.and_then(terminal_of), words_of(alloc, rest)?),
+            "image" => self.push_program(number.and_then(terminal_of), path_of(alloc, rest)?),
+            _ => self.push_tape(number, only_bytes_of(alloc, rest)?),
+        }
+    }
+}
+
+/// The step of a line that is no set-up line, if it has a form: its first word, and those after it.
+fn step_of(alloc: Global, name: &str, words: &[&str]) -> Result<Option<Step>, AllocError> {
+    match name {
+        "crash" => Ok(only_bytes_of(alloc, words)?.map(Step::Crash)),
+        _ => Ok(action_of(name, words).map(Step::Act)),
+    }
+}
+
+impl Script {
+    /// Adds the step of a line that is no set-up line, if it has a form.
+    fn read_step(&mut self, alloc: Global, name: &str, words: &[&str]) -> Result<bool, AllocError> {
+        match step_of(alloc, name, words)? {
+            Some(step) => {
+                self.steps.push(step)?;
+                Ok(true)
+            }
             None => Ok(false),
         }
     }
 
-    /// Reads a script whole. Refused is the first line that has no form, is a set-up line (`program`, `image` or `tape`)
-    /// after a line that is none, is a ninth `program` or `image` line, or is a second line for one tape; and where
-    /// there is no such line, line 1 of a script without a `program` and an `image` line. Lines are counted from 1 and
-    /// end at a line feed; empty ones and those that begin with `#` are skipped.
-    pub fn parse(alloc: Global, text: &str) -> Result<Script, ScriptFault>
-        ensures some { IfOk result (λ script. 1 ≤ vec_len script.programs) }
-        ensures few { IfOk result (λ script. vec_len script.programs ≤ most_programs) }
-    {
-        let mut script = Script {
-            programs: Vec::new(alloc),
-            tapes: Vec::new(alloc),
-            steps: Vec::new(alloc),
+    /// Adds the line of these words, if it has a form and may stand here.
+    fn read_words(&mut self, alloc: Global, words: &[&str]) -> Result<bool, AllocError> {
+        let [name, rest @ ..] = words else {
+            return Ok(false);
         };
-        let mut number = 0usize;
+        if !matches!(*name, "program" | "image" | "tape") {
+            return self.read_step(alloc, name, rest);
+        }
+        if self.steps.is_empty() {
+            self.setup.read(alloc, name, rest)
+        } else {
+            Ok(false)
+        }
+    }
+
+    /// Reads a line, and adds it, if it has a form and may stand here. Words are parted by one space each. Nothing is added by
+    /// an empty line, and by one that begins with `#`.
+    fn read(&mut self, alloc: Global, text: &str) -> Result<bool, AllocError> {
+        if text.is_empty() || text.starts_with('#') {
+            return Ok(true);
+        }
+        let words: Vec<&str> = text.split(' ').collect(alloc)?;
+        self.read_words(alloc, words.as_slice())
+    }
+
+    /// Reads the lines of a script.
+    fn read_lines(&mut self, alloc: Global, text: &str) -> Result<(), ScriptFault> {
+        let mut line = 0usize;
         for text in text.split('\n') {
-            number = number.saturating_add(1);
-            let blank = text.is_empty() || text.starts_with('#');
-            if !blank && !script.read(alloc, text)? {
-                return Err(ScriptFault::Refused { line: number });
+            line = line.saturating_add(1);
+            if !self.read(alloc, text)? {
+                return Err(ScriptFault::Refused { line });
             }
         }
-        if script.programs.is_empty() {
-            return Err(ScriptFault::Refused { line: 1 });
-        }
+        Ok(())
+    }
+
+    /// Reads a script whole. Refused is the first line that has no form, is a set-up line (`program`, `image` or `tape`)
+    /// after a line that is none, is a ninth `program` or `image` line, or is a second line for one tape. Lines are counted
+    /// from 1 and end at a line feed; empty ones and those that begin with `#` are skipped.
+    pub fn parse(alloc: Global, text: &str) -> Result<Script, ScriptFault> {
+        let mut script = Script {
+            setup: Setup {
+                programs: Vec::new(alloc),
+                tapes: Vec::new(alloc),
+            },
+            steps: Vec::new(alloc),
+        };
+        script.read_lines(alloc, text)?;
         Ok(script)
     }
 }
