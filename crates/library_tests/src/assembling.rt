@@ -1,7 +1,7 @@
 //! Sources with their words, their images and their faults.
 use crate::asserting::assert_row;
 use crate::image_files::is_one_call;
-use crate::tokens::push_repeated;
+use crate::tokens::{Repeated, push_repeated};
 use assembler::Cause::{DoubleLabel, NoStart, Range, Syntax, TooLarge, UnknownName};
 use assembler::{AsmFault, Cause, Row, assemble};
 use elf32::write;
@@ -122,17 +122,20 @@ const PROGRAMS: &[(&str, &[u32])] = &[
     ),
 ];
 
-/// Sources, how many words their text has, and the place, the address, the word and the line of one of them.
-const ROWS: &[(&str, usize, usize, u32, u32, usize)] = &[
-    (FAR_BACK, 1026, 1024, 0x11000, 0xFFFFF517, 2),
-    (FAR_BACK, 1026, 1025, 0x11004, 0x00050513, 2),
-    (FAR_AHEAD, 513, 0, 0x10000, 0x00001517, 1),
-    (FAR_AHEAD, 513, 1, 0x10004, 0x80050513, 1),
-    (FARTHEST_BRANCH, 1024, 0, 0x10000, 0x7E000EE3, 1),
-    (SIXTY_PAGES, 61440, 61439, 0x4BFFC, 0x00000000, 1),
-    (TEXT_AND_DATA, 3, 0, 0x10000, 0x00001517, 1),
-    (TEXT_AND_DATA, 3, 1, 0x10004, 0x00050513, 1),
-    (TEXT_AND_DATA, 3, 2, 0x10008, 0x00000073, 2),
+/// How many words a text has, and the place, the address, the word and the line of one of them.
+type Place = (usize, usize, u32, u32, usize);
+
+/// Sources, and a word of their text.
+const ROWS: &[(&str, Place)] = &[
+    (FAR_BACK, (1026, 1024, 0x11000, 0xFFFFF517, 2)),
+    (FAR_BACK, (1026, 1025, 0x11004, 0x00050513, 2)),
+    (FAR_AHEAD, (513, 0, 0x10000, 0x00001517, 1)),
+    (FAR_AHEAD, (513, 1, 0x10004, 0x80050513, 1)),
+    (FARTHEST_BRANCH, (1024, 0, 0x10000, 0x7E000EE3, 1)),
+    (SIXTY_PAGES, (61440, 61439, 0x4BFFC, 0x00000000, 1)),
+    (TEXT_AND_DATA, (3, 0, 0x10000, 0x00001517, 1)),
+    (TEXT_AND_DATA, (3, 1, 0x10004, 0x00050513, 1)),
+    (TEXT_AND_DATA, (3, 2, 0x10008, 0x00000073, 2)),
 ];
 
 /// Sources, and of their images the entry, the number of segments, the address and the length of the last one's bytes,
@@ -259,85 +262,52 @@ fn file_of(alloc: Global, source: &str) -> Result<Vec<u8>, AsmFault> {
     Ok(write(alloc, &image)?)
 }
 
-/// The length of the file of a source's image.
-fn file_len(alloc: Global, source: &str) -> Result<usize, AsmFault> {
-    let file = file_of(alloc, source)?;
-    Ok(file.len())
-}
-
-/// A source's text has these words.
-fn assert_words(rt: &impl Abort, alloc: Global, source: &str, words: &[u32]) {
-    for (place, word) in words.iter().enumerate() {
-        let listed = word_of(alloc, source, place);
-        assert_row(rt, source, listed, Ok((words.len(), Some(*word))));
-    }
-}
-
-/// Loads of a number, and the ends of branches and jumps.
-fn assert_numbers(rt: &(impl Abort + AllocGlobal)) {
-    for &(source, words) in NUMBERS {
-        assert_words(rt, rt.alloc(), source, words);
-    }
-}
-
-/// Pseudo-instructions that compute and branch.
-fn assert_pseudo(rt: &(impl Abort + AllocGlobal)) {
-    for &(source, words) in PSEUDO {
-        assert_words(rt, rt.alloc(), source, words);
-    }
-}
-
-/// Pseudo-instructions of two registers, and jumps.
-fn assert_jumps(rt: &(impl Abort + AllocGlobal)) {
-    for &(source, words) in JUMPS {
-        assert_words(rt, rt.alloc(), source, words);
-    }
-}
-
-/// Instructions.
-fn assert_instructions(rt: &(impl Abort + AllocGlobal)) {
-    for &(source, words) in INSTRUCTIONS {
-        assert_words(rt, rt.alloc(), source, words);
-    }
-}
-
-/// Labels, and whole programs.
-fn assert_programs(rt: &(impl Abort + AllocGlobal)) {
-    for &(source, words) in PROGRAMS {
-        assert_words(rt, rt.alloc(), source, words);
+/// Sources' texts have these words.
+fn assert_words(rt: &(impl Abort + AllocGlobal), rows: &[(&str, &[u32])]) {
+    for &(source, words) in rows {
+        for (place, word) in words.iter().enumerate() {
+            let listed = word_of(rt.alloc(), source, place);
+            assert_row(rt, source, listed, Ok((words.len(), Some(*word))));
+        }
     }
 }
 
 #[test]
 fn words(rt: HostRuntime) {
-    assert_numbers(&rt);
-    assert_pseudo(&rt);
-    assert_jumps(&rt);
-    assert_instructions(&rt);
-    assert_programs(&rt);
+    assert_words(&rt, NUMBERS);
+    assert_words(&rt, PSEUDO);
+    assert_words(&rt, JUMPS);
+    assert_words(&rt, INSTRUCTIONS);
+    assert_words(&rt, PROGRAMS);
+}
+
+/// A source's text has this word.
+fn assert_place(rt: &(impl Abort + AllocGlobal), source: &str, place: Place) {
+    let (count, place, address, word, line) = place;
+    let row = Row {
+        address,
+        word,
+        line,
+    };
+    let listed = row_of(rt.alloc(), source, place);
+    assert_row(rt, source, listed, Ok((count, Some(row))));
 }
 
 #[test]
 fn rows(rt: HostRuntime) {
-    for &(source, count, place, address, word, line) in ROWS {
-        let row = Row {
-            address,
-            word,
-            line,
-        };
-        let listed = row_of(rt.alloc(), source, place);
-        assert_row(&rt, source, listed, Ok((count, Some(row))));
+    for &(source, place) in ROWS {
+        assert_place(&rt, source, place);
     }
 }
 
 #[test]
-fn images(rt: HostRuntime) {
+fn images(rt: HostRuntime) -> Result<(), AsmFault> {
     for &(source, entry, count, vaddr, len, file) in IMAGES {
         let image = image_of(rt.alloc(), source);
-        let written = file_len(rt.alloc(), source);
         assert_row(&rt, source, image, Ok((entry, count, vaddr, len)));
-        assert_row(&rt, source, written, Ok(file));
+        assert_row(&rt, source, file_of(rt.alloc(), source)?.len(), file);
     }
+    Ok(())
 }
 
 #[test]
@@ -347,117 +317,56 @@ fn files(rt: HostRuntime) -> Result<(), AsmFault> {
     Ok(())
 }
 
-/// A source is refused for this cause, at this line and column.
-fn assert_fault(
-    rt: &(impl Abort + AllocGlobal),
-    source: &str,
-    why: Cause,
-    line: usize,
-    column: usize,
-) {
-    let fault = AsmFault { why, line, column };
-    assert_row(rt, source, fault_of(rt.alloc(), source), Some(fault));
-}
-
-/// Faults of several kinds.
-fn assert_faults(rt: &(impl Abort + AllocGlobal)) {
-    for &(source, why, line, column) in FAULTS {
-        assert_fault(rt, source, why, line, column);
-    }
-}
-
-/// Programs with no start, and lines with no form.
-fn assert_form_faults(rt: &(impl Abort + AllocGlobal)) {
-    for &(source, why, line, column) in FORM_FAULTS {
-        assert_fault(rt, source, why, line, column);
-    }
-}
-
-/// Second labels, sizes and ranges.
-fn assert_size_faults(rt: &(impl Abort + AllocGlobal)) {
-    for &(source, why, line, column) in SIZE_FAULTS {
-        assert_fault(rt, source, why, line, column);
+/// Sources are refused for these causes, at these lines and columns.
+fn assert_faults(rt: &(impl Abort + AllocGlobal), rows: &[(&str, Cause, usize, usize)]) {
+    for &(source, why, line, column) in rows {
+        let fault = AsmFault { why, line, column };
+        assert_row(rt, source, fault_of(rt.alloc(), source), Some(fault));
     }
 }
 
 #[test]
 fn faults(rt: HostRuntime) {
-    assert_faults(&rt);
-    assert_form_faults(&rt);
-    assert_size_faults(&rt);
+    assert_faults(&rt, FAULTS);
+    assert_faults(&rt, FORM_FAULTS);
+    assert_faults(&rt, SIZE_FAULTS);
 }
 
-/// Appends 3,000 branches, each to itself.
-fn push_branches(source: &mut String) -> Result<(), AllocError> {
+/// Appends a source of 3,001 words of text, of which 3,000 are branches, each to itself, and 6,000 bytes of data.
+fn push_thousands(source: &mut String) -> Result<(), AllocError> {
+    source.push_str("_start: nop\n")?;
     for number in 0..3000u32 {
         write!(source, "label_{number}: beqz a0,label_{number}\n")?;
     }
-    Ok(())
-}
-
-/// Appends a source of 3,001 words of text and 6,000 bytes of data.
-fn push_thousands(source: &mut String) -> Result<(), AllocError> {
-    source.push_str("_start: nop\n")?;
-    push_branches(source)?;
     push_repeated(source, (".data\n", ".byte 1,2\n", 3000, ""))
-}
-
-/// The last word and the data of the source of thousands of lines.
-fn assert_thousands(rt: &(impl Abort + AllocGlobal), source: &str) {
-    let last = Row {
-        address: 0x12EE0,
-        word: 0x00050063,
-        line: 3001,
-    };
-    let text = row_of(rt.alloc(), source, 3000);
-    assert_row(rt, "text", text, Ok((3001, Some(last))));
-    let data = image_of(rt.alloc(), source);
-    assert_row(rt, "data", data, Ok((0x10000, 2, 0x13000, 6000)));
 }
 
 #[test]
 fn thousands_of_lines(rt: HostRuntime) -> Result<(), AllocError> {
     let mut source = String::new(rt.alloc());
     push_thousands(&mut source)?;
-    assert_thousands(&rt, &source);
+    assert_place(&rt, &source, (3001, 3000, 0x12EE0, 0x00050063, 3001));
+    let data = image_of(rt.alloc(), &source);
+    assert_row(&rt, "data", data, Ok((0x10000, 2, 0x13000, 6000)));
     Ok(())
 }
 
-/// Appends a source of 1,048,576 bytes.
-fn push_longest(source: &mut String) -> Result<(), AllocError> {
-    let dots = "................................................................";
-    let end = ".................................................";
-    push_repeated(source, ("_start: ecall\n#", dots, 16383, end))
-}
-
-/// The longest source has one word.
-fn assert_longest(rt: &(impl Abort + AllocGlobal), source: &str) {
-    assert_row(rt, "length", source.len(), 1_048_576);
-    let word = word_of(rt.alloc(), source, 0);
-    assert_row(rt, "word", word, Ok((1, Some(0x00000073))));
-}
-
-/// A source of one byte more is refused.
-fn assert_too_long(rt: &(impl Abort + AllocGlobal), source: &str) {
-    let wanted = AsmFault {
-        why: TooLarge,
-        line: 1,
-        column: 1,
-    };
-    assert_row(
-        rt,
-        "one byte more",
-        fault_of(rt.alloc(), source),
-        Some(wanted),
-    );
-}
+/// A source of 1,048,576 bytes, the most that there may be.
+const LONGEST: Repeated<'static> = (
+    "_start: ecall\n#",
+    "................................................................",
+    16383,
+    ".................................................",
+);
 
 #[test]
 fn long_sources(rt: HostRuntime) -> Result<(), AllocError> {
     let mut source = String::new(rt.alloc());
-    push_longest(&mut source)?;
-    assert_longest(&rt, &source);
+    push_repeated(&mut source, LONGEST)?;
+    assert_row(&rt, "length", source.len(), 1_048_576);
+    assert_words(&rt, &[(&source, &[0x00000073])]);
+    // One byte more.
     source.push_str(".")?;
-    assert_too_long(&rt, &source);
+    assert_faults(&rt, &[(&source, TooLarge, 1, 1)]);
     Ok(())
 }

@@ -4,6 +4,7 @@ use byte_list::Bytes;
 use files::FileTable;
 use journal::{Change, body_of, rebuild};
 use std::alloc::{AllocError, Global};
+use std::process::Abort;
 
 /// The body of a record with a change of each kind.
 fn body_of_each(alloc: Global) -> Result<Vec<u8>, AllocError> {
@@ -62,20 +63,24 @@ fn written(change: &Change) -> Option<(u16, u32, usize)> {
     }
 }
 
-#[test]
-fn a_checkpoint_has_every_file(rt: HostRuntime) -> Result<(), AllocError> {
-    let changes = rebuilt(rt.alloc())?;
-    assert!(rt; changes.len() == 4);
-    // Creations come first, and writes last.
-    for (place, name) in [(0, b"empty".as_slice()), (1, b"b")] {
-        assert_row(&rt, place, created(&changes[place]), Some(name));
+/// What a change creates, or what it writes.
+type Told = (Option<&'static [u8]>, Option<(u16, u32, usize)>);
+
+/// Changes tell this, one after the other.
+fn assert_changes(rt: &impl Abort, changes: &[Change], wanted: &[Told]) {
+    assert_row(rt, "changes", changes.len(), wanted.len());
+    for (row, (change, &told)) in changes.iter().zip(wanted).enumerate() {
+        assert_row(rt, row, (created(change), written(change)), told);
     }
-    for (place, at, len) in [(2, 0, 1024), (3, 1024, 1)] {
-        let write = Some((1, at, len));
-        assert_row(&rt, place, written(&changes[place]), write);
-    }
-    Ok(())
 }
+
+/// The creations come first, and then the writes of the second file.
+const EVERY_FILE: &[Told] = &[
+    (Some(b"empty"), None),
+    (Some(b"b"), None),
+    (None, Some((1, 0, 1024))),
+    (None, Some((1, 1024, 1))),
+];
 
 /// The changes of a checkpoint of two files that live, of three that were made: the first was removed, and the third renamed.
 fn rebuilt_of_living(alloc: Global) -> Result<Vec<Change>, AllocError> {
@@ -89,12 +94,16 @@ fn rebuilt_of_living(alloc: Global) -> Result<Vec<Change>, AllocError> {
     rebuild(alloc, &files)
 }
 
+/// A creation with its write, and another one.
+const LIVING_FILES: &[Told] = &[
+    (Some(b"b"), None),
+    (None, Some((0, 0, 2))),
+    (Some(b"d"), None),
+];
+
 #[test]
-fn a_checkpoint_has_living_files_alone(rt: HostRuntime) -> Result<(), AllocError> {
-    let changes = rebuilt_of_living(rt.alloc())?;
-    assert!(rt; changes.len() == 3);
-    assert_row(&rt, 0, created(&changes[0]), Some(b"b".as_slice()));
-    assert_row(&rt, 1, written(&changes[1]), Some((0, 0, 2)));
-    assert_row(&rt, 2, created(&changes[2]), Some(b"d".as_slice()));
+fn a_checkpoint_has_every_file_that_lives(rt: HostRuntime) -> Result<(), AllocError> {
+    assert_changes(&rt, &rebuilt(rt.alloc())?, EVERY_FILE);
+    assert_changes(&rt, &rebuilt_of_living(rt.alloc())?, LIVING_FILES);
     Ok(())
 }

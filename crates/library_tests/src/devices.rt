@@ -68,15 +68,18 @@ fn refused(alloc: Global, bytes: &[u8]) -> Option<u8> {
     }
 }
 
+/// The crashed disk is quiet. It has the completed write, and where the others were the bytes of the crash.
+fn assert_left(rt: &impl Abort, device: &SimDisk) {
+    assert_row(rt, "quiet", device.quiet(), true);
+    let wanted = b"\x0012\0\0de\0\0\0\0312\0".as_slice();
+    assert_row(rt, "left", &device.bytes()[59..74], wanted);
+}
+
 #[test]
 fn writes_of_a_disk(rt: HostRuntime) -> Result<(), DiskRefusal> {
-    let alloc = rt.alloc();
-    let device = crashed(&rt, alloc)?;
-    assert!(rt; device.quiet());
-    let left = &device.bytes()[59..74];
-    let wanted = b"\x0012\0\0de\0\0\0\0312\0".as_slice();
-    assert_row(&rt, "left", left, wanted);
-    assert_row(&rt, "kept", kept_byte(alloc, device.bytes())?, b'd');
-    assert_row(&rt, "short", refused(alloc, b"short"), Some(4));
+    let device = crashed(&rt, rt.alloc())?;
+    assert_left(&rt, &device);
+    assert_row(&rt, "kept", kept_byte(rt.alloc(), device.bytes())?, b'd');
+    assert_row(&rt, "short", refused(rt.alloc(), b"short"), Some(4));
     Ok(())
 }

@@ -1,4 +1,5 @@
 //! Instructions on a memory of 64 bytes.
+use crate::asserting::assert_row;
 use flat_bus::FlatBus;
 use formats::{Immediate, Instr, Reg, ShiftAmount};
 use isa_table::{Outcome, Regs, exec};
@@ -27,13 +28,18 @@ fn three() -> (Reg, Reg, Reg) {
     (Reg::new(3), Reg::new(1), Reg::new(2))
 }
 
-/// An instruction puts this value in x3.
-fn assert_value(rt: &impl Abort, i: Instr, first: u32, second: u32, wanted: u32) {
+/// What comes of an instruction on registers with these values in x1 and x2 and a memory of zeros: the program counter, x1 and x3.
+fn done(i: Instr, first: u32, second: u32) -> (Outcome, [u32; 3]) {
     let mut bus = FlatBus { bytes: [0; 64] };
     let mut regs = registers(first, second);
-    assert_eq!(rt; exec(&mut regs, &mut bus, i), Outcome::Next);
-    let value = regs.x[3];
-    assert_eq!(rt; value, wanted, "{i:?} of {first:#x} and {second:#x}");
+    let outcome = exec(&mut regs, &mut bus, i);
+    (outcome, [regs.pc, regs.x[1], regs.x[3]])
+}
+
+/// An instruction puts this value in x3.
+fn assert_value(rt: &impl Abort, i: Instr, first: u32, second: u32, wanted: u32) {
+    let (outcome, [_, _, value]) = done(i, first, second);
+    assert_row(rt, &i, (outcome, value), (Outcome::Next, wanted));
 }
 
 /// Divisions by zero.
@@ -87,12 +93,8 @@ fn assert_jump(rt: &impl Abort, imm: Immediate, outcome: Outcome, pc: u32, link:
         rs1: ra,
         imm,
     };
-    let mut bus = FlatBus { bytes: [0; 64] };
-    let mut regs = registers(0x0001_0010, 0);
-    assert_eq!(rt; exec(&mut regs, &mut bus, jump), outcome);
-    assert_eq!(rt; regs.pc, pc);
-    let found = regs.x[1];
-    assert_eq!(rt; found, link);
+    let (found, [at, linked, _]) = done(jump, 0x0001_0010, 0);
+    assert_row(rt, &jump, (found, at, linked), (outcome, pc, link));
 }
 
 #[test]
@@ -105,9 +107,8 @@ fn jumps(rt: HostRuntime) {
 
 /// An instruction at this place ends in a trap.
 fn assert_trap(rt: &impl Abort, i: Instr, at: u32, cause: Cause) {
-    let mut bus = FlatBus { bytes: [0; 64] };
-    let mut regs = registers(at, 0);
-    assert_eq!(rt; exec(&mut regs, &mut bus, i), Outcome::Trap(cause));
+    let (outcome, _) = done(i, at, 0);
+    assert_row(rt, &i, outcome, Outcome::Trap(cause));
 }
 
 #[test]
@@ -135,10 +136,9 @@ fn refuses(rt: HostRuntime) {
 fn assert_loaded(rt: &impl Abort, store: Instr, load: Instr, wanted: u32) {
     let mut bus = FlatBus { bytes: [0x11; 64] };
     let mut regs = registers(0, STORED);
-    assert_eq!(rt; exec(&mut regs, &mut bus, store), Outcome::Next);
-    assert_eq!(rt; exec(&mut regs, &mut bus, load), Outcome::Next);
-    let value = regs.x[3];
-    assert_eq!(rt; value, wanted, "{load:?} after {store:?}");
+    let stored = exec(&mut regs, &mut bus, store);
+    let loaded = (stored, exec(&mut regs, &mut bus, load), regs.x[3]);
+    assert_row(rt, &load, loaded, (Outcome::Next, Outcome::Next, wanted));
 }
 
 /// Loads after the store of a byte.

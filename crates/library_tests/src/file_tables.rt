@@ -6,15 +6,17 @@ use files::{FileList, FileTable};
 use std::alloc::{AllocError, Global};
 use std::process::Abort;
 
-/// Two creations, and writes to the second file. The last one names a file that is not there.
-const CHANGES: &[Step] = &[
-    Step::Create(b"f"),
-    Step::Create(b"g"),
-    Step::Write(1, 2, b"ab"),
-    Step::Write(1, 3, b"cd"),
-    Step::Write(1, 0, b"xy"),
-    Step::Write(7, 0, b"no"),
-];
+/// A change, as a row has it: files by their places.
+enum Step {
+    Create(&'static [u8]),
+    Write(u16, u32, &'static [u8]),
+    Empty(u16),
+    Remove(u16),
+    Rename(u16, &'static [u8]),
+}
+
+/// A file that lives: its number, its name and its bytes.
+type Living = (u64, &'static [u8], &'static [u8]);
 
 /// Parts of the changed files: the file, the offset, the most bytes, and the bytes that are there.
 const PARTS: &[(usize, usize, usize, Option<&[u8]>)] = &[
@@ -35,93 +37,30 @@ const WRITES: &[(usize, &[u8], &[u8])] = &[
     (15, b"", b"abCDefGHIJ\0\0x\0\0"),
 ];
 
-/// The files `f` and `g`, with the bytes of `CHANGES`.
-fn changed_files(alloc: Global) -> Result<FileList, AllocError> {
-    let mut files = FileList::new(alloc);
-    for &step in CHANGES {
-        files.change(&change_of(alloc, step)?)?;
-    }
-    Ok(files)
-}
+/// Changes one after the other, and the files that live after each, by their places.
+type Script = &'static [(Step, &'static [Living])];
 
-/// The parts of the changed files are found.
-fn assert_parts(rt: &impl Abort, files: &FileList) {
-    for (row, &(file, offset, n, bytes)) in PARTS.iter().enumerate() {
-        assert_row(rt, row, files.read(file, offset, n), bytes);
-    }
-}
+/// Two creations, and writes to the second file. The last one names a file that is not there.
+const CHANGES: Script = &[
+    (Step::Create(b"f"), &[(0, b"f", b"")]),
+    (Step::Create(b"g"), &[(0, b"f", b""), (1, b"g", b"")]),
+    (
+        Step::Write(1, 2, b"ab"),
+        &[(0, b"f", b""), (1, b"g", b"\0\0ab")],
+    ),
+    (
+        Step::Write(1, 3, b"cd"),
+        &[(0, b"f", b""), (1, b"g", b"\0\0acd")],
+    ),
+    (Step::Write(1, 0, b"xy"), &CHANGED),
+    (Step::Write(7, 0, b"no"), &CHANGED),
+];
 
-/// The names and the bytes of the changed files are found.
-fn assert_changed(rt: &impl Abort, files: &FileList) {
-    assert!(rt; files.count() == 2);
-    assert_parts(rt, files);
-    assert_row(rt, "place", files.find(b"g"), Some(1));
-    assert_row(rt, "no place", files.find(b"h"), None);
-    assert_row(rt, "name", files.name(0), b"f".as_slice());
-    assert_row(rt, "bytes", files.bytes(1), b"xyacd".as_slice());
-}
+/// The files that the changes make.
+const CHANGED: [Living; 2] = [(0, b"f", b""), (1, b"g", b"xyacd")];
 
-/// The second of two files is emptied by a change, written past its end, and emptied again.
-fn assert_emptied(rt: &impl Abort, files: &mut FileList) -> Result<(), AllocError> {
-    files.change(&Change::Empty(1))?;
-    assert!(rt; files.count() == 2);
-    assert_row(rt, "emptied", files.length(1), 0);
-    files.write(1, 1, b"z")?;
-    assert_row(rt, "written", files.bytes(1), b"\0z".as_slice());
-    files.empty(1);
-    assert_row(rt, "emptied again", files.length(1), 0);
-    Ok(())
-}
-
-#[test]
-fn changes_fold_into_files(rt: HostRuntime) -> Result<(), AllocError> {
-    let alloc = rt.alloc();
-    let mut files = changed_files(alloc)?;
-    assert_changed(&rt, &files);
-    assert_emptied(&rt, &mut files)?;
-    files.create(Bytes::empty(alloc))?;
-    let counts = (files.count(), files.try_clone()?.count());
-    assert_row(&rt, "files, and of a copy", counts, (3, 3));
-    Ok(())
-}
-
-/// A write to the first file, which holds these bytes then.
-fn assert_written(
-    rt: &impl Abort,
-    files: &mut FileList,
-    offset: usize,
-    bytes: &[u8],
-    held: &[u8],
-) -> Result<(), AllocError> {
-    assert!(rt; files.count() == 1);
-    files.write(0, offset, bytes)?;
-    assert!(rt; files.count() == 1);
-    assert_row(rt, offset, files.bytes(0), held);
-    Ok(())
-}
-
-#[test]
-fn writes_keep_the_bytes_around_them(rt: HostRuntime) -> Result<(), AllocError> {
-    let mut files = FileList::new(rt.alloc());
-    files.create(Bytes::copy_of(rt.alloc(), b"f")?)?;
-    for &(offset, bytes, held) in WRITES {
-        assert_written(&rt, &mut files, offset, bytes, held)?;
-    }
-    Ok(())
-}
-
-/// A change, as a row has it: files by their places.
-#[derive(Clone, Copy)]
-enum Step {
-    Create(&'static [u8]),
-    Write(u16, u32, &'static [u8]),
-    Empty(u16),
-    Remove(u16),
-    Rename(u16, &'static [u8]),
-}
-
-/// Changes one after the other, and the files that live after each, by their places: the number, the name and the bytes.
-const STEPS: &[(Step, &[(u64, &[u8], &[u8])])] = &[
+/// Changes of each kind. Files lose their places and their names, and some changes name a file that is not there.
+const STEPS: Script = &[
     (Step::Create(b"f"), &[(0, b"f", b"")]),
     (Step::Create(b"g"), &[(0, b"f", b""), (1, b"g", b"")]),
     (
@@ -179,31 +118,37 @@ const STEPS: &[(Step, &[(u64, &[u8], &[u8])])] = &[
     (Step::Empty(0), &[(5, b"a", b"")]),
 ];
 
-/// The changes, in order.
-fn steps() -> &'static [(Step, &'static [(u64, &'static [u8], &'static [u8])])] {
+/// The steps, in order.
+fn steps() -> Script {
     STEPS
 }
 
-/// The change of a row.
-fn change_of(alloc: Global, step: Step) -> Result<Change, AllocError> {
-    match step {
-        Step::Create(name) => Ok(Change::Create(Bytes::copy_of(alloc, name)?)),
-        Step::Write(file, offset, bytes) => Ok(Change::Write {
-            file,
-            offset,
-            bytes: Bytes::copy_of(alloc, bytes)?,
-        }),
-        Step::Empty(file) => Ok(Change::Empty(file)),
-        Step::Remove(file) => Ok(Change::Remove(file)),
-        Step::Rename(file, name) => Ok(Change::Rename {
-            file,
-            name: Bytes::copy_of(alloc, name)?,
-        }),
+/// The name or the bytes of a step.
+fn bytes_of(step: &Step) -> &'static [u8] {
+    match *step {
+        Step::Create(bytes) | Step::Write(_, _, bytes) | Step::Rename(_, bytes) => bytes,
+        Step::Empty(_) | Step::Remove(_) => b"",
     }
 }
 
+/// The change of a row.
+fn change_of(alloc: Global, step: &Step) -> Result<Change, AllocError> {
+    let bytes = Bytes::copy_of(alloc, bytes_of(step))?;
+    Ok(match *step {
+        Step::Create(_) => Change::Create(bytes),
+        Step::Write(file, offset, _) => Change::Write {
+            file,
+            offset,
+            bytes,
+        },
+        Step::Empty(file) => Change::Empty(file),
+        Step::Remove(file) => Change::Remove(file),
+        Step::Rename(file, _) => Change::Rename { file, name: bytes },
+    })
+}
+
 /// These files live, by their places.
-fn assert_listed(rt: &impl Abort, row: usize, files: &FileList, living: &[(u64, &[u8], &[u8])]) {
+fn assert_listed(rt: &impl Abort, row: usize, files: &FileList, living: &[Living]) {
     assert_row(rt, row, files.count(), living.len());
     for (place, &(_, name, bytes)) in living.iter().enumerate() {
         assert!(rt; place < files.count());
@@ -212,13 +157,72 @@ fn assert_listed(rt: &impl Abort, row: usize, files: &FileList, living: &[(u64, 
     }
 }
 
-#[test]
-fn changes_go_by_places(rt: HostRuntime) -> Result<(), AllocError> {
+/// The files that changes make; they live after each change as the script says, and those of a copy too.
+fn folded(rt: &(impl Abort + AllocGlobal), script: Script) -> Result<FileList, AllocError> {
     let mut files = FileList::new(rt.alloc());
-    for (row, &(step, living)) in steps().iter().enumerate() {
+    for (row, (step, living)) in script.iter().enumerate() {
         files.change(&change_of(rt.alloc(), step)?)?;
-        assert_listed(&rt, row, &files, living);
-        assert_listed(&rt, row, &files.try_clone()?, living);
+        assert_listed(rt, row, &files, living);
+        assert_listed(rt, row, &files.try_clone()?, living);
+    }
+    Ok(files)
+}
+
+/// The parts of the changed files are found.
+fn assert_changed(rt: &impl Abort, files: &FileList) {
+    assert_listed(rt, 0, files, &CHANGED);
+    assert_row(rt, "no place", files.find(b"h"), None);
+    for (row, &(file, offset, n, bytes)) in PARTS.iter().enumerate() {
+        assert_row(rt, row, files.read(file, offset, n), bytes);
+    }
+}
+
+/// A write to a file, which holds these bytes then.
+fn assert_written(
+    rt: &impl Abort,
+    files: &mut FileList,
+    place: usize,
+    offset: usize,
+    bytes: &[u8],
+    held: &[u8],
+) -> Result<(), AllocError> {
+    assert!(rt; place < files.count());
+    files.write(place, offset, bytes)?;
+    assert!(rt; place < files.count());
+    assert_row(rt, offset, files.bytes(place), held);
+    Ok(())
+}
+
+/// The second of two files is emptied by a change, written past its end, and emptied again.
+fn assert_emptied(rt: &impl Abort, files: &mut FileList) -> Result<(), AllocError> {
+    files.change(&Change::Empty(1))?;
+    assert!(rt; files.count() == 2);
+    assert_row(rt, "emptied", files.length(1), 0);
+    assert_written(rt, files, 1, 1, b"z", b"\0z")?;
+    assert!(rt; files.count() == 2);
+    files.empty(1);
+    assert_row(rt, "emptied again", files.length(1), 0);
+    Ok(())
+}
+
+#[test]
+fn changes_fold_into_files(rt: HostRuntime) -> Result<(), AllocError> {
+    folded(&rt, steps())?;
+    let mut files = folded(&rt, CHANGES)?;
+    assert_changed(&rt, &files);
+    assert_emptied(&rt, &mut files)?;
+    files.create(Bytes::empty(rt.alloc()))?;
+    let counts = (files.count(), files.try_clone()?.count());
+    assert_row(&rt, "files, and of a copy", counts, (3, 3));
+    Ok(())
+}
+
+#[test]
+fn writes_keep_the_bytes_around_them(rt: HostRuntime) -> Result<(), AllocError> {
+    let mut files = FileList::new(rt.alloc());
+    files.create(Bytes::copy_of(rt.alloc(), b"f")?)?;
+    for &(offset, bytes, held) in WRITES {
+        assert_written(&rt, &mut files, 0, offset, bytes, held)?;
     }
     Ok(())
 }
@@ -229,29 +233,28 @@ fn assert_numbered(
     row: usize,
     files: &FileTable,
     place: usize,
-    (number, name, bytes): (u64, &[u8], &[u8]),
+    (number, name, bytes): Living,
 ) {
     assert!(rt; place < files.count());
-    let held = (files.name(place), files.bytes(place), files.length(place));
-    assert_row(rt, row, held, (name, bytes, bytes.len()));
-    assert_row(rt, row, files.number(place), number);
+    let held = (files.number(place), files.name(place), files.bytes(place));
+    assert_row(rt, row, held, (number, name, bytes));
+    let read = (files.length(place), files.read(place, 0, bytes.len()));
+    assert_row(rt, row, read, (bytes.len(), Some(bytes)));
     let places = (files.find(name), files.place(number));
     assert_row(rt, row, places, (Some(place), Some(place)));
-    let read = files.read(place, 0, bytes.len());
-    assert_row(rt, row, read, Some(bytes));
 }
 
 /// These files of a table live, by their places, and no other number is one's that lives.
-fn assert_living(rt: &impl Abort, row: usize, files: &FileTable, living: &[(u64, &[u8], &[u8])]) {
+fn assert_living(rt: &impl Abort, row: usize, files: &FileTable, living: &[Living]) {
     assert_row(rt, row, files.count(), living.len());
+    assert_row(rt, row, files.read(living.len(), 0, 1), None);
     for (place, &file) in living.iter().enumerate() {
         assert_numbered(rt, row, files, place, file);
     }
-    assert_row(rt, row, files.read(living.len(), 0, 1), None);
     for number in 0..=files.made() {
         let lives = living.iter().any(|file| file.0 == number);
-        assert_row(rt, row, files.alive(number), lives);
-        assert_row(rt, row, files.place(number).is_some(), lives);
+        let found = (files.alive(number), files.place(number).is_some());
+        assert_row(rt, row, found, (lives, lives));
     }
 }
 
@@ -259,85 +262,41 @@ fn assert_living(rt: &impl Abort, row: usize, files: &FileTable, living: &[(u64,
 fn do_by_change(
     rt: &(impl Abort + AllocGlobal),
     files: &mut FileTable,
-    step: Step,
+    step: &Step,
 ) -> Result<(), AllocError> {
     let change = change_of(rt.alloc(), step)?;
     assert!(rt; files.made() < 100);
     files.change(&change)
 }
 
-/// Creates a file by the call for it.
-fn create(
-    rt: &(impl Abort + AllocGlobal),
-    files: &mut FileTable,
-    name: &[u8],
-) -> Result<(), AllocError> {
-    assert!(rt; files.made() < 100);
-    files.create(Bytes::copy_of(rt.alloc(), name)?)
-}
-
-/// Writes to a file by the call for it, if it is there.
-fn write_there(
-    files: &mut FileTable,
-    place: usize,
-    offset: usize,
-    bytes: &[u8],
-) -> Result<(), AllocError> {
-    if place < files.count() {
-        files.write(place, offset, bytes)?;
-    }
-    Ok(())
-}
-
-/// Empties a file by the call for it, if it is there.
-fn empty_there(files: &mut FileTable, place: usize) {
-    if place < files.count() {
-        files.empty(place);
-    }
-}
-
-/// Removes a file by the call for it, if it is there.
-fn unlink_there(files: &mut FileTable, place: usize) {
-    if place < files.count() {
-        files.unlink(place);
-    }
-}
-
-/// Gives a file a name by the call for it, if it is there.
-fn rename_there(
-    alloc: Global,
-    files: &mut FileTable,
-    place: usize,
-    name: &[u8],
-) -> Result<(), AllocError> {
-    let name = Bytes::copy_of(alloc, name)?;
-    if place < files.count() {
-        files.rename(place, name);
-    }
-    Ok(())
-}
-
 /// Does the step of a row by the call for it, where the file that it names is there.
 fn do_by_call(
     rt: &(impl Abort + AllocGlobal),
     files: &mut FileTable,
-    step: Step,
+    step: &Step,
 ) -> Result<(), AllocError> {
-    match step {
-        Step::Create(name) => create(rt, files, name),
-        Step::Write(file, offset, bytes) => {
-            write_there(files, usize::from(file), offset as usize, bytes)
+    let name = Bytes::copy_of(rt.alloc(), bytes_of(step))?;
+    let there = files.count();
+    match *step {
+        Step::Create(_) => {
+            assert!(rt; files.made() < 100);
+            files.create(name)?;
         }
-        Step::Empty(file) => Ok(empty_there(files, usize::from(file))),
-        Step::Remove(file) => Ok(unlink_there(files, usize::from(file))),
-        Step::Rename(file, name) => rename_there(rt.alloc(), files, usize::from(file), name),
+        Step::Write(file, offset, bytes) if usize::from(file) < there => {
+            files.write(usize::from(file), offset as usize, bytes)?;
+        }
+        Step::Empty(file) if usize::from(file) < there => files.empty(usize::from(file)),
+        Step::Remove(file) if usize::from(file) < there => files.unlink(usize::from(file)),
+        Step::Rename(file, _) if usize::from(file) < there => files.rename(usize::from(file), name),
+        _ => (),
     }
+    Ok(())
 }
 
 #[test]
 fn numbers_stay_where_places_move(rt: HostRuntime) -> Result<(), AllocError> {
     let mut changed = FileTable::new(rt.alloc());
-    for (row, &(step, living)) in steps().iter().enumerate() {
+    for (row, (step, living)) in steps().iter().enumerate() {
         do_by_change(&rt, &mut changed, step)?;
         assert_living(&rt, row, &changed, living);
         assert_living(&rt, row, &changed.try_clone()?, living);
@@ -349,7 +308,7 @@ fn numbers_stay_where_places_move(rt: HostRuntime) -> Result<(), AllocError> {
 #[test]
 fn calls_of_a_table_are_its_changes(rt: HostRuntime) -> Result<(), AllocError> {
     let mut called = FileTable::new(rt.alloc());
-    for (row, &(step, living)) in steps().iter().enumerate() {
+    for (row, (step, living)) in steps().iter().enumerate() {
         do_by_call(&rt, &mut called, step)?;
         assert_living(&rt, row, &called, living);
     }
@@ -358,12 +317,11 @@ fn calls_of_a_table_are_its_changes(rt: HostRuntime) -> Result<(), AllocError> {
 
 #[test]
 fn a_list_is_numbered_by_its_places(rt: HostRuntime) -> Result<(), AllocError> {
-    let mut files = FileTable::numbered(rt.alloc(), changed_files(rt.alloc())?)?;
+    let mut files = FileTable::numbered(rt.alloc(), folded(&rt, CHANGES)?)?;
     assert_changed(&rt, files.list());
-    let old: [(u64, &[u8], &[u8]); 2] = [(0, b"f", b""), (1, b"g", b"xyacd")];
-    assert_living(&rt, 2, &files, &old);
-    do_by_change(&rt, &mut files, Step::Create(b"h"))?;
-    let new: [(u64, &[u8], &[u8]); 3] = [(0, b"f", b""), (1, b"g", b"xyacd"), (2, b"h", b"")];
-    assert_living(&rt, 3, &files, &new);
+    assert_living(&rt, 2, &files, &CHANGED);
+    do_by_change(&rt, &mut files, &Step::Create(b"h"))?;
+    let [f, g] = CHANGED;
+    assert_living(&rt, 3, &files, &[f, g, (2, b"h", b"")]);
     Ok(())
 }

@@ -10,7 +10,7 @@ use disk_model::{Change, made_files_change};
 use files::{FileList, FileTable};
 use group_commit::CommitRefusal::{DiskFailed, GroupInFlight, NoSuchWrite, NothingToCut};
 use group_commit::Committer;
-use simdisk::SimDisk;
+use simdisk::{DiskRefusal, SimDisk};
 use std::alloc::{AllocError, Global};
 use std::process::Abort;
 use std::test::Fail;
@@ -107,21 +107,23 @@ fn assert_failed(rt: &impl Abort, committer: &mut Committer, changes: &[Change])
     assert_row(rt, "after it", again, Err(DiskFailed));
 }
 
-/// A committer commits a group of two changes by its record and then its gate, and the next group's first write fails.
-fn assert_groups(
+/// The disk of a committer that commits a group of two changes by its record and then its gate, and whose next group's first write
+/// fails.
+fn crashed(
     rt: &impl Abort,
     alloc: Global,
-    committer: &mut Committer,
     changes: &[Change],
     files: &FileTable,
-)
+) -> Result<SimDisk, DiskRefusal>
     requires possible { IsMade files.now.living }
     requires formed { AllByRecursion IsFormed changes.now }
 {
-    assert_first(rt, alloc, committer, changes, files);
-    assert_committed(rt, committer);
-    assert_cut(rt, alloc, committer, changes, files);
-    assert_failed(rt, committer, changes);
+    let mut committer = Committer::new(alloc, SimDisk::zero(alloc)?, FIRST_GATE);
+    assert_first(rt, alloc, &mut committer, changes, files);
+    assert_committed(rt, &mut committer);
+    assert_cut(rt, alloc, &mut committer, changes, files);
+    assert_failed(rt, &mut committer, changes);
+    Ok(committer.crash(b""))
 }
 
 #[test]
@@ -129,9 +131,7 @@ fn a_group_is_a_record_and_then_its_gate(rt: HostRuntime) -> Result<(), Fail> {
     let alloc = rt.alloc();
     let changes = two_changes(alloc)?;
     let files = files_of(alloc, &changes)?;
-    let mut committer = Committer::new(alloc, SimDisk::zero(alloc)?, FIRST_GATE);
-    assert_groups(&rt, alloc, &mut committer, &changes, &files);
-    let device = committer.crash(b"");
+    let device = crashed(&rt, alloc, &changes, &files)?;
     let record = b"\x01\x0f\0\0\0\x01\x01f\x02\0\0\0\0\0\0\x03\0A\0\0\0";
     assert!(rt; device.bytes()[64..].starts_with(record));
     Ok(())

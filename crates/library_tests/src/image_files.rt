@@ -25,9 +25,12 @@ const SECOND: [u8; 32] = [
     0x04, 0, 0, 0, 0x04, 0, 0, 0, 0x04, 0, 0, 0, 0, 0x10, 0, 0, //
 ];
 
-/// Lengths to which the small file is cut or lengthened, bytes that it has at places, and the number of its fault, 0
-/// where it has none.
-const FAULTS: &[(usize, &[(usize, u8)], u8)] = &[
+/// A length to which a file is cut or lengthened, bytes that it has at places, and the number of its fault, 0 where it has
+/// none.
+type Changed = (usize, &'static [(usize, u8)], u8);
+
+/// Changes of the small file.
+const FAULTS: &[Changed] = &[
     (0, &[], 1),
     (51, &[], 1),
     (52, &[], 6),
@@ -67,7 +70,7 @@ const FAULTS: &[(usize, &[(usize, u8)], u8)] = &[
 ];
 
 /// Further ones: addresses, the most pages, and faults one after the other.
-const FAULTS_IN_TURN: &[(usize, &[(usize, u8)], u8)] = &[
+const FAULTS_IN_TURN: &[Changed] = &[
     // The physical address says nothing.
     (4101, &[(66, 0x44)], 0),
     // No memory.
@@ -93,8 +96,8 @@ const FAULTS_IN_TURN: &[(usize, &[(usize, u8)], u8)] = &[
 /// At 0x00011800 eight bytes of memory, none of the file.
 const NO_BYTES: &[(usize, u8)] = &[(93, 0x18), (100, 0), (104, 8), (108, 6)];
 
-/// The same of the file with the second header.
-const FAULTS_OF_TWO: &[(usize, &[(usize, u8)], u8)] = &[
+/// Changes of the file with the second header.
+const FAULTS_OF_TWO: &[Changed] = &[
     // The second header's fault, of an earlier check, wins over the first header's.
     (0x1804, &[(108, 0), (68, 5)], 7),
     // They share a page.
@@ -122,6 +125,24 @@ const NAMES: &[(ElfFault, u8, &str)] = &[
     (ElfFault::BadEntry, 12, "BadEntry"),
     (ElfFault::OutOfMemory, 13, "OutOfMemory"),
 ];
+
+const READ_EXECUTE: Rights = Rights {
+    read: true,
+    write: false,
+    execute: true,
+};
+
+const READ_WRITE: Rights = Rights {
+    read: true,
+    write: true,
+    execute: false,
+};
+
+/// A segment: its address, its size in memory, what may be done there, and its bytes.
+type Shape = (u32, u32, Rights, &'static [u8]);
+
+/// The segment of the small file.
+const FIRST_SHAPE: Shape = (0x0001_0000, 4, READ_EXECUTE, &[0x73, 0, 0, 0]);
 
 /// The file of the program that is one ECALL.
 fn small_file(alloc: Global) -> Result<Vec<u8>, AllocError> {
@@ -153,25 +174,31 @@ fn set_run(file: &mut [u8], from: usize, bytes: &[u8]) {
     }
 }
 
-/// The small file, cut or lengthened, with these bytes at their places.
-fn changed(alloc: Global, len: usize, bytes: &[(usize, u8)]) -> Result<Vec<u8>, AllocError> {
-    let mut file = small_file(alloc)?;
+/// A file, cut or lengthened, with these bytes at their places.
+fn changed(
+    alloc: Global,
+    file: &[u8],
+    len: usize,
+    bytes: &[(usize, u8)],
+) -> Result<Vec<u8>, AllocError> {
+    let mut file = Vec::from_slice(alloc, file)?;
     file.resize(len, 0)?;
     set(&mut file, bytes);
     Ok(file)
 }
 
-/// The small file, cut or lengthened, with the second header and then these bytes at their places.
-fn two_segments(alloc: Global, len: usize, bytes: &[(usize, u8)]) -> Result<Vec<u8>, AllocError> {
-    let mut file = changed(alloc, len, &[(44, 2)])?;
+/// The small file with the second header.
+fn two_segments(alloc: Global) -> Result<Vec<u8>, AllocError> {
+    let mut file = small_file(alloc)?;
+    set(&mut file, &[(44, 2)]);
     set_run(&mut file, 84, &SECOND);
-    set(&mut file, bytes);
     Ok(file)
 }
 
 /// A file of four segments, each of a word on a page of its own, which counts so many of them.
 fn four_segments(alloc: Global, count: u8) -> Result<Vec<u8>, AllocError> {
-    let mut file = changed(alloc, 0x4004, &[(44, count)])?;
+    let mut file = small_file(alloc)?;
+    file.resize(0x4004, 0)?;
     for place in 0..4usize {
         let header = 52 + 32 * place;
         // Its offset and its address, a page further each time.
@@ -179,6 +206,7 @@ fn four_segments(alloc: Global, count: u8) -> Result<Vec<u8>, AllocError> {
         set_run(&mut file, header, &HEADERS[52..]);
         set(&mut file, &[(header + 5, page + 16), (header + 9, page)]);
     }
+    set(&mut file, &[(44, count)]);
     Ok(file)
 }
 
@@ -208,121 +236,69 @@ fn count_of(alloc: Global, file: &[u8]) -> Result<usize, ElfFault> {
     Ok(image.segments().len())
 }
 
-/// Whether two segments are the same.
-fn is_same_segment(one: &Segment, other: &Segment) -> bool {
-    one.vaddr == other.vaddr
-        && one.memsz == other.memsz
-        && one.rights == other.rights
-        && one.bytes.as_slice() == other.bytes.as_slice()
-}
-
-/// Whether two images are the same.
-fn is_same(one: &Image, other: &Image) -> bool {
-    for (one, other) in one.segments().iter().zip(other.segments()) {
-        if !is_same_segment(one, other) {
-            return false;
-        }
-    }
-    one.entry() == other.entry() && one.segments().len() == other.segments().len()
-}
-
-/// Whether two files have the same image.
-fn have_same_image(alloc: Global, one: &[u8], other: &[u8]) -> Result<bool, ElfFault> {
-    let one = parse(alloc, one)?;
-    let other = parse(alloc, other)?;
-    Ok(is_same(&one, &other))
-}
-
-#[test]
-fn writes_a_small_file(rt: HostRuntime) -> Result<(), AllocError> {
-    assert!(rt; is_one_call(&small_file(rt.alloc())?));
-    Ok(())
-}
-
-/// The image of the program that is one ECALL.
-fn small_image(alloc: Global) -> Result<Image, ElfFault> {
-    parse(alloc, &small_file(alloc)?)
-}
-
-/// The one segment of the small file.
-fn assert_segment(rt: &impl Abort, segment: &Segment) {
-    let rights = Rights {
-        read: true,
-        write: false,
-        execute: true,
-    };
+/// A segment has this shape.
+fn assert_segment(rt: &impl Abort, segment: &Segment, (vaddr, memsz, rights, bytes): Shape) {
     let found = (segment.vaddr, segment.memsz, segment.rights);
-    assert_row(rt, "segment", found, (0x0001_0000, 4, rights));
-    assert!(rt; segment.bytes.as_slice() == [0x73, 0, 0, 0].as_slice());
+    assert_row(rt, vaddr, found, (vaddr, memsz, rights));
+    assert_row(rt, vaddr, segment.bytes.as_slice(), bytes);
 }
 
-#[test]
-fn parses_a_small_file(rt: HostRuntime) -> Result<(), ElfFault> {
-    let image = small_image(rt.alloc())?;
+/// The image of a file begins at 0x00010000, and has these segments.
+fn assert_image(
+    rt: &(impl Abort + AllocGlobal),
+    file: &[u8],
+    shapes: &[Shape],
+) -> Result<(), ElfFault> {
+    let image = parse(rt.alloc(), file)?;
     let shape = (image.entry(), image.segments().len());
-    assert_row(&rt, "image", shape, (0x0001_0000, 1));
-    for segment in image.segments() {
-        assert_segment(&rt, segment);
+    assert_row(rt, "image", shape, (0x0001_0000, shapes.len()));
+    for (segment, &shape) in image.segments().iter().zip(shapes) {
+        assert_segment(rt, segment, shape);
     }
     Ok(())
 }
 
-/// The small file, cut or lengthened and with these bytes at their places, has this fault.
-fn assert_fault(
-    rt: &(impl Abort + AllocGlobal),
-    row: usize,
-    len: usize,
-    bytes: &[(usize, u8)],
-    number: u8,
-) {
-    let found = fault_of(rt.alloc(), changed(rt.alloc(), len, bytes));
-    assert_row(rt, row, found, Ok(number));
+#[test]
+fn a_small_file(rt: HostRuntime) -> Result<(), ElfFault> {
+    let file = small_file(rt.alloc())?;
+    assert!(rt; is_one_call(&file));
+    assert_image(&rt, &file, &[FIRST_SHAPE])
 }
 
-/// Faults of each place.
-fn assert_faults(rt: &(impl Abort + AllocGlobal)) {
-    for (row, &(len, bytes, number)) in FAULTS.iter().enumerate() {
-        assert_fault(rt, row, len, bytes, number);
-    }
-}
-
-/// Addresses, the most pages, and faults one after the other.
-fn assert_faults_in_turn(rt: &(impl Abort + AllocGlobal)) {
-    for (row, &(len, bytes, number)) in FAULTS_IN_TURN.iter().enumerate() {
-        assert_fault(rt, row, len, bytes, number);
+/// A file with these changes has these faults.
+fn assert_faults(rt: &(impl Abort + AllocGlobal), file: &[u8], rows: &[Changed]) {
+    for (row, &(len, bytes, number)) in rows.iter().enumerate() {
+        let found = fault_of(rt.alloc(), changed(rt.alloc(), file, len, bytes));
+        assert_row(rt, row, found, Ok(number));
     }
 }
 
 #[test]
-fn finds_the_first_fault(rt: HostRuntime) {
-    assert_faults(&rt);
-    assert_faults_in_turn(&rt);
+fn finds_the_first_fault(rt: HostRuntime) -> Result<(), AllocError> {
+    let file = small_file(rt.alloc())?;
+    assert_faults(&rt, &file, FAULTS);
+    assert_faults(&rt, &file, FAULTS_IN_TURN);
+    let two = two_segments(rt.alloc())?;
+    assert_faults(&rt, &two, FAULTS_OF_TWO);
+    Ok(())
 }
 
-#[test]
-fn finds_the_first_fault_of_two_segments(rt: HostRuntime) {
-    for (row, &(len, bytes, number)) in FAULTS_OF_TWO.iter().enumerate() {
-        let found = fault_of(rt.alloc(), two_segments(rt.alloc(), len, bytes));
-        assert_row(&rt, row, found, Ok(number));
-    }
-}
-
-/// A file that is written has the image of this file, with two segments.
-fn assert_rewritten(rt: &(impl Abort + AllocGlobal), written: &[u8], file: &[u8]) {
+/// A file that is written has the image of this file, with a last segment of no bytes.
+fn assert_rewritten(rt: &(impl Abort + AllocGlobal), file: &[u8]) -> Result<(), ElfFault> {
+    let shapes = [FIRST_SHAPE, (0x0001_1800, 8, READ_WRITE, &[])];
+    assert_image(rt, file, &shapes)?;
+    let written = rewritten(rt.alloc(), file)?;
     // The next page after the first segment's bytes, and 0x800 further.
     assert!(rt; written.len() == 0x2800);
     assert!(rt; written[84..].starts_with(&[1, 0, 0, 0, 0, 0x28, 0, 0]));
-    assert_row(rt, "segments", count_of(rt.alloc(), written), Ok(2));
-    let same = have_same_image(rt.alloc(), written, file);
-    assert_row(rt, "the same", same, Ok(true));
+    assert_image(rt, &written, &shapes)
 }
 
 #[test]
 fn a_last_segment_of_no_bytes_is_kept(rt: HostRuntime) -> Result<(), ElfFault> {
-    let file = two_segments(rt.alloc(), 0x1800, NO_BYTES)?;
-    let written = rewritten(rt.alloc(), &file)?;
-    assert_rewritten(&rt, &written, &file);
-    Ok(())
+    let two = two_segments(rt.alloc())?;
+    let file = changed(rt.alloc(), &two, 0x1800, NO_BYTES)?;
+    assert_rewritten(&rt, &file)
 }
 
 /// Of a file of four segments that counts so many how many are read, and of the file that is written then its length and
@@ -359,13 +335,11 @@ fn longest_file(alloc: Global) -> Result<Vec<u8>, AllocError> {
 
 #[test]
 fn the_longest_text_fills_sixty_pages(rt: HostRuntime) -> Result<(), AllocError> {
-    let mut file = longest_file(rt.alloc())?;
+    let file = longest_file(rt.alloc())?;
     let whole = (file.len(), fault(rt.alloc(), &file));
     assert_row(&rt, "sixty pages", whole, (249_856, 0));
     // One word more, of the file and of memory.
-    file.resize(249_860, 0)?;
-    set(&mut file, &[(68, 4), (72, 4)]);
-    assert_row(&rt, "one word more", fault(rt.alloc(), &file), 10);
+    assert_faults(&rt, &file, &[(249_860, &[(68, 4), (72, 4)], 10)]);
     Ok(())
 }
 

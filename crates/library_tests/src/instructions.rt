@@ -78,8 +78,8 @@ fn fences_and_illegal_words(rt: HostRuntime) {
     assert_row(&rt, "fence", encode(&Instr::Fence), 0x0FF0_000F);
     for &(word, is_fence) in FENCES {
         let meaning = decode(word);
-        assert_row(&rt, word, meaning.is_some(), is_fence);
-        assert_row(&rt, word, matches!(meaning, Some(Instr::Fence)), is_fence);
+        let found = (meaning.is_some(), matches!(meaning, Some(Instr::Fence)));
+        assert_row(&rt, word, found, (is_fence, is_fence));
     }
 }
 

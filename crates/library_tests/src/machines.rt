@@ -174,26 +174,25 @@ fn assert_goes_on(
     Ok(())
 }
 
-/// What was kept of a machine is the same as that machine.
+/// What is kept of a machine after three instructions, over what was kept of its first state, is the same as that machine.
 fn assert_kept(
     rt: &(impl Abort + AllocGlobal),
-    kept: &KeptMachine,
+    first: &KeptMachine,
     machine: &Machine,
 ) -> Result<(), AllocError> {
-    let after = kept.machine(rt.alloc())?;
+    let second = machine.keep(rt.alloc(), Some(first))?;
+    let counts = [first.count(), second.count()];
+    assert_row(rt, "counts", counts, [0, 3]);
+    let after = second.machine(rt.alloc())?;
     assert_row(rt, "the same", after.is_same(machine), true);
     Ok(())
 }
 
 #[test]
 fn kept_machines_go_on(rt: HostRuntime) -> Result<(), AllocError> {
-    let alloc = rt.alloc();
-    let mut machine = machine_of(alloc, &[ADDI_T0_T0_1, JUMP_BACK_4])?;
-    let first = machine.keep(alloc, None)?;
+    let mut machine = machine_of(rt.alloc(), &[ADDI_T0_T0_1, JUMP_BACK_4])?;
+    let first = machine.keep(rt.alloc(), None)?;
     assert_row(&rt, "run", machine.run(3), (3, Stop::Limit));
-    let second = machine.keep(alloc, Some(&first))?;
-    let counts = [first.count(), second.count()];
-    assert_row(&rt, "counts", counts, [0, 3]);
-    assert_goes_on(&rt, &first, &machine)?;
-    assert_kept(&rt, &second, &machine)
+    assert_kept(&rt, &first, &machine)?;
+    assert_goes_on(&rt, &first, &machine)
 }

@@ -14,16 +14,82 @@ const FULL: Option<Numbers> = Some((4096, 0, 1, 1));
 
 const EMPTY: Option<Numbers> = Some((0, 4096, 1, 1));
 
-/// What is read around the end of the ring, 4 bytes at a time.
-const AROUND: &[&[u8]] = &[b"\x02abc", b"def", b""];
+/// A call of a table of pipes, with what it comes to.
+enum Call {
+    /// One more pipe.
+    Open,
+    /// One more pipe, which is made beside the table.
+    Push,
+    /// Bytes for which there is room are written to a pipe.
+    Write(u32, &'static [u8]),
+    /// At most so many bytes of a pipe are read, and are these.
+    Read(u32, usize, &'static [u8]),
+    /// At most so many bytes of a pipe are read, and are so many.
+    Count(u32, usize, usize),
+    /// One more descriptor stands for the end of a pipe from which bytes are read.
+    AddReader(u32),
+    DropEnd(PipeEnd),
+    /// The numbers of a pipe, if it is there.
+    Numbers(u32, Option<Numbers>),
+    /// How many pipes there are.
+    Pipes(usize),
+}
 
-/// Ends of the second pipe that are dropped, and how many readers and writers it has then.
-const ENDS: &[(PipeEnd, usize, usize)] = &[
-    (PipeEnd::Read(1), 1, 1),
-    (PipeEnd::Write(1), 1, 0),
-    (PipeEnd::Read(1), 0, 0),
-    (PipeEnd::Write(1), 0, 0),
+/// A pipe is written and read so far that its next bytes go round the end of the ring, and then read around it, 4 bytes at a time.
+const AROUND: &[Call] = &[
+    Call::Open,
+    Call::Write(0, &[1; 4000]),
+    Call::Read(0, 3998, &[1; 3998]),
+    Call::Write(0, &[2; 95]),
+    Call::Write(0, b"abcdef"),
+    Call::Count(0, 96, 96),
+    Call::Read(0, 4, b"\x02abc"),
+    Call::Read(0, 4, b"def"),
+    Call::Read(0, 4, b""),
 ];
+
+/// Two pipes, of which the second is filled, filled again once a part of it is read, and then read whole.
+const FILLED: &[Call] = &[
+    Call::Open,
+    Call::Open,
+    Call::Write(1, &[7; PIPE_SIZE]),
+    Call::Numbers(1, FULL),
+    Call::Read(1, 10, &[7; 10]),
+    Call::Write(1, &[8; 10]),
+    Call::Numbers(1, FULL),
+    Call::Count(1, 5000, 4096),
+    Call::Numbers(1, EMPTY),
+    Call::Numbers(0, EMPTY),
+];
+
+/// Two pipes, of which the second has two readers, and one reader more of a pipe that is not there. The ends of the second are
+/// dropped one after the other.
+const ENDS: &[Call] = &[
+    Call::Open,
+    Call::Push,
+    Call::AddReader(1),
+    Call::AddReader(7),
+    Call::DropEnd(PipeEnd::Read(1)),
+    Call::Numbers(1, Some((0, 4096, 1, 1))),
+    Call::DropEnd(PipeEnd::Write(1)),
+    Call::Numbers(1, Some((0, 4096, 1, 0))),
+    Call::DropEnd(PipeEnd::Read(1)),
+    Call::Numbers(1, Some((0, 4096, 0, 0))),
+    Call::DropEnd(PipeEnd::Write(1)),
+    Call::Numbers(1, Some((0, 4096, 0, 0))),
+    Call::DropEnd(PipeEnd::Read(7)),
+    Call::Numbers(0, EMPTY),
+    Call::Numbers(7, None),
+    Call::Pipes(2),
+];
+
+/// One more pipe, which is made beside the table.
+fn push(rt: &(impl Abort + AllocGlobal), pipes: &mut PipeTable) -> Result<(), Fail> {
+    let pipe = Pipe::new(rt.alloc())?;
+    assert!(rt; pipes.len() < MOST_PIPES);
+    pipes.push(pipe);
+    Ok(())
+}
 
 /// One more pipe.
 fn open(rt: &impl Abort, pipes: &mut PipeTable) -> Result<(), Fail> {
@@ -75,112 +141,54 @@ fn numbers(pipes: &PipeTable, pipe: u32) -> Option<Numbers> {
     Some((pipe.held(), pipe.room(), pipe.readers(), pipe.writers()))
 }
 
-/// Reads at most n bytes, and wants these.
+/// Reads at most n bytes, and wants so many, and these if any are named.
 fn assert_read(
     rt: &(impl Abort + AllocGlobal),
     pipes: &mut PipeTable,
-    pipe: u32,
-    n: usize,
-    wanted: &[u8],
+    (pipe, n, count): (u32, usize, usize),
+    wanted: Option<&[u8]>,
 ) -> Result<(), Fail> {
     let bytes = read(rt, pipes, pipe, n)?;
-    assert_row(rt, n, bytes.as_slice(), wanted);
+    assert_row(rt, n, bytes.as_slice().len(), count);
+    if let Some(wanted) = wanted {
+        assert_row(rt, n, bytes.as_slice(), wanted);
+    }
     Ok(())
 }
 
-/// Reads at most n bytes, and wants so many.
-fn assert_count(
+/// Makes a call, which comes to what it should.
+fn assert_call(
     rt: &(impl Abort + AllocGlobal),
+    row: usize,
     pipes: &mut PipeTable,
-    pipe: u32,
-    n: usize,
-    wanted: usize,
+    call: &Call,
 ) -> Result<(), Fail> {
-    let bytes = read(rt, pipes, pipe, n)?;
-    assert_row(rt, n, bytes.as_slice().len(), wanted);
+    match *call {
+        Call::Open => open(rt, pipes)?,
+        Call::Push => push(rt, pipes)?,
+        Call::Write(pipe, bytes) => write(rt, pipes, pipe, bytes),
+        Call::Read(pipe, n, bytes) => assert_read(rt, pipes, (pipe, n, bytes.len()), Some(bytes))?,
+        Call::Count(pipe, n, count) => assert_read(rt, pipes, (pipe, n, count), None)?,
+        Call::AddReader(pipe) => add_reader(rt, pipes, pipe),
+        Call::DropEnd(end) => pipes.drop_end(end),
+        Call::Numbers(pipe, wanted) => assert_row(rt, row, numbers(pipes, pipe), wanted),
+        Call::Pipes(count) => assert_row(rt, row, pipes.len(), count),
+    }
     Ok(())
 }
 
-/// A pipe is written and read so far that its next bytes go round the end of the ring.
-fn go_round(rt: &(impl Abort + AllocGlobal), pipes: &mut PipeTable) -> Result<(), Fail> {
-    open(rt, pipes)?;
-    write(rt, pipes, 0, &[1; 4000]);
-    assert_read(rt, pipes, 0, 3998, &[1; 3998])?;
-    write(rt, pipes, 0, &[2; 95]);
-    write(rt, pipes, 0, b"abcdef");
-    assert_count(rt, pipes, 0, 96, 96)
-}
-
-/// What is read around the end of the ring.
-fn assert_around(rt: &(impl Abort + AllocGlobal), pipes: &mut PipeTable) -> Result<(), Fail> {
-    for &bytes in AROUND {
-        assert_read(rt, pipes, 0, 4, bytes)?;
+/// Calls of a table of pipes, one after the other.
+fn assert_calls(rt: &(impl Abort + AllocGlobal), calls: &[Call]) -> Result<(), Fail> {
+    let mut pipes = PipeTable::new(rt.alloc())?;
+    for (row, call) in calls.iter().enumerate() {
+        assert_call(rt, row, &mut pipes, call)?;
     }
     Ok(())
 }
 
 #[test]
-fn a_ring_wraps_round(rt: HostRuntime) -> Result<(), Fail> {
-    let mut pipes = PipeTable::new(rt.alloc())?;
-    go_round(&rt, &mut pipes)?;
-    assert_around(&rt, &mut pipes)
-}
-
-/// The second pipe is filled, and filled again once a part of it is read.
-fn fill(rt: &(impl Abort + AllocGlobal), pipes: &mut PipeTable) -> Result<(), Fail> {
-    write(rt, pipes, 1, &[7; PIPE_SIZE]);
-    assert_row(rt, "full", numbers(pipes, 1), FULL);
-    assert_read(rt, pipes, 1, 10, &[7; 10])?;
-    write(rt, pipes, 1, &[8; 10]);
-    assert_row(rt, "full again", numbers(pipes, 1), FULL);
-    Ok(())
-}
-
-/// Two pipes, of which the second is filled, and then read whole.
-fn fill_and_empty(rt: &(impl Abort + AllocGlobal), pipes: &mut PipeTable) -> Result<(), Fail> {
-    open(rt, pipes)?;
-    open(rt, pipes)?;
-    fill(rt, pipes)?;
-    assert_count(rt, pipes, 1, 5000, 4096)
-}
-
-#[test]
-fn a_pipe_is_full(rt: HostRuntime) -> Result<(), Fail> {
-    let mut pipes = PipeTable::new(rt.alloc())?;
-    fill_and_empty(&rt, &mut pipes)?;
-    let both = [numbers(&pipes, 1), numbers(&pipes, 0)];
-    assert_row(&rt, "empty", both, [EMPTY, EMPTY]);
-    Ok(())
-}
-
-/// Two pipes, of which the second has two readers, and one reader more of a pipe that is not there.
-fn two_pipes(rt: &(impl Abort + AllocGlobal)) -> Result<PipeTable, Fail> {
-    let alloc = rt.alloc();
-    let mut pipes = PipeTable::new(alloc)?;
-    open(rt, &mut pipes)?;
-    assert!(rt; pipes.len() < MOST_PIPES);
-    pipes.push(Pipe::new(alloc)?);
-    add_reader(rt, &mut pipes, 1);
-    add_reader(rt, &mut pipes, 7);
-    Ok(pipes)
-}
-
-/// The ends of the second pipe are dropped one after the other.
-fn drop_ends(rt: &impl Abort, pipes: &mut PipeTable) {
-    for (row, &(end, readers, writers)) in ENDS.iter().enumerate() {
-        pipes.drop_end(end);
-        let left = Some((0, 4096, readers, writers));
-        assert_row(rt, row, numbers(pipes, 1), left);
-    }
-}
-
-#[test]
-fn ends_are_gone(rt: HostRuntime) -> Result<(), Fail> {
-    let mut pipes = two_pipes(&rt)?;
-    drop_ends(&rt, &mut pipes);
-    pipes.drop_end(PipeEnd::Read(7));
-    let both = [numbers(&pipes, 0), numbers(&pipes, 7)];
-    assert_row(&rt, "the others", both, [EMPTY, None]);
-    assert_row(&rt, "pipes", pipes.len(), 2);
-    Ok(())
+fn calls_of_a_table(rt: HostRuntime) -> Result<(), Fail> {
+    assert_calls(&rt, AROUND)?;
+    assert_calls(&rt, FILLED)?;
+    assert_calls(&rt, ENDS)
 }

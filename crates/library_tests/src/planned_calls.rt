@@ -216,14 +216,6 @@ fn plan_of_open(alloc: Global) -> Result<Plan, AllocError> {
     )
 }
 
-#[test]
-fn a_file_is_opened(rt: HostRuntime) -> Result<(), AllocError> {
-    let plan = plan_of_open(rt.alloc())?;
-    assert_row(&rt, "open", told(&plan), Ok(2));
-    assert!(rt; plan.reads.as_slice() == [Carrier::Names].as_slice());
-    Ok(())
-}
-
 /// What process 2 is planned to do where it takes the file's name away.
 fn plan_of_unlink(alloc: Global) -> Result<Plan, AllocError> {
     let tapes = tapes_of(alloc, b"hi")?;
@@ -239,7 +231,10 @@ fn plan_of_rename(alloc: Global) -> Result<Plan, AllocError> {
 }
 
 /// The place of the file that a change removes or renames, and its new name, if it gets one.
-fn renamed(change: &Option<Change>) -> Option<(u16, Option<&[u8]>)> {
+type Renamed<'a> = Option<(u16, Option<&'a [u8]>)>;
+
+/// What a change removes or renames, if it does.
+fn renamed(change: &Option<Change>) -> Renamed<'_> {
     match change {
         Some(Change::Remove(file)) => Some((*file, None)),
         Some(Change::Rename { file, name }) => Some((*file, Some(name.as_slice()))),
@@ -247,30 +242,45 @@ fn renamed(change: &Option<Change>) -> Option<(u16, Option<&[u8]>)> {
     }
 }
 
+/// What a plan tells, by which change of which name, and what it reads.
+fn assert_plan(rt: &impl Abort, plan: &Plan, reply: u32, change: Renamed, reads: &[Carrier]) {
+    assert_row(rt, reply, told(plan), Ok(reply));
+    assert_row(rt, reply, renamed(&plan.change), change);
+    assert_row(rt, reply, plan.reads.as_slice(), reads);
+}
+
 /// A plan replies 0, and changes the names and the first file by a change of this kind.
 fn assert_names_change(rt: &impl Abort, plan: &Plan, name: Option<&[u8]>) {
-    assert_row(rt, "reply", told(plan), Ok(0));
-    assert_row(rt, "change", renamed(&plan.change), Some((0, name)));
     let touched = [Carrier::Names, Carrier::File(0)];
-    assert!(rt; plan.reads.as_slice() == touched.as_slice());
-    assert!(rt; plan.writes.as_slice() == touched.as_slice());
+    assert_plan(rt, plan, 0, Some((0, name)), &touched);
+    assert_row(rt, "writes", plan.writes.as_slice(), touched.as_slice());
 }
 
 #[test]
-fn a_file_loses_its_name(rt: HostRuntime) -> Result<(), AllocError> {
-    let plan = plan_of_unlink(rt.alloc())?;
-    assert_names_change(&rt, &plan, None);
-    let plan = plan_of_rename(rt.alloc())?;
-    assert_names_change(&rt, &plan, Some(b"g".as_slice()));
+fn files_and_their_names(rt: HostRuntime) -> Result<(), AllocError> {
+    assert_plan(&rt, &plan_of_open(rt.alloc())?, 2, None, &[Carrier::Names]);
+    assert_names_change(&rt, &plan_of_unlink(rt.alloc())?, None);
+    let name = Some(b"g".as_slice());
+    assert_names_change(&rt, &plan_of_rename(rt.alloc())?, name);
     Ok(())
 }
 
 #[test]
 fn tapes_are_eight(rt: HostRuntime) -> Result<(), AllocError> {
     let tapes = tapes_of(rt.alloc(), b"hi")?;
-    assert!(rt; tapes.read(0, 1).expect(&rt, "tape 0") == b"h".as_slice());
-    assert!(rt; tapes.read(7, 1).expect(&rt, "tape 7").is_empty());
-    assert!(rt; tapes.read(8, 1).is_none());
+    assert_row(&rt, "tape 0", tapes.read(0, 1), Some(b"h".as_slice()));
+    assert_row(&rt, "tape 7", tapes.read(7, 1), Some(b"".as_slice()));
+    assert_row(&rt, "tape 8", tapes.read(8, 1), None);
+    Ok(())
+}
+
+/// Reads of a tape as is planned, so that it goes on.
+fn read_on(alloc: Global, tapes: &mut TapeTable, request: Request) -> Result<(), AllocError>
+    requires { IsWhole request }
+{
+    if let Some(read) = plan_of(alloc, tapes, request)?.tape {
+        tapes.advance(read);
+    }
     Ok(())
 }
 
@@ -283,10 +293,8 @@ fn a_tape_goes_on(rt: HostRuntime) -> Result<(), AllocError> {
         n: 2,
         fits: true,
     };
-    if let Some(read) = plan_of(rt.alloc(), &tapes, request)?.tape {
-        tapes.advance(read);
-    }
-    assert!(rt; tapes.read(0, 9).expect(&rt, "tape 0") == b"llo".as_slice());
+    read_on(rt.alloc(), &mut tapes, request)?;
+    assert_row(&rt, "tape 0", tapes.read(0, 9), Some(b"llo".as_slice()));
     Ok(())
 }
 
@@ -298,20 +306,21 @@ fn dropped(step: &PipeStep) -> Option<PipeEnd> {
     }
 }
 
+/// A plan gives up the ends of `ENDS`, and reads and writes what carries them.
+fn assert_given_up(rt: &impl Abort, plan: &Plan) {
+    assert_row(rt, "end", told(plan), Err(Some(300)));
+    assert_row(rt, "ends", plan.pipes.len(), ENDS.len());
+    for (step, &(fd, end, _)) in plan.pipes.iter().zip(ENDS) {
+        assert_row(rt, fd, dropped(step), Some(end));
+    }
+    let carriers = [ENDS[0].2, ENDS[1].2, ENDS[2].2];
+    assert_row(rt, "reads", plan.reads.as_slice(), carriers.as_slice());
+    assert_row(rt, "writes", plan.writes.as_slice(), carriers.as_slice());
+}
+
 #[test]
 fn ends_are_given_up(rt: HostRuntime) -> Result<(), AllocError> {
     let plan = plan_end(rt.alloc(), &descriptors_of_pipes(), 300)?;
-    assert_row(&rt, "end", told(&plan), Err(Some(300)));
-    let counts = (plan.pipes.len(), plan.reads.len(), plan.writes.len());
-    assert_row(&rt, "counts", counts, (3, 3, 3));
-    for (place, (_, end, carrier)) in ENDS.iter().enumerate() {
-        let given = plan.pipes.get(place).and_then(dropped);
-        let touched = (
-            plan.reads.get(place).copied(),
-            plan.writes.get(place).copied(),
-        );
-        assert_row(&rt, place, given, Some(*end));
-        assert_row(&rt, place, touched, (Some(*carrier), Some(*carrier)));
-    }
+    assert_given_up(&rt, &plan);
     Ok(())
 }

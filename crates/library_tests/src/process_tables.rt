@@ -90,16 +90,22 @@ fn assert_collected(rt: &impl Abort, table: &mut ProcTable) {
     assert_row(rt, "left", left, (None, 37));
 }
 
-#[test]
-fn the_least_ended_child_is_collected_first(rt: HostRuntime) -> Result<(), AllocError> {
-    let mut table = booted(&rt)?;
-    for _ in 0..40 {
-        forked(&rt, &mut table, 1)?;
+/// Process 1 forks 40 children, of which three end.
+fn fork_40(rt: &impl Abort, table: &mut ProcTable) -> Result<(), AllocError> {
+    for child in 2..42 {
+        assert_row(rt, child, forked(rt, table, 1)?, child);
     }
-    assert_row(&rt, "none has ended", table.ended_child(1), None);
+    assert_row(rt, "none has ended", table.ended_child(1), None);
     for pid in [41, 7, 30] {
         table.end(pid, 1000 + pid);
     }
+    Ok(())
+}
+
+#[test]
+fn the_least_ended_child_is_collected_first(rt: HostRuntime) -> Result<(), AllocError> {
+    let mut table = booted(&rt)?;
+    fork_40(&rt, &mut table)?;
     assert_collected(&rt, &mut table);
     Ok(())
 }
@@ -114,24 +120,29 @@ fn fork_the_child_too(rt: &impl Abort, table: &mut ProcTable) -> Result<(), Allo
     Ok(())
 }
 
-#[test]
-fn a_fork_of_a_fork(rt: HostRuntime) -> Result<(), AllocError> {
-    let mut table = booted(&rt)?;
-    fork_the_child_too(&rt, &mut table)?;
-    table.end(2, 5);
+/// The child has ended, and its own child alone holds the file.
+fn assert_family(rt: &impl Abort, table: &ProcTable) {
     let held = [
         table.descriptor(1, 2),
         table.descriptor(2, 2),
         table.descriptor(3, 2),
     ];
-    assert_row(&rt, "files", held, [None, None, FILE]);
-    assert_row(&rt, "child", table.children(1), [2].as_slice());
-    assert_row(&rt, "its child", table.children(2), [3].as_slice());
+    assert_row(rt, "files", held, [None, None, FILE]);
+    let children = (table.children(1), table.children(2));
+    assert_row(rt, "children", children, ([2].as_slice(), [3].as_slice()));
     let ended = [table.ended_child(1), table.ended_child(2)];
     let child = EndedChild {
         child: 2,
         status: 5,
     };
-    assert_row(&rt, "ended", ended, [Some(child), None]);
+    assert_row(rt, "ended", ended, [Some(child), None]);
+}
+
+#[test]
+fn a_fork_of_a_fork(rt: HostRuntime) -> Result<(), AllocError> {
+    let mut table = booted(&rt)?;
+    fork_the_child_too(&rt, &mut table)?;
+    table.end(2, 5);
+    assert_family(&rt, &table);
     Ok(())
 }

@@ -117,16 +117,18 @@ const NEAR: &[(u32, Option<u32>, bool)] = &[
     (0x3000, None, false),
 ];
 
+fn assert_near(rt: &impl Abort, space: &mut Space) {
+    for &(at, load, store) in NEAR {
+        let loaded = space.load_near(at, Width::Word);
+        let found = (loaded, space.store_near(at, Width::Word, 1));
+        assert_row(rt, at, found, (load, store));
+    }
+}
+
 #[test]
 fn near_at_hand(rt: HostRuntime) -> Result<(), AllocError> {
     let mut space = two_pages(rt.alloc(), READ_EXECUTE, READ_WRITE, &[0x13; 4096])?;
-    for &(at, load, store) in NEAR {
-        let found = (
-            space.load_near(at, Width::Word),
-            space.store_near(at, Width::Word, 1),
-        );
-        assert_row(&rt, at, found, (load, store));
-    }
+    assert_near(&rt, &mut space);
     Ok(())
 }
 
@@ -138,13 +140,17 @@ fn copies_nothing(alloc: Global, space: &Space) -> bool {
     )
 }
 
+fn assert_writable(rt: &impl Abort, space: &Space) {
+    for (row, &(at, n, is_writable)) in WRITABLE.iter().enumerate() {
+        assert_row(rt, row, space.writable(at, n), is_writable);
+    }
+}
+
 #[test]
 fn past_the_greatest_address(rt: HostRuntime) -> Result<(), AllocError> {
     let space = two_pages(rt.alloc(), READ_WRITE, READ_WRITE, &[0; 4096])?;
-    for (row, &(at, n, is_writable)) in WRITABLE.iter().enumerate() {
-        assert_row(&rt, row, space.writable(at, n), is_writable);
-    }
-    assert!(rt; copies_nothing(rt.alloc(), &space));
+    assert_writable(&rt, &space);
+    assert_row(&rt, "copy", copies_nothing(rt.alloc(), &space), true);
     Ok(())
 }
 
@@ -222,27 +228,17 @@ fn same_bytes_in_other_cuts(rt: HostRuntime) -> Result<(), AllocError> {
     Ok(())
 }
 
-/// What was kept of a space before a store is not the same as that space after it.
-fn assert_before(
+/// What was kept of a space is the same as that space now, or it is not, has this last byte, and takes some bytes.
+fn assert_kept(
     rt: &(impl Abort + AllocGlobal),
     kept: &KeptSpace,
     space: &Space,
+    wanted: (bool, Option<u8>),
 ) -> Result<(), AllocError> {
-    let before = kept.space(rt.alloc())?;
-    assert_row(rt, "the same before", before.is_same(space), false);
-    assert_row(rt, "before", before.byte(0x2fff), Some(7));
-    Ok(())
-}
-
-/// What was kept after a store is the same as the space, and takes some bytes.
-fn assert_after(
-    rt: &(impl Abort + AllocGlobal),
-    kept: &KeptSpace,
-    space: &Space,
-) -> Result<(), AllocError> {
-    let after = kept.space(rt.alloc())?;
-    assert_row(rt, "the same after", after.is_same(space), true);
-    let takes = [after.takes(0x2ffe, &[1, 2]), after.takes(0x2fff, &[1, 2])];
+    let again = kept.space(rt.alloc())?;
+    let found = (again.is_same(space), again.byte(0x2fff));
+    assert_row(rt, "the same, last byte", found, wanted);
+    let takes = [again.takes(0x2ffe, &[1, 2]), again.takes(0x2fff, &[1, 2])];
     assert_row(rt, "takes", takes, [true, false]);
     Ok(())
 }
@@ -250,12 +246,11 @@ fn assert_after(
 /// What was kept of a space before and after a store in its second page, which is in the same run as its first.
 #[test]
 fn kept_spaces_come_back(rt: HostRuntime) -> Result<(), AllocError> {
-    let alloc = rt.alloc();
-    let mut space = pages(alloc, READ_WRITE, &[7; 8192])?;
-    let first = space.keep(alloc, None)?;
+    let mut space = pages(rt.alloc(), READ_WRITE, &[7; 8192])?;
+    let first = space.keep(rt.alloc(), None)?;
     let stored = space.store(0x2fff, Width::Byte, 8);
     assert_row(&rt, "stored", stored, Ok(()));
-    let second = space.keep(alloc, Some(&first))?;
-    assert_before(&rt, &first, &space)?;
-    assert_after(&rt, &second, &space)
+    assert_kept(&rt, &first, &space, (false, Some(7)))?;
+    let second = space.keep(rt.alloc(), Some(&first))?;
+    assert_kept(&rt, &second, &space, (true, Some(8)))
 }

@@ -130,12 +130,19 @@ fn push_line(out: &mut String, line: &Line) -> Result<(), AllocError> {
     out.push(';')
 }
 
+/// Appends lines, each with its number and place, and each of its tokens.
+fn push_lines(out: &mut String, lines: &[Line]) -> Result<(), AllocError> {
+    for line in lines {
+        push_line(out, line)?;
+    }
+    Ok(())
+}
+
 /// Each line of a source, and each of its tokens.
 fn shown(alloc: Global, source: &str) -> Result<String, TextFault> {
     let mut out = String::new(alloc);
-    for line in &lines(alloc, source)? {
-        push_line(&mut out, line)?;
-    }
+    let found = lines(alloc, source)?;
+    push_lines(&mut out, &found)?;
     Ok(out)
 }
 
