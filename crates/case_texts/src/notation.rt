@@ -28,8 +28,8 @@ long: .word 0x61616161,0x61616161,0x61616161,0x61616161,0x61616161,0x61616161,0x
 zeros: .space 1028
 ";
 
-/// The calls by their names, from number 1 on.
-const CALLS: &[&str] = &[
+/// The names of the calls, from number 1 on.
+const CALL_NAMES: &[&str] = &[
     "exit", "write", "read", "open", "close", "pipe", "fork", "wait", "getpid", "seek", "sync",
     "unlink", "rename",
 ];
@@ -37,7 +37,7 @@ const CALLS: &[&str] = &[
 /// The number of a call, by its name or as it stands.
 fn call_number(word: &str) -> Option<u32> {
     let mut number = 0u32;
-    for name in CALLS {
+    for name in CALL_NAMES {
         number = number.wrapping_add(1);
         if *name == word {
             return Some(number);

@@ -79,12 +79,12 @@ pub struct Run {
     input: Vec<u8>,
     /// What it prints.
     out: String,
-    /// Whether it may print whatever it does, but not nothing.
+    /// Whether anything that it prints will do; but it has to print something.
     prints_something: bool,
     status: u8,
     /// What it says on standard error.
     err: String,
-    /// Whether it may say whatever it does, but not nothing.
+    /// Whether anything that it says will do; but it has to say something.
     says_something: bool,
 }
 

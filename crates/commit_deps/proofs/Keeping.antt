@@ -40,7 +40,7 @@ same-refl Pipes = refl
 same-refl Tasks = refl
 same-refl (Tape a) = eq-eqb a a refl
 
-pub same-sym : (a b : Carrier) → is_same a b ≡ is_same b a
+same-sym : (a b : Carrier) → is_same a b ≡ is_same b a
 same-sym a b = elim (is_same a b) as (λ v. is_same a b ≡ v → v ≡ is_same b a) [
   | true ↦ λ h. sym (subst (λ (x : Carrier). is_same b x ≡ true) (sym (same-true a b h)) (same-refl b))
   | false ↦ λ h. elim (is_same b a) as (λ w. is_same b a ≡ w → false ≡ w) [

@@ -262,12 +262,22 @@ fn file_of(alloc: Global, source: &str) -> Result<Vec<u8>, AsmFault> {
     Ok(write(alloc, &image)?)
 }
 
+/// The first bytes of a source, by which a row that fails is known.
+fn beginning(source: &str) -> &str {
+    source.get(..80).unwrap_or(source)
+}
+
 /// Sources' texts have these words.
 fn assert_words(rt: &(impl Abort + AllocGlobal), rows: &[(&str, &[u32])]) {
     for &(source, words) in rows {
         for (place, word) in words.iter().enumerate() {
             let listed = word_of(rt.alloc(), source, place);
-            assert_row(rt, source, listed, Ok((words.len(), Some(*word))));
+            assert_row(
+                rt,
+                beginning(source),
+                listed,
+                Ok((words.len(), Some(*word))),
+            );
         }
     }
 }
@@ -290,7 +300,7 @@ fn assert_place(rt: &(impl Abort + AllocGlobal), source: &str, place: Place) {
         line,
     };
     let listed = row_of(rt.alloc(), source, place);
-    assert_row(rt, source, listed, Ok((count, Some(row))));
+    assert_row(rt, beginning(source), listed, Ok((count, Some(row))));
 }
 
 #[test]
@@ -321,7 +331,12 @@ fn files(rt: HostRuntime) -> Result<(), AsmFault> {
 fn assert_faults(rt: &(impl Abort + AllocGlobal), rows: &[(&str, Cause, usize, usize)]) {
     for &(source, why, line, column) in rows {
         let fault = AsmFault { why, line, column };
-        assert_row(rt, source, fault_of(rt.alloc(), source), Some(fault));
+        assert_row(
+            rt,
+            beginning(source),
+            fault_of(rt.alloc(), source),
+            Some(fault),
+        );
     }
 }
 

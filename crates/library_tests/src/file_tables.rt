@@ -186,9 +186,10 @@ fn assert_written(
     bytes: &[u8],
     held: &[u8],
 ) -> Result<(), AllocError> {
-    assert!(rt; place < files.count());
+    let count = files.count();
+    assert!(rt; place < count);
     files.write(place, offset, bytes)?;
-    assert!(rt; place < files.count());
+    assert!(rt; files.count() == count);
     assert_row(rt, offset, files.bytes(place), held);
     Ok(())
 }

@@ -250,7 +250,7 @@ fn kept_spaces_come_back(rt: HostRuntime) -> Result<(), AllocError> {
     let first = space.keep(rt.alloc(), None)?;
     let stored = space.store(0x2fff, Width::Byte, 8);
     assert_row(&rt, "stored", stored, Ok(()));
-    assert_kept(&rt, &first, &space, (false, Some(7)))?;
     let second = space.keep(rt.alloc(), Some(&first))?;
+    assert_kept(&rt, &first, &space, (false, Some(7)))?;
     assert_kept(&rt, &second, &space, (true, Some(8)))
 }

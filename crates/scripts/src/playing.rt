@@ -3,7 +3,7 @@ use crate::fault::ScriptFault;
 use crate::file_lines::write_files;
 use crate::script::{Action, Script, Setup, Step, Terminal};
 use files::FileList;
-use kernel::{Answer, Core, Event, Refused, SimDisk};
+use kernel::{Answer, Core, Event, Refused};
 use machine_model::{Reply, Stop};
 use std::alloc::{AllocError, Global};
 use std::io::Write;
@@ -181,7 +181,7 @@ fn crash<R: Files + AllocGlobal, O: Write>(
     fill: &[u8],
     out: &mut O,
 ) -> Result<Core, ScriptFault> {
-    let next = setup.boot(rt, core.halt(fill))?;
+    let next = setup.boot(rt, Some(core.halt(fill)))?;
     writeln!(out, "crashed")?;
     Ok(next)
 }
@@ -210,7 +210,7 @@ fn play_all<R: Files + AllocGlobal, O: Write>(
     steps: &[Step],
     out: &mut O,
 ) -> Result<(), ScriptFault> {
-    let mut core = setup.boot(rt, SimDisk::zero(rt.alloc())?)?;
+    let mut core = setup.boot(rt, None)?;
     for step in steps {
         core = play(rt, setup, core, step, out)?;
     }

@@ -1,6 +1,6 @@
 //! Scripts: programs to be booted, and what is done with them line by line.
-ghost use Rattle.std.specs.Prelude.{◌<◌, ◌≤◌, length, vec_len};
-ghost use Rattle.kernel_model.specs.World.{terminal_count};
+ghost use Rattle.std.specs.Prelude.{◌≡◌, ◌<◌, ◌≤◌, true, IfOk, IfSome, length, vec_len};
+ghost use Rattle.kernel_model.specs.World.{tape_count, terminal_count};
 
 use crate::fault::ScriptFault;
 use byte_list::Bytes;
@@ -70,6 +70,8 @@ pub struct ScriptTape {
     pub number: u32,
     /// At most 65,536.
     pub bytes: Bytes,
+    ghost there: { number < tape_count },
+    ghost short: { length bytes ≤ 65536 },
 }
 
 impl Drop for ScriptTape {
@@ -157,7 +159,9 @@ fn terminal_of(number: u32) -> Option<Terminal> {
 }
 
 /// The numbers of words of eight hexadecimal digits. None where one has no such form.
-fn numbers_of(alloc: Global, texts: &[&str]) -> Result<Option<Vec<u32>>, AllocError> {
+fn numbers_of(alloc: Global, texts: &[&str]) -> Result<Option<Vec<u32>>, AllocError>
+    ensures { IfOk result (λ numbers. IfSome numbers (λ list. vec_len list ≡ length texts.now)) }
+{
     let mut numbers = Vec::new(alloc);
     for text in texts {
         match hexadecimal(text) {
@@ -170,11 +174,12 @@ fn numbers_of(alloc: Global, texts: &[&str]) -> Result<Option<Vec<u32>>, AllocEr
 
 /// The words of a program line. None where one has no form, or where there are none or too many.
 fn words_of(alloc: Global, texts: &[&str]) -> Result<Option<Source>, AllocError> {
+    if texts.is_empty() || texts.len() > MOST_WORDS {
+        return Ok(None);
+    }
     match numbers_of(alloc, texts)? {
-        Some(words) if !words.is_empty() && words.len() <= MOST_WORDS => {
-            Ok(Some(Source::Words(Words { words })))
-        }
-        _ => Ok(None),
+        Some(words) => Ok(Some(Source::Words(Words { words }))),
+        None => Ok(None),
     }
 }
 
@@ -257,7 +262,9 @@ impl Setup {
 
     /// Whether a tape of this number may have these bytes: there is such a number, which no tape has yet, and they are not
     /// too many.
-    fn takes_tape(&self, number: u32, bytes: &[u8]) -> bool {
+    fn takes_tape(&self, number: u32, bytes: &[u8]) -> bool
+        ensures { result ≡ true → (number < tape_count) × (length bytes.now ≤ 65536) }
+    {
         number < TAPES as u32
             && bytes.len() <= MOST_TAPE_BYTES
             && tape_numbered(self.tapes.as_slice(), number).is_none()
@@ -283,7 +290,8 @@ impl Setup {
         match name {
             "program" => self.push_program(number.and_then(terminal_of), words_of(alloc, rest)?),
             "image" => self.push_program(number.and_then(terminal_of), path_of(alloc, rest)?),
-            _ => self.push_tape(number, only_bytes_of(alloc, rest)?),
+            "tape" => self.push_tape(number, only_bytes_of(alloc, rest)?),
+            _ => Ok(false),
         }
     }
 }
@@ -347,7 +355,8 @@ impl Script {
 
     /// Reads a script whole. Refused is the first line that has no form, is a set-up line (`program`, `image` or `tape`)
     /// after a line that is none, is a ninth `program` or `image` line, or is a second line for one tape. Lines are counted
-    /// from 1 and end at a line feed; empty ones and those that begin with `#` are skipped.
+    /// from 1 and end at a line feed; empty ones and those that begin with `#` are skipped. A script without a `program` and an
+    /// `image` line is refused when it is booted.
     pub fn parse(alloc: Global, text: &str) -> Result<Script, ScriptFault> {
         let mut script = Script {
             setup: Setup {

@@ -1,5 +1,5 @@
 //! The boot of what a script sets up, and each further one, on the disk that a crash leaves.
-ghost use Rattle.std.specs.Prelude.{◌≡◌, ◌<◌, true, length, IfOk};
+ghost use Rattle.std.specs.Prelude.{◌≡◌, ◌<◌, true, length, IfOk, IfSome};
 ghost use Rattle.std.specs.List.{AllByRecursion};
 ghost use Rattle.disk_model.specs.Storage.{is_quiet};
 ghost use Rattle.kernel_model.specs.World.{terminal_count, tape_count};
@@ -10,6 +10,7 @@ use byte_list::Bytes;
 use kernel::{Core, Program, SimDisk};
 use kernel_model::{MOST_PROGRAMS, TAPES};
 use machine_model::Image;
+use simdisk::DiskRefusal;
 use std::alloc::{AllocError, Global};
 use std::fs;
 use std::rt::Files;
@@ -76,19 +77,32 @@ fn tapes_of(alloc: Global, tapes: &[ScriptTape]) -> Result<Vec<Bytes>, AllocErro
     Ok(booted)
 }
 
+/// The disk that a crash left, or else one of zeros.
+fn disk_of(alloc: Global, left: Option<SimDisk>) -> Result<SimDisk, DiskRefusal>
+    requires { IfSome left (λ device. is_quiet device ≡ true) }
+    ensures { IfOk result (λ device. is_quiet device ≡ true) }
+{
+    match left {
+        Some(device) => Ok(device),
+        None => SimDisk::zero(alloc),
+    }
+}
+
 impl Setup {
-    /// Boots what a script sets up on this disk. A script that sets up no program is refused; it never sets up more than eight.
+    /// Boots what a script sets up, on the disk that a crash left, or on one of zeros. A script that sets up no program is refused
+    /// at line 1; one that was read sets up no more than eight.
     pub fn boot<R: Files + AllocGlobal>(
         &mut self,
         rt: &R,
-        device: SimDisk,
+        left: Option<SimDisk>,
     ) -> Result<Core, ScriptFault>
-        requires { is_quiet device ≡ true }
+        requires { IfSome left (λ device. is_quiet device ≡ true) }
     {
         let programs = programs_of(rt, self.programs.as_mut_slice())?;
         if programs.is_empty() || programs.len() > MOST_PROGRAMS {
             return Err(ScriptFault::Refused { line: 1 });
         }
+        let device = disk_of(rt.alloc(), left)?;
         let tapes = tapes_of(rt.alloc(), self.tapes.as_slice())?;
         Ok(Core::boot(rt.alloc(), device, programs, tapes)?)
     }
