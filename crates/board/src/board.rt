@@ -12,8 +12,8 @@ use std::alloc::{AllocError, Global};
 use std::marker::PhantomData;
 use std::sync::Wait;
 
-/// What a pass shows: whether it publishes, how many loads it made, and the pair that it published or loaded last. No value of it
-/// is made.
+/// What a pass shows: whether it publishes, how many loads it made, and the pair that it published or loaded last. It exists in
+/// proofs alone: no value of it is made.
 pub struct View {
     pub publishes: bool,
     pub loads: u64,
@@ -21,7 +21,7 @@ pub struct View {
     pub changes: u64,
 }
 
-/// The rule of the board of a run.
+/// The rule of a board, which each load and each store keeps.
 pub struct Rule<N> {
     of: PhantomData<N>,
 }
@@ -63,10 +63,10 @@ impl Split<View> for Reading {
     ghost right = { λ v. newcomer };
 }
 
-/// A pass that loads. It has no bytes.
+/// A pass that loads: a ghost token, without bytes.
 pub type Pass = CellPass<[u64; 2], View>;
 
-/// The pass that publishes.
+/// The pass that publishes. A board has one.
 #[derive(Drop)]
 pub struct Writer {
     pub pass: Pass,
@@ -96,8 +96,8 @@ impl<N: Opening> Board<N> {
         Ok((Board { cell }, Writer { pass }, reader))
     }
 
-    /// The committed changes and all changes, as they were last published. It takes no lock, and may wait for a store. The pass
-    /// is of this board, and shows one load more, and the pair.
+    /// The committed changes and all changes, as they were last published. It takes no lock, and may wait for a store. The pass is
+    /// of this board, and then shows one load more, and the pair.
     pub fn seen<R: Wait>(&self, rt: &R, pass: &mut Pass) -> (u64, u64)
         requires { pass.old.table_id ≡ self.now.cell.table.shared.table_id }
         ensures same { pass.new.table_id ≡ pass.old.table_id }
@@ -110,7 +110,7 @@ impl<N: Opening> Board<N> {
         (pair[0], pair[1])
     }
 
-    /// Publishes a pair, neither number of which is below the one published last.
+    /// Publishes a pair. Neither number may be below the one published last.
     pub fn publish<R: Wait>(&self, rt: &R, writer: &mut Writer, committed: u64, changes: u64)
         requires board { writer.old.pass.table_id ≡ self.now.cell.table.shared.table_id }
         requires publishes { (cell_view writer.old.pass).publishes ≡ true }

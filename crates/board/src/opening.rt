@@ -1,9 +1,9 @@
-//! With which pair a board opens.
+//! The pair with which a board opens.
 ghost use Rattle.std.specs.Prelude.{ℕ};
 
 use std::marker::Brand;
 
-/// The pair with which a run's board opens. It exists in proofs alone; whoever calls the one function that makes the board picks it.
+/// The pair with which a run's board opens. It exists in proofs alone, and the caller that makes the board picks it.
 pub trait Opening {
     ghost committed: { ℕ };
 

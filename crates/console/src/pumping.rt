@@ -15,7 +15,6 @@ pub struct PumpFault {
     pub upto: usize,
 }
 
-/// An answer says that the call was interrupted.
 fn is_interrupted(answer: &io::Result<usize>) -> bool
     ensures { IsTrue result ↔ IsInterrupted answer.now }
 {
@@ -39,9 +38,9 @@ fn offer_again<S: Sink>(sink: &mut S, bytes: &[u8]) -> io::Result<usize>
     sink.offer(bytes)
 }
 
-/// Offers a text to a sink from a place on, each time the rest that was not yet taken, and answers the text's length. A call
-/// that is interrupted is made again. The fault comes only where the last call failed, or took nothing of the bytes that it
-/// was offered.
+/// Offers a text to a sink from byte `from` on, each time the rest that was not yet taken, and gives the text's length. An
+/// interrupted call is made again. The fault comes only where the last call failed, or took nothing of the bytes that it was
+/// offered.
 pub fn pump_into<S: Sink>(sink: &mut S, text: &[u8], from: usize) -> Result<usize, PumpFault>
     requires { from ≤ length text.now }
     ensures all { IfOk result (λ end. end ≡ length text.now) }
@@ -58,9 +57,9 @@ pub fn pump_into<S: Sink>(sink: &mut S, text: &[u8], from: usize) -> Result<usiz
     Ok(upto)
 }
 
-/// Writes a text from a place on, by as many calls of `write` as it takes, and answers the text's length: `pump_into`, in
-/// words that name what the writer holds. A call that is interrupted is made again. The fault comes where the writer answered
-/// an error, or took nothing of the bytes that it was given, and nothing is written after it.
+/// Writes a text from byte `from` on, in as many calls of `write` as it takes, and gives the text's length. It is `pump_into`, with
+/// clauses that name what the writer holds. An interrupted call is made again. The fault comes where the writer answers an error or
+/// takes nothing, and nothing is written after it.
 #[tactic(auto, using(crate::proofs::Going::all_goes, crate::proofs::Going::part_goes, crate::proofs::Going::part_ascends))]
 pub fn pump<W: Write>(writer: &mut W, text: &[u8], from: usize) -> Result<usize, PumpFault>
     requires { from ≤ length text.now }

@@ -6,12 +6,12 @@ ghost use Rattle.console.specs.Writers.{writer_answers};
 
 use std::io::{self, Write};
 
-/// What takes bytes; each writer is one. A contract names each of its answers, as it cannot at a writer.
+/// What takes bytes; each writer is one. Its contract names each of its answers, as a writer's cannot.
 pub trait Sink {
     // What it may answer to bytes, and what it is then.
     ghost answers: { Self → List ℕ → Result ℕ Error → Self → Type 0 };
 
-    /// Offers bytes. How many of the first it took, or why it failed.
+    /// Offers bytes. Gives how many of the first it took, or why it failed.
     fn offer(&mut self, bytes: &[u8]) -> io::Result<usize>
         ensures count { WritesAtMost result bytes.now }
         ensures answered { answers self.old bytes.now result self.new };

@@ -69,8 +69,8 @@ IsFormed (Empty place) = place < 2 ^ 16
 IsFormed (Remove place) = place < 2 ^ 16
 IsFormed (Rename place name) = (place < 2 ^ 16) × IsName name
 
--- a change that may come to these files, if it is formed: a new name among at most 32, a file that is there, a file of at most 16,384 bytes,
--- another name than the file has
+-- a change that may come to these files, if it is formed. A creation has a new name, and makes at most 32 files. Every other change
+-- names a file that is there. A write ends at 16,384 bytes at most; a renaming gives another name than the file has
 abbrev pub MayCome : List NamedFile → Change → Type 0
 MayCome files (Create name) = AllByRecursion (λ (f : NamedFile). f.name ≡ name → ⊥) files × (length files < most_files)
 MayCome files (Write place offset bytes) = (place < length files) × (offset + length bytes ≤ longest_file)

@@ -6,7 +6,7 @@ use byte_list::Bytes;
 pub enum Change {
     /// A new and empty file of this name.
     Create(Bytes),
-    /// These bytes at this offset of a file; a gap between its old end and the offset is zeros.
+    /// These bytes at this offset of a file, in bytes from its start. A gap between its old end and the offset becomes zeros.
     Write {
         file: u16,
         offset: u32,

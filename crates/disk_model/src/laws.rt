@@ -10,8 +10,8 @@ ghost use Rattle.disk_model.specs.Storage.{Device, Storage, completed, piece_at,
 ghost use Rattle.disk_model.specs.Runs.{Move, IsOrderly, changes_in_moves, run_after, first_run};
 ghost use Rattle.disk_model.specs.Crash.{IsCrashOf};
 
-/// A law: any crash, at any moment of any run from a disk that holds files, with changes that are possible where they come,
-/// leaves a disk that holds the files after a prefix of the changes that came, with each committed change in it.
+/// A law, of crashes. Take any run from a disk that holds files, with changes that are possible where they come, and crash it at
+/// any moment. The disk that is left holds the files after a prefix of those changes, which has each committed one.
 pub fn crashes()
     ensures { (disk : List ℕ) (gate : ℕ) (files : List NamedFile) → IsHeldTo disk gate files
         → (moves : List Move) → Follow files (changes_in_moves moves)
@@ -20,8 +20,8 @@ pub fn crashes()
         × IsHeld left (files_after files (take k (changes_in_moves moves))) }
 {}
 
-/// A law: each disk that a crash may leave in the middle of a move, after its completion or while the pieces of a stage are
-/// submitted one by one, is one that a crash after the move may leave.
+/// A law: a crash in the middle of a move leaves no disk that a crash after the move could not leave. The middle is after a write's
+/// completion, before the next stage is submitted; or between the pieces of a stage, which are submitted one by one.
 pub fn moves_leave_no_other_disks()
     ensures completion { (st : Storage) (at : ℕ) (p : Piece) (left : List ℕ) → piece_at st.device.in_flight at ≡ Some p
         → IsCrashOf (with_completion st.device at p) left → IsCrashOf (completed st at).device left }
@@ -29,14 +29,14 @@ pub fn moves_leave_no_other_disks()
         → IsCrashOf (sent v first) left → IsCrashOf (sent v (first ++ others)) left }
 {}
 
-/// A law: on the disk of any run, whatever is on it and whatever changes come, at most all changes are committed; and exactly
-/// while a write is in flight or has failed a group is on its way, with which more are committed, at most all.
+/// A law of any run, whatever its disk holds and whatever changes come. At most all changes are committed. A group is on its way
+/// exactly while a write is in flight or has failed; with it more changes are committed, at most all.
 pub fn runs_are_orderly()
     ensures { (disk : List ℕ) (gate : ℕ) (files : List NamedFile) (moves : List Move)
         → IsOrderly (run_after files (first_run disk gate) moves) }
 {}
 
-/// A law: a disk of zeros holds no files.
+/// A law: a disk of zeros holds the empty list of files; its first gate that is not open is at 64.
 pub fn zeros_hold_nothing()
     ensures { (disk : List ℕ) → length disk ≡ 2097152 → ((i : ℕ) → slice_index disk i ≡ 0) → IsHeldTo disk 64 [] }
 {}
@@ -46,7 +46,7 @@ pub fn checkpoints_fit()
     ensures { (files : List NamedFile) → IsMade files → CanBeRebuilt files }
 {}
 
-/// A law: files that possible changes make are made by possible changes after one more.
+/// A law: where possible changes made the files, and one more change is possible, they and it made the files after it.
 pub fn made_files_change()
     ensures { (files : List NamedFile) (change : Change) → IsMade files → IsFormed change → MayCome files change → IsMade (changed files change) }
 {}
@@ -56,8 +56,8 @@ pub fn made_files_hold_bytes()
     ensures { (files : List NamedFile) → IsMade files → FilesHoldBytes files }
 {}
 
-/// A law: some changes and then others make what all of them make, and all are possible exactly where the first are, and the
-/// others after them. So files that possible changes made are such files still after more possible changes.
+/// A law: some changes and then others do what all of them do. All are possible exactly where the first are, and the others after
+/// them. So files that possible changes made stay such files after more possible changes.
 pub fn changes_come_in_turn()
     ensures files { (files : List NamedFile) (first later : List Change)
         → files_after files (first ++ later) ≡ files_after (files_after files first) later }
@@ -72,7 +72,7 @@ pub fn held_files_are_made()
     ensures { (disk : List ℕ) (gate : ℕ) (files : List NamedFile) → IsHeldTo disk gate files → IsMade files }
 {}
 
-/// A law: a disk holds at most one list of files, up to one gate.
+/// A law: a disk holds at most one list of files, up to at most one gate.
 pub fn held_once()
     ensures { (disk : List ℕ) (gate other : ℕ) (files others : List NamedFile) → IsHeldTo disk gate files → IsHeldTo disk other others → (files ≡ others) × (gate ≡ other) }
 {}

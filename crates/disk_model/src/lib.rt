@@ -1,4 +1,6 @@
-//! What stands on the disk: changes of files, records, groups and checkpoints, and what a crash leaves.
+//! What stands on the disk, a write-ahead log in two halves: changes of files, records, groups and checkpoints. `docs/DISK.md` has
+//! the bytes; read `specs/Held` and then `specs/Runs`. The law `crashes` is what all is for: a crash keeps a prefix of the changes,
+//! with every committed one in it.
 #![tactic(auto)]
 
 mod change;

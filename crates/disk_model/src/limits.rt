@@ -1,6 +1,6 @@
-//! Limits of files.
+//! Limits of the files on a disk; the sizes are in bytes.
 
-/// The most files that there may be.
+/// The most files that live at a time.
 pub const MOST_FILES: usize = 32;
 
 /// The most bytes of a name.

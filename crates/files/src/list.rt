@@ -10,8 +10,8 @@ use disk_model::{Change, NamedFile};
 use std::alloc::{AllocError, Global};
 use std::marker::Model;
 
-/// The files that live, in order of creation. A file's place, from 0, is what a change names it by. The list has no limits of its
-/// own: how many files there may be, and how long and how named, is its caller's to keep.
+/// The files that live, in order of creation. A change names a file by its place here, from 0. The list has no limits of its own:
+/// its caller keeps the number, the sizes and the names of the files within theirs.
 pub struct FileList {
     alloc: Global,
     files: Vec<NamedFile>,
@@ -35,8 +35,8 @@ impl Model for FileList {
     ghost view = { λ t. t.files.items };
 }
 
-/// Writes bytes from the offset on, in place; a gap between the old end and the offset becomes zeros. Memory is taken first,
-/// and only for what the file grows by: where there is none nothing changes.
+/// Writes bytes from the offset on, in place. A gap between the old end and the offset becomes zeros. Memory is taken first, and
+/// only for what the file grows by; where there is none nothing changes.
 fn patch(file: &mut Bytes, offset: usize, bytes: &[u8]) -> Result<(), AllocError>
     ensures ok { OnOk result (file.new ≡ patched file.old offset bytes.now) }
     ensures err { OnErr result (file.new ≡ file.old) }
@@ -57,7 +57,6 @@ pub fn part_of(bytes: &[u8], offset: usize, n: usize) -> &[u8]
     &rest[..n.min(rest.len())]
 }
 
-/// A copy of a file.
 fn copy_of(alloc: Global, file: &NamedFile) -> Result<NamedFile, AllocError>
     ensures { IfOk result (λ f. f ≡ file.now) }
 {
@@ -67,7 +66,7 @@ fn copy_of(alloc: Global, file: &NamedFile) -> Result<NamedFile, AllocError>
     })
 }
 
-/// Whether so many files have the one that a change names. A creation names none.
+/// Whether a change finds its file among so many. A creation names none.
 pub(crate) fn has_its_file(change: &Change, count: usize) -> bool
     ensures { result ≡ has_its_file change.now count }
 {
@@ -95,14 +94,14 @@ impl FileList {
         }
     }
 
-    /// How many files there are.
+    /// How many files live.
     pub fn count(&self) -> usize
         ensures { result ≡ length self.now }
     {
         self.files.len()
     }
 
-    /// The place of the first file of this name.
+    /// The place of the first file of this name. All names before it are compared.
     pub fn find(&self, name: &[u8]) -> Option<usize>
         ensures place { result ≡ place_named self.now name.now }
         ensures there { IfSome result (λ place. place < length self.now) }
@@ -112,7 +111,7 @@ impl FileList {
             .position(|file| file.name.as_slice() == name)
     }
 
-    /// The name of the file at a place.
+    /// The bytes of the name of the file at a place.
     pub fn name(&self, place: usize) -> &[u8]
         requires { place < length self.now }
         ensures { (d : NamedFile) → result.now ≡ (slice_index_or self.now place d).name }
@@ -120,7 +119,7 @@ impl FileList {
         self.files[place].name.as_slice()
     }
 
-    /// The bytes of the file at a place.
+    /// All bytes of the file at a place; nothing is copied.
     pub fn bytes(&self, place: usize) -> &[u8]
         requires { place < length self.now }
         ensures { (d : NamedFile) → result.now ≡ (slice_index_or self.now place d).bytes }
@@ -128,7 +127,7 @@ impl FileList {
         self.files[place].bytes.as_slice()
     }
 
-    /// How many bytes the file at a place has.
+    /// The size in bytes of the file at a place.
     pub fn length(&self, place: usize) -> usize
         requires { place < length self.now }
         ensures { (d : NamedFile) → result ≡ length (slice_index_or self.now place d).bytes }
@@ -146,7 +145,8 @@ impl FileList {
         Some(part_of(file.bytes.as_slice(), offset, n))
     }
 
-    /// A new and empty file of this name, after the others. Where memory runs out nothing has changed.
+    /// Appends a new and empty file of this name. It does not look whether another file has the name. Where memory runs out nothing
+    /// changes.
     pub fn create(&mut self, name: Bytes) -> Result<(), AllocError>
         ensures ok { OnOk result (self.new ≡ changed self.old (Create name)) }
         ensures err { OnErr result (self.new ≡ self.old) }
@@ -156,8 +156,8 @@ impl FileList {
         Ok(())
     }
 
-    /// These bytes at this offset of the file at a place; a gap between its old end and the offset is zeros. Takes memory for
-    /// what the file grows by, and none inside the file. Where memory runs out nothing has changed.
+    /// Writes these bytes at this offset of the file at a place. A gap between its old end and the offset becomes zeros. Takes
+    /// memory only for what the file grows by. Where memory runs out nothing changes.
     pub fn write(&mut self, place: usize, offset: usize, bytes: &[u8]) -> Result<(), AllocError>
         requires { place < length self.old }
         ensures ok { OnOk result (self.new ≡ changed self.old (Write place offset bytes.now)) }
@@ -183,7 +183,7 @@ impl FileList {
         self.files.remove(place);
     }
 
-    /// The place of the other file that has this name, if one has, where the file at a place is to get it.
+    /// The place of the other file, if there is one, that loses this name to the file at a place.
     pub(crate) fn loser(&self, place: usize, name: &[u8]) -> Option<usize>
         requires { place < length self.now }
         ensures place { result ≡ loser self.now (slice_get self.now place) name.now }
@@ -195,7 +195,7 @@ impl FileList {
         self.find(name)
     }
 
-    /// The file at a place gets this name, and keeps its place; another file that had the name is gone, and those after it move
+    /// Gives the file at a place this name; it keeps its place. Another file that had the name is gone, and those after it move
     /// down by one place. Takes no memory.
     pub fn rename(&mut self, place: usize, name: Bytes)
         requires { place < length self.old }
@@ -208,8 +208,8 @@ impl FileList {
         }
     }
 
-    /// Does a change. One that names a file that is not there changes nothing. Takes memory for a name, and
-    /// for what a file grows by, and for nothing else. Where memory runs out nothing has changed.
+    /// Does a change. One that names a file that is not there changes nothing. Takes memory only for a name and for what a file
+    /// grows by. Where memory runs out nothing changes.
     pub fn change(&mut self, change: &Change) -> Result<(), AllocError>
         ensures ok { OnOk result (self.new ≡ changed self.old change.now) }
         ensures err { OnErr result (self.new ≡ self.old) }

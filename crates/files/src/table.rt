@@ -11,9 +11,9 @@ use disk_model::{Change, NamedFile};
 use std::alloc::{AllocError, Global};
 use std::marker::Model;
 
-/// The files that live, in order of creation, each with a number that no other file of the table ever had. A file's place, from 0,
-/// is what a change names it by; it moves down when a file before it is gone, and the number stays. The table has no limits of its
-/// own: how many files there may be, and how long and how named, is its caller's to keep.
+/// The files that live, in order of creation, each with a number that no other file of the table ever had. A change names a file by
+/// its place, from 0. The place moves down when a file before it is gone; the number stays, so descriptors hold it. The table has
+/// no limits of its own: its caller keeps them.
 pub struct FileTable {
     alloc: Global,
     list: FileList,
@@ -74,7 +74,7 @@ impl FileTable {
         })
     }
 
-    /// The files by their places alone.
+    /// The files by their places, without their numbers.
     pub fn list(&self) -> &FileList
         ensures { result.now ≡ self.now.living }
     {
@@ -95,7 +95,7 @@ impl FileTable {
         self.made
     }
 
-    /// The place of the first file of this name.
+    /// As `FileList::find`.
     pub fn find(&self, name: &[u8]) -> Option<usize>
         ensures place { result ≡ place_named self.now.living name.now }
         ensures there { IfSome result (λ place. place < length self.now.living) }
@@ -103,7 +103,7 @@ impl FileTable {
         self.list.find(name)
     }
 
-    /// The number of the file at a place.
+    /// The number of the file at a place, which stays as long as it lives.
     pub fn number(&self, place: usize) -> u64
         requires { place < length self.now.living }
         ensures { result ≡ slice_index self.now.numbers place }
@@ -111,7 +111,7 @@ impl FileTable {
         self.numbers[place]
     }
 
-    /// The place of the file of this number; None where it does not live.
+    /// Where the file of this number stands now; None where it does not live. All numbers before it are compared.
     pub fn place(&self, number: u64) -> Option<usize>
         ensures place { result ≡ place_of self.now number }
         ensures there { IfSome result (λ place. place < length self.now.living) }
@@ -126,7 +126,7 @@ impl FileTable {
         self.place(number).is_some()
     }
 
-    /// The name of the file at a place.
+    /// As `FileList::name`.
     pub fn name(&self, place: usize) -> &[u8]
         requires { place < length self.now.living }
         ensures { (d : NamedFile) → result.now ≡ (slice_index_or self.now.living place d).name }
@@ -134,7 +134,7 @@ impl FileTable {
         self.list.name(place)
     }
 
-    /// The bytes of the file at a place.
+    /// As `FileList::bytes`.
     pub fn bytes(&self, place: usize) -> &[u8]
         requires { place < length self.now.living }
         ensures { (d : NamedFile) → result.now ≡ (slice_index_or self.now.living place d).bytes }
@@ -142,7 +142,7 @@ impl FileTable {
         self.list.bytes(place)
     }
 
-    /// How many bytes the file at a place has.
+    /// As `FileList::length`, in bytes.
     pub fn length(&self, place: usize) -> usize
         requires { place < length self.now.living }
         ensures { (d : NamedFile) → result ≡ length (slice_index_or self.now.living place d).bytes }
@@ -150,8 +150,7 @@ impl FileTable {
         self.list.length(place)
     }
 
-    /// At most n bytes of the file at a place, from an offset on: fewer where it ends before, and none past its end. None
-    /// where there is no file at the place.
+    /// As `FileList::read`.
     pub fn read(&self, place: usize, offset: usize, n: usize) -> Option<&[u8]>
         ensures { option_map (λ bytes. bytes.now) result
             ≡ option_map (λ f. take n (drop offset f.bytes)) (slice_get self.now.living place) }
@@ -159,7 +158,7 @@ impl FileTable {
         self.list.read(place, offset, n)
     }
 
-    /// A new and empty file of this name, after the others, with the next number. Where memory runs out nothing has changed.
+    /// As `FileList::create`, with the next number. Where memory runs out nothing changes.
     pub fn create(&mut self, name: Bytes) -> Result<(), AllocError>
         requires { self.old.made + 1 < 2 ^ 64 }
         ensures ok { OnOk result (self.new ≡ changed_numbered self.old (Create name)) }
@@ -172,8 +171,7 @@ impl FileTable {
         Ok(())
     }
 
-    /// These bytes at this offset of the file at a place; a gap between its old end and the offset is zeros. Takes memory for
-    /// what the file grows by, and none inside the file. Where memory runs out nothing has changed.
+    /// As `FileList::write`. Where memory runs out nothing changes.
     pub fn write(&mut self, place: usize, offset: usize, bytes: &[u8]) -> Result<(), AllocError>
         requires { place < length self.old.living }
         ensures ok { OnOk result (self.new ≡ changed_numbered self.old (Write place offset bytes.now)) }
@@ -191,7 +189,7 @@ impl FileTable {
         self.list.empty(place);
     }
 
-    /// The file at a place loses its name, and is gone: no file has its number any more. Those after it move down by one place.
+    /// The file at a place loses its name, and is gone: no file has its number from then on. Those after it move down by one place.
     /// Takes no memory.
     pub fn unlink(&mut self, place: usize)
         requires { place < length self.old.living }
@@ -201,8 +199,7 @@ impl FileTable {
         self.numbers.remove(place);
     }
 
-    /// The file at a place gets this name, and keeps its place and its number; another file that had the name is gone, and
-    /// those after it move down by one place. Takes no memory.
+    /// As `FileList::rename`: the file keeps its number, and another that had the name is gone with its own. Takes no memory.
     pub fn rename(&mut self, place: usize, name: Bytes)
         requires { place < length self.old.living }
         ensures { self.new ≡ changed_numbered self.old (Rename place name) }
@@ -214,8 +211,7 @@ impl FileTable {
         }
     }
 
-    /// Does a change. One that names a file that is not there changes nothing. Takes memory for a name, and for what a file grows
-    /// by, and for nothing else. Where memory runs out nothing has changed.
+    /// As `FileList::change`; a creation takes the next number. Where memory runs out nothing changes.
     pub fn change(&mut self, change: &Change) -> Result<(), AllocError>
         requires { self.old.made + 1 < 2 ^ 64 }
         ensures ok { OnOk result (self.new ≡ changed_numbered self.old change.now) }

@@ -25,9 +25,10 @@ use std::marker::Model;
 /// The most changes of a group.
 const GROUP: usize = 64;
 
-/// Commits changes to a device. A group is written in stages: the pieces of its record go together, and once all are complete
-/// its gate, alone. Where the record would not fit into the half, a checkpoint of all files goes to the other half: a 0 to
-/// its first gate, the pieces, the gate, and then byte 0, which selects the half. After the last stage the group is committed.
+/// Commits changes to a device. A group is written in stages: the pieces of its record together, and once all are complete its
+/// gate, alone. Where the record would not fit into the half, a checkpoint of all files goes to the other half. Its stages are a 0
+/// to that half's first gate, the pieces, the gate, and byte 0, which selects the half. After the last stage the group is
+/// committed.
 pub struct Committer {
     device: SimDisk,
     stages: Vec<Vec<Piece>>,
@@ -77,8 +78,8 @@ impl Model for Committer {
 }
 
 impl Committer {
-    /// The committer of a run that begins on a disk that holds files, where `gate` is the place of the first gate in the
-    /// selected half that is not open: 64 on a disk of zeros. Takes no memory.
+    /// The committer of a run that begins on a disk that holds files. `gate` is the place of the first gate in the selected half
+    /// that is not open: 64 on a disk of zeros. Takes no memory.
     pub fn new(alloc: Global, device: SimDisk, gate: u32) -> Committer
         requires quiet { is_quiet device ≡ true }
         requires half { start_of (selected_half (slice_index device.disk 0)) ≤ gate }
@@ -98,14 +99,14 @@ impl Committer {
         }
     }
 
-    /// How many changes are committed.
+    /// How many changes of this run are committed. Those that the disk began with do not count.
     pub fn committed(&self) -> u64
         ensures { result ≡ self.now.committed }
     {
         self.committed
     }
 
-    /// The least place at which a write in flight begins.
+    /// The least place at which a write in flight begins, in bytes from the disk's start.
     pub fn in_flight(&self) -> Option<u32>
         ensures { result ≡ least_start self.now.device.in_flight }
     {
@@ -119,7 +120,7 @@ impl Committer {
         self.device.is_in_flight(at)
     }
 
-    /// Whether a cut is wanted: some output is held back, as `held` tells, no group is in flight, and no write has failed.
+    /// Whether a cut is wanted: output is held back (`held`), no group is in flight, and no write has failed.
     pub fn wants_cut(&self, held: bool) -> bool
         ensures { result ≡ (held && is_quiet self.now.device) }
     {
@@ -133,7 +134,8 @@ impl Committer {
         self.device.has_failed()
     }
 
-    /// Refused where `cut` would be refused for another reason than memory. The changes are all uncommitted ones, in order.
+    /// The first three tests of `cut`, without its work: DiskFailed, GroupInFlight, NothingToCut. The changes are all uncommitted
+    /// ones.
     pub fn may_cut(&self, changes: &[Change]) -> Result<(), CommitRefusal>
         ensures { result ≡ cut_test self.now changes.now }
     {
@@ -149,8 +151,8 @@ impl Committer {
         Ok(())
     }
 
-    /// The write that begins there is complete. Once all of a stage are, the next stage is submitted, and after the last
-    /// stage the group is committed. Answers how many changes are committed then. Takes no memory.
+    /// The write that begins there is complete. Once all of a stage are, the next stage is submitted; after the last stage the
+    /// group is committed. Gives how many changes are then committed. Takes no memory.
     pub fn completed(&mut self, at: u32) -> Result<u64, CommitRefusal>
         ensures { MatchOption (piece_at self.old.device.in_flight at) ((result ≡ Err NoSuchWrite) × (self.new ≡ self.old))
             (λ p. (result ≡ Ok self.new.committed) × (self.new ≡ completed self.old at)) }
@@ -186,8 +188,7 @@ impl Committer {
         }
     }
 
-    /// The disk that a crash leaves where the ranges in flight or failed take these bytes, by rising place, again and again
-    /// from the start; an empty fill leaves the completed bytes. Takes no memory.
+    /// The disk that a crash leaves for a fill, as `SimDisk::crash` makes it. Takes no memory.
     pub fn crash(self, fill: &[u8]) -> SimDisk
         ensures { result ≡ quiet (crashed self.device fill.now) }
     {
@@ -204,11 +205,11 @@ impl Committer {
         device.crash(fill)
     }
 
-    /// Begins a group of the first 64 of these changes, or of all where there are fewer, and answers how many changes it
-    /// will commit and how many writes it takes. Where its record does not fit into the half, a checkpoint of all files
-    /// begins, which commits all changes. The changes are all uncommitted ones, in order, and the files those that all
-    /// changes made. All memory of the group's writes is taken here. Refused first DiskFailed, then GroupInFlight, then
-    /// NothingToCut, then Budget, where a u64 does not count the changes, and last OutOfMemory.
+    /// Begins a group of the first 64 of these changes, or of all where there are fewer. Gives how many changes it will commit, and
+    /// how many writes that takes. Where its record does not fit into the half, a checkpoint of all files begins instead, and
+    /// commits all changes. The changes are all uncommitted ones, in order, and the files those that all changes made. All memory
+    /// of the writes is taken here. Refused first DiskFailed, then GroupInFlight, NothingToCut, Budget (a u64 does not count the
+    /// changes), and last OutOfMemory.
     pub fn cut(
         &mut self,
         alloc: Global,
@@ -279,7 +280,7 @@ impl Committer {
         self.committed + count as u64
     }
 
-    /// A group of these changes, which have this body.
+    /// Plans a group of these changes, which have this body.
     fn group_plan(
         &self,
         alloc: Global,
@@ -308,7 +309,7 @@ impl Committer {
         })
     }
 
-    /// A checkpoint by these changes, which make all files, with so many changes of the run.
+    /// Plans a checkpoint. The changes make all files; `count` changes of the run are committed with it.
     fn checkpoint_plan(
         &self,
         alloc: Global,

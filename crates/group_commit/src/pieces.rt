@@ -9,7 +9,7 @@ use disk_model::Piece;
 use journal::selector_of;
 use std::alloc::{AllocError, Global};
 
-/// How many bytes each piece has but the last of a stage.
+/// How many bytes a piece has; the last of a stage may have fewer.
 const PIECE: usize = 4096;
 
 /// What stands of a record after its gate: the length of its body, little-endian, the body, and the next gate, closed.
@@ -52,7 +52,7 @@ pub fn byte_piece(alloc: Global, at: u32, byte: u8) -> Result<Vec<Piece>, AllocE
     Ok(pieces)
 }
 
-/// The pieces of a record of this body, whose gate is at a place.
+/// The pieces of a record of this body, but for its gate, which is at a place.
 pub fn record_pieces(alloc: Global, gate: u32, body: &[u8]) -> Result<Vec<Piece>, AllocError>
     requires { gate + 6 + length body.now ≤ 2097152 }
     ensures { IfOk result (λ v. v.items ≡ pieces (gate + 1) (to_le_bytes w32 (length body.now) ++ body.now ++ 0 ∷ [])) }
@@ -69,7 +69,7 @@ pub fn gate_past(gate: u32, body: &[u8]) -> u32
     gate + 5 + body.len() as u32
 }
 
-/// The stages of a checkpoint after its first: its pieces, its gate, which is at a place, and byte 0, which selects its half.
+/// The stages of a checkpoint after its first: its pieces, its gate at a place, and byte 0, which selects its half.
 pub fn checkpoint_stages(
     alloc: Global,
     record: Vec<Piece>,

@@ -32,7 +32,6 @@ impl CommitRefusal {
         self as u8
     }
 
-    /// What it says.
     fn text(self) -> &'static str {
         match self {
             CommitRefusal::GroupInFlight => "a group is in flight",

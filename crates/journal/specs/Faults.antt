@@ -24,8 +24,8 @@ size_after disk gate = from_le_bytes w32 (take 4 (drop (gate + 1) disk))
 abbrev pub HasNoBody : List ℕ → ℕ → Type 0
 HasNoBody disk gate = (cs : List Change) → AllByRecursion IsFormed cs → length (body_of cs) ≡ size_after disk gate → Stands disk (gate + 5) (body_of cs) → ⊥
 
--- what is wrong with the record after this open gate, with these files before it, in a half that ends before `last`:
--- its next gate lies past the half; else its body is no list of changes; else one of its changes is not possible
+-- what is wrong with the record after this open gate, with these files before it, in a half that ends before `last`. Its next gate
+-- lies past the half; else its body is no list of changes; else one of its changes is not possible
 abbrev pub FaultAfter : List ℕ → ℕ → ℕ → List NamedFile → DiskFault → Type 0
 FaultAfter disk last gate files PastHalf = last ≤ gate + 5 + size_after disk gate
 FaultAfter disk last gate files BadRecord = (gate + 5 + size_after disk gate < last) × HasNoBody disk gate

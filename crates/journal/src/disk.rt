@@ -1,4 +1,4 @@
-//! What a disk holds.
+//! Recovery: which files a disk holds.
 ghost use Rattle.std.specs.Prelude.{◌≡◌, ◌≤◌, ◌<◌, ℕ, List, [], drop, take, length, slice_index, IfOk, IfErr, IsOk};
 ghost use Rattle.disk_model.specs.declared.change.NamedFile.{NamedFile};
 ghost use Rattle.disk_model.specs.Numbers.{numbered};
@@ -40,8 +40,8 @@ fn read(alloc: Global, bytes: &[u8]) -> Result<(FileList, u32), DiskFault>
     Ok((files, (end - rest.len()) as u32))
 }
 
-/// The files that a disk holds, numbered by their places as a run begins, and the place of the first gate in the selected half
-/// that is not open.
+/// Recovers the files that a disk holds, numbered by their places as a run begins. Beside them it gives the place of the first gate
+/// in the selected half that is not open, where the log goes on.
 pub fn open(alloc: Global, device: &SimDisk) -> Result<(FileTable, u32), DiskFault>
     // What is found is held.
     ensures found { IfOk result (λ x. IsHeldTo device.now.disk x.1 x.0.living) }
@@ -59,7 +59,7 @@ pub fn open(alloc: Global, device: &SimDisk) -> Result<(FileTable, u32), DiskFau
     Ok((FileTable::numbered(alloc, files)?, gate))
 }
 
-/// The files that a disk holds, numbered by their places as a run begins. It goes by the disk's completed bytes: writes in flight
+/// Recovers the files that a disk holds, numbered by their places as a run begins. It reads the completed bytes; writes in flight
 /// are not looked at.
 pub fn recover(alloc: Global, device: &SimDisk) -> Result<FileTable, DiskFault>
     // What is found is held.

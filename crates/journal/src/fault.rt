@@ -7,14 +7,14 @@ use std::alloc::{AllocError, AllocFailed};
 use std::fmt;
 use thiserror::Error;
 
-/// Why a disk cannot be read: the first fault of its records. Records are read from the first on, and inside a record
-/// PastHalf comes before BadRecord, and BadRecord before BadChange.
+/// Why a disk cannot be read: the first fault of its records, in the order in which they stand. Inside a record PastHalf comes
+/// before BadRecord, and BadRecord before BadChange.
 #[derive(Clone, Copy, Debug, PartialEq, Eq, Error)]
 pub enum DiskFault {
     /// A body that is no list of changes, or has a bad byte in a name.
     BadRecord = 1,
-    /// A change that is not possible where it comes: a creation of a name that is there or of a 33rd file, a change of a file
-    /// that is not there, a write that ends past 16,384 bytes, or a renaming to the name that the file has.
+    /// A change that is not possible where it comes. It creates a name that is there or a 33rd file, changes a file that is not
+    /// there, writes past 16,384 bytes, or renames a file to its own name.
     BadChange = 2,
     /// The gate after a record would lie outside the half.
     PastHalf = 3,
@@ -30,7 +30,6 @@ impl DiskFault {
         self as u8
     }
 
-    /// What it says.
     fn text(self) -> &'static str {
         match self {
             DiskFault::BadRecord => "a record's body is no list of changes",

@@ -3,7 +3,7 @@ ghost use Rattle.std.specs.Prelude.{◌≡◌};
 ghost use Rattle.disk_model.specs.Held.{selected_half, start_of, end_of};
 ghost use Rattle.disk_model.specs.Storage.{selector};
 
-/// The half that a disk's byte 0 selects, by the byte modulo 2: an even byte selects half 0, an odd one half 1.
+/// The half that a disk's byte 0 selects by its lowest bit: even is half 0, odd is half 1.
 pub fn half_of(byte: u8) -> bool
     ensures { result ≡ selected_half byte }
 {

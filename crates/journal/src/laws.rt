@@ -5,7 +5,7 @@ ghost use Rattle.disk_model.specs.Held.{IsHeld};
 ghost use Rattle.journal.specs.declared.fault.DiskFault.{DiskFault};
 ghost use Rattle.journal.specs.Faults.{IsFault};
 
-/// A law: a disk of bytes holds files or has a fault, never both, and no second fault.
+/// A law: a disk of bytes holds files or has one fault, and never both.
 pub fn one_outcome()
     ensures some { (disk : List ℕ) → length disk ≡ 2097152 → ((i : ℕ) → slice_index disk i < 256)
         → ((files : List NamedFile) × IsHeld disk files) ⊎ ((fault : DiskFault) × IsFault disk fault) }

@@ -1,5 +1,6 @@
-//! Records of the disk: its two halves, how changes are spelled in a record's body, the changes of a checkpoint, and what a
-//! disk holds.
+//! Records of the disk: its two halves, the bytes of a record's body, the changes of a checkpoint, and recovery. `docs/DISK.md` has
+//! the format; read `recover` first. Unless memory runs out it gives the files that the disk holds, or its first fault. The law
+//! `one_outcome` says that every disk has one of the two, and never both.
 #![tactic(auto)]
 
 mod disk;

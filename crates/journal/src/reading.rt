@@ -8,7 +8,7 @@ use byte_list::Bytes;
 use disk_model::{Change, LONGEST_FILE_WRITE, LONGEST_NAME};
 use std::alloc::Global;
 
-/// A number of two bytes, and the bytes after it.
+/// A number of two bytes, little-endian, and the bytes after it.
 fn u16_at(bytes: &[u8]) -> Result<(u16, &[u8]), DiskFault>
     ensures { Gives (λ x. (x.0, x.1.now)) result (number_at w16 bytes.now) }
 {
@@ -20,7 +20,7 @@ fn u16_at(bytes: &[u8]) -> Result<(u16, &[u8]), DiskFault>
     Ok((number, rest))
 }
 
-/// A number of four bytes, and the bytes after it.
+/// A number of four bytes, little-endian, and the bytes after it.
 fn u32_at(bytes: &[u8]) -> Result<(u32, &[u8]), DiskFault>
     ensures { Gives (λ x. (x.0, x.1.now)) result (number_at w32 bytes.now) }
 {
@@ -130,7 +130,7 @@ fn rename_of(alloc: Global, bytes: &[u8]) -> Result<(Change, &[u8]), DiskFault>
     Ok((Change::Rename { file, name }, rest))
 }
 
-/// A change, and the bytes after it.
+/// A change, of the kind that its first byte says, and the bytes after it.
 #[tactic(auto, unfolding(crate::specs::Reading::change_at))]
 fn change_of(alloc: Global, bytes: &[u8]) -> Result<(Change, &[u8]), DiskFault>
     ensures { Gives (λ x. (x.0, x.1.now)) result (change_at bytes.now) }
@@ -145,7 +145,8 @@ fn change_of(alloc: Global, bytes: &[u8]) -> Result<(Change, &[u8]), DiskFault>
     }
 }
 
-/// The body of the record whose gate lies before these bytes, and what begins with the next gate.
+/// The body of the record whose gate lies before these bytes, and the rest from the next gate on. PastHalf where that gate is not
+/// in the half.
 #[tactic(auto, unfolding(crate::specs::Reading::body_at))]
 pub fn body_in(bytes: &[u8]) -> Result<(&[u8], &[u8]), DiskFault>
     ensures { Gives (λ x. (x.0.now, x.1.now)) result (body_at bytes.now) }
@@ -161,7 +162,7 @@ pub fn body_in(bytes: &[u8]) -> Result<(&[u8], &[u8]), DiskFault>
     Ok(rest.split_at(n))
 }
 
-/// The changes of a body: all of its bytes.
+/// The changes that all bytes of a body spell.
 pub fn read_changes(alloc: Global, bytes: &[u8]) -> Result<Vec<Change>, DiskFault>
     ensures { Gives (λ v. v.items) result (changes_at (length bytes.now) bytes.now) }
 {

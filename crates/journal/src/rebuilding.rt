@@ -10,7 +10,6 @@ use disk_model::{Change, LONGEST_FILE_WRITE};
 use files::FileTable;
 use std::alloc::{AllocError, Global};
 
-/// Appends the writes of a file's bytes.
 fn push_writes(
     alloc: Global,
     changes: &mut Vec<Change>,
@@ -36,8 +35,8 @@ fn push_writes(
     Ok(())
 }
 
-/// The changes that make the living files from nothing: for each in order its creation, and then writes of 1,024 bytes, the
-/// last shorter. They name a file by its place, and keep nothing of its number.
+/// The changes that make the living files from nothing, as a checkpoint has them. Each file in order is created, and then written
+/// 1,024 bytes at a time, the last write shorter. The changes name a file by its place, and keep nothing of its number.
 pub fn rebuild(alloc: Global, files: &FileTable) -> Result<Vec<Change>, AllocError>
     requires few { length files.now.living ≤ most_files }
     requires short { AllByRecursion (λ (f : NamedFile). length f.bytes ≤ longest_file) files.now.living }

@@ -1,4 +1,4 @@
-//! Reading the records of a half.
+//! Reading the records of a half, as recovery does. Each change is tested before it is done: BadChange where it is not possible.
 ghost use Rattle.std.specs.Prelude.{◌≡◌, ◌<◌, [], length, slice_get, option_map, None, IsOk};
 ghost use Rattle.disk_model.specs.declared.change.Change.TheVariants.{Create, Write, Empty, Remove, Rename};
 ghost use Rattle.journal.specs.Reading.{is_unnamed, is_called, Gives, GivesNew, GivesBoth, step_at, all_changed, record_at, records_at, opened};
@@ -10,7 +10,6 @@ use disk_model::{Change, LONGEST_FILE, MOST_FILES};
 use files::FileList;
 use std::alloc::Global;
 
-/// Whether no file has this name.
 #[tactic(auto, unfolding(crate::specs::Reading::is_unnamed))]
 fn is_unnamed(files: &FileList, name: &[u8]) -> bool
     ensures { result ≡ is_unnamed files.now name.now }
@@ -18,7 +17,6 @@ fn is_unnamed(files: &FileList, name: &[u8]) -> bool
     files.find(name).is_none()
 }
 
-/// Whether the file at a place has this name.
 fn is_called(files: &FileList, place: usize, name: &[u8]) -> bool
     requires { place < length files.now }
     ensures { result ≡ is_called (slice_get files.now place) name.now }
@@ -48,7 +46,6 @@ fn write_file(files: &mut FileList, place: u16, offset: u32, bytes: &[u8]) -> Re
     Ok(files.write(place, offset, bytes)?)
 }
 
-/// Empties the file at a place, where there is one.
 fn empty_file(files: &mut FileList, place: u16) -> Result<(), DiskFault>
     ensures { GivesNew result files.new (step_at files.old (Empty place)) }
 {
@@ -60,7 +57,6 @@ fn empty_file(files: &mut FileList, place: u16) -> Result<(), DiskFault>
     Ok(())
 }
 
-/// Removes the file at a place, where there is one.
 fn remove_file(files: &mut FileList, place: u16) -> Result<(), DiskFault>
     ensures { GivesNew result files.new (step_at files.old (Remove place)) }
 {
@@ -89,7 +85,6 @@ fn rename_file(
     Ok(())
 }
 
-/// Does a change, where it is possible.
 fn apply(alloc: Global, files: &mut FileList, change: &Change) -> Result<(), DiskFault>
     ensures { GivesNew result files.new (step_at files.old change.now) }
 {
@@ -106,7 +101,7 @@ fn apply(alloc: Global, files: &mut FileList, change: &Change) -> Result<(), Dis
     }
 }
 
-/// Does these changes in order.
+/// Does these changes in order, up to the first that is not possible.
 #[tactic(auto, unfolding(crate::specs::Reading::all_changed))]
 fn apply_all(alloc: Global, files: &mut FileList, changes: &[Change]) -> Result<(), DiskFault>
     ensures { GivesNew result files.new (all_changed files.old changes.now) }
@@ -117,7 +112,7 @@ fn apply_all(alloc: Global, files: &mut FileList, changes: &[Change]) -> Result<
     Ok(())
 }
 
-/// Does the changes of the record whose gate lies before these bytes; what begins with the next gate.
+/// Does the changes of the record whose gate lies before these bytes. Gives the rest from the next gate on.
 #[tactic(auto, unfolding(crate::specs::Reading::record_at))]
 fn record_of<'a>(
     alloc: Global,
@@ -132,7 +127,7 @@ fn record_of<'a>(
     Ok(after)
 }
 
-/// What lies after the gate, where it is open.
+/// What follows the gate, where it is open.
 fn after_open_gate(rest: &[u8]) -> Option<&[u8]>
     ensures { option_map (λ x. x.now) result ≡ opened rest.now }
 {

@@ -1,4 +1,4 @@
-//! The spelling of changes.
+//! The spelling of changes: their bytes in a record's body.
 ghost use Rattle.std.specs.Prelude.{◌≡◌, ◌<◌, ◌≤◌, ◌++◌, ◌∷◌, List, length, IfOk, OnOk};
 ghost use Rattle.std.specs.Int.{w16, w32, to_le_bytes};
 ghost use Rattle.std.specs.List.{AllByRecursion};
@@ -18,7 +18,7 @@ fn push_name(out: &mut Vec<u8>, name: &[u8]) -> Result<(), AllocError>
     out.extend_from_slice(name)
 }
 
-/// Appends the kind of a change and the place of its file.
+/// Appends the kind of a change, one byte, and the place of its file, two bytes.
 fn push_place(out: &mut Vec<u8>, kind: u8, file: u16) -> Result<(), AllocError>
     ensures { OnOk result (out.new.items ≡ out.old.items ++ kind ∷ to_le_bytes w16 file) }
 {
@@ -26,7 +26,7 @@ fn push_place(out: &mut Vec<u8>, kind: u8, file: u16) -> Result<(), AllocError>
     out.extend_from_slice(&file.to_le_bytes())
 }
 
-/// Appends an offset, and bytes after their length.
+/// Appends an offset of four bytes, and bytes after their length, two bytes.
 fn push_bytes(out: &mut Vec<u8>, offset: u32, bytes: &[u8]) -> Result<(), AllocError>
     requires { length bytes.now ≤ longest_file_write }
     ensures { OnOk result (out.new.items
@@ -64,8 +64,7 @@ fn push_change(out: &mut Vec<u8>, change: &Change) -> Result<(), AllocError>
     }
 }
 
-/// The body of a record: the bytes of these changes, one after the other. Other changes than formed ones have no spelling that
-/// is read again.
+/// The body of a record: the bytes of these changes, one after the other. Recovery reads none but formed changes again.
 pub fn body_of(alloc: Global, changes: &[Change]) -> Result<Vec<u8>, AllocError>
     requires { AllByRecursion IsFormed changes.now }
     ensures { IfOk result (λ v. v.items ≡ body changes.now) }

@@ -20,7 +20,7 @@ pub enum Width {
     Word,
 }
 
-/// Why an access is refused. Misaligned is tested first; of the others, the lowest byte that may not be used decides.
+/// Why an access is refused. Misaligned is tested first; else the lowest byte that may not be used decides.
 #[derive(Clone, Copy, Debug, PartialEq, Eq, Error)]
 pub enum BusFault {
     /// No page is there.

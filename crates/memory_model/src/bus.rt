@@ -5,10 +5,10 @@ ghost use Rattle.memory_model.specs.Access.{loaded, access_fault, stored, or_fau
 
 use crate::access::{BusFault, Width};
 
-/// What instructions load from and store to. The laws: a load gives the bytes that stand there, little-endian and
-/// not extended; a store changes those bytes alone; a refused store changes nothing; an access is refused Misaligned
-/// exactly where the address is no multiple of the width, else Unmapped or NoRight exactly where one of its bytes is
-/// not there or lacks the right.
+/// A memory that instructions load from and store to. Each bus keeps these laws. A load gives the bytes that stand there,
+/// little-endian and not extended. A store changes those bytes alone, and a refused store changes nothing. An access is refused
+/// Misaligned exactly where the address is no multiple of the width. Else it is refused Unmapped or NoRight exactly where one of
+/// its bytes is absent or lacks the right.
 pub trait Bus {
     ghost memory: { Self → Memory };
 

@@ -1,4 +1,5 @@
-//! What a memory is: bytes with rights, and the accesses to them. `Bus` is what instructions load from and store to.
+//! What a memory is: bytes with rights, and the accesses to them. Read `specs/Memory` first, and then `specs/Access`, which says
+//! what each load and store does and why it is refused. Every implementation of `Bus` is proved to keep its laws.
 #![tactic(auto)]
 
 mod access;

@@ -1,4 +1,4 @@
-//! Lists that exist in proofs alone.
+//! Ghost lists: `Notes`, a list that exists in proofs alone, for records of what was done.
 #![tactic(auto)]
 
 mod notes;

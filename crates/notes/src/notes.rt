@@ -4,8 +4,8 @@ ghost use Rattle.std.specs.Borrow.{ftrue};
 
 use std::marker::{Model, PhantomData};
 
-/// Notes of what was done, in order. They have no bytes and take no memory, so that there is no greatest number of them; a clause
-/// reads them as `items`.
+/// Notes of what was done, in order. They have no bytes and take no memory, so there may be any number of them. Clauses read them
+/// as `items`.
 #[derive(Drop)]
 pub struct Notes<T> {
     of: PhantomData<T>,

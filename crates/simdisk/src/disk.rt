@@ -12,15 +12,15 @@ use disk_model::Piece;
 use std::alloc::{AllocError, Global};
 use std::marker::Model;
 
-/// How many bytes a disk has.
+/// How many bytes a disk has: 2 MiB.
 pub const SIZE: usize = 2097152;
 
-/// How many bytes a write may have.
+/// The most bytes of one write.
 const LONGEST_WRITE: usize = 4096;
 
-/// A simulated disk. From its submission to its completion a write's range may hold any bytes after a crash; a write that
-/// has failed leaves any bytes in its range, and no write of this run may meet that range again. Completions come in any order,
-/// by the place at which the write begins.
+/// A simulated disk. From its submission to its completion a write may be torn: after a crash its range may hold any bytes. A
+/// failed write leaves any bytes in its range, and no later write of the run may meet that range. Completions come in any order,
+/// each named by the place at which its write begins.
 pub struct SimDisk {
     alloc: Global,
     bytes: Vec<u8>,
@@ -51,7 +51,6 @@ impl Model for SimDisk {
     ghost invariant = { λ s. (length s.bytes.items ≡ 2097152) × LieOn 2097152 s.in_flight.items × LieOn 2097152 s.failed.items };
 }
 
-/// So many zeros.
 fn zeros(alloc: Global, n: usize) -> Result<Vec<u8>, AllocError>
     ensures len { IfOk result (λ v. length v.items ≡ n) }
     ensures zeros { IfOk result (λ v. (i : ℕ) → slice_index v.items i ≡ 0) }
@@ -60,7 +59,7 @@ fn zeros(alloc: Global, n: usize) -> Result<Vec<u8>, AllocError>
 }
 
 impl SimDisk {
-    /// A disk of zeros.
+    /// A disk of zeros, whose 2 MiB are allocated here.
     pub fn zero(alloc: Global) -> Result<SimDisk, DiskRefusal>
         ensures size { IfOk result (λ d. length d.disk ≡ 2097152) }
         ensures zeros { IfOk result (λ d. (i : ℕ) → slice_index d.disk i ≡ 0) }
@@ -76,7 +75,7 @@ impl SimDisk {
         })
     }
 
-    /// A disk of these completed bytes.
+    /// A disk of these completed bytes, which are copied. BadLength comes before OutOfMemory.
     pub fn open(alloc: Global, bytes: &[u8]) -> Result<SimDisk, DiskRefusal>
         ensures ok { IfOk result (λ d. d ≡ quiet bytes.now) }
         ensures length { IsErrOf result BadLength ↔ ((length bytes.now == 2097152) ≡ false) }
@@ -94,21 +93,21 @@ impl SimDisk {
         })
     }
 
-    /// Whether nothing is in flight and nothing has failed.
+    /// Whether nothing is in flight and nothing has failed. After a failure it stays false.
     pub fn quiet(&self) -> bool
         ensures { result ≡ is_quiet self.now }
     {
         self.in_flight.is_empty() && self.failed.is_empty()
     }
 
-    /// Whether a write has failed.
+    /// Whether a write has failed. Only a crash takes a failure away.
     pub fn has_failed(&self) -> bool
         ensures { result ≡ not (is_empty self.now.failed) }
     {
         !self.failed.is_empty()
     }
 
-    /// The completed bytes.
+    /// The bytes as completed writes left them, without those in flight or failed.
     pub fn bytes(&self) -> &[u8]
         ensures bytes { result.now ≡ self.now.disk }
         ensures size { length result.now ≡ 2097152 }
@@ -116,22 +115,21 @@ impl SimDisk {
         &self.bytes
     }
 
-    /// The least place at which a write in flight begins.
+    /// The least place at which a write in flight begins, in bytes from the disk's start.
     pub fn in_flight(&self) -> Option<u32>
         ensures { result ≡ least_start self.now.in_flight }
     {
         least_start_of(&self.in_flight)
     }
 
-    /// Whether a write in flight begins there.
+    /// Whether a write in flight begins there, so that `complete` is not refused, and `fail` for memory alone.
     pub fn is_in_flight(&self, at: u32) -> bool
         ensures { result ≡ is_some (piece_at self.now.in_flight at) }
     {
         place_of(&self.in_flight, at).is_some()
     }
 
-    /// Whether a write of n bytes at a place has a length that it may have, lies on the disk, and meets nothing in flight or
-    /// failed.
+    /// Whether n bytes may be written at a place: 1 to 4,096 bytes, on the disk, apart from all ranges in flight or failed.
     fn has_room(&self, at: u32, n: usize) -> bool
         ensures { result ≡ has_room self.now at n }
     {
@@ -143,7 +141,7 @@ impl SimDisk {
             && are_apart(&self.failed, from, n)
     }
 
-    /// Submits a write of these bytes at a place. OutOfRange comes before OutOfMemory.
+    /// Submits a write of these bytes, which are copied. OutOfRange comes before OutOfMemory.
     pub fn submit(&mut self, at: u32, bytes: &[u8]) -> Result<(), DiskRefusal>
         ensures range { IsErrOf result OutOfRange ↔ (has_room self.old at (length bytes.now) ≡ false) }
         ensures ok { OnOk result (self.new ≡ record { disk = self.old.disk; in_flight = self.old.in_flight ++ record { at = at; bytes = bytes.now } ∷ []; failed = self.old.failed }) }
@@ -158,7 +156,7 @@ impl SimDisk {
         Ok(())
     }
 
-    /// Submits these pieces together, where nothing is in flight and nothing has failed. Takes no memory.
+    /// Submits these pieces together, without copying them. Takes no memory.
     pub fn send(&mut self, pieces: Vec<Piece>)
         requires idle { is_quiet self.old ≡ true }
         requires room { AreSpaced 2097152 pieces.items }
@@ -181,7 +179,7 @@ impl SimDisk {
         }
     }
 
-    /// The write that begins there has failed. NoSuchWrite comes before OutOfMemory.
+    /// The write that begins there has failed: until a crash no other may meet its range. NoSuchWrite comes before OutOfMemory.
     pub fn fail(&mut self, at: u32) -> Result<(), DiskRefusal>
         ensures ok { OnOk result (MatchOption (piece_at self.old.in_flight at) ⊥ (λ p. self.new ≡ with_failure self.old at p)) }
         ensures err { OnErr result (self.new ≡ self.old) }
@@ -201,8 +199,8 @@ impl SimDisk {
         }
     }
 
-    /// What a crash leaves where the ranges in flight or failed take these bytes, by rising place, again and again from
-    /// the start; an empty fill leaves the old bytes. Takes no memory.
+    /// The disk after a crash. The ranges in flight or failed take the bytes of `fill`, by rising place, again and again from its
+    /// start. An empty fill leaves the old bytes. Takes no memory.
     pub fn crash(mut self, fill: &[u8]) -> SimDisk
         ensures { result ≡ quiet (crashed self fill.now) }
     {

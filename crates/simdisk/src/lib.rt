@@ -1,4 +1,6 @@
-//! The simulated disk: what is submitted, what is complete, what has failed, and what a crash leaves.
+//! The simulated disk, whose writes are submitted first and complete later, in any order. Read `SimDisk` first. A crash leaves any
+//! bytes where a write is in flight or has failed, and the completed ones elsewhere. Two laws say that `crash` makes each such disk
+//! of bytes, and no other.
 #![tactic(auto)]
 
 mod disk;

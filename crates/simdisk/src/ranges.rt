@@ -38,7 +38,7 @@ pub fn least_start_of(pieces: &[Piece]) -> Option<u32>
     least
 }
 
-/// Writes bytes onto the disk.
+/// Writes bytes over those of the disk from place `at` on.
 pub fn overwrite(disk: &mut [u8], at: usize, bytes: &[u8])
     requires { at + length bytes.now ≤ length disk.old }
     ensures { disk.new ≡ overwritten disk.old at bytes.now }
@@ -75,7 +75,7 @@ fn is_in_either(in_flight: &[Piece], failed: &[Piece], place: usize) -> bool
     is_in_range(in_flight, place) || is_in_range(failed, place)
 }
 
-/// A place before which no piece's range has one. It is `most` where there are no pieces.
+/// A place before which no range has one: `most` where there are no pieces.
 fn range_start(pieces: &[Piece], most: usize) -> usize
     ensures { (i : ℕ) → i < result → in_range pieces.now i ≡ false }
 {

@@ -28,7 +28,6 @@ impl DiskRefusal {
         self as u8
     }
 
-    /// What it says.
     fn text(self) -> &'static str {
         match self {
             DiskRefusal::NoSuchWrite => "no write in flight begins there",
