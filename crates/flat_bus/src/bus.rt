@@ -12,7 +12,6 @@ pub struct FlatBus {
     pub bytes: [u8; 64],
 }
 
-/// Whether an address is a multiple of a width.
 fn is_aligned(at: u32, width: Width) -> bool
     ensures { result ≡ (at % size width == 0) }
 {
@@ -31,7 +30,7 @@ fn end(bytes: &[u8; 64]) -> u32
     bytes.len() as u32
 }
 
-/// The number that the bytes at an address spell.
+/// The number that the bytes at an address spell, little-endian.
 fn read(bytes: &[u8; 64], at: u32, width: Width) -> u32
     requires { at + size width ≤ 64 }
     ensures { result ≡ value_in bytes.now at (size width) }
@@ -49,7 +48,7 @@ fn read(bytes: &[u8; 64], at: u32, width: Width) -> u32
     }
 }
 
-/// Puts the low bytes of a value at an address.
+/// Puts the low bytes of a value at an address, little-endian.
 fn write(bytes: &mut [u8; 64], at: u32, width: Width, value: u32)
     requires { at + size width ≤ 64 }
     ensures { bytes.new ≡ put_in bytes.old at (low_bytes (size width) value) }

@@ -1,5 +1,5 @@
-//! A memory of 64 bytes from address 0 on, with all rights: a second memory that keeps the laws of `Bus`, over which `exec`
-//! is tested.
+//! A memory of 64 bytes from address 0 on, with all rights. It keeps the laws of `Bus`, so that `exec` is tested over a second
+//! memory.
 #![tactic(auto)]
 
 mod bus;

@@ -1,4 +1,4 @@
-//! The words of the lines that the program reads: numbers, and bytes.
+//! The words of the lines that the program reads, as numbers and bytes. A word of another form gives None.
 #![tactic(auto)]
 
 use byte_list::Bytes;
@@ -20,7 +20,7 @@ pub fn hexadecimal(word: &str) -> Option<u32> {
     Some(u32::from_be_bytes(bytes))
 }
 
-/// The bytes of a word of pairs of hexadecimal digits, or none for `-`. None where it has no such form.
+/// The bytes that pairs of hexadecimal digits spell, or no bytes for `-`. None for a word of another form.
 pub fn bytes_of(alloc: Global, word: &str) -> Result<Option<Bytes>, AllocError> {
     match word {
         "" => Ok(None),

@@ -1,4 +1,4 @@
-//! Loads and stores.
+//! The loads and stores of instructions: `Space` as a `Bus`.
 use crate::part::is_aligned;
 use crate::place::{part_of, place_of_shared};
 use crate::space::Space;

@@ -7,7 +7,7 @@ use std::alloc::{AllocError, Global};
 use std::sync::Arc;
 
 impl Space {
-    /// A copy: pages that may be written are copied, the others shared.
+    /// A copy, as a fork needs it. Pages that may be written are copied, the others shared.
     pub fn try_clone(&self, alloc: Global) -> Result<Space, AllocError>
         ensures { IfOk result (λ s. s ≡ self.now) }
     {

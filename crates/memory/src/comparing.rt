@@ -8,8 +8,8 @@ use crate::space::Space;
 use std::sync::Arc;
 
 impl Space {
-    /// Whether the same bytes stand at the same addresses, with the same rights. How the pages were mapped does not
-    /// matter, but is fastest where they were mapped alike.
+    /// Whether the same bytes stand at the same addresses, with the same rights. How the pages were mapped does not matter, but it
+    /// is fastest where they were mapped alike.
     pub fn is_same(&self, other: &Space) -> bool
         ensures { IsTrue result ↔ (self.now ≡ other.now) }
     {

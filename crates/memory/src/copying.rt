@@ -32,7 +32,7 @@ impl Access {
 }
 
 impl Space {
-    /// The byte at an address, whatever its rights.
+    /// The byte at an address, whatever its rights; None where there is no page.
     pub fn byte(&self, at: u32) -> Option<u8>
         ensures { result ≡ option_map (λ c. c.byte) (get self.now at) }
     {
@@ -47,7 +47,7 @@ impl Space {
         self.first_fault(Access::Write, at, n as usize).is_none()
     }
 
-    /// Whether these bytes may all be written from an address on, as many as they are.
+    /// The same for as many bytes as these are.
     pub fn takes(&self, at: u32, bytes: &[u8]) -> bool
         ensures { result ≡ is_writable self.now at (length bytes.now) }
     {
@@ -83,7 +83,7 @@ impl Space {
         Ok(())
     }
 
-    /// The byte at an address and the rights of its page.
+    /// The byte at an address and the rights of its page; None past the greatest address too.
     pub(crate) fn cell(&self, at: u64) -> Option<(u8, Rights)>
         ensures cell { option_map (λ c. record { byte = c.0; rights = c.1 }) result ≡ get self.now at }
         ensures within { IfSome result (λ _. at < 2 ^ 32) }
@@ -99,7 +99,7 @@ impl Space {
         Some((part.byte(at), rights))
     }
 
-    /// Why n bytes from an address on may not be accessed.
+    /// Why n bytes from an address on may not be accessed: the lowest such byte decides.
     fn first_fault(&self, access: Access, at: u32, n: usize) -> Option<BusFault>
         ensures fault { result ≡ range_fault (right_of access) self.now at n }
         ensures within { IfNone result (at + n ≤ 2 ^ 32) }

@@ -9,8 +9,8 @@ use std::alloc::{AllocError, Global};
 use std::marker::Model;
 use std::sync::Arc;
 
-/// A space as it was at a moment. It shares with the one that was kept before it each page whose bytes were the same then,
-/// and with the space the pages that may not be written.
+/// A space as it was at a moment: a snapshot. It shares with the snapshot kept before it each page whose bytes were the same then.
+/// With the space it shares the pages that may not be written.
 pub struct KeptSpace {
     own: KeptParts,
     shared: Vec<Arc<Part>>,
@@ -39,8 +39,8 @@ impl Model for KeptSpace {
 }
 
 impl Space {
-    /// This space as it is now. Of the pages that may be written only those are copied whose bytes differ from what stands
-    /// in their place in the one that was kept before.
+    /// This space as it is now. Of the pages that may be written it copies only those whose bytes differ from the same page of
+    /// `before`.
     pub fn keep(&self, alloc: Global, before: Option<&KeptSpace>) -> Result<KeptSpace, AllocError>
         ensures { IfOk result (λ k. k ≡ self.now) }
     {
@@ -52,7 +52,7 @@ impl Space {
 }
 
 impl KeptSpace {
-    /// A space that is as that one was. Pages that may be written are copied, the others shared.
+    /// A space as it was then. Pages that may be written are copied, the others shared.
     pub fn space(&self, alloc: Global) -> Result<Space, AllocError>
         ensures { IfOk result (λ s. s ≡ self.now) }
     {

@@ -7,7 +7,7 @@ use std::alloc::{AllocError, Global};
 use std::marker::Model;
 use std::sync::Arc;
 
-/// The words of a page.
+/// How many words a page has.
 const PAGE: usize = 1024;
 
 /// A run of pages as it was at a moment, in pages that it shares with what was kept before and after it.
@@ -42,8 +42,7 @@ impl Model for KeptPart {
 }
 
 impl Part {
-    /// This run as it is now. Each page is shared with the one that was kept before, where its bytes in that place are the
-    /// same.
+    /// This run as it is now. A page is shared with the same page of `before` where their bytes are the same.
     pub fn keep(&self, alloc: Global, before: Option<&KeptPart>) -> Result<KeptPart, AllocError>
         ensures { IfOk result (λ k. k ≡ self.now) }
     {
@@ -61,7 +60,7 @@ impl Part {
 }
 
 impl KeptPart {
-    /// A run that is as that one was.
+    /// The run as it was, in memory of its own.
     pub fn part(&self, alloc: Global) -> Result<Part, AllocError>
         ensures { IfOk result (λ p. p ≡ self.now) }
     {
@@ -74,7 +73,6 @@ impl KeptPart {
     }
 }
 
-/// Words in pages.
 fn kept_pages(
     alloc: Global,
     words: &[[u8; 4]],
@@ -103,7 +101,6 @@ fn kept_page(
     }
 }
 
-/// The words of pages, one after another.
 fn words_of(alloc: Global, pages: &[Arc<Vec<[u8; 4]>>]) -> Result<Vec<[u8; 4]>, AllocError>
     ensures { IfOk result (λ v. v.items ≡ flat_map (λ a. a.value.items) pages.now) }
 {

@@ -36,8 +36,7 @@ impl Model for KeptParts {
 }
 
 impl OwnParts {
-    /// These runs as they are now. Each page is shared with the one that was kept before, where its bytes in that place are
-    /// the same.
+    /// These runs as they are now. Pages are shared with `before` as `Part::keep` shares them.
     pub fn keep(&self, alloc: Global, before: Option<&KeptParts>) -> Result<KeptParts, AllocError>
         ensures { IfOk result (λ k. k ≡ self.now) }
     {
@@ -54,7 +53,7 @@ impl OwnParts {
 }
 
 impl KeptParts {
-    /// Runs that are as those were.
+    /// The runs as they were, in memory of their own.
     pub fn parts(&self, alloc: Global) -> Result<OwnParts, AllocError>
         ensures { IfOk result (λ o. o ≡ self.now) }
     {

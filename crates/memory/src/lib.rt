@@ -1,4 +1,6 @@
-//! A process's memory: its pages, with rights.
+//! A process's memory: pages of 4,096 bytes with rights. Read `Space` first: clauses see it as a map from addresses to bytes with
+//! rights, and it keeps the laws of `Bus`. Pages that may not be written are shared with clones; a `KeptSpace` shares others too,
+//! as long as their bytes stay.
 #![tactic(auto)]
 
 mod bus;

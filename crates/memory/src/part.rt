@@ -9,8 +9,8 @@ use memory_model::{BusFault, Rights, Width};
 use std::alloc::{AllocError, Global};
 use std::marker::Model;
 
-/// A run of pages with one set of rights, as words. Whether they may be written is the right of the list that the run
-/// stands in.
+/// A run of pages with one set of rights, as words: word n is the one at address 4n. Whether they may be written is the right of
+/// the list that the run stands in.
 pub struct Part {
     pub first: u32,
     pub read: bool,
@@ -41,7 +41,7 @@ impl Model for Part {
 }
 
 impl Part {
-    /// The pages from a page on that bytes fill.
+    /// The run from page `first_page` on that bytes fill.
     pub fn new(
         alloc: Global,
         first_page: u32,
@@ -61,7 +61,7 @@ impl Part {
         })
     }
 
-    /// Pages that may be read, but none of them. Takes no memory.
+    /// A run of no pages, readable as those at hand have to be. Takes no memory.
     pub fn empty(alloc: Global) -> Part
         ensures { result ≡ no_pages }
     {
@@ -80,7 +80,7 @@ impl Part {
         self.words.is_empty()
     }
 
-    /// A copy of these pages.
+    /// The same pages in memory of their own.
     pub fn try_clone(&self, alloc: Global) -> Result<Part, AllocError>
         ensures { IfOk result (λ p. p ≡ self.now) }
     {
@@ -92,7 +92,7 @@ impl Part {
         })
     }
 
-    /// Whether the word of a number is here.
+    /// Whether word n is here.
     #[inline]
     pub fn has(&self, n: u32) -> bool
         ensures { result ≡ has_word self.now n }
@@ -100,7 +100,7 @@ impl Part {
         (n.wrapping_sub(self.first) as usize) < self.words.len()
     }
 
-    /// The bytes of the word of a number, whatever its rights.
+    /// The bytes of word n, whatever its rights.
     #[inline]
     pub fn word(&self, n: u32) -> Option<&[u8; 4]>
         ensures here { IfSome result (λ w. has_word self.now n ≡ true) }
@@ -114,7 +114,7 @@ impl Part {
         None
     }
 
-    /// The bytes at an address that is a multiple of the width.
+    /// The bytes at an address that is a multiple of the width. NoRight is the only fault.
     #[inline]
     pub fn load(&self, at: u32, width: Width) -> Result<u32, BusFault>
         requires aligned { at % size width ≡ 0 }
@@ -137,7 +137,7 @@ impl Part {
         self.words[k][(at % 4) as usize]
     }
 
-    /// Whether the other part is the same.
+    /// Whether the other run is the same: its place, its rights and its bytes.
     pub fn is_same(&self, other: &Part) -> bool
         ensures { IsTrue result ↔ (self.now ≡ other.now) }
     {
@@ -147,7 +147,7 @@ impl Part {
             && are_same_words(self.words.as_slice(), other.words.as_slice())
     }
 
-    /// The word of a number, to be executed.
+    /// Word n, to be executed. NoRight is the only fault.
     #[inline]
     pub fn fetch(&self, n: u32) -> Result<u32, BusFault>
         requires { has_word self.now n ≡ true }

@@ -1,4 +1,4 @@
-//! Which part has a word.
+//! Which run has a word; the first that has it decides.
 ghost use Rattle.std.specs.Prelude.{◌≡◌, Option, IfSome, map, option_map, position, true};
 ghost use Rattle.memory.specs.Words.{IsReadable};
 ghost use Rattle.memory.specs.Pages.{has_word, word_in, words_of};
@@ -7,7 +7,7 @@ use crate::own::OwnParts;
 use crate::part::Part;
 use std::sync::Arc;
 
-/// The place of the first part that has the word of a number.
+/// The index of the first run that has word n.
 #[inline]
 pub fn place_of(parts: &[Part], n: u32) -> Option<usize>
     ensures { result ≡ position (λ p. has_word p n) parts.now }
@@ -15,7 +15,7 @@ pub fn place_of(parts: &[Part], n: u32) -> Option<usize>
     parts.iter().position(|part| part.has(n))
 }
 
-/// The same of shared parts.
+/// As `place_of`, over shared runs.
 #[inline]
 pub fn place_of_shared(parts: &[Arc<Part>], n: u32) -> Option<usize>
     ensures { result ≡ position (λ a. has_word a.value n) parts.now }
@@ -23,7 +23,7 @@ pub fn place_of_shared(parts: &[Arc<Part>], n: u32) -> Option<usize>
     parts.iter().position(|part| part.has(n))
 }
 
-/// The first part that has the word of a number, and whether it may be written.
+/// The first run that has word n, and whether it may be written.
 #[inline]
 pub fn part_of<'a>(own: &'a OwnParts, shared: &'a [Arc<Part>], n: u32) -> Option<(&'a Part, bool)>
     ensures word { option_map (λ f. word_in f.1 f.0.now n) result ≡ words_of own.now (map (λ a. a.value) shared.now) n }
@@ -38,8 +38,8 @@ pub fn part_of<'a>(own: &'a OwnParts, shared: &'a [Arc<Part>], n: u32) -> Option
     None
 }
 
-/// The bytes of the word of a number, where it may be read and a run at hand has it: one of the two of a space's own, or,
-/// where a space has no others of its own, the first that is shared.
+/// The bytes of word n, where it may be read and a run at hand has it. At hand are two own runs and, where there are no other own
+/// runs, the first shared one.
 #[inline]
 pub fn word_near<'a>(own: &'a OwnParts, shared: &'a [Arc<Part>], n: u32) -> Option<&'a [u8; 4]>
     ensures { IfSome result (λ w. IsReadable (words_of own.now (map (λ a. a.value) shared.now) n) w.now) }

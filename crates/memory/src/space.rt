@@ -12,9 +12,8 @@ use std::alloc::{AllocError, Global};
 use std::marker::Model;
 use std::sync::Arc;
 
-/// The pages of a process, each with its rights and 4,096 bytes. Pages that may not be written are shared with
-/// clones. Of these, what was mapped last is looked at first: an image is mapped from its last segment down, and constants
-/// stand in the lowest.
+/// The pages of a process, each with its rights and 4,096 bytes. Pages that may not be written are shared with clones. Of these the
+/// last one mapped is looked at first: an image is mapped from its last segment down, and constants stand in the lowest.
 pub struct Space {
     pub(crate) own: OwnParts,
     pub(crate) shared: Vec<Arc<Part>>,
@@ -53,7 +52,7 @@ impl Space {
         }
     }
 
-    /// Adds pages with the same rights, from a page on, that the bytes fill. Without memory no page is added.
+    /// Adds pages with one set of rights, from page `first_page` on, which the bytes fill. Without memory no page is added.
     pub fn map(
         &mut self,
         alloc: Global,
@@ -90,7 +89,7 @@ impl Space {
         }
     }
 
-    /// Why a store at an address would be refused.
+    /// Why a store at an address would be refused; None where it would be done.
     pub fn store_fault(&self, at: u32, width: Width) -> Option<BusFault>
         ensures { result ≡ access_fault to_write self.now at width }
     {
