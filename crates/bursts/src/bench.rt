@@ -18,7 +18,7 @@ use std::marker::Model;
 use std::sync::Wait;
 
 /// A core to be put under a lock, the pass that publishes on its board, and the books of what all shares add up to. Its type keeps
-/// that the pair published last is that of the core, and that the books are the totals of the core's history.
+/// two facts. The pair published last is the core's, and the books are the totals of the core's history.
 #[derive(Drop)]
 pub struct Bench<'a, N: Naming> {
     core: Core,
@@ -51,8 +51,8 @@ impl<'a, N: Naming> Model for Bench<'a, N> {
 }
 
 impl<'a, N: Naming> Bench<'a, N> {
-    /// A bench of this core, with the board and the publishing pass that were made from it as it now stands, and four ledgers
-    /// that no run has yet; and the share, which has all 64 parts and stands at the totals of the core's history.
+    /// A bench of this core, and the one share, which has all 64 parts and stands at the totals of the core's history. The board
+    /// and the publishing pass were made from the core as it now stands; no run has the four ledgers yet.
     pub fn new(
         core: Core,
         board: &'a Board<N>,
@@ -80,7 +80,7 @@ impl<'a, N: Naming> Bench<'a, N> {
         (bench, share)
     }
 
-    /// The core.
+    /// The core, to be looked at alone.
     pub fn core(&self) -> &Core
         ensures { result.now ≡ self.now }
     {
@@ -114,7 +114,8 @@ impl<'a, N: Naming> Bench<'a, N> {
         Ok(answer)
     }
 
-    /// A Cut, as `Core::apply` does it. The share grows by one event. May wait for a load of the board.
+    /// A Cut, as `Core::apply` does it: a group of changes is submitted to the disk. The share grows by one event. May wait for a
+    /// load of the board.
     pub fn cut<R: Wait>(&mut self, rt: &R, share: &mut Share<N>) -> Result<Answer, Refused>
         ensures applies { Applies self.old Event.Cut self.new result }
         ensures share { GrowsByOne share.old share.new result }
@@ -122,8 +123,8 @@ impl<'a, N: Naming> Bench<'a, N> {
         self.apply(rt, Event::Cut, share)
     }
 
-    /// The completion of the write in flight that begins at this offset of the disk, as `Core::apply` does it. The share grows
-    /// by one event. May wait for a load of the board.
+    /// The write in flight that begins at this offset of the disk is complete, as `Core::apply` does it. The share grows by one
+    /// event. May wait for a load of the board.
     pub fn complete<R: Wait>(
         &mut self,
         rt: &R,
@@ -136,7 +137,7 @@ impl<'a, N: Naming> Bench<'a, N> {
         self.apply(rt, Event::Complete { at }, share)
     }
 
-    /// The failure of the write in flight that begins at this offset of the disk, as `Core::apply` does it. The share grows by one
+    /// The write in flight that begins at this offset of the disk has failed, as `Core::apply` does it. The share grows by one
     /// event. May wait for a load of the board.
     pub fn fail<R: Wait>(
         &mut self,
@@ -150,7 +151,7 @@ impl<'a, N: Naming> Bench<'a, N> {
         self.apply(rt, Event::Fail { at }, share)
     }
 
-    /// An event of the disk.
+    /// Applies an event of the disk, and brings the books and the board up to it.
     fn apply<R: Wait>(
         &mut self,
         rt: &R,
@@ -190,8 +191,8 @@ impl<'a, N: Naming> Bench<'a, N> {
     }
 }
 
-/// The core of a bench; the shares are used up. Who gives all 64 parts learns that these shares add up to the totals of the core's
-/// history. Takes no memory.
+/// Takes a bench apart, into its core; the shares are used up. Whoever gives all 64 parts learns that they add up to the totals of
+/// the core's history. Takes no memory.
 pub fn gather<'a, N: Naming>(bench: Bench<'a, N>, shares: Vec<Share<N>>) -> Core
     ensures core { result ≡ bench.entry }
     ensures shares { parts_in shares.items ≡ 64 → sum_of shares.items ≡ history_totals result }
@@ -201,7 +202,7 @@ pub fn gather<'a, N: Naming>(bench: Bench<'a, N>, shares: Vec<Share<N>>) -> Core
     core
 }
 
-/// What a loan's result adds that was taken back with this answer.
+/// What the result of process `pid` adds that was taken back with this answer.
 fn totals_of_answer(pid: u32, answer: &Answer) -> Totals
     ensures { result ≡ settled_totals pid answer.now }
 {
@@ -230,7 +231,6 @@ fn totals_of_answer(pid: u32, answer: &Answer) -> Totals
     }
 }
 
-/// No events.
 fn no_events() -> Totals
     ensures { result ≡ none }
 {
@@ -252,7 +252,7 @@ fn one_event() -> Totals
     }
 }
 
-/// Publishes the core's pair, neither number of which is below the one published last.
+/// Publishes the core's pair, neither number of which ever falls.
 fn publish<N: Naming, R: Wait>(rt: &R, board: &Board<N>, writer: &mut Writer, core: &Core)
     requires board { writer.old.pass.table_id ≡ board.now.cell.table.shared.table_id }
     requires publishes { (cell_view writer.old.pass).publishes ≡ true }

@@ -3,8 +3,7 @@ ghost use Rattle.std.specs.Prelude.{◌≡◌};
 
 use kernel::{Done, Loan};
 
-/// Runs a lent machine, at most its quantum of instructions, and answers what came of it. It waits for nobody and takes no
-/// memory.
+/// Runs a lent machine for at most its quantum of instructions, and gives what came of it. It waits for nobody and takes no memory.
 pub fn run_loan(loan: Loan) -> Done
     ensures pid { result.pid ≡ loan.pid }
     ensures number { result.number ≡ loan.number }

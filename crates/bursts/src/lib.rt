@@ -1,4 +1,6 @@
-//! Bursts of instructions, run apart from the core, and the bench by which many workers share one core.
+//! Loans, run apart from the core, and the bench on which many workers share one core. Read `Bench` first: each call on it has the
+//! clauses of the core's own. What a worker did stands in its `Share`, a ghost account; all shares of a bench add up to the totals
+//! of the core's history.
 #![tactic(auto)]
 
 mod bench;

@@ -1,12 +1,12 @@
-//! Which ledgers and which board a run has.
+//! The names of a run's ledgers and its board.
 ghost use Rattle.std.specs.Prelude.{ℕ};
 
 use board::Opening;
 use std::marker::{Brand, PhantomData};
 use std::sync::ledger::Ledger;
 
-/// The names of a run's four ledgers, beside the pair with which its board opens. These exist in proofs alone; whoever calls the
-/// one function that makes a run's board and bench picks them.
+/// The names of a run's four ledgers, beside the pair with which its board opens. They exist in proofs alone. The caller of the one
+/// function that makes a run's board and bench picks them.
 pub trait Naming: Opening {
     ghost events: { ℕ };
 

@@ -9,7 +9,7 @@ use kernel::Core;
 use std::marker::Model;
 use std::sync::ledger::{Blank, Book, Ledger, Share as Mark};
 
-/// Four ledgers that no run has yet. They have no bytes.
+/// Four ledgers (ghost accounts) that no run has yet. They have no bytes.
 #[derive(Drop)]
 pub struct Blanks {
     pub events: Blank,
@@ -31,8 +31,8 @@ impl Blanks {
     }
 }
 
-/// What its holder did, in four numbers. All shares of a bench have 64 parts; who has them all knows that they add up to the
-/// history.
+/// What its holder did, in four numbers, with a fraction of the right to know what all did. All shares of a bench have 64 parts.
+/// Who has them all knows that they add up to the history.
 #[derive(Drop)]
 pub struct Share<N: Naming> {
     parts: u32,
@@ -73,7 +73,7 @@ impl<N: Naming> Share<N> {
         self.totals
     }
 
-    /// One of its parts, with no numbers. None where it has only one. Takes no memory.
+    /// Splits one of its parts off, with no numbers. None where it has only one. Takes no memory.
     pub fn split(&mut self) -> Option<Share<N>>
         ensures given { IfSome result (λ s. (s.parts ≡ 1) × (s.totals ≡ none)) }
         ensures left { IfSome result (λ s. (self.new.parts + 1 ≡ self.old.parts) × (self.new.totals ≡ self.old.totals) × (1 < self.old.parts)) }
@@ -121,7 +121,6 @@ impl<N: Naming> Model for Sum<N> {
 }
 
 impl<N: Naming> Sum<N> {
-    /// Takes a share in.
     fn merge(&mut self, share: Share<N>)
         ensures { self.new ≡ both self.old share }
     {

@@ -11,7 +11,7 @@ use std::alloc::{AllocError, Global};
 use std::collections::HashMap;
 use std::marker::Model;
 
-/// What is kept of the events so far: for each carrier that some event wrote, the changes with a path to a writer of it.
+/// The marks of the events so far: for each carrier that some event wrote, the changes with a path to a writer of it.
 pub struct Dependencies {
     /// The carriers in the order in which they were first written, each with its mark.
     marks: Vec<(Carrier, Mark)>,
@@ -74,7 +74,6 @@ impl Dependencies {
         self.places.get(&carrier).copied()
     }
 
-    /// The mark that is kept of a carrier.
     fn kept_mark(&self, carrier: Carrier) -> Option<Mark>
         ensures { result ≡ mark_at carrier self.now.marks }
     {
@@ -150,8 +149,7 @@ impl Dependencies {
         }
     }
 
-    /// Notes an event of this mark that writes these carriers. Takes no memory: there has to be room for those that no event
-    /// wrote.
+    /// Notes an event of this mark that writes these carriers. Takes no memory: those that no event wrote need room.
     fn note(&mut self, writes: &[Carrier], mark: Mark)
         requires { unwritten_count writes.now self.old.marks ≤ self.old.room }
         ensures keeps { (log : List Entry) (e : Entry) → Keeps log self.old.marks → IsMarkOf mark log e
@@ -163,9 +161,9 @@ impl Dependencies {
         }
     }
 
-    /// Notes an event that reads and writes these carriers and makes this change, by its number from 0, and answers its
-    /// mark: the changes on which it rests. It takes memory only for carriers that no event wrote, and none where there is
-    /// room; where it fails the marks are as they were.
+    /// Notes an event that reads and writes these carriers and makes this change, by its number from 0. Gives its mark: the changes
+    /// on which it rests. It takes memory only for carriers that no event wrote, and none where there is room. Where it fails the
+    /// marks stay.
     pub fn event(
         &mut self,
         reads: &[Carrier],

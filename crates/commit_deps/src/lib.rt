@@ -1,4 +1,6 @@
-//! The changes on which each event rests, carried by what events write and read.
+//! On which changes each event rests (causally depends), carried by what events write and read. Read `Mark`, and then
+//! `Dependencies`, which keeps the mark of each carrier. A mark is at most c exactly where the event rests on the first c changes
+//! alone.
 #![tactic(auto)]
 
 mod dependencies;

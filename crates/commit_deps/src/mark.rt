@@ -1,10 +1,10 @@
-//! What an event rests on.
+//! What an event rests on, as a commit sequence number.
 ghost use Rattle.std.specs.Prelude.{◌≡◌, ◌+◌, ◌^◌, ◌<◌, max, nat_le};
 
 use std::marker::Model;
 
-/// The changes on which an event rests. Changes are committed in their order, so the greatest of them says it all: the
-/// mark is how many changes have to be committed, 0 where the event rests on none.
+/// The changes on which an event rests. Changes are committed in their order, so the last of them says it all: the mark is how many
+/// have to be committed, 0 where the event rests on none.
 #[derive(Clone, Copy, Debug, PartialEq, Eq)]
 pub struct Mark {
     needs: u64,
@@ -36,7 +36,7 @@ impl Mark {
         Mark { needs: change + 1 }
     }
 
-    /// Whether all changes on which the event rests are among the first so many.
+    /// Whether the first `committed` changes have all on which the event rests, so that what it gave may be seen.
     #[inline]
     pub fn below(self, committed: u64) -> bool
         ensures { result ≡ nat_le self committed }
@@ -44,7 +44,7 @@ impl Mark {
         self.needs <= committed
     }
 
-    /// The changes of both.
+    /// The mark of what rests on both.
     #[inline]
     pub fn joined(self, other: Mark) -> Mark
         ensures { result ≡ max self other }

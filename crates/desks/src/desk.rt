@@ -9,8 +9,8 @@ use kernel::{Answer, Done, Loan, Refused, Rejected};
 use notes::Notes;
 use std::sync::{Mutex, Wait};
 
-/// A desk. Its record, which exists in proofs alone, says how many loans were asked for, given and refused there, how many results
-/// were handed in and accepted, which were the last ones, and what its share has.
+/// A desk, with a record that exists in proofs alone. The record says how many loans were asked for, given and refused, and how
+/// many results were handed in and accepted. It also has the last ones, and the desk's share.
 pub trait Desk {
     ghost account: { Self → Record };
 
@@ -18,21 +18,21 @@ pub trait Desk {
     fn lend(&mut self, quantum: u32) -> Result<Option<Loan>, Refused>
         ensures { Asked (account self.old) (lent_out result) quantum (account self.new) };
 
-    /// Hands a loan's result in. Where it is not taken back it is handed out again, with the reason.
+    /// Hands a loan's result in. Where it is not taken back it comes out again, with the reason.
     fn settle(&mut self, done: Done) -> Result<Answer, Rejected>
         ensures noted { HandedIn (account self.old) (loan_id done.pid done.number done.quantum) result (account self.new) }
         ensures answer { IfOk result (TellsRun (loan_result done)) }
         ensures back { IfErr result (λ r. r.done ≡ done) };
 
-    /// A Cut.
+    /// A Cut: a group of changes is submitted to the disk.
     fn cut(&mut self) -> Result<Answer, Refused>
         ensures { Counts (account self.old) result (account self.new) };
 
-    /// The completion of the write in flight that begins at this offset of the disk.
+    /// The write in flight that begins at this offset of the disk is complete.
     fn complete(&mut self, at: u32) -> Result<Answer, Refused>
         ensures { Counts (account self.old) result (account self.new) };
 
-    /// The failure of the write in flight that begins at this offset of the disk.
+    /// The write in flight that begins at this offset of the disk has failed.
     fn fail(&mut self, at: u32) -> Result<Answer, Refused>
         ensures { Counts (account self.old) result (account self.new) };
 
@@ -75,7 +75,7 @@ impl<'r, 'a, 'b, N: Naming, R: Wait> LockedDesk<'r, 'a, 'b, N, R> {
         }
     }
 
-    /// The desk's share.
+    /// Ends the desk, and gives its share back.
     pub fn end(self) -> Share<N>
         ensures { result ≡ self.entry.share }
     {
@@ -139,7 +139,6 @@ impl<'r, 'a, 'b, N: Naming, R: Wait> Desk for LockedDesk<'r, 'a, 'b, N, R> {
     }
 }
 
-/// What a desk notes of what it was lent.
 fn note_of(given: &Result<Option<Loan>, Refused>) -> Note
     ensures { result ≡ note_for (lent_out given.now) }
 {
@@ -154,7 +153,6 @@ fn note_of(given: &Result<Option<Loan>, Refused>) -> Note
     }
 }
 
-/// These notes and one more.
 fn with_note(notes: &Notes<Note>, note: Note) -> Notes<Note>
     ensures { calls_of result.items ≡ noted (calls_of notes.now.items) note }
 {

@@ -1,4 +1,5 @@
-//! The desks at which workers get loans of a shared core and hand their results in, one at a time.
+//! The desks at which workers get loans of a shared core and hand their results in, one at a time. Read `Desk` first, and then
+//! `worker_turn`. A desk keeps a record in proofs alone: the contract of each call, and of a turn, says what it adds there.
 #![tactic(auto)]
 
 mod desk;

@@ -14,8 +14,8 @@ pub enum Turned {
     Settled(Answer),
 }
 
-/// One turn of a worker: it asks for one loan, holds the gate, runs the loan, and hands the result in. Between the loan and the
-/// result it has no lock.
+/// One turn of a worker: it asks for one loan, passes the gate, runs the loan, and hands the result in. From the loan to the result
+/// it has no lock.
 pub fn worker_turn<D: Desk, G: Gate>(
     desk: &mut D,
     gate: &mut G,

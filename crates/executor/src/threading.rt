@@ -41,9 +41,9 @@ struct Threading<'x, 'r, 'p, 'b, 'c, N: Naming, R: Wait> {
     quantum: u32,
 }
 
-/// Runs a core until every process has ended, or nothing is lent and nothing is lendable: worker threads run the processes, one
-/// thread commits what output waits for, and what a terminal shows is written out at once. Then all changes are committed,
-/// and the rest is written. Answers the core as it then stands.
+/// Runs a core until every process has ended, or nothing is lent and nothing is lendable. Worker threads run the processes, one
+/// thread commits what output waits for, and what a terminal shows is written out at once. Then all changes are committed, and the
+/// rest is written. Gives the core as it then stands.
 ///
 /// OutOfMemory: memory, a thread, or room in the history could not be had. Output: what the terminal shows could not be written.
 /// Either ends the run; what was written stays.
@@ -103,7 +103,6 @@ fn run_pool<N: Naming + Send + Sync, R: Threads + Wait + Sync, O: Write>(
     Ok(gather(pool.end(), Vec::new(alloc)))
 }
 
-/// The run of a pool's seats.
 fn run_seats<N: Naming + Send + Sync, R: Threads + Wait + Sync, O: Write>(
     rt: &R,
     alloc: Global,
@@ -169,7 +168,6 @@ fn run_to_end<N: Naming + Send + Sync, R: Threads + Wait + Sync, O: Write>(
     });
 }
 
-/// What the thread does that leads the workers.
 fn lead<N: Naming + Send + Sync, R: Threads + Wait + Sync>(
     rt: &R,
     threading: &Threading<'_, '_, '_, '_, '_, N, R>,
@@ -191,13 +189,11 @@ fn workers_in<'x, 'p, 'b, N: Naming, R: Wait>(
     crew.lock(rt).workers.take()
 }
 
-/// What the thread that commits does.
 fn commit<N: Naming, R: Wait>(rt: &R, threading: &Threading<'_, '_, '_, '_, '_, N, R>) {
     let mut committing = threading.committing.lock(rt);
     committing.serve(rt, &threading.watch);
 }
 
-/// What the thread does that writes what the terminal shows.
 fn show<N: Naming, R: Wait, O: Write>(
     rt: &R,
     alloc: Global,

@@ -23,9 +23,9 @@ seen_after seen (Add (Write k)) = seen_with seen k (slice_get seen k) (λ p. rec
 seen_after seen (Drop (Read k)) = seen_with seen k (slice_get seen k) (λ p. record p { readers = p.readers - 1 })
 seen_after seen (Drop (Write k)) = seen_with seen k (slice_get seen k) (λ p. record p { writers = p.writers - 1 })
 
--- A step for which there is room: there are fewer pipes than there may be, the bytes that are written fit into their pipe,
--- those that are read are held, and one more descriptor of an end can be counted. A step of a pipe that is not there changes
--- nothing, and may always come.
+-- A step for which there is room. There are fewer pipes than there may be; the bytes that are written fit into their pipe; those
+-- that are read are held; one more descriptor of an end can be counted. A step of a pipe that is not there changes nothing, and may
+-- always come.
 abbrev pub MayStep : List Seen → PipeStep → Type 0
 MayStep seen Open = length seen < most_pipes
 MayStep seen (Put k bytes) = ForSome (slice_get seen k) (λ p. length p.held + length bytes ≤ pipe_size)

@@ -6,7 +6,7 @@ ghost use Rattle.kernel_model.specs.declared.effect.PipeStep.{PipeStep};
 ghost use Rattle.pipes.specs.Seen.{Seen, Shows};
 ghost use Rattle.pipes.specs.Stepping.{seen_after, MayStep, HasAtMost};
 
-/// A law: what is seen of the pipes after a step is what the step makes of what was seen of them before.
+/// A law: what is seen of the pipes after a step is what the step makes of what was seen before it.
 pub fn steps_are_shown()
     ensures first { Shows [] [] }
     ensures next { (pipes : List PipeState) (seen : List Seen) (step : PipeStep) → Shows pipes seen → MayStep seen step

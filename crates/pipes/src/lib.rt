@@ -1,4 +1,6 @@
-//! The pipes of all processes: what each holds, and how many descriptors stand for its ends.
+//! The pipes of all processes: what each holds, in a ring, and how many descriptors stand for its ends. Read `PipeTable` first:
+//! each step is exact on what the pipes hold, and no step but `open` takes memory. The law `steps_are_shown` joins that to all bytes
+//! ever written and read.
 #![tactic(auto)]
 
 mod laws;

@@ -41,8 +41,7 @@ impl Model for Pipe {
 }
 
 impl Pipe {
-    /// A new pipe: it is empty, and one descriptor stands for each of its ends. This takes all the memory that a pipe ever
-    /// needs.
+    /// A new and empty pipe, with one descriptor for each of its ends. It takes all the memory that a pipe ever needs: 4,096 bytes.
     pub fn new(alloc: Global) -> Result<Pipe, AllocError>
         ensures { IfOk result (λ p. p ≡ seen_of new_pipe) }
     {
@@ -53,7 +52,7 @@ impl Pipe {
         })
     }
 
-    /// How many bytes the pipe holds.
+    /// How many bytes were written and are not yet read.
     pub fn held(&self) -> usize
         ensures held { result ≡ length self.now.held }
         ensures within { result ≤ pipe_size }
@@ -61,7 +60,7 @@ impl Pipe {
         self.ring.len()
     }
 
-    /// For how many more bytes there is room.
+    /// How many more bytes may be written now.
     pub fn room(&self) -> usize
         ensures room { result ≡ pipe_size - length self.now.held }
         ensures within { length self.now.held ≤ pipe_size }
@@ -69,14 +68,14 @@ impl Pipe {
         PIPE_SIZE - self.held()
     }
 
-    /// How many descriptors stand for the end from which bytes are read.
+    /// How many descriptors, of all processes, stand for the end from which bytes are read.
     pub fn readers(&self) -> usize
         ensures { result ≡ self.now.readers }
     {
         self.readers
     }
 
-    /// How many descriptors stand for the end to which bytes are written.
+    /// How many descriptors, of all processes, stand for the end to which bytes are written.
     pub fn writers(&self) -> usize
         ensures { result ≡ self.now.writers }
     {
@@ -96,7 +95,7 @@ impl Pipe {
         Ok(Bytes::new(bytes))
     }
 
-    /// These bytes are written after those that the pipe holds.
+    /// Writes these bytes after those that the pipe holds.
     pub(crate) fn put(&mut self, bytes: &[u8])
         requires { length self.old.held + length bytes.now ≤ pipe_size }
         ensures { self.new ≡ record self.old { held = self.old.held ++ bytes.now } }
@@ -104,7 +103,7 @@ impl Pipe {
         self.ring.fill_from_slice(bytes);
     }
 
-    /// So many bytes are read, the first that the pipe holds.
+    /// Reads the first `count` bytes away.
     pub(crate) fn take(&mut self, count: usize)
         requires { count ≤ length self.old.held }
         ensures { self.new ≡ record self.old { held = drop count self.old.held } }
@@ -113,7 +112,6 @@ impl Pipe {
         self.ring.truncate_front(left);
     }
 
-    /// One more descriptor stands for the end from which bytes are read.
     pub(crate) fn add_reader(&mut self)
         requires { self.old.readers + 1 < 2 ^ 64 }
         ensures { self.new ≡ record self.old { readers = self.old.readers + 1 } }
@@ -121,7 +119,6 @@ impl Pipe {
         self.readers += 1;
     }
 
-    /// One more descriptor stands for the end to which bytes are written.
     pub(crate) fn add_writer(&mut self)
         requires { self.old.writers + 1 < 2 ^ 64 }
         ensures { self.new ≡ record self.old { writers = self.old.writers + 1 } }
@@ -129,14 +126,12 @@ impl Pipe {
         self.writers += 1;
     }
 
-    /// One descriptor fewer stands for the end from which bytes are read.
     pub(crate) fn drop_reader(&mut self)
         ensures { self.new ≡ record self.old { readers = self.old.readers - 1 } }
     {
         self.readers = self.readers.saturating_sub(1);
     }
 
-    /// One descriptor fewer stands for the end to which bytes are written.
     pub(crate) fn drop_writer(&mut self)
         ensures { self.new ≡ record self.old { writers = self.old.writers - 1 } }
     {

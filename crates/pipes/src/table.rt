@@ -12,8 +12,8 @@ use std::marker::Model;
 /// The most pipes of a run.
 pub const MOST_PIPES: usize = 1024;
 
-/// All pipes that there ever were, in the order in which they were opened: a pipe's place, from 0, is its number, which is
-/// not used again. A step of a pipe that is not there changes nothing.
+/// All pipes that there ever were, in the order in which they were opened. A pipe's place, from 0, is its number, which is not used
+/// again. A step of a pipe that is not there changes nothing.
 pub struct PipeTable {
     alloc: Global,
     pipes: Vec<Pipe>,
@@ -41,7 +41,7 @@ impl Model for PipeTable {
 }
 
 impl PipeTable {
-    /// No pipes. This takes the memory for the table of them all, but not for what a pipe holds.
+    /// No pipes. It takes the memory for a table of 1,024, but not for what a pipe holds.
     pub fn new(alloc: Global) -> Result<PipeTable, AllocError>
         ensures { IfOk result (λ t. t ≡ []) }
     {
@@ -49,7 +49,7 @@ impl PipeTable {
         Ok(PipeTable { alloc, pipes })
     }
 
-    /// How many pipes there ever were.
+    /// How many pipes there ever were, and the number of the next.
     pub fn len(&self) -> usize
         ensures len { result ≡ length self.now }
         ensures within { result ≤ most_pipes }
@@ -57,14 +57,14 @@ impl PipeTable {
         self.pipes.len()
     }
 
-    /// The pipe of a number, if there is one.
+    /// The pipe of a number; None where it was never opened.
     pub fn get(&self, pipe: u32) -> Option<&Pipe>
         ensures { option_copied result ≡ slice_get self.now pipe }
     {
         self.pipes.get(pipe as usize)
     }
 
-    /// A new pipe, the next by number. Where memory runs out nothing has changed.
+    /// Opens a pipe, which gets the next number. Where memory runs out nothing changes.
     pub fn open(&mut self) -> Result<(), AllocError>
         requires { MayStep self.old Open }
         ensures ok { OnOk result (self.new ≡ seen_after self.old Open) }
@@ -75,7 +75,7 @@ impl PipeTable {
         Ok(())
     }
 
-    /// A pipe that was made before is the next by number. Takes no memory.
+    /// Adds a pipe that was made before; it gets the next number. Takes no memory.
     pub fn push(&mut self, pipe: Pipe)
         requires { MayStep self.old Open }
         ensures { self.new ≡ self.old ++ pipe ∷ [] }
@@ -83,7 +83,7 @@ impl PipeTable {
         self.pipes.push(pipe).unwrap();
     }
 
-    /// These bytes are written to a pipe. Takes no memory.
+    /// Writes these bytes to a pipe. Takes no memory.
     pub fn put(&mut self, pipe: u32, bytes: &[u8])
         requires { MayStep self.old (Put pipe bytes.now) }
         ensures { self.new ≡ seen_after self.old (Put pipe bytes.now) }
@@ -93,7 +93,7 @@ impl PipeTable {
         }
     }
 
-    /// So many bytes are read from a pipe, the first that it holds. Takes no memory.
+    /// Reads the first `count` bytes of a pipe away. Takes no memory.
     pub fn take(&mut self, pipe: u32, count: usize)
         requires { MayStep self.old (Take pipe count) }
         ensures { self.new ≡ seen_after self.old (Take pipe count) }

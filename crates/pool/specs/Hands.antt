@@ -28,8 +28,7 @@ abbrev pub total : (Hand → ℕ) → List Hand → ℕ
 total f [] = 0
 total f (v ∷ vs) = f v + total f vs
 
--- What went in has come out once or is still there: what all passes put in is what they took and what is there, however the
--- things are weighed. (With 1 for one pair and 0 for the others these are the numbers of times that this pair was put in, was
--- taken and stands there.)
+-- What went in has come out once or is still there: what all passes put in is what they took and what is there, however the things
+-- are weighed. (Weigh one pair 1 and the others 0: then these count how often it was put in, was taken and stands there.)
 abbrev pub Balanced : {T : Type 0} → (T → ℕ × ℕ) → List T → List Hand → Type 0
 Balanced tag items views = (h : ℕ × ℕ → ℕ) → total (λ v. weigh h v.put) views ≡ total (λ v. weigh h v.taken) views + weigh h (map tag items)

@@ -13,10 +13,10 @@ use std::time::Duration;
 /// How many times in a row a worker that finds no loan asks again at once.
 const HASTY: u32 = 64;
 
-/// How many microseconds it waits before it asks again after that, at first. Each time it waits for as long again more.
+/// How many microseconds it then waits at first. Each further wait is longer by as much.
 const PAUSE: u64 = 100;
 
-/// How many times that it waits at most.
+/// The longest wait, in these pauses.
 const MOST_PAUSES: u32 = 20;
 
 /// The pairs that no thread has taken yet, and how many were taken.
@@ -53,16 +53,15 @@ struct Watch {
 }
 
 impl Watch {
-    /// Keeps a fault, unless one of a pair before it is kept.
+    /// As `First::keep`, under its lock.
     fn keep<R: Wait>(&self, rt: &R, place: usize, fault: WorkFault) {
         self.first.lock(rt).keep(place, fault);
     }
 }
 
-/// One thread for each pair takes turns at its seat until the work is over: no process is lent and none lendable, or the work is to
-/// stop. Refused with the fault of a turn that failed, of several that of the first pair, after the work was made to stop; and
-/// NoThread, before any other, where a thread could not be started, after the same. After a refusal there may still be loans at
-/// the seats, and results in the queue.
+/// Starts a thread for each pair. Each takes turns at its seat until the work is over: no process is lent and none lendable, or the
+/// work is to stop. A refusal makes the work stop first. It is NoThread where a thread could not be started, else the fault of a
+/// turn that failed, of several that of the first pair. After it there may still be loans at the seats, and results in the queue.
 pub fn pool_crew<'p, 'b, N: Naming + Send + Sync, G: Gate + Send, R: Threads + Wait + Sync>(
     rt: &R,
     work: &mut [(Seat<'p, 'b, N>, G)],
@@ -163,7 +162,7 @@ enum Next {
     End(Option<WorkFault>),
 }
 
-/// What a worker does that found no loan.
+/// Settles what is in the queue, after which the work may be over.
 fn after_idle_turn<N: Naming, R: Wait>(rt: &R, seat: &mut Seat<'_, '_, N>, quantum: u32) -> Next {
     match seat.is_over(rt, quantum) {
         Ok(true) => Next::End(None),
@@ -172,7 +171,6 @@ fn after_idle_turn<N: Naming, R: Wait>(rt: &R, seat: &mut Seat<'_, '_, N>, quant
     }
 }
 
-/// Takes a turn.
 fn take_turn<N: Naming, G: Gate, R: Wait>(
     rt: &R,
     seat: &mut Seat<'_, '_, N>,
@@ -186,7 +184,7 @@ fn take_turn<N: Naming, G: Gate, R: Wait>(
     }
 }
 
-/// Takes turns until the work is over, and answers the fault of a turn that failed.
+/// Takes turns until the work is over or a turn fails, and gives that turn's fault.
 fn work_on<N: Naming, G: Gate, R: Wait>(
     rt: &R,
     seat: &mut Seat<'_, '_, N>,
@@ -208,8 +206,7 @@ fn work_on<N: Naming, G: Gate, R: Wait>(
     unreachable!()
 }
 
-/// Leaves the processor to others, for a while where the worker has found no loan for long, and for longer and longer, up to two
-/// milliseconds.
+/// Leaves the processor to others. After many turns without a loan it sleeps, longer and longer, up to two milliseconds.
 fn rest<R: Wait>(rt: &R, parker: &Parker, idle: u32) {
     if idle < HASTY {
         thread::yield_now();

@@ -11,10 +11,10 @@ use crossbeam_deque::{Pass, Steal, Stealer, Worker};
 use std::alloc::{AllocError, Global};
 use std::sync::Wait;
 
-/// For how many loans a deque has room at first.
+/// How many loans a deque has room for at first.
 const ROOM: usize = 8;
 
-/// What went in has come out once, or is still there.
+/// The rule of a deque: what went in has come out once, or is still there.
 pub(crate) struct FairLoans;
 
 impl Protocol<Loan, Hand> for FairLoans {
@@ -56,7 +56,7 @@ pub(crate) type Owner = Worker<Loan, Global, Hand, FairLoans>;
 /// A deque, in the hands of another worker.
 pub(crate) type Thief = Stealer<Loan, Global, Hand, FairLoans>;
 
-/// What another worker took from a deque. It has no bytes.
+/// What another worker took from a deque: a ghost token, without bytes.
 pub(crate) type LoanPass = Pass<Loan, Hand>;
 
 /// An empty deque, first in, first out.
@@ -82,7 +82,6 @@ pub(crate) fn keep(owner: &mut Owner, loan: Loan) -> Result<(), Loan>
     owner.push_as::<Puts>(loan)
 }
 
-/// The next loan of the worker's own deque.
 pub(crate) fn from_own(owner: &mut Owner) -> Option<Loan>
     requires { worker_flavor owner.old ≡ 0 }
     ensures same { SameWorker owner.old owner.new }

@@ -22,7 +22,7 @@ fn steal_round<R: Wait>(rt: &R, others: &mut Vec<Other>) -> Option<Loan>
     None
 }
 
-/// Up to seven more loans, for the worker's own deque. Answers the one that found no room there, with which the lending ends. A
+/// Lends up to seven more loans for the worker's own deque. Gives the one that found no room there, with which the lending ends. A
 /// refusal only ends it.
 fn lend_more<N: Naming>(bench: &mut Bench<'_, N>, own: &mut Own, quantum: u32) -> Option<Loan>
     ensures { own.new.taken ≡ own.old.taken }
@@ -41,7 +41,7 @@ fn lend_more<N: Naming>(bench: &mut Bench<'_, N>, own: &mut Own, quantum: u32) -
     None
 }
 
-/// Up to eight loans: the first is the answer, and the others are for the worker's own deque, or to spare. None once the work
+/// Lends up to eight loans: the first is the answer, and the others go to the worker's own deque, or to spare. None once the work
 /// is to stop.
 fn lend_some<N: Naming>(
     bench: &mut Bench<'_, N>,
@@ -61,7 +61,7 @@ fn lend_some<N: Naming>(
     Ok(first)
 }
 
-/// Up to eight loans, as `lend_some` has them, under the lock.
+/// As `lend_some`, under the lock.
 fn lend_under_lock<N: Naming, R: Wait>(
     rt: &R,
     lock: &Mutex<Bench<'_, N>>,
@@ -75,8 +75,8 @@ fn lend_under_lock<N: Naming, R: Wait>(
     lend_some(&mut *guard, own, spare, quantum)
 }
 
-/// A loan: the one to spare, or the next of the worker's own deque, or a stolen one, or, under the lock, the first of up to
-/// eight that are lent. At most one deque's pass shows a take more, and that is the answer.
+/// A loan: the one to spare, else the next of the worker's own deque, else a stolen one, else one lent under the lock. At most one
+/// deque's pass shows one take more, and that is the answer.
 pub(crate) fn fetch<N: Naming, R: Wait>(
     rt: &R,
     lock: &Mutex<Bench<'_, N>>,

@@ -1,4 +1,6 @@
-//! Workers that share the lock's work: a queue of results, and a deque of loans for each worker, from which the others steal.
+//! A thread pool with work stealing, over one core. Each worker has a deque of loans, from which the others steal, and results lie
+//! in one queue until a worker that has the lock settles them. Read `Pool`, and then `Seat`. What goes into the queue or a deque
+//! comes out once or is still there (`Balanced`).
 #![tactic(auto)]
 
 mod crewing;

@@ -46,7 +46,6 @@ impl Own {
         Ok(Other { thief, pass })
     }
 
-    /// Its next loan.
     pub(crate) fn next_loan(&mut self) -> Option<Loan>
         ensures { MatchOption result (self.new ≡ self.old) (λ l. self.new ≡ took self.old (loan_tag l)) }
     {
@@ -81,7 +80,6 @@ impl Model for Other {
 }
 
 impl Other {
-    /// A loan stolen from it, if it has one.
     pub(crate) fn steal<R: Wait>(&mut self, rt: &R) -> Option<Loan>
         ensures { MatchOption result (self.new ≡ self.old) (λ l. self.new ≡ took self.old (loan_tag l)) }
     {

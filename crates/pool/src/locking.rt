@@ -6,8 +6,8 @@ use std::sync::{Mutex, MutexGuard, Wait};
 /// How often a worker tries for the lock before it sleeps until it is free.
 const TRIES: u32 = 1000;
 
-/// The bench, under its lock. It is held for a few microseconds at a time, and to be woken takes longer: so a worker tries for a
-/// while before it sleeps.
+/// The bench, under its lock. The lock is held for a few microseconds at a time, and to be woken takes longer. So a worker spins
+/// for a while before it sleeps.
 pub(crate) fn lock_soon<'m, 'b, N: Naming, R: Wait>(
     rt: &R,
     lock: &'m Mutex<Bench<'b, N>>,

@@ -19,8 +19,8 @@ pub struct Pool<'b, N: Naming> {
 }
 
 impl<'b, N: Naming> Pool<'b, N> {
-    /// A pool for 1 to 16 workers. It has room for 1,024 results, as many as there are processes, each of which is lent once at a
-    /// time. The bench comes back for want of memory.
+    /// A pool for 1 to 16 workers. It has room for 1,024 results: there are no more processes, and each is lent once at a time.
+    /// Where memory runs out the bench comes back.
     pub fn new(
         alloc: Global,
         bench: Bench<'b, N>,
@@ -45,7 +45,8 @@ impl<'b, N: Naming> Pool<'b, N> {
         &self.bench
     }
 
-    /// The bench. Results that are still in the queue are dropped; after a `pool_crew` without fault there are none.
+    /// Ends the pool, and gives its bench back. Results still in the queue are dropped; after a `pool_crew` without fault there are
+    /// none.
     pub fn end(self) -> Bench<'b, N> {
         let Pool { bench, .. } = self;
         bench.into_inner()

@@ -14,7 +14,7 @@ use std::sync::Wait;
 /// How many results the queue has room for.
 const ROOM: usize = 1024;
 
-/// What went in has come out once, or is still there.
+/// The rule of the queue: what went in has come out once, or is still there.
 pub(crate) struct FairResults;
 
 impl Protocol<Done, Hand> for FairResults {
@@ -59,10 +59,9 @@ impl Lesson<Done, Hand> for Takes {
 /// The queue of results.
 pub(crate) type Results = RuledArrayQueue<Done, Hand, FairResults>;
 
-/// What one worker put into the queue and took from it. It has no bytes.
+/// What one worker put into the queue and took from it: a ghost token, without bytes.
 pub(crate) type ResultPass = Pass<Done, Hand>;
 
-/// An empty queue.
 pub(crate) fn empty_queue(alloc: Global) -> Result<Results, AllocError>
     ensures { IfOk result (λ q. ruled_capacity q ≡ 1024) }
 {
@@ -91,7 +90,6 @@ pub(crate) fn put_result<R: Wait>(
     results.push_as::<Puts, R>(rt, pass, done)
 }
 
-/// The next result, if there is one.
 pub(crate) fn take_result<R: Wait>(rt: &R, results: &Results, pass: &mut ResultPass) -> Option<Done>
     requires { IsPassOf results.now pass.old }
     ensures queue { IsPassOf results.now pass.new }

@@ -24,7 +24,7 @@ fn deques_for(alloc: Global, workers: u32) -> Result<Vec<Own>, AllocError>
     Ok(deques)
 }
 
-/// The deques of the others, as the worker of this deque has them: from the next worker on, and round again.
+/// The deques of the others as this deque's worker has them: from the next worker on, and round again.
 fn others_of(alloc: Global, deques: &[Own], place: usize) -> Result<Vec<Other>, AllocError>
     requires { place < length deques.now }
     ensures { IfOk result (λ others. AreOthers (length deques.now) others.items) }
@@ -52,8 +52,8 @@ fn all_others(alloc: Global, deques: &[Own]) -> Result<Vec<Vec<Other>>, AllocErr
 }
 
 impl<'b, N: Naming> Pool<'b, N> {
-    /// A seat for each worker, with one part of the share each. The share has more parts than there are workers; it has them all
-    /// again where there was no memory for the seats.
+    /// Makes a seat for each worker, with one part of the share each. The share has more parts than there are workers. Where there
+    /// is no memory for the seats it has all its parts again.
     pub fn seats<'p>(
         &'p self,
         alloc: Global,

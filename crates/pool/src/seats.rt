@@ -45,10 +45,10 @@ impl<'p, 'b, N: Naming> Model for Seat<'p, 'b, N> {
 }
 
 impl<'p, 'b, N: Naming> Seat<'p, 'b, N> {
-    /// A loan: the one to spare; else the next of its own deque; else one stolen from the first of the others, from the next
-    /// worker on and round again, that has one; else, under the lock, the first of up to eight that are lent, of which the
-    /// others go to its own deque. One that finds no room there becomes the one to spare, and no more are lent. None where
-    /// nothing is lendable, and once the work is to stop. Refused where the first lending is.
+    /// A loan, from the first of these that has one: the one to spare; its own deque; the others' deques, from the next worker on
+    /// and round again; the core, under the lock. The core lends up to eight: the first is the answer, and the others go to its own
+    /// deque. One that finds no room there becomes the one to spare, and no more are lent. None where nothing is lendable, and once
+    /// the work is to stop. Refused where the first lending is.
     pub fn fetch<R: Wait>(&mut self, rt: &R, quantum: u32) -> Result<Option<Loan>, Refused>
         ensures takes { TakesItsAnswer (self.old.own ∷ self.old.others) (self.new.own ∷ self.new.others) result }
         ensures spare { IfSome self.old.spare (λ x. Answers result x) }
@@ -74,8 +74,8 @@ impl<'p, 'b, N: Naming> Seat<'p, 'b, N> {
         put_result(rt, &pool.results, &mut self.pass, done)
     }
 
-    /// Settles the results that are in the queue, of whichever worker, under the lock: at most 1,024, in their order, up to the
-    /// first that is not taken back, which is dropped from the queue.
+    /// Settles the results in the queue, of whichever worker, under the lock: at most 1,024, in their order. It ends with the first
+    /// that is not taken back, which is dropped from the queue.
     pub fn settle_all<R: Wait>(&mut self, rt: &R) -> Settling
         ensures settled { Settled self.old.results self.old.share result self.new.results self.new.share }
         ensures others { self.new ≡ with_settled self.old self.new.results self.new.share }
@@ -91,7 +91,8 @@ impl<'p, 'b, N: Naming> Seat<'p, 'b, N> {
         )
     }
 
-    /// Its share. Loans that are still at the seat are dropped; after a `pool_crew` without fault there are none.
+    /// Ends the seat, and gives its share back. Loans still at the seat are dropped; after a `pool_crew` without fault there are
+    /// none.
     pub fn end(self) -> Share<N>
         ensures { result ≡ self.entry.share }
     {

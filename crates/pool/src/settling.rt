@@ -34,7 +34,6 @@ pub struct Settling {
 }
 
 impl Settling {
-    /// Nothing was settled.
     pub(crate) fn none() -> Settling
         ensures { result ≡ no_settling }
     {
@@ -151,7 +150,7 @@ fn settle_one<N: Naming, R: Wait>(
     }
 }
 
-/// Settles the results that are there, in their order, at most 1,024, up to the first that is not taken back.
+/// Settles the results in the queue, in their order: at most 1,024, up to the first that is not taken back.
 pub(crate) fn settle_all<N: Naming, R: Wait>(
     rt: &R,
     bench: &mut Bench<'_, N>,

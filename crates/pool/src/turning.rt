@@ -67,7 +67,7 @@ impl<'p, 'b, N: Naming> Seat<'p, 'b, N> {
         accepted(both)
     }
 
-    /// Hands a result in. Wherever the queue is full, what is in it is settled first; that is the answer.
+    /// Hands a result in. As often as the queue is full what is in it is settled first; the answer adds that up.
     fn hand_in_at_last<R: Wait>(&mut self, rt: &R, done: Done) -> Result<Settling, Rejected>
         ensures { MatchResult result (λ s. Advances self.old self.new (done_tag done ∷ []) s) (λ _. Grows self.old self.new) }
     {
@@ -93,9 +93,9 @@ impl<'p, 'b, N: Naming> Seat<'p, 'b, N> {
         self.settle_more(rt, settling)
     }
 
-    /// Fetches a loan, holds the gate, runs the loan, hands its result in, and settles what is in the queue. Where the queue is
-    /// full, what is in it is settled before, and the answer adds all up. Refused where the lending is, and where a result, of
-    /// whichever worker, is not taken back; this loan's own, where it was not handed in yet, is then dropped.
+    /// Fetches a loan, passes the gate, runs the loan, hands its result in, and settles what is in the queue. Where the queue is
+    /// full it is settled before too, and the answer adds all up. Refused where the lending is, and where a result, of whichever
+    /// worker, is not taken back. This loan's own result is then dropped, if it was not handed in yet.
     pub fn turn<G: Gate, R: Wait>(
         &mut self,
         rt: &R,
@@ -122,7 +122,7 @@ impl<'p, 'b, N: Naming> Seat<'p, 'b, N> {
         self.pool.bench().lock(rt).over(quantum)
     }
 
-    /// Settles what is in the queue, and answers whether the work is over: no process is lent and none lendable, or the work is to
+    /// Settles what is in the queue, and says whether the work is over: no process is lent and none lendable, or the work is to
     /// stop. Refused where a result is not taken back.
     pub(crate) fn is_over<R: Wait>(&mut self, rt: &R, quantum: u32) -> Result<bool, Rejected> {
         accepted(self.settle_all(rt))?;

@@ -26,7 +26,6 @@ impl Model for Descriptors {
     ghost invariant = { λ d. length d.slots ≡ 16 };
 }
 
-/// The place of the first free one of these.
 fn first_free(slots: &[Option<Descriptor>]) -> Option<usize>
     ensures least { result ≡ free_descriptor slots.now }
     ensures below { IfSome result (λ fd. fd < length slots.now) }
@@ -35,7 +34,7 @@ fn first_free(slots: &[Option<Descriptor>]) -> Option<usize>
 }
 
 impl Descriptors {
-    /// Those of a process at boot: 0 stands for its tape and 1 for its terminal.
+    /// The descriptors of a process at boot: 0 stands for its tape and 1 for its terminal.
     pub fn new(tape: u32, terminal: u32) -> Descriptors
         ensures { result ≡ Some (Tape tape) ∷ Some (Terminal terminal) ∷ replicate 14 None }
     {
@@ -60,7 +59,7 @@ impl Descriptors {
         self.slots.get(fd as usize).copied().flatten()
     }
 
-    /// The least free descriptor.
+    /// The least free descriptor; None where all 16 stand for something.
     pub fn free(&self) -> Option<usize>
         ensures least { result ≡ free_descriptor self.now }
         ensures below { IfSome result (λ fd. fd < 16) }
@@ -68,7 +67,7 @@ impl Descriptors {
         first_free(&self.slots)
     }
 
-    /// The least free descriptor after this one.
+    /// The least free descriptor after this one: the second of a new pipe's two.
     pub fn free_after(&self, fd: usize) -> Option<usize>
         requires { fd < 16 }
         ensures least { result ≡ free_after self.now (Some fd) }
@@ -79,7 +78,7 @@ impl Descriptors {
         Some(after + further)
     }
 
-    /// A descriptor stands for something else from now on; nothing changes where there is none of the number.
+    /// Has a descriptor stand for something else. Nothing changes where there is none of the number.
     pub fn set(&mut self, slot: Slot)
         ensures { self.new ≡ slice_set self.old slot.fd slot.holds }
     {
@@ -88,14 +87,14 @@ impl Descriptors {
         }
     }
 
-    /// The same descriptors once more.
+    /// The same descriptors once more, for the child of a fork.
     pub fn duplicate(&self) -> Descriptors
         ensures { result ≡ self.now }
     {
         Descriptors { slots: self.slots }
     }
 
-    /// All are free from now on.
+    /// Frees all of them, as the end of a process does.
     pub fn close_all(&mut self)
         ensures { self.new ≡ map (λ d. None) self.old }
     {

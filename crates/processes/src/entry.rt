@@ -72,14 +72,14 @@ impl ProcEntry {
         self.status
     }
 
-    /// A descriptor stands for something else from now on.
+    /// Has a descriptor stand for something else.
     pub fn set(&mut self, slot: Slot)
         ensures { self.new ≡ record self.old { part = with_slots (slot ∷ []) self.old.part } }
     {
         self.descriptors.set(slot);
     }
 
-    /// A child is collected.
+    /// Takes a child off those left to collect.
     pub fn collect(&mut self, child: u32)
         ensures { self.new.part ≡ without_child child self.old.part }
     {
@@ -112,7 +112,7 @@ impl ProcEntry {
         self.children.push(child).unwrap();
     }
 
-    /// The child of a fork. Takes no memory.
+    /// The child of a fork: the same descriptors, and no children. Takes no memory.
     pub fn child(&self, alloc: Global) -> ProcEntry
         ensures { result.part ≡ child_part self.now.part }
     {

@@ -70,7 +70,7 @@ impl ProcTable {
         }
     }
 
-    /// How many processes there are.
+    /// How many processes there ever were; one that has ended keeps its entry.
     pub fn len(&self) -> usize
         ensures count { result ≡ length self.now.parts }
         ensures few { result ≤ most_processes }
@@ -78,7 +78,7 @@ impl ProcTable {
         self.entries.len()
     }
 
-    /// One process more as it is booted, with the number of its tape and its terminal.
+    /// Adds a process as it is booted, with the numbers of its tape and its terminal.
     pub fn boot(&mut self, tape: u32, terminal: u32) -> Result<(), AllocError>
         requires { length self.old.parts < most_processes }
         ensures ok { OnOk result (self.new.parts ≡ self.old.parts ++ boot_part tape terminal ∷ []) }
@@ -89,7 +89,6 @@ impl ProcTable {
         Ok(())
     }
 
-    /// The place of a process.
     fn place(&self, pid: u32) -> Option<usize>
         ensures { result ≡ place_in (length self.now.parts) pid }
     {
@@ -101,7 +100,6 @@ impl ProcTable {
         }
     }
 
-    /// What is kept of a process.
     fn entry(&self, pid: u32) -> Option<&ProcEntry>
         ensures { option_map (λ (e : Entry). e.part) (option_copied result) ≡ part_at self.now.parts pid }
     {
@@ -117,8 +115,7 @@ impl ProcTable {
         Some(self.entry(pid)?.descriptors())
     }
 
-    /// What a descriptor of a process stands for; None where it is free, or where there is none of the number or no such
-    /// process.
+    /// What a descriptor of a process stands for. None where it is free, where there is none of the number, or no such process.
     pub fn descriptor(&self, pid: u32, fd: u32) -> Option<Descriptor>
         ensures { result ≡ descriptor_at (descriptors_in (part_at self.now.parts pid)) fd }
     {
@@ -142,8 +139,8 @@ impl ProcTable {
         self.entry(pid)?.status()
     }
 
-    /// The first child of a process that it has not collected and that has ended: the least by number, since children stand
-    /// by rising number. Takes a time that grows with the number of these children.
+    /// The first child by number that has ended and that the process has not collected. Takes time in the number of its children
+    /// left to collect.
     pub fn ended_child(&self, pid: u32) -> Option<EndedChild>
         ensures { option_map child_of result ≡ first_ended (statuses_of self.now.parts) (children_in (part_at self.now.parts pid)) }
     {
@@ -159,8 +156,8 @@ impl ProcTable {
         None
     }
 
-    /// A descriptor of a process stands for something else from now on; nothing changes where there is none of the number or
-    /// no such process.
+    /// Has a descriptor of a process stand for something else. Nothing changes where there is none of the number, or no such
+    /// process.
     pub fn set(&mut self, pid: u32, slot: Slot)
         ensures exact { self.new.parts ≡ with_part self.old.parts pid (part_at self.old.parts pid) (with_slots (slot ∷ [])) }
         ensures replied { (ps : List Process) (p : Process) (e : Effect) (r : Reply) → self.old.parts ≡ map part_of ps
@@ -173,7 +170,7 @@ impl ProcTable {
         }
     }
 
-    /// A descriptor of a process is free from now on; nothing changes where there is none of the number or no such process.
+    /// Frees a descriptor of a process. Nothing changes where there is none of the number, or no such process.
     pub fn clear(&mut self, pid: u32, fd: u32)
         ensures { self.new.parts ≡ with_part self.old.parts pid (part_at self.old.parts pid) (with_slots (record { fd = fd; holds = None } ∷ [])) }
     {
@@ -186,7 +183,7 @@ impl ProcTable {
         );
     }
 
-    /// A process has collected a child, which is no longer among those left to collect.
+    /// Takes a child off those that a process has left to collect.
     pub fn collect(&mut self, pid: u32, child: u32)
         ensures exact { self.new.parts ≡ with_part self.old.parts pid (part_at self.old.parts pid) (without_child child) }
         ensures replied { (ps : List Process) (p : Process) (e : Effect) (r : Reply) → self.old.parts ≡ map part_of ps
@@ -199,8 +196,8 @@ impl ProcTable {
         }
     }
 
-    /// A process has ended with a status: all its descriptors are closed, and its children stay its own, which nobody will
-    /// collect. Takes no memory.
+    /// A process ends with a status: all its descriptors are closed. Its children stay its own, and nobody will collect them. Takes
+    /// no memory.
     pub fn end(&mut self, pid: u32, status: u32)
         ensures exact { self.new.parts ≡ with_part self.old.parts pid (part_at self.old.parts pid) (ended_part status) }
         ensures ended { (ps : List Process) (p : Process) → self.old.parts ≡ map part_of ps → process_at ps pid ≡ Some p
@@ -212,8 +209,8 @@ impl ProcTable {
         }
     }
 
-    /// Makes room for a fork of a process: for one process more, and for one child more of this one. What is kept of the
-    /// processes stays, whether it succeeds or not.
+    /// Makes room for a fork: one more process, and one more child of this one. The processes stay as they are, whether it succeeds
+    /// or not.
     pub fn reserve(&mut self, pid: u32) -> Result<(), AllocError>
         requires from_1 { 0 < pid }
         requires there { pid ≤ length self.old.parts }
@@ -226,8 +223,8 @@ impl ProcTable {
         parent.reserve()
     }
 
-    /// A process forks: the next process, whose number is answered, has its descriptors and no children, and is noted as
-    /// its child. Takes no memory: `reserve` has to have made room for it.
+    /// Forks a process, and gives the child's number, which is the next. The child has the same descriptors and no children, and is
+    /// noted as a child. Takes no memory: `reserve` has to have made room.
     pub fn fork(&mut self, pid: u32) -> u32
         requires from_1 { 0 < pid }
         requires there { pid ≤ length self.old.parts }

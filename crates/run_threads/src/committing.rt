@@ -37,8 +37,8 @@ impl<'r, 'a, 'b, 'c, N: Naming, R: Wait> CommitThread<'r, 'a, 'b, 'c, N, R> {
         }
     }
 
-    /// Completes the write in flight that begins first on the disk; where there is none, cuts a group if output waits for it.
-    /// Answers whether there was something to do.
+    /// Completes the write in flight that begins first on the disk. Where there is none it cuts a group, if output waits for one.
+    /// Says whether there was something to do.
     fn turn<W: Wait>(&mut self, rt: &W) -> Result<bool, Refused> {
         let (committed, changes) = self.reader.seen(rt);
         if committed == changes {
@@ -55,7 +55,8 @@ impl<'r, 'a, 'b, 'c, N: Naming, R: Wait> CommitThread<'r, 'a, 'b, 'c, N, R> {
         Ok(true)
     }
 
-    /// Commits what output waits for, until no worker works any more.
+    /// Commits what output waits for, until no worker works any more. A refusal is kept as the run's fault, and makes the workers
+    /// stop.
     pub fn serve<W: Wait>(&mut self, rt: &W, watch: &Watch) {
         let mut rest = Rest::new();
         for _ in rt.forever() {

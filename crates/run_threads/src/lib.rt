@@ -1,4 +1,6 @@
-//! What two threads of a run do beside its workers: one commits, and one writes what a terminal shows.
+//! Two threads of a run beside its workers: one commits what output waits for, and one writes out what a terminal shows. Read
+//! `CommitThread` and `Screen`. A `Watch` tells them when the work is over, and keeps the first fault. Only safety is proved of
+//! them.
 #![tactic(auto)]
 
 mod board_reader;

@@ -10,8 +10,8 @@ const YIELDS: u32 = 64;
 /// How many milliseconds it sleeps at a time.
 const PAUSE: u64 = 1;
 
-/// A thread's turns without work. It gives its processor away at first, and sleeps for a millisecond at a time once it has found
-/// nothing to do for a while, so that waiting costs next to no processor and what comes then waits for a millisecond at most.
+/// A thread's turns without work. At first it yields its processor; after a while it sleeps for a millisecond at a time. So waiting
+/// costs next to no processor, and new work waits for a millisecond at most.
 #[derive(Drop)]
 pub(crate) struct Rest {
     turns: u32,
@@ -27,12 +27,12 @@ impl Rest {
         }
     }
 
-    /// There was something to do.
+    /// There was something to do: the count begins again.
     pub fn end(&mut self) {
         self.turns = 0;
     }
 
-    /// One more turn without work.
+    /// One more turn without work, after which the thread yields or sleeps.
     pub fn take<R: Wait>(&mut self, rt: &R) {
         if self.turns < YIELDS {
             self.turns += 1;

@@ -54,7 +54,7 @@ impl<'o, O: Write> Screen<'o, O> {
         }
     }
 
-    /// Writes these bytes, at once.
+    /// Writes these bytes and flushes the writer, so that they show at once.
     fn write(&mut self, bytes: &[u8]) -> Result<(), RunFault> {
         pump(self.out, bytes, 0).map_err(|_| RunFault::Output)?;
         self.out.flush().map_err(|_| RunFault::Output)?;
@@ -62,7 +62,7 @@ impl<'o, O: Write> Screen<'o, O> {
         Ok(())
     }
 
-    /// Writes what the terminal shows more, and answers whether there was something. The lock is free while it is written.
+    /// Writes what the terminal shows more, and says whether there was something. The lock is free meanwhile.
     fn refresh<N: Naming, R: Wait>(
         &mut self,
         rt: &R,
@@ -78,7 +78,7 @@ impl<'o, O: Write> Screen<'o, O> {
     }
 
     /// Writes what the terminal shows, until no worker works any more. A fault, of the output or for want of memory, is kept, and
-    /// has the workers stop.
+    /// makes the workers stop.
     pub fn serve<N: Naming, R: Wait>(
         &mut self,
         rt: &R,
@@ -102,7 +102,7 @@ impl<'o, O: Write> Screen<'o, O> {
         }
     }
 
-    /// Writes the rest of a terminal's bytes.
+    /// Writes what is left of these bytes, which are all that the terminal shows.
     pub fn finish(&mut self, shown: &[u8]) -> Result<(), RunFault> {
         match shown.get(self.written..) {
             Some(rest) => self.write(rest),

@@ -19,7 +19,7 @@ impl Watch {
         }
     }
 
-    /// No worker works any more.
+    /// Says that no worker works any more.
     pub fn end(&self) {
         self.over.store(true, Ordering::SeqCst);
     }
@@ -29,7 +29,7 @@ impl Watch {
         self.over.load(Ordering::SeqCst)
     }
 
-    /// A fault came. The first one is kept.
+    /// Keeps a fault, unless one came before it.
     pub fn note<R: Wait>(&self, rt: &R, fault: RunFault) {
         let mut first = self.fault.lock(rt);
         if first.is_none() {
