@@ -1,4 +1,4 @@
-//! The program `bench`.
+//! The program `bench`: `monitor::bench` on the host's arguments, input, output and standard error.
 #![tactic(auto)]
 
 use std::process::ExitCode;

@@ -11,7 +11,6 @@ pub fn repeated(part: &str) -> Result<(&str, u32), Error> {
     }
 }
 
-/// Adds digits so many times.
 fn push_times(out: &mut String, digits: &str, times: u32) -> Result<(), AllocError> {
     for _ in 0..times {
         out.push_str(digits)?;

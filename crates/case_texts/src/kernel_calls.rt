@@ -1,14 +1,14 @@
 //! Cases of programs that call the kernel, in a notation that has beside each call what it replies.
 //!
-//! A case has a line `== TITLE` before it. It sets up tapes as a script does, their bytes as below, and
-//! programs: after a line `program T` come the lines of its source. After `image T` too, but this program stands in a
-//! file, with three more pages: 0x00020000 may be read alone, 0x00030000 written alone, 0x00040000 executed alone.
+//! A case has a line `== TITLE` before it. It sets up tapes as a script does, their bytes as below, and programs: after a line
+//! `program T` come the lines of a source. They come after `image T` too, but that program stands in a file, with three more pages.
+//! 0x00020000 may be read alone, 0x00030000 written alone, 0x00040000 executed alone.
 //!
-//! What begins with the name or the number of a call stands for the instructions that load its arguments and call. An
-//! argument is a number, a label after `&`, or a register; one that is left out stays what it was. After ` = ` stands
-//! the reply: its number in decimal, and, where it has bytes, `at`, their place in eight hexadecimal digits, and the
-//! bytes, as `41+00*3`. A loop's calls have no replies beside them, but after the loop a line `each N = R; R`, the same
-//! replies N times, or `numbers N M`, the replies from N to M. Each program has the places below after its text.
+//! A line that begins with the name or the number of a call stands for the instructions that load its arguments and call. An
+//! argument is a number, a label after `&`, or a register; one that is left out stays what it was. After ` = ` stands the reply:
+//! its number in decimal, and, where it has bytes, `at`, their place in eight hexadecimal digits, and the bytes, as `41+00*3`. A
+//! loop's calls have no replies beside them. After the loop stands `each N = R; R`, the same replies N times, or `numbers N M`, the
+//! replies from N to M. After its text each program has the places of `notation`.
 //!
 //! Then come lines with ` => `, what is done and what is wanted of it:
 //! - `P => entered waits entered*3 ended`: process P runs up to a call or a trap and enters the kernel, once for each;
@@ -78,7 +78,6 @@ impl CallsCase {
         compare_status(ran.status, 0)
     }
 
-    /// A case of which nothing was read.
     fn new(alloc: Global) -> CallsCase {
         CallsCase {
             file: Vec::new(alloc),
@@ -98,7 +97,6 @@ impl CallsCase {
         )
     }
 
-    /// Sets up a program, in its form.
     fn set_up(&mut self, alloc: Global, program: &mut Program) -> Result<(), Error> {
         let words = program.assemble_words(alloc)?;
         let terminal = program.terminal.as_str();
@@ -117,7 +115,7 @@ impl CallsCase {
         Ok(())
     }
 
-    /// A process enters the kernel.
+    /// Adds that a process enters the kernel, once for each word that is wanted.
     fn enters(&mut self, pid: &str, wanted: &str) -> Result<(), Error> {
         for word in wanted.split_whitespace() {
             let (line, times) = entering(self.programs.as_slice(), pid, word)?;
@@ -126,7 +124,6 @@ impl CallsCase {
         Ok(())
     }
 
-    /// Adds what the trace of a process prints.
     fn trace(&mut self, alloc: Global, pid: &str, wanted: &str) -> Result<(), Error> {
         match wanted {
             "replies" => {
@@ -157,14 +154,12 @@ impl CallsCase {
         }
     }
 
-    /// Begins to read a program's source.
     fn program(&mut self, alloc: Global, form: Form, terminal: &str) -> Result<(), Error> {
         self.end_program(alloc)?;
         self.program = Some(Program::new(alloc, form, terminal)?);
         Ok(())
     }
 
-    /// Reads a line of a program's source.
     fn read_source(&mut self, alloc: Global, line: &str) -> Result<(), Error> {
         match &mut self.program {
             Some(program) => program.read(alloc, line),
@@ -185,7 +180,6 @@ impl CallsCase {
         }
     }
 
-    /// Reads a line of the case.
     fn read_line(&mut self, alloc: Global, line: &str) -> Result<(), Error> {
         let (line, wanted) = line.split_once(" => ").unwrap_or((line, ""));
         let words = words_of(alloc, line)?;
@@ -265,7 +259,6 @@ fn push_files(script: &mut String, printed: &mut String, wanted: &str) -> Result
     }
 }
 
-/// What was printed, without what turns print.
 fn without_turns(alloc: Global, out: &str) -> Result<String, Error> {
     let mut kept = String::new(alloc);
     for line in out.lines() {

@@ -190,7 +190,6 @@ pub fn push_listed_trace(
     replies.push_trace(out, pid)
 }
 
-/// Adds the bytes of words.
 fn push_word_bytes(file: &mut Vec<u8>, words: &[u32]) -> Result<(), Error> {
     for word in words {
         file.extend_from_slice(&word.to_le_bytes())?;
@@ -255,7 +254,6 @@ impl Drop for Program {
     }
 }
 
-/// The words of a listing.
 fn listed_words(alloc: Global, rows: &[Row]) -> Result<Vec<u32>, AllocError> {
     let mut words = Vec::new(alloc);
     for row in rows {
@@ -286,7 +284,7 @@ impl Program {
         }
     }
 
-    /// Reads a line of the source.
+    /// Reads a line of the source, or a line `each` or `numbers` of replies.
     pub fn read(&mut self, alloc: Global, line: &str) -> Result<(), Error> {
         if let Some(list) = line.strip_prefix("each ") {
             self.replies.push_times(alloc, list)
@@ -308,7 +306,7 @@ impl Program {
         replies
     }
 
-    /// The words of the program, after whose text the places stand: they are added to its source, so it is asked once.
+    /// The words of the program. The places are added to its source here, so it is asked once.
     pub fn assemble_words(&mut self, alloc: Global) -> Result<Vec<u32>, Error> {
         self.source.push_str(PLACES)?;
         let (_image, listing) = assemble(alloc, self.source.as_str())?;

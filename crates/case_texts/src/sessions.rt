@@ -1,16 +1,19 @@
 //! Cases of the program by its command line, as one has it at a terminal.
 //!
 //! A line begins with its mark:
-//! - `$ WORDS`: the program is run with these words. After it, on lines of their own: `< TEXT`, a line of its input;
-//!   `<< N TEXT`, this text N times, without a line's end; `> TEXT`, a line that it prints; `>*`, whatever it prints;
-//!   `! STATUS TEXT`, its status, and its line on standard error, with `!! TEXT` for each line after it; `! STATUS`, its
-//!   status, and something there. A run without `!` ends with status 0 and says nothing on standard error.
-//! - `file NAME`, and lines `| TEXT` after it: a file of these lines is written; `bytes NAME PARTS`: one of these bytes,
-//!   in hexadecimal, as `41+00*3`, or of none for `-`; `remove NAME`: it is removed;
+//! - `$ WORDS`: the program is run with these words; lines after it say more of the run:
+//!   - `< TEXT`: a line of its input; `<< N TEXT`: this text N times, without a line's end;
+//!   - `> TEXT`: a line that it prints; `>*`: whatever it prints;
+//!   - `! STATUS TEXT`: its status, and its line on standard error, with `!! TEXT` for each line after it;
+//!   - `! STATUS`: its status, and something on standard error;
+//!   - without `!` it ends with status 0 and says nothing on standard error;
+//! - `file NAME`, and lines `| TEXT` after it: a file of these lines is written;
+//! - `bytes NAME PARTS`: a file of these bytes, in hexadecimal, as `41+00*3`, or of none for `-`;
+//! - `remove NAME`: the file is removed;
 //! - `holds NAME PARTS`: the file has these bytes; `missing NAME`: there is no such file.
 //!
-//! In input `\t`, `\r`, `\s` and `\xff` stand for a tab, a carriage return, a blank and the byte ff. Empty lines and
-//! lines that begin with `#` are skipped.
+//! In input `\t`, `\r`, `\s` and `\xff` stand for a tab, a carriage return, a blank and the byte ff. Empty lines and lines that
+//! begin with `#` are skipped.
 use crate::comparing::{compare, compare_status};
 use crate::hex_parts::push_parts;
 use crate::lines::{after_title, push_line, refused, two_parts, words_of};
@@ -57,7 +60,7 @@ fn push_times(input: &mut Vec<u8>, line: &str) -> Result<(), Error> {
     Ok(())
 }
 
-/// Compares what a run wrote with what is wanted of it. Where that is something, and nothing came, it is refused for this reason.
+/// Compares what a run wrote with what is wanted of it. Where something is wanted and nothing came, it is refused for this reason.
 fn compare_output(
     came: &[u8],
     wanted: &str,
@@ -124,7 +127,7 @@ impl Run {
         push_line(&mut self.err, text)
     }
 
-    /// Reads a line that says more of the run, by its mark; answers whether it does.
+    /// Reads a line that says more of the run, by its mark. False where it says nothing of it.
     fn read(&mut self, mark: &str, text: &str) -> Result<bool, Error> {
         let read = match mark {
             "<" => push_input(&mut self.input, text),
@@ -160,7 +163,6 @@ impl Run {
         }
     }
 
-    /// Compares its output, its standard error and its status.
     fn compare_all(&self, ran: &Ran) -> Result<(), Error> {
         compare_output(
             &ran.out,
@@ -203,14 +205,12 @@ fn bytes_of(alloc: Global, parts: &str) -> Result<Vec<u8>, Error> {
 }
 
 impl NamedBytes {
-    /// The bytes of parts in hexadecimal, or none for `-`.
     fn of_parts(alloc: Global, name: &str, parts: &str) -> Result<NamedBytes, Error> {
         let bytes = bytes_of(alloc, parts)?;
         let name = String::from_str(alloc, name)?;
         Ok(NamedBytes { name, bytes })
     }
 
-    /// Adds a line.
     fn push_line(&mut self, text: &str) -> Result<(), AllocError> {
         self.bytes.extend_from_slice(text.as_bytes())?;
         self.bytes.extend_from_slice(b"\n")
@@ -245,7 +245,7 @@ pub enum Step {
 }
 
 impl Step {
-    /// Reads a line that says more of the step, by its mark; answers whether it does.
+    /// Reads a line that says more of the step, by its mark. False where it says nothing of it.
     fn goes_on(&mut self, mark: &str, text: &str) -> Result<bool, Error> {
         match self {
             Step::Run(run) => run.read(mark, text),
@@ -267,7 +267,6 @@ pub fn check_missing(is_missing: bool) -> Result<(), Error> {
     }
 }
 
-/// The step of a line `$ WORDS`.
 fn run_step(alloc: Global, line: &str) -> Result<Step, Error> {
     Ok(Step::Run(Run::new(alloc, line.trim_start_matches('$').trim())?))
 }
@@ -277,7 +276,6 @@ fn no_form() -> Error {
     Error::msg("this has no form")
 }
 
-/// The step of a mark and a name.
 fn step_of_name(alloc: Global, mark: &str, name: &str) -> Result<Step, Error> {
     match mark {
         "file" => Ok(Step::Lines(NamedBytes::of_parts(alloc, name, "-")?)),
@@ -287,7 +285,6 @@ fn step_of_name(alloc: Global, mark: &str, name: &str) -> Result<Step, Error> {
     }
 }
 
-/// The step of a mark, a name and bytes.
 fn step_of_bytes(alloc: Global, mark: &str, name: &str, parts: &str) -> Result<Step, Error> {
     match mark {
         "bytes" => Ok(Step::Bytes(NamedBytes::of_parts(alloc, name, parts)?)),
@@ -306,7 +303,6 @@ fn step_of(alloc: Global, line: &str, words: &[&str]) -> Result<Step, Error> {
     }
 }
 
-/// The step that begins with a line.
 fn begin(alloc: Global, line: &str) -> Result<Step, Error> {
     let words = words_of(alloc, line)?;
     step_of(alloc, line, words.as_slice())
@@ -326,7 +322,6 @@ fn goes_on(steps: &mut [Step], line: &str) -> Result<bool, Error> {
     }
 }
 
-/// Reads a line of a case.
 fn read_line(alloc: Global, steps: &mut Vec<Step>, line: &str) -> Result<(), Error> {
     if !goes_on(steps.as_mut_slice(), line)? {
         steps.push(begin(alloc, line)?)?;

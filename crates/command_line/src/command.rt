@@ -110,7 +110,6 @@ const DISK: CommandRow = CommandRow {
 /// The commands, in the order of the help.
 const COMMANDS: &[CommandRow] = &[REPLAY, ASSEMBLE, LIST, DEBUG, DISK, RUN];
 
-/// The program without its commands.
 fn program<'a>(alloc: Global) -> Result<Command<'a>, AllocError> {
     Ok(
         named(alloc, &BENCH)?
@@ -120,7 +119,6 @@ fn program<'a>(alloc: Global) -> Result<Command<'a>, AllocError> {
     )
 }
 
-/// The program with its commands.
 fn commands<'a>(alloc: Global) -> Result<Command<'a>, AllocError> {
     let commands = commands_of(alloc, COMMANDS)?;
     program(alloc)?.subcommands(commands)
@@ -150,7 +148,6 @@ fn assemble_task<'a>(alloc: Global, matches: &ArgMatches<'a>) -> Result<Option<T
     }
 }
 
-/// What the arguments of the command `debug` ask for.
 fn debug_task<'a>(matches: &ArgMatches<'a>) -> Option<Task<'a>> {
     Some(Task::Debug {
         image: matches.get_str("IMAGE")?,
@@ -158,7 +155,6 @@ fn debug_task<'a>(matches: &ArgMatches<'a>) -> Option<Task<'a>> {
     })
 }
 
-/// What the arguments of the command `run` ask for.
 fn run_task<'a>(alloc: Global, matches: &ArgMatches<'a>) -> Result<Option<Task<'a>>, Error> {
     match run_options(alloc, matches)? {
         Some(options) => Ok(Some(Task::Run(options))),
@@ -221,7 +217,8 @@ fn read<'a>(
     }
 }
 
-/// What the words, the program's name aside, ask for.
+/// What the words, the program's name aside, ask for; without words it is the script on standard input. An error prints as the
+/// usage, or as the help that was asked for.
 pub fn parse<'a>(alloc: Global, words: &'a [String]) -> Result<Task<'a>, Error> {
     if words.is_empty() {
         return Ok(Task::ReplayInput);

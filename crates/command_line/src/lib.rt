@@ -1,4 +1,4 @@
-//! The command line of the program `bench`: what its words ask for.
+//! The command line of the program `bench`: its words as a `Task`. Read `parse` first. Its types keep the limits of a run.
 #![tactic(auto)]
 
 mod command;

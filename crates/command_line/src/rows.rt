@@ -58,19 +58,17 @@ fn images<'a>(arg: Arg<'a>) -> Arg<'a> {
         .action(ArgAction::Append)
 }
 
-/// An option of this name.
 fn option<'a>(arg: Arg<'a>, name: &'a str, value: &'a str) -> Arg<'a> {
     arg.long(name).value_name(value)
 }
 
-/// An option of this name whose value is a number.
+/// An option whose value is a number in a range.
 fn number<'a>(arg: Arg<'a>, name: &'a str, row: NumberRow) -> Arg<'a> {
     option(arg, name, row.value)
         .value_parser(ValueParser::unsigned(row.least, row.most))
         .default_value(row.default)
 }
 
-/// The argument of a row.
 fn argument_of<'a>(alloc: Global, row: &ArgumentRow) -> Arg<'a> {
     let arg = once(alloc, row);
     match row.form {
@@ -81,7 +79,6 @@ fn argument_of<'a>(alloc: Global, row: &ArgumentRow) -> Arg<'a> {
     }
 }
 
-/// The arguments of rows.
 fn arguments_of<'a>(alloc: Global, rows: &[ArgumentRow]) -> Result<Vec<Arg<'a>>, AllocError> {
     let mut arguments = Vec::new(alloc);
     for row in rows {
@@ -99,13 +96,13 @@ pub fn named<'a>(alloc: Global, row: &CommandRow) -> Result<Command<'a>, AllocEr
     )
 }
 
-/// The command of a row.
+/// The command of a row, with its arguments.
 pub fn command_of<'a>(alloc: Global, row: &CommandRow) -> Result<Command<'a>, AllocError> {
     let arguments = arguments_of(alloc, row.arguments)?;
     named(alloc, row)?.args(arguments)
 }
 
-/// The commands of rows.
+/// The commands of rows, with their arguments.
 pub fn commands_of<'a>(alloc: Global, rows: &[CommandRow]) -> Result<Vec<Command<'a>>, AllocError> {
     let mut commands = Vec::new(alloc);
     for row in rows {

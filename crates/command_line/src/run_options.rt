@@ -118,7 +118,6 @@ fn run_numbers(workers: u32, quantum: u32, terminal: u32) -> Option<RunNumbers> 
     }
 }
 
-/// The numbers that the arguments ask for.
 fn numbers_of(matches: &ArgMatches<'_>) -> Option<RunNumbers> {
     let workers = matches.get_one::<u32>("workers")?;
     let quantum = matches.get_one::<u32>("quantum")?;
@@ -141,8 +140,8 @@ fn images_of<'a>(
     Ok(Some(ImagePaths { paths }))
 }
 
-/// What the arguments of the command ask for. None where there are more than 8 images, or where an argument is missing or out of
-/// range, which the command itself refuses.
+/// What the arguments of the command ask for. None where there are more than 8 images. None too where an argument is missing or out
+/// of range, which the command itself refuses.
 pub fn run_options<'a>(
     alloc: Global,
     matches: &ArgMatches<'a>,

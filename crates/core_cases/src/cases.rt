@@ -1,16 +1,16 @@
 //! Cases of cores, in a notation that has beside each line what it comes to.
 //!
-//! A file begins with a comment, and each case with a line `== TITLE`. Then come its lines, one after the other: a command,
-//! and, after ` => `, what it has to come to, as `{:?}` prints it; without that it has to come to `Ok(())`. What stands after
-//! `#` is a comment. Numbers are decimal, and one that is missing or no number is 0; HEX is pairs of digits, `-` for no bytes
-//! where a line comes to them.
+//! A file begins with a comment, and each case with a line `== TITLE`. Its lines are run one after the other. Each is a command
+//! and, after ` => `, what it has to come to, as `{:?}` prints it; without that it has to come to `Ok(())`. What stands after `#`
+//! is a comment. Numbers are decimal, and one that is missing or no number is 0. HEX is pairs of digits, `-` for no bytes where a
+//! line comes to them.
 //!
 //! Set up are programs, tapes and a disk, which is of zeros before:
 //! - `program T FILE`: one more program, for this terminal, whose source stands in a file;
 //! - `tape HEX`: one more tape, which is empty without HEX;
 //! - `disk S AT HEX`: a disk with S as its byte 0, and with these bytes from the place AT on.
 //!
-//! The core is booted from all that by the first line that needs it:
+//! The first line that needs the core boots it from all that:
 //! - `turn P N`, `enter P`, `cut`, `complete AT`, `fail AT`: an event, which comes to its answer or its refusal;
 //! - `script EVENT; EVENT; ..`: these events by `run_script`, which comes to the number of those that were applied;
 //! - `drain`;
@@ -28,11 +28,9 @@
 //!   many are committed, and whether a cut is wanted; `in_flight`;
 //! - `shown T`, in HEX; `replied P`: the numbers that the process was replied; `ended P`.
 //!
-//! A case can have a second core, which is booted alike: after `other` the lines are about it, and after one more `other`
-//! about the first.
-//!
-//! - `halt HEX`, `halt`: the end of the core, whose writes in flight leave these bytes on the disk, or none; the next core
-//!   is booted on it.
+//! By `halt HEX` or `halt` the core ends. Its writes in flight leave these bytes on the disk, or none, and the next core is
+//! booted on it. A case can have a second core, which is booted alike. After `other` the lines are about it, and after one
+//! more `other` about the first.
 //!
 //! Of the disk, as it is before a boot or after a halt:
 //! - `recovered`: how many files it holds, or its fault; `boot`: how many files a core finds that is booted on it, or why it
@@ -92,7 +90,6 @@ fn event_named(name: &str, first: u32, second: u32) -> Option<Event> {
     }
 }
 
-/// The event that a command writes.
 fn event_of(command: &str) -> Result<Event, Error> {
     match event_named(word(command, 0), number(command, 1), number(command, 2)) {
         Some(event) => Ok(event),
@@ -100,7 +97,6 @@ fn event_of(command: &str) -> Result<Event, Error> {
     }
 }
 
-/// The events that are written one after the other.
 fn events_of(alloc: Global, commands: &str) -> Result<Vec<Event>, Error> {
     let mut events = Vec::new(alloc);
     for command in commands.split(';') {
@@ -109,7 +105,6 @@ fn events_of(alloc: Global, commands: &str) -> Result<Vec<Event>, Error> {
     Ok(events)
 }
 
-/// The last so many events of a core.
 fn last_events(core: &TestCore, count: usize) -> &[Event] {
     let history = core.history();
     &history[history.len().saturating_sub(count)..]
@@ -199,7 +194,6 @@ impl Drop for Kept {
 }
 
 impl Kept {
-    /// The result alone.
     fn into_done(self) -> Done {
         let Kept { name: _name, done } = self;
         done
@@ -251,7 +245,6 @@ impl Case {
         })
     }
 
-    /// Sets up a program.
     fn program<R: Files + AllocGlobal>(
         &mut self,
         rt: &R,
@@ -266,13 +259,11 @@ impl Case {
         Ok(())
     }
 
-    /// Sets up a tape.
     fn tape(&mut self, digits: &str) -> Result<(), Error> {
         self.tapes.push(hex::decode(self.alloc, digits)?)?;
         Ok(())
     }
 
-    /// Sets up a disk.
     fn set_disk(&mut self, selector: u32, at: u32, digits: &str) -> Result<(), Error> {
         let bytes = hex::decode(self.alloc, digits)?;
         self.device = disk_with(self.alloc, u8::try_from(selector)?, at, &bytes)?;
@@ -297,7 +288,6 @@ impl Case {
         }
     }
 
-    /// The core ends, and leaves its disk.
     fn halt(&mut self, digits: &str) -> Result<(), Error> {
         let fill = hex::decode(self.alloc, digits)?;
         if let Some(core) = self.core.take() {
@@ -306,7 +296,7 @@ impl Case {
         Ok(())
     }
 
-    /// A loan, whose result goes by this name. Answers its process, if one was lent.
+    /// Lends a process and runs the loan, whose result goes by this name. Gives the process, if one was lent.
     fn lend(&mut self, quantum: u32, name: &str) -> Result<Option<u32>, Error> {
         let Some(done) = self.core()?.burst(quantum)? else {
             return Ok(None);
@@ -327,7 +317,6 @@ impl Case {
         bail!("no result goes by this name")
     }
 
-    /// The core takes a result back: what that comes to.
     fn settle(&mut self, name: &str) -> Result<String, Error> {
         let alloc = self.alloc;
         let done = self.result(name)?;
@@ -362,12 +351,10 @@ impl Case {
         Ok(has(found.list(), &files) && has(next.boot_files(), &files))
     }
 
-    /// So many bytes of the disk, from this place on.
     fn part(&self, at: u32, count: u32) -> &[u8] {
         part_of(self.device.bytes(), at as usize, count as usize)
     }
 
-    /// Whether so many bytes of the disk, from this place on, are zeros.
     fn is_zero(&self, at: u32, count: u32) -> bool {
         self.part(at, count).iter().all(|byte| *byte == 0)
     }
@@ -425,7 +412,7 @@ impl Case {
         }
     }
 
-    /// Runs a line: refused where it comes to something else than what is wanted.
+    /// Runs a line. Refused where it comes to something else than what is wanted.
     fn check<R: Files + AllocGlobal + Eprint>(&mut self, rt: &R, line: &str) -> Result<(), Error> {
         let (command, wanted) = parts_of(line);
         if command.is_empty() {
@@ -436,7 +423,6 @@ impl Case {
     }
 }
 
-/// Says what a line comes to.
 fn tell<R: Eprint>(rt: &R, command: &str, wanted: &str, answer: &str) -> io::Result<()> {
     eprintln!(rt; "{command} => {wanted}\nit comes to: {answer}")
 }
@@ -464,7 +450,7 @@ fn parts_of(line: &str) -> (&str, &str) {
     line.split_once(" => ").unwrap_or((line, "Ok(())"))
 }
 
-/// Runs the lines of a case: refused where one of them comes to something else than what is wanted.
+/// Runs the lines of a case, up to the first that comes to something else than what is wanted.
 fn run_case<R: Files + AllocGlobal + Eprint>(rt: &R, lines: &str) -> Result<(), Error> {
     let mut case = Case::new(rt.alloc())?;
     for line in lines.lines() {
@@ -486,7 +472,7 @@ fn check_case<R: Files + AllocGlobal + Eprint>(
     }
 }
 
-/// Runs the cases of this file, whose text this is, and answers how many there are.
+/// Runs the cases of this file, whose text this is, and gives their number.
 fn check_cases<R: Files + AllocGlobal + Eprint>(
     rt: &R,
     name: &str,
@@ -503,8 +489,8 @@ fn check_cases<R: Files + AllocGlobal + Eprint>(
     Ok(count)
 }
 
-/// Runs the cases of a file, and answers a line that says how many they are. Where one comes out otherwise, standard error has
-/// what its line comes to.
+/// Runs the cases of a file, and gives a line that says how many they are. Where one comes out otherwise, standard error has what
+/// its line comes to.
 pub fn check_file<R: Files + AllocGlobal + Eprint>(rt: &R, name: &str) -> Result<String, Error> {
     let text = fs::read_to_string(rt, name)?;
     let count = check_cases(rt, name, text.as_str())?;

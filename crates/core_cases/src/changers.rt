@@ -97,7 +97,6 @@ impl Changer {
         }
     }
 
-    /// Does the write of this number, from 0.
     fn write(self, alloc: Global, files: &mut [PlainFile], number: u32) -> Result<(), AllocError> {
         let (name, offset, last) = self.target_of(number);
         let bytes = self.bytes_of(alloc, number, last)?;

@@ -57,14 +57,14 @@ pub fn recover(alloc: Global, device: &SimDisk) -> Result<FileTable, DiskFault> 
     journal::recover(alloc, device)
 }
 
-/// A core whose calls are looked at by running them: they are the core's own, but for their contracts, which would make
-/// each case a proof of what its run comes to.
+/// A core whose calls are looked at by running them. They are the core's own without their contracts, which would make each case a
+/// proof of what its run comes to.
 pub struct TestCore {
     core: Core,
 }
 
 impl Drop for TestCore {
-    /// A core that is let go is halted. So that is done in one place, and not again wherever a case may end.
+    /// Halts the core: here once, and not wherever a case may end.
     fn drop(self) {
         let TestCore { core } = self;
         let _device = core.halt(b"");
@@ -72,7 +72,7 @@ impl Drop for TestCore {
 }
 
 impl TestCore {
-    /// The boot of these programs and tapes on the completed bytes of a disk.
+    /// Boots these programs and tapes on the completed bytes of a disk. The inner error is why the core is not booted.
     pub fn try_boot(
         alloc: Global,
         sources: &[Source],
@@ -90,7 +90,7 @@ impl TestCore {
         }
     }
 
-    /// A core of these programs and tapes on the completed bytes of a disk.
+    /// As `try_boot`, where the core has to be booted.
     pub fn boot(
         alloc: Global,
         sources: &[Source],
@@ -181,7 +181,7 @@ impl TestCore {
         self.core.wants_cut()
     }
 
-    /// Process 1 makes calls until there are so many changes, at most a hundred calls. Answers how many there are.
+    /// Has process 1 make calls until there are so many changes, at most a hundred calls. Gives how many changes there are.
     pub fn change_up_to(&mut self, changes: u64) -> Result<u64, Error> {
         for _ in 0..100 {
             if self.changes() >= changes {
@@ -193,7 +193,7 @@ impl TestCore {
         bail!("process 1 makes no more changes")
     }
 
-    /// Process 1 makes so many further changes, which are cut as one group. Answers how many writes commit it.
+    /// Has process 1 make so many further changes, and cuts them as one group. Gives how many writes commit it.
     pub fn cut_after(&mut self, changes: u64) -> Result<u64, Error> {
         self.change_up_to(self.changes().saturating_add(changes))?;
         match self.apply(Event::Cut)? {
@@ -202,7 +202,7 @@ impl TestCore {
         }
     }
 
-    /// So many events, each the completion of the write in flight that begins first on the disk, or a Cut where none is.
+    /// Applies so many events: each completes the write in flight that begins first on the disk, or is a Cut where none is.
     pub fn commit(&mut self, events: u64) -> Result<(), Refused> {
         for _ in 0..events {
             let event = match self.in_flight() {
@@ -214,7 +214,7 @@ impl TestCore {
         Ok(())
     }
 
-    /// Process 1 makes so many further changes, which one group commits. Answers how many writes that took.
+    /// As `cut_after`, and commits the group. Gives how many writes that took.
     pub fn round(&mut self, changes: u64) -> Result<u64, Error> {
         let writes = self.cut_after(changes)?;
         self.commit(writes)?;
@@ -234,7 +234,7 @@ impl TestCore {
         Ok(writes)
     }
 
-    /// A loan for this quantum is run and taken back, where a process may be lent. Answers whether one was.
+    /// Runs a loan and takes it back, where a process may be lent. Says whether one was.
     fn loan(&mut self, quantum: u32) -> Result<bool, Error> {
         let Some(done) = self.burst(quantum)? else {
             return Ok(false);
@@ -245,8 +245,7 @@ impl TestCore {
         }
     }
 
-    /// Loans for this quantum are run and taken back until no process is lent, at most a hundred. Answers how many there
-    /// were.
+    /// Runs loans and takes them back until no process is lent, at most a hundred. Gives their number.
     pub fn loans(&mut self, quantum: u32) -> Result<u32, Error> {
         for count in 0..100 {
             if !self.loan(quantum)? {

@@ -1,5 +1,5 @@
-//! Crashes of `writer.s` and of `renamer.s` throughout their groups: each leaves the files after a prefix of the changes with every
-//! committed one in it, by a plain fold of them.
+//! Crashes of `writer.s` and of `renamer.s` throughout their groups. Each has to leave the files after a prefix of the changes with
+//! every committed one in it, by a plain fold of them.
 use crate::changers::Changer;
 use crate::cores::{Source, TestCore, recover};
 use anyhow::{Error, bail};
@@ -65,7 +65,6 @@ const RENAMER_RUN: Run = Run {
 };
 
 impl Sizes {
-    /// How many changes there are before a group.
     fn before(self, group: u32) -> u32 {
         match group.checked_sub(1) {
             None => 0,
@@ -75,7 +74,6 @@ impl Sizes {
         }
     }
 
-    /// How many changes a group has.
     fn of(self, group: u32) -> u64 {
         u64::from(if group == 0 { self.first } else { self.others })
     }
@@ -116,7 +114,7 @@ impl Origin<'_> {
         Ok((core, writes))
     }
 
-    /// After how many changes of the program the core of this run has so many.
+    /// How many changes of the program there are when the core of this run has so many.
     fn after(&self, changes: u64) -> Result<u32, Error> {
         Ok(self.before.saturating_add(u32::try_from(changes)?))
     }
@@ -127,7 +125,7 @@ impl Origin<'_> {
         Ok(self.changer.leaves(alloc, found.list(), least, most)?)
     }
 
-    /// The disk that a crash of this core with this fill leaves, where the files are right.
+    /// The disk that a crash of this core with this fill leaves. Refused where its files are not right.
     fn crash(&self, alloc: Global, core: TestCore, fill: &[u8]) -> Result<SimDisk, Error> {
         let least = self.after(core.committed())?;
         let most = self.after(core.changes())?;
@@ -141,8 +139,8 @@ impl Origin<'_> {
     }
 }
 
-/// Crashes with this fill before the first and after each completion of a group, each in a run of its own, since a crash is
-/// the end of a core. Answers the disk that the last of them leaves.
+/// Crashes with this fill before the first and after each completion of a group. Each crash has a run of its own, since it is the
+/// end of a core. Gives the disk that the last of them leaves.
 fn crash_group(
     alloc: Global,
     origin: Origin<'_>,
@@ -160,8 +158,8 @@ fn crash_group(
     bail!("group {group} has no end")
 }
 
-/// Crashes with this fill throughout the making of the file and the first 33 groups, two checkpoints among them: each group
-/// in runs on the disk that the one before it left.
+/// Crashes with this fill throughout the making of the file and the first 33 groups, two checkpoints among them. The runs of a
+/// group begin on the disk that the one before it left.
 fn crash_groups(alloc: Global, sources: &[Source], fill: &[u8]) -> Result<(), Error> {
     let mut device = SimDisk::zero(alloc)?;
     for group in 0..=33u32 {
@@ -234,7 +232,6 @@ fn one_source<R: Files + AllocGlobal>(rt: &R, name: &str) -> Result<Vec<Source>,
     Ok(sources)
 }
 
-/// All crashes of the writer, with each fill.
 fn crash_writers(alloc: Global, sources: &[Source]) -> Result<(), Error> {
     for fill in FILLS {
         crash_groups(alloc, sources, fill)?;
@@ -243,7 +240,6 @@ fn crash_writers(alloc: Global, sources: &[Source]) -> Result<(), Error> {
     Ok(())
 }
 
-/// All crashes of the renamer, with each fill.
 fn crash_renamers(alloc: Global, sources: &[Source]) -> Result<(), Error> {
     for fill in FILLS {
         crash_run(alloc, RENAMER_RUN, sources, fill)?;

@@ -1,8 +1,7 @@
-//! Cores that run the cases of a file, each line compared with what stands there beside it (`cases`), and crashes of a writer and
-//! of a program that removes and renames its files, which are compared with those of a plain fold of the changes (`crashes`).
-//!
-//! Each function here answers what came out in a line. At the first case that comes out otherwise it is refused, with a text
-//! that says which.
+//! Tests of cores. `cases` runs the cases of a file, each line compared with what stands there beside it. `crashes` crashes a
+//! writer and a program that removes and renames its files, and compares what is left with a plain fold of the changes. Each
+//! function gives a line that says what was tried; at the first case that comes out otherwise it refuses, with a text that says
+//! which.
 #![tactic(auto)]
 
 mod cases;

@@ -25,7 +25,6 @@ impl PlainFile {
     }
 }
 
-/// The file of this name, if there is one.
 fn file_named(files: &mut [PlainFile], name: u8) -> Option<&mut PlainFile> {
     for file in files {
         if file.name == name {
@@ -65,8 +64,8 @@ pub fn remove(files: &mut Vec<PlainFile>, name: u8) {
     files.retain(|file| file.name != name);
 }
 
-/// Gives the file of an old name a new one, and takes away the file that had it. No place of a file is spoken of, so what the
-/// changes say by places is compared with what programs say by names.
+/// Gives the file of an old name a new one, and takes away the file that had it. It knows no places of files: so what the changes
+/// say by places is compared with what programs say by names.
 pub fn rename(files: &mut Vec<PlainFile>, old: u8, new: u8) {
     remove(files, new);
     if let Some(file) = file_named(files, old) {

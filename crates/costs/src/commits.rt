@@ -43,7 +43,6 @@ fn creation(alloc: Global) -> Result<Change, AllocError>
     Ok(Change::Create(Bytes::copy_of(alloc, b"f")?))
 }
 
-/// A write of a block.
 fn write_of(alloc: Global, block: u8) -> Result<Change, AllocError>
     requires { block < 16 }
     ensures formed { IfOk result IsFormed }
@@ -92,7 +91,6 @@ fn file_of(alloc: Global) -> Result<FileList, AllocError>
     Ok(files)
 }
 
-/// The table of that one file.
 fn files_of(alloc: Global) -> Result<FileTable, AllocError>
     ensures { IfOk result (λ t. IsMade t.living) }
 {
@@ -118,7 +116,6 @@ fn commit(
     Ok(())
 }
 
-/// Commits the same changes again and again.
 fn commit_times(
     alloc: Global,
     committer: &mut Committer,
@@ -165,7 +162,6 @@ impl Times {
         plain: Duration::MAX,
     };
 
-    /// The lesser of each.
     fn least(self, other: Times) -> Times {
         Times {
             measured: self.measured.min(other.measured),
@@ -216,7 +212,6 @@ fn full_disk(alloc: Global, group: &[Change], files: &FileTable) -> Result<SimDi
     Ok(committer.crash(b""))
 }
 
-/// The sum of bytes.
 fn sum_of(bytes: &[u8]) -> u64 {
     let mut sum = 0u64;
     for byte in bytes {
@@ -239,7 +234,7 @@ fn time_recovery<R: Clock + AllocGlobal>(rt: &R, device: &SimDisk) -> Result<Tim
     })
 }
 
-/// The least times of the groups' commits.
+/// The ratio of the least times of the groups' commits.
 fn commit_ratio<R: Clock + AllocGlobal>(
     rt: &R,
     group: &[Change],
@@ -255,7 +250,7 @@ fn commit_ratio<R: Clock + AllocGlobal>(
     Ok(least.ratio())
 }
 
-/// The least times of a recovery.
+/// The ratio of the least times of a recovery.
 fn recovery_ratio<R: Clock + AllocGlobal>(rt: &R, device: &SimDisk) -> Result<u128, Error> {
     let mut least = Times::NONE;
     for _ in 0..ROUNDS {

@@ -1,5 +1,5 @@
-//! What a call costs the kernel, a write to a terminal, to a file and to a pipe, and the removal of a file: the time of its Enter
-//! after a short history and after a long one.
+//! What a call costs the kernel: the time of its Enter after a short history and after a long one. The calls are a write to a
+//! terminal, to a file and to a pipe, and the removal of a file.
 use anyhow::Error;
 use assembler::assemble;
 use kernel::{Core, Event, Program, SimDisk};

@@ -51,8 +51,8 @@ fn compare_end(
     Ok(())
 }
 
-/// Runs the program with these words, parted by blanks, on the script: it fills the output's room, and ends with this status
-/// and this text on standard error.
+/// Runs the program with these words, parted by blanks, on the script. It has to fill the output's room, and to end with this
+/// status and this text on standard error.
 fn check_room<R: Files + AllocGlobal + Threads + Wait + Sync>(
     rt: &R,
     line: &str,
@@ -79,7 +79,6 @@ pub fn check_faulty_output<R: Files + AllocGlobal + Threads + Wait + Sync>(
     Ok(String::from_str(rt.alloc(), "outputs that take one write or none")?)
 }
 
-/// Assembles the source `endless.s` to the image `endless`.
 fn assemble_endless<R: Files + AllocGlobal + Threads + Wait + Sync>(rt: &R) -> Result<(), Error> {
     let words = arguments(rt.alloc(), "asm endless.s endless")?;
     let mut input: &[u8] = b"";
@@ -90,8 +89,8 @@ fn assemble_endless<R: Files + AllocGlobal + Threads + Wait + Sync>(rt: &R) -> R
     Ok(())
 }
 
-/// A program that writes a byte which rests on a change, and then never ends. Its run ends only since that byte goes out while
-/// the program runs, and cannot be written. It reads the source `endless.s`.
+/// A program that writes a byte which rests on a change, and then never ends. Its run ends only since that byte goes out while the
+/// program runs, and cannot be written. It reads the source `endless.s`.
 pub fn check_endless_run<R: Files + AllocGlobal + Threads + Wait + Sync>(
     rt: &R,
 ) -> Result<String, Error> {

@@ -1,7 +1,6 @@
-//! What comes of faults of the program `bench` to which no case in a file comes: outputs that fail (`faulty_output`), a disk and
-//! arguments that cannot be read (`damaged_disk`, `lost_arguments`).
-//!
-//! Each function here answers what came out in a line. At the first that comes out otherwise it refuses, with a text that says how.
+//! Faults of the program `bench` to which no case in a file comes: outputs that fail (`faulty_output`), a disk and arguments that
+//! cannot be read (`damaged_disk`, `lost_arguments`). Each function gives a line that says what was tried. At the first that comes
+//! out otherwise it refuses, with a text that says how.
 #![tactic(auto)]
 
 mod damaged_disk;

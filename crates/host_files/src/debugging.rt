@@ -7,7 +7,6 @@ use std::fs;
 use std::io::{Read, Write};
 use std::rt::Files;
 
-/// The replies of the trace in a file.
 fn trace_in<R: Files + AllocGlobal>(rt: &R, path: &str) -> Result<Vec<Reply>, FileFault> {
     let text = fs::read_to_string(rt, path)?;
     Ok(read_trace(rt.alloc(), text.as_str())?)
@@ -21,7 +20,7 @@ fn replies_in<R: Files + AllocGlobal>(rt: &R, path: Option<&str>) -> Result<Vec<
     }
 }
 
-/// Debugs the image in a file, with the replies of the trace in another, or none, by the commands on the input.
+/// Debugs the image in a file, by the commands on the input. Its calls take the replies of the trace in another file, or none.
 pub fn debug_file<R: Files + AllocGlobal, I: Read, O: Write>(
     rt: &R,
     image: &str,

@@ -11,21 +11,20 @@ use std::io::{ErrorKind, Write};
 use std::rt::Files;
 use std::{fs, io};
 
-/// The disk of the bytes of a file.
 fn disk_of(alloc: Global, bytes: &[u8]) -> Result<SimDisk, FileFault>
     ensures { IfOk result (λ device. is_quiet device ≡ true) }
 {
     Ok(SimDisk::open(alloc, bytes)?)
 }
 
-/// A disk of zeros.
+/// A disk of 2 MiB of zeros. Its only fault is OutOfMemory.
 pub fn zeros(alloc: Global) -> Result<SimDisk, FileFault>
     ensures { IfOk result (λ device. is_quiet device ≡ true) }
 {
     Ok(SimDisk::zero(alloc)?)
 }
 
-/// The disk in a file.
+/// The disk in a file. DiskLength where the file has not a disk's 2,097,152 bytes.
 pub fn disk_in<R: Files + AllocGlobal>(rt: &R, path: &str) -> Result<SimDisk, FileFault> {
     let bytes = bytes_in(rt, path, SIZE)?;
     disk_of(rt.alloc(), &bytes)
@@ -42,7 +41,7 @@ pub fn disk_or_zeros<R: Files + AllocGlobal>(rt: &R, path: &str) -> Result<SimDi
     }
 }
 
-/// Writes a file whole, as far as onto the host's disk.
+/// Writes a file whole, and syncs it to the host's disk.
 fn write_through<R: Files>(rt: &R, path: &str, bytes: &[u8]) -> io::Result<()> {
     let mut file = fs::create(rt, path)?;
     file.write_all(bytes)?;
@@ -55,8 +54,8 @@ fn replace<R: Files>(rt: &R, path: &str, beside: &str, bytes: &[u8]) -> io::Resu
     fs::rename(rt, beside, path)
 }
 
-/// Keeps a disk in a file. It is written to a file beside it, of the same path with `.new` after it, which then takes its place: so
-/// whenever the program is killed, the file is whole, as it was or as it is to be.
+/// Keeps a disk in a file. It is written to a file beside it, of the same path with `.new` after it, which then takes its place. So
+/// whenever the program is killed, the file is whole: as it was, or as it is to be.
 pub fn keep<R: Files + AllocGlobal>(rt: &R, path: &str, device: &SimDisk) -> Result<(), FileFault> {
     let beside = format!(in rt.alloc(); "{path}.new")?;
     if let Err(error) = replace(rt, path, beside.as_str(), device.bytes()) {

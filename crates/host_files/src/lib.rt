@@ -1,4 +1,5 @@
-//! Files of the host, by their paths: sources are assembled, images listed and debugged, disks read and kept.
+//! Files of the host, by their paths: sources are assembled, images listed and debugged, disks read and kept. `FileFault` says why
+//! one is refused. Only safety is proved, and that the disk with which a run begins is quiet.
 #![tactic(auto)]
 
 mod debugging;

@@ -39,7 +39,7 @@ fn list<O: Write>(image: &Image, out: &mut O) -> Result<(), FileFault> {
     Ok(())
 }
 
-/// Lists the image in a file.
+/// Prints the words of the image in a file that may be executed, a line each.
 pub fn list_file<R: Files + AllocGlobal, O: Write>(
     rt: &R,
     path: &str,

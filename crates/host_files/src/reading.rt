@@ -5,13 +5,13 @@ use std::io::Read;
 use std::rt::Files;
 use std::{fs, io};
 
-/// The image in a file.
+/// The image in a file, as `elf32::parse` reads it.
 pub fn image_in<R: Files + AllocGlobal>(rt: &R, path: &str) -> Result<Image, FileFault> {
     let file = fs::read(rt, path)?;
     Ok(elf32::parse(rt.alloc(), &file)?)
 }
 
-/// The bytes of a file that has at most so many; of a longer one the first ones, one more than that.
+/// The bytes of a file, but at most `most` + 1 of them: so a longer file shows, and is not read whole.
 pub fn bytes_in<R: Files + AllocGlobal>(rt: &R, path: &str, most: usize) -> io::Result<Vec<u8>> {
     let limit = (most as u64).saturating_add(1);
     let mut bytes = Vec::new(rt.alloc());

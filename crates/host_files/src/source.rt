@@ -22,7 +22,6 @@ impl Drop for Assembled {
     }
 }
 
-/// How many bytes of a segment the file has.
 fn size_of(segment: Option<&Segment>) -> usize {
     match segment {
         Some(segment) => segment.bytes.as_slice().len(),
@@ -38,7 +37,6 @@ fn line_of(alloc: Global, image: &Image) -> Result<String, FileFault> {
     Ok(format!(in alloc; "{text} text bytes, {data} data bytes, entry {entry:08x}")?)
 }
 
-/// Assembles a source.
 fn assemble_source(alloc: Global, source: &str) -> Result<Assembled, FileFault> {
     let (image, _listing) = assemble(alloc, source)?;
     Ok(Assembled {
@@ -60,7 +58,7 @@ fn write_assembled<R: Files, O: Write>(
     Ok(())
 }
 
-/// Assembles the source in a file, writes its image to another, and prints a line.
+/// Assembles the source in a file, writes its image to another, and prints the sizes of its text and data, and its entry.
 pub fn assemble_file<R: Files + AllocGlobal, O: Write>(
     rt: &R,
     source: &str,

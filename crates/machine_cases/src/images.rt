@@ -10,7 +10,7 @@ const EACH: u32 = 1_500;
 
 const WHOLE: u32 = 1_000_000;
 
-/// Runs the image of this file, and answers a line that says how many limits there were, and how many instructions.
+/// Runs the image of this file, and gives a line that says how many limits there were, and how many instructions.
 pub fn check_image<R: Files + AllocGlobal>(rt: &R, name: &str) -> Result<String, Error> {
     let alloc = rt.alloc();
     let file = fs::read(rt, name)?;

@@ -1,7 +1,6 @@
-//! Machines that are run at many limits, each of which is compared with single instructions: a page that writes over its own
-//! words (`written_code`), random programs (`random`), and images (`images`).
-//!
-//! Each function here answers what came out in a line. At the first difference it is refused, with a text that says where it is.
+//! Machines that are run at many limits, each run compared with as many single instructions: a page that writes over its own words
+//! (`written_code`), random programs (`random`), and images (`images`). Each function gives a line that says what was tried. At the
+//! first difference it refuses, with a text that says where it is.
 #![tactic(auto)]
 
 mod images;

@@ -14,8 +14,8 @@ fn run(machine: &mut Machine, max: u32) -> Result<(u32, Stop), Error> {
     Ok(machine.run(max))
 }
 
-/// Runs from the first state to each limit up to a greatest one, or to the end of the program, and compares with single
-/// instructions: the whole state, how many were done, and the stop. Says how many limits there were.
+/// Runs from the first state to each limit up to a greatest one, or to the end of the program. Compares the whole state, how many
+/// instructions were done, and the stop with single instructions. Says how many limits there were.
 pub fn check_each(alloc: Global, first: &Machine, greatest: u32) -> Result<u32, Error> {
     let mut stepped = first.try_clone(alloc)?;
     for limit in 0..greatest {
@@ -43,8 +43,8 @@ fn check_end(alloc: Global, first: &Machine, stepped: &Machine, stop: Stop) -> R
     Ok(())
 }
 
-/// Runs from the first state for at most so many instructions at once, and in runs of 1, 2, 3, .. instructions, and compares
-/// where both come to. Says how many were done.
+/// Runs from the first state for at most so many instructions at once, and in runs of 1, 2, 3, .. instructions. Both have to come
+/// to the same state. Says how many were done.
 pub fn check_growing(alloc: Global, first: &Machine, max: u32) -> Result<u64, Error> {
     let mut whole = first.try_clone(alloc)?;
     run(&mut whole, max)?;

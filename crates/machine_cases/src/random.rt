@@ -1,5 +1,5 @@
-//! Random programs, with much of what sequences of words are made of: jumps to near words, also into the middle of a sequence,
-//! accesses that pass the end of a page, that are not aligned, or that are forbidden.
+//! Random programs, with much of what sequences of words (superinstructions) are made of. They jump to near words, also into the
+//! middle of a sequence. Their accesses pass the end of a page, are not aligned, or are forbidden.
 use crate::limits::check_each;
 use anyhow::{Error, bail};
 use machine::{Image, Machine};
@@ -8,7 +8,7 @@ use std::alloc::{AllocError, Global};
 /// How many programs are tried.
 const PROGRAMS: u32 = 2_000;
 
-/// The words of a program.
+/// How many words a program has after its first ones.
 const WORDS: u32 = 40;
 
 /// The most instructions that a program does here.
@@ -123,7 +123,6 @@ impl Numbers {
     }
 }
 
-/// The words of a program.
 fn program(alloc: Global, numbers: &mut Numbers) -> Result<Vec<u32>, AllocError> {
     let mut words = Vec::from_slice(alloc, &START)?;
     for _ in 0..WORDS {
@@ -153,7 +152,7 @@ fn check_programs(alloc: Global) -> Result<u64, Error> {
     Ok(count)
 }
 
-/// Runs random programs to each limit, and answers a line that says how many limits there were.
+/// Runs random programs to each limit, and gives a line that says how many limits there were.
 pub fn check_random_programs(alloc: Global) -> Result<String, Error> {
     let count = check_programs(alloc)?;
     Ok(format!(in alloc; "{PROGRAMS} random programs: {count} limits")?)

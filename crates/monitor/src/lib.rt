@@ -1,4 +1,5 @@
-//! The program `bench`, over any reader and two writers.
+//! The program `bench`, over any reader and two writers, so that tests run it in memory. Read `bench` first. Only safety is proved
+//! of it; what it reads and prints is tested.
 #![tactic(auto)]
 
 mod program;

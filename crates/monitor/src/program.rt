@@ -12,7 +12,6 @@ use std::sync::Wait;
 use std::thread::Threads;
 use std::{fs, io};
 
-/// Replays the script on the input.
 fn replay_input<R: Files + AllocGlobal, I: Read, O: Write>(
     rt: &R,
     input: &mut I,
@@ -22,7 +21,6 @@ fn replay_input<R: Files + AllocGlobal, I: Read, O: Write>(
     Ok(replay(rt, text.as_str(), out)?)
 }
 
-/// Replays the script of a file.
 fn replay_file<R: Files + AllocGlobal, O: Write>(
     rt: &R,
     path: &str,
@@ -32,7 +30,6 @@ fn replay_file<R: Files + AllocGlobal, O: Write>(
     Ok(replay(rt, text.as_str(), out)?)
 }
 
-/// Does a task.
 fn perform<R: Files + AllocGlobal + Threads + Wait + Sync, I: Read, O: Write, E: Write>(
     rt: &R,
     task: &Task<'_>,
@@ -66,7 +63,7 @@ fn run<R: Files + AllocGlobal + Threads + Wait + Sync, I: Read, O: Write, E: Wri
     Ok(())
 }
 
-/// The end of a run that a fault cut short: its line, and its status.
+/// The end of a run that a fault cut short: prints its line, and gives its status.
 fn end<E: Write>(fault: Fault, err: &mut E) -> u8 {
     let status = fault.status();
     // Where the line cannot be written either, the status still tells.
@@ -74,7 +71,6 @@ fn end<E: Write>(fault: Fault, err: &mut E) -> u8 {
     status
 }
 
-/// Prints the help that was asked for.
 fn print_help<O: Write>(help: &Error, out: &mut O) -> Result<(), Fault> {
     write!(out, "{help}")?;
     out.flush()?;
@@ -96,7 +92,7 @@ fn end_usage<O: Write, E: Write>(error: &Error, out: &mut O, err: &mut E) -> u8 
     }
 }
 
-/// The end where the host did not give the arguments: memory ran out, or one of them is no text.
+/// The end where the host did not give the arguments: status 5 where memory ran out, 1 where one of them is no text.
 pub fn end_without_arguments<E: Write>(error: &io::Error, err: &mut E) -> u8 {
     let fault = match error.kind() {
         io::ErrorKind::OutOfMemory => Fault::OutOfMemory,
@@ -105,7 +101,7 @@ pub fn end_without_arguments<E: Write>(error: &io::Error, err: &mut E) -> u8 {
     end(fault, err)
 }
 
-/// Does what the words ask for, and answers the exit status.
+/// Does what the words ask for, and gives the exit status.
 fn obey<R: Files + AllocGlobal + Threads + Wait + Sync, I: Read, O: Write, E: Write>(
     rt: &R,
     words: &[String],
@@ -122,9 +118,9 @@ fn obey<R: Files + AllocGlobal + Threads + Wait + Sync, I: Read, O: Write, E: Wr
     }
 }
 
-/// The whole program: does what the words, the program's name aside, ask for, and answers the exit status. No words:
-/// replays the script on the input. What it prints goes to `out`, through a buffer that has gone out before anything is
-/// written to `err` and before the status is answered; one line on `err` says why it ended early.
+/// The whole program: it does what the words, the program's name aside, ask for, and gives the exit status. Without words it
+/// replays the script on the input. What it prints goes to `out` through a buffer, which has gone out before anything is written to
+/// `err` and before the status is given. One line on `err` says why it ended early.
 pub fn bench<R: Files + AllocGlobal + Threads + Wait + Sync, I: Read, O: Write, E: Write>(
     rt: &R,
     words: &[String],

@@ -7,7 +7,6 @@ use std::rt::Files;
 use std::sync::Wait;
 use std::thread::Threads;
 
-/// The settings of a run with these numbers.
 fn settings_of(numbers: RunNumbers) -> Settings {
     Settings {
         workers: numbers.workers,
@@ -16,8 +15,8 @@ fn settings_of(numbers: RunNumbers) -> Settings {
     }
 }
 
-/// Runs images to their end. What the terminal shows is printed as it is shown; then, on `err`, how each process stands; and then
-/// the disk is kept, if it is to be, also where `err` took no line.
+/// Runs images to their end. What the terminal shows is printed as it is shown. Then `err` gets a line about each process. Then the
+/// disk is kept, if it is to be, also where `err` took no line.
 pub fn run_images<R: Files + AllocGlobal + Threads + Wait + Sync, O: Write, E: Write>(
     rt: &R,
     options: &RunOptions<'_>,

@@ -1,5 +1,5 @@
-//! The cases of a file, by the notation that its name ends with: `.calls` for programs that call the kernel, `.sessions` for runs of
-//! the program by its command line. A file begins with a comment, and each case with a line `== TITLE`.
+//! The cases of a file, in the notation that its name ends with: `.calls` for programs that call the kernel, `.sessions` for runs
+//! of the program by its command line. A file begins with a comment, and each case with a line `== TITLE`.
 use crate::playing::{play_calls, play_session};
 use anyhow::{Error, bail};
 use std::fs;
@@ -20,7 +20,6 @@ fn check_case<R: Files + AllocGlobal + Threads + Wait + Sync>(
     }
 }
 
-/// Runs the cases of a file, and answers how many they are.
 fn check_cases<R: Files + AllocGlobal + Threads + Wait + Sync>(
     rt: &R,
     name: &str,
@@ -37,7 +36,7 @@ fn check_cases<R: Files + AllocGlobal + Threads + Wait + Sync>(
     Ok(count)
 }
 
-/// Runs the cases of a file, and answers a line that says how many they are.
+/// Runs the cases of a file, and gives a line that says how many they are.
 pub fn check_file<R: Files + AllocGlobal + Threads + Wait + Sync>(
     rt: &R,
     name: &str,

@@ -1,8 +1,6 @@
-//! Runs of the program `bench` on cases that stand in files, each compared with what stands there beside it. What a case says, and
-//! whether a run came out so, `case_texts` reads and compares.
-//!
-//! `check_file` answers a line that says how many cases there are. At the first case that comes out otherwise it refuses, with a text
-//! that says which.
+//! Runs of the program `bench` on cases that stand in files, each compared with what stands there beside it; `case_texts` reads the
+//! cases. `check_file` gives a line that says how many cases there are. At the first case that comes out otherwise it refuses, with
+//! a text that says which.
 #![tactic(auto)]
 
 mod case_files;

@@ -31,7 +31,6 @@ pub fn play_calls<R: Files + AllocGlobal + Threads + Wait + Sync>(
     case.compare(rt.alloc(), &ran)
 }
 
-/// Does a step of a case by the command line.
 fn play_step<R: Files + AllocGlobal + Threads + Wait + Sync>(
     rt: &R,
     step: &Step,

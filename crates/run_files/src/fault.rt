@@ -32,7 +32,6 @@ pub enum Fault {
     InputOutput,
 }
 
-/// The exit status where a file is refused.
 fn file_status(fault: &FileFault) -> u8 {
     match fault {
         FileFault::Source { .. } | FileFault::Image { .. } | FileFault::Trace { .. } => 2,
@@ -43,7 +42,7 @@ fn file_status(fault: &FileFault) -> u8 {
 }
 
 impl Fault {
-    /// The exit status.
+    /// The exit status, 1 to 6.
     pub fn status(&self) -> u8 {
         match self {
             Fault::Argument => 1,

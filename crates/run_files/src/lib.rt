@@ -1,5 +1,5 @@
-//! What the program reads from files of the host for a run of images, what it keeps there, and the lines that it prints about files
-//! and processes; and `Fault`, why the program ends early, whatever its command.
+//! What a run of images begins with and leaves in files of the host, and the lines about files and processes. Read `boot` first,
+//! and `Fault`: why the program ends early, whatever its command. Only safety is proved.
 #![tactic(auto)]
 
 mod fault;

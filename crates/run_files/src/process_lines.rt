@@ -3,7 +3,7 @@ use crate::fault::Fault;
 use kernel::{Core, Refused, Standing};
 use std::io::Write;
 
-/// Prints the status with which a process ended, where it is handed out.
+/// Prints the status with which a process ended, or that it is held back.
 fn print_end<E: Write>(
     pid: u32,
     status: Result<Option<u32>, Refused>,
@@ -16,7 +16,6 @@ fn print_end<E: Write>(
     Ok(())
 }
 
-/// Prints how a process stands.
 fn print_process<E: Write>(
     core: &Core,
     pid: u32,
@@ -30,7 +29,7 @@ fn print_process<E: Write>(
     }
 }
 
-/// Prints a line for each process, by rising number: the first number without a process comes after them.
+/// Prints a line for each process, by rising number, up to the first number without a process.
 pub fn print_processes<E: Write>(core: &Core, err: &mut E) -> Result<(), Fault> {
     for pid in 1..=u32::MAX {
         match core.standing(pid) {

@@ -12,7 +12,7 @@ use kernel::{Core, Program, SimDisk};
 use scripts::MOST_TAPE_BYTES;
 use std::rt::Files;
 
-/// The tape in a file.
+/// The tape in a file. InputOutput where the file is longer than a tape may be.
 fn tape_in<R: Files + AllocGlobal>(rt: &R, path: &str) -> Result<Bytes, Fault> {
     let bytes = bytes_in(rt, path, MOST_TAPE_BYTES)?;
     if bytes.len() > MOST_TAPE_BYTES {
@@ -57,7 +57,7 @@ fn device_in<R: Files + AllocGlobal>(rt: &R, path: Option<&str>) -> Result<SimDi
     }
 }
 
-/// The core of a run. The tape is read first, then the images by their place, then the disk.
+/// Boots the core of a run. The tape is read first, then the images in order, then the disk; the first fault ends it.
 pub fn boot<R: Files + AllocGlobal>(rt: &R, options: &RunOptions<'_>) -> Result<Core, Fault> {
     let tapes = tapes_in(rt, options.tape)?;
     let programs = programs_in(rt, options.images.as_slice())?;
@@ -65,7 +65,7 @@ pub fn boot<R: Files + AllocGlobal>(rt: &R, options: &RunOptions<'_>) -> Result<
     Ok(Core::boot(rt.alloc(), device, programs, tapes)?)
 }
 
-/// Keeps the disk that a run leaves, if it is to be kept.
+/// Halts the core, and keeps the disk that it leaves, if it is to be kept.
 pub fn keep_disk<R: Files + AllocGlobal>(
     rt: &R,
     path: Option<&str>,

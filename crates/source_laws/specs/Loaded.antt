@@ -41,7 +41,7 @@ FetchesInstructions source listing memory =
     → (listed : IsListedInstruction source (before ++ line ∷ after) line words m o listing)
     × AreFetched memory (65536 + 4 * words) (instructions_of listed.expansion)
 
--- What a source assembles to may be loaded; its file names it alone; and in the first state of a machine that is loaded from it
+-- What a source assembles to may be loaded, and its file names it alone. In the first state of a machine that is loaded from it
 -- each listed word is fetched at its address, and so is each instruction in text, word by word.
 pub record IsLoadedAsListed (source : List ℕ) (image : Program) (listing : List Row) : Type 0 where
   pub profile : IsProfile image

@@ -1,7 +1,6 @@
-//! Runs the trials that its words name, one after the other, and prints what each comes to: cases in files and computations, which
-//! are compared with what is wanted, and measurements. Libraries do them; `words` says which word names what.
-//!
-//! At the first case that comes out otherwise, and at a word that names nothing, the program ends with status 1, and says which.
+//! Runs the trials that its words name, one after the other, and prints what each comes to. Cases and computations are compared
+//! with what is wanted, measurements are not. Read `words` first. At the first case that comes out otherwise, and at a word that
+//! names nothing, the program ends with status 1, and says which.
 #![tactic(auto)]
 
 mod usage;
@@ -14,8 +13,7 @@ use std::sync::Wait;
 use std::thread::Threads;
 use std::time::Clock;
 
-/// Runs the trials of these words, of which the first is the program's name. Where there are no others, prints the words that
-/// there are.
+/// Runs the trials of these words, of which the first is the program's name. Without others it prints the words that there are.
 fn run<R: AllocGlobal + Clock + Eprint + Files + Print + Threads + Wait + Sync>(
     rt: &R,
     words: &[String],

@@ -21,7 +21,6 @@ pub fn play<N: Naming + Send + Sync, D: Desk, R: Threads + Wait + Sync>(
     commit(desk)
 }
 
-/// How many events the core at this bench has in its history.
 fn events_at<N: Naming, R: Wait>(rt: &R, bench: &Mutex<Bench<'_, N>>) -> usize {
     bench.lock(rt).core().history().len()
 }

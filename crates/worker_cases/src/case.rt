@@ -60,7 +60,7 @@ pub fn play<R: Threads + Wait + Sync>(
     play_named::<Brand, R>(rt, alloc, core, Blanks::new(), case, line)
 }
 
-/// Plays a case over this core, with the names of the ledgers and the board.
+/// Plays a case over this core; `N` names its ledgers and its board.
 fn play_named<N: Naming + Send + Sync, R: Threads + Wait + Sync>(
     rt: &R,
     alloc: Global,
@@ -118,7 +118,7 @@ fn play_in<N: Naming + Send + Sync, R: Threads + Wait + Sync>(
     Ok(say_core(alloc, gather(pool.end(), shares), shown, case, line)?)
 }
 
-/// Plays a case by the workers of this pool. Answers all shares.
+/// Plays a case by the workers of this pool. Gives all shares.
 fn play_at<N: Naming + Send + Sync, R: Threads + Wait + Sync>(
     rt: &R,
     alloc: Global,
@@ -151,7 +151,6 @@ fn play_at<N: Naming + Send + Sync, R: Threads + Wait + Sync>(
     Ok(shares_of(alloc, workers, share)?)
 }
 
-/// Plays a case by these workers and at this desk.
 fn play_by<N: Naming + Send + Sync, D: Desk, R: Threads + Wait + Sync>(
     rt: &R,
     alloc: Global,
@@ -213,7 +212,6 @@ fn say_whole(
     )
 }
 
-/// Says a core's totals.
 fn say_totals(core: &Core, line: &mut String) -> Result<(), AllocError> {
     let totals = totals_of(core);
     write!(line, "; all {totals:?}")

@@ -1,6 +1,6 @@
-//! All turns of both programs at one desk, with a group that is committed after the first and one that fails at the end, and
-//! what the board shows. Wanted are 17 events: six loans, each of which is a Turn and an Enter; a Cut and two completions; a Cut
-//! and a failure.
+//! All turns of both programs at one desk, with a group that is committed after the first and one that fails at the end, and what
+//! the board shows. 17 events are wanted. Six loans are a Turn and an Enter each; a Cut and two completions, and a Cut and a
+//! failure, are the others.
 use crate::case::QUANTUM;
 use crate::fault::Fault;
 use crate::gates::Open;
@@ -62,7 +62,7 @@ pub fn commit<D: Desk>(desk: &mut D) -> Result<(), Fault> {
     Ok(())
 }
 
-/// A Cut, and the failure of its first write. Answers what the failure is answered.
+/// A Cut, and the failure of its first write. Gives the failure's answer.
 fn fail_to_commit<D: Desk>(desk: &mut D) -> Result<Answer, Fault> {
     desk.cut()?;
     match desk.in_flight() {
@@ -71,7 +71,7 @@ fn fail_to_commit<D: Desk>(desk: &mut D) -> Result<Answer, Fault> {
     }
 }
 
-/// The first turn, and a commit. Answers how many instructions the turn ran, and what the board showed after each.
+/// The first turn, and a commit. Gives how many instructions the turn ran, and what the board showed after each.
 fn begin<N: Naming, D: Desk, R: Wait>(
     rt: &R,
     reader: &mut BoardReader<'_, N>,
@@ -85,7 +85,6 @@ fn begin<N: Naming, D: Desk, R: Wait>(
     Ok((first, [made, reader.seen(rt)]))
 }
 
-/// All turns at a desk.
 fn all_turns<N: Naming, D: Desk, R: Wait>(
     rt: &R,
     reader: &mut BoardReader<'_, N>,
@@ -106,7 +105,6 @@ fn all_turns<N: Naming, D: Desk, R: Wait>(
     })
 }
 
-/// Says what the turns came to.
 fn say(found: Found, line: &mut String) -> Result<(), AllocError> {
     let Found {
         shown,

@@ -31,7 +31,6 @@ fn is_late<N: Naming>(workers: &[Worker<'_, '_, '_, N>]) -> bool {
     }
 }
 
-/// How many instructions of the core at this bench ran.
 fn ran_at<N: Naming, R: Wait>(rt: &R, bench: &Mutex<Bench<'_, N>>) -> u64 {
     bench.lock(rt).core().ran()
 }

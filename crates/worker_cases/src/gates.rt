@@ -28,9 +28,9 @@ impl Lendings {
     }
 }
 
-/// The gate of a worker in a case: it holds the first loan of process 1 until process 2 was lent twice, for a bounded number of polls, if it is to hold
-/// anybody. The worker that lends first leaves process 2 in its deque, and is held; so process 2 runs only where the other worker
-/// steals it.
+/// The gate of a worker in a case. If it is to hold anybody, it holds the first loan of process 1 until process 2 was lent twice,
+/// for a bounded number of polls. The worker that lends first leaves process 2 in its deque, and is held. So process 2 runs only
+/// where the other worker steals it.
 #[derive(Clone, Copy)]
 pub struct CaseGate<'a> {
     lendings: &'a Lendings,

@@ -1,7 +1,5 @@
-//! Two programs, run by workers at the seats of a pool in threads of their own, or by turns at one desk, and what their runs
-//! come to.
-//!
-//! What it answers is the same whatever the schedule: how the workers take turns shows in no line.
+//! Two programs, run by workers at the seats of a pool in threads of their own, or by turns at one desk, and what their runs come
+//! to. Read `case` first. The lines are the same whatever the schedule: how the workers take turns shows in none.
 #![tactic(auto)]
 
 mod by_crew;

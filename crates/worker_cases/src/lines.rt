@@ -14,7 +14,7 @@ const CASES: [(&str, Case); 6] = [
     ("a desk", Case::Desk),
 ];
 
-/// Plays all cases, and answers a line for each. Refused where a case ends early, with its name.
+/// Plays all cases, and gives a line for each. Refused where a case ends early, with its name.
 pub fn play_cases<R: AllocGlobal + Threads + Wait + Sync>(rt: &R) -> Result<String, Error> {
     let alloc = rt.alloc();
     let mut lines = String::new(alloc);

@@ -60,7 +60,6 @@ fn programs(alloc: Global) -> Result<Vec<Program>, AllocError>
     Ok(programs)
 }
 
-/// A disk of zeros.
 fn device(alloc: Global) -> Result<SimDisk, Fault>
     ensures { IfOk result (λ device. is_quiet device ≡ true) }
 {

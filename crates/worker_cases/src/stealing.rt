@@ -31,7 +31,6 @@ fn fetch<N: Naming, R: Wait>(rt: &R, seat: &mut Seat<'_, '_, N>) -> Result<u32, 
     }
 }
 
-/// How process 2 stands.
 fn standing_of_two<N: Naming, R: Wait>(
     rt: &R,
     bench: &Mutex<Bench<'_, N>>,

@@ -1,4 +1,4 @@
-//! A crew that stops, since a result in the queue is of no loan that is out.
+//! A crew that stops since a result in the queue is of no loan that is out.
 use crate::fault::Fault;
 use crate::programs::result_of_another;
 use crate::workers::{Worker, crew_fault, seat_at};
@@ -26,7 +26,6 @@ pub fn play<N: Naming + Send + Sync, R: Threads + Wait + Sync>(
     )?)
 }
 
-/// Hands a result of another core in at this seat.
 fn hand_in_of_another<N: Naming, R: Wait>(
     rt: &R,
     alloc: Global,
@@ -40,7 +39,6 @@ fn hand_in_of_another<N: Naming, R: Wait>(
     }
 }
 
-/// Whether the work at this bench is to stop.
 fn is_stopped<N: Naming, R: Wait>(rt: &R, bench: &Mutex<Bench<'_, N>>) -> bool {
     bench.lock(rt).is_stopped()
 }

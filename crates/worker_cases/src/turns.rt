@@ -10,8 +10,8 @@ use pool::{Pooled, Seat};
 use std::sync::Wait;
 use std::thread::Threads;
 
-/// One turn at a desk, and then turns at the one seat until it is idle; and at the end a crew of nobody. Says how many turns at
-/// the seat settled one result each.
+/// One turn at a desk, then turns at the one seat until it is idle, and at the end a crew of nobody. Says how many turns at the
+/// seat settled one result each.
 pub fn play<N: Naming + Send + Sync, D: Desk, R: Threads + Wait + Sync>(
     rt: &R,
     workers: &mut [Worker<'_, '_, '_, N>],
@@ -39,13 +39,12 @@ fn turns_at<N: Naming, R: Wait>(rt: &R, seat: &mut Seat<'_, '_, N>) -> u32 {
     10
 }
 
-/// One turn at a seat. Answers whether it settled one result.
+/// One turn at a seat. Says whether it settled one result.
 fn turns_one<N: Naming, R: Wait>(rt: &R, seat: &mut Seat<'_, '_, N>) -> bool {
     let turned = seat.turn(rt, &mut Open, QUANTUM);
     settles_one(&turned)
 }
 
-/// Whether a turn at a seat settled one result.
 fn settles_one(turned: &Result<Pooled, WorkFault>) -> bool {
     match turned {
         Ok(Pooled::Worked(settling)) => settling.settled == 1,

@@ -51,7 +51,7 @@ pub fn crew_fault<N: Naming + Send + Sync, R: Threads + Wait + Sync>(
     }
 }
 
-/// The workers work in threads of their own until the work is over.
+/// As `crew_fault`, with a fault as the error.
 pub fn crew<N: Naming + Send + Sync, R: Threads + Wait + Sync>(
     rt: &R,
     workers: &mut [Worker<'_, '_, '_, N>],

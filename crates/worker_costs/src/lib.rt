@@ -1,4 +1,4 @@
-//! What many workers gain, as ratios of two times.
+//! What many workers gain, as ratios of two times. `lines` measures it, and gives what is printed.
 #![tactic(auto)]
 
 mod report;

@@ -10,7 +10,6 @@ use std::time::Clock;
 pub const USAGE: &str =
     "costs-workers: what two and four workers gain over one, and one costs beside machines alone";
 
-/// What many workers gain with one load.
 fn load_lines(alloc: Global, does: &str, ratios: Ratios) -> Result<String, AllocError> {
     format!(in alloc;
         "8 programs that {does}, in thousandths:

@@ -79,7 +79,6 @@ pub const LOADS: [Load; 2] = [
     },
 ];
 
-/// The image of a load's program.
 fn image_of(alloc: Global, load: &Load) -> Result<Image, Error> {
     let (image, _listing) = assemble(alloc, load.source)?;
     Ok(image)
@@ -98,14 +97,12 @@ fn programs_of(alloc: Global, load: &Load) -> Result<Vec<Program>, Error>
     Ok(programs)
 }
 
-/// A core of the programs of a load.
 fn boot(alloc: Global, load: &Load) -> Result<Core, Error> {
     let programs = programs_of(alloc, load)?;
     let device = SimDisk::zero(alloc)?;
     Ok(Core::boot(alloc, device, programs, Vec::new(alloc))?)
 }
 
-/// The time that so many workers take.
 fn time_of<R: AllocGlobal + Clock + Threads + Wait + Sync>(
     rt: &R,
     load: &Load,
@@ -202,7 +199,7 @@ pub struct Ratios {
     pub four: u128,
 }
 
-/// Measures a load.
+/// Measures a load: each time is the least of five runs.
 pub fn ratios_of<R: AllocGlobal + Clock + Threads + Wait + Sync>(
     rt: &R,
     load: &Load,

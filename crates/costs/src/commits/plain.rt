@@ -29,13 +29,11 @@ fn bounds_of(second: bool) -> (usize, usize) {
     }
 }
 
-/// Appends a name, after its length.
 fn push_name(record: &mut Vec<u8>, name: &[u8]) -> Result<(), AllocError> {
     record.extend_from_slice(&name.len().to_le_bytes()[..1])?;
     record.extend_from_slice(name)
 }
 
-/// Appends the bytes of a creation.
 fn push_creation(record: &mut Vec<u8>, name: &[u8]) -> Result<(), AllocError> {
     record.push(1)?;
     push_name(record, name)
@@ -47,7 +45,6 @@ fn push_file(record: &mut Vec<u8>, kind: u8, file: u16) -> Result<(), AllocError
     record.extend_from_slice(&file.to_le_bytes())
 }
 
-/// Appends the bytes of a write.
 fn push_write(
     record: &mut Vec<u8>,
     file: u16,
@@ -60,7 +57,6 @@ fn push_write(
     record.extend_from_slice(bytes)
 }
 
-/// Appends the bytes of a change.
 fn push_change(record: &mut Vec<u8>, change: &Change) -> Result<(), AllocError> {
     match change {
         Change::Create(name) => push_creation(record, name.as_slice()),
@@ -78,7 +74,7 @@ fn push_change(record: &mut Vec<u8>, change: &Change) -> Result<(), AllocError> 
     }
 }
 
-/// Ends a record, which begins with room for its body's length: the length, and the next gate, closed.
+/// Ends a record, which begins with room for its body's length: writes the length, and appends the next gate, closed.
 fn end_record(record: &mut Vec<u8>) -> Result<(), AllocError> {
     let length = record.len().saturating_sub(4);
     for (place, byte) in record.iter_mut().zip(&length.to_le_bytes()[..4]) {
