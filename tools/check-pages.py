@@ -1,0 +1,211 @@
+#!/usr/bin/env python3
+"""Checks the pages for dead links and long sentences. Run it at the top of the repository.
+
+    check-pages [--comments] [FILE..]
+
+A page is README.md, CHANGES.md or a file docs/*.md. Of each it finds links to files that are not there, links to anchors that no
+heading has, and sentences of more than 35 words. With --comments it also finds such sentences in the comments `//!` and `///` of
+crates/*/src. With file names, it checks these alone: pages, and comments of files `.rt`.
+
+It prints a line for each finding, `FILE:LINE: what`, and ends with status 1 where it found something.
+
+A code span counts as one word, and in a table as none, since tables list names. Blocks of code are skipped. A sentence ends at its
+full stop, and also where its paragraph, its list item, its heading or its table cell ends."""
+import argparse
+import glob
+import os
+import re
+import signal
+import sys
+import urllib.parse
+
+MOST_WORDS = 35
+
+FENCE = re.compile(r"\s*(```+|~~~+)")
+HEADING = re.compile(r" {0,3}#{1,6}\s+(.*?)(?:\s+#+)?\s*$")
+LIST_ITEM = re.compile(r"\s*(?:[-*+]|\d+[.)])\s+")
+TABLE_RULE = re.compile(r"[\s|:-]+$")
+CELL_END = re.compile(r"(?<!\\)\|")
+CODE_SPAN = re.compile(r"(?<!`)(`+)(?!`)(.+?)(?<!`)\1(?!`)", re.DOTALL)
+HTML_COMMENT = re.compile(r"<!--.*?-->", re.DOTALL)
+LINK = re.compile(r"\[[^\[\]]*(\]\(\s*<?([^\s<>()]*(?:\([^\s()]*\)[^\s<>()]*)*)>?(?:\s+\"[^\"]*\")?\s*\))")
+LINK_BY_NAME = re.compile(r" {0,3}\[[^\[\]]+\]:\s+(\S+)")
+NAMED_PLACE = re.compile(r"<a\s+(?:id|name)=\"([^\"]+)\"")
+SENTENCE_END = re.compile(r"(?<![.!?])[.!?][)\]\"'*_]*(?=\s|$)")
+SHORT_FORMS = ("e.g.", "i.e.", "cf.", "vs.")
+DOC_COMMENT = re.compile(r"\s*//(?:!|/(?!/)) ?(.*)")
+
+
+class Block:
+    """A text that no sentence goes beyond: a paragraph, a list item, a heading or a table cell."""
+
+    def __init__(self, line, text, kind):
+        self.line, self.text, self.kind = line, text, kind
+
+    def line_of(self, offset):
+        return self.line + self.text.count("\n", 0, offset)
+
+
+def blocks_of(lines):
+    """Returns the blocks of a text, whose lines come with their numbers."""
+    blocks, fence, is_open = [], None, False
+    for number, line in lines:
+        mark = FENCE.match(line)
+        if fence:
+            if mark and mark[1].startswith(fence) and not line[mark.end():].strip():
+                fence = None
+            continue
+        line = re.sub(r"^\s*(?:>\s?)+", "", line)
+        item, heading = LIST_ITEM.match(line), HEADING.match(line)
+        if mark:
+            fence, is_open = mark[1], False
+        elif not line.strip():
+            is_open = False
+        elif heading:
+            blocks.append(Block(number, heading[1], "heading"))
+            is_open = False
+        elif line.lstrip().startswith("|"):
+            if not TABLE_RULE.match(line):
+                blocks.extend(Block(number, it, "cell") for it in CELL_END.split(line))
+            is_open = False
+        elif item:
+            blocks.append(Block(number, line[item.end():], "item"))
+            is_open = True
+        elif is_open:
+            blocks[-1].text += "\n" + line
+        else:
+            blocks.append(Block(number, line, "paragraph"))
+            is_open = True
+    return blocks
+
+
+def blank(found, by):
+    """Returns the text found with each of its characters, but for line ends, replaced."""
+    return re.sub(r"[^\n]", by, found[0])
+
+
+def without_code(text, by):
+    return CODE_SPAN.sub(lambda it: blank(it, by), HTML_COMMENT.sub(lambda it: blank(it, " "), text))
+
+
+def sentences(block):
+    """Yields the sentences of a block, each with the place where it begins."""
+    text = without_code(block.text, " " if block.kind == "cell" else "x")
+    text = LINK.sub(lambda it: it[0][:it.start(1) - it.start()] + "-" * (it.end(1) - it.start(1)), text)
+    start = 0
+    for end in SENTENCE_END.finditer(text):
+        if not text[start:end.end()].endswith(SHORT_FORMS):
+            yield start, text[start:end.end()]
+            start = end.end()
+    yield start, text[start:]
+
+
+def long_sentences(blocks):
+    """Yields the line and the number of words of each sentence that is too long."""
+    for block in blocks:
+        for start, sentence in sentences(block):
+            words = len(re.findall(r"\S*\w\S*", sentence))
+            if words > MOST_WORDS:
+                yield block.line_of(start + len(sentence) - len(sentence.lstrip())), f"a sentence of {words} words"
+
+
+def links(blocks):
+    """Yields the line and the target of each link."""
+    for block in blocks:
+        text = without_code(block.text, "x")
+        for it in LINK.finditer(text):
+            yield block.line_of(it.start()), it[2]
+        by_name = LINK_BY_NAME.match(text)
+        if by_name:
+            yield block.line, by_name[1]
+
+
+def anchors(blocks):
+    """Returns the anchors of a page, as GitHub makes them: of headings with one text, the later ones are numbered."""
+    found = set()
+    for block in blocks:
+        found.update(NAMED_PLACE.findall(block.text))
+        if block.kind == "heading":
+            text = re.sub(r"!?\[([^\[\]]*)\]\([^()]*\)", r"\1", block.text).lower()
+            plain = re.sub(r"[^\w\- ]", "", text).replace(" ", "-")
+            anchor, count = plain, 0
+            while anchor in found:
+                count += 1
+                anchor = f"{plain}-{count}"
+            found.add(anchor)
+    return found
+
+
+def numbered_lines(path):
+    with open(path, encoding="utf-8") as file:
+        return list(enumerate(file.read().split("\n"), 1))
+
+
+class Pages:
+    def __init__(self):
+        self.anchors = {}
+
+    def has_anchor(self, path, anchor):
+        if not path.endswith(".md"):
+            line = re.fullmatch(r"L(\d+)(?:-L\d+)?", anchor)
+            return os.path.isfile(path) and line is not None and int(line[1]) <= len(numbered_lines(path))
+        if path not in self.anchors:
+            self.anchors[path] = anchors(blocks_of(numbered_lines(path)))
+        return anchor in self.anchors[path]
+
+    def fault_of(self, page, target):
+        """Returns why a link of a page leads nowhere, or None."""
+        if re.match(r"[a-z][a-z0-9+.-]*:", target, re.IGNORECASE):
+            return None
+        path, _, anchor = map(urllib.parse.unquote, target.partition("#"))
+        path = os.path.normpath(os.path.join(os.path.dirname(page), path)) if path else page
+        parts = path.split(os.sep)
+        if parts[0] in ("..", ""):
+            return f"a link out of the repository, {target}"
+        if not os.path.exists(path):
+            return f"a link to a file that is not there, {target}"
+        if any(os.path.islink(os.sep.join(parts[:it])) for it in range(1, len(parts))):
+            return f"a link through a symbolic link, which GitHub does not follow, {target}"
+        if anchor and not self.has_anchor(path, anchor):
+            return f"a link to an anchor that is not there, {target}"
+        return None
+
+    def findings(self, page):
+        blocks = blocks_of(numbered_lines(page))
+        yield from long_sentences(blocks)
+        for line, target in links(blocks):
+            fault = self.fault_of(page, target)
+            if fault:
+                yield line, fault
+
+
+def findings_of_comments(path):
+    """Yields the long sentences in the comments of a source."""
+    comments = ((number, DOC_COMMENT.match(line)) for number, line in numbered_lines(path))
+    # A line of code ends a comment, as an empty line does.
+    yield from long_sentences(blocks_of((number, it[1] if it else "") for number, it in comments))
+
+
+def main():
+    signal.signal(signal.SIGPIPE, signal.SIG_DFL)
+    asked = argparse.ArgumentParser(description=__doc__.partition("\n")[0])
+    asked.add_argument("--comments", action="store_true", help="check the comments of crates/*/src, too")
+    asked.add_argument("files", nargs="*", metavar="FILE", help="a page, or a source .rt, to check alone")
+    words = asked.parse_args()
+    files = [os.path.relpath(it) for it in words.files]
+    if not files:
+        if not os.path.isfile("README.md"):
+            asked.error("run it at the top of the repository")
+        files = [it for it in ("README.md", "CHANGES.md", *sorted(glob.glob("docs/*.md"))) if os.path.isfile(it)]
+    if words.comments and not words.files:
+        files += sorted(glob.glob("crates/*/src/**/*.rt", recursive=True))
+    pages, count = Pages(), 0
+    for path in files:
+        for line, what in sorted(findings_of_comments(path) if path.endswith(".rt") else pages.findings(path)):
+            print(f"{path}:{line}: {what}")
+            count += 1
+    return 1 if count else 0
+
+
+if __name__ == "__main__":
+    sys.exit(main())
