@@ -26,6 +26,10 @@ CHECK_TAKES = 3_000_000_000
 ONE_JOB = ("--jobs", "1")
 INTERRUPTS = (signal.SIGINT, signal.SIGTERM, signal.SIGHUP)
 LANES = "bench-lanes-"
+NOTHING_PROVED = (
+    "bench: nothing is proved yet; that takes 30 to 45 minutes on four processors, and 8.5 GB of disk. What is proved is kept\n"
+    "bench: ./bench --unproved WORDS.. runs the program without proofs, in one to three minutes"
+)
 
 
 class Failed(Exception):
@@ -252,6 +256,8 @@ class Build:
 
     def run(self):
         """Proves all crates and builds the program."""
+        if not self.proved:
+            print(NOTHING_PROVED, file=sys.stderr, flush=True)
         if len(self.proved) < len(self.names):
             self.prove_all()
         if len(self.proved) < len(self.names):
@@ -285,10 +291,20 @@ def make_room():
     return tempfile.mkdtemp(prefix=LANES, dir=None if is_near else out)
 
 
+def warn_of_the_kit():
+    """Says so where bench was not proved with a kit of this logic."""
+    with open(f"{TOP}/KIT", encoding="utf-8") as file:
+        kits = [it.strip() for it in file if not it.startswith("#")]
+    kit = subprocess.run(["rt", "version"], stdin=subprocess.DEVNULL, stdout=subprocess.PIPE, text=True).stdout.strip()
+    if not any(kit.endswith(it.partition(" ")[2]) for it in kits):
+        print(f"bench: the kit here is {kit}; bench was proved with {', '.join(kits)}", file=sys.stderr, flush=True)
+
+
 def build():
     """Builds the program, while no other run of this script works in the repository."""
     if not shutil.which("rt"):
         raise Failed("the toolchain's command rt is not on the path")
+    warn_of_the_kit()
     with open(f"{TOP}/crates.txt", encoding="utf-8") as lock:
         try:
             fcntl.flock(lock, fcntl.LOCK_EX | fcntl.LOCK_NB)
