@@ -63,6 +63,7 @@ means-instr_of w (instr.Divu rd rs1 rs2) (o, f, g, a, b, c) = rw (a, b, c) (at_r
 means-instr_of w (instr.Rem rd rs1 rs2) (o, f, g, a, b, c) = rw (a, b, c) (at_row w 0b0110011 0b110 0b0000001 o f g)
 means-instr_of w (instr.Remu rd rs1 rs2) (o, f, g, a, b, c) = rw (a, b, c) (at_row w 0b0110011 0b111 0b0000001 o f g)
 means-instr_of w instr.Fence (o, f) = at_row w 0b0001111 0b000 _ o f refl
+means-instr_of w instr.FenceI (o, f) = at_row w 0b0001111 0b001 _ o f refl
 means-instr_of w instr.Ecall e = let P : ℕ → Type 0 = λ w. instr_of w ≡ Some instr.Ecall in subst P (sym e) (at_row 0x00000073 _ _ _ refl refl refl)
 means-instr_of w instr.Ebreak e = let P : ℕ → Type 0 = λ w. instr_of w ≡ Some instr.Ebreak in subst P (sym e) (at_row 0x00100073 _ _ _ refl refl refl)
 
@@ -190,7 +191,7 @@ instr_of-means w i =
     by_test _ (opcode w) 0b0100011 _ _ i (store_of-means w i) (
     by_test _ (opcode w) 0b0010011 _ _ i (λ o. by_test _ (funct3 w) 0b001 _ _ i (shift_of_left-means w i o) (by_test _ (funct3 w) 0b101 _ _ i (shift_of_right-means w i o) (immediate_of-means w i o))) (
     by_test _ (opcode w) 0b0110011 _ _ i (register_of-means w i) (
-    by_test _ (opcode w) 0b0001111 _ _ i (λ o. by_test _ (funct3 w) 0b000 _ _ i (λ f. found w instr.Fence i (o, f)) (none _ i)) (
+    by_test _ (opcode w) 0b0001111 _ _ i (λ o. by_test _ (funct3 w) 0b000 _ _ i (λ f. found w instr.Fence i (o, f)) (by_test _ (funct3 w) 0b001 _ _ i (λ f. found w instr.FenceI i (o, f)) (none _ i))) (
     by_test _ w 0x00000073 _ _ i (λ e. found w instr.Ecall i e) (
     by_test _ w 0x00100073 _ _ i (λ e. found w instr.Ebreak i e) (
     none _ i))))))))))))

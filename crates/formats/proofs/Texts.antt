@@ -53,5 +53,6 @@ text_in_parts (instr.Divu rd rs1 rs2) = refl
 text_in_parts (instr.Rem rd rs1 rs2) = refl
 text_in_parts (instr.Remu rd rs1 rs2) = refl
 text_in_parts instr.Fence = refl
+text_in_parts instr.FenceI = refl
 text_in_parts instr.Ecall = refl
 text_in_parts instr.Ebreak = refl

@@ -76,5 +76,6 @@ Means w (instr.Divu rd rs1 rs2) = IsR w 0b101 0b0000001 rd rs1 rs2
 Means w (instr.Rem rd rs1 rs2) = IsR w 0b110 0b0000001 rd rs1 rs2
 Means w (instr.Remu rd rs1 rs2) = IsR w 0b111 0b0000001 rd rs1 rs2
 Means w instr.Fence = (opcode w ≡ 0b0001111) × (funct3 w ≡ 0b000)
+Means w instr.FenceI = (opcode w ≡ 0b0001111) × (funct3 w ≡ 0b001)
 Means w instr.Ecall = w ≡ 0x00000073
 Means w instr.Ebreak = w ≡ 0x00100073

@@ -66,6 +66,7 @@ mnemonic_of (instr.Divu rd rs1 rs2) = codes "divu"
 mnemonic_of (instr.Rem rd rs1 rs2) = codes "rem"
 mnemonic_of (instr.Remu rd rs1 rs2) = codes "remu"
 mnemonic_of instr.Fence = codes "fence"
+mnemonic_of instr.FenceI = codes "fence.i"
 mnemonic_of instr.Ecall = codes "ecall"
 mnemonic_of instr.Ebreak = codes "ebreak"
 
@@ -117,5 +118,6 @@ operands_of (instr.Divu rd rs1 rs2) = operands.Registers rd rs1 rs2
 operands_of (instr.Rem rd rs1 rs2) = operands.Registers rd rs1 rs2
 operands_of (instr.Remu rd rs1 rs2) = operands.Registers rd rs1 rs2
 operands_of instr.Fence = operands.None
+operands_of instr.FenceI = operands.None
 operands_of instr.Ecall = operands.None
 operands_of instr.Ebreak = operands.None

@@ -91,5 +91,6 @@ text_of (instr.Divu rd rs1 rs2) = with_registers (codes "divu") rd rs1 rs2
 text_of (instr.Rem rd rs1 rs2) = with_registers (codes "rem") rd rs1 rs2
 text_of (instr.Remu rd rs1 rs2) = with_registers (codes "remu") rd rs1 rs2
 text_of instr.Fence = codes "fence"
+text_of instr.FenceI = codes "fence.i"
 text_of instr.Ecall = codes "ecall"
 text_of instr.Ebreak = codes "ebreak"

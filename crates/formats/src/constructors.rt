@@ -10,7 +10,7 @@ use thiserror::Error;
 /// Why a number is no field of an instruction.
 #[derive(Clone, Copy, Debug, PartialEq, Eq, Error)]
 pub enum FieldFault {
-    /// The field cannot hold the number: it is too small or too large, or it is an offset and odd.
+    /// The field cannot hold the number: it is too small, too large, or an odd offset.
     #[error("the number does not fit its field")]
     Range = 1,
 }
@@ -24,8 +24,8 @@ impl FieldFault {
     }
 }
 
-/// The kinds with an immediate, from a number that may not fit: `FieldFault::Range` where it does not. An offset is in
-/// bytes from the instruction itself, and an upper immediate is the number in the field, below 2^20 and not yet shifted.
+/// Constructors from numbers that may not fit their fields: `FieldFault::Range` where one does not. Offsets are in bytes from the
+/// instruction itself. An upper immediate is the number in the field, below 2^20 and not yet shifted.
 impl Instr {
     /// `lui rd,imm`: rd becomes imm, shifted up by twelve bits.
     pub fn lui(rd: Reg, imm: i64) -> Result<Self, FieldFault>

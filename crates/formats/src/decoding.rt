@@ -7,10 +7,10 @@ ghost use Rattle.formats.specs.Table.{branch_of, load_of, store_of, shift_of, im
 use crate::fields::{BranchOffset, Immediate, JumpOffset, Reg, ShiftAmount, Upper};
 use crate::instr::Instr;
 
-/// The instruction that a word means, or `None` where the word is illegal.
+/// The instruction that a word means, or `None` where the word is illegal (RISC-V Unprivileged ISA 20191213, chapter 24).
 ///
-/// Every word with opcode 0001111 and funct3 000 is a FENCE, whatever its other fields; FENCE.I is illegal, and so is
-/// a shift by an immediate of 32 or more, whose bit 25 is set.
+/// Opcode 0001111 is FENCE with funct3 000 and FENCE.I with 001, whatever the other fields hold. A shift by an immediate of 32 or
+/// more, whose bit 25 is set, is illegal.
 #[tactic(auto, using(crate::proofs::Rows::meaning_from_table))]
 pub fn decode(word: u32) -> Option<Instr>
     ensures table { result ≡ instr_of word }
@@ -57,6 +57,7 @@ fn row(word: u32) -> Option<Instr>
         0b0010011 => immediate_operation(funct3, rd, rs1, immediate(word)),
         0b0110011 => register_operation(funct3, funct7, rd, rs1, rs2),
         0b0001111 if funct3 == 0b000 => Some(Instr::Fence),
+        0b0001111 if funct3 == 0b001 => Some(Instr::FenceI),
         _ if word == 0x0000_0073 => Some(Instr::Ecall),
         _ if word == 0x0010_0073 => Some(Instr::Ebreak),
         _ => None,
@@ -71,7 +72,6 @@ fn register(word: u32, low: u32) -> Reg
     Reg::new(((word >> low) % 32) as u8)
 }
 
-/// The amount of a shift by an immediate.
 fn shift_amount(word: u32) -> ShiftAmount
     ensures { result ≡ field word 24 20 }
 {
@@ -132,7 +132,6 @@ fn jump_offset(word: u32) -> JumpOffset
     JumpOffset::new(if raw < 1048576 { raw } else { raw - 2097152 })
 }
 
-/// The branch of a funct3.
 #[tactic(auto, unfolding(crate::specs::Table::branch_of))]
 fn branch(funct3: u32, rs1: Reg, rs2: Reg, offset: BranchOffset) -> Option<Instr>
     ensures { result ≡ branch_of funct3 rs1 rs2 offset }
@@ -148,7 +147,6 @@ fn branch(funct3: u32, rs1: Reg, rs2: Reg, offset: BranchOffset) -> Option<Instr
     }
 }
 
-/// The load of a funct3.
 #[tactic(auto, unfolding(crate::specs::Table::load_of))]
 fn load(funct3: u32, rd: Reg, rs1: Reg, imm: Immediate) -> Option<Instr>
     ensures { result ≡ load_of funct3 rd rs1 imm }
@@ -163,7 +161,6 @@ fn load(funct3: u32, rd: Reg, rs1: Reg, imm: Immediate) -> Option<Instr>
     }
 }
 
-/// The store of a funct3.
 #[tactic(auto, unfolding(crate::specs::Table::store_of))]
 fn store(funct3: u32, rs1: Reg, rs2: Reg, imm: Immediate) -> Option<Instr>
     ensures { result ≡ store_of funct3 rs1 rs2 imm }
@@ -205,7 +202,6 @@ fn immediate_operation(funct3: u32, rd: Reg, rs1: Reg, imm: Immediate) -> Option
     }
 }
 
-/// The operation on two registers of a funct3 and a funct7.
 #[tactic(auto, unfolding(crate::specs::Table::register_of))]
 fn register_operation(funct3: u32, funct7: u32, rd: Reg, rs1: Reg, rs2: Reg) -> Option<Instr>
     ensures { result ≡ register_of funct3 funct7 rd rs1 rs2 }

@@ -7,13 +7,15 @@ ghost use Rattle.formats.specs.Table.{instr_of};
 use crate::fields::{BranchOffset, Immediate, JumpOffset, Reg, ShiftAmount, Upper};
 use crate::instr::Instr;
 
-/// The word that means the instruction. Of all the words that mean FENCE it is 0x0FF0000F, the FENCE of all accesses.
+/// The word that means the instruction. FENCE is spelled 0x0FF0000F, the fence of all accesses, and FENCE.I 0x0000100F, whose
+/// unused fields are 0.
 #[tactic(auto, using(crate::proofs::Rows::means_in_table, crate::proofs::Spelling::means_once))]
 pub fn encode(i: &Instr) -> u32
     ensures means { Means result i.now }
     ensures table { instr_of result ≡ Some i.now }
     ensures fence { i.now ≡ Instr.Fence → result ≡ 0x0FF0000F }
-    ensures only { (w : ℕ) → w < 2 ^ 32 → Means w i.now → (i.now ≡ Instr.Fence → ⊥) → w ≡ result }
+    ensures fence_i { i.now ≡ Instr.FenceI → result ≡ 0x0000100F }
+    ensures only { (w : ℕ) → w < 2 ^ 32 → Means w i.now → (i.now ≡ Instr.Fence → ⊥) → (i.now ≡ Instr.FenceI → ⊥) → w ≡ result }
 {
     spelling(*i)
 }
@@ -22,6 +24,7 @@ pub fn encode(i: &Instr) -> u32
 fn spelling(i: Instr) -> u32
     ensures means { Means result i }
     ensures fence { i ≡ Instr.Fence → result ≡ 0x0FF0000F }
+    ensures fence_i { i ≡ Instr.FenceI → result ≡ 0x0000100F }
 {
     match i {
         Instr::Lui { rd, imm } => u_type(0b0110111, rd, imm),
@@ -70,6 +73,7 @@ fn spelling(i: Instr) -> u32
         Instr::Rem { rd, rs1, rs2 } => r_type(0b0000001, 0b110, rd, rs1, rs2),
         Instr::Remu { rd, rs1, rs2 } => r_type(0b0000001, 0b111, rd, rs1, rs2),
         Instr::Fence => 0x0FF0_000F,
+        Instr::FenceI => 0x0000_100F,
         Instr::Ecall => 0x0000_0073,
         Instr::Ebreak => 0x0010_0073,
     }
@@ -91,7 +95,6 @@ fn word(high: u32, rs1: u32, funct3: u32, low: u32, opcode: u32) -> u32
     (high << 20) + (rs1 << 15) + (funct3 << 12) + (low << 7) + opcode
 }
 
-/// A register's field.
 fn register(register: Reg) -> u32
     ensures value { result ≡ register }
     ensures range { result < 32 }

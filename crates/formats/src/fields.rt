@@ -1,4 +1,4 @@
-//! The fields of an instruction: a register's number, and the immediates, each within its field by its type.
+//! The fields of an instruction: a register's number, and the immediates. The type of each keeps it within its field.
 ghost use Rattle.std.specs.Prelude.{◌≡◌, ℕ, ℤ, ◌<◌, ◌^◌};
 ghost use Rattle.formats.specs.Fields.{IsImmediate, IsBranchOffset, IsJumpOffset};
 
@@ -21,7 +21,7 @@ impl Model for Reg {
 }
 
 impl Reg {
-    /// The register of a number.
+    /// The register of this number, x0 to x31.
     #[inline]
     pub fn new(number: u8) -> Reg
         requires { number < 32 }
@@ -30,7 +30,7 @@ impl Reg {
         Reg { number }
     }
 
-    /// The register's number.
+    /// The register's number, 0 to 31.
     #[inline]
     pub fn number(self) -> u8
         ensures value { result ≡ self }
@@ -57,7 +57,6 @@ impl Model for Immediate {
 }
 
 impl Immediate {
-    /// The immediate of a value.
     #[inline]
     pub fn new(value: i32) -> Immediate
         requires { IsImmediate value }
@@ -66,7 +65,6 @@ impl Immediate {
         Immediate { value }
     }
 
-    /// The value.
     #[inline]
     pub fn value(self) -> i32
         ensures value { result ≡ self }
@@ -93,7 +91,6 @@ impl Model for BranchOffset {
 }
 
 impl BranchOffset {
-    /// The offset of a value.
     #[inline]
     pub fn new(value: i32) -> BranchOffset
         requires { IsBranchOffset value }
@@ -102,7 +99,6 @@ impl BranchOffset {
         BranchOffset { value }
     }
 
-    /// The value.
     #[inline]
     pub fn value(self) -> i32
         ensures value { result ≡ self }
@@ -129,7 +125,6 @@ impl Model for JumpOffset {
 }
 
 impl JumpOffset {
-    /// The offset of a value.
     #[inline]
     pub fn new(value: i32) -> JumpOffset
         requires { IsJumpOffset value }
@@ -138,7 +133,6 @@ impl JumpOffset {
         JumpOffset { value }
     }
 
-    /// The value.
     #[inline]
     pub fn value(self) -> i32
         ensures value { result ≡ self }
@@ -165,7 +159,7 @@ impl Model for Upper {
 }
 
 impl Upper {
-    /// The upper bits of a value.
+    /// The upper bits as the number in the field, not yet shifted.
     #[inline]
     pub fn new(value: u32) -> Upper
         requires { value < 2 ^ 20 }
@@ -174,7 +168,7 @@ impl Upper {
         Upper { value }
     }
 
-    /// The value.
+    /// The number in the field, not yet shifted.
     #[inline]
     pub fn value(self) -> u32
         ensures value { result ≡ self }
@@ -201,7 +195,6 @@ impl Model for ShiftAmount {
 }
 
 impl ShiftAmount {
-    /// The amount of a value.
     #[inline]
     pub fn new(value: u8) -> ShiftAmount
         requires { value < 32 }
@@ -210,7 +203,6 @@ impl ShiftAmount {
         ShiftAmount { value }
     }
 
-    /// The value.
     #[inline]
     pub fn value(self) -> u8
         ensures value { result ≡ self }

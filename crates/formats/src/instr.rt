@@ -1,7 +1,7 @@
 //! The instructions.
 use crate::fields::{BranchOffset, Immediate, JumpOffset, Reg, ShiftAmount, Upper};
 
-/// An instruction of RV32I or of the M extension: one variant for each of the 48 rows of the instruction table
+/// An instruction of RV32I or of the M extension: one variant for each of the 49 rows of the instruction table
 /// (RISC-V Unprivileged ISA 20191213, chapter 24).
 #[derive(Clone, Copy)]
 pub enum Instr {
@@ -274,6 +274,8 @@ pub enum Instr {
     },
     /// Orders memory; here without effect.
     Fence,
+    /// Orders the stores of a program before its later fetches; here without effect, since each fetch sees the last store.
+    FenceI,
     /// Calls the kernel.
     Ecall,
     /// Traps, as a breakpoint.

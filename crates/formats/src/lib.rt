@@ -1,4 +1,5 @@
-//! Instruction words of RV32I with the M extension, both ways.
+//! Instruction words of RV32IM, both ways, and instructions as text. Read `Instr` first: it has a variant for each row of the ISA's
+//! table, and the types of its fields keep them in range. `decode` and `encode` keep to that table.
 #![tactic(auto)]
 
 mod constructors;

@@ -9,7 +9,7 @@ use crate::instr::Instr;
 use std::fmt;
 
 impl Reg {
-    /// The ABI name (RISC-V Unprivileged ISA 20191213, chapter 25).
+    /// The ABI name, as `a0` (RISC-V Unprivileged ISA 20191213, chapter 25).
     fn name(self) -> &'static str
         ensures { result.now ≡ register_name self }
     {
@@ -51,7 +51,7 @@ impl Reg {
     }
 }
 
-/// The register's ABI name, as `a0`.
+/// Writes the ABI name.
 impl fmt::Display for Reg {
     ghost output = { λ r. Some (register_name r) };
 
@@ -152,7 +152,6 @@ fn write_jump<W: fmt::Write>(f: &mut fmt::Formatter<W>, rd: Reg, offset: i32) ->
 }
 
 impl Instr {
-    /// The mnemonic.
     fn mnemonic(self) -> &'static str
         ensures { result.now ≡ mnemonic_of self }
     {
@@ -203,12 +202,12 @@ impl Instr {
             Instr::Rem { .. } => "rem",
             Instr::Remu { .. } => "remu",
             Instr::Fence => "fence",
+            Instr::FenceI => "fence.i",
             Instr::Ecall => "ecall",
             Instr::Ebreak => "ebreak",
         }
     }
 
-    /// The operands.
     fn operands(self) -> Operands
         ensures { result ≡ operands_of self }
     {
@@ -257,13 +256,13 @@ impl Instr {
             | Instr::Divu { rd, rs1, rs2 }
             | Instr::Rem { rd, rs1, rs2 }
             | Instr::Remu { rd, rs1, rs2 } => Operands::Registers(rd, rs1, rs2),
-            Instr::Fence | Instr::Ecall | Instr::Ebreak => Operands::None,
+            Instr::Fence | Instr::FenceI | Instr::Ecall | Instr::Ebreak => Operands::None,
         }
     }
 }
 
-/// The instruction as an assembler reads it, as `addi a0,zero,5`: mnemonic and names in lower case, immediates and
-/// offsets in decimal, the upper immediate of LUI and AUIPC in hexadecimal.
+/// The instruction as an assembler reads it, as `addi a0,zero,5`. Mnemonic and names are in lower case, immediates and offsets in
+/// decimal. The upper immediate of LUI and AUIPC is in hexadecimal.
 impl fmt::Display for Instr {
     ghost output = { λ i. Some (text_of i) };
 
@@ -275,7 +274,7 @@ impl fmt::Display for Instr {
     }
 }
 
-/// What `{}` writes.
+/// Writes the same as `Display`.
 impl fmt::Debug for Instr {
     ghost debug_output = { λ i. Some (text_of i) };
 

@@ -1,4 +1,4 @@
-//! The operations on words that are more than one of Rust's operators.
+//! The operations on words that take more than one of Rust's operators.
 ghost use Rattle.std.specs.Prelude.{◌≡◌, pos, ◌*ℤ◌, ◌*◌, ◌/◌, ◌^◌, ◌<◌};
 ghost use Rattle.std.specs.Int.{cast_unsigned, w64};
 ghost use Rattle.memory_model.specs.Access.{size};
@@ -7,7 +7,7 @@ ghost use Rattle.machine_model.specs.Effects as effects;
 
 use machine_model::Width;
 
-/// An address and an offset, which wraps round.
+/// Adds an offset to an address modulo 2^32.
 #[inline]
 pub fn moved(address: u32, offset: i32) -> u32
     ensures { result ≡ effects.moved address offset }
@@ -124,7 +124,7 @@ pub fn remainder(a: u32, b: u32) -> u32
     if b == 0 { a } else { a % b }
 }
 
-/// The word of a loaded value, whose highest bit is a sign.
+/// The word of a loaded value, whose highest bit at this width is its sign.
 #[inline]
 pub fn sign_extended(value: u32, width: Width) -> u32
     ensures { result ≡ model.sign_extended (8 * size width) value }

@@ -26,7 +26,6 @@ pub enum Outcome {
     Trap(Cause),
 }
 
-/// The next instruction follows.
 #[inline]
 fn advance(regs: &mut Regs) -> Outcome
     ensures answer { result ≡ Outcome.Next }
@@ -37,7 +36,6 @@ fn advance(regs: &mut Regs) -> Outcome
     Outcome::Next
 }
 
-/// A register gets a value, and the next instruction follows.
 #[inline]
 fn write(regs: &mut Regs, rd: Reg, value: u32) -> Outcome
     ensures answer { result ≡ Outcome.Next }
@@ -51,7 +49,6 @@ fn write(regs: &mut Regs, rd: Reg, value: u32) -> Outcome
     Outcome::Next
 }
 
-/// A register gets what an operation makes of two others, and the next instruction follows.
 #[inline(always)]
 fn by_registers(regs: &mut Regs, operation: Operation, rd: Reg, rs1: Reg, rs2: Reg) -> Outcome
     ensures answer { result ≡ Outcome.Next }
@@ -62,7 +59,6 @@ fn by_registers(regs: &mut Regs, operation: Operation, rd: Reg, rs1: Reg, rs2: R
     write(regs, rd, value)
 }
 
-/// A register gets what an operation makes of another and an immediate, and the next instruction follows.
 #[inline(always)]
 fn by_immediate(regs: &mut Regs, operation: Operation, rd: Reg, rs1: Reg, imm: Immediate) -> Outcome
     ensures answer { result ≡ Outcome.Next }
@@ -73,7 +69,6 @@ fn by_immediate(regs: &mut Regs, operation: Operation, rd: Reg, rs1: Reg, imm: I
     write(regs, rd, value)
 }
 
-/// A register's value and an offset.
 #[inline]
 fn address(regs: &Regs, base: Reg, offset: Immediate) -> u32
     ensures { result ≡ effects.moved (slice_index regs.now.x base) offset }
@@ -81,7 +76,7 @@ fn address(regs: &Regs, base: Reg, offset: Immediate) -> u32
     moved(regs.get(base), offset.value())
 }
 
-/// The address of the next instruction goes to a register, and the program counter to a target.
+/// Jumps to a target and puts the address of the next instruction into rd.
 #[inline]
 fn link(regs: &mut Regs, rd: Reg, target: u32) -> Outcome
     ensures { (m : Memory) → Executes
@@ -99,7 +94,7 @@ fn link(regs: &mut Regs, rd: Reg, target: u32) -> Outcome
     Outcome::Next
 }
 
-/// The same with the target that a register and an offset give, with bit 0 cleared.
+/// As `link`, to a register's value plus an offset, with bit 0 cleared.
 #[inline]
 fn link_to_register(regs: &mut Regs, rd: Reg, base: Reg, offset: Immediate) -> Outcome
     ensures { (m : Memory) → Executes
@@ -112,7 +107,6 @@ fn link_to_register(regs: &mut Regs, rd: Reg, base: Reg, offset: Immediate) -> O
     link(regs, rd, target - target % 2)
 }
 
-/// To the program counter plus an offset if a condition holds of two registers, else to the next instruction.
 #[inline(always)]
 fn branch(
     regs: &mut Regs,
@@ -139,7 +133,6 @@ fn branch(
     Outcome::Next
 }
 
-/// Why an instruction traps at a fault.
 #[inline]
 fn cause_of(fault: BusFault) -> Cause
     ensures { result ≡ fault_cause fault }
@@ -150,7 +143,6 @@ fn cause_of(fault: BusFault) -> Cause
     }
 }
 
-/// A register gets what stands at a register's value and an offset.
 #[inline]
 fn load<B: Bus>(
     regs: &mut Regs,
@@ -172,7 +164,7 @@ fn load<B: Bus>(
     }
 }
 
-/// The same of what has its sign in the highest bit.
+/// As `load`, sign-extended.
 #[inline]
 fn load_signed<B: Bus>(
     regs: &mut Regs,
@@ -194,7 +186,6 @@ fn load_signed<B: Bus>(
     }
 }
 
-/// The low bytes of a register go to another's value and an offset.
 #[inline]
 fn store<B: Bus>(
     regs: &mut Regs,
@@ -216,8 +207,8 @@ fn store<B: Bus>(
     }
 }
 
-/// Does one instruction (RISC-V Unprivileged ISA 20191213, chapters 2 and 7). At a call or a trap neither the registers
-/// nor the memory changed.
+/// Does one instruction (RISC-V Unprivileged ISA 20191213, chapters 2 and 7). At a call or a trap neither the registers nor the
+/// memory change.
 #[inline]
 pub fn exec<B: Bus>(regs: &mut Regs, bus: &mut B, i: Instr) -> Outcome
     ensures { Executes
@@ -229,7 +220,7 @@ pub fn exec<B: Bus>(regs: &mut Regs, bus: &mut B, i: Instr) -> Outcome
     exec_ref(regs, bus, &i)
 }
 
-/// The same of an instruction that stands in a table: faster, since an arm then reads only the fields that it uses.
+/// As `exec`. It is faster by reference, since each arm then reads only the fields that it uses.
 #[inline]
 #[tactic(auto, unfolding(machine_model::specs::Effects::effect))]
 pub fn exec_ref<B: Bus>(regs: &mut Regs, bus: &mut B, i: &Instr) -> Outcome
@@ -289,7 +280,7 @@ pub fn exec_ref<B: Bus>(regs: &mut Regs, bus: &mut B, i: &Instr) -> Outcome
         Instr::Divu { rd, rs1, rs2 } => by_registers(regs, Operation::Divu, rd, rs1, rs2),
         Instr::Rem { rd, rs1, rs2 } => by_registers(regs, Operation::Rem, rd, rs1, rs2),
         Instr::Remu { rd, rs1, rs2 } => by_registers(regs, Operation::Remu, rd, rs1, rs2),
-        Instr::Fence => advance(regs),
+        Instr::Fence | Instr::FenceI => advance(regs),
         Instr::Ecall => Outcome::Call,
         Instr::Ebreak => Outcome::Trap(Cause::Breakpoint),
     }

@@ -1,4 +1,5 @@
-//! What each instruction does, over any memory.
+//! Executes single instructions of RV32IM over any memory that is a `Bus`. Read `exec` first, then `Outcome`. Each step is
+//! exactly the effect that `machine_model` defines for the instruction.
 #![tactic(auto)]
 
 mod arithmetic;

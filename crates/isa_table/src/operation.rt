@@ -1,5 +1,5 @@
-//! What instructions make of two words, and what branches test of them. (The operations of the crate `operations` are decoded
-//! words.)
+//! The operations of instructions on two words, and the conditions of branches. The operations of the crate `operations` are
+//! another thing: decoded words.
 ghost use Rattle.std.specs.Prelude.{◌≡◌};
 ghost use Rattle.isa_table.specs.Operations.{holds_of, value_of};
 
@@ -8,8 +8,7 @@ use crate::arithmetic::{
     quotient_signed, remainder, remainder_signed, shifted_right_signed,
 };
 
-/// An operation on two words. An instruction on a register and an immediate has that of the same instruction on two
-/// registers.
+/// An operation on two words. An instruction with an immediate shares it with the one of two registers.
 #[derive(Clone, Copy)]
 pub enum Operation {
     Add,
@@ -32,7 +31,7 @@ pub enum Operation {
     Remu,
 }
 
-/// The word that an operation makes of two. Where it is called the operation is known, so that one arm is left of it.
+/// The result of an operation on two words. Callers know the operation, so that the compiler leaves one arm of it.
 #[inline(always)]
 pub fn computed(operation: Operation, a: u32, b: u32) -> u32
     ensures { result ≡ value_of operation a b }
@@ -70,7 +69,7 @@ pub enum Condition {
     NotBelow,
 }
 
-/// Whether a condition holds of two words. It too is known where this is called.
+/// Whether a condition holds of two words. Callers know the condition, as they do in `computed`.
 #[inline(always)]
 pub fn holds(condition: Condition, a: u32, b: u32) -> bool
     ensures { result ≡ holds_of condition a b }

@@ -14,7 +14,6 @@ pub struct Regs {
 }
 
 impl Regs {
-    /// A register's value.
     #[inline]
     pub(crate) fn get(&self, register: Reg) -> u32
         ensures { result ≡ slice_index self.now.x register }
@@ -22,7 +21,7 @@ impl Regs {
         self.x[register.number() as usize]
     }
 
-    /// A register gets a value; a write to x0 is lost.
+    /// Writes a register. A write to x0 is lost.
     #[inline]
     pub(crate) fn set(&mut self, rd: Reg, value: u32)
         ensures x { self.new.x ≡ put self.old.x rd value }

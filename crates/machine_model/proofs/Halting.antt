@@ -99,6 +99,7 @@ effect_not (instr.Divu rd rs1 rs2) h e = becomes_not _ e
 effect_not (instr.Rem rd rs1 rs2) h e = becomes_not _ e
 effect_not (instr.Remu rd rs1 rs2) h e = becomes_not _ e
 effect_not instr.Fence h e = becomes_not _ e
+effect_not instr.FenceI h e = becomes_not _ e
 effect_not instr.Ecall h e = call_not e
 effect_not instr.Ebreak h e = trap_not _ e
 

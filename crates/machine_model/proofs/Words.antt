@@ -47,7 +47,7 @@ IsProfile-words : (words : List ℕ) → 0 < length words → length words ≤ 6
 IsProfile-words words some few = record {
   some = omega arith;
   few = omega arith;
-  loadable = All-one IsLoadable _ (record { present = omega (arith, some); within = omega (arith, length-bytes_of_words words); some_right = refl; not_both = refl; above = omega arith; below = omega (arith, few) });
+  loadable = All-one IsLoadable _ (record { present = omega (arith, some); within = omega (arith, length-bytes_of_words words); some_right = refl; above = omega arith; below = omega (arith, few) });
   ascending = (omega arith, tt);
   small = omega (arith, few);
   aligned = refl;

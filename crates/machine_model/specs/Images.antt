@@ -30,13 +30,12 @@ last_page s = (s.vaddr + s.memsz - 1) / 4096
 abbrev pub page_count : Segment → ℕ
 page_count s = last_page s + 1 - first_page s
 
--- A segment that may be loaded: it is not empty, the file has no more bytes of it than it takes, it has some right and
--- never those to write and to execute together, and it lies within the addresses from 0x00010000 up to 0x7FFF0000.
+-- A segment that may be loaded. It is not empty, has no more bytes in the file than in memory, and has some right. It lies within
+-- the addresses from 0x00010000 up to 0x7FFF0000.
 pub record IsLoadable (s : Segment) : Type 0 where
   pub present : 0 < s.memsz
   pub within : length s.bytes ≤ s.memsz
   pub some_right : (s.rights.read || s.rights.write || s.rights.execute) ≡ true
-  pub not_both : (s.rights.write && s.rights.execute) ≡ false
   pub above : 0x00010000 ≤ s.vaddr
   pub below : s.vaddr + s.memsz ≤ 0x7FFF0000
 
@@ -49,8 +48,8 @@ AreAscending page (s ∷ ss) = (page ≤ first_page s) × AreAscending (last_pag
 abbrev pub IsCode : ℕ → Segment → Type 0
 IsCode at s = (s.rights.execute ≡ true) × (s.vaddr ≤ at) × (at < s.vaddr + s.memsz)
 
--- The profile of what may be loaded: 1 to 4 segments, which ascend with no page in common and have at most 60 pages in
--- all; the entry is a multiple of 4 in a segment that may be executed.
+-- The profile of what may be loaded. The segments are 1 to 4 and ascend with no page in common, with at most 60 pages in all. The
+-- entry is a multiple of 4 in a segment that may be executed.
 pub record IsProfile (p : Program) : Type 0 where
   pub some : 0 < length p.segments
   pub few : length p.segments ≤ 4

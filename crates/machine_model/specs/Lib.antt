@@ -3,5 +3,6 @@ pub mod Effects
 pub mod States
 pub mod Images
 pub mod First
+pub mod Replies
 pub mod Steps
 pub mod Numbers

@@ -31,7 +31,31 @@ impl Drop for Segment {
     }
 }
 
-/// A program that may be loaded: its type keeps the profile, `IsProfile`.
+impl Segment {
+    fn try_clone(&self, alloc: Global) -> Result<Segment, AllocError>
+        ensures { IfOk result (λ copy. copy ≡ self.now) }
+    {
+        Ok(Segment {
+            vaddr: self.vaddr,
+            memsz: self.memsz,
+            rights: self.rights,
+            bytes: self.bytes.try_clone(alloc)?,
+        })
+    }
+}
+
+fn copies_of(alloc: Global, segments: &[Segment]) -> Result<Vec<Segment>, AllocError>
+    ensures { IfOk result (λ copies. copies.items ≡ segments.now) }
+{
+    let mut copies = Vec::new(alloc);
+    for segment in segments {
+        copies.push(segment.try_clone(alloc)?)?;
+    }
+    Ok(copies)
+}
+
+/// A program that may be loaded. Its type keeps the profile, `IsProfile`: 1 to 4 segments of at most 60 pages in all, which ascend
+/// with no page in common.
 pub struct Image {
     entry: u32,
     segments: Vec<Segment>,
@@ -69,8 +93,7 @@ impl Image {
         Image { entry, segments }
     }
 
-    /// The program of words at 0x00010000, each little-endian, which may be read and executed and begins with its
-    /// first word.
+    /// The program of these words at 0x00010000, each little-endian. They may be read and executed, and the first is its entry.
     pub fn from_text(alloc: Global, words: &[u32]) -> Result<Image, AllocError>
         requires some { 0 < length words.now }
         requires fits { length words.now ≤ 61440 }
@@ -92,7 +115,15 @@ impl Image {
         Ok(Image::new(0x0001_0000, segments))
     }
 
-    /// The address of the first instruction.
+    /// The same program in memory of its own.
+    pub fn try_clone(&self, alloc: Global) -> Result<Image, AllocError>
+        ensures { IfOk result (λ copy. copy ≡ self.now) }
+    {
+        let segments = copies_of(alloc, self.segments())?;
+        Ok(Image::new(self.entry, segments))
+    }
+
+    /// The address of the first instruction, a multiple of 4.
     pub fn entry(&self) -> u32
         ensures { result ≡ self.now.entry }
     {

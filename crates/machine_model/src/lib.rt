@@ -1,5 +1,5 @@
-//! What a program's machine is: what each instruction does to its registers and its memory, its states and its runs, and the
-//! images that it is loaded from.
+//! The definition of a program's machine: effects of instructions, states, runs, replies, and the images that it is loaded from.
+//! Read `specs/States` and `specs/Steps` first. `steps` and `runs` join the functions that compute to the relations.
 #![tactic(auto)]
 
 mod image;

@@ -4,7 +4,7 @@ ghost use Rattle.machine_model.specs.Images.{bytes_of_words};
 
 use std::alloc::AllocError;
 
-/// Writes words at the end, each little-endian. Where memory runs out some of them may stand there.
+/// Appends words, each little-endian. An error leaves some of them appended.
 pub fn put_words(bytes: &mut Vec<u8>, words: &[u32]) -> Result<(), AllocError>
     ensures { OnOk result (bytes.new.items ≡ bytes.old.items ++ bytes_of_words words.now) }
 {

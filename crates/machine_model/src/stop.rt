@@ -2,7 +2,7 @@
 ghost use Rattle.std.specs.Prelude.{◌≡◌};
 ghost use Rattle.machine_model.specs.Numbers.{cause_number};
 
-/// Why an instruction traps. The numbers are those that an ended process tells.
+/// Why an instruction traps. The end of a process reports the number.
 #[derive(Clone, Copy, Debug, PartialEq, Eq)]
 pub enum Cause {
     /// The word means no instruction.
@@ -31,7 +31,7 @@ impl Cause {
 /// Where a run stops.
 #[derive(Clone, Copy, Debug, PartialEq, Eq)]
 pub enum Stop {
-    /// All instructions that it might do were done.
+    /// The run did as many instructions as it might.
     Limit,
     /// The machine stands at a call, ECALL.
     Call,

@@ -8,4 +8,4 @@ pub returns-clause-table : goal.returns-clause-table
 returns-clause-table c = means-instr_of _ _ c.spelling.ensures.means
 
 pub returns-clause-only : goal.returns-clause-only
-returns-clause-only c = λ w p m not_fence. means_once _ _ _ p (omega arith) not_fence m c.spelling.ensures.means
+returns-clause-only c = λ w p m not_fence not_fence_i. means_once _ _ _ p (omega arith) not_fence not_fence_i m c.spelling.ensures.means

@@ -1,0 +1,6 @@
+-- The copies so far.
+use Rattle.std.proofs.Common.{◌≡◌, take}
+use Rattle.machine_model.proofs.image.copies_of.Given as goal
+
+abbrev pub invariant-loop-segment : goal.invariant-loop-segment
+invariant-loop-segment l = l.copies.items ≡ take l.segment-index l.segments
