@@ -8,7 +8,7 @@ use Rattle.std.proofs.lemmas.List.Sums.{sum_by-cons}
 use Rattle.memory_model.specs.declared.access.Rights.{Rights}
 use Rattle.machine_model.specs.declared.image.Segment.{Segment}
 use Rattle.machine_model.specs.Images.{IsLoadable, AreAscending, IsCode, first_page, last_page, page_count}
-use Rattle.elf32.specs.Checks.{may_write, may_execute, is_not_loaded, has_bad_flags, is_misplaced, is_bad_segment, has_bad_size, is_past_end, page_count_of, is_out_of_range, has_bad_range, meets_next, has_overlap, is_code_at, is_bad_entry}
+use Rattle.image_model.specs.Checks.{may_execute, is_not_loaded, has_bad_flags, is_misplaced, is_bad_segment, has_bad_size, is_past_end, page_count_of, is_out_of_range, has_bad_range, meets_next, has_overlap, is_code_at, is_bad_entry}
 use Rattle.elf32.specs.Files.{flags_of, offset_after, end_after, contents_after}
 use Rattle.elf32.proofs.Passing.{list_any-none}
 use Rattle.elf32.proofs.Written.{offset_above}
@@ -16,27 +16,27 @@ use Rattle.elf32.proofs.SegmentsBack.{rights_of, flags_back}
 use Rattle.elf32.proofs.FieldsBack.{program_header_for, headers_for}
 
 abbrev bad_flags : Rights → Bool
-bad_flags r = flags_of r == 0 || nat_lt 7 (flags_of r) || (not (bit_and (flags_of r) 2 == 0) && not (bit_and (flags_of r) 1 == 0))
+bad_flags r = flags_of r == 0 || nat_lt 7 (flags_of r)
 
-flags_pass : (r w x : Bool) → (r || w || x) ≡ true → (w && x) ≡ false → bad_flags (rights_of r w x) ≡ false
-flags_pass true true true some not_both = absurd cc
-flags_pass true true false some not_both = refl
-flags_pass true false true some not_both = refl
-flags_pass true false false some not_both = refl
-flags_pass false true true some not_both = absurd cc
-flags_pass false true false some not_both = refl
-flags_pass false false true some not_both = refl
-flags_pass false false false some not_both = absurd cc
+flags_pass : (r w x : Bool) → (r || w || x) ≡ true → bad_flags (rights_of r w x) ≡ false
+flags_pass true true true some = refl
+flags_pass true true false some = refl
+flags_pass true false true some = refl
+flags_pass true false false some = refl
+flags_pass false true true some = refl
+flags_pass false true false some = refl
+flags_pass false false true some = refl
+flags_pass false false false some = absurd cc
 
 aligned : (end : ℕ) (s : Segment) → offset_after end s % 4096 ≡ s.vaddr % 4096
 unfolding offset_after
 aligned end s = omega arith
 
 segment_passes : (end : ℕ) (s : Segment) → IsLoadable s → is_bad_segment (program_header_for (offset_after end s) s) ≡ false
-unfolding is_not_loaded has_bad_flags is_misplaced may_write may_execute
+unfolding is_not_loaded has_bad_flags is_misplaced
 segment_passes end s load =
     or_from (bad_flags s.rights) (s.memsz == 0 || not (offset_after end s % 4096 == s.vaddr % 4096))
-    (flags_pass s.rights.read s.rights.write s.rights.execute load.some_right load.not_both)
+    (flags_pass s.rights.read s.rights.write s.rights.execute load.some_right)
     (or_from (s.memsz == 0) (not (offset_after end s % 4096 == s.vaddr % 4096)) (ne_eqb s.memsz 0 (λ e. omega (arith, load.present, e)))
     (not_from_true (offset_after end s % 4096 == s.vaddr % 4096) (eq-eqb (offset_after end s % 4096) (s.vaddr % 4096) (aligned end s))))
 

@@ -3,11 +3,11 @@ use Rattle.std.proofs.Common.{◌≡◌, ℕ, ◌^◌, ◌<◌, ◌≤◌, Bool,
 use Rattle.std.specs.List.{AllByRecursion}
 use Rattle.memory_model.specs.Access.{low_bytes}
 use Rattle.memory_model.specs.declared.access.Rights.{Rights}
-use Rattle.elf32.specs.declared.header.FileHeader.{FileHeader}
-use Rattle.elf32.specs.declared.header.ProgramHeader.{ProgramHeader}
+use Rattle.image_model.specs.declared.header.FileHeader.{FileHeader}
+use Rattle.image_model.specs.declared.header.ProgramHeader.{ProgramHeader}
 use Rattle.machine_model.specs.declared.image.Segment.{Segment}
 use Rattle.machine_model.specs.Images.{IsLoadable}
-use Rattle.elf32.specs.Fields.{half_at, word_at, file_header, program_header, headers_in}
+use Rattle.image_model.specs.Fields.{half_at, word_at, file_header, program_header, headers_in}
 use Rattle.memory_model.specs.Bytes.{value_in}
 use Rattle.elf32.specs.Files.{AreNear, file_header_of, flags_of, program_header_of, offset_after, end_after, table_after}
 

@@ -4,15 +4,15 @@ use Rattle.std.specs.Prelude.{◌==◌, ◌&&◌, nat_le}
 use Rattle.std.specs.List.{list_any}
 use Rattle.std.proofs.lemmas.Bool.{or_parts, and_parts, ltb-false, leb-true, not-false}
 use Rattle.std.proofs.lemmas.List.{take_rest}
-use Rattle.elf32.specs.declared.header.FileHeader.{FileHeader}
-use Rattle.elf32.specs.declared.header.ProgramHeader.{ProgramHeader}
-use Rattle.elf32.specs.declared.fault.ElfFault.{ElfFault}
-use Rattle.elf32.specs.declared.fault.ElfFault.TheVariants.{OutOfMemory}
-use Rattle.elf32.specs.Fields.{file_header, headers_in, program_headers}
-use Rattle.elf32.specs.Checks.{has_bad_table, has_sections, has_bad_layout, is_past_end, first_of, header_checks, segment_checks, first_fault}
+use Rattle.image_model.specs.declared.header.FileHeader.{FileHeader}
+use Rattle.image_model.specs.declared.header.ProgramHeader.{ProgramHeader}
+use Rattle.image_model.specs.declared.fault.ElfFault.{ElfFault}
+use Rattle.image_model.specs.declared.fault.ElfFault.TheVariants.{OutOfMemory}
+use Rattle.image_model.specs.Fields.{file_header, headers_in, program_headers}
+use Rattle.image_model.specs.Checks.{has_bad_table, has_sections, has_bad_layout, is_past_end, first_of, header_checks, segment_checks, first_fault}
 use Rattle.machine_model.specs.declared.image.Segment.{Segment}
 use Rattle.machine_model.specs.Images.{Program, IsProfile}
-use Rattle.elf32.specs.Names.{segment_in, program_in, Names, IsRefused}
+use Rattle.image_model.specs.Names.{segment_in, program_in, Names, IsRefused}
 use Rattle.elf32.proofs.Profile.{profile}
 use Rattle.elf32.proofs.Passing.{none_at, first_of-some, first_of-none}
 

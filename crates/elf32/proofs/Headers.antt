@@ -1,8 +1,8 @@
 -- Program headers, one after the other.
 use Rattle.std.proofs.Common.{◌≡◌, ℕ, zero, suc, ◌+◌, ◌*◌, ◌<◌, List, [], ◌∷◌, ◌++◌, length, take, drop, set, refl, ap, sym, ◌∙◌, arith}
 use Rattle.std.proofs.lemmas.List.{drop-drop, take_more_set}
-use Rattle.elf32.specs.declared.header.ProgramHeader.{ProgramHeader}
-use Rattle.elf32.specs.Fields.{program_header, headers_in}
+use Rattle.image_model.specs.declared.header.ProgramHeader.{ProgramHeader}
+use Rattle.image_model.specs.Fields.{program_header, headers_in}
 
 headers_in-suc : (k : ℕ) (bytes : List ℕ) → headers_in k bytes ++ program_header (drop (32 * k) bytes) ∷ [] ≡ headers_in (suc k) bytes
 headers_in-suc zero bytes = refl

@@ -6,12 +6,12 @@ use Rattle.std.proofs.lemmas.Bool.{or_parts, and_parts, ltb-false, ltb-true, leb
 use Rattle.std.proofs.lemmas.List.{length-map, length-take}
 use Rattle.std.proofs.lemmas.List.Sums.{sum_by-cons}
 use Rattle.std.proofs.lemmas.List.Elements.{All-from_recursion}
-use Rattle.elf32.specs.declared.header.ProgramHeader.{ProgramHeader}
+use Rattle.image_model.specs.declared.header.ProgramHeader.{ProgramHeader}
 use Rattle.machine_model.specs.declared.image.Segment.{Segment}
-use Rattle.elf32.specs.declared.fault.ElfFault.TheVariants.{BadSegment, BadSize, PastEnd, BadRange, Overlap, BadEntry}
+use Rattle.image_model.specs.declared.fault.ElfFault.TheVariants.{BadSegment, BadSize, PastEnd, BadRange, Overlap, BadEntry}
 use Rattle.machine_model.specs.Images.{IsLoadable, IsProfile, AreAscending, IsCode, page_count}
-use Rattle.elf32.specs.Checks.{may_read, may_write, may_execute, is_not_loaded, has_bad_flags, is_misplaced, is_bad_segment, has_bad_size, is_past_end, first_page_of, last_page_of, page_count_of, is_out_of_range, has_bad_range, meets_next, has_overlap, is_code_at, is_bad_entry, first_of, segment_checks}
-use Rattle.elf32.specs.Names.{segment_in}
+use Rattle.image_model.specs.Checks.{may_read, may_write, may_execute, is_not_loaded, has_bad_flags, is_misplaced, is_bad_segment, has_bad_size, is_past_end, first_page_of, last_page_of, page_count_of, is_out_of_range, has_bad_range, meets_next, has_overlap, is_code_at, is_bad_entry, first_of, segment_checks}
+use Rattle.image_model.specs.Names.{segment_in}
 use Rattle.elf32.proofs.Passing.{none_passes, six_pass}
 
 -- flags from 1 to 7 give some right
@@ -30,9 +30,7 @@ loadable : (file : List ℕ) (h : ProgramHeader) → is_bad_segment h ≡ false 
 unfolding may_read may_write may_execute has_bad_flags is_misplaced has_bad_size is_out_of_range segment_in
 loadable file h good sized ranged =
     let parts = or_parts (is_not_loaded h || has_bad_flags h) (is_misplaced h) good in
-    let flags = (or_parts (is_not_loaded h) (has_bad_flags h) parts.0).1 in
-    let known = or_parts (h.p_flags == 0 || nat_lt 7 h.p_flags) (may_write h && may_execute h) flags in
-    let few = or_parts (h.p_flags == 0) (nat_lt 7 h.p_flags) known.0 in
+    let few = or_parts (h.p_flags == 0) (nat_lt 7 h.p_flags) (or_parts (is_not_loaded h) (has_bad_flags h) parts.0).1 in
     let placed = or_parts (h.p_memsz == 0) (not (h.p_offset % 4096 == h.p_vaddr % 4096)) parts.1 in
     let range = or_parts (nat_lt h.p_vaddr 0x00010000) (nat_lt 0x7FFF0000 (h.p_vaddr + h.p_memsz)) ranged in
     let some : h.p_memsz ≡ 0 → ⊥ = eqb-false h.p_memsz 0 placed.0 in
@@ -40,7 +38,6 @@ loadable file h good sized ranged =
       present = omega (arith, some);
       within = omega (arith, ltb-false h.p_memsz h.p_filesz sized, length-take h.p_filesz (drop h.p_offset file));
       some_right = some_right h.p_flags few.0 few.1;
-      not_both = known.1;
       above = ltb-false h.p_vaddr 0x00010000 range.0;
       below = ltb-false 0x7FFF0000 (h.p_vaddr + h.p_memsz) range.1;
     }

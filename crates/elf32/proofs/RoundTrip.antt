@@ -4,14 +4,14 @@ use Rattle.std.specs.List.{list_any, AllByRecursion}
 use Rattle.std.proofs.lemmas.Bool.{le-ltb, le-leb}
 use Rattle.std.proofs.lemmas.List.{append_assoc, length-append, length-replicate}
 use Rattle.std.proofs.lemmas.List.Elements.{recursion_from_All}
-use Rattle.elf32.specs.declared.header.FileHeader.{FileHeader}
-use Rattle.elf32.specs.declared.header.ProgramHeader.{ProgramHeader}
+use Rattle.image_model.specs.declared.header.FileHeader.{FileHeader}
+use Rattle.image_model.specs.declared.header.ProgramHeader.{ProgramHeader}
 use Rattle.machine_model.specs.declared.image.Segment.{Segment}
-use Rattle.elf32.specs.declared.fault.ElfFault.TheVariants.{Short, BadMagic, BadIdent, BadKind, BadHeader, ShortTable, BadSegment, BadSize, PastEnd, BadRange, Overlap, BadEntry}
+use Rattle.image_model.specs.declared.fault.ElfFault.TheVariants.{Short, BadMagic, BadIdent, BadKind, BadHeader, ShortTable, BadSegment, BadSize, PastEnd, BadRange, Overlap, BadEntry}
 use Rattle.machine_model.specs.Images.{Program, IsLoadable, IsProfile, IsCode}
-use Rattle.elf32.specs.Fields.{file_header, headers_in, program_headers}
-use Rattle.elf32.specs.Checks.{is_short, lacks_magic, lacks_ident, has_bad_kind, has_bad_table, has_sections, has_bad_layout, has_short_table, is_bad_segment, has_bad_size, is_past_end, has_bad_range, has_overlap, is_bad_entry, first_of, header_checks, segment_checks, first_fault}
-use Rattle.elf32.specs.Names.{segment_in, program_in}
+use Rattle.image_model.specs.Fields.{file_header, headers_in, program_headers}
+use Rattle.image_model.specs.Checks.{is_short, lacks_magic, lacks_ident, has_bad_kind, has_bad_table, has_sections, has_bad_layout, has_short_table, is_bad_segment, has_bad_size, is_past_end, has_bad_range, has_overlap, is_bad_entry, first_of, header_checks, segment_checks, first_fault}
+use Rattle.image_model.specs.Names.{segment_in, program_in}
 use Rattle.elf32.specs.Files.{file_header_of, table_after, contents_after, headers_of, file_of, RoundTrips}
 use Rattle.elf32.proofs.Passing.{first_of-none, none_of_six, list_any-none}
 use Rattle.elf32.proofs.Written.{near, length-headers}

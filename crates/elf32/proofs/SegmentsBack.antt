@@ -4,8 +4,8 @@ use Rattle.std.specs.Prelude.{◌==◌, not, bit_and}
 use Rattle.std.proofs.lemmas.List.{append_assoc, length-append, length-replicate, take_at, drop_at}
 use Rattle.memory_model.specs.declared.access.Rights.{Rights}
 use Rattle.machine_model.specs.declared.image.Segment.{Segment}
-use Rattle.elf32.specs.Checks.{may_read, may_write, may_execute}
-use Rattle.elf32.specs.Names.{segment_in}
+use Rattle.image_model.specs.Checks.{may_read, may_write, may_execute}
+use Rattle.image_model.specs.Names.{segment_in}
 use Rattle.elf32.specs.Files.{flags_of, offset_after, end_after, contents_after}
 use Rattle.elf32.proofs.Written.{offset_above}
 use Rattle.elf32.proofs.FieldsBack.{program_header_for, headers_for}

@@ -9,12 +9,12 @@ use Rattle.std.proofs.lemmas.Slice.Eq.{starts_is}
 use Rattle.std.proofs.lemmas.List.Folds.{Any-from_list_any, list_any-from_Any, list_any_none}
 use Rattle.std.proofs.lemmas.List.Elements.{All-from_recursion, recursion_from_All}
 use Rattle.std.proofs.lemmas.List.Kept.{AllPairs-cons}
-use Rattle.elf32.specs.declared.fault.ElfFault.TheVariants.{Short, BadMagic, BadIdent, BadKind, BadHeader, ShortTable, BadSegment, BadSize, PastEnd, BadRange, Overlap, BadEntry}
-use Rattle.elf32.specs.declared.header.FileHeader.{FileHeader}
-use Rattle.elf32.specs.declared.header.ProgramHeader.{ProgramHeader}
-use Rattle.elf32.specs.Fields.{file_header, program_headers}
+use Rattle.image_model.specs.declared.fault.ElfFault.TheVariants.{Short, BadMagic, BadIdent, BadKind, BadHeader, ShortTable, BadSegment, BadSize, PastEnd, BadRange, Overlap, BadEntry}
+use Rattle.image_model.specs.declared.header.FileHeader.{FileHeader}
+use Rattle.image_model.specs.declared.header.ProgramHeader.{ProgramHeader}
+use Rattle.image_model.specs.Fields.{file_header, program_headers}
 use Rattle.elf32.specs.Files.{identification}
-use Rattle.elf32.specs.Checks.{is_short, lacks_magic, lacks_ident, has_bad_kind, has_bad_table, has_sections, has_bad_layout, has_short_table, may_write, may_execute, is_not_loaded, has_bad_flags, is_misplaced, is_bad_segment, has_bad_size, is_past_end, first_page_of, last_page_of, page_count_of, is_out_of_range, has_bad_range, meets_next, has_overlap, is_code_at, is_bad_entry, Check, first_of, header_checks, segment_checks, first_fault}
+use Rattle.image_model.specs.Checks.{is_short, lacks_magic, lacks_ident, has_bad_kind, has_bad_table, has_sections, has_bad_layout, has_short_table, may_execute, is_not_loaded, has_bad_flags, is_misplaced, is_bad_segment, has_bad_size, is_past_end, first_page_of, last_page_of, page_count_of, is_out_of_range, has_bad_range, meets_next, has_overlap, is_code_at, is_bad_entry, Check, first_of, header_checks, segment_checks, first_fault}
 use Rattle.elf32.specs.Sound.{IsExecutable, IsLoadableFrom, HasCodeAt, IsSound, SoundFiles}
 use Rattle.elf32.proofs.Passing.{none_at, none_step, first_of-none, six_pass, none_of_six}
 use Rattle.elf32.proofs.Profile.{BeginsAbove, begins_above}
@@ -107,20 +107,13 @@ good_layout h x = grind (arith, nat_tests)
 
 -- ---- program headers
 
-not_both : (x y : ℕ) → (not (x == 0) && not (y == 0)) ≡ false → x ≢ 0 → y ≢ 0 → ⊥
-not_both x y e p q = grind (arith, nat_tests)
-
-one_at_most : (x y : ℕ) → (x ≢ 0 → y ≢ 0 → ⊥) → (not (x == 0) && not (y == 0)) ≡ false
-one_at_most x y f = grind (arith, nat_tests)
-
 loadable : (end : ℕ) (h : ProgramHeader) → is_bad_segment h ≡ false → has_bad_size h ≡ false → is_past_end end h ≡ false → is_out_of_range h ≡ false → IsLoadableFrom end h
-unfolding is_not_loaded has_bad_flags is_misplaced may_write may_execute has_bad_size is_past_end is_out_of_range
+unfolding is_not_loaded has_bad_flags is_misplaced has_bad_size is_past_end is_out_of_range
 loadable end h good sized ended ranged =
     let parts = or_parts (is_not_loaded h || has_bad_flags h) (is_misplaced h) good in
     let kinds = or_parts (is_not_loaded h) (has_bad_flags h) parts.0 in
     let typed = and_parts (h.p_type == 1) (h.p_align == 4096) (not-false (h.p_type == 1 && h.p_align == 4096) kinds.0) in
-    let flags = or_parts (h.p_flags == 0 || nat_lt 7 h.p_flags) (may_write h && may_execute h) kinds.1 in
-    let few = or_parts (h.p_flags == 0) (nat_lt 7 h.p_flags) flags.0 in
+    let few = or_parts (h.p_flags == 0) (nat_lt 7 h.p_flags) kinds.1 in
     let placed = or_parts (h.p_memsz == 0) (not (h.p_offset % 4096 == h.p_vaddr % 4096)) parts.1 in
     let range = or_parts (nat_lt h.p_vaddr 0x00010000) (nat_lt 0x7FFF0000 (h.p_vaddr + h.p_memsz)) ranged in
     record {
@@ -128,7 +121,6 @@ loadable end h good sized ended ranged =
       page_aligned = eqb-true h.p_align 4096 typed.1;
       some_right = eqb-false h.p_flags 0 few.0;
       known_rights = ltb-false 7 h.p_flags few.1;
-      not_both = not_both (bit_and h.p_flags 2) (bit_and h.p_flags 1) flags.1;
       present = eqb-false h.p_memsz 0 placed.0;
       placed = eqb-true (h.p_offset % 4096) (h.p_vaddr % 4096) (not-false (h.p_offset % 4096 == h.p_vaddr % 4096) placed.1);
       within_memory = ltb-false h.p_memsz h.p_filesz sized;
@@ -138,14 +130,12 @@ loadable end h good sized ended ranged =
     }
 
 good_segment : (end : ℕ) (h : ProgramHeader) → IsLoadableFrom end h → is_bad_segment h ≡ false
-unfolding is_not_loaded has_bad_flags is_misplaced may_write may_execute
+unfolding is_not_loaded has_bad_flags is_misplaced
 good_segment end h load =
     or_from (is_not_loaded h || has_bad_flags h) (is_misplaced h)
     (or_from (is_not_loaded h) (has_bad_flags h)
     (not_from_true (h.p_type == 1 && h.p_align == 4096) (and_from (h.p_type == 1) (h.p_align == 4096) (eq-eqb h.p_type 1 load.loaded) (eq-eqb h.p_align 4096 load.page_aligned)))
-    (or_from (h.p_flags == 0 || nat_lt 7 h.p_flags) (may_write h && may_execute h)
-    (or_from (h.p_flags == 0) (nat_lt 7 h.p_flags) (ne_eqb h.p_flags 0 load.some_right) (le-ltb 7 h.p_flags load.known_rights))
-    (one_at_most (bit_and h.p_flags 2) (bit_and h.p_flags 1) load.not_both)))
+    (or_from (h.p_flags == 0) (nat_lt 7 h.p_flags) (ne_eqb h.p_flags 0 load.some_right) (le-ltb 7 h.p_flags load.known_rights)))
     (or_from (h.p_memsz == 0) (not (h.p_offset % 4096 == h.p_vaddr % 4096)) (ne_eqb h.p_memsz 0 load.present)
     (not_from_true (h.p_offset % 4096 == h.p_vaddr % 4096) (eq-eqb (h.p_offset % 4096) (h.p_vaddr % 4096) load.placed)))
 

@@ -4,8 +4,8 @@ use Rattle.memory_model.specs.Access.{low_bytes}
 use Rattle.memory_model.specs.declared.access.Rights.{Rights}
 use Rattle.machine_model.specs.declared.image.Segment.{Segment}
 use Rattle.machine_model.specs.Images.{Program, IsProfile, bytes_of_words}
-use Rattle.elf32.specs.Checks.{first_fault}
-use Rattle.elf32.specs.Names.{program_in}
+use Rattle.image_model.specs.Checks.{first_fault}
+use Rattle.image_model.specs.Names.{program_in}
 
 -- the bytes of half words, each little-endian
 abbrev pub bytes_of_halves : List ℕ → List ℕ

@@ -1,7 +1,3 @@
 -- The definitions.
-pub mod Fields
-pub mod Faults
-pub mod Checks
-pub mod Names
 pub mod Files
 pub mod Sound

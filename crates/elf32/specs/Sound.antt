@@ -1,9 +1,9 @@
 -- What it means that a file has no fault.
 use Rattle.std.specs.Prelude.{◌≡◌, ◌≢◌, ℕ, ◌+◌, ◌*◌, ◌%◌, ◌<◌, ◌≤◌, ◌↔◌, List, length, take, sum_by, All, Any, AllPairs, IsBitSet, None}
-use Rattle.elf32.specs.declared.header.FileHeader.{FileHeader}
-use Rattle.elf32.specs.declared.header.ProgramHeader.{ProgramHeader}
-use Rattle.elf32.specs.Fields.{file_header, program_headers}
-use Rattle.elf32.specs.Checks.{first_page_of, last_page_of, page_count_of, first_fault}
+use Rattle.image_model.specs.declared.header.FileHeader.{FileHeader}
+use Rattle.image_model.specs.declared.header.ProgramHeader.{ProgramHeader}
+use Rattle.image_model.specs.Fields.{file_header, program_headers}
+use Rattle.image_model.specs.Checks.{first_page_of, last_page_of, page_count_of, first_fault}
 use Rattle.elf32.specs.Files.{identification}
 
 -- An executable file (2) for RISC-V (243) of version 1. Its 1 to 4 program headers, of 32 bytes each, follow the file header
@@ -23,16 +23,15 @@ pub record IsExecutable (h : FileHeader) : Type 0 where
   pub no_sections : h.e_shnum ≡ 0
   pub no_section_names : h.e_shstrndx ≡ 0
 
--- A program header that may be loaded from a file of this length: of type 1, aligned to pages of 4,096 bytes. Of its flags
--- bit 0 is X, bit 1 W and bit 2 R: some of them are set, no others, and never W with X. It takes some memory, at the same
--- place of a page as its bytes in the file, of which there are no more; they lie within the file, and the memory within the
--- addresses from 0x00010000 up to 0x7FFF0000.
+-- A program header that may be loaded from a file of this length. Its type is 1, and it is aligned to pages of 4,096 bytes. In its
+-- flags bit 0 is X, bit 1 W and bit 2 R: some of them are set, and no others. It takes some memory, at the same place of a page as
+-- its bytes in the file, of which there are no more. Its bytes lie within the file, its memory within the addresses from 0x00010000
+-- up to 0x7FFF0000.
 pub record IsLoadableFrom (end : ℕ) (h : ProgramHeader) : Type 0 where
   pub loaded : h.p_type ≡ 1
   pub page_aligned : h.p_align ≡ 4096
   pub some_right : h.p_flags ≢ 0
   pub known_rights : h.p_flags ≤ 7
-  pub not_both : IsBitSet h.p_flags 1 → IsBitSet h.p_flags 0 → ⊥
   pub present : h.p_memsz ≢ 0
   pub placed : h.p_offset % 4096 ≡ h.p_vaddr % 4096
   pub within_memory : h.p_filesz ≤ h.p_memsz
@@ -46,8 +45,8 @@ pub record HasCodeAt (at : ℕ) (h : ProgramHeader) : Type 0 where
   pub begun : h.p_vaddr ≤ at
   pub not_ended : at < h.p_vaddr + h.p_memsz
 
--- A file that may be loaded. It has a file header, which begins with the identification; its program headers lie within it,
--- each may be loaded, they have at most 60 pages in all, and each ends on a page below those of all later ones; the entry
+-- A file that may be loaded. It has a file header, which begins with the identification, and its program headers lie within it.
+-- Each of them may be loaded, they have at most 60 pages in all, and each ends on a page below those of all later ones. The entry
 -- is a multiple of 4 in a segment with X.
 pub record IsSound (file : List ℕ) : Type 0 where
   pub whole_header : 52 ≤ length file

@@ -1,14 +1,14 @@
-//! The checks of a file's headers.
+//! The checks of a file's headers, in the order of `ElfFault`.
 ghost use Rattle.std.specs.Prelude.{◌≡◌, ◌+◌, ◌*◌, ◌^◌, ◌<◌, ◌≤◌, length, sum_by, IfNone};
 ghost use Rattle.std.specs.List.{list_any};
-ghost use Rattle.elf32.specs.Fields.{file_header};
-ghost use Rattle.elf32.specs.Checks.{lacks_magic, lacks_ident, has_bad_kind, has_bad_table, has_sections, has_bad_layout, may_write, may_execute, is_not_loaded, has_bad_flags, is_misplaced, is_bad_segment, has_bad_size, is_past_end, first_page_of, last_page_of, page_count_of, is_out_of_range, has_bad_range, meets_next, has_overlap, is_code_at, is_bad_entry, first_of, header_checks, segment_checks};
+ghost use Rattle.image_model.specs.Fields.{file_header};
+ghost use Rattle.image_model.specs.Checks.{lacks_magic, lacks_ident, has_bad_kind, has_bad_table, has_sections, has_bad_layout, is_not_loaded, has_bad_flags, is_misplaced, is_bad_segment, has_bad_size, is_past_end, first_page_of, last_page_of, page_count_of, is_out_of_range, has_bad_range, meets_next, has_overlap, is_code_at, is_bad_entry, first_of, header_checks, segment_checks};
 
-use crate::fault::ElfFault;
 use crate::header::{
-    EM_RISCV, ET_EXEC, EV_CURRENT, FILE_HEADER, FileHeader, IDENT, MAGIC, MOST_HEADERS, PAGE, PF_R,
-    PF_W, PF_X, PROGRAM_HEADER, PT_LOAD, ProgramHeader,
+    EM_RISCV, ET_EXEC, EV_CURRENT, FILE_HEADER, IDENT, MAGIC, MOST_HEADERS, PAGE, PF_R, PF_W, PF_X,
+    PROGRAM_HEADER, PT_LOAD, may_execute, read_file_header,
 };
+use image_model::{ElfFault, FileHeader, ProgramHeader};
 
 /// The lowest address of a segment.
 const LOWEST: u32 = 0x0001_0000;
@@ -20,7 +20,7 @@ const HIGHEST: u64 = 0x7fff_0000;
 const MOST_PAGES: u64 = 60;
 
 /// Whether a file does not begin with 7F and the letters ELF.
-#[tactic(auto, unfolding(crate::specs::Checks::lacks_magic))]
+#[tactic(auto, unfolding(image_model::specs::Checks::lacks_magic))]
 fn lacks_magic(file: &[u8]) -> bool
     ensures { result ≡ lacks_magic file.now }
 {
@@ -28,7 +28,7 @@ fn lacks_magic(file: &[u8]) -> bool
 }
 
 /// Whether a file's next twelve bytes do not say 32 bits, little-endian, version 1, and nothing else.
-#[tactic(auto, unfolding(crate::specs::Checks::lacks_ident))]
+#[tactic(auto, unfolding(image_model::specs::Checks::lacks_ident))]
 fn lacks_ident(file: &[u8]) -> bool
     requires { 4 ≤ length file.now }
     ensures { result ≡ lacks_ident file.now }
@@ -36,8 +36,7 @@ fn lacks_ident(file: &[u8]) -> bool
     !file[4..].starts_with(&IDENT)
 }
 
-/// Whether it is no executable file for RISC-V of version 1.
-#[tactic(auto, unfolding(crate::specs::Checks::has_bad_kind))]
+#[tactic(auto, unfolding(image_model::specs::Checks::has_bad_kind))]
 fn has_bad_kind(h: &FileHeader) -> bool
     ensures { result ≡ has_bad_kind h.now }
 {
@@ -45,7 +44,7 @@ fn has_bad_kind(h: &FileHeader) -> bool
 }
 
 /// Whether the program headers, 1 to 4 of them, do not follow at once.
-#[tactic(auto, unfolding(crate::specs::Checks::has_bad_table))]
+#[tactic(auto, unfolding(image_model::specs::Checks::has_bad_table))]
 fn has_bad_table(h: &FileHeader) -> bool
     ensures { result ≡ has_bad_table h.now }
 {
@@ -57,14 +56,13 @@ fn has_bad_table(h: &FileHeader) -> bool
 }
 
 /// Whether there are flags or sections.
-#[tactic(auto, unfolding(crate::specs::Checks::has_sections))]
+#[tactic(auto, unfolding(image_model::specs::Checks::has_sections))]
 fn has_sections(h: &FileHeader) -> bool
     ensures { result ≡ has_sections h.now }
 {
     !(h.e_shoff == 0 && h.e_flags == 0 && h.e_shentsize == 0 && h.e_shnum == 0 && h.e_shstrndx == 0)
 }
 
-/// Whether the layout is not that of a program.
 fn has_bad_layout(h: &FileHeader) -> bool
     ensures { result ≡ has_bad_layout h.now }
 {
@@ -72,23 +70,22 @@ fn has_bad_layout(h: &FileHeader) -> bool
 }
 
 /// Whether it is no segment that is loaded, or its alignment is no page.
-#[tactic(auto, unfolding(crate::specs::Checks::is_not_loaded))]
+#[tactic(auto, unfolding(image_model::specs::Checks::is_not_loaded))]
 fn is_not_loaded(h: &ProgramHeader) -> bool
     ensures { result ≡ is_not_loaded h.now }
 {
     !(h.p_type == PT_LOAD && h.p_align == PAGE)
 }
 
-/// Whether the flags are none, unknown, or those to write and to execute together.
-#[tactic(auto, unfolding(crate::specs::Checks::has_bad_flags))]
+#[tactic(auto, unfolding(image_model::specs::Checks::has_bad_flags))]
 fn has_bad_flags(h: &ProgramHeader) -> bool
     ensures { result ≡ has_bad_flags h.now }
 {
-    h.p_flags == 0 || h.p_flags > (PF_R | PF_W | PF_X) || (h.may_write() && h.may_execute())
+    h.p_flags == 0 || h.p_flags > (PF_R | PF_W | PF_X)
 }
 
 /// Whether it takes no memory, or its offset and its address lie at different places of their pages.
-#[tactic(auto, unfolding(crate::specs::Checks::is_misplaced))]
+#[tactic(auto, unfolding(image_model::specs::Checks::is_misplaced))]
 fn is_misplaced(h: &ProgramHeader) -> bool
     ensures { result ≡ is_misplaced h.now }
 {
@@ -102,22 +99,19 @@ fn is_bad_segment(h: &ProgramHeader) -> bool
     is_not_loaded(h) || has_bad_flags(h) || is_misplaced(h)
 }
 
-/// Whether one of them is not a segment as a program has it.
 fn any_bad_segment(headers: &[ProgramHeader]) -> bool
     ensures { result ≡ list_any is_bad_segment headers.now }
 {
     headers.iter().any(|h| is_bad_segment(h))
 }
 
-/// Whether it has more bytes in the file than in memory.
-#[tactic(auto, unfolding(crate::specs::Checks::has_bad_size))]
+#[tactic(auto, unfolding(image_model::specs::Checks::has_bad_size))]
 fn has_bad_size(h: &ProgramHeader) -> bool
     ensures { result ≡ has_bad_size h.now }
 {
     h.p_memsz < h.p_filesz
 }
 
-/// Whether one of them has more bytes in the file than in memory.
 fn any_bad_size(headers: &[ProgramHeader]) -> bool
     ensures { result ≡ list_any has_bad_size headers.now }
 {
@@ -125,14 +119,13 @@ fn any_bad_size(headers: &[ProgramHeader]) -> bool
 }
 
 /// Whether its bytes pass the end of a file of this length.
-#[tactic(auto, unfolding(crate::specs::Checks::is_past_end))]
+#[tactic(auto, unfolding(image_model::specs::Checks::is_past_end))]
 fn is_past_end(end: usize, h: &ProgramHeader) -> bool
     ensures { result ≡ is_past_end end h.now }
 {
     (end as u64) < u64::from(h.p_offset) + u64::from(h.p_filesz)
 }
 
-/// Whether the bytes of one of them pass the end of a file of this length.
 fn any_past_end(end: usize, headers: &[ProgramHeader]) -> bool
     ensures { result ≡ list_any (is_past_end end) headers.now }
 {
@@ -163,7 +156,7 @@ fn last_page_of(h: &ProgramHeader) -> u64
 }
 
 /// How many pages it has.
-#[tactic(auto, unfolding(crate::specs::Checks::page_count_of))]
+#[tactic(auto, unfolding(image_model::specs::Checks::page_count_of))]
 fn page_count_of(h: &ProgramHeader) -> u64
     ensures value { result ≡ page_count_of h.now }
     ensures fits { result ≤ 2 ^ 21 }
@@ -184,22 +177,21 @@ fn page_total(headers: &[ProgramHeader]) -> u64
 }
 
 /// Whether it begins below the lowest address or ends past the highest.
-#[tactic(auto, unfolding(crate::specs::Checks::is_out_of_range))]
+#[tactic(auto, unfolding(image_model::specs::Checks::is_out_of_range))]
 fn is_out_of_range(h: &ProgramHeader) -> bool
     ensures { result ≡ is_out_of_range h.now }
 {
     h.p_vaddr < LOWEST || HIGHEST < end_of(h)
 }
 
-/// Whether one of them lies outside the addresses of programs.
 fn any_out_of_range(headers: &[ProgramHeader]) -> bool
     ensures { result ≡ list_any is_out_of_range headers.now }
 {
     headers.iter().any(|h| is_out_of_range(h))
 }
 
-/// Whether some lie outside the addresses of programs, or they have too many pages.
-#[tactic(auto, unfolding(crate::specs::Checks::has_bad_range))]
+/// Whether some lie outside the addresses of programs, or all have too many pages together.
+#[tactic(auto, unfolding(image_model::specs::Checks::has_bad_range))]
 fn has_bad_range(headers: &[ProgramHeader]) -> bool
     requires { length headers.now ≤ 4 }
     ensures { result ≡ has_bad_range headers.now }
@@ -208,7 +200,7 @@ fn has_bad_range(headers: &[ProgramHeader]) -> bool
 }
 
 /// Whether the next one, if there is one, does not begin on a page above this one's.
-#[tactic(auto, unfolding(crate::specs::Checks::meets_next))]
+#[tactic(auto, unfolding(image_model::specs::Checks::meets_next))]
 fn meets_next(h: &ProgramHeader, rest: &[ProgramHeader]) -> bool
     ensures { result ≡ meets_next h.now rest.now }
 {
@@ -219,7 +211,7 @@ fn meets_next(h: &ProgramHeader, rest: &[ProgramHeader]) -> bool
 }
 
 /// Whether one does not begin on a page above those of the one before.
-#[tactic(auto, unfolding(crate::specs::Checks::has_overlap))]
+#[tactic(auto, unfolding(image_model::specs::Checks::has_overlap))]
 fn has_overlap(headers: &[ProgramHeader]) -> bool
     ensures { result ≡ has_overlap headers.now }
 {
@@ -230,30 +222,28 @@ fn has_overlap(headers: &[ProgramHeader]) -> bool
 }
 
 /// Whether an address lies in it, and it may be executed.
-#[tactic(auto, unfolding(crate::specs::Checks::is_code_at))]
+#[tactic(auto, unfolding(image_model::specs::Checks::is_code_at))]
 fn is_code_at(at: u32, h: &ProgramHeader) -> bool
     ensures { result ≡ is_code_at at h.now }
 {
-    h.may_execute() && h.p_vaddr <= at && u64::from(at) < end_of(h)
+    may_execute(h) && h.p_vaddr <= at && u64::from(at) < end_of(h)
 }
 
-/// Whether an address lies in one of them that may be executed.
 fn is_in_code(at: u32, headers: &[ProgramHeader]) -> bool
     ensures { result ≡ list_any (is_code_at at) headers.now }
 {
     headers.iter().any(|h| is_code_at(at, h))
 }
 
-/// Whether no program may begin at this address.
-#[tactic(auto, unfolding(crate::specs::Checks::is_bad_entry))]
+#[tactic(auto, unfolding(image_model::specs::Checks::is_bad_entry))]
 fn is_bad_entry(entry: u32, headers: &[ProgramHeader]) -> bool
     ensures { result ≡ is_bad_entry entry headers.now }
 {
     entry % 4 != 0 || !is_in_code(entry, headers)
 }
 
-/// The first fault of the file header, and of the place that the program headers take.
-#[tactic(auto, unfolding(crate::specs::Checks::is_short, crate::specs::Checks::has_short_table))]
+/// The first fault of the file header, and of the room that the program headers take.
+#[tactic(auto, unfolding(image_model::specs::Checks::is_short, image_model::specs::Checks::has_short_table))]
 pub fn header_fault(file: &[u8]) -> Option<ElfFault>
     ensures value { result ≡ first_of (header_checks file.now) }
     ensures long { IfNone result (52 ≤ length file.now) }
@@ -270,7 +260,7 @@ pub fn header_fault(file: &[u8]) -> Option<ElfFault>
     if lacks_ident(file) {
         return Some(ElfFault::BadIdent);
     }
-    let header = FileHeader::read(file);
+    let header = read_file_header(file);
     if has_bad_kind(&header) {
         Some(ElfFault::BadKind)
     } else if has_bad_layout(&header) {

@@ -1,15 +1,15 @@
-//! The ELF32 files that hold images of programs.
+//! Reads and writes the ELF32 files that hold images of programs. Read `parse` and `write` first; `image_model` defines what a file
+//! means. `round_trips` proves that what is written is read again, and `sound_files` which files are read.
 #![tactic(auto)]
 
 mod checks;
-mod fault;
 mod header;
 mod laws;
 mod little_endian;
 mod parsing;
 mod writing;
 
-pub use fault::ElfFault;
+pub use image_model::ElfFault;
 pub use laws::{round_trips, sound_files};
 pub use parsing::parse;
 pub use writing::write;

@@ -4,7 +4,7 @@ ghost use Rattle.elf32.specs.Files.{bytes_of_halves};
 
 use std::alloc::AllocError;
 
-/// Writes half words at the end.
+/// Appends half words, each little-endian. An error leaves some of them appended.
 pub fn put_halves(bytes: &mut Vec<u8>, halves: &[u16]) -> Result<(), AllocError>
     ensures { OnOk result (bytes.new.items ≡ bytes.old.items ++ bytes_of_halves halves.now) }
 {

@@ -1,19 +1,19 @@
 //! Files read as images.
 ghost use Rattle.std.specs.Prelude.{◌≡◌, ◌+◌, ◌≤◌, false, None, Some, length, map, take, IfOk, IfErr};
 ghost use Rattle.std.specs.List.{list_any};
-ghost use Rattle.elf32.specs.Fields.{file_header};
-ghost use Rattle.elf32.specs.Checks.{is_past_end, first_of, header_checks, first_fault};
-ghost use Rattle.elf32.specs.Names.{segment_in, Names, IsRefused};
+ghost use Rattle.image_model.specs.Fields.{file_header};
+ghost use Rattle.image_model.specs.Checks.{is_past_end, first_of, header_checks, first_fault};
+ghost use Rattle.image_model.specs.Names.{segment_in, Names, IsRefused};
 
 use crate::checks::{header_fault, segments_fault};
-use crate::fault::ElfFault;
-use crate::header::{FILE_HEADER, FileHeader, ProgramHeader, read_table};
+use crate::header::{FILE_HEADER, may_execute, may_read, may_write, read_file_header, read_table};
 use byte_list::Bytes;
+use image_model::{ElfFault, ProgramHeader};
 use machine_model::{Image, Rights, Segment};
 use std::alloc::{AllocError, Global};
 
-/// The program that a file names, or the first of the twelve checks that fails. Bytes that no segment names, and physical
-/// addresses, say nothing. Memory is taken only for a file that has no fault.
+/// The program that a file names, or the first of the twelve checks that fails. Bytes that no segment names and physical addresses
+/// are ignored. Memory is taken only for a file that has no fault.
 pub fn parse(alloc: Global, file: &[u8]) -> Result<Image, ElfFault>
     ensures ok { IfOk result (λ image. Names file.now image) }
     ensures refused { IfErr result (λ why. IsRefused file.now why) }
@@ -21,7 +21,7 @@ pub fn parse(alloc: Global, file: &[u8]) -> Result<Image, ElfFault>
     if let Some(fault) = header_fault(file) {
         return Err(fault);
     }
-    let header = FileHeader::read(file);
+    let header = read_file_header(file);
     let count = usize::from(header.e_phnum);
     let table = read_table(&file[FILE_HEADER..], count);
     let headers = &table[..count];
@@ -32,7 +32,6 @@ pub fn parse(alloc: Global, file: &[u8]) -> Result<Image, ElfFault>
     Ok(Image::new(header.e_entry, segments))
 }
 
-/// The segments that program headers name.
 fn segments_of(
     alloc: Global,
     file: &[u8],
@@ -48,8 +47,7 @@ fn segments_of(
     Ok(segments)
 }
 
-/// The segment that a program header names.
-#[tactic(auto, unfolding(crate::specs::Names::segment_in))]
+#[tactic(auto, unfolding(image_model::specs::Names::segment_in))]
 fn segment_of(alloc: Global, file: &[u8], header: &ProgramHeader) -> Result<Segment, AllocError>
     requires { header.now.p_offset + header.now.p_filesz ≤ length file.now }
     ensures { IfOk result (λ segment. segment ≡ segment_in file.now header.now) }
@@ -60,9 +58,9 @@ fn segment_of(alloc: Global, file: &[u8], header: &ProgramHeader) -> Result<Segm
         vaddr: header.p_vaddr,
         memsz: header.p_memsz,
         rights: Rights {
-            read: header.may_read(),
-            write: header.may_write(),
-            execute: header.may_execute(),
+            read: may_read(header),
+            write: may_write(header),
+            execute: may_execute(header),
         },
         bytes,
     })

@@ -11,9 +11,8 @@ use crate::little_endian::put_halves;
 use machine_model::{Image, Rights, Segment, put_words};
 use std::alloc::{AllocError, Global};
 
-/// The file of an image: its headers, and from the second page on the bytes of its segments, each at an offset that is its
-/// address modulo a page. Physical addresses are the addresses. Between the parts, and up to the offset of a last segment
-/// that has no bytes, stand zeros.
+/// The file of an image: its headers, then from the second page on the bytes of its segments. Each offset equals its address modulo
+/// a page, and each physical address is the address. Zeros fill the gaps, also up to the offset of a last segment without bytes.
 pub fn write(alloc: Global, image: &Image) -> Result<Vec<u8>, AllocError>
     ensures { IfOk result (λ file. file.items ≡ file_of image.now) }
 {
@@ -26,7 +25,6 @@ pub fn write(alloc: Global, image: &Image) -> Result<Vec<u8>, AllocError>
     Ok(file)
 }
 
-/// Writes a file header at the end.
 #[tactic(auto, unfolding(crate::specs::Files::file_header_of))]
 fn put_file_header(file: &mut Vec<u8>, entry: u32, count: u16) -> Result<(), AllocError>
     ensures { OnOk result (file.new.items ≡ file.old.items ++ file_header_of entry count) }
@@ -54,7 +52,7 @@ fn flags_of(rights: Rights) -> u32
     read + write + execute
 }
 
-/// Where a segment's bytes begin, after bytes that end here.
+/// The offset of a segment's bytes, after bytes that end at `end`.
 #[tactic(auto, unfolding(crate::specs::Files::offset_after))]
 fn offset_after(end: u32, segment: &Segment) -> u32
     requires { end < 2 ^ 20 }
@@ -63,7 +61,6 @@ fn offset_after(end: u32, segment: &Segment) -> u32
     (end + PAGE - 1) / PAGE * PAGE + segment.vaddr % PAGE
 }
 
-/// Writes the program header of a segment at the end.
 #[tactic(auto, unfolding(crate::specs::Files::program_header_of))]
 fn put_program_header(file: &mut Vec<u8>, offset: u32, segment: &Segment) -> Result<(), AllocError>
     requires { length segment.now.bytes < 2 ^ 32 }
@@ -87,7 +84,7 @@ fn put_program_header(file: &mut Vec<u8>, offset: u32, segment: &Segment) -> Res
     )
 }
 
-/// Writes the program headers of segments at the end, whose bytes lie after bytes that end here.
+/// Appends the program headers of segments, whose bytes lie after bytes that end at `end`.
 fn put_table(file: &mut Vec<u8>, end: u32, segments: &[Segment]) -> Result<(), AllocError>
     requires { AreNear end segments.now }
     ensures { OnOk result (file.new.items ≡ file.old.items ++ table_after end segments.now) }
@@ -102,7 +99,7 @@ fn put_table(file: &mut Vec<u8>, end: u32, segments: &[Segment]) -> Result<(), A
     }
 }
 
-/// Writes the bytes of segments at the end, each after zeros up to its offset.
+/// Appends the bytes of segments, each after zeros up to its offset.
 fn put_contents(file: &mut Vec<u8>, segments: &[Segment]) -> Result<(), AllocError>
     requires { AreNear (vec_len file.old) segments.now }
     ensures { OnOk result (file.new.items ≡ file.old.items ++ contents_after (vec_len file.old) segments.now) }

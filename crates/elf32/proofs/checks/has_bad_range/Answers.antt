@@ -1,5 +1,5 @@
 use Rattle.std.proofs.Common.{rules}
-use Rattle.elf32.specs.Checks.{has_bad_range}
+use Rattle.image_model.specs.Checks.{has_bad_range}
 use Rattle.elf32.proofs.checks.has_bad_range.Goals as goal
 
 -- Without an answer this would be proved too; with one, an edit that breaks it is refused sooner.

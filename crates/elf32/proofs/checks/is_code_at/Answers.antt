@@ -1,5 +1,5 @@
 use Rattle.std.proofs.Common.{rules}
-use Rattle.elf32.specs.Checks.{is_code_at}
+use Rattle.image_model.specs.Checks.{is_code_at}
 use Rattle.elf32.proofs.checks.is_code_at.Goals as goal
 
 -- Without an answer this would be proved too; with one, an edit that breaks it is refused sooner.

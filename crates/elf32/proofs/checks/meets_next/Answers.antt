@@ -1,5 +1,5 @@
 use Rattle.std.proofs.Common.{rules}
-use Rattle.elf32.specs.Checks.{meets_next}
+use Rattle.image_model.specs.Checks.{meets_next}
 use Rattle.elf32.proofs.checks.meets_next.Goals as goal
 
 -- Without an answer this would be proved too; with one, an edit that breaks it is refused sooner.

@@ -1,6 +1,6 @@
 -- The number is read after the bytes before it.
 use Rattle.std.proofs.lemmas.List.{take_rest}
-use Rattle.elf32.specs.Fields.{half_at}
+use Rattle.image_model.specs.Fields.{half_at}
 use Rattle.elf32.proofs.Numbers.{value_in-drop}
 use Rattle.elf32.proofs.header.half.Goals as goal
 

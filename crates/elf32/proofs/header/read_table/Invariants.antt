@@ -1,6 +1,6 @@
 -- The headers so far.
 use Rattle.std.proofs.Common.{◌≡◌, length, take}
-use Rattle.elf32.specs.Fields.{headers_in}
+use Rattle.image_model.specs.Fields.{headers_in}
 use Rattle.elf32.proofs.header.read_table.Given as goal
 
 abbrev pub invariant-loop-k : goal.invariant-loop-k

@@ -1,6 +1,6 @@
 use Rattle.std.proofs.Common.{arith}
 use Rattle.std.proofs.lemmas.Grind.{common_steps}
-use Rattle.elf32.specs.Names.{segment_in}
+use Rattle.image_model.specs.Names.{segment_in}
 use Rattle.elf32.proofs.parsing.segment_of.Goals as goal
 
 -- Without an answer this would be proved too; with one, an edit that breaks it is refused sooner.

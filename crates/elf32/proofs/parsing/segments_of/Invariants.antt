@@ -1,6 +1,6 @@
 -- The segments so far.
 use Rattle.std.proofs.Common.{◌≡◌, map, take}
-use Rattle.elf32.specs.Names.{segment_in}
+use Rattle.image_model.specs.Names.{segment_in}
 use Rattle.elf32.proofs.parsing.segments_of.Given as goal
 
 abbrev pub invariant-loop-header : goal.invariant-loop-header

@@ -1,8 +1,8 @@
 -- The fields of an ELF32 file, by their names in the System V gABI. Each is little-endian.
 use Rattle.std.specs.Prelude.{ℕ, zero, suc, List, [], ◌∷◌, drop}
 use Rattle.memory_model.specs.Bytes.{value_in}
-use Rattle.elf32.specs.declared.header.FileHeader.{FileHeader}
-use Rattle.elf32.specs.declared.header.ProgramHeader.{ProgramHeader}
+use Rattle.image_model.specs.declared.header.FileHeader.{FileHeader}
+use Rattle.image_model.specs.declared.header.ProgramHeader.{ProgramHeader}
 
 -- the half word at a place
 unfoldable pub half_at : List ℕ → ℕ → ℕ

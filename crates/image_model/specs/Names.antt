@@ -1,15 +1,15 @@
 -- The program that a file names.
 use Rattle.std.specs.Prelude.{◌≡◌, ℕ, List, take, drop, map, Some, None, ◌⊎◌}
-use Rattle.elf32.specs.declared.fault.ElfFault.{ElfFault}
-use Rattle.elf32.specs.declared.fault.ElfFault.TheVariants.{OutOfMemory}
-use Rattle.elf32.specs.declared.header.ProgramHeader.{ProgramHeader}
+use Rattle.image_model.specs.declared.fault.ElfFault.{ElfFault}
+use Rattle.image_model.specs.declared.fault.ElfFault.TheVariants.{OutOfMemory}
+use Rattle.image_model.specs.declared.header.ProgramHeader.{ProgramHeader}
 use Rattle.machine_model.specs.declared.image.Segment.{Segment}
 use Rattle.machine_model.specs.Images.{Program}
-use Rattle.elf32.specs.Fields.{file_header, program_headers}
-use Rattle.elf32.specs.Checks.{may_read, may_write, may_execute, first_fault}
+use Rattle.image_model.specs.Fields.{file_header, program_headers}
+use Rattle.image_model.specs.Checks.{may_read, may_write, may_execute, first_fault}
 
--- The segment that a program header names: its address, its size and its rights, and as many bytes of the file from its
--- offset on as it says. The physical address says nothing.
+-- The segment that a program header names: its address, size and rights, and its bytes in the file from its offset on. The physical
+-- address says nothing.
 unfoldable pub segment_in : List ℕ → ProgramHeader → Segment
 segment_in file h = record {
   vaddr = h.p_vaddr;

@@ -1,13 +1,13 @@
 //! Why a file is refused.
 ghost use Rattle.std.specs.Prelude.{◌≡◌};
-ghost use Rattle.elf32.specs.Faults.{number_of};
-ghost use Rattle.elf32.specs.declared.fault.ElfFault.TheVariants.{OutOfMemory};
+ghost use Rattle.image_model.specs.Faults.{number_of};
+ghost use Rattle.image_model.specs.declared.fault.ElfFault.TheVariants.{OutOfMemory};
 
 use std::alloc::{AllocError, AllocFailed};
 use thiserror::Error;
 
-/// Why a file is refused: the first of the checks, in this order, that fails, each over all program headers before the
-/// next. Want of memory is told only of a file that has no fault. Its text is its name.
+/// Why a file is refused: the first check that fails. The checks go in this order, each over all program headers before the next.
+/// `OutOfMemory` comes only of a file that has no fault. The text of a fault is its name.
 #[derive(Clone, Copy, Debug, PartialEq, Eq, Error)]
 pub enum ElfFault {
     /// Fewer than 52 bytes.
@@ -28,8 +28,8 @@ pub enum ElfFault {
     /// The program headers pass the file's end.
     #[error("ShortTable")]
     ShortTable = 6,
-    /// A segment of another type or alignment, of no memory, with no right, an unknown one, or both to write and to execute,
-    /// or whose offset and address differ modulo 4096.
+    /// A segment of another type or alignment, of no memory, or with no right or an unknown one. Also one whose offset and address
+    /// differ modulo 4096.
     #[error("BadSegment")]
     BadSegment = 7,
     /// A segment with more bytes in the file than in memory.

@@ -1,11 +1,11 @@
 -- The twelve checks of a file, in their order. Each is over all program headers before the next.
 use Rattle.std.specs.Prelude.{ℕ, ◌+◌, ◌-◌, ◌*◌, ◌/◌, ◌%◌, ◌==◌, nat_eq, nat_lt, nat_le, bit_and, Bool, false, not, ◌&&◌, ◌||◌, if◌then◌else◌, List, [], ◌∷◌, ◌++◌, length, drop, sum_by, Option, Some, None}
 use Rattle.std.specs.List.{list_any, starts_with}
-use Rattle.elf32.specs.declared.fault.ElfFault.{ElfFault}
-use Rattle.elf32.specs.declared.fault.ElfFault.TheVariants.{Short, BadMagic, BadIdent, BadKind, BadHeader, ShortTable, BadSegment, BadSize, PastEnd, BadRange, Overlap, BadEntry}
-use Rattle.elf32.specs.declared.header.FileHeader.{FileHeader}
-use Rattle.elf32.specs.declared.header.ProgramHeader.{ProgramHeader}
-use Rattle.elf32.specs.Fields.{file_header, program_headers}
+use Rattle.image_model.specs.declared.fault.ElfFault.{ElfFault}
+use Rattle.image_model.specs.declared.fault.ElfFault.TheVariants.{Short, BadMagic, BadIdent, BadKind, BadHeader, ShortTable, BadSegment, BadSize, PastEnd, BadRange, Overlap, BadEntry}
+use Rattle.image_model.specs.declared.header.FileHeader.{FileHeader}
+use Rattle.image_model.specs.declared.header.ProgramHeader.{ProgramHeader}
+use Rattle.image_model.specs.Fields.{file_header, program_headers}
 
 -- 1: fewer bytes than a file header has
 unfoldable pub is_short : List ℕ → Bool
@@ -53,9 +53,9 @@ may_read h = not (bit_and h.p_flags 4 == 0)
 unfoldable pub is_not_loaded : ProgramHeader → Bool
 is_not_loaded h = not (h.p_type == 1 && h.p_align == 4096)
 
--- flags 0, others than X, W and R, or both W and X
+-- flags 0, or others than X, W and R
 unfoldable pub has_bad_flags : ProgramHeader → Bool
-has_bad_flags h = h.p_flags == 0 || nat_lt 7 h.p_flags || (may_write h && may_execute h)
+has_bad_flags h = h.p_flags == 0 || nat_lt 7 h.p_flags
 
 -- no memory, or offset and address at different places of their pages
 unfoldable pub is_misplaced : ProgramHeader → Bool
