@@ -1,23 +1,24 @@
 -- What is computed from the left is what the forms say.
-use Rattle.std.proofs.Common.{◌≡◌, ℕ, suc, ◌+◌, ◌≤◌, Bool, true, false, not, eqb, leb, ◌&&◌, ◌||◌, List, [], ◌∷◌, ◌++◌, length, take, drop, Some, None, ℤ, refl, sym, ap, subst, ◌∙◌, ⊎_elim, arith, length-append, append_assoc}
+use Rattle.std.proofs.Common.{◌≡◌, ℕ, suc, ◌+◌, ◌≤◌, Bool, true, false, not, cond, eqb, leb, ◌&&◌, ◌||◌, List, [], ◌∷◌, ◌++◌, length, take, drop, Some, None, ℤ, refl, sym, ap, subst, ◌∙◌, ⊎_elim, inl, inr, arith, length-append, append_assoc}
 use Rattle.std.specs.Char.{is_ascii_digit}
 use Rattle.std.specs.List.{prefix_len, flat_map}
 use Rattle.std.specs.Option.{option_map}
 use Rattle.std.proofs.Math.Seq.{take-append_seam}
 use Rattle.std.proofs.lemmas.Bool.{eqb-true, leb-true, le-leb, and_parts, cond-true, cond-false}
 use Rattle.std.proofs.lemmas.Bool.Decides.{nat_tests}
-use Rattle.std.proofs.lemmas.List.{length-take-le}
+use Rattle.std.proofs.lemmas.List.{length-take-le, take-append-drop}
 use Rattle.std.proofs.lemmas.List.Sums.{prefix_len-le-length}
 use Rattle.std.proofs.lemmas.Option.{cond_some}
-use Rattle.asm_text.specs.Letters.{is_name_byte, begins_word}
+use Rattle.asm_text.specs.Letters.{is_name_byte, begins_word, fence_i, IsRun, IsRunEnd}
 use Rattle.asm_text.specs.Numbers.{number_value}
 use Rattle.asm_text.specs.Strings.{spelling}
-use Rattle.asm_text.specs.Tokens.{IsToken}
-use Rattle.asm_text.specs.Scan.{run_len, word_of, number_of, string_of, contents_from, mark_of, token_at}
+use Rattle.asm_text.specs.Tokens.{IsToken, IsNoPart}
+use Rattle.asm_text.specs.Scan.{run_len, begins_fence_i, word_len, word_of, number_of, string_of, contents_from, mark_of, token_at}
 use Rattle.asm_text.specs.declared.token.TokenKind.{TokenKind}
 use Rattle.asm_text.specs.declared.token.TokenKind.TheVariants.{Word, Number, Text, Comma, Colon, Open, Close, Plus, Minus}
 use Rattle.asm_text.proofs.Choices.{chosen, mapped}
 use Rattle.asm_text.proofs.Names.{prefix_passes, run_ends, run_is}
+use Rattle.asm_text.proofs.Dotted.{whole_here, is_whole}
 use Rattle.asm_text.proofs.Quotes.{contents_found, contents_only}
 use Rattle.asm_text.proofs.Digits.{number_names}
 
@@ -29,8 +30,23 @@ pub record IsFound (after_word : Bool) (bytes : List ℕ) (kind : TokenKind) (le
 as_found : (w : Bool) (bytes : List ℕ) (k kind : TokenKind) (n len : ℕ) → ◌≡◌ {A = TokenKind × ℕ} (k, n) (kind, len) → IsFound w bytes k n → IsFound w bytes kind len
 as_found w bytes k kind n len same f = subst (λ (p : TokenKind × ℕ). IsFound w bytes p.0 p.1) same f
 
-word_found : (w : Bool) (b : ℕ) (bs : List ℕ) (kind : TokenKind) (len : ℕ) → begins_word b ≡ true → word_of (run_len (b ∷ bs)) ≡ Some (kind, len) → IsFound w (b ∷ bs) kind len
-word_found w b bs kind len begins e =
+-- where `fence.i` does not stand whole, no first bytes are a part of it
+no_part : (bytes : List ℕ) (n : ℕ) → begins_fence_i bytes ≡ false → IsNoPart (take n bytes) (drop n bytes)
+no_part bytes n no_fence after parted ends =
+    let here : begins_fence_i bytes ≡ true = is_whole bytes after (sym (take-append-drop n bytes) ∙ parted) ends in
+    absurd (let no : ⊥ = cc in no)
+
+fence_found : (w : Bool) (bytes : List ℕ) (kind : TokenKind) (len : ℕ) → begins_fence_i bytes ≡ true → word_of 7 ≡ Some (kind, len) → IsFound w bytes kind len
+fence_found w bytes kind len here e =
+    let whole = whole_here bytes here in
+    let same : ◌≡◌ {A = TokenKind × ℕ} (Word, 7) (kind, len) = cc in
+    as_found w bytes Word kind 7 len same (record {
+      within = whole.1;
+      token = (inr whole.0, (whole.2, λ after parted ends. whole.0));
+    })
+
+run_found : (w : Bool) (b : ℕ) (bs : List ℕ) (kind : TokenKind) (len : ℕ) → begins_word b ≡ true → begins_fence_i (b ∷ bs) ≡ false → word_of (run_len (b ∷ bs)) ≡ Some (kind, len) → IsFound w (b ∷ bs) kind len
+run_found w b bs kind len begins no_fence e =
     let m : ℕ = prefix_len is_name_byte bs in
     let parts = cond_some (leb (suc m) 64) (Word, suc m) (kind, len) e in
     let short = leb-true (suc m) 64 parts.0 in
@@ -38,8 +54,15 @@ word_found w b bs kind len begins e =
     let count = length-take-le m bs within in
     as_found w (b ∷ bs) Word kind (suc m) len parts.1 (record {
       within = omega arith;
-      token = ((begins, prefix_passes is_name_byte bs, (let fits : suc (length (take m bs)) ≤ 64 = omega arith in fits)), run_ends is_name_byte bs);
+      token = (inl (begins, prefix_passes is_name_byte bs, (let fits : suc (length (take m bs)) ≤ 64 = omega arith in fits)), (run_ends is_name_byte bs, no_part (b ∷ bs) (suc m) no_fence));
     })
+
+word_found : (w : Bool) (b : ℕ) (bs : List ℕ) (kind : TokenKind) (len : ℕ) → begins_word b ≡ true → word_of (word_len (b ∷ bs)) ≡ Some (kind, len) → IsFound w (b ∷ bs) kind len
+word_found w b bs kind len begins e =
+    elim (begins_fence_i (b ∷ bs)) as (λ (t : Bool). begins_fence_i (b ∷ bs) ≡ t → word_of (cond t 7 (run_len (b ∷ bs))) ≡ Some (kind, len) → IsFound w (b ∷ bs) kind len) [
+      | true ↦ λ here f. fence_found w (b ∷ bs) kind len here f
+      | false ↦ λ here f. run_found w b bs kind len begins here f
+    ] refl e
 
 number_found : (w : Bool) (b : ℕ) (bs : List ℕ) (kind : TokenKind) (len : ℕ) → (is_ascii_digit b || (eqb b 45 && not w)) ≡ true → number_of (take (run_len (b ∷ bs)) (b ∷ bs)) ≡ Some (kind, len) → IsFound w (b ∷ bs) kind len
 number_found w b bs kind len begins e =
@@ -105,14 +128,34 @@ found w (b ∷ bs) kind len e =
     mark_found w b bs kind len mark.1)
     (chosen (eqb b 34) (string_of (contents_from false bs)) _ (Some (kind, len)) no_number.1))
     (chosen (is_ascii_digit b || (eqb b 45 && not w)) (number_of (take (run_len (b ∷ bs)) (b ∷ bs))) _ (Some (kind, len)) no_word.1))
-    (chosen (begins_word b) (word_of (run_len (b ∷ bs))) _ (Some (kind, len)) e)
+    (chosen (begins_word b) (word_of (word_len (b ∷ bs))) _ (Some (kind, len)) e)
+
+-- a word is found where it stands whole: `fence.i`, and each other
+fence_only : (w : Bool) (text rest : List ℕ) → text ≡ fence_i → IsRunEnd is_name_byte rest → token_at w (text ++ rest) ≡ Some (Word, length text)
+fence_only w text rest is ends =
+    ap (λ (l : List ℕ). token_at w (l ++ rest)) is
+    ∙ ap (λ (t : Bool). word_of (cond t 7 (run_len (fence_i ++ rest)))) (is_whole (fence_i ++ rest) rest refl ends)
+    ∙ ap (λ (n : ℕ). Some (Word, n)) (sym (ap length is))
+
+run_only : (w : Bool) (c : ℕ) (cs rest : List ℕ) → IsRun (c ∷ cs) → IsRunEnd is_name_byte rest → begins_fence_i ((c ∷ cs) ++ rest) ≡ false → token_at w ((c ∷ cs) ++ rest) ≡ Some (Word, length (c ∷ cs))
+run_only w c cs rest form ends no_fence =
+    let run = run_is is_name_byte cs rest form.1 ends in
+    cond-true (begins_word c) _ _ form.0
+    ∙ ap (λ (t : Bool). word_of (cond t 7 (run_len (c ∷ (cs ++ rest))))) no_fence
+    ∙ ap (λ (n : ℕ). word_of (suc n)) run
+    ∙ cond-true (leb (suc (length cs)) 64) (Some (Word, suc (length cs))) None (le-leb (suc (length cs)) 64 form.2)
+
+word_only : (w : Bool) (text rest : List ℕ) → IsRun text → IsRunEnd is_name_byte rest → IsNoPart text rest → token_at w (text ++ rest) ≡ Some (Word, length text)
+word_only w [] rest form ends part = absurd form
+word_only w (c ∷ cs) rest form ends part =
+    elim (begins_fence_i ((c ∷ cs) ++ rest)) as (λ (t : Bool). begins_fence_i ((c ∷ cs) ++ rest) ≡ t → token_at w ((c ∷ cs) ++ rest) ≡ Some (Word, length (c ∷ cs))) [
+      | true ↦ λ here. let whole = whole_here ((c ∷ cs) ++ rest) here in fence_only w (c ∷ cs) rest (part (drop 7 ((c ∷ cs) ++ rest)) whole.3 whole.2) ends
+      | false ↦ λ here. run_only w c cs rest form ends here
+    ] refl
 
 -- what has its form is found
 pub only : (after_word : Bool) (kind : TokenKind) (text rest : List ℕ) → IsToken after_word kind text rest → token_at after_word (text ++ rest) ≡ Some (kind, length text)
-only w Word [] rest t = absurd t.0
-only w Word (c ∷ cs) rest t =
-    let run = run_is is_name_byte cs rest t.0.1 t.1 in
-    cond-true (begins_word c) _ _ t.0.0 ∙ ap (λ (n : ℕ). word_of (suc n)) run ∙ cond-true (leb (suc (length cs)) 64) (Some (Word, suc (length cs))) None (le-leb (suc (length cs)) 64 t.0.2)
+only w Word text rest t = ⊎_elim (λ run. word_only w text rest run t.1.0 t.1.1) (λ is. fence_only w text rest is t.1.0) t.0
 only w (Number n) [] rest t = absurd (let value = t.0.0 in let no : ⊥ = cc in no)
 only w (Number n) (c ∷ cs) rest t =
     let names = number_names w c cs n t.0.0 t.0.1 in

@@ -1,6 +1,7 @@
 -- The lemmas.
 pub mod Choices
 pub mod Names
+pub mod Dotted
 pub mod Strings
 pub mod Quotes
 pub mod Numbers

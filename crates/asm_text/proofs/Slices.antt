@@ -1,5 +1,5 @@
 -- Where the lines and tokens of a source lie in it.
-use Rattle.std.proofs.Common.{◌≡◌, ℕ, ◌+◌, ◌-◌, ◌<◌, ◌≤◌, Bool, List, [], ◌∷◌, ◌++◌, length, take, drop, refl, sym, ap, subst, ◌∙◌, arith, append_assoc, length-append}
+use Rattle.std.proofs.Common.{◌≡◌, ℕ, ◌+◌, ◌-◌, ◌<◌, ◌≤◌, Bool, List, [], ◌∷◌, ◌++◌, length, take, drop, refl, sym, ap, subst, ◌∙◌, ⊎_elim, arith, append_assoc, length-append}
 use Rattle.std.specs.Prelude.{All, slice_range}
 use Rattle.std.proofs.lemmas.List.{append-nil}
 use Rattle.std.proofs.Math.Seq.{take-append_seam, drop-append_seam}
@@ -14,7 +14,7 @@ use Rattle.asm_text.specs.declared.token.Line.{Line}
 
 -- a form has at least one byte
 pub some_text : (w : Bool) (kind : TokenKind) (text : List ℕ) → IsForm w kind text → 0 < length text
-some_text w Word [] f = absurd f
+some_text w Word [] f = absurd (⊎_elim (λ run. run) (λ e. (let no : ⊥ = cc in no)) f)
 some_text w (Number n) [] f = absurd (let value = f.0 in let no : ⊥ = cc in no)
 some_text w (Text contents) [] f = absurd (let quoted = f.quoted in let no : ⊥ = cc in no)
 some_text w Comma [] f = absurd (let no : ⊥ = cc in no)

@@ -1,5 +1,5 @@
 -- The bytes of words, and the blanks between tokens.
-use Rattle.std.specs.Prelude.{◌≡◌, ℕ, ◌≤◌, ◌||◌, ◌==◌, Bool, true, false, not, List, [], ◌∷◌, length}
+use Rattle.std.specs.Prelude.{◌≡◌, ℕ, ◌≤◌, ◌||◌, ◌==◌, ◌⊎◌, Bool, true, false, not, List, [], ◌∷◌, length, codes}
 use Rattle.std.specs.Char.{is_ascii_alphabetic, is_ascii_alphanumeric}
 use Rattle.std.specs.List.{AllPass}
 
@@ -19,10 +19,18 @@ is_blank b = (b == 32) || (b == 9)
 abbrev pub goes_on : ℕ → Bool
 goes_on b = not (b == 10)
 
--- a word: its first byte, and what it goes on with, at most 64 bytes in all
+-- a word that is one run: its first byte, and what it goes on with, at most 64 bytes in all
+abbrev pub IsRun : List ℕ → Type 0
+IsRun [] = ⊥
+IsRun (b ∷ bs) = (begins_word b ≡ true) × AllPass is_name_byte bs × (length (b ∷ bs) ≤ 64)
+
+-- the one word that has a `.` inside
+abbrev pub fence_i : List ℕ
+fence_i = codes "fence.i"
+
+-- a word
 abbrev pub IsWord : List ℕ → Type 0
-IsWord [] = ⊥
-IsWord (b ∷ bs) = (begins_word b ≡ true) × AllPass is_name_byte bs × (length (b ∷ bs) ≤ 64)
+IsWord text = IsRun text ⊎ (text ≡ fence_i)
 
 -- the next byte, if there is one, does not pass the test
 abbrev pub IsRunEnd : (ℕ → Bool) → List ℕ → Type 0

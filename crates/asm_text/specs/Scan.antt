@@ -1,9 +1,9 @@
 -- What begins a list of bytes, computed from the left. Nothing public speaks of it: the lemmas join it to the forms.
-use Rattle.std.specs.Prelude.{ℕ, suc, ◌≢◌, ◌+◌, ◌&&◌, ◌||◌, ◌==◌, ◌^◌, Bool, true, false, not, nat_lt, nat_le, if◌then◌else◌, List, [], ◌∷◌, ◌++◌, Option, Some, None, length, take}
+use Rattle.std.specs.Prelude.{ℕ, suc, ◌≢◌, ◌+◌, ◌&&◌, ◌||◌, ◌==◌, ◌^◌, Bool, true, false, not, nat_eq, nat_lt, nat_le, if◌then◌else◌, List, [], ◌∷◌, ◌++◌, Option, Some, None, length, take, drop}
 use Rattle.std.specs.Char.{is_ascii_digit}
-use Rattle.std.specs.List.{prefix_len}
+use Rattle.std.specs.List.{prefix_len, starts_with}
 use Rattle.std.specs.Option.{option_map, option_and_then}
-use Rattle.asm_text.specs.Letters.{is_name_byte, begins_word}
+use Rattle.asm_text.specs.Letters.{is_name_byte, begins_word, fence_i}
 use Rattle.asm_text.specs.Numbers.{number_value}
 use Rattle.asm_text.specs.declared.token.TokenKind.{TokenKind}
 use Rattle.asm_text.specs.declared.token.TokenKind.TheVariants.{Word, Number, Text, Comma, Colon, Open, Close, Plus, Minus}
@@ -38,10 +38,18 @@ contents_from false (b ∷ bs) =
     else (if nat_le 32 b && nat_le b 126 then one_more (b ∷ []) (contents_from false bs)
     else None))
 
--- how many bytes a word or a number takes that comes first, its first byte whatever it is
+-- how many bytes a run takes that comes first, its first byte whatever it is
 abbrev pub run_len : List ℕ → ℕ
 run_len [] = 0
 run_len (b ∷ bs) = suc (prefix_len is_name_byte bs)
+
+-- `fence.i` comes first, and after its seven bytes no letter, digit or `_`
+abbrev pub begins_fence_i : List ℕ → Bool
+begins_fence_i bytes = starts_with nat_eq bytes fence_i && (prefix_len is_name_byte (drop 7 bytes) == 0)
+
+-- how many bytes a word takes that comes first
+abbrev pub word_len : List ℕ → ℕ
+word_len bytes = if begins_fence_i bytes then 7 else run_len bytes
 
 abbrev pub word_of : ℕ → Option (TokenKind × ℕ)
 word_of len = if nat_le len 64 then Some (Word, len) else None
@@ -66,7 +74,7 @@ mark_of after_word b =
 abbrev pub token_at : Bool → List ℕ → Option (TokenKind × ℕ)
 token_at after_word [] = None
 token_at after_word (b ∷ bs) =
-    if begins_word b then word_of (run_len (b ∷ bs))
+    if begins_word b then word_of (word_len (b ∷ bs))
     else (if is_ascii_digit b || ((b == 45) && not after_word) then number_of (take (run_len (b ∷ bs)) (b ∷ bs))
     else (if b == 34 then string_of (contents_from false bs)
     else option_map (λ kind. (kind, 1)) (mark_of after_word b)))

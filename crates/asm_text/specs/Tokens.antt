@@ -1,7 +1,7 @@
 -- Tokens, one after the other in a line.
 use Rattle.std.specs.Prelude.{◌≡◌, ◌≢◌, ℕ, ◌+◌, ◌&&◌, ◌==◌, Bool, true, false, List, [], ◌∷◌, ◌++◌, length}
 use Rattle.std.specs.List.{AllPass}
-use Rattle.asm_text.specs.Letters.{is_name_byte, is_blank, IsWord, IsRunEnd}
+use Rattle.asm_text.specs.Letters.{is_name_byte, is_blank, fence_i, IsWord, IsRunEnd}
 use Rattle.asm_text.specs.Numbers.{IsNumber, has_sign}
 use Rattle.asm_text.specs.Strings.{IsString}
 use Rattle.asm_text.specs.declared.token.TokenKind.{TokenKind}
@@ -32,21 +32,25 @@ is_word Close = false
 is_word Plus = false
 is_word Minus = false
 
--- words and numbers are whole: no letter, digit or `_` comes after them
-abbrev pub IsWhole : TokenKind → List ℕ → Type 0
-IsWhole Word rest = IsRunEnd is_name_byte rest
-IsWhole (Number n) rest = IsRunEnd is_name_byte rest
-IsWhole (Text contents) rest = Unit {0}
-IsWhole Comma rest = Unit {0}
-IsWhole Colon rest = Unit {0}
-IsWhole Open rest = Unit {0}
-IsWhole Close rest = Unit {0}
-IsWhole Plus rest = Unit {0}
-IsWhole Minus rest = Unit {0}
+-- where `fence.i` stands, with no letter, digit or `_` after it, it is the word, and `fence` alone is none
+abbrev pub IsNoPart : List ℕ → List ℕ → Type 0
+IsNoPart text rest = (after : List ℕ) → text ++ rest ≡ fence_i ++ after → IsRunEnd is_name_byte after → text ≡ fence_i
+
+-- words and numbers are whole: no letter, digit or `_` comes after them, and a word is no part of `fence.i`
+abbrev pub IsWhole : TokenKind → List ℕ → List ℕ → Type 0
+IsWhole Word text rest = IsRunEnd is_name_byte rest × IsNoPart text rest
+IsWhole (Number n) text rest = IsRunEnd is_name_byte rest
+IsWhole (Text contents) text rest = Unit {0}
+IsWhole Comma text rest = Unit {0}
+IsWhole Colon text rest = Unit {0}
+IsWhole Open text rest = Unit {0}
+IsWhole Close text rest = Unit {0}
+IsWhole Plus text rest = Unit {0}
+IsWhole Minus text rest = Unit {0}
 
 -- the text of a token, and what comes after it
 abbrev pub IsToken : Bool → TokenKind → List ℕ → List ℕ → Type 0
-IsToken after_word kind text rest = IsForm after_word kind text × IsWhole kind rest
+IsToken after_word kind text rest = IsForm after_word kind text × IsWhole kind text rest
 
 -- A place in a line: its byte in the source, the bytes from there to the line's end, and whether a word ends there.
 pub record Place : Type 0 where

@@ -25,8 +25,7 @@ impl Cause {
     }
 }
 
-/// Why a source has no tokens, and where. Lines and columns are counted from 1, columns in bytes. Want of memory stands
-/// at 1:1.
+/// Why a source has no tokens, and where. Lines and columns count from 1, columns in bytes. Out of memory stands at 1:1.
 #[derive(Clone, Copy, Debug, PartialEq, Eq, Error)]
 #[error("{line}:{column}: {why}")]
 pub struct TextFault {
@@ -36,7 +35,6 @@ pub struct TextFault {
 }
 
 impl TextFault {
-    /// Want of memory.
     fn out_of_memory() -> TextFault
         ensures { result ≡ out_of_memory }
     {

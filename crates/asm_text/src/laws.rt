@@ -3,7 +3,7 @@ ghost use Rattle.std.specs.Prelude.{◌≡◌, ◌⊎◌, ℕ, List};
 ghost use Rattle.asm_text.specs.Text.{IsText, FirstFault};
 ghost use Rattle.asm_text.specs.declared.token.Line.{Line};
 
-/// A source has one reading: its lines, or its first fault, and never both.
+/// A law: a source has either lines or a first fault, and never both.
 pub fn one_reading()
     ensures some { (source : List ℕ) → ((ls : List Line) × IsText source ls) ⊎ ((line : ℕ) × (column : ℕ) × FirstFault source line column) }
     ensures lines { (source : List ℕ) (ls ms : List Line) → IsText source ls → IsText source ms → ls ≡ ms }

@@ -1,8 +1,8 @@
-//! The lines and tokens of an assembler's source.
+//! The lexer of the assembler: a source's lines and their tokens. Read `lines` first, then `TokenKind`. `lines` gives exactly the
+//! lines and tokens of the source, or its first fault; only out of memory may come instead.
 //!
-//! A line has tokens, blanks (spaces and tabs) and at the end perhaps a comment, which begins with `#`. `+` and `-` directly
-//! after a word are tokens of their own, as in `label+4`, `label-4` and `label--4`; anywhere else `-` begins a number and
-//! `+` has no form.
+//! A line has tokens, blanks (spaces and tabs) and perhaps a comment, from `#` on. Directly after a word `+` and `-` are tokens, as
+//! in `label+4`, `label-4` and `label--4`. Anywhere else `-` begins a number and `+` has no form.
 #![tactic(auto)]
 
 mod fault;

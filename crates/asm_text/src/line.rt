@@ -12,14 +12,14 @@ use crate::scan::token_at;
 use crate::token::{Line, Token, Tokens};
 use std::alloc::Global;
 
-/// Whether a word ends here, these many blanks further on.
+/// Whether a word still ends here after so many blanks.
 fn still_after(word: bool, blanks: usize) -> bool
     ensures { result ≡ (word && (blanks == 0)) }
 {
     word && blanks == 0
 }
 
-/// Whether the line is at its end here, or a comment takes the rest of it.
+/// Whether nothing or a comment is the rest of the line.
 fn is_over(rest: &[u8]) -> bool
     ensures { MatchBool result (IsEndOrComment rest.now) (GoesOn rest.now) }
 {

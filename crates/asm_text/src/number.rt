@@ -46,7 +46,6 @@ fn magnitude(text: &[u8]) -> Option<u64>
     }
 }
 
-/// A number from 0 on.
 fn above_zero(magnitude: u64) -> Option<i64>
     requires { magnitude < 2 ^ 32 }
     ensures { result ≡ above_zero magnitude }
@@ -66,7 +65,7 @@ fn below_zero(magnitude: u64) -> Option<i64>
     }
 }
 
-/// The value of a number.
+/// The value of a number with its sign. None where it is malformed, or outside -2^31 to 2^32 - 1.
 pub fn number_value(text: &[u8]) -> Option<i64>
     ensures { result ≡ number_value text.now }
 {

@@ -6,7 +6,7 @@ ghost use Rattle.asm_text.specs.Scan.{escaped, contents_from};
 use byte_list::Bytes;
 use std::alloc::{AllocError, Global};
 
-/// What an escape stands for.
+/// The byte that an escape gives, by the byte after its `\`.
 fn escaped(byte: u8) -> Option<u8>
     ensures { result ≡ escaped byte }
 {
@@ -20,8 +20,8 @@ fn escaped(byte: u8) -> Option<u8>
     }
 }
 
-/// What the byte after the opening quote, and those after it, hold up to the closing quote; and how many bytes that
-/// and the quote take. None where they hold no string.
+/// Reads a string from the byte after its opening quote up to its closing quote. Gives its contents, and how many bytes they and
+/// the quote take in the source. None where the bytes begin no string.
 pub fn contents(alloc: Global, bytes: &[u8]) -> Result<Option<(Bytes, usize)>, AllocError>
     ensures value { IfOk result (λ found. found ≡ contents_from false bytes.now) }
     ensures bound { IfOk result (λ found. IfSome found (λ f. f.1 ≤ length bytes.now)) }

@@ -1,8 +1,11 @@
 //! Runs of bytes of one kind.
-ghost use Rattle.std.specs.Prelude.{◌≡◌, ◌≤◌, length};
+ghost use Rattle.std.specs.Prelude.{◌≡◌, ◌<◌, ◌≤◌, true, length};
 ghost use Rattle.std.specs.List.{prefix_len};
 ghost use Rattle.asm_text.specs.Letters.{is_name_byte, begins_word, is_blank, goes_on};
-ghost use Rattle.asm_text.specs.Scan.{run_len};
+ghost use Rattle.asm_text.specs.Scan.{run_len, begins_fence_i, word_len};
+
+/// The one word that has a `.` inside.
+const FENCE_I: [u8; 7] = *b"fence.i";
 
 /// Whether a word goes on with this byte.
 pub fn is_name_byte(byte: u8) -> bool
@@ -18,7 +21,6 @@ pub fn begins_word(byte: u8) -> bool
     byte.is_ascii_alphabetic() || byte == b'_' || byte == b'.'
 }
 
-/// Whether this is a space or a tab.
 fn is_blank(byte: u8) -> bool
     ensures { result ≡ is_blank byte }
 {
@@ -51,7 +53,7 @@ fn name_len(bytes: &[u8]) -> usize
     bytes.len()
 }
 
-/// How many bytes a word or a number takes that comes first, its first byte whatever it is.
+/// How many bytes a run takes that comes first, its first byte whatever it is.
 pub fn run_len(bytes: &[u8]) -> usize
     ensures value { result ≡ run_len bytes.now }
     ensures bound { result ≤ length bytes.now }
@@ -59,6 +61,30 @@ pub fn run_len(bytes: &[u8]) -> usize
     match bytes {
         [] => 0,
         [_, rest @ ..] => 1 + name_len(rest),
+    }
+}
+
+/// Whether `fence.i` comes first, with no letter, digit or `_` after it.
+fn begins_fence_i(bytes: &[u8]) -> bool
+    ensures value { result ≡ begins_fence_i bytes.now }
+    ensures bound { result ≡ true → 7 ≤ length bytes.now }
+{
+    match bytes.strip_prefix(&FENCE_I) {
+        Some(rest) => name_len(rest) == 0,
+        None => false,
+    }
+}
+
+/// How many bytes a word takes that comes first.
+pub fn word_len(bytes: &[u8]) -> usize
+    ensures value { result ≡ word_len bytes.now }
+    ensures some { 0 < length bytes.now → 0 < result }
+    ensures bound { result ≤ length bytes.now }
+{
+    if begins_fence_i(bytes) {
+        FENCE_I.len()
+    } else {
+        run_len(bytes)
     }
 }
 

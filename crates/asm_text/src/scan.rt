@@ -4,7 +4,7 @@ ghost use Rattle.asm_text.specs.Scan.{word_of, number_of, string_of, contents_fr
 
 use crate::number::number_value;
 use crate::quoted::contents;
-use crate::runs::{begins_word, run_len};
+use crate::runs::{begins_word, run_len, word_len};
 use crate::token::TokenKind;
 use std::alloc::{AllocError, Global};
 
@@ -13,7 +13,8 @@ const MOST: usize = 64;
 
 /// A word of this many bytes.
 fn word_of(len: usize) -> Option<(TokenKind, usize)>
-    ensures { result ≡ word_of len }
+    ensures value { result ≡ word_of len }
+    ensures bound { IfSome result (λ f. f.1 ≡ len) }
 {
     if len <= MOST {
         Some((TokenKind::Word, len))
@@ -22,7 +23,6 @@ fn word_of(len: usize) -> Option<(TokenKind, usize)>
     }
 }
 
-/// The number that is this text.
 fn number_of(text: &[u8]) -> Option<(TokenKind, usize)>
     ensures { result ≡ number_of text.now }
 {
@@ -41,7 +41,7 @@ fn string_of(alloc: Global, bytes: &[u8]) -> Result<Option<(TokenKind, usize)>, 
     Ok(Some((TokenKind::Text(bytes), 1 + len)))
 }
 
-/// The token that is one byte.
+/// The token of one byte.
 fn mark_of(after_word: bool, byte: u8) -> Option<TokenKind>
     ensures { result ≡ mark_of after_word byte }
 {
@@ -69,7 +69,7 @@ pub fn token_at(
         return Ok(None);
     };
     if begins_word(*first) {
-        return Ok(word_of(run_len(bytes)));
+        return Ok(word_of(word_len(bytes)));
     }
     if first.is_ascii_digit() || (*first == b'-' && !after_word) {
         return Ok(number_of(&bytes[..run_len(bytes)]));

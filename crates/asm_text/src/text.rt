@@ -10,12 +10,11 @@ use crate::runs::line_len;
 use crate::token::Line;
 use std::alloc::Global;
 
-/// All lines of a source with their tokens, also those with none. A source of n line feeds has n + 1 lines, the last of
-/// them perhaps empty. A comment runs from `#` to the line's end and may hold any bytes.
+/// All lines of a source with their tokens, also those with none. n line feeds make n + 1 lines, of which the last may be empty. A
+/// comment runs from `#` to the end of its line and may hold any bytes.
 ///
-/// A fault of syntax stands at the first byte that begins no token: at the opening quote of a faulty string, at the first
-/// byte of a faulty number (at its `-`, where it has one) and of a word of over 64 bytes. Which tokens may follow which
-/// is not looked at.
+/// A syntax fault stands at the first byte that begins no token. A faulty string counts from its opening quote, a faulty number
+/// from its first byte or its `-`. A word of over 64 bytes counts from its first byte. The order of tokens is not checked here.
 pub fn lines(alloc: Global, source: &str) -> Result<Vec<Line>, TextFault>
     // Exactly the source's lines and tokens, or its first fault.
     ensures exact { MatchResult result (λ ls. IsText source.now ls.items) (λ f. Stands (FirstFault source.now) f) }

@@ -8,11 +8,11 @@ use std::marker::Model;
 /// What a token is.
 #[derive(Drop)]
 pub enum TokenKind {
-    /// A mnemonic, a register, a label or a directive: a letter, `_` or `.`, then letters, digits and `_`, at most 64
-    /// bytes.
+    /// A mnemonic, a register, a label or a directive: a letter, `_` or `.`, then letters, digits and `_`, at most 64 bytes.
+    /// `fence.i` is one word too, where no letter, digit or `_` follows it.
     Word,
-    /// A decimal number, or a hexadecimal one after `0x`, with `-` directly before it where it is negative: a value
-    /// from -2^31 to 2^32 - 1. Directly after a word `-` is `Minus`, and no part of a number.
+    /// A number from -2^31 to 2^32 - 1: decimal, or hexadecimal after `0x`, with `-` directly before it where it is negative.
+    /// Directly after a word `-` is `Minus`, and no part of a number.
     Number(i64),
     /// A string in double quotes: its bytes, with the escapes replaced.
     Text(Bytes),
@@ -31,7 +31,6 @@ pub enum TokenKind {
 }
 
 impl TokenKind {
-    /// Whether this is a word.
     pub(crate) fn is_word(&self) -> bool
         ensures { result ≡ is_word self.now }
     {

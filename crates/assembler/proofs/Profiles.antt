@@ -20,10 +20,10 @@ text-ends prefix cells i ended is =
     omega (arith, ap length is, length-append prefix (bytes_of_words (words_of (drop i cells))), text_length (drop i cells), text_length cells, length-drop i cells)
 
 loadable-text : (bytes : List ℕ) → 0 < length bytes → length bytes ≤ 245760 → IsLoadable (text_segment bytes)
-loadable-text bytes some few = record { present = some; within = omega arith; some_right = refl; not_both = refl; above = omega arith; below = omega arith }
+loadable-text bytes some few = record { present = some; within = omega arith; some_right = refl; above = omega arith; below = omega arith }
 
 loadable-data : (at : ℕ) (bytes : List ℕ) → 0 < length bytes → length bytes ≤ 245760 → 65536 ≤ at → at ≤ 311296 → IsLoadable (data_segment at bytes)
-loadable-data at bytes some few low high = record { present = some; within = omega arith; some_right = refl; not_both = refl; above = low; below = omega arith }
+loadable-data at bytes some few low high = record { present = some; within = omega arith; some_right = refl; above = low; below = omega arith }
 
 -- an image of at most 60 pages, with an entry in its text, may be loaded
 profile-segments : (entry count : ℕ) (text bytes : List ℕ) → length text ≡ 4 * count → pages (4 * count) + pages (length bytes) ≤ 60 → entry % 4 ≡ 0 → 65536 ≤ entry → entry < 65536 + 4 * count

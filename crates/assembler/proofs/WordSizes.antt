@@ -184,6 +184,7 @@ word-below (instr.Divu rd rs1 rs2) m = r-below 0b101 0b0000001 rd rs1 rs2 (lit< 
 word-below (instr.Rem rd rs1 rs2) m = r-below 0b110 0b0000001 rd rs1 rs2 (lit< tt) (lit< tt) m
 word-below (instr.Remu rd rs1 rs2) m = r-below 0b111 0b0000001 rd rs1 rs2 (lit< tt) (lit< tt) m
 word-below instr.Fence m = lit< tt
+word-below instr.FenceI m = lit< tt
 word-below instr.Ecall m = lit< tt
 word-below instr.Ebreak m = lit< tt
 

@@ -42,9 +42,8 @@ AreInstructions at number (i ∷ instructions) [] = ⊥
 AreInstructions at number (i ∷ instructions) (row ∷ rows) =
     (row.address ≡ at) × (row.line ≡ number) × Means row.word i × AreInstructions (at + 4) number instructions rows
 
--- A line's instruction is listed: where the labels stand as all lines place them, it expands to instructions; and after a
--- row for each word of text before it come rows that are those instructions from the address there on, and the only ones of
--- the line.
+-- A line's instruction is listed. Where the labels stand as all lines place them, it expands to instructions. After a row for each
+-- word of text before it come its rows: those instructions from the address there on, and the only rows of the line.
 pub record IsListedInstruction (source : List ℕ) (lines : List Line) (line : Line) (words : ℕ) (m : Mnemonic) (o : Operands) (listing : List Row) : Type 0 where
   pub layout : Layout
   pub placed : all_placed source lines start_layout ≡ Ok layout

@@ -2,7 +2,7 @@
 use Rattle.std.specs.Prelude.{◌≡◌, ℕ, pos, ◌+ℤ◌, ◌*◌, ◌%◌, ◌^◌, ◌<◌, ◌⊎◌, List}
 use Rattle.formats.specs.Meaning.{Means}
 use Rattle.formats.specs.declared.instr.Instr.{Instr}
-use Rattle.formats.specs.declared.instr.Instr.TheVariants.{Fence}
+use Rattle.formats.specs.declared.instr.Instr.TheVariants.{Fence, FenceI}
 use Rattle.machine_model.specs.Images.{Program}
 use Rattle.statements.specs.Encoding.{word_of}
 use Rattle.statements.specs.Expansion.{modulo_word, low_part, high_part}
@@ -11,16 +11,17 @@ use Rattle.assembler.specs.Sections.{IsByLines}
 use Rattle.assembler.specs.declared.fault.AsmFault.{AsmFault}
 use Rattle.assembler.specs.declared.listing.Row.{Row}
 
--- A word that means an instruction is the instruction's word; of the words that mean FENCE it is that of all accesses.
+-- A word that means an instruction is the instruction's word. FENCE and FENCE.I have several words: for FENCE it is the fence of
+-- all accesses, for FENCE.I the one whose unused fields are 0.
 abbrev pub WordsAreOfTable : Type 0
-WordsAreOfTable = (w : ℕ) (i : Instr) → w < 2 ^ 32 → (i ≡ Fence → w ≡ 0x0FF0000F) → Means w i → w ≡ word_of i
+WordsAreOfTable = (w : ℕ) (i : Instr) → w < 2 ^ 32 → (i ≡ Fence → w ≡ 0x0FF0000F) → (i ≡ FenceI → w ≡ 0x0000100F) → Means w i → w ≡ word_of i
 
 -- The high part, shifted up by twelve bits, and the low part add up to the number, modulo 2^32.
 abbrev pub PartsAddUp : Type 0
 PartsAddUp = (u : ℕ) → modulo_word (pos (high_part u * 2 ^ 12) +ℤ low_part u) ≡ u % 2 ^ 32
 
--- The image of a source is, line by line, the bytes of its statements, each at its own address; and a label stands at its
--- section's base plus the bytes of that section before it.
+-- The image of a source is, line by line, the bytes of its statements, each at its own address. A label stands at its section's
+-- base plus the bytes of that section before it.
 abbrev pub ImagesAreByLines : Type 0
 ImagesAreByLines = (source : List ℕ) (image : Program) (listing : List Row) → Assembles source image listing → IsByLines source image
 

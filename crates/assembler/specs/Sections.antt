@@ -73,8 +73,8 @@ HoldsBytes scope line at (statement.Instruction m o) bytes =
     × (bytes ≡ bytes_of_words (map word_of (instructions_of e)))
 HoldsBytes scope line at s bytes = bytes ≡ []
 
--- The image of a source, line by line: text and data are the bytes of their statements, one after the other; a statement
--- holds its bytes at its own address; and a label stands at the address of what comes next in its section.
+-- The image of a source, line by line. Text and data are the bytes of their statements, one after the other, and each statement
+-- holds its bytes at its own address. A label stands at the address of what comes next in its section.
 pub record IsByLines (source : List ℕ) (image : Program) : Type 0 where
   pub pieces : List Piece
   pub text : IsText source (lines_of pieces)

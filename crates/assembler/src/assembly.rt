@@ -22,14 +22,19 @@ const SOURCE_LIMIT: usize = 1_048_576;
 
 /// The image and the listing of a source.
 ///
-/// Text begins at 0x00010000 and may be read and executed; data, if there is any, begins at the next page and may be read
-/// and written. The program begins at the label `_start`.
+/// Text begins at 0x00010000 and may be read and executed. Data, if there is any, begins at the next page and may be read and
+/// written. The program begins at the label `_start`.
 ///
-/// The first fault of a source is: `TooLarge`, where it has over 1,048,576 bytes; `Syntax` in its tokens, on whatever line;
-/// then line by line, and on one line in this order, `Syntax` of what stands in the place of a label, `DoubleLabel`, `Syntax`
-/// of the statement, and `Range` of a `.space`; `TooLarge`, where text and data take over 60 pages; `NoStart`, where no
-/// `_start` stands before a word of text; then line by line, and on one line from left to right, `UnknownName` and `Range` of
-/// an operand. Want of memory is `OutOfMemory`, at 1:1, and may come at any time.
+/// The first fault of a source is told. The checks go in this order:
+///
+/// 1. `TooLarge`: over 1,048,576 bytes.
+/// 2. `Syntax` in a token, on whatever line.
+/// 3. Line by line: `Syntax` in the place of a label, `DoubleLabel`, `Syntax` of the statement, `Range` of a `.space`.
+/// 4. `TooLarge`: text and data take over 60 pages.
+/// 5. `NoStart`: no `_start` stands before a word of text.
+/// 6. Line by line, from left to right: `UnknownName` and `Range` of an operand.
+///
+/// `OutOfMemory`, at 1:1, may come at any time.
 pub fn assemble(alloc: Global, source: &str) -> Result<(Image, Listing), AsmFault>
     ensures assembled { IfOk result (λ r. Assembles source.now r.0 r.1) }
     ensures listed { IfOk result (λ r. IsListedIn r.0 r.1) }
@@ -44,7 +49,6 @@ pub fn assemble(alloc: Global, source: &str) -> Result<(Image, Listing), AsmFaul
     assemble_lines(alloc, source.as_bytes(), lines.as_slice())
 }
 
-/// The image and the listing of the lines of a source.
 fn assemble_lines(
     alloc: Global,
     source: &[u8],
@@ -67,7 +71,6 @@ fn assemble_lines(
     Ok((image, listing))
 }
 
-/// Where the program begins.
 fn entry<'a>(layout: &Layout<'a>) -> Result<u32, AsmFault>
     ensures value { result ≡ entry_of layout.now }
     ensures fits { OnOk result (pages (4 * layout.now.position.words) + pages layout.now.position.bytes ≤ 60) }
@@ -115,7 +118,7 @@ fn data_base(words: u32) -> u32
     65536 + (4 * words + 4095) / 4096 * 4096
 }
 
-/// The image of what the sections hold, of which text has some word.
+/// The image of what the sections hold. Text has at least one word.
 fn image(alloc: Global, entry: u32, output: Output) -> Result<Image, AllocError>
     requires fits { pages (4 * length output.cells.items) + pages (length output.bytes.items) ≤ 60 }
     requires inside { IsTextAddress (length output.cells.items) entry }
@@ -159,7 +162,6 @@ fn text_bytes(alloc: Global, cells: &[Cell]) -> Result<Vec<u8>, AllocError>
     Ok(bytes)
 }
 
-/// Text, which may be read and executed.
 fn text_segment(bytes: Vec<u8>) -> Segment
     requires { length bytes.items ≤ 245760 }
     ensures { result ≡ text_segment bytes.items }
@@ -176,7 +178,6 @@ fn text_segment(bytes: Vec<u8>) -> Segment
     }
 }
 
-/// Data at an address, which may be read and written.
 fn data_segment(vaddr: u32, bytes: Vec<u8>) -> Segment
     requires { length bytes.items ≤ 245760 }
     ensures { result ≡ data_segment vaddr bytes.items }

@@ -16,10 +16,13 @@ pub enum Cause {
     UnknownName = 2,
     /// A label of this name stands further up.
     DoubleLabel = 3,
-    /// A number does not fit where it stands. On the first pass: a `.space` of a negative size, or in text of one that is no
-    /// multiple of 4. On the second, after all faults of the first: a byte outside -128 to 255; an immediate, or the offset
-    /// of a load or a store, outside -2048 to 2047; upper bits outside 0 to 0xFFFFF; a shift outside 0 to 31; a target whose
-    /// distance is no multiple of 4, or outside -4096 to 4092 of a branch, -1048576 to 1048572 of a jump.
+    /// A number does not fit where it stands. The first pass finds a `.space` of a negative size, or in text of a size that is no
+    /// multiple of 4. The second finds, after all faults of the first:
+    ///
+    /// - a byte outside -128 to 255, or upper bits outside 0 to 0xFFFFF;
+    /// - an immediate, or the offset of a load or a store, outside -2048 to 2047;
+    /// - a shift outside 0 to 31;
+    /// - a distance of a target that is no multiple of 4, or outside -4096 to 4092 of a branch, -1048576 to 1048572 of a jump.
     Range = 4,
     /// No label `_start` stands before a word of text.
     NoStart = 5,
@@ -37,7 +40,6 @@ impl Cause {
         self as u8
     }
 
-    /// Its name.
     fn name(self) -> &'static str {
         match self {
             Cause::Syntax => "Syntax",
@@ -57,8 +59,7 @@ impl fmt::Display for Cause {
     }
 }
 
-/// Why a source is refused, and where: lines and columns are counted from 1, columns in bytes. What concerns no place
-/// stands at 1:1.
+/// Why a source is refused, and where. Lines and columns count from 1, columns in bytes. A fault of no place stands at 1:1.
 #[derive(Clone, Copy, Debug, PartialEq, Eq, Error)]
 #[error("{why} at {line}:{column}")]
 pub struct AsmFault {
@@ -68,7 +69,7 @@ pub struct AsmFault {
 }
 
 impl AsmFault {
-    /// A fault of the source as a whole.
+    /// A fault of the source as a whole, at 1:1.
     pub fn whole(why: Cause) -> AsmFault
         ensures { result ≡ whole why }
     {
@@ -80,7 +81,7 @@ impl AsmFault {
     }
 }
 
-/// A fault at a place of the source that lies in a line.
+/// A fault at byte `at` of the source, which lies in this line.
 pub fn fault_at(source: &[u8], line: &Line, why: Cause, at: usize) -> AsmFault
     ensures { result ≡ fault_at source.now line.now why at }
 {

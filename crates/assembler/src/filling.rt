@@ -49,9 +49,8 @@ impl Drop for Output {
     }
 }
 
-/// Goes over all lines again, where the labels stand as they say and data begins at its base. A fault is the first of
-/// them: a label that is not there, or a number that does not fit. After a first pass without a fault no line has one of
-/// its form: that pass read each line at the same position, and would have met it.
+/// Goes over all lines again, with data at its base. A fault is the first of them: a label that is not there, or a number that does
+/// not fit. After a first pass without a fault no `Syntax` comes: that pass read each line at the same position.
 pub fn fill<'a>(
     alloc: Global,
     source: &'a [u8],
@@ -74,7 +73,7 @@ pub fn fill<'a>(
     Ok(output)
 }
 
-/// Goes over a line, and answers the position after it.
+/// Goes over a line. Gives the position after it.
 fn fill_line<'a>(
     source: &'a [u8],
     labels: &Labels<'a>,
@@ -142,7 +141,7 @@ fn fill_statement<'a>(
     }
 }
 
-/// What a value is at a position: a label its distance from there.
+/// The value as a number at a position. A label is its distance from there, in bytes.
 fn number_at<'a>(
     source: &'a [u8],
     labels: &Labels<'a>,
@@ -210,7 +209,7 @@ fn address(data_base: u32, spot: Spot) -> i64
     }
 }
 
-/// What a value is: a number as it is, and a label its distance from an address; none where there is no such label.
+/// The value as a number: a label is its distance from an address. None where there is no such label.
 fn distance<'a>(
     source: &'a [u8],
     labels: &Labels<'a>,
@@ -235,7 +234,7 @@ fn distance<'a>(
     }
 }
 
-/// A number above an address, as a distance from another.
+/// The distance from `pc` to a number above an address.
 fn above(address: i64, by: Literal, pc: i64) -> i64
     requires at_low { pos 0 ≤ℤ address }
     requires at_high { address ≤ℤ pos 17179934720 }
@@ -246,7 +245,7 @@ fn above(address: i64, by: Literal, pc: i64) -> i64
     address + by.value() - pc
 }
 
-/// A number below an address, as a distance from another.
+/// The distance from `pc` to a number below an address.
 fn below(address: i64, by: Literal, pc: i64) -> i64
     requires at_low { pos 0 ≤ℤ address }
     requires at_high { address ≤ℤ pos 17179934720 }
@@ -257,7 +256,6 @@ fn below(address: i64, by: Literal, pc: i64) -> i64
     address - by.value() - pc
 }
 
-/// Adds a word of a line's statement.
 fn put_word(in_data: bool, line: usize, word: u32, output: &mut Output) -> Result<(), AsmFault>
     ensures ok { OnOk result (put_word in_data line word (shown output.old) ≡ shown output.new) }
     ensures err { IfErr result (λ f. f ≡ out_of_memory) }
@@ -270,7 +268,6 @@ fn put_word(in_data: bool, line: usize, word: u32, output: &mut Output) -> Resul
     Ok(())
 }
 
-/// Adds the words of an expansion.
 fn put_expansion(
     in_data: bool,
     line: usize,

@@ -40,7 +40,7 @@ impl<'a> Model for Labels<'a> {
 }
 
 impl<'a> Labels<'a> {
-    /// No labels.
+    /// No labels. Takes no memory.
     pub fn new(alloc: Global) -> Labels<'a>
         ensures { result ≡ empty }
     {
@@ -56,7 +56,7 @@ impl<'a> Labels<'a> {
         self.spots.get(&name).copied()
     }
 
-    /// Takes a label in.
+    /// Adds a label. One of the same name is replaced.
     pub fn insert(&mut self, name: &'a [u8], spot: Spot) -> Result<(), AllocError>
         ensures ok { OnOk result (self.new ≡ insert self.old name.now spot) }
         ensures err { OnErr result (self.new ≡ self.old) }

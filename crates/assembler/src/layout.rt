@@ -11,8 +11,8 @@ use statements::{
 };
 use std::alloc::Global;
 
-/// How far the sections have come: the section that statements go to, the words of text and the bytes of data. A number
-/// that has reached 2^32 - 1 stays there, as a section of that length is too large in any case.
+/// How far the sections have come: the section that statements go to, the words of text and the bytes of data. A number stays at
+/// 2^32 - 1, since a section of that length is too large in any case.
 #[derive(Clone, Copy)]
 pub struct Position {
     pub in_data: bool,
@@ -42,7 +42,6 @@ impl Position {
         }
     }
 
-    /// Further on by words of text.
     fn with_words(self, count: u32) -> Position
         ensures { result ≡ with_words self count }
     {
@@ -53,7 +52,6 @@ impl Position {
         }
     }
 
-    /// Further on by bytes of data.
     fn with_bytes(self, count: u32) -> Position
         ensures { result ≡ with_bytes self count }
     {
@@ -64,7 +62,7 @@ impl Position {
         }
     }
 
-    /// Further on in the section that statements go to, by its words or bytes.
+    /// Further on in the current section by so many of its words or bytes.
     fn advanced(self, size: u32) -> Position
         ensures { result ≡ advanced self size }
     {
@@ -75,7 +73,6 @@ impl Position {
         }
     }
 
-    /// In the section of text, or that of data.
     fn within(self, in_data: bool) -> Position
         ensures { result ≡ within self in_data }
     {
@@ -120,8 +117,8 @@ impl<'a> Drop for Layout<'a> {
     }
 }
 
-/// Goes over all lines. A fault is the first of them: a statement of a wrong form, a label that is there already, or a
-/// `.space` that no section can hold.
+/// Goes over all lines. A fault is the first of them: a statement of a wrong form, a label that was there already, or a `.space`
+/// that no section can hold.
 pub fn lay_out<'a>(alloc: Global, source: &'a [u8], lines: &[Line]) -> Result<Layout<'a>, AsmFault>
     ensures ok { IfOk result (λ l. all_placed source.now lines.now start_layout ≡ Ok l) }
     ensures err { IfErr result (λ f. f ≢ out_of_memory → all_placed source.now lines.now start_layout ≡ Err f) }
@@ -134,7 +131,7 @@ pub fn lay_out<'a>(alloc: Global, source: &'a [u8], lines: &[Line]) -> Result<La
     Ok(Layout { position, labels })
 }
 
-/// Goes over a line, and answers the position after it.
+/// Goes over a line. Gives the position after it.
 fn place<'a>(
     source: &'a [u8],
     line: &Line,
@@ -162,7 +159,6 @@ fn place<'a>(
     Ok(position.after(&statement, tokens))
 }
 
-/// Takes in the label of a line.
 fn declare<'a>(
     source: &'a [u8],
     line: &Line,
@@ -201,7 +197,7 @@ fn check_space(
     Ok(())
 }
 
-/// So many words in words of text or bytes of data, up to 2^32 - 1.
+/// So many words, in words of text or bytes of data, up to 2^32 - 1.
 fn units(words: u32, in_data: bool) -> u32
     ensures { result ≡ counted (units_of words in_data) }
 {
@@ -224,7 +220,7 @@ fn number_units(tokens: &[Token], in_data: bool) -> u32
     }
 }
 
-/// How many words of text, or bytes of data, so many zero bytes take.
+/// So many zero bytes, in words of text or bytes of data.
 fn space_units(size: Literal, in_data: bool) -> u32
     ensures { result ≡ counted (space_units size in_data) }
 {
@@ -240,7 +236,7 @@ fn string_len(tokens: &[Token]) -> u32
     len.min(u32::MAX as usize) as u32
 }
 
-/// How many bytes a `.space` of a number has: none where it is negative, which `check_space` refuses.
+/// How many bytes a `.space` of a number takes. 0 where it is negative, which `check_space` refuses.
 pub fn space_bytes(number: Literal) -> u32
     ensures { result ≡ space_bytes number }
 {

@@ -1,4 +1,5 @@
-//! An assembler: sources to images and listings.
+//! An assembler in two passes: a source to an image and a listing. Read `assemble` first: its comment has the order of faults. The
+//! laws join its definitions to the instruction table, and say that what it assembles may be loaded.
 #![tactic(auto)]
 
 mod assembly;

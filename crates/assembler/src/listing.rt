@@ -6,7 +6,7 @@ use crate::filling::Cell;
 use std::alloc::{AllocError, Global};
 use std::marker::Model;
 
-/// A word of text: its address, the word, and the line of the source, from 1, whose statement it is of.
+/// A word of text: its address, the word, and the line of its statement, from 1.
 #[derive(Clone, Copy, Debug, PartialEq, Eq)]
 pub struct Row {
     pub address: u32,

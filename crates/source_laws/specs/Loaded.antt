@@ -6,9 +6,9 @@ use Rattle.memory_model.specs.Memory.{Memory}
 use Rattle.memory_model.specs.Access.{fetched}
 use Rattle.machine_model.specs.Images.{Program, IsProfile}
 use Rattle.elf32.specs.Files.{file_of}
-use Rattle.elf32.specs.Names.{Names, IsRefused}
-use Rattle.elf32.specs.declared.fault.ElfFault.{ElfFault}
-use Rattle.elf32.specs.declared.fault.ElfFault.TheVariants.{OutOfMemory}
+use Rattle.image_model.specs.Names.{Names, IsRefused}
+use Rattle.image_model.specs.declared.fault.ElfFault.{ElfFault}
+use Rattle.image_model.specs.declared.fault.ElfFault.TheVariants.{OutOfMemory}
 use Rattle.asm_text.specs.Text.{IsText}
 use Rattle.asm_text.specs.declared.token.Line.{Line}
 use Rattle.assembler.specs.Instructions.{IsInstruction, IsListedInstruction, instructions_of}

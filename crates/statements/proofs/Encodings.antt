@@ -1,4 +1,5 @@
--- A word below 2 ^ 32 that means an instruction is that instruction's word, where it is the right one of those of FENCE.
+-- A word below 2 ^ 32 that means an instruction is that instruction's word, where it is the right one of those of FENCE and of
+-- FENCE.I.
 use Rattle.std.proofs.Common.{ℕ, ℤ, pos, ◌-ℤ◌, ◌≡◌, ◌<◌, ◌+◌, ◌*◌, ◌/◌, ◌%◌, ◌^◌, refl, sym, ap, ◌∙◌, arith, nat_lt, true, false}
 use Rattle.std.specs.Prelude.{if◌then◌else◌}
 use Rattle.std.proofs.lemmas.Int.{ints}
@@ -64,53 +65,54 @@ j_word_is w rd offset p a b e =
     split ∙ ap (j_bits rd) (sym bits)
 
 -- a word that means an instruction is its word
-pub word_is : (w : ℕ) (i : Instr) → w < 2 ^ 32 → (i ≡ instr.Fence → w ≡ 0x0FF0000F) → Means w i → w ≡ word_of i
+pub word_is : (w : ℕ) (i : Instr) → w < 2 ^ 32 → (i ≡ instr.Fence → w ≡ 0x0FF0000F) → (i ≡ instr.FenceI → w ≡ 0x0000100F) → Means w i → w ≡ word_of i
 unfolding word_of
-word_is w (instr.Lui rd imm) below fence m = u_word_is w _ rd imm below m
-word_is w (instr.Auipc rd imm) below fence m = u_word_is w _ rd imm below m
-word_is w (instr.Jal rd offset) below fence m = j_word_is w rd offset below m.0 m.1 m.2
-word_is w (instr.Jalr rd rs1 imm) below fence m = i_word_is w _ _ rd rs1 imm below m
-word_is w (instr.Beq rs1 rs2 offset) below fence m = b_word_is w _ rs1 rs2 offset below m
-word_is w (instr.Bne rs1 rs2 offset) below fence m = b_word_is w _ rs1 rs2 offset below m
-word_is w (instr.Blt rs1 rs2 offset) below fence m = b_word_is w _ rs1 rs2 offset below m
-word_is w (instr.Bge rs1 rs2 offset) below fence m = b_word_is w _ rs1 rs2 offset below m
-word_is w (instr.Bltu rs1 rs2 offset) below fence m = b_word_is w _ rs1 rs2 offset below m
-word_is w (instr.Bgeu rs1 rs2 offset) below fence m = b_word_is w _ rs1 rs2 offset below m
-word_is w (instr.Lb rd rs1 imm) below fence m = i_word_is w _ _ rd rs1 imm below m
-word_is w (instr.Lh rd rs1 imm) below fence m = i_word_is w _ _ rd rs1 imm below m
-word_is w (instr.Lw rd rs1 imm) below fence m = i_word_is w _ _ rd rs1 imm below m
-word_is w (instr.Lbu rd rs1 imm) below fence m = i_word_is w _ _ rd rs1 imm below m
-word_is w (instr.Lhu rd rs1 imm) below fence m = i_word_is w _ _ rd rs1 imm below m
-word_is w (instr.Sb rs1 rs2 imm) below fence m = s_word_is w _ rs1 rs2 imm below m
-word_is w (instr.Sh rs1 rs2 imm) below fence m = s_word_is w _ rs1 rs2 imm below m
-word_is w (instr.Sw rs1 rs2 imm) below fence m = s_word_is w _ rs1 rs2 imm below m
-word_is w (instr.Addi rd rs1 imm) below fence m = i_word_is w _ _ rd rs1 imm below m
-word_is w (instr.Slti rd rs1 imm) below fence m = i_word_is w _ _ rd rs1 imm below m
-word_is w (instr.Sltiu rd rs1 imm) below fence m = i_word_is w _ _ rd rs1 imm below m
-word_is w (instr.Xori rd rs1 imm) below fence m = i_word_is w _ _ rd rs1 imm below m
-word_is w (instr.Ori rd rs1 imm) below fence m = i_word_is w _ _ rd rs1 imm below m
-word_is w (instr.Andi rd rs1 imm) below fence m = i_word_is w _ _ rd rs1 imm below m
-word_is w (instr.Slli rd rs1 amount) below fence m = shift_word_is w _ _ rd rs1 amount below m
-word_is w (instr.Srli rd rs1 amount) below fence m = shift_word_is w _ _ rd rs1 amount below m
-word_is w (instr.Srai rd rs1 amount) below fence m = shift_word_is w _ _ rd rs1 amount below m
-word_is w (instr.Add rd rs1 rs2) below fence m = r_word_is w _ _ rd rs1 rs2 below m
-word_is w (instr.Sub rd rs1 rs2) below fence m = r_word_is w _ _ rd rs1 rs2 below m
-word_is w (instr.Sll rd rs1 rs2) below fence m = r_word_is w _ _ rd rs1 rs2 below m
-word_is w (instr.Slt rd rs1 rs2) below fence m = r_word_is w _ _ rd rs1 rs2 below m
-word_is w (instr.Sltu rd rs1 rs2) below fence m = r_word_is w _ _ rd rs1 rs2 below m
-word_is w (instr.Xor rd rs1 rs2) below fence m = r_word_is w _ _ rd rs1 rs2 below m
-word_is w (instr.Srl rd rs1 rs2) below fence m = r_word_is w _ _ rd rs1 rs2 below m
-word_is w (instr.Sra rd rs1 rs2) below fence m = r_word_is w _ _ rd rs1 rs2 below m
-word_is w (instr.Or rd rs1 rs2) below fence m = r_word_is w _ _ rd rs1 rs2 below m
-word_is w (instr.And rd rs1 rs2) below fence m = r_word_is w _ _ rd rs1 rs2 below m
-word_is w (instr.Mul rd rs1 rs2) below fence m = r_word_is w _ _ rd rs1 rs2 below m
-word_is w (instr.Mulh rd rs1 rs2) below fence m = r_word_is w _ _ rd rs1 rs2 below m
-word_is w (instr.Mulhsu rd rs1 rs2) below fence m = r_word_is w _ _ rd rs1 rs2 below m
-word_is w (instr.Mulhu rd rs1 rs2) below fence m = r_word_is w _ _ rd rs1 rs2 below m
-word_is w (instr.Div rd rs1 rs2) below fence m = r_word_is w _ _ rd rs1 rs2 below m
-word_is w (instr.Divu rd rs1 rs2) below fence m = r_word_is w _ _ rd rs1 rs2 below m
-word_is w (instr.Rem rd rs1 rs2) below fence m = r_word_is w _ _ rd rs1 rs2 below m
-word_is w (instr.Remu rd rs1 rs2) below fence m = r_word_is w _ _ rd rs1 rs2 below m
-word_is w instr.Fence below fence m = fence refl
-word_is w instr.Ecall below fence m = m
-word_is w instr.Ebreak below fence m = m
+word_is w (instr.Lui rd imm) below fence fence_i m = u_word_is w _ rd imm below m
+word_is w (instr.Auipc rd imm) below fence fence_i m = u_word_is w _ rd imm below m
+word_is w (instr.Jal rd offset) below fence fence_i m = j_word_is w rd offset below m.0 m.1 m.2
+word_is w (instr.Jalr rd rs1 imm) below fence fence_i m = i_word_is w _ _ rd rs1 imm below m
+word_is w (instr.Beq rs1 rs2 offset) below fence fence_i m = b_word_is w _ rs1 rs2 offset below m
+word_is w (instr.Bne rs1 rs2 offset) below fence fence_i m = b_word_is w _ rs1 rs2 offset below m
+word_is w (instr.Blt rs1 rs2 offset) below fence fence_i m = b_word_is w _ rs1 rs2 offset below m
+word_is w (instr.Bge rs1 rs2 offset) below fence fence_i m = b_word_is w _ rs1 rs2 offset below m
+word_is w (instr.Bltu rs1 rs2 offset) below fence fence_i m = b_word_is w _ rs1 rs2 offset below m
+word_is w (instr.Bgeu rs1 rs2 offset) below fence fence_i m = b_word_is w _ rs1 rs2 offset below m
+word_is w (instr.Lb rd rs1 imm) below fence fence_i m = i_word_is w _ _ rd rs1 imm below m
+word_is w (instr.Lh rd rs1 imm) below fence fence_i m = i_word_is w _ _ rd rs1 imm below m
+word_is w (instr.Lw rd rs1 imm) below fence fence_i m = i_word_is w _ _ rd rs1 imm below m
+word_is w (instr.Lbu rd rs1 imm) below fence fence_i m = i_word_is w _ _ rd rs1 imm below m
+word_is w (instr.Lhu rd rs1 imm) below fence fence_i m = i_word_is w _ _ rd rs1 imm below m
+word_is w (instr.Sb rs1 rs2 imm) below fence fence_i m = s_word_is w _ rs1 rs2 imm below m
+word_is w (instr.Sh rs1 rs2 imm) below fence fence_i m = s_word_is w _ rs1 rs2 imm below m
+word_is w (instr.Sw rs1 rs2 imm) below fence fence_i m = s_word_is w _ rs1 rs2 imm below m
+word_is w (instr.Addi rd rs1 imm) below fence fence_i m = i_word_is w _ _ rd rs1 imm below m
+word_is w (instr.Slti rd rs1 imm) below fence fence_i m = i_word_is w _ _ rd rs1 imm below m
+word_is w (instr.Sltiu rd rs1 imm) below fence fence_i m = i_word_is w _ _ rd rs1 imm below m
+word_is w (instr.Xori rd rs1 imm) below fence fence_i m = i_word_is w _ _ rd rs1 imm below m
+word_is w (instr.Ori rd rs1 imm) below fence fence_i m = i_word_is w _ _ rd rs1 imm below m
+word_is w (instr.Andi rd rs1 imm) below fence fence_i m = i_word_is w _ _ rd rs1 imm below m
+word_is w (instr.Slli rd rs1 amount) below fence fence_i m = shift_word_is w _ _ rd rs1 amount below m
+word_is w (instr.Srli rd rs1 amount) below fence fence_i m = shift_word_is w _ _ rd rs1 amount below m
+word_is w (instr.Srai rd rs1 amount) below fence fence_i m = shift_word_is w _ _ rd rs1 amount below m
+word_is w (instr.Add rd rs1 rs2) below fence fence_i m = r_word_is w _ _ rd rs1 rs2 below m
+word_is w (instr.Sub rd rs1 rs2) below fence fence_i m = r_word_is w _ _ rd rs1 rs2 below m
+word_is w (instr.Sll rd rs1 rs2) below fence fence_i m = r_word_is w _ _ rd rs1 rs2 below m
+word_is w (instr.Slt rd rs1 rs2) below fence fence_i m = r_word_is w _ _ rd rs1 rs2 below m
+word_is w (instr.Sltu rd rs1 rs2) below fence fence_i m = r_word_is w _ _ rd rs1 rs2 below m
+word_is w (instr.Xor rd rs1 rs2) below fence fence_i m = r_word_is w _ _ rd rs1 rs2 below m
+word_is w (instr.Srl rd rs1 rs2) below fence fence_i m = r_word_is w _ _ rd rs1 rs2 below m
+word_is w (instr.Sra rd rs1 rs2) below fence fence_i m = r_word_is w _ _ rd rs1 rs2 below m
+word_is w (instr.Or rd rs1 rs2) below fence fence_i m = r_word_is w _ _ rd rs1 rs2 below m
+word_is w (instr.And rd rs1 rs2) below fence fence_i m = r_word_is w _ _ rd rs1 rs2 below m
+word_is w (instr.Mul rd rs1 rs2) below fence fence_i m = r_word_is w _ _ rd rs1 rs2 below m
+word_is w (instr.Mulh rd rs1 rs2) below fence fence_i m = r_word_is w _ _ rd rs1 rs2 below m
+word_is w (instr.Mulhsu rd rs1 rs2) below fence fence_i m = r_word_is w _ _ rd rs1 rs2 below m
+word_is w (instr.Mulhu rd rs1 rs2) below fence fence_i m = r_word_is w _ _ rd rs1 rs2 below m
+word_is w (instr.Div rd rs1 rs2) below fence fence_i m = r_word_is w _ _ rd rs1 rs2 below m
+word_is w (instr.Divu rd rs1 rs2) below fence fence_i m = r_word_is w _ _ rd rs1 rs2 below m
+word_is w (instr.Rem rd rs1 rs2) below fence fence_i m = r_word_is w _ _ rd rs1 rs2 below m
+word_is w (instr.Remu rd rs1 rs2) below fence fence_i m = r_word_is w _ _ rd rs1 rs2 below m
+word_is w instr.Fence below fence fence_i m = fence refl
+word_is w instr.FenceI below fence fence_i m = fence_i refl
+word_is w instr.Ecall below fence fence_i m = m
+word_is w instr.Ebreak below fence fence_i m = m

@@ -32,7 +32,7 @@ use Rattle.statements.specs.declared.mnemonic.Link.TheVariants.{Zero, Ra}
 use Rattle.statements.specs.declared.mnemonic.UnaryOp.{UnaryOp}
 use Rattle.statements.specs.declared.mnemonic.UnaryOp.TheVariants.{Mv, Not, Neg, Seqz, Snez, Sltz, Sgtz}
 use Rattle.statements.specs.declared.mnemonic.PlainOp.{PlainOp}
-use Rattle.statements.specs.declared.mnemonic.PlainOp.TheVariants.{Nop, Ret, Fence, Ecall, Ebreak}
+use Rattle.statements.specs.declared.mnemonic.PlainOp.TheVariants.{Nop, Ret, Fence, FenceI, Ecall, Ebreak}
 use Rattle.statements.specs.declared.operands.Operands.{Operands}
 use Rattle.statements.specs.declared.expansion.Expansion.{Expansion}
 use Rattle.statements.specs.declared.expansion.Expansion.TheVariants.{One, Two}
@@ -187,6 +187,7 @@ unfolding word_of
 plain-meant Nop = immediate-meant Addi 0 0 (pos 0) (omega arith) (omega arith) held_zero
 plain-meant Ret = load-meant Jalr 0 1 (pos 0) (omega arith) (omega arith) held_zero
 plain-meant Fence = (refl, refl)
+plain-meant FenceI = (refl, refl)
 plain-meant Ecall = refl
 plain-meant Ebreak = refl
 

@@ -1,4 +1,5 @@
--- The word of each instruction (RISC-V Unprivileged ISA 20191213, chapter 24); of FENCE the one of all accesses.
+-- The word of each instruction (RISC-V Unprivileged ISA 20191213, chapter 24); of FENCE the one of all accesses, and of
+-- FENCE.I the one whose unused fields are 0.
 use Rattle.std.specs.Prelude.{ℕ, ℤ, pos, negsuc, ◌+◌, ◌-◌, ◌*◌, ◌/◌, ◌%◌, ◌^◌}
 use Rattle.formats.specs.declared.instr.Instr.{Instr}
 use Rattle.formats.specs.declared.instr.Instr.TheVariants as instr
@@ -97,5 +98,6 @@ word_of (instr.Divu rd rs1 rs2) = r_word 0b101 0b0000001 rd rs1 rs2
 word_of (instr.Rem rd rs1 rs2) = r_word 0b110 0b0000001 rd rs1 rs2
 word_of (instr.Remu rd rs1 rs2) = r_word 0b111 0b0000001 rd rs1 rs2
 word_of instr.Fence = 0x0FF0000F
+word_of instr.FenceI = 0x0000100F
 word_of instr.Ecall = 0x00000073
 word_of instr.Ebreak = 0x00100073

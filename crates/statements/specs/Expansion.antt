@@ -26,7 +26,7 @@ use Rattle.statements.specs.declared.mnemonic.Link.TheVariants.{Zero, Ra}
 use Rattle.statements.specs.declared.mnemonic.UnaryOp.{UnaryOp}
 use Rattle.statements.specs.declared.mnemonic.UnaryOp.TheVariants.{Mv, Not, Neg, Seqz, Snez, Sltz, Sgtz}
 use Rattle.statements.specs.declared.mnemonic.PlainOp.{PlainOp}
-use Rattle.statements.specs.declared.mnemonic.PlainOp.TheVariants.{Nop, Ret, Fence, Ecall, Ebreak}
+use Rattle.statements.specs.declared.mnemonic.PlainOp.TheVariants.{Nop, Ret, Fence, FenceI, Ecall, Ebreak}
 use Rattle.statements.specs.declared.operands.Value.{Value}
 use Rattle.statements.specs.declared.operands.Value.TheVariants as operand
 use Rattle.statements.specs.declared.operands.Operands.{Operands}
@@ -138,6 +138,7 @@ abbrev pub plain_instr : PlainOp → Instr
 plain_instr Nop = instr.Addi 0 0 (pos 0)
 plain_instr Ret = instr.Jalr 0 1 (pos 0)
 plain_instr Fence = instr.Fence
+plain_instr FenceI = instr.FenceI
 plain_instr Ecall = instr.Ecall
 plain_instr Ebreak = instr.Ebreak
 

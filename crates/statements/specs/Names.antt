@@ -13,7 +13,7 @@ use Rattle.statements.specs.declared.mnemonic.BranchOp.TheVariants.{Beq, Bne, Bl
 use Rattle.statements.specs.declared.mnemonic.UpperOp.TheVariants.{Lui, Auipc}
 use Rattle.statements.specs.declared.mnemonic.Link.TheVariants.{Zero, Ra}
 use Rattle.statements.specs.declared.mnemonic.UnaryOp.TheVariants.{Mv, Not, Neg, Seqz, Snez, Sltz, Sgtz}
-use Rattle.statements.specs.declared.mnemonic.PlainOp.TheVariants.{Nop, Ret, Fence, Ecall, Ebreak}
+use Rattle.statements.specs.declared.mnemonic.PlainOp.TheVariants.{Nop, Ret, Fence, FenceI, Ecall, Ebreak}
 use Rattle.statements.specs.declared.mnemonic.Directive.{Directive}
 use Rattle.statements.specs.declared.mnemonic.Directive.TheVariants as directive
 
@@ -53,7 +53,7 @@ mnemonics =
     (codes "not", form.Unary Not) ∷ (codes "neg", form.Unary Neg) ∷ (codes "seqz", form.Unary Seqz) ∷
     (codes "snez", form.Unary Snez) ∷ (codes "sltz", form.Unary Sltz) ∷ (codes "sgtz", form.Unary Sgtz) ∷
     (codes "nop", form.Plain Nop) ∷ (codes "ret", form.Plain Ret) ∷ (codes "fence", form.Plain Fence) ∷
-    (codes "ecall", form.Plain Ecall) ∷ (codes "ebreak", form.Plain Ebreak) ∷ (codes "li", form.Li) ∷
+    (codes "fence.i", form.Plain FenceI) ∷ (codes "ecall", form.Plain Ecall) ∷ (codes "ebreak", form.Plain Ebreak) ∷ (codes "li", form.Li) ∷
     (codes "la", form.La) ∷ []
 
 -- the directives

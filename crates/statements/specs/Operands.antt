@@ -110,8 +110,8 @@ abbrev pub after_slot : Slot → Token → List Token → List Token
 after_slot slot.Target t ts = if is_word t.kind then after_label ts else ts
 after_slot slot t ts = ts
 
--- The operands, read slot by slot from all tokens after a mnemonic; or the place of the first wrong token, which for one
--- that is missing is `end`.
+-- The operands, read slot by slot from all tokens after a mnemonic. An error is the place of the first wrong token, or `end` where
+-- one is missing.
 abbrev pub operands_read : List ℕ → ℕ → List Slot → List Token → Operands → Result Operands ℕ
 operands_read source end [] [] o = Ok o
 operands_read source end [] (t ∷ ts) o = Err t.start

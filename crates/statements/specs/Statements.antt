@@ -13,8 +13,8 @@ use Rattle.statements.specs.declared.statement.Label.{Label}
 use Rattle.statements.specs.declared.statement.Statement.{Statement}
 use Rattle.statements.specs.declared.statement.Statement.TheVariants as statement
 
--- The label with which a line begins, a name with a colon directly after it, and the tokens after it; or the place of what stands
--- before such a colon and is no label's name.
+-- The label with which a line begins, a name with a colon directly after it, and the tokens after it. An error is the place of what
+-- stands before such a colon and is no label's name.
 abbrev pub label_read : List ℕ → List Token → Result (Option Label × List Token) ℕ
 label_read source [] = Ok (None, [])
 label_read source (t ∷ []) = Ok (None, t ∷ [])
@@ -67,8 +67,8 @@ abbrev pub word_read : List ℕ → Bool → ℕ → ℕ → List ℕ → Option
 word_read source in_data end at word (Some d) ts = directive_read in_data end at d ts
 word_read source in_data end at word None ts = mnemonic_read source end at (named mnemonics word) ts
 
--- The statement that the tokens make, where none are nothing; or the place of the first token that no statement has there,
--- which for one that is missing is `end`.
+-- The statement that the tokens make; no tokens make `Nothing`. An error is the place of the first token that no statement has
+-- there, or `end` where one is missing.
 abbrev pub statement_read : List ℕ → Bool → ℕ → List Token → Result Statement ℕ
 statement_read source in_data end [] = Ok statement.Nothing
 statement_read source in_data end (t ∷ ts) =

@@ -1,5 +1,7 @@
 -- Tokens as the grammar sees them: their bytes, their kinds, their numbers.
 use Rattle.std.specs.Prelude.{ℕ, ℤ, pos, negsuc, ◌^◌, ◌&&◌, ◌==◌, Bool, true, false, not, nat_lt, nat_le, if◌then◌else◌, List, [], ◌∷◌, Option, Some, None, length, slice_range}
+use Rattle.std.specs.Str.{bytes_eq}
+use Rattle.asm_text.specs.Letters.{fence_i}
 use Rattle.asm_text.specs.declared.token.Token.{Token}
 use Rattle.asm_text.specs.declared.token.TokenKind.{TokenKind}
 use Rattle.asm_text.specs.declared.token.TokenKind.TheVariants.{Word, Number, Text, Comma, Colon, Open, Close, Plus, Minus}
@@ -51,10 +53,10 @@ abbrev pub is_string : TokenKind → Bool
 is_string (Text bytes) = true
 is_string _ = false
 
--- a name that is no directive's: it does not begin with `.`
+-- a name that is no directive's, since it does not begin with `.`, and not `fence.i`, which only a mnemonic is
 abbrev pub is_name : List ℕ → Bool
 is_name [] = false
-is_name (b ∷ bs) = not (b == 46)
+is_name (b ∷ bs) = not (b == 46) && not (bytes_eq fence_i (b ∷ bs))
 
 -- the token is a label's name
 abbrev pub is_label : List ℕ → Token → Bool

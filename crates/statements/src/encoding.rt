@@ -4,7 +4,7 @@ ghost use Rattle.statements.specs.Encoding.{word_of};
 
 use formats::{Instr, encode};
 
-/// The word of an instruction.
+/// The word of an instruction, as `formats::encode` gives it.
 #[tactic(auto, using(crate::proofs::Encodings::word_is))]
 pub fn word(instr: &Instr) -> u32
     ensures { result ≡ word_of instr.now }

@@ -1,4 +1,4 @@
-//! What a mnemonic with its operands stands for.
+//! Pseudo-instructions and others: what a mnemonic with its operands stands for.
 ghost use Rattle.std.specs.Prelude.{◌≡◌};
 ghost use Rattle.std.specs.Option.{option_map};
 ghost use Rattle.formats.specs.declared.instr.Instr.TheVariants as instr;
@@ -22,8 +22,8 @@ pub enum Expansion {
     Two(Instr, Instr),
 }
 
-/// The expansion of a mnemonic with its operands and their number, a target's or a label's being its distance from the
-/// instruction; none where the number does not fit its field.
+/// The expansion of a mnemonic with its operands and their number. For a target or a label the number is its distance from the
+/// instruction, in bytes. None where the number does not fit its field.
 pub fn expanded(mnemonic: Mnemonic, operands: &Operands, number: i64) -> Option<Expansion>
     ensures { result ≡ expansion_of mnemonic operands.now number }
 {
@@ -57,7 +57,7 @@ pub fn expanded(mnemonic: Mnemonic, operands: &Operands, number: i64) -> Option<
     }
 }
 
-/// How many words a mnemonic with its operands takes.
+/// How many words a mnemonic with its operands takes. `la` takes two, and `li` as many as its number needs.
 pub fn words_taken(mnemonic: Mnemonic, operands: &Operands) -> u32
     ensures { result ≡ words_taken mnemonic operands.now }
 {
@@ -84,7 +84,6 @@ fn written(value: Value) -> i64
     }
 }
 
-/// `li` of a word.
 fn load_word(rd: Reg, word: u32) -> Expansion
     ensures { result ≡ li_expansion rd word }
 {
@@ -101,7 +100,7 @@ fn load_word(rd: Reg, word: u32) -> Expansion
     Expansion::Two(high, Instr::Addi { rd, rs1: rd, imm })
 }
 
-/// `la` of a distance from the instruction.
+/// `la` of a distance from the instruction, modulo 2^32.
 fn load_address(rd: Reg, distance: u32) -> Expansion
     ensures { result ≡ la_expansion rd distance }
 {
@@ -284,6 +283,7 @@ fn plain_instr(op: PlainOp) -> Instr
             imm,
         },
         PlainOp::Fence => Instr::Fence,
+        PlainOp::FenceI => Instr::FenceI,
         PlainOp::Ecall => Instr::Ecall,
         PlainOp::Ebreak => Instr::Ebreak,
     }

@@ -4,7 +4,7 @@ ghost use Rattle.statements.specs.Expansion.{immediate_of, branch_offset_of, jum
 
 use formats::{BranchOffset, Immediate, JumpOffset, ShiftAmount, Upper};
 
-/// An immediate of twelve bits.
+/// -2048 to 2047, else none.
 #[tactic(auto, unfolding(crate::specs::Expansion::immediate_of))]
 pub fn immediate(value: i64) -> Option<Immediate>
     ensures { result ≡ immediate_of value }
@@ -16,7 +16,7 @@ pub fn immediate(value: i64) -> Option<Immediate>
     }
 }
 
-/// The offset of a branch, a multiple of 4.
+/// A multiple of 4 from -4096 to 4092, else none.
 #[tactic(auto, unfolding(crate::specs::Expansion::branch_offset_of))]
 pub fn branch_offset(value: i64) -> Option<BranchOffset>
     ensures { result ≡ branch_offset_of value }
@@ -28,7 +28,7 @@ pub fn branch_offset(value: i64) -> Option<BranchOffset>
     }
 }
 
-/// The offset of a jump, a multiple of 4.
+/// A multiple of 4 from -1048576 to 1048572, else none.
 #[tactic(auto, unfolding(crate::specs::Expansion::jump_offset_of))]
 pub fn jump_offset(value: i64) -> Option<JumpOffset>
     ensures { result ≡ jump_offset_of value }
@@ -40,7 +40,7 @@ pub fn jump_offset(value: i64) -> Option<JumpOffset>
     }
 }
 
-/// Twenty upper bits.
+/// 0 to 0xFFFFF, not yet shifted; else none.
 #[tactic(auto, unfolding(crate::specs::Expansion::upper_of))]
 pub fn upper(value: i64) -> Option<Upper>
     ensures { result ≡ upper_of value }
@@ -52,7 +52,7 @@ pub fn upper(value: i64) -> Option<Upper>
     }
 }
 
-/// The amount of a shift.
+/// 0 to 31, else none.
 #[tactic(auto, unfolding(crate::specs::Expansion::amount_of))]
 pub fn amount(value: i64) -> Option<ShiftAmount>
     ensures { result ≡ amount_of value }

@@ -1,5 +1,5 @@
-//! Statements of an assembler's source: what a line says, a label and a statement; the instructions that a statement stands for; and
-//! their words.
+//! The parser of the assembler: a line's label and statement, the instructions of a statement, and their words. Read `Statement`
+//! first, then `Operands` and `Expansion`. Each function computes exactly what its definition in `specs` says.
 #![tactic(auto)]
 
 mod encoding;

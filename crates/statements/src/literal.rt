@@ -21,7 +21,6 @@ impl Model for Literal {
 }
 
 impl Literal {
-    /// The literal of a value.
     pub fn new(value: i64) -> Literal
         requires { IsLiteral value }
         ensures { result ≡ value }
@@ -29,14 +28,12 @@ impl Literal {
         Literal { value }
     }
 
-    /// 0.
     pub fn zero() -> Literal
         ensures { result ≡ pos 0 }
     {
         Literal { value: 0 }
     }
 
-    /// The value.
     pub fn value(self) -> i64
         ensures value { result ≡ self }
         ensures range { IsLiteral result }

@@ -1,7 +1,7 @@
 //! The mnemonics, by the form of their operands.
 
-/// What an instruction is called, with what tells its form. The pseudo-instructions on branches and jumps stand beside
-/// the instructions that they expand to.
+/// An instruction's name, with what tells its form. Pseudo-instructions on branches and jumps stand beside the instructions that
+/// they expand to.
 #[derive(Clone, Copy)]
 pub enum Mnemonic {
     /// `op rd,rs1,rs2`
@@ -82,7 +82,7 @@ pub enum ShiftOp {
     Srai,
 }
 
-/// What is written as a load.
+/// A load.
 #[derive(Clone, Copy)]
 pub enum LoadOp {
     Jalr,
@@ -144,6 +144,7 @@ pub enum PlainOp {
     Nop,
     Ret,
     Fence,
+    FenceI,
     Ecall,
     Ebreak,
 }

@@ -9,7 +9,7 @@ use crate::mnemonic::{
 use formats::Reg;
 
 /// Every mnemonic by its name. Of `jal` and `jalr` it has the forms with a register to link.
-static MNEMONICS: [(&str, Mnemonic); 72] = [
+static MNEMONICS: [(&str, Mnemonic); 73] = [
     ("add", Mnemonic::Registers(RegisterOp::Add)),
     ("sub", Mnemonic::Registers(RegisterOp::Sub)),
     ("sll", Mnemonic::Registers(RegisterOp::Sll)),
@@ -78,6 +78,7 @@ static MNEMONICS: [(&str, Mnemonic); 72] = [
     ("nop", Mnemonic::Plain(PlainOp::Nop)),
     ("ret", Mnemonic::Plain(PlainOp::Ret)),
     ("fence", Mnemonic::Plain(PlainOp::Fence)),
+    ("fence.i", Mnemonic::Plain(PlainOp::FenceI)),
     ("ecall", Mnemonic::Plain(PlainOp::Ecall)),
     ("ebreak", Mnemonic::Plain(PlainOp::Ebreak)),
     ("li", Mnemonic::Li),
@@ -163,14 +164,12 @@ static REGISTERS: [(&str, u8); 65] = [
     ("x31", 31),
 ];
 
-/// The mnemonic of this name.
 pub fn mnemonic_named(word: &[u8]) -> Option<Mnemonic>
     ensures { result ≡ named mnemonics word.now }
 {
     value_named(&MNEMONICS, word)
 }
 
-/// The directive of this name.
 pub fn directive_named(word: &[u8]) -> Option<Directive>
     ensures { result ≡ named directives word.now }
 {

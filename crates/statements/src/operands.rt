@@ -1,4 +1,4 @@
-//! The operands of an instruction, read by the form that its mnemonic has.
+//! The operands of an instruction, read by the form of its mnemonic.
 ghost use Rattle.std.specs.Prelude.{◌≡◌};
 ghost use Rattle.statements.specs.Operands.{no_operands, slots_of, chosen, with_comma, expected, bare_label, slot_read, target_read, sum_read, addend_read, after_slot, after_label, after_one, operands_read};
 
@@ -24,8 +24,8 @@ pub enum Slot {
     Label,
 }
 
-/// What stands in the place of a number: a number, or the label whose name is the source's bytes from `start` to `end`,
-/// and how far above or below it.
+/// A value in the place of a number: a number, or a label and how far above or below it. The label's name is the source's bytes
+/// from `start` to `end`.
 #[derive(Clone, Copy)]
 pub enum Value {
     Number(Literal),
@@ -41,8 +41,8 @@ pub enum Value {
     },
 }
 
-/// The operands of an instruction: its registers in the order in which they stand, and the value, with its place in the
-/// source. What a form does not have is x0, or 0.
+/// The operands of an instruction: its registers in their order, and the value, with its place in the source. What a form lacks is
+/// x0, or 0.
 #[derive(Clone, Copy)]
 pub struct Operands {
     pub first: Reg,
@@ -52,8 +52,8 @@ pub struct Operands {
     pub at: usize,
 }
 
-/// The operands of a mnemonic, read from all tokens after it; or the place of the first token that its form does not
-/// have there, `end` where one is missing.
+/// The operands of a mnemonic, read from all tokens after it. An error is the place of the first token that its form does not have
+/// there, or `end` where one is missing.
 pub fn read_operands(
     source: &[u8],
     end: usize,
@@ -79,7 +79,7 @@ pub fn read_operands(
     }
 }
 
-/// The mnemonic itself, but for `jal` and `jalr` with no comma after the first operand, which name no register to link.
+/// The mnemonic itself, but for `jal` and `jalr` with no comma after their first operand: these link ra.
 pub fn chosen(mnemonic: Mnemonic, tokens: &[Token]) -> Mnemonic
     ensures { result ≡ chosen mnemonic tokens.now }
 {
@@ -158,7 +158,6 @@ fn slots(mnemonic: Mnemonic) -> &'static [Slot]
     }
 }
 
-/// No operands.
 fn no_operands() -> Operands
     ensures { result ≡ no_operands }
 {
@@ -171,7 +170,7 @@ fn no_operands() -> Operands
     }
 }
 
-/// The operands with what a token is to a slot, or the place of the wrong token.
+/// Takes what a token is to a slot into the operands. An error is the place of the wrong token.
 fn slot_operand(
     source: &[u8],
     end: usize,
@@ -224,7 +223,7 @@ fn after_slot<'a>(slot: Slot, token: &Token, after: &'a [Token]) -> &'a [Token]
     }
 }
 
-/// Nothing, where what is wanted stands there; else the place.
+/// An error with the place, where the wanted token does not stand there.
 fn expect(stands: bool, at: usize) -> Result<(), usize>
     ensures { result ≡ expected stands at }
 {
@@ -242,7 +241,7 @@ fn bare_label(token: &Token) -> Value
     }
 }
 
-/// The target that begins at a token, or the place of the wrong token.
+/// The target that begins at a token. An error is the place of the wrong token.
 fn target(source: &[u8], end: usize, token: &Token, after: &[Token]) -> Result<Value, usize>
     ensures { result ≡ target_read source.now end token.now after.now }
 {
@@ -255,7 +254,7 @@ fn target(source: &[u8], end: usize, token: &Token, after: &[Token]) -> Result<V
     Err(token.start)
 }
 
-/// A label and what is added to it or taken from it, or the place of the wrong token.
+/// A label with what is added to it or taken from it. An error is the place of the wrong token.
 fn sum(end: usize, label: &Token, after: &[Token]) -> Result<Value, usize>
     ensures { result ≡ sum_read end label.now after.now }
 {
@@ -282,7 +281,7 @@ fn sum(end: usize, label: &Token, after: &[Token]) -> Result<Value, usize>
     Ok(bare_label(label))
 }
 
-/// The number that stands directly after a sign, whose end is given, or the place of the wrong token.
+/// The number directly after a sign that ends at `sign_end`. An error is the place of the wrong token.
 fn addend(end: usize, sign_end: usize, after: &[Token]) -> Result<Literal, usize>
     ensures { result ≡ addend_read end sign_end after.now }
 {
@@ -315,7 +314,6 @@ fn after_label(tokens: &[Token]) -> &[Token]
     }
 }
 
-/// All tokens but the first.
 fn after_one(tokens: &[Token]) -> &[Token]
     ensures { result.now ≡ after_one tokens.now }
 {

@@ -16,7 +16,7 @@ pub struct Label {
     pub end: usize,
 }
 
-/// A statement. What `.word`, `.byte` and `.ascii` hold are the numbers and the string of their line.
+/// A statement. The numbers and the string of `.word`, `.byte` and `.ascii` stay in the tokens of their line.
 #[derive(Clone, Copy)]
 pub enum Statement {
     Nothing,
@@ -30,7 +30,7 @@ pub enum Statement {
     Instruction(Mnemonic, Operands),
 }
 
-/// The label with which a line begins, and the tokens after it; or the place of the wrong token.
+/// The label with which a line begins, if it has one, and the tokens after it. An error is the place of the wrong token.
 pub fn split_label<'a>(
     source: &[u8],
     tokens: &'a [Token],
@@ -57,7 +57,7 @@ pub fn split_label<'a>(
     }
 }
 
-/// The statement that the tokens of a line make, after its label; or the place of the first wrong token, `end` where one
+/// The statement that the tokens of a line make after its label. An error is the place of the first wrong token, or `end` where one
 /// is missing.
 pub fn read_statement(
     source: &[u8],
@@ -83,7 +83,6 @@ pub fn read_statement(
     }
 }
 
-/// An instruction with its operands.
 fn instruction(
     source: &[u8],
     end: usize,
@@ -96,7 +95,7 @@ fn instruction(
     Ok(Statement::Instruction(mnemonic, operands))
 }
 
-/// A directive, which stands at a place, with the tokens after it.
+/// A directive at a place of the source, with the tokens after it.
 fn directive_statement(
     in_data: bool,
     end: usize,

@@ -7,7 +7,10 @@ use crate::names::register_named;
 use asm_text::{Token, TokenKind};
 use formats::Reg;
 
-/// The bytes of the source from one place up to another; none where it has no such places.
+/// The one word with a `.` inside, which is a mnemonic.
+const FENCE_I: &[u8] = b"fence.i";
+
+/// The bytes of the source from one place up to another. Empty where the source has no such places.
 pub fn text_at(source: &[u8], start: usize, end: usize) -> &[u8]
     ensures { result.now ≡ text_at source.now start end }
 {
@@ -18,56 +21,50 @@ pub fn text_at(source: &[u8], start: usize, end: usize) -> &[u8]
     }
 }
 
-/// Whether it is a word.
 pub fn is_word(kind: &TokenKind) -> bool
     ensures { result ≡ is_word kind.now }
 {
     matches!(kind, TokenKind::Word)
 }
 
-/// Whether it is a comma.
 pub fn is_comma(kind: &TokenKind) -> bool
     ensures { result ≡ is_comma kind.now }
 {
     matches!(kind, TokenKind::Comma)
 }
 
-/// Whether it is a colon.
 pub fn is_colon(kind: &TokenKind) -> bool
     ensures { result ≡ is_colon kind.now }
 {
     matches!(kind, TokenKind::Colon)
 }
 
-/// Whether it opens a bracket.
+/// Whether it is `(`.
 pub fn is_open(kind: &TokenKind) -> bool
     ensures { result ≡ is_open kind.now }
 {
     matches!(kind, TokenKind::Open)
 }
 
-/// Whether it closes a bracket.
+/// Whether it is `)`.
 pub fn is_close(kind: &TokenKind) -> bool
     ensures { result ≡ is_close kind.now }
 {
     matches!(kind, TokenKind::Close)
 }
 
-/// Whether it is a plus after a word.
 pub fn is_plus(kind: &TokenKind) -> bool
     ensures { result ≡ is_plus kind.now }
 {
     matches!(kind, TokenKind::Plus)
 }
 
-/// Whether it is a minus after a word.
 pub fn is_minus(kind: &TokenKind) -> bool
     ensures { result ≡ is_minus kind.now }
 {
     matches!(kind, TokenKind::Minus)
 }
 
-/// A number as a literal, where it is one.
 fn literal_of(number: i64) -> Option<Literal>
     ensures { result ≡ literal_of number }
 {
@@ -78,7 +75,7 @@ fn literal_of(number: i64) -> Option<Literal>
     }
 }
 
-/// The number that a token is.
+/// The number that a token is, if it is one.
 pub fn number_of(kind: &TokenKind) -> Option<Literal>
     ensures { result ≡ number_of kind.now }
 {
@@ -88,31 +85,29 @@ pub fn number_of(kind: &TokenKind) -> Option<Literal>
     }
 }
 
-/// Whether it is a string.
 pub fn is_string(kind: &TokenKind) -> bool
     ensures { result ≡ is_string kind.now }
 {
     matches!(kind, TokenKind::Text(_))
 }
 
-/// Whether a word may be a label's name: it is no directive's.
+/// Whether a word may be a label's name: it is no directive's name, and not `fence.i`.
 fn is_name(word: &[u8]) -> bool
     ensures { result ≡ is_name word.now }
 {
     match word {
         [] => false,
-        [first, ..] => *first != b'.',
+        [first, ..] => *first != b'.' && word != FENCE_I,
     }
 }
 
-/// Whether a token is a label's name.
 pub fn is_label(source: &[u8], token: &Token) -> bool
     ensures { result ≡ is_label source.now token.now }
 {
     is_word(&token.kind) && is_name(text_at(source, token.start, token.end))
 }
 
-/// The register that a token names.
+/// The register that a token names, if it names one.
 pub fn register_at(source: &[u8], token: &Token) -> Option<Reg>
     ensures { result ≡ register_at source.now token.now }
 {

@@ -5,9 +5,6 @@ use Rattle.asm_text.proofs.scan.token_at.Goals as goal
 pub returns-then-begins_word-clause-value : goal.returns-then-begins_word-clause-value
 returns-then-begins_word-clause-value c = grind (arith, common_steps)
 
-pub returns-then-begins_word-clause-bound : goal.returns-then-begins_word-clause-bound
-returns-then-begins_word-clause-bound c = grind (arith, common_steps)
-
 pub returns-then-is_ascii_digit-clause-value : goal.returns-then-is_ascii_digit-clause-value
 returns-then-is_ascii_digit-clause-value c = grind (arith, common_steps)
 
