@@ -1,21 +1,22 @@
-//! A machine as it was at a moment.
+//! A machine as it was at a moment: a snapshot.
 ghost use Rattle.std.specs.Prelude.{◌≡◌, IfOk};
 
 use crate::machine::Machine;
-use interpreter::{Hart, Table};
+use interpreter::{Hart, Run, Table, own_tables_of};
 use isa_table::Regs;
 use memory::KeptSpace;
 use std::alloc::{AllocError, Global};
 use std::marker::Model;
 use std::sync::Arc;
 
-/// A machine as it was at a moment. It shares with the one that was kept before it each page of 4,096 bytes that was the
-/// same then, and with the machine what a clone would share.
+/// A machine as it was at a moment: a snapshot. It shares with the snapshot kept before it each page of 4,096 bytes that was the
+/// same then. With the machine it shares what a clone would share.
 pub struct KeptMachine {
     regs: Regs,
     space: KeptSpace,
     count: u64,
     tables: Arc<Vec<Table>>,
+    runs: Arc<Vec<Run>>,
 }
 
 impl Drop for KeptMachine {
@@ -25,13 +26,14 @@ impl Drop for KeptMachine {
             space: _space,
             count: _,
             tables: _tables,
+            runs: _runs,
         } = self;
     }
 }
 
 impl Model for KeptMachine {
     ghost use Rattle.machine_model.specs.States.{State, state_code, state, hart};
-    ghost use Rattle.interpreter.specs.Tables.{AllMatch};
+    ghost use Rattle.interpreter.specs.Tables.{AllFixed, AllMatch};
 
     ghost Value = { State };
 
@@ -39,12 +41,11 @@ impl Model for KeptMachine {
 
     ghost view = { λ m. state (hart m.regs.x m.regs.pc m.space) m.count };
 
-    ghost invariant = { λ m. AllMatch m.tables.value.items m.space };
+    ghost invariant = { λ m. AllMatch m.tables.value.items m.space × AllFixed m.tables.value.items m.space };
 }
 
 impl Machine {
-    /// This machine as it is now. Of the pages that may be written only those are copied that differ from what stands in
-    /// their place in the one that was kept before.
+    /// This machine as it is now. Of the pages that may be written it copies only those that differ from the same page of `before`.
     pub fn keep(
         &self,
         alloc: Global,
@@ -57,22 +58,27 @@ impl Machine {
             space: self.hart.space.keep(alloc, before.map(|kept| &kept.space))?,
             count: self.count,
             tables: Arc::try_clone(&self.tables)?,
+            runs: Arc::try_clone(&self.runs)?,
         })
     }
 }
 
 impl KeptMachine {
-    /// A machine in that state. Pages that may be written are copied, the others and the decoded words shared.
+    /// A machine in that state. Pages that may be written are copied, and their words decoded anew; the rest is shared.
     pub fn machine(&self, alloc: Global) -> Result<Machine, AllocError>
         ensures { IfOk result (λ m. m ≡ self.now) }
     {
+        let space = self.space.space(alloc)?;
+        let own = own_tables_of(alloc, &space, &self.runs)?;
         Ok(Machine {
             hart: Hart {
                 regs: self.regs,
-                space: self.space.space(alloc)?,
+                space,
             },
             count: self.count(),
             tables: Arc::try_clone(&self.tables)?,
+            runs: Arc::try_clone(&self.runs)?,
+            own,
         })
     }
 

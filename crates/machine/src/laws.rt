@@ -6,8 +6,8 @@ ghost use Rattle.machine_model.specs.declared.image.Segment.{Segment};
 ghost use Rattle.machine_model.specs.Images.{Program, IsProfile};
 ghost use Rattle.machine_model.specs.First.{first_state};
 
-/// A law: in the first state of a program that may be loaded, at each address of each of its segments stands the segment's
-/// byte, which is 0 after those of the file, with the segment's rights.
+/// A law of the first state of a program that may be loaded. Each address of each segment holds the segment's byte, with the
+/// segment's rights. The byte is 0 after those of the file.
 pub fn segments_are_loaded()
     ensures { (p : Program) → IsProfile p → All (λ (s : Segment). (k : ℕ) → k < s.memsz
         → get (first_state p).hart.memory (s.vaddr + k) ≡ Some (cell_with s.rights (slice_index s.bytes k))) p.segments }

@@ -1,4 +1,5 @@
-//! A process's machine state: how it begins, its runs, and replies to its calls.
+//! A process's machine: how it begins, its runs, and replies to its calls. Read `Machine` first, then `run` and `reply`. Contracts
+//! say runs and replies exactly as `machine_model` defines them, also over self-modifying code.
 #![tactic(auto)]
 
 mod kept;

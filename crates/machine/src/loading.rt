@@ -9,10 +9,10 @@ use machine_model::{Rights, Segment};
 use memory::Space;
 use std::alloc::{AllocError, Global};
 
-/// A page's bytes.
+/// How many bytes a page has.
 const PAGE: u32 = 4096;
 
-/// The pages of segments and of the stack.
+/// The pages of segments and of the stack, which lies above them.
 pub fn space_of(alloc: Global, segments: &[Segment]) -> Result<Space, AllocError>
     requires loadable { All IsLoadable segments.now }
     requires ascending { (page : ℕ) × AreAscending page segments.now }
@@ -51,7 +51,7 @@ fn stack(alloc: Global) -> Result<Space, AllocError>
     Ok(space)
 }
 
-/// The bytes of a segment's pages.
+/// The bytes of a segment's pages: zeros, its bytes, then zeros.
 fn page_bytes(alloc: Global, segment: &Segment) -> Result<Vec<u8>, AllocError>
     requires { IsLoadable segment.now }
     ensures len { IfOk result (λ bytes. vec_len bytes ≡ 4096 * page_count segment.now) }
@@ -68,7 +68,6 @@ fn page_bytes(alloc: Global, segment: &Segment) -> Result<Vec<u8>, AllocError>
     )
 }
 
-/// So many zeros, then bytes, then zeros up to a size.
 fn with_zeros(alloc: Global, zeros: usize, bytes: &[u8], size: usize) -> Result<Vec<u8>, AllocError>
     requires { zeros + length bytes.now ≤ size }
     ensures len { IfOk result (λ all. vec_len all ≡ size) }

@@ -1,13 +1,16 @@
 //! A process's machine.
-ghost use Rattle.std.specs.Prelude.{◌≡◌, ◌≢◌, ◌↔◌, ℕ, ◌+◌, ◌%◌, ◌<◌, ◌≤◌, ◌^◌, true, length, Some, IfOk, IsTrue};
+ghost use Rattle.std.specs.Prelude.{◌≡◌, ◌≢◌, ◌↔◌, ℕ, ◌+◌, ◌%◌, ◌<◌, ◌≤◌, ◌^◌, true, length, Some, None, IfOk, OnOk, OnErr, IsTrue};
 ghost use Rattle.memory_model.specs.Access.{HoldsBytes, is_writable};
 ghost use Rattle.machine_model.specs.Effects.{reg as register};
-ghost use Rattle.machine_model.specs.States.{run as run_from, hart, reached_at, stands_at, state, replied};
+ghost use Rattle.machine_model.specs.States.{run as run_from, hart, reached_at, stands_at, state};
+ghost use Rattle.machine_model.specs.Replies.{in_image, replied};
 ghost use Rattle.machine_model.specs.First.{first_state, first_registers};
 
 use crate::loading::space_of;
 use formats::Reg;
-use interpreter::{Hart, Table, place, run_tables, stop_at, tables_of};
+use interpreter::{
+    Hart, Run, Table, copies_of, own_tables_of, place, run_tables, runs_of, stop_at, tables_of,
+};
 use isa_table::Regs;
 use machine_model::{Image, Reply, Stop};
 use memory::Space;
@@ -15,12 +18,15 @@ use std::alloc::{AllocError, Global};
 use std::marker::Model;
 use std::sync::Arc;
 
-/// A process's machine: its registers, its memory, and how many instructions it has done, at most 2^40. The words of each
-/// segment that may be executed and not written are decoded once, when an image is loaded, and clones share them.
+/// A process's machine: its registers, its memory, and how many instructions it has done, at most 2^40. An image's words that may
+/// be executed are decoded once, when it is loaded. Clones share those that may not be written. The others are dropped by a store
+/// and decoded again when fetched.
 pub struct Machine {
     pub(crate) hart: Hart,
     pub(crate) count: u64,
     pub(crate) tables: Arc<Vec<Table>>,
+    pub(crate) runs: Arc<Vec<Run>>,
+    pub(crate) own: Vec<Table>,
 }
 
 impl Drop for Machine {
@@ -29,6 +35,8 @@ impl Drop for Machine {
             hart: _hart,
             count: _,
             tables: _tables,
+            runs: _runs,
+            own: _own,
         } = self;
     }
 }
@@ -40,21 +48,23 @@ impl Model for Machine {
 
     ghost coded = { state_code };
 
-    ghost use Rattle.interpreter.specs.Tables.{AllMatch};
+    ghost use Rattle.interpreter.specs.Tables.{AllFixed, AllMatch};
 
     ghost view = { λ m. state (hart_of m.hart.regs.x m.hart.regs.pc m.hart.space) m.count };
 
-    ghost invariant = { λ m. AllMatch m.tables.value.items m.hart.space };
+    ghost invariant = { λ m. AllMatch m.tables.value.items m.hart.space × AllFixed m.tables.value.items m.hart.space × AllMatch m.own.items m.hart.space };
 }
 
 impl Machine {
-    /// The machine in which a program begins.
+    /// The machine in which a program begins. It decodes the words that may be executed.
     pub fn load(alloc: Global, image: &Image) -> Result<Machine, AllocError>
         ensures first { IfOk result (λ m. m ≡ first_state image.now) }
         ensures bytes { IfOk result (λ m. HoldsBytes m.hart.memory) }
     {
         let space = space_of(alloc, image.segments())?;
         let tables = tables_of(alloc, &space, image.segments())?;
+        let runs = runs_of(alloc, image.segments())?;
+        let own = own_tables_of(alloc, &space, &runs)?;
         Ok(Machine {
             hart: Hart {
                 regs: first_regs(image.entry()),
@@ -62,11 +72,13 @@ impl Machine {
             },
             count: 0,
             tables: Arc::new(alloc, tables)?,
+            runs: Arc::new(alloc, runs)?,
+            own,
         })
     }
 
-    /// The machine that begins at an address of a memory. No word is decoded beforehand, so that it runs slowly, whatever
-    /// the rights of its pages.
+    /// The machine that begins at an address of a memory. No word is decoded beforehand, so that it runs slowly, whatever the
+    /// rights of its pages.
     pub fn with_space(alloc: Global, entry: u32, space: Space) -> Result<Machine, AllocError>
         requires { entry % 4 ≡ 0 }
         ensures { IfOk result (λ m. m ≡ state (hart first_registers entry space) 0) }
@@ -78,11 +90,12 @@ impl Machine {
             },
             count: 0,
             tables: Arc::new(alloc, Vec::new(alloc))?,
+            runs: Arc::new(alloc, Vec::new(alloc))?,
+            own: Vec::new(alloc),
         })
     }
 
-    /// Does at most `max` instructions. Says how many were done, and why it stopped: at the limit, or where the machine
-    /// stands at a call or a trap.
+    /// Does at most `max` instructions. Says how many were done, and why it stopped: at the limit, or at a call or a trap.
     pub fn run(&mut self, max: u32) -> (u32, Stop)
         requires { self.old.count + max ≤ 2 ^ 40 }
         ensures run { run_from max self.old ≡ reached_at result.0 self.new result.1 }
@@ -91,30 +104,60 @@ impl Machine {
         ensures limit { (result.1 ≡ Stop.Limit) ↔ (result.0 ≡ max) }
         ensures standing { result.1 ≢ Stop.Limit → stands_at self.new ≡ Some result.1 }
     {
-        let (done, stop) = run_tables(&mut self.hart, self.tables.as_slice(), max);
+        let (done, stop) = run_tables(&mut self.hart, self.tables.as_slice(), &mut self.own, max);
         self.count += u64::from(done);
         (done, stop)
     }
 
-    /// The call or trap at which the machine stands, and `None` where an instruction would be done.
+    /// The call or trap at which the machine stands. None where an instruction would be done.
     pub fn stopped(&self) -> Option<Stop>
         ensures { result ≡ stands_at self.now }
     {
         stop_at(&self.hart)
     }
 
-    /// Answers the call at which the machine stands: a0 is set, the bytes are placed, and the call counts as one
-    /// instruction.
+    /// Answers the call at which the machine stands by a reply without an image. It sets a0 and places the bytes, and the call
+    /// counts as one instruction.
     pub fn reply(&mut self, reply: &Reply)
         requires stands { stands_at self.old ≡ Some Stop.Call }
         requires budget { self.old.count < 2 ^ 40 }
+        requires none { reply.now.image ≡ None }
         requires place { is_writable self.old.hart.memory reply.now.at (length reply.now.bytes) ≡ true }
         ensures { self.new ≡ replied self.old reply.now }
     {
-        place(&mut self.hart.space, reply.at, reply.bytes.as_slice());
+        place(
+            &mut self.hart.space,
+            &mut self.own,
+            reply.at,
+            reply.bytes.as_slice(),
+        );
         self.hart.regs.x[10] = reply.a0;
         self.hart.regs.pc = self.hart.regs.pc.wrapping_add(4);
         self.count += 1;
+    }
+
+    /// The machine after the call at which this one stands, where the reply has an image. It is the image's first state, but the
+    /// count goes on by the call.
+    pub fn entered(&self, alloc: Global, image: &Image) -> Result<Machine, AllocError>
+        requires stands { stands_at self.now ≡ Some Stop.Call }
+        requires budget { self.now.count < 2 ^ 40 }
+        ensures { IfOk result (λ m. m ≡ in_image self.now image.now) }
+    {
+        let mut machine = Machine::load(alloc, image)?;
+        machine.count = self.count + 1;
+        Ok(machine)
+    }
+
+    /// Answers the call at which the machine stands by a reply with an image: it becomes the machine of `entered`. An error leaves
+    /// it as it is.
+    pub fn enter(&mut self, alloc: Global, image: &Image) -> Result<(), AllocError>
+        requires stands { stands_at self.old ≡ Some Stop.Call }
+        requires budget { self.old.count < 2 ^ 40 }
+        ensures entered { OnOk result (self.new ≡ in_image self.old image.now) }
+        ensures kept { OnErr result (self.new ≡ self.old) }
+    {
+        *self = self.entered(alloc, image)?;
+        Ok(())
     }
 
     /// A register's value.
@@ -147,7 +190,7 @@ impl Machine {
         &self.hart.space
     }
 
-    /// Whether two machines are in the same state.
+    /// Whether two machines are in the same state: registers, memory with rights, and count.
     pub fn is_same(&self, other: &Machine) -> bool
         ensures { IsTrue result ↔ (self.now ≡ other.now) }
     {
@@ -156,8 +199,18 @@ impl Machine {
             && self.hart.space.is_same(&other.hart.space)
     }
 
-    /// A machine in the same state. Pages and decoded words that may not be written are shared with it.
+    /// A machine in the same state, as a fork needs it. Pages and decoded words that may not be written are shared with it.
     pub fn try_clone(&self, alloc: Global) -> Result<Machine, AllocError>
+        ensures { IfOk result (λ m. m ≡ self.now) }
+    {
+        let mut copy = self.still(alloc)?;
+        copy.own = copies_of(alloc, &self.own)?;
+        Ok(copy)
+    }
+
+    /// A machine in the same state, to be compared with. It has no decoded words that may be written: it takes less memory than a
+    /// clone, and would run more slowly.
+    pub fn still(&self, alloc: Global) -> Result<Machine, AllocError>
         ensures { IfOk result (λ m. m ≡ self.now) }
     {
         Ok(Machine {
@@ -167,11 +220,13 @@ impl Machine {
             },
             count: self.count,
             tables: Arc::try_clone(&self.tables)?,
+            runs: Arc::try_clone(&self.runs)?,
+            own: Vec::new(alloc),
         })
     }
 }
 
-/// The registers at first: all 0 but the stack pointer, and the program counter at the entry.
+/// The registers at first: 0 but for the stack pointer, and the program counter at the entry.
 fn first_regs(entry: u32) -> Regs
     requires { entry % 4 ≡ 0 }
     ensures x { result.x ≡ first_registers }

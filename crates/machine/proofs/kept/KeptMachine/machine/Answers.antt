@@ -2,13 +2,17 @@
 use Rattle.std.proofs.Common.{List, sym, ap, subst, rules}
 use Rattle.memory_model.specs.Memory.{Memory}
 use Rattle.interpreter.specs.declared.table.Table.{Table}
-use Rattle.interpreter.specs.Tables.{AllMatch}
+use Rattle.interpreter.specs.Tables.{AllFixed, AllMatch}
 use Rattle.machine.proofs.kept.KeptMachine.machine.Goals as goal
 
 pub invariant_of-result : goal.invariant_of-result
-invariant_of-result c =
-    subst (λ (m : Memory). AllMatch c.in_ok-try_clone.field-0.value.items m) (sym c.in_ok-space.ensures)
-    (subst (λ (tables : List Table). AllMatch tables c.self.inside.space) (sym (ap (λ v. v.items) c.in_ok-try_clone.ensures)) c.self.invariant)
+invariant_of-result c = (
+  subst (λ (m : Memory). AllMatch c.in_ok-try_clone.field-0.value.items m) (sym c.in_ok-space.ensures)
+      (subst (λ (tables : List Table). AllMatch tables c.self.inside.space) (sym (ap (λ v. v.items) c.in_ok-try_clone.ensures)) c.self.invariant.0),
+  subst (λ (m : Memory). AllFixed c.in_ok-try_clone.field-0.value.items m) (sym c.in_ok-space.ensures)
+      (subst (λ (tables : List Table). AllFixed tables c.self.inside.space) (sym (ap (λ v. v.items) c.in_ok-try_clone.ensures)) c.self.invariant.1),
+  c.in_ok-own.ensures,
+)
 
 -- Without an answer this would be proved too; with one, an edit that breaks it is refused sooner.
 pub returns : goal.returns

@@ -1,15 +1,13 @@
 -- The tables match the copy too.
-use Rattle.std.proofs.Common.{List, sym, ap, subst, rules}
+use Rattle.std.proofs.Common.{◌≡◌, List, sym, ap, subst, ◌∙◌}
 use Rattle.memory_model.specs.Memory.{Memory}
+use Rattle.machine_model.specs.States.{State}
 use Rattle.interpreter.specs.declared.table.Table.{Table}
 use Rattle.interpreter.specs.Tables.{AllMatch}
 use Rattle.machine.proofs.machine.Machine.try_clone.Goals as goal
 
-pub invariant_of-result : goal.invariant_of-result
-invariant_of-result c =
-    subst (λ (m : Memory). AllMatch c.in_ok-try_clone-2.field-0.value.items m) (sym c.in_ok-try_clone.ensures)
-    (subst (λ (tables : List Table). AllMatch tables c.self.inside.hart.space) (sym (ap (λ v. v.items) c.in_ok-try_clone-2.ensures)) c.self.invariant)
-
--- Without an answer this would be proved too; with one, an edit that breaks it is refused sooner.
-pub returns : goal.returns
-returns c = search rules
+pub invariant_of-copy : goal.invariant_of-copy
+invariant_of-copy c =
+    let same : c.copy.inside.hart.space ≡ c.self.inside.hart.space = ap (λ (s : State). s.hart.memory) (c.copy.view_is ∙ c.in_ok-copy.ensures ∙ sym c.self.view_is) in
+    let own = c.in_ok-copy-inside.ensures c.self.inside.hart.space (subst (λ (tables : List Table). AllMatch tables c.self.inside.hart.space) (sym c.deref.ensures.value) c.self.invariant.2) in
+    (c.copy.invariant.0, c.copy.invariant.1, subst (λ (m : Memory). AllMatch c.in_ok-copy-inside.field-0.items m) (sym same) own)
