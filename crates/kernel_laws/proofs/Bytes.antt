@@ -1,6 +1,6 @@
--- A memory that holds bytes holds bytes after each instruction, and after a reply whose bytes are bytes.
-use Rattle.std.proofs.Common.{◌≡◌, ℕ, zero, suc, ◌+◌, ◌/◌, ◌%◌, ◌^◌, ◌<◌, ◌==◌, Bool, true, false, cond, List, [], ◌∷◌, Option, Some, None, refl, sym, subst, arith}
-use Rattle.std.specs.Prelude.{if◌then◌else◌, Result, Ok, Err}
+-- A memory that holds bytes holds bytes after each instruction, and after a reply whose bytes, and those of its image, are bytes.
+use Rattle.std.proofs.Common.{◌≡◌, ℕ, zero, suc, ◌+◌, ◌-◌, ◌/◌, ◌%◌, ◌^◌, ◌<◌, ◌==◌, ◌&&◌, Bool, true, false, cond, nat_le, nat_lt, List, [], ◌∷◌, Option, Some, None, IfSome, refl, sym, subst, arith}
+use Rattle.std.specs.Prelude.{if◌then◌else◌, slice_index, Result, Ok, Err}
 use Rattle.std.specs.List.{AllByRecursion}
 use Rattle.std.specs.FinMap.{get}
 use Rattle.formats.specs.Table.{instr_of}
@@ -9,14 +9,18 @@ use Rattle.formats.specs.declared.instr.Instr.TheVariants as instr
 use Rattle.memory_model.specs.Memory.{Memory, Cell}
 use Rattle.memory_model.specs.Access.{HoldsBytes, byte_of, fetched, low_bytes, put_bytes, size, stored, to_write, access_fault, with_byte}
 use Rattle.machine_model.specs.Effects.{Hart, Effect, Becomes, Stands, effect, jumps, load_effect, store_effect, stores, reg}
-use Rattle.machine_model.specs.States.{State, Stepped, Goes, Halts, Ran, counted, by_instr, by_fetch, next, run, replied}
+use Rattle.machine_model.specs.States.{State, Stepped, Goes, Halts, Ran, counted, by_instr, by_fetch, next, run}
+use Rattle.machine_model.specs.First.{byte_at, has_page, stack_cell, first_cell, first_state}
+use Rattle.machine_model.specs.Images.{Program}
+use Rattle.machine_model.specs.Replies.{replied, replied_by}
 use Rattle.memory_model.specs.declared.access.BusFault.{BusFault}
 use Rattle.memory_model.specs.declared.access.Width.{Width}
 use Rattle.memory_model.specs.declared.access.Width.TheVariants.{Byte, Half, Word}
+use Rattle.machine_model.specs.declared.image.Segment.{Segment}
 use Rattle.machine_model.specs.declared.reply.Reply.{Reply}
 use Rattle.machine_model.specs.declared.stop.Cause.TheVariants as cause
 use Rattle.machine_model.specs.declared.stop.Stop.TheVariants.{Trap}
-use Rattle.memory_model.proofs.Memories.{get-insert}
+use Rattle.memory_model.proofs.Memories.{get-insert, get-memory_of}
 use Rattle.machine_model.proofs.Running.{run-zero, run-goes, run-halts}
 
 abbrev pub AreBytes : List ℕ → Type 0
@@ -115,6 +119,7 @@ effect_makes (instr.Divu rd rs1 rs2) h m = m
 effect_makes (instr.Rem rd rs1 rs2) h m = m
 effect_makes (instr.Remu rd rs1 rs2) h m = m
 effect_makes instr.Fence h m = m
+effect_makes instr.FenceI h m = m
 effect_makes instr.Ecall h m = tt
 effect_makes instr.Ebreak h m = tt
 
@@ -147,5 +152,53 @@ run_holds (suc n) s m = elim (next s) as (λ o. next s ≡ o → GoesToBytes o �
   | Halts stop ↦ λ e k. subst (λ (r : Ran). HoldsBytes r.state.hart.memory) (sym (run-halts n s stop e)) m
 ] refl (next_goes s m)
 
-pub replied_holds : (s : State) (r : Reply) → AreBytes r.bytes → HoldsBytes s.hart.memory → HoldsBytes (replied s r).hart.memory
-replied_holds s r small m = put_bytes-holds r.bytes s.hart.memory r.at small m
+-- ---- replies
+
+-- the segments of a program hold bytes
+abbrev pub ProgramHoldsBytes : Program → Type 0
+ProgramHoldsBytes p = AllByRecursion (λ (s : Segment). AreBytes s.bytes) p.segments
+
+index_small : (bytes : List ℕ) (k : ℕ) → AreBytes bytes → slice_index bytes k < 256
+index_small [] k small = omega arith
+index_small (b ∷ bytes) zero small = small.0
+index_small (b ∷ bytes) (suc k) small = index_small bytes k small.1
+
+-- the byte at an address of a segment's pages
+segment_small : (s : Segment) (a : ℕ) → AreBytes s.bytes → byte_at s a < 256
+segment_small s a small = by (nat_le s.vaddr a)
+  where
+    by : (t : Bool) → (if t then slice_index s.bytes (a - s.vaddr) else 0) < 256
+    by true = index_small s.bytes (a - s.vaddr) small
+    by false = omega arith
+
+-- of two cells that hold bytes either does
+either_small : (t : Bool) (c : Cell) (o : Option Cell) → c.byte < 256 → byte_of o < 256 → byte_of (if t then Some c else o) < 256
+either_small true c o small rest = small
+either_small false c o small rest = rest
+
+stack_small : (a : ℕ) → byte_of (stack_cell a) < 256
+stack_small a = either_small (nat_le 0x7FFFC000 a && nat_lt a 0x80000000) _ None (omega arith) (omega arith)
+
+cell_small : (segments : List Segment) (a : ℕ) → AllByRecursion (λ (s : Segment). AreBytes s.bytes) segments → byte_of (first_cell segments a) < 256
+cell_small [] a small = stack_small a
+cell_small (s ∷ segments) a small = either_small (has_page s (a / 4096)) _ _ (segment_small s a small.0) (cell_small segments a small.1)
+
+-- the first state of a program whose segments hold bytes does
+pub first_holds : (p : Program) → ProgramHoldsBytes p → HoldsBytes (first_state p).hart.memory
+first_holds p small q = subst (λ (o : Option Cell). byte_of o < 256) (sym (get-memory_of (first_cell p.segments) q)) (by (nat_lt q (2 ^ 32)))
+  where
+    by : (t : Bool) → byte_of (cond t (first_cell p.segments q) None) < 256
+    by true = cell_small p.segments q small
+    by false = omega arith
+
+-- The bytes of a reply are bytes, and so are those of its image, if it has one.
+pub record CarriesBytes (r : Reply) : Type 0 where
+  pub bytes : AreBytes r.bytes
+  pub image : IfSome r.image ProgramHoldsBytes
+
+pub replied_holds : (s : State) (r : Reply) → CarriesBytes r → HoldsBytes s.hart.memory → HoldsBytes (replied s r).hart.memory
+replied_holds s r carries m = by r.image carries.image
+  where
+    by : (o : Option Program) → IfSome o ProgramHoldsBytes → HoldsBytes (replied_by s r o).hart.memory
+    by None image = put_bytes-holds r.bytes s.hart.memory r.at carries.bytes m
+    by (Some p) image = first_holds p image

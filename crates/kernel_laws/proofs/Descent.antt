@@ -3,7 +3,8 @@ use Rattle.std.proofs.Common.{append-nil, ◌≡◌, ℕ, ◌+◌, Bool, true, f
 use Rattle.std.proofs.lemmas.Bool.{eq-eqb}
 use Rattle.machine_model.specs.declared.reply.Reply.{Reply}
 use Rattle.machine_model.specs.declared.stop.Stop.TheVariants.{Call}
-use Rattle.machine_model.specs.States.{State, stands_at, replied}
+use Rattle.machine_model.specs.States.{State, stands_at}
+use Rattle.machine_model.specs.Replies.{replied}
 use Rattle.kernel_model.specs.Entries.{Entry}
 use Rattle.kernel_model.specs.State.{SyncState, Process, process_at, put_process}
 use Rattle.machine_model.specs.Numbers.{cause_number}

@@ -3,7 +3,8 @@ use Rattle.std.proofs.Common.{◌≡◌, ℕ, zero, suc, ◌+◌, List, [], ◌�
 use Rattle.machine_model.specs.declared.reply.Reply.{Reply}
 use Rattle.machine_model.specs.declared.stop.Stop.{Stop}
 use Rattle.machine_model.specs.declared.stop.Stop.TheVariants.{Call}
-use Rattle.machine_model.specs.States.{State, Goes, Halts, Ran, next, run, stands_at, replied}
+use Rattle.machine_model.specs.States.{State, Goes, Halts, Ran, next, run, stands_at}
+use Rattle.machine_model.specs.Replies.{replied}
 use Rattle.machine_model.proofs.Running.{run-zero, run-goes, run-halts}
 use Rattle.kernel_laws.specs.Promises.{ComesTo}
 

@@ -1,9 +1,10 @@
 -- The change that a row of the table of calls makes is possible where it comes, and what it tells and puts into pipes are bytes.
-use Rattle.std.proofs.Common.{◌≡◌, ℕ, ◌+◌, ◌-◌, ◌<◌, ◌≤◌, ◌==◌, Bool, true, false, List, [], ◌∷◌, length, map, take, drop, Option, Some, None, IfSome, refl, sym, ◌∙◌, subst, arith}
+use Rattle.std.proofs.Common.{◌≡◌, ℕ, ◌+◌, ◌-◌, ◌<◌, ◌≤◌, ◌==◌, Bool, true, false, List, [], ◌∷◌, ◌++◌, length, map, take, drop, Option, Some, None, IfSome, refl, sym, ◌∙◌, subst, arith}
 use Rattle.std.specs.Prelude.{if◌then◌else◌, option_map}
 use Rattle.std.specs.Int.{w32, to_le_bytes}
 use Rattle.std.specs.List.{AllByRecursion}
 use Rattle.std.proofs.lemmas.List.{length-drop, length-map}
+use Rattle.std.proofs.lemmas.List.Elements.{recursion_from_All}
 use Rattle.disk_model.specs.Files.{FileHoldsBytes, FilesHoldBytes, IsPossible}
 use Rattle.disk_model.specs.Limits.{most_files}
 use Rattle.disk_model.specs.Numbers.{Numbered, place_of}
@@ -13,6 +14,7 @@ use Rattle.disk_model.specs.declared.change.NamedFile.{NamedFile}
 use Rattle.disk_model.proofs.Lists.{each_get, each_append, each_take, each_drop}
 use Rattle.memory_model.specs.Access.{HoldsBytes}
 use Rattle.memory_model.specs.Memory.{Memory}
+use Rattle.machine_model.specs.declared.image.Segment.{Segment}
 use Rattle.machine_model.specs.declared.stop.Stop.{Stop}
 use Rattle.kernel_model.specs.Requests.{request_of}
 use Rattle.kernel_model.specs.Rows.{Effect, number, with_bytes as placed, ends_of, pipe_size}
@@ -30,7 +32,8 @@ use Rattle.kernel_model.proofs.Asked.{IsAsked, asked_by}
 use Rattle.kernel_model.proofs.Cases.{OfEach, of_effect}
 use Rattle.disk_model.proofs.Naming.{differs}
 use Rattle.kernel_model.proofs.Names.{at_some, name_bytes, name_new, number_has_name, place_there}
-use Rattle.kernel_laws.proofs.Bytes.{AreBytes}
+use Rattle.image_model.proofs.Contents.{program_bytes}
+use Rattle.kernel_laws.proofs.Bytes.{AreBytes, CarriesBytes}
 
 -- ---- what calls look at
 
@@ -52,10 +55,10 @@ pub record IsReadable (s : Shared) : Type 0 where
 
 -- ---- effects
 
--- what the caller is told carries bytes alone
+-- what the caller is told carries bytes alone, and an image of bytes
 abbrev pub TellsBytes : Verdict → Type 0
 TellsBytes Waits = Unit {0}
-TellsBytes (Replies r) = AreBytes r.bytes
+TellsBytes (Replies r) = CarriesBytes r
 TellsBytes (Ends status) = Unit {0}
 
 -- what a step puts into a pipe, if it puts anything, are bytes
@@ -85,10 +88,14 @@ adds_put : (ends : List PipeEnd) → PutBytes (map pipe_step.Add ends)
 adds_put [] = tt
 adds_put (end ∷ ends) = (tt, adds_put ends)
 
+-- a number is told without bytes
+number_told : (n : ℕ) → TellsBytes (number n)
+number_told n = record { bytes = tt; image = tt }
+
 -- bytes that are told for a place are bytes
 placed_told : (n at : ℕ) (bytes : List ℕ) → AreBytes bytes → TellsBytes (placed n at bytes)
-placed_told n at [] are = tt
-placed_told n at (b ∷ bytes) are = are
+placed_told n at [] are = number_told n
+placed_told n at (b ∷ bytes) are = record { bytes = are; image = tt }
 
 -- the bytes of a word
 word_bytes : (word : ℕ) → AreBytes (to_le_bytes w32 word)
@@ -96,8 +103,8 @@ word_bytes word = (omega arith, (omega arith, (omega arith, (omega arith, tt))))
 
 -- a child's number, with its status for a place that may be none
 status_told : (b : Bool) (child at status : ℕ) → TellsBytes (if b then number child else placed child at (to_le_bytes w32 status))
-status_told true child at status = tt
-status_told false child at status = word_bytes status
+status_told true child at status = number_told child
+status_told false child at status = placed_told child at (to_le_bytes w32 status) (word_bytes status)
 
 -- at most n of these bytes, from a place on, for a place
 some_told : (n place at : ℕ) (bytes : List ℕ) → AreBytes bytes → TellsBytes (placed (length (take n (drop place bytes))) at (take n (drop place bytes)))
@@ -124,9 +131,9 @@ module _ (s : Shared) (ready : IsReadable s) (memory : Memory) (holds : HoldsByt
 
   each_sound : (children : List ℕ) (r : Request) → IsAsked memory r → OfEach (IsSound s.files) s ds children r
   each_sound children r asked = record {
-    told = λ _ _ _. record { change = tt; verdict = tt; pipes = tt };
+    told = λ k _ _. record { change = tt; verdict = number_told k; pipes = tt };
     waits = λ _ _. record { change = tt; verdict = tt; pipes = tt };
-    shown = λ _ _. record { change = tt; verdict = tt; pipes = tt };
+    shown = λ t bytes. record { change = tt; verdict = number_told (length bytes); pipes = tt };
     filed = λ fd n file offset bytes is goes.
         let read = subst (IsAsked memory) is asked in
         record {
@@ -135,12 +142,12 @@ module _ (s : Shared) (ready : IsReadable s) (memory : Memory) (holds : HoldsByt
                 (omega (arith, ready.few, there), omega (arith, goes.fits), omega (arith, read.0, goes.some), omega (arith, read.0, goes.most), read.1 holds),
                 (there, goes.fits),
               ));
-          verdict = tt;
+          verdict = number_told (length bytes);
           pipes = tt;
         };
     put = λ fd n k bytes p is found room.
         let read = subst (IsAsked memory) is asked in
-        record { change = tt; verdict = tt; pipes = (each_take (λ (b : ℕ). b < 256) (pipe_size - length (unread p)) bytes (read.1 holds), tt) };
+        record { change = tt; verdict = number_told _; pipes = (each_take (λ (b : ℕ). b < 256) (pipe_size - length (unread p)) bytes (read.1 holds), tt) };
     played = λ fd at n t tape is found. record {
       change = tt;
       verdict = some_told n tape.place at tape.bytes (each_get TapeHoldsBytes s.tapes t tape ready.tapes found);
@@ -157,12 +164,12 @@ module _ (s : Shared) (ready : IsReadable s) (memory : Memory) (holds : HoldsByt
       verdict = some_told n p.taken at p.written (each_get PipeHoldsBytes s.pipes k p ready.pipes found);
       pipes = (tt, tt);
     };
-    there = λ _ _ _ _ _ _. record { change = tt; verdict = tt; pipes = tt };
+    there = λ fd _ _ _ _ _. record { change = tt; verdict = number_told fd; pipes = tt };
     emptied = λ fd file name free found.
         record {
           change = at_its_place s.files (IsPossible s.files.living) change.Empty file
               (λ place at. let there = within file place at in (omega (arith, ready.few, there), there));
-          verdict = tt;
+          verdict = number_told fd;
           pipes = tt;
         };
     made = λ fd n mode name is free new.
@@ -173,13 +180,13 @@ module _ (s : Shared) (ready : IsReadable s) (memory : Memory) (holds : HoldsByt
             (omega (arith, new.some, size), omega (arith, new.most, size), name_bytes name new.good),
             (name_new s.files name ready.numbered.each new.new, omega (arith, new.room, count)),
           );
-          verdict = tt;
+          verdict = number_told fd;
           pipes = tt;
         };
     unlinked = λ file n name is found. record {
       change = at_its_place s.files (IsPossible s.files.living) change.Remove file
           (λ place at. let there = within file place at in (omega (arith, ready.few, there), there));
-      verdict = tt;
+      verdict = number_told 0;
       pipes = tt;
     };
     renamed = λ file n m names is new.
@@ -195,17 +202,25 @@ module _ (s : Shared) (ready : IsReadable s) (memory : Memory) (holds : HoldsByt
                       differs (take n names) (drop n names) new.differs (sym (number_has_name s.files (take n names) file place f ready.numbered new.named at is_there) ∙ same)),
                 ),
               ));
-          verdict = tt;
+          verdict = number_told 0;
           pipes = tt;
         };
-    closed = λ fd d stands. record { change = tt; verdict = tt; pipes = drops_put (ends_of (Some d ∷ [])) };
-    moved = λ _ _ _ _ _ _. record { change = tt; verdict = tt; pipes = tt };
+    loaded = λ file n name f is named found good. record {
+      change = tt;
+      verdict = let place = at_some s.files.living (place_of s.files file) f found in
+          let bytes = (each_get FileHoldsBytes s.files.living place.0 f ready.files place.2).1 in
+          record { bytes = tt; image = recursion_from_All (λ (s : Segment). AreBytes s.bytes) _ (program_bytes f.bytes bytes) };
+      pipes = tt;
+    };
+    closed = λ fd d stands. record { change = tt; verdict = number_told 0; pipes = drops_put (ends_of (Some d ∷ [])) };
+    moved = λ _ _ _ offset _ _. record { change = tt; verdict = number_told offset; pipes = tt };
     piped = λ at reader writer is free next few. record {
       change = tt;
-      verdict = each_append (λ (b : ℕ). b < 256) (to_le_bytes w32 reader) (to_le_bytes w32 writer) (word_bytes reader) (word_bytes writer);
+      verdict = placed_told 0 at (to_le_bytes w32 reader ++ to_le_bytes w32 writer)
+          (each_append (λ (b : ℕ). b < 256) (to_le_bytes w32 reader) (to_le_bytes w32 writer) (word_bytes reader) (word_bytes writer));
       pipes = (tt, tt);
     };
-    forked = λ few. record { change = tt; verdict = tt; pipes = adds_put (ends_of ds) };
+    forked = λ few. record { change = tt; verdict = number_told _; pipes = adds_put (ends_of ds) };
     collected = λ at e is found. record { change = tt; verdict = status_told (at == 0) e.child at e.status; pipes = tt };
     ended = λ status. record { change = tt; verdict = tt; pipes = drops_put (ends_of ds) };
   }

@@ -96,7 +96,7 @@ put_goes s pid p h f = record { made = h.made; pipes = h.pipes; tapes = h.tapes;
 -- a process that is made has its parent's memory
 forked_fit : (p : Process) (o : Option ℕ) → IsFit p → AllByRecursion IsFit (forked p o)
 forked_fit p None f = tt
-forked_fit p (Some child) f = (replied_holds p.state zero_reply tt f, tt)
+forked_fit p (Some child) f = (replied_holds p.state zero_reply (record { bytes = tt; image = tt }) f, tt)
 
 effect_fit : DiskLaws → (s : SyncState) (pid : ℕ) (p : Process) (e : Effect) (v : Verdict) → AreFit s → IsFit p → IsSound s.files e → TellsBytes v
     → GoesFit s (after_effect s pid p e v)

@@ -4,11 +4,11 @@ use Rattle.std.specs.Prelude.{cond}
 use Rattle.std.proofs.lemmas.List.Sums.{sum_by-append, sum_by-cons}
 use Rattle.kernel_model.specs.Entries.{Entry}
 use Rattle.kernel_model.specs.Steps.{step}
-use Rattle.kernel_model.specs.World.{World, Boot, first_world, happens, after}
+use Rattle.kernel_model.specs.World.{World, Boot, first_world, happens, after, sync_run, sync_log}
 use Rattle.kernel_model.specs.Shown.{printed, told}
 use Rattle.kernel_model.specs.Answers.{committed}
 use Rattle.kernel_model.specs.declared.event.Event.{Event}
-use Rattle.kernel_laws.specs.Promises.{IsSynchronous, sync_run, sync_log, forks}
+use Rattle.kernel_laws.specs.Promises.{IsSynchronous, forks}
 use Rattle.kernel_laws.proofs.Machines.{comes_at_once}
 use Rattle.kernel_laws.proofs.Prefixes.{released_is}
 use Rattle.kernel_laws.proofs.Others.{made_count, step_length}

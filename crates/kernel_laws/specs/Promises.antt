@@ -2,26 +2,16 @@
 use Rattle.std.specs.Prelude.{◌≡◌, ℕ, ◌+◌, ◌<◌, if◌then◌else◌, List, [], ◌∷◌, length, take, slice_get, count_by, Some, is_some}
 use Rattle.machine_model.specs.declared.reply.Reply.{Reply}
 use Rattle.machine_model.specs.declared.stop.Stop.TheVariants.{Call}
-use Rattle.machine_model.specs.States.{State, run, stands_at, replied}
-use Rattle.kernel_model.specs.State.{SyncState, Process, process_at}
-use Rattle.kernel_model.specs.Steps.{step}
+use Rattle.machine_model.specs.States.{State, run, stands_at}
+use Rattle.machine_model.specs.Replies.{replied}
+use Rattle.kernel_model.specs.State.{Process, process_at}
 use Rattle.kernel_model.specs.Entries.{Entry}
 use Rattle.kernel_model.specs.Paths.{IsDurable}
-use Rattle.kernel_model.specs.World.{World, Boot, first_world}
+use Rattle.kernel_model.specs.World.{World, Boot, first_world, sync_run, sync_log}
 use Rattle.kernel_model.specs.Shown.{Given, is_made, printed, told, shown, handed, replies_in}
 use Rattle.kernel_model.specs.Views.{contents}
 use Rattle.kernel_model.specs.Answers.{committed}
 use Rattle.kernel_model.specs.declared.event.Event.{Event}
-
--- the synchronous state after these events; no disk, and nothing of what is committed, has a part in it
-abbrev pub sync_run : SyncState → List Event → SyncState
-sync_run s [] = s
-sync_run s (e ∷ es) = sync_run (step s e).state es
-
--- the entries of these events; no disk has a part in them either
-abbrev pub sync_log : SyncState → List Event → List Entry
-sync_log s [] = []
-sync_log s (e ∷ es) = (step s e).entry ∷ sync_log (step s e).state es
 
 -- A machine comes from one state to another by instructions of the table, but for the calls at which it comes to stand:
 -- these get these replies, in order.

@@ -1,4 +1,5 @@
-//! Laws over whole runs of the kernel's definitions: what these come to, whatever the code.
+//! Laws over whole runs of the kernel's definitions, whatever the code. Read `headline` first: it is the whole of what the kernel
+//! promises. The others say what becomes of crashes, of interleavings and of drains.
 #![tactic(auto)]
 
 ghost use Rattle.std.specs.Prelude.{List, [], ℕ, ◌≡◌, ◌≤◌, ◌<◌, ◌+◌, ◌==◌, ◌&&◌, if◌then◌else◌, true, false, is_some};
@@ -27,15 +28,14 @@ use disk_model::{
     made_files_change, made_files_hold_bytes, runs_are_orderly,
 };
 
-/// A law, the whole of what the kernel promises. Whatever events come in whatever order, each process, also one that a fork
-/// made, runs as on a kernel that stores each change within its call; what is shown and handed out is the longest prefix that
-/// rests on committed changes alone; and a crash at any moment leaves a disk that holds the files after a prefix of the changes
-/// with every committed one in it.
+/// A law, the whole of what the kernel promises, whatever events come in whatever order. Each process, also one that a fork made,
+/// runs as on a kernel that stores each change within its call. What is shown and handed out is the longest prefix that causally
+/// depends on committed changes alone. A crash at any moment leaves a disk that holds the files after a prefix of the changes, with
+/// every committed one in it.
 ///
-/// The first two parts hold of every boot, whatever its disk. The third is of a disk that holds the files that the boot
-/// names, of programs whose memories hold bytes, and of tapes that hold bytes: `kernel::Core::boot` ensures all three of every
-/// core that it boots. What a program reads comes from tapes, files and pipes into its memory, and what it writes to a file or a
-/// pipe comes from there: so all that is ever written to the disk are bytes.
+/// The first two parts hold of every boot, whatever its disk. The third asks that the disk holds the files that the boot names, and
+/// that the programs' memories and the tapes hold bytes. `kernel::Core::boot` ensures all three. What a program reads comes from
+/// tapes, files and pipes, and what it writes comes from its memory. So all that is ever written to the disk are bytes.
 pub fn headline()
     ensures synchronous { (b : Boot) (es : List Event) → IsSynchronous b (after (first_world b) es) es }
     ensures crash { (b : Boot) (es : List Event) → HoldsItsFiles b → ProgramsHoldBytes b → TapesHoldBytes b
@@ -44,10 +44,9 @@ pub fn headline()
     crashes_keep_the_committed();
 }
 
-/// A law: a crash at any moment of any run leaves a disk that holds the files after a prefix of the run's changes, with
-/// every committed one in it. So a run can go on from that disk, and end in a crash again. The boot's disk must hold the boot's
-/// files, and memories and tapes must hold bytes at the start: then files, pipes and memories hold bytes all along, so that what
-/// is written is what a disk can hold.
+/// A law: a crash at any moment of any run leaves a disk that holds the files after a prefix of the run's changes, with every
+/// committed one in it. So a run can go on from that disk, and end in a crash again. The boot's disk must hold the boot's files,
+/// and memories and tapes must hold bytes at the start. Then all that is ever written is what a disk can hold.
 pub fn crashes_keep_the_committed()
     ensures { (b : Boot) (es : List Event) → HoldsItsFiles b → ProgramsHoldBytes b → TapesHoldBytes b
         → SurvivesCrash b (after (first_world b) es) }
@@ -60,8 +59,8 @@ pub fn crashes_keep_the_committed()
     crashes();
 }
 
-/// A law: nothing that was shown is ever lost. Whatever disk a crash leaves holds the files after a prefix of the run's changes in
-/// which every change stands on which a byte rests that some terminal showed, or an item that some process was handed.
+/// A law: nothing that was shown is ever lost. Whatever disk a crash leaves holds the files after a prefix of the run's changes. In
+/// that prefix stands each change on which a byte rests that a terminal showed, or an item that a process was handed.
 pub fn shown_is_kept()
     ensures { (b : Boot) (es : List Event) → HoldsItsFiles b → ProgramsHoldBytes b → TapesHoldBytes b
         → KeepsWhatWasSeen b (after (first_world b) es) }
@@ -70,10 +69,10 @@ pub fn shown_is_kept()
     headline();
 }
 
-/// A law: a run that ends in a crash can go on. Every disk that the crash may leave holds files, so that
-/// `kernel::Core::boot` refuses it for want of memory alone. A core that is booted on it begins with the files after a prefix
-/// of the run's changes, with each committed change in it. And so it goes on through any number of runs and crashes: the last
-/// one's files are those of the first boot after such a prefix of each run's changes, one after the other.
+/// A law: a run that ends in a crash can go on. Every disk that the crash may leave holds files, so `kernel::Core::boot` refuses it
+/// for want of memory alone. A core that is booted on it begins with the files after a prefix of the run's changes, with each
+/// committed one in it. The same holds through any number of crashes: the last files are the first boot's after one such prefix of
+/// each run.
 pub fn runs_go_on()
     ensures held { (b : Boot) (es : List Event) (left : List ℕ) → IsSound b → MayLeave (run_of b es) left
         → (files : List NamedFile) × IsHeld left files }
@@ -87,18 +86,18 @@ pub fn runs_go_on()
     changes_come_in_turn();
 }
 
-/// A law: whatever the interleaving of single instructions, what comes of it is what whole Turns give. Each instruction must
-/// be possible where it stands: its process is there, has not ended, and stands at no call and no trap. Which whole Turns
-/// these are is said by `gathered_is`.
+/// A law: any interleaving of single instructions comes to what whole Turns (time slices) give. Each instruction must be possible
+/// where it stands: its process is there, has not ended, and stands at no call and no trap. `gathered_is` says which whole Turns
+/// these are.
 pub fn interleavings()
     ensures { (b : Boot) (items : List Fine) → IsFine (first_world b) items
         → SameView (after_fine (first_world b) items) (after (first_world b) (gathered items)) }
 {}
 
-/// A law: what the items of a fine run become, so that `interleavings` says what it seems to say. Whatever is no instruction
-/// stays, in order; the instructions of a process since its last Enter are one Turn of as many; and each Turn comes as late as
-/// it can, directly before its process's next Enter, or at the end where no Enter of it follows. This is said of all items with
-/// no Turn among them, and so of each fine run.
+/// A law: what the items of a fine run become, so that `interleavings` says what it seems to say. Whatever is no instruction stays,
+/// in order. The instructions of a process since its last Enter are one Turn of as many. Each Turn comes as late as it can:
+/// directly before its process's next Enter, or at the end where none follows. This holds of all items with no Turn among them, and
+/// so of each fine run.
 pub fn gathered_is()
     ensures becomes { (items : List Fine) → HasNoTurn items → IsGathered items (gathered items) }
     ensures fine { (w : World) (items : List Fine) → IsFine w items → HasNoTurn items }
@@ -111,8 +110,8 @@ pub fn turns_are_instructions()
         → SameView (after_fine (first_world b) (unfolded (first_world b) es)) (after (first_world b) es) }
 {}
 
-/// A law: where all changes are committed, all that was written to terminals is shown, and all that processes were told is
-/// handed out.
+/// A law: where all changes are committed, all that was written to terminals is shown, and all that processes were told is handed
+/// out.
 pub fn all_is_shown()
     ensures terminals { (b : Boot) (es : List Event) → committed (after (first_world b) es) ≡ changes (after (first_world b) es)
         → (t : ℕ) → shown (after (first_world b) es) t ≡ contents (printed t (after (first_world b) es).log) }
@@ -120,9 +119,9 @@ pub fn all_is_shown()
         → (p : ℕ) → handed (after (first_world b) es) p ≡ contents (told p (after (first_world b) es).log) }
 {}
 
-/// A law: how the disk of any run stands, whatever is on it. At most all changes are committed. With nothing in flight and
-/// nothing failed no stage is left to be submitted; else a group is on its way, with which more changes are committed, at most
-/// all. So where a write has failed, some change is not committed.
+/// A law: how the disk of any run stands, whatever is on it. At most all changes are committed. With nothing in flight and nothing
+/// failed, no stage is left to be submitted. Else a group is on its way, with which more changes are committed, at most all. So
+/// where a write has failed, some change is not committed.
 pub fn groups_in_flight()
     ensures among { (b : Boot) (es : List Event) → committed (after (first_world b) es) ≤ changes (after (first_world b) es) }
     ensures none { (b : Boot) (es : List Event) → is_quiet (after (first_world b) es).storage.device ≡ true
@@ -150,8 +149,8 @@ pub fn completions_count_down()
     runs_are_orderly();
 }
 
-/// A law: no events lower how many changes of a core there are, or how many of them are committed. So of two readings of the
-/// counts the later is at least the earlier, in both.
+/// A law: no events lower how many changes of a core there are, or how many are committed. So the later of two readings of the
+/// counts is at least the earlier, in both.
 pub fn counts_never_fall()
     ensures committed { (k : Kernel) (es : List Event) → committed (now k) ≤ committed (now (with_events k es)) }
     ensures changes { (k : Kernel) (es : List Event) → changes (now k) ≤ changes (now (with_events k es)) }

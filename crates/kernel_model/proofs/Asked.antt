@@ -10,7 +10,7 @@ use Rattle.machine_model.specs.States.{State}
 use Rattle.disk_model.specs.Limits.{longest_name}
 use Rattle.kernel_model.specs.Requests.{read_bytes, most_bytes, longest_names, pair_size, word_size, request_by, request_of}
 use Rattle.kernel_model.specs.declared.request.Request.{Request}
-use Rattle.kernel_model.specs.declared.request.Request.TheVariants.{Write, Read, Open, Pipe, Wait, Unlink, Rename}
+use Rattle.kernel_model.specs.declared.request.Request.TheVariants.{Write, Read, Open, Pipe, Wait, Unlink, Rename, Exec}
 
 pub length-bytes_at : (memory : Memory) (at n : ℕ) → length (bytes_at memory at n) ≡ n
 length-bytes_at memory at zero = refl
@@ -31,6 +31,7 @@ IsAsked memory (Read fd at n fits) = fits ≡ true → is_writable memory at n �
 IsAsked memory (Open n mode name) = AreRead memory n name
 IsAsked memory (Unlink n name) = AreRead memory n name
 IsAsked memory (Rename n m names) = AreRead memory (n + m) names
+IsAsked memory (Exec n name) = AreRead memory n name
 IsAsked memory (Pipe at fits) = fits ≡ true → is_writable memory at 8 ≡ true
 IsAsked memory (Wait at fits) = fits ≡ true → (at == 0) ≡ false → is_writable memory at 4 ≡ true
 IsAsked memory _ = Unit {0}
@@ -62,7 +63,8 @@ is_asked number a0 a1 a2 memory =
     by (number == 10) _ _ tt (
     by (number == 11) _ _ tt (
     by (number == 12) _ _ (are_read memory longest_name a0 a1) (
-    by (number == 13) _ _ (are_read memory longest_names a0 (a1 + a2)) tt))))))))))))
+    by (number == 13) _ _ (are_read memory longest_names a0 (a1 + a2)) (
+    by (number == 14) _ _ (are_read memory longest_name a0 a1) tt)))))))))))))
   where
     by : (b : Bool) (x y : Request) → IsAsked memory x → IsAsked memory y → IsAsked memory (if b then x else y)
     by true x y f g = f

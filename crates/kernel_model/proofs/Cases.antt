@@ -11,9 +11,11 @@ use Rattle.disk_model.proofs.Lists.{some_of}
 use Rattle.machine_model.specs.declared.stop.Stop.{Stop}
 use Rattle.machine_model.specs.declared.stop.Stop.TheVariants.{Limit, Call, Trap}
 use Rattle.disk_model.specs.Limits.{most_files, longest_name, longest_file}
+use Rattle.image_model.specs.declared.fault.ElfFault.{ElfFault}
+use Rattle.image_model.specs.Checks.{first_fault}
 use Rattle.kernel_model.specs.Requests.{most_bytes, request_of}
 use Rattle.machine_model.specs.Numbers.{cause_number}
-use Rattle.kernel_model.specs.Rows.{Effect, looking_at, Directory, directory, number_named, is_bad_length, seek_file, seek_to, row_unlink, unlink_named, unlink_file, row_rename, rename_read, rename_file, rename_to, EndedChild, only, number, failure, bad_address, carrier_of, ends_of, row, row_end, row_write, write_read, write_to, write_file, write_pipe, put_some, may_write, row_read, read_from, read_file, read_tape, read_pipe, take_some, may_read, row_close, row_open, open_named, open_free, open_file, open_there, open_emptied, open_new, row_pipe, pipe_free, pipe_made, row_fork, row_wait, wait_ended, first_ended, free_descriptor, free_after, descriptor_at, most_pipes, most_processes, pipe_size}
+use Rattle.kernel_model.specs.Rows.{Effect, looking_at, Directory, directory, number_named, is_bad_length, seek_file, seek_to, row_unlink, unlink_named, unlink_file, row_rename, rename_read, rename_file, rename_to, row_exec, exec_named, exec_file, exec_found, exec_image, EndedChild, only, number, failure, bad_address, carrier_of, ends_of, row, row_end, row_write, write_read, write_to, write_file, write_pipe, put_some, may_write, row_read, read_from, read_file, read_tape, read_pipe, take_some, may_read, row_close, row_open, open_named, open_free, open_file, open_there, open_emptied, open_new, row_pipe, pipe_free, pipe_made, row_fork, row_wait, wait_ended, first_ended, free_descriptor, free_after, descriptor_at, most_pipes, most_processes, pipe_size}
 use Rattle.kernel_model.specs.State.{Process, Shared, PipeState, TapeState, unread}
 use Rattle.kernel_model.specs.Steps.{effect_at}
 use Rattle.kernel_model.specs.declared.carrier.Carrier.{Carrier}
@@ -125,6 +127,9 @@ pub record OfEach (P : Effect → Type 0) (s : Shared) (ds : List (Option Descri
   pub renamed : (file n m : ℕ) (names : List ℕ) → r ≡ request.Rename n m (Some names)
       → IsRenamed (directory s.files) n m (take n names) (drop n names) file
       → P (rename_to file (drop n names) (number_named (directory s.files) (drop n names)))
+  -- a file whose image the caller goes on with
+  pub loaded : (file n : ℕ) (name : List ℕ) (f : NamedFile) → r ≡ request.Exec n (Some name) → number_named (directory s.files) name ≡ Some file
+      → file_of s.files file ≡ Some f → first_fault f.bytes ≡ None → P (exec_image file f.bytes None)
   -- a close, and a seek
   pub closed : (fd : ℕ) (d : Descriptor) → descriptor_at ds fd ≡ Some d → P (row_close (Some d) fd)
   pub moved : (fd file old offset : ℕ) (writes : Bool) → descriptor_at ds fd ≡ Some (descriptor.File file old writes)
@@ -294,6 +299,29 @@ module _ (P : Effect → Type 0) (s : Shared) (ds : List (Option Descriptor)) (c
       let new = good_length m both.1 in
       rename_read_is n m o is old.1 new.0 new.1)
 
+  -- exec
+  exec_image_is : (file n : ℕ) (name : List ℕ) (f : NamedFile) (o : Option ElfFault) → r ≡ request.Exec n (Some name)
+      → number_named (directory s.files) name ≡ Some file → file_of s.files file ≡ Some f → first_fault f.bytes ≡ o → P (exec_image file f.bytes o)
+  exec_image_is file n name f None is named found good = of.loaded file n name f is named found good
+  exec_image_is file n name f (Some fault) is named found bad = of.told _ _ _
+
+  exec_found_is : (file n : ℕ) (name : List ℕ) (o : Option NamedFile) → r ≡ request.Exec n (Some name) → number_named (directory s.files) name ≡ Some file
+      → file_of s.files file ≡ o → P (exec_found file o)
+  exec_found_is file n name None is named found = of.told _ _ _
+  exec_found_is file n name (Some f) is named found = exec_image_is file n name f (first_fault f.bytes) is named found refl
+
+  exec_file_is : (n : ℕ) (name : List ℕ) (o : Option ℕ) → r ≡ request.Exec n (Some name) → number_named (directory s.files) name ≡ o → P (exec_file s.files o)
+  exec_file_is n name None is named = of.told _ _ _
+  exec_file_is n name (Some file) is named = exec_found_is file n name (file_of s.files file) is named refl
+
+  exec_named_is : (n : ℕ) (o : Option (List ℕ)) → r ≡ request.Exec n o → P (exec_named s.files o)
+  exec_named_is n None is = of.told _ _ _
+  exec_named_is n (Some name) is =
+      by_test (not (list_all is_name_byte name)) _ _ (λ _. of.told _ _ _) (λ _. exec_file_is n name (number_named (directory s.files) name) is refl)
+
+  row_exec_is : (n : ℕ) (o : Option (List ℕ)) → r ≡ request.Exec n o → P (row_exec s.files n o)
+  row_exec_is n o is = by_test (is_bad_length n) _ _ (λ _. of.told _ _ _) (λ _. exec_named_is n o is)
+
   -- close and seek
   row_close_is : (o : Option Descriptor) (fd : ℕ) → descriptor_at ds fd ≡ o → P (row_close o fd)
   row_close_is None fd stands = of.told _ [] []
@@ -350,6 +378,7 @@ module _ (P : Effect → Type 0) (s : Shared) (ds : List (Option Descriptor)) (c
   row_is p request.Sync is = of.told 0 [] []
   row_is p (request.Unlink n name) is = row_unlink_is n name is
   row_is p (request.Rename n m names) is = row_rename_is n m names is
+  row_is p (request.Exec n name) is = row_exec_is n name is
   row_is p request.Unknown is = of.told _ [] []
 
   -- it holds of the row

@@ -28,6 +28,7 @@ each_next s ds children r = record {
   made = λ _ _ _ _ _ _ _. tt;
   unlinked = λ _ _ _ _ _. tt;
   renamed = λ _ _ _ _ _ _. tt;
+  loaded = λ _ _ _ _ _ _ _ _. tt;
   closed = λ _ _ _. tt;
   moved = λ _ _ _ _ _ _. tt;
   piped = λ _ _ _ _ _ _ _. tt;

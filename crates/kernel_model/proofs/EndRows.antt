@@ -107,6 +107,7 @@ module _ (f : PipeEnd) (s : Shared) (ds : List (Option Descriptor)) (has : (g : 
     made = λ fd n mode name is free new. inl (still _ tt refl (opened_still fd _ free refl) refl);
     unlinked = λ _ _ _ _ _. inl (still _ tt refl refl refl);
     renamed = λ _ _ _ _ _ _. inl (still _ tt refl refl refl);
+    loaded = λ _ _ _ _ _ _ _ _. inl (still _ tt refl refl refl);
     closed = λ fd d stands. inl (closed_fits fd d stands);
     moved = λ fd file old offset writes stands. inl (still _ tt refl (among_kept f ds fd _ (ap (weight f) stands) refl) refl);
     piped = λ at reader writer is free next few. inl (pipe_made_fits at reader writer (free_is ds reader free) (after_is ds reader writer next));

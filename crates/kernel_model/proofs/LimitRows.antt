@@ -118,6 +118,7 @@ module _ (s : Shared) (tapes : ℕ) (before : PipesFit s.pipes) (numbered : AreN
             slots = tt;
             child = tt;
           };
+      loaded = λ _ _ _ _ _ _ _ _. still _ refl;
       closed = λ fd d stands. record {
         pipes = fit (length s.pipes) _ before.few (drops_stand (length s.pipes) (ends_of (Some d ∷ [])) s.pipes stand);
         change = tt;

@@ -7,7 +7,8 @@ use Rattle.disk_model.specs.declared.change.Change.{Change}
 use Rattle.disk_model.proofs.Lists.{each_get, each_more}
 use Rattle.disk_model.proofs.Tidy.{IsTidyFile, tidy_after}
 use Rattle.machine_model.specs.declared.reply.Reply.{Reply}
-use Rattle.machine_model.specs.States.{stands_at, replied}
+use Rattle.machine_model.specs.States.{stands_at}
+use Rattle.machine_model.specs.Replies.{replied}
 use Rattle.disk_model.specs.Numbers.{Numbered}
 use Rattle.kernel_model.specs.Limits.{AreNumbered, KeepLimits, TapesAreThere, AreFewAndShort, RiseWithin, descriptor_count}
 use Rattle.kernel_model.specs.Rows.{Effect, most_processes}

@@ -56,6 +56,7 @@ each_makes s ds children r = record {
   made = λ _ _ _ _ _ _ _. refl;
   unlinked = λ file n name is found. named_placed s.files name file change.Remove found;
   renamed = λ file n m names is new. named_placed s.files _ file (λ (place : ℕ). change.Rename place _) new.named;
+  loaded = λ _ _ _ _ _ _ _ _. refl;
   closed = λ _ _ _. refl;
   moved = λ _ _ _ _ _ _. refl;
   piped = λ _ _ _ _ _ _ _. refl;

@@ -1,5 +1,5 @@
 -- The kernel as its callers see it: why it refuses an event, and what it answers.
-use Rattle.std.specs.Prelude.{◌≡◌, ℕ, zero, suc, ◌+◌, ◌-◌, ◌*◌, ◌^◌, ◌&&◌, ◌||◌, not, nat_lt, nat_le, Bool, false, if◌then◌else◌, List, [], ◌∷◌, ◌++◌, length, drop, slice_get, Option, Some, None, is_some, is_none, Result, MatchResult, count_by}
+use Rattle.std.specs.Prelude.{◌≡◌, ℕ, zero, suc, ◌+◌, ◌-◌, ◌*◌, ◌^◌, ◌&&◌, ◌||◌, not, nat_lt, nat_le, Bool, false, if◌then◌else◌, List, [], ◌∷◌, ◌++◌, length, drop, map, slice_get, Option, Some, None, is_some, is_none, Result, MatchResult, count_by}
 use Rattle.std.specs.List.{list_any}
 use Rattle.disk_model.specs.declared.change.Change.{Change}
 use Rattle.disk_model.specs.declared.change.Piece.{Piece}
@@ -214,6 +214,10 @@ Refuses None given = given ≡ refused.OutOfMemory
 -- a process that was never lent
 abbrev pub never_lent : Lending
 never_lent = record { loans = 0; out = None }
+
+-- a core of this boot before any event and any loan
+abbrev pub at_boot : Boot → Kernel
+at_boot b = record { boot = b; history = []; lendings = map (λ p. never_lent) b.programs; last_lent = 0 }
 
 -- how processes stand with their loans after an event that made this one, if it made one
 abbrev pub with_child : List Lending → Option ℕ → List Lending

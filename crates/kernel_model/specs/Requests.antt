@@ -5,7 +5,7 @@ use Rattle.memory_model.specs.Access.{bytes_at, range_fault, to_read, to_write}
 use Rattle.machine_model.specs.States.{State}
 use Rattle.disk_model.specs.Limits.{longest_name, longest_file_write}
 use Rattle.kernel_model.specs.declared.request.Request.{Request}
-use Rattle.kernel_model.specs.declared.request.Request.TheVariants.{Exit, Write, Read, Open, Close, Pipe, Fork, Wait, GetPid, Seek, Sync, Unlink, Rename, Unknown}
+use Rattle.kernel_model.specs.declared.request.Request.TheVariants.{Exit, Write, Read, Open, Close, Pipe, Fork, Wait, GetPid, Seek, Sync, Unlink, Rename, Exec, Unknown}
 
 -- n bytes from an address on, where they are at most so many and each may be read
 abbrev pub read_bytes : Memory → ℕ → ℕ → ℕ → Option (List ℕ)
@@ -49,6 +49,7 @@ request_by number a0 a1 a2 memory =
     else if number == 11 then Sync
     else if number == 12 then Unlink a1 (read_bytes memory longest_name a0 a1)
     else if number == 13 then Rename a1 a2 (read_bytes memory longest_names a0 (a1 + a2))
+    else if number == 14 then Exec a1 (read_bytes memory longest_name a0 a1)
     else Unknown
 
 -- the call at which a machine stands: its number is in a7, its arguments in a0, a1 and a2

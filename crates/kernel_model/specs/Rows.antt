@@ -1,6 +1,6 @@
--- The table of calls: what each request comes to, its tests in their order. No run of at most 8 programs comes to an answer for a
--- tape or a pipe that is not there, or for a file that was never made: `kernel_model::tables_keep_their_limits`, and of pipes
--- `kernel_model::ends_are_counted`.
+-- The table of system calls: what each request comes to, its tests in their order. Read from the last definition up.
+-- Some rows answer for a tape or a pipe that is not there, or for a file that was never made. No run of at most 8 programs comes
+-- to these: `kernel_model::tables_keep_their_limits`, and of pipes `kernel_model::ends_are_counted`.
 use Rattle.std.specs.Prelude.{ℕ, zero, suc, ◌+◌, ◌-◌, ◌^◌, ◌%◌, ◌==◌, ◌&&◌, ◌++◌, ◌||◌, not, Bool, true, false, if◌then◌else◌, nat_lt, nat_le, List, [], ◌∷◌, length, slice_get, map, filter_map, take, drop, Option, Some, None, is_none, option_map, unwrap_or}
 use Rattle.std.specs.List.{list_all, position}
 use Rattle.std.specs.Str.{bytes_eq}
@@ -9,6 +9,9 @@ use Rattle.disk_model.specs.declared.change.NamedFile.{NamedFile}
 use Rattle.disk_model.specs.Files.{is_name_byte}
 use Rattle.disk_model.specs.Numbers.{Numbered, at_place, file_of, lives}
 use Rattle.disk_model.specs.Limits.{most_files, longest_name, longest_file}
+use Rattle.image_model.specs.declared.fault.ElfFault.{ElfFault}
+use Rattle.image_model.specs.Checks.{first_fault}
+use Rattle.image_model.specs.Names.{program_in}
 use Rattle.kernel_model.specs.Requests.{most_bytes}
 use Rattle.kernel_model.specs.State.{Shared, TapeState, PipeState, unread}
 use Rattle.kernel_model.specs.declared.carrier.Carrier.{Carrier}
@@ -29,9 +32,9 @@ use Rattle.kernel_model.specs.declared.request.Request.TheVariants as request
 use Rattle.kernel_model.specs.declared.request.Verdict.{Verdict}
 use Rattle.kernel_model.specs.declared.request.Verdict.TheVariants.{Waits, Replies, Ends}
 
--- What a call comes to: what the caller is told, the carriers that it reads and writes beside the caller's own, and the
--- edits that it makes: of a file, bytes for a terminal, bytes read from a tape, steps of pipes, descriptors of the caller, and
--- of its children one that is made or one that is collected, by its number.
+-- What a call comes to: what the caller is told, the carriers that it reads and writes beside the caller's own, and its edits.
+-- `child` is the number of a process that is made, `collects` that of a child that is collected. `Effect` has the fields of the
+-- code's `Row` on purpose, so that one is compared with the other field by field.
 pub record Effect : Type 0 where
   pub verdict : Verdict
   pub reads : List Carrier
@@ -50,12 +53,12 @@ only verdict = record { verdict = verdict; reads = []; writes = []; edit = None;
 
 -- a reply of a number, without bytes
 abbrev pub number : ℕ → Verdict
-number n = Replies (record { a0 = n; at = 0; bytes = [] })
+number n = Replies (record { a0 = n; at = 0; bytes = []; image = None })
 
 -- a reply of a number, with these bytes for a place; the place is 0 where there are none
 abbrev pub with_bytes : ℕ → ℕ → List ℕ → Verdict
 with_bytes n at [] = number n
-with_bytes n at (b ∷ bs) = Replies (record { a0 = n; at = at; bytes = b ∷ bs })
+with_bytes n at (b ∷ bs) = Replies (record { a0 = n; at = at; bytes = b ∷ bs; image = None })
 
 -- a reply of the word of a negative number
 abbrev pub minus : ℕ → Verdict
@@ -65,10 +68,13 @@ minus code = number (2 ^ 32 - code)
 abbrev pub failure : ℕ → Effect
 failure code = only (minus code)
 
--- The errors: no such file, bad descriptor, no child, bad address, bad argument, table full, too many descriptors, file too
--- large, no reader, no such call.
+-- The errors: no such file, not an image, bad descriptor, no child, bad address, bad argument, table full, too many descriptors,
+-- file too large, no reader, no such call.
 abbrev pub no_such_file : ℕ
 no_such_file = 2
+
+abbrev pub not_an_image : ℕ
+not_an_image = 8
 
 abbrev pub bad_descriptor : ℕ
 bad_descriptor = 9
@@ -160,9 +166,13 @@ looking_at d e = record e { reads = file_carriers d ++ e.reads }
 abbrev pub row_end : List (Option Descriptor) → ℕ → Effect
 row_end ds status = closing (ends_of ds) (Ends status)
 
+-- ---- the caller's descriptors
+
 -- what a descriptor of the caller stands for; one past the last stands for nothing
 abbrev pub descriptor_at : List (Option Descriptor) → ℕ → Option Descriptor
 descriptor_at ds fd = unwrap_or (slice_get ds fd) None
+
+-- ---- write
 
 -- bytes may be written through a descriptor
 abbrev pub may_write : Numbered → Option Descriptor → Bool
@@ -219,6 +229,8 @@ row_write s d fd n bytes =
     else if nat_lt most_bytes n then failure bad_argument
     else if n == 0 then only (number 0)
     else write_read s d fd bytes)
+
+-- ---- read
 
 -- bytes may be read through a descriptor
 abbrev pub may_read : Numbered → Option Descriptor → Bool
@@ -284,10 +296,14 @@ row_read s d fd at n fits =
     else if not fits then failure bad_address
     else read_from s d fd at n)
 
+-- ---- close
+
 -- close, of the descriptor fd, which stands for d
 abbrev pub row_close : Option Descriptor → ℕ → Effect
 row_close None fd = failure bad_descriptor
 row_close (Some d) fd = record (closing (ends_of (Some d ∷ [])) (number 0)) { slots = record { fd = fd; holds = None } ∷ [] }
+
+-- ---- seek
 
 -- seek, to an offset through the descriptor fd, which stands for a file that may live
 abbrev pub seek_file : ℕ → ℕ → Bool → ℕ → Bool → Effect
@@ -321,6 +337,8 @@ pub record Directory : Type 0 where
 -- the names of the files
 abbrev pub names_of : List NamedFile → List (List ℕ)
 names_of files = map (λ f. f.name) files
+
+-- ---- open, and the names of files
 
 -- what the names of these files tell
 abbrev pub directory : Numbered → Directory
@@ -390,7 +408,7 @@ row_open dir ds n mode name =
     else if is_bad_length n then failure bad_argument
     else open_named dir ds mode name
 
--- ---- unlink and rename
+-- ---- unlink
 
 -- unlink, of the file of a name, if there is one
 abbrev pub unlink_file : Option ℕ → Effect
@@ -409,6 +427,8 @@ unlink_named dir (Some name) = if not (list_all is_name_byte name) then failure 
 -- unlink, of a name of n bytes, in this directory
 abbrev pub row_unlink : Directory → ℕ → Option (List ℕ) → Effect
 row_unlink dir n name = if is_bad_length n then failure bad_argument else unlink_named dir name
+
+-- ---- rename
 
 -- the file that loses its name, if one does, as a carrier
 abbrev pub loser_carriers : Option ℕ → List Carrier
@@ -444,7 +464,37 @@ rename_read dir n (Some names) = rename_named dir (take n names) (drop n names)
 abbrev pub row_rename : Directory → ℕ → ℕ → Option (List ℕ) → Effect
 row_rename dir n m names = if is_bad_length n || is_bad_length m then failure bad_argument else rename_read dir n names
 
--- ---- pipe, fork and wait
+-- ---- exec
+
+-- exec, of the file of this number and these bytes: the process goes on from the first state of the image that they are, unless
+-- they have a fault
+abbrev pub exec_image : ℕ → List ℕ → Option ElfFault → Effect
+exec_image file bytes None = record (only (Replies (record { a0 = 0; at = 0; bytes = []; image = Some (program_in bytes) }))) {
+  reads = carrier.Names ∷ carrier.File file ∷ [];
+}
+exec_image file bytes (Some fault) = record (failure not_an_image) { reads = carrier.Names ∷ carrier.File file ∷ [] }
+
+-- exec, of the file of this number, which lives where a name has it
+abbrev pub exec_found : ℕ → Option NamedFile → Effect
+exec_found file None = record (failure no_such_file) { reads = carrier.Names ∷ [] }
+exec_found file (Some f) = exec_image file f.bytes (first_fault f.bytes)
+
+-- exec, of the file of a name, if there is one
+abbrev pub exec_file : Numbered → Option ℕ → Effect
+exec_file files None = record (failure no_such_file) { reads = carrier.Names ∷ [] }
+exec_file files (Some file) = exec_found file (file_of files file)
+
+-- exec, of a name that may be None
+abbrev pub exec_named : Numbered → Option (List ℕ) → Effect
+exec_named files None = failure bad_address
+exec_named files (Some name) =
+    if not (list_all is_name_byte name) then failure bad_argument else exec_file files (number_named (directory files) name)
+
+-- exec, of a name of n bytes, of these files
+abbrev pub row_exec : Numbered → ℕ → Option (List ℕ) → Effect
+row_exec files n name = if is_bad_length n then failure bad_argument else exec_named files name
+
+-- ---- pipe
 
 -- the least free descriptor after one that may be there
 abbrev pub free_after : List (Option Descriptor) → Option ℕ → Option ℕ
@@ -475,6 +525,8 @@ row_pipe count ds at fits =
     if not fits then failure bad_address
     else pipe_free count at (free_descriptor ds) (free_after ds (free_descriptor ds))
 
+-- ---- fork
+
 -- fork, where there are so many processes, by a caller with these descriptors: the next process by number, which has the
 -- caller's descriptors, and so one more for each end of a pipe
 abbrev pub row_fork : ℕ → List (Option Descriptor) → Effect
@@ -489,6 +541,8 @@ row_fork count ds =
       pipes = map pipe_step.Add ends;
       child = Some child;
     }
+
+-- ---- wait
 
 -- a child that has ended, and its status
 pub record EndedChild : Type 0 where
@@ -526,6 +580,8 @@ row_wait statuses children at fits =
     else if length children == 0 then failure no_child
     else wait_ended at children (first_ended statuses children)
 
+-- ---- the table
+
 -- the table: a row for each request of process p with these descriptors and these children left to collect
 abbrev pub row : Shared → ℕ → List (Option Descriptor) → List ℕ → Request → Effect
 row s p ds children (request.Exit status) = row_end ds (status % 256)
@@ -541,4 +597,5 @@ row s p ds children (request.Seek fd offset) = row_seek s.files (descriptor_at d
 row s p ds children request.Sync = only (number 0)
 row s p ds children (request.Unlink n name) = row_unlink (directory s.files) n name
 row s p ds children (request.Rename n m names) = row_rename (directory s.files) n m names
+row s p ds children (request.Exec n name) = row_exec s.files n name
 row s p ds children request.Unknown = failure no_such_call

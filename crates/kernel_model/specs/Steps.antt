@@ -6,7 +6,8 @@ use Rattle.disk_model.specs.declared.change.Change.TheVariants as change
 use Rattle.machine_model.specs.declared.reply.Reply.{Reply}
 use Rattle.machine_model.specs.declared.stop.Stop.{Stop}
 use Rattle.machine_model.specs.declared.stop.Stop.TheVariants.{Limit, Call, Trap}
-use Rattle.machine_model.specs.States.{run, stands_at, replied}
+use Rattle.machine_model.specs.States.{run, stands_at}
+use Rattle.machine_model.specs.Replies.{replied}
 use Rattle.kernel_model.specs.Entries.{Entry, Got, End}
 use Rattle.kernel_model.specs.State.{SyncState, Shared, shared, Process, process_at, put_process, with_process, changed_by, read_by, all_stepped}
 use Rattle.kernel_model.specs.Requests.{request_of}
@@ -86,7 +87,7 @@ after_reply p e r = record {
 
 -- the reply of a fork to the process that it makes
 abbrev pub zero_reply : Reply
-zero_reply = record { a0 = 0; at = 0; bytes = [] }
+zero_reply = record { a0 = 0; at = 0; bytes = []; image = None }
 
 -- the process that is made, as its parent was, if one is: it is told 0, and has no children
 abbrev pub forked : Process → Option ℕ → List Process

@@ -3,7 +3,7 @@ use Rattle.std.specs.Prelude.{◌≡◌, ℕ, ◌+◌, ◌≤◌, length, List, 
 use Rattle.disk_model.specs.Limits.{longest_name}
 use Rattle.kernel_model.specs.Requests.{most_bytes, longest_names}
 use Rattle.kernel_model.specs.declared.request.Request.{Request}
-use Rattle.kernel_model.specs.declared.request.Request.TheVariants.{Exit, Write, Read, Open, Close, Pipe, Fork, Wait, GetPid, Seek, Sync, Unlink, Rename, Unknown}
+use Rattle.kernel_model.specs.declared.request.Request.TheVariants.{Exit, Write, Read, Open, Close, Pipe, Fork, Wait, GetPid, Seek, Sync, Unlink, Rename, Exec, Unknown}
 
 -- bytes that are there are n, and n is at most so many
 abbrev pub AreWhole : ℕ → ℕ → Option (List ℕ) → Type 0
@@ -24,6 +24,7 @@ IsWhole (Seek fd offset) = Unit {0}
 IsWhole Sync = Unit {0}
 IsWhole (Unlink n name) = AreWhole longest_name n name
 IsWhole (Rename n m names) = AreWhole longest_names (n + m) names
+IsWhole (Exec n name) = AreWhole longest_name n name
 IsWhole Unknown = Unit {0}
 
 -- no bytes come with the request: it is no write and names no file, or its bytes are too many or may not be read
@@ -41,4 +42,5 @@ HoldsNone (Seek fd offset) = Unit {0}
 HoldsNone Sync = Unit {0}
 HoldsNone (Unlink n name) = name ≡ None
 HoldsNone (Rename n m names) = names ≡ None
+HoldsNone (Exec n name) = name ≡ None
 HoldsNone Unknown = Unit {0}

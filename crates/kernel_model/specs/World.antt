@@ -107,3 +107,13 @@ first_world b = record {
 -- the run of these events
 abbrev pub run_of : Boot → List Event → World
 run_of b events = after (first_world b) events
+
+-- the synchronous state after these events; no disk, and nothing of what is committed, has a part in it
+abbrev pub sync_run : SyncState → List Event → SyncState
+sync_run s [] = s
+sync_run s (e ∷ es) = sync_run (step s e).state es
+
+-- the entries of these events; no disk has a part in them either
+abbrev pub sync_log : SyncState → List Event → List Entry
+sync_log s [] = []
+sync_log s (e ∷ es) = (step s e).entry ∷ sync_log (step s e).state es

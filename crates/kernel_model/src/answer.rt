@@ -87,7 +87,6 @@ impl Refused {
         self as u8
     }
 
-    /// What it says.
     fn text(self) -> &'static str {
         match self {
             Self::NoProcess => "no such process",

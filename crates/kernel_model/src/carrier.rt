@@ -1,6 +1,6 @@
 //! What carries dependencies from one event to another.
 
-/// A carrier: what one event writes and a later one reads.
+/// A carrier (dependency object): what one event writes and a later one reads.
 #[derive(Clone, Copy, Debug, PartialEq, Eq, Hash)]
 pub enum Carrier {
     /// A process, by its number.

@@ -9,8 +9,8 @@ pub enum PipeEnd {
     Write(u32),
 }
 
-/// What a descriptor stands for. A tape, the read end of a pipe, and a file that was opened by mode 0, may be read alone; a
-/// terminal, the write end of a pipe, and a file that was opened by mode 1 or 2, may be written alone.
+/// What a descriptor stands for. Each may be read alone or written alone. Read: a tape, the read end of a pipe, a file that was
+/// opened by mode 0. Written: a terminal, the write end of a pipe, a file that was opened by mode 1 or 2.
 #[derive(Clone, Copy, Debug, PartialEq, Eq)]
 pub enum Descriptor {
     /// A tape, by its number.

@@ -20,8 +20,8 @@ pub fn durable_is()
     ensures { (c : ℕ) (past : List Entry) (e : Entry) → IsTrue (is_durable c past e) ↔ IsDurable c past e }
 {}
 
-/// A law: the files of the synchronous state are those of the boot after all changes of the log; and so are their numbers, where
-/// those of the boot are numbered by their places.
+/// A law: the files of the synchronous state are those of the boot after all changes of the log. So are their numbers, where those
+/// of the boot are numbered by their places.
 pub fn files_are_folded()
     ensures numbered { (b : Boot) (es : List Event)
         → (after (first_world b) es).sync.files ≡ numbered_after (numbered b.files) (changes_in_log (after (first_world b) es).log) }
@@ -29,8 +29,8 @@ pub fn files_are_folded()
         → (after (first_world b) es).sync.files.living ≡ files_after b.files (changes_in_log (after (first_world b) es).log) }
 {}
 
-/// A law: a file that is gone never comes back. Where no file of a number lives that was given to one, none lives after any events
-/// that come, so no number is used again.
+/// A law: a file that is gone never comes back, so no number is used again. Where no file lives of a number that was given to one,
+/// none lives after any events that come.
 pub fn files_stay_gone()
     ensures { (b : Boot) (es more : List Event) (number : ℕ) → number < (after (first_world b) es).sync.files.made
         → lives (after (first_world b) es).sync.files number ≡ false
@@ -43,9 +43,8 @@ pub fn edits_are_made()
         → is_some (change_by s.files e.edit) ≡ is_some e.edit }
 {}
 
-/// A law: what the numbers of a pipe's ends are. Whatever events come, the number of ends to read that a pipe has is exactly
-/// the number of descriptors, over all processes that have not ended, that stand for its end to read; and so it is for writing.
-/// No descriptor stands for an end of a pipe that is not there.
+/// A law: a pipe counts its ends. It has as many readers as there are descriptors, over all processes that have not ended, that
+/// stand for its end to read. The same holds of writing. No descriptor stands for an end of a pipe that is not there.
 pub fn ends_are_counted()
     ensures readers { (b : Boot) (es : List Event) (k : ℕ) (p : PipeState)
         → slice_get (after (first_world b) es).sync.pipes k ≡ Some p
@@ -59,8 +58,8 @@ pub fn ends_are_counted()
         × (count_held (Write k) (after (first_world b) es).sync.processes ≡ 0) }
 {}
 
-/// A law: an end of a pipe that is closed stays so. Once a pipe has no ends to read, no descriptor stands for its end to read,
-/// whatever events come after; and so it is for writing. So a pipe without ends is never named again.
+/// A law: an end of a pipe that is closed stays so. Once a pipe has no ends to read, no descriptor ever stands for its end to read.
+/// The same holds of writing. So a pipe without ends is never named again.
 pub fn ends_stay_closed()
     ensures readers { (b : Boot) (es more : List Event) (k : ℕ) (p : PipeState)
         → slice_get (after (first_world b) es).sync.pipes k ≡ Some p → p.readers ≡ 0
@@ -77,13 +76,13 @@ pub fn ended_hold_nothing()
         → IsTrue (list_all is_none p.descriptors) }
 {}
 
-/// A law: whatever events come, the tables keep their limits, and what they name is there or, of files, was made. Each process
-/// has 16 descriptors, of which none stands for a file that was never made, and its children stand by rising number. The
-/// numbers of the files that live rise, so each file has its own, and each is below that of the next file. There are at most
-/// 1,024 pipes, and each holds at most 4,096 bytes. Where the boot has at most 1,024 programs, there are at most 1,024
-/// processes; where it has at most 8, no descriptor stands for a tape that is not there; and where its disk holds its files,
-/// there are at most 32 files, each of at most 16,384 bytes. (Of pipes `ends_are_counted` says that each end that is named is
-/// there.)
+/// A law: the tables keep their limits, and what they name is there or, of files, was made. The first clause holds of every boot:
+/// - each process has 16 descriptors, none of which stands for a file that was never made, and its children stand by rising number;
+/// - the numbers of the files that live rise, and each is below that of the next file;
+/// - there are at most 1,024 pipes, each of at most 4,096 bytes; `ends_are_counted` says that each end that is named is there.
+///
+/// The others ask more of the boot. With at most 1,024 programs there are at most 1,024 processes. With at most 8, no descriptor
+/// stands for a tape that is not there. Where its disk holds its files, there are at most 32, each of at most 16,384 bytes.
 pub fn tables_keep_their_limits()
     ensures tables { (b : Boot) (es : List Event) → KeepLimits (after (first_world b) es).sync }
     ensures processes { (b : Boot) (es : List Event) → length b.programs ≤ most_processes
@@ -92,8 +91,8 @@ pub fn tables_keep_their_limits()
     ensures files { (b : Boot) (es : List Event) → HoldsItsFiles b → AreFewAndShort (after (first_world b) es).sync.files.living }
 {}
 
-/// A law: of a process's children, the first that has ended is the least by number that has. So that is the one that a wait
-/// collects; and where it finds none, none has ended.
+/// A law: of a process's children, the first that has ended is the least by number that has. A wait collects that one. Where it
+/// finds none, none has ended.
 pub fn first_ended_is_least()
     ensures { (b : Boot) (es : List Event) (pid : ℕ) (p : Process)
         → process_at (after (first_world b) es).sync.processes pid ≡ Some p

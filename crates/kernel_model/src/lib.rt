@@ -1,4 +1,5 @@
-//! What the kernel is, apart from how it is kept: its events and answers, the table of calls, and whole runs.
+//! What the kernel is, apart from how it is kept: its events, its answers, the table of system calls, and whole runs. Read `Event`
+//! first, then the definitions `Rows`, the table, and `World`, a run. The laws hold of every run, whatever the code.
 #![tactic(auto)]
 
 mod answer;

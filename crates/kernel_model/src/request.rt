@@ -68,6 +68,11 @@ pub enum Request {
         m: u32,
         names: Option<Bytes>,
     },
+    /// The process goes on from the first state of the image that the file with a name of n bytes holds.
+    Exec {
+        n: u32,
+        name: Option<Bytes>,
+    },
     /// A call of no number of the table.
     Unknown,
 }
