@@ -1,0 +1,15 @@
+pub mod Rows
+pub mod Files
+pub mod Parts
+pub mod Effects
+pub mod Frames
+pub mod Selected
+pub mod Coned
+pub mod Tidy
+pub mod Resting
+pub mod Visible
+pub mod Handed
+pub mod Written
+pub mod Laws
+pub mod Worked
+pub mod Accepted

@@ -1,0 +1,111 @@
+-- Two carriers are one where `==` says so.
+use Rattle.std.proofs.lemmas.List.{take_more}
+use Rattle.std.proofs.Common.{◌≡◌, ℕ, ◌+◌, ◌<◌, length, take, get_or, ◌==◌, ◌||◌, Bool, true, false, cond, List, [], ◌∷◌, ◌++◌, refl, sym, ap, ◌∙◌}
+use Rattle.std.specs.List.{list_any}
+use Rattle.std.proofs.lemmas.Bool.{eqb-true, eqb-false, eq-eqb, ne_eqb}
+use Rattle.std.proofs.lemmas.List.Folds.{list_any-append}
+use Rattle.std.proofs.Math.Bool.{or-false, or_assoc, or_comm}
+use Rattle.kernel_model.specs.declared.carrier.Carrier.{Carrier}
+use Rattle.kernel_model.specs.declared.carrier.Carrier.TheVariants.{Proc, File, Names, Pipe, Pipes, Tasks, Tape}
+use Rattle.kernel_model.specs.contracts.carrier.CarrierPartialEq.TheImpl as carrier
+use Rattle.kernel_model.specs.Entries.{is_same, is_among}
+
+pub same-eq : (x y : Carrier) → carrier.ghosts.eq x y ≡ is_same x y
+same-eq (Proc a) (Proc b) = refl
+same-eq (Proc a) (File b) = refl
+same-eq (Proc a) Names = refl
+same-eq (Proc a) (Pipe b) = refl
+same-eq (Proc a) Pipes = refl
+same-eq (Proc a) Tasks = refl
+same-eq (Proc a) (Tape b) = refl
+same-eq (File a) (Proc b) = refl
+same-eq (File a) (File b) = refl
+same-eq (File a) Names = refl
+same-eq (File a) (Pipe b) = refl
+same-eq (File a) Pipes = refl
+same-eq (File a) Tasks = refl
+same-eq (File a) (Tape b) = refl
+same-eq Names (Proc b) = refl
+same-eq Names (File b) = refl
+same-eq Names Names = refl
+same-eq Names (Pipe b) = refl
+same-eq Names Pipes = refl
+same-eq Names Tasks = refl
+same-eq Names (Tape b) = refl
+same-eq (Pipe a) (Proc b) = refl
+same-eq (Pipe a) (File b) = refl
+same-eq (Pipe a) Names = refl
+same-eq (Pipe a) (Pipe b) = refl
+same-eq (Pipe a) Pipes = refl
+same-eq (Pipe a) Tasks = refl
+same-eq (Pipe a) (Tape b) = refl
+same-eq Pipes (Proc b) = refl
+same-eq Pipes (File b) = refl
+same-eq Pipes Names = refl
+same-eq Pipes (Pipe b) = refl
+same-eq Pipes Pipes = refl
+same-eq Pipes Tasks = refl
+same-eq Pipes (Tape b) = refl
+same-eq Tasks (Proc b) = refl
+same-eq Tasks (File b) = refl
+same-eq Tasks Names = refl
+same-eq Tasks (Pipe b) = refl
+same-eq Tasks Pipes = refl
+same-eq Tasks Tasks = refl
+same-eq Tasks (Tape b) = refl
+same-eq (Tape a) (Proc b) = refl
+same-eq (Tape a) (File b) = refl
+same-eq (Tape a) Names = refl
+same-eq (Tape a) (Pipe b) = refl
+same-eq (Tape a) Pipes = refl
+same-eq (Tape a) Tasks = refl
+same-eq (Tape a) (Tape b) = refl
+
+-- a set has what is among its keys, and what is put into it
+pub has-among : (x : Carrier) (keys : List Carrier) → list_any (carrier.ghosts.eq x) keys ≡ is_among x keys
+has-among x [] = refl
+has-among x (k ∷ ks) = ap (λ b. b || list_any (carrier.ghosts.eq x) ks) (same-eq x k) ∙ ap (λ b. is_same x k || b) (has-among x ks)
+
+eq_sym : (a b : ℕ) → (a == b) ≡ (b == a)
+eq_sym a b = elim (a == b) as (λ t. (a == b) ≡ t → t ≡ (b == a)) [
+  | true ↦ λ is. sym (eq-eqb b a (sym (eqb-true a b is)))
+  | false ↦ λ is. sym (ne_eqb b a (λ (e : b ≡ a). eqb-false a b is (sym e)))
+] refl
+
+pub same_sym : (a b : Carrier) → is_same a b ≡ is_same b a
+same_sym (Proc a) (Proc b) = eq_sym a b
+same_sym (File a) (File b) = eq_sym a b
+same_sym (Pipe a) (Pipe b) = eq_sym a b
+same_sym (Tape a) (Tape b) = eq_sym a b
+same_sym Names Names = refl
+same_sym Pipes Pipes = refl
+same_sym Tasks Tasks = refl
+same_sym _ _ = refl
+
+as_or : (b c : Bool) → cond b true c ≡ (b || c)
+as_or true c = refl
+as_or false c = refl
+
+-- one key more
+pub has-more : (old new : List Carrier) (k : Carrier) → ((q : Carrier) → list_any (carrier.ghosts.eq q) new ≡ cond (carrier.ghosts.eq k q) true (list_any (carrier.ghosts.eq q) old))
+    → (x : Carrier) → is_among x new ≡ (is_among x old || is_among x (k ∷ []))
+has-more old new k h x =
+    sym (has-among x new) ∙ h x ∙ as_or (carrier.ghosts.eq k x) (list_any (carrier.ghosts.eq x) old)
+    ∙ ap (λ b. b || list_any (carrier.ghosts.eq x) old) (same-eq k x ∙ same_sym k x) ∙ ap (λ b. is_same x k || b) (has-among x old)
+    ∙ or_comm (is_same x k) (is_among x old) ∙ ap (λ b. is_among x old || b) (sym (or-false (is_same x k)))
+
+-- some, and then others
+pub added-both : (start between after xs ys : List Carrier) → ((x : Carrier) → is_among x between ≡ (is_among x start || is_among x xs))
+    → ((x : Carrier) → is_among x after ≡ (is_among x between || is_among x ys)) → (x : Carrier) → is_among x after ≡ (is_among x start || is_among x (xs ++ ys))
+added-both start between after xs ys first then x =
+    then x ∙ ap (λ b. b || is_among x ys) (first x) ∙ or_assoc (is_among x start) (is_among x xs) (is_among x ys)
+    ∙ ap (λ b. is_among x start || b) (sym (list_any-append (is_same x) xs ys))
+
+-- those so far, and the next
+pub adding-next : (xs : List Carrier) (i : ℕ) (d : Carrier) (start before after : List Carrier) → i < length xs
+    → ((x : Carrier) → is_among x before ≡ (is_among x start || is_among x (take i xs)))
+    → ((x : Carrier) → is_among x after ≡ (is_among x before || is_among x (get_or xs i d ∷ [])))
+    → (x : Carrier) → is_among x after ≡ (is_among x start || is_among x (take (i + 1) xs))
+adding-next xs i d start before after less so_far added x =
+    added-both start before after (take i xs) (get_or xs i d ∷ []) so_far added x
+    ∙ sym (ap (λ (ys : List Carrier). is_among x start || is_among x ys) (take_more xs i d less))

@@ -1,0 +1,240 @@
+//! What is kept of the footprints of events, and the walk back from one event over those on which it rests.
+ghost use Rattle.std.specs.Prelude.{◌≡◌, ◌+◌, ◌<◌, ◌≤◌, ◌∷◌, ◌++◌, ◌||◌, ◌⊎◌, [], length, vec_len, vec_capacity, get_or, IfOk, OnOk, OnErr};
+ghost use Rattle.kernel_model.specs.declared.carrier.Carrier.{Carrier as Carried};
+ghost use Rattle.kernel_model.specs.Entries.{is_among, meets};
+ghost use Rattle.footprints.specs.Footprints.{is_enter, enter_count, enters_among, footprint_by, AreInCone};
+ghost use Rattle.footprints.specs.Kept.{footprint, no_footprint, part, start_of, footprints_from, AreSpaced};
+
+use crate::wanted::Wanted;
+use kernel_model::{Carrier, Event};
+use std::alloc::{AllocError, Global};
+use std::marker::Model;
+
+/// Where the carriers of an Enter end: those that it reads beside its process, and after them those that it writes.
+#[derive(Clone, Copy)]
+struct Ends {
+    reads: usize,
+    writes: usize,
+}
+
+/// The place where the carriers of an Enter begin, which is where those of the Enter before it end.
+fn start(ends: &[Ends], enter: usize) -> usize
+    requires { enter < length ends.now }
+    ensures { result ≡ start_of 0 ends.now enter }
+{
+    if enter == 0 {
+        0
+    } else {
+        ends[enter - 1].writes
+    }
+}
+
+/// The carriers from one place up to another.
+fn part_of(carriers: &[Carrier], from: usize, to: usize) -> &[Carrier]
+    requires order { from ≤ to }
+    requires within { to ≤ length carriers.now }
+    ensures { result.now ≡ part from to carriers.now }
+{
+    &carriers[from..to]
+}
+
+/// The carriers that an Enter reads beside its process.
+fn read_by<'a>(carriers: &'a [Carrier], ends: &[Ends], enter: usize) -> &'a [Carrier]
+    requires there { enter < length ends.now }
+    requires spaced { AreSpaced 0 (length carriers.now) ends.now }
+    ensures { result.now ≡ (get_or (footprints_from 0 carriers.now ends.now) enter no_footprint).reads }
+{
+    let from = start(ends, enter);
+    part_of(carriers, from, ends[enter].reads)
+}
+
+/// The carriers that an Enter writes.
+fn written_by<'a>(carriers: &'a [Carrier], ends: &[Ends], enter: usize) -> &'a [Carrier]
+    requires there { enter < length ends.now }
+    requires spaced { AreSpaced 0 (length carriers.now) ends.now }
+    ensures { result.now ≡ (get_or (footprints_from 0 carriers.now ends.now) enter no_footprint).writes }
+{
+    part_of(carriers, ends[enter].reads, ends[enter].writes)
+}
+
+/// These carriers come last. Answers how many there are then. Takes no memory.
+fn append(carriers: &mut Vec<Carrier>, more: &[Carrier]) -> usize
+    requires { vec_len carriers.old + length more.now ≤ vec_capacity carriers.old }
+    ensures items { carriers.new.items ≡ carriers.old.items ++ more.now }
+    ensures count { result ≡ length carriers.new.items }
+    ensures len { vec_len carriers.new ≡ vec_len carriers.old + length more.now }
+    ensures room { vec_capacity carriers.old ≤ vec_capacity carriers.new }
+{
+    carriers.extend_from_slice(more).unwrap();
+    carriers.len()
+}
+
+/// Whether an event is an Enter.
+fn enters(event: Event) -> bool
+    ensures { result ≡ is_enter event }
+{
+    matches!(event, Event::Enter { .. })
+}
+
+/// How many Enters are among these events.
+fn count_enters(events: &[Event]) -> usize
+    ensures { result ≡ enters_among events.now }
+{
+    events.iter().filter(|event| enters(**event)).count()
+}
+
+/// How many Enters came before an event, where so many came before the next one.
+fn enters_before(event: Event, enters_after: usize) -> usize
+    requires { enter_count event ≤ enters_after }
+    ensures { result + enter_count event ≡ enters_after }
+{
+    if enters(event) {
+        enters_after - 1
+    } else {
+        enters_after
+    }
+}
+
+/// The footprints of a run's Enters, in order. An Enter takes 16 bytes, and 16 for each carrier: those that it reads beside its process,
+/// and all that it writes. The other events take none, since the history says their footprints: a Turn reads and writes its process, and
+/// an event of the disk reads and writes nothing.
+pub struct Footprints {
+    /// Those of all Enters, one Enter after the other: first those that it reads, then those that it writes.
+    carriers: Vec<Carrier>,
+    ends: Vec<Ends>,
+}
+
+impl Drop for Footprints {
+    fn drop(self) {
+        let Footprints {
+            carriers: _carriers,
+            ends: _ends,
+        } = self;
+    }
+}
+
+impl Model for Footprints {
+    ghost use Rattle.std.specs.Prelude.{List, length, ◌-◌, vec_len, vec_capacity};
+    ghost use Rattle.footprints.specs.Kept.{Kept, footprints_from, AreSpaced};
+
+    ghost Value = { Kept };
+
+    ghost view = { λ f. record {
+      footprints = footprints_from 0 f.carriers.items f.ends.items;
+      enter_room = vec_capacity f.ends - vec_len f.ends;
+      carrier_room = vec_capacity f.carriers - vec_len f.carriers;
+    } };
+
+    ghost invariant = { λ f. AreSpaced 0 (length f.carriers.items) f.ends.items };
+}
+
+impl Footprints {
+    /// Those of no event. Takes no memory.
+    pub fn new(alloc: Global) -> Footprints
+        ensures { result.footprints ≡ [] }
+    {
+        Footprints {
+            carriers: Vec::new(alloc),
+            ends: Vec::new(alloc),
+        }
+    }
+
+    /// Makes room for so many Enters more, with so many carriers. The footprints stay, whether it succeeds or not.
+    pub fn reserve(&mut self, enters: usize, carriers: usize) -> Result<(), AllocError>
+        ensures enters { OnOk result (enters ≤ self.new.enter_room) }
+        ensures carriers { OnOk result (carriers ≤ self.new.carrier_room) }
+        ensures err { OnErr result ((self.old.enter_room < enters) ⊎ (self.old.carrier_room < carriers)) }
+        ensures footprints { self.new.footprints ≡ self.old.footprints }
+        ensures enter_room { self.old.enter_room ≤ self.new.enter_room }
+        ensures carrier_room { self.old.carrier_room ≤ self.new.carrier_room }
+    {
+        self.ends.reserve(enters)?;
+        self.carriers.reserve(carriers)
+    }
+
+    /// Notes an Enter that reads these carriers beside its process, and writes these. Takes no memory: there has to be room.
+    pub fn note(&mut self, reads: &[Carrier], writes: &[Carrier])
+        requires enter { 1 ≤ self.old.enter_room }
+        requires carriers { length reads.now + length writes.now ≤ self.old.carrier_room }
+        ensures footprints { self.new.footprints ≡ self.old.footprints ++ footprint reads.now writes.now ∷ [] }
+        ensures enter_room { self.old.enter_room ≤ self.new.enter_room + 1 }
+        ensures carrier_room { self.old.carrier_room ≤ self.new.carrier_room + (length reads.now + length writes.now) }
+    {
+        let reads = append(&mut self.carriers, reads);
+        let writes = append(&mut self.carriers, writes);
+        self.ends.push(Ends { reads, writes }).unwrap();
+    }
+
+    /// The carriers that an Enter reads beside its process.
+    fn reads(&self, enter: usize) -> &[Carrier]
+        requires { enter < length self.now.footprints }
+        ensures { result.now ≡ (get_or self.now.footprints enter no_footprint).reads }
+    {
+        read_by(&self.carriers, &self.ends, enter)
+    }
+
+    /// The carriers that an Enter writes.
+    fn writes(&self, enter: usize) -> &[Carrier]
+        requires { enter < length self.now.footprints }
+        ensures { result.now ≡ (get_or self.now.footprints enter no_footprint).writes }
+    {
+        written_by(&self.carriers, &self.ends, enter)
+    }
+
+    /// Whether an event, which comes after so many Enters, writes a carrier that is wanted.
+    fn writes_wanted(&self, wanted: &Wanted, event: Event, enters: usize) -> bool
+        requires { enters + enter_count event ≤ length self.now.footprints }
+        ensures { result ≡ meets (footprint_by event (get_or self.now.footprints enters no_footprint)).writes wanted.now }
+    {
+        match event {
+            Event::Turn { pid, .. } => wanted.has(Carrier::Proc(pid)),
+            Event::Enter { .. } => wanted.has_any(self.writes(enters)),
+            Event::Cut => false,
+            Event::Complete { .. } => false,
+            Event::Fail { .. } => false,
+        }
+    }
+
+    /// What an event reads, which comes after so many Enters, is wanted too.
+    fn want_reads(&self, wanted: &mut Wanted, event: Event, enters: usize) -> Result<(), AllocError>
+        requires { enters + enter_count event ≤ length self.now.footprints }
+        ensures { OnOk result ((x : Carried) → is_among x wanted.new
+            ≡ (is_among x wanted.old || is_among x (footprint_by event (get_or self.now.footprints enters no_footprint)).reads)) }
+    {
+        match event {
+            Event::Turn { pid, .. } => wanted.add(Carrier::Proc(pid)),
+            Event::Enter { pid } => {
+                wanted.add(Carrier::Proc(pid))?;
+                wanted.add_all(self.reads(enters))
+            }
+            Event::Cut => Ok(()),
+            Event::Complete { .. } => Ok(()),
+            Event::Fail { .. } => Ok(()),
+        }
+    }
+
+    /// The numbers, counted from 1, of the events in the cone of event n, in order. Goes back from event n over the events before it:
+    /// one that writes what is wanted is in the cone, and what it reads is wanted from there on.
+    pub fn cone(&self, alloc: Global, events: &[Event], n: usize) -> Result<Vec<u64>, AllocError>
+        requires first { 1 ≤ n }
+        requires there { n ≤ length events.now }
+        requires kept { length self.now.footprints ≡ enters_among events.now }
+        ensures { IfOk result (λ numbers. AreInCone events.now self.now.footprints n numbers.items) }
+    {
+        let mut enters = count_enters(&events[..n - 1]);
+        let mut wanted = Wanted::new(alloc);
+        self.want_reads(&mut wanted, events[n - 1], enters)?;
+        let mut numbers = Vec::new(alloc);
+        numbers.push(n as u64)?;
+        for place in (0..n - 1).rev() {
+            let event = events[place];
+            enters = enters_before(event, enters);
+            if self.writes_wanted(&wanted, event, enters) {
+                self.want_reads(&mut wanted, event, enters)?;
+                numbers.push(place as u64 + 1)?;
+            }
+        }
+        numbers.reverse();
+        Ok(numbers)
+    }
+}
