@@ -5,7 +5,7 @@ use Rattle.std.proofs.lemmas.List.{length-map}
 use Rattle.std.proofs.lemmas.Option.{slice_get-map}
 use Rattle.disk_model.specs.Numbers.{Numbered, file_of}
 use Rattle.kernel_model.specs.Requests.{most_bytes}
-use Rattle.kernel_model.specs.Rows.{Effect, failure, bad_descriptor, bad_argument, bad_address, number, only, minus, no_reader, pipe_size, on_pipe, put_some, take_some, write_pipe, write_to, write_read, row_write, may_write, read_file, read_pipe, read_from, row_read, may_read, looking_at, descriptor_at, directory, row, row_open, row_seek, row_unlink, row_rename, row_pipe, row_fork, row_wait}
+use Rattle.kernel_model.specs.Rows.{Effect, failure, bad_descriptor, bad_argument, bad_address, number, only, minus, no_reader, pipe_size, on_pipe, put_some, take_some, write_pipe, write_to, write_read, row_write, may_write, read_file, read_pipe, read_from, row_read, may_read, looking_at, descriptor_at, directory, row, row_open, row_seek, row_unlink, row_rename, row_exec, row_pipe, row_fork, row_wait}
 use Rattle.kernel_model.specs.State.{Shared, PipeState, TapeState}
 use Rattle.kernel_model.specs.declared.carrier.Carrier.TheVariants.{Pipe}
 use Rattle.kernel_model.specs.declared.descriptor.Descriptor.{Descriptor}
@@ -138,4 +138,5 @@ row-kept s statuses files seen tapes p ds children (request.Unlink n name) kept 
     ap (λ (fs : Numbered). row_unlink (directory fs) n name) (sym kept.files)
 row-kept s statuses files seen tapes p ds children (request.Rename n m names) kept =
     ap (λ (fs : Numbered). row_rename (directory fs) n m names) (sym kept.files)
+row-kept s statuses files seen tapes p ds children (request.Exec n name) kept = ap (λ (fs : Numbered). row_exec fs n name) (sym kept.files)
 row-kept s statuses files seen tapes p ds children request.Unknown kept = refl

@@ -272,6 +272,7 @@ row-sound c p r fine = of_row (IsSound c r) (shared_of c.statuses c.files c.seen
       (λ _. at-its-place c r fine change.Remove file (λ place there _. (omega (arith, fine.few, there), there)))
       tt tt (λ _ _. refl);
   renamed = λ file n m names is new. still-sound c r _ refl refl refl tt (rename-possible c r fine file n m names is new) tt tt (λ _ _. refl);
+  loaded = λ _ _ _ _ _ _ _ _. still-sound c r _ refl refl refl tt tt tt tt (λ _ _. refl);
   closed = λ fd d stands.
       let ends = ends_of (Some d ∷ []) in
       let one : length ends ≤ 1 = length-ends_of (Some d ∷ []) in

@@ -13,7 +13,6 @@ use kernel_model::{Carrier, Descriptor, PipeEnd, PipeStep, Verdict};
 use processes::Descriptors;
 use std::alloc::{AllocError, Global};
 
-/// The end of a pipe for which a descriptor stands, if it stands for one.
 fn end_of(descriptor: Option<Descriptor>) -> Option<PipeEnd>
     ensures { result ≡ end_of descriptor }
 {
@@ -23,7 +22,7 @@ fn end_of(descriptor: Option<Descriptor>) -> Option<PipeEnd>
     }
 }
 
-/// The ends for which these descriptors stand.
+/// The ends for which these descriptors stand, by rising descriptor; an end comes as often as descriptors stand for it.
 pub fn ends_of(alloc: Global, descriptors: &Descriptors) -> Result<Vec<PipeEnd>, AllocError>
     ensures ends { IfOk result (λ ends. ends.items ≡ ends_of descriptors.now) }
     ensures few { length descriptors.now ≤ 16 }
@@ -35,7 +34,6 @@ pub fn ends_of(alloc: Global, descriptors: &Descriptors) -> Result<Vec<PipeEnd>,
         .collect(alloc)
 }
 
-/// The pipe of an end, as a carrier.
 fn carrier_of(end: PipeEnd) -> Carrier
     ensures { result ≡ carrier_of end }
 {
@@ -52,7 +50,7 @@ pub fn carriers_of(alloc: Global, ends: &[PipeEnd]) -> Result<Vec<Carrier>, Allo
     ends.iter().map(|end| carrier_of(*end)).collect(alloc)
 }
 
-/// A step of the pipes for each of these ends: a descriptor for it is given up.
+/// Each of these ends loses a descriptor.
 fn drops_of(alloc: Global, ends: &[PipeEnd]) -> Result<Vec<PipeStep>, AllocError>
     ensures { IfOk result (λ steps. steps.items ≡ map Drop ends.now) }
 {
@@ -70,7 +68,6 @@ fn closing(alloc: Global, ends: &[PipeEnd], verdict: Verdict) -> Result<Row, All
     row.updating_all(&carriers)
 }
 
-/// The row of the end of a process with these descriptors and a status.
 fn ending(alloc: Global, descriptors: &Descriptors, status: u32) -> Result<Row, AllocError>
     ensures row { IfOk result (λ row. IsRow row (row_end descriptors.now status)) }
     ensures few { length descriptors.now ≤ 16 }
@@ -79,8 +76,8 @@ fn ending(alloc: Global, descriptors: &Descriptors, status: u32) -> Result<Row, 
     closing(alloc, &ends, Verdict::Ends(status))
 }
 
-/// The end of a process with a status, 0 to 255 by a call, or 256 plus a trap's cause: each end of a pipe for which a
-/// descriptor of its stands is given up. Refused for want of memory alone.
+/// The end of a process, which gives up each end of a pipe for which a descriptor of its stands. The status is 0 to 255 by a call,
+/// or 256 plus a trap's cause. Refused for want of memory alone.
 pub fn plan_end(alloc: Global, descriptors: &Descriptors, status: u32) -> Result<Plan, AllocError>
     ensures row { IfOk result (λ plan. effect_with plan None ≡ row_end descriptors.now status) }
     ensures change { IfOk result (λ plan. plan.change ≡ None) }

@@ -6,6 +6,7 @@ ghost use Rattle.calls.specs.Errors.{code_of};
 #[derive(Clone, Copy)]
 pub enum Errno {
     NoSuchFile = 2,
+    NotAnImage = 8,
     BadDescriptor = 9,
     NoChild = 10,
     BadAddress = 14,

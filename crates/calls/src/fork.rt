@@ -12,7 +12,7 @@ use kernel_model::{Carrier, PipeEnd, PipeStep};
 use processes::{Descriptors, MOST_PROCESSES, ProcTable};
 use std::alloc::{AllocError, Global};
 
-/// A step of the pipes for each of these ends: one more descriptor stands for it.
+/// Each of these ends gets one more descriptor.
 fn adds_of(alloc: Global, ends: &[PipeEnd]) -> Result<Vec<PipeStep>, AllocError>
     ensures { IfOk result (λ steps. steps.items ≡ map Add ends.now) }
 {

@@ -1,8 +1,11 @@
-//! The calls of the kernel: what a request of a process comes to.
+//! The system calls of the kernel: what a request of a process comes to, before anything changes. Read `plan_call` first. Its plan
+//! is the row of the table of calls, the definitions `Rows` of `kernel_model`. Each call has a file, with its tests in the table's
+//! order.
 #![tactic(auto)]
 
 mod ends;
 mod errno;
+mod exec;
 mod fork;
 mod names;
 mod open;

@@ -29,7 +29,7 @@ pub fn is_name(bytes: &[u8]) -> bool
     bytes.iter().all(|byte| is_name_byte(*byte))
 }
 
-/// The number of the file of a name.
+/// The number of the file of a name; None where no file that lives has it. Takes no memory.
 pub fn number_named(files: &FileTable, name: &[u8]) -> Option<u64>
     requires { AreNumbered files.now }
     ensures { result ≡ number_named (directory files.now) name.now }

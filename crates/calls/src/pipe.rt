@@ -40,7 +40,7 @@ pub fn pipe(
     pipe_made(alloc, count as u32, at, reader, writer)
 }
 
-/// Two words as bytes.
+/// Two words as bytes, each with its low byte first.
 fn pair_of(alloc: Global, first: u32, second: u32) -> Result<Bytes, AllocError>
     ensures { IfOk result
         (λ bytes. bytes ≡ to_le_bytes w32 first ++ to_le_bytes w32 second) }

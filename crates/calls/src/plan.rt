@@ -1,4 +1,4 @@
-//! What a call comes to, before anything is changed: the table of calls.
+//! What a call comes to, before anything changes.
 ghost use Rattle.std.specs.Prelude.{◌≡◌, ◌≤◌, ◌<◌, length, IfOk, IfSome};
 ghost use Rattle.std.specs.List.{AllByRecursion};
 ghost use Rattle.disk_model.specs.Limits.{longest_file, most_files};
@@ -13,6 +13,7 @@ ghost use Rattle.calls.specs.Sights.{sight_of, row_from, MayPlanCall, PlansCall}
 
 use crate::ends::{close, exit};
 use crate::errno::Errno;
+use crate::exec::exec;
 use crate::fork::fork;
 use crate::open::open;
 use crate::pipe::pipe;
@@ -30,9 +31,8 @@ use kernel_model::{Carrier, FileEdit, Output, PipeStep, Request, Slot, TapeRead,
 use processes::{Descriptors, ProcTable};
 use std::alloc::{AllocError, Global};
 
-/// What a call comes to: what the caller is told, the carriers that it reads and writes beside the caller's own, and what
-/// changes: the files, by a change that names one by its place, a terminal, a tape's place, the pipes, descriptors of the
-/// caller, and of its children one that is made or one that is collected, by its number.
+/// What a call comes to. Its fields are those of `Row`, but `change` names a file by its place among those that live, and an edit
+/// by its number. The carriers are those beside the caller's own.
 pub struct Plan {
     pub verdict: Verdict,
     pub reads: Vec<Carrier>,
@@ -94,7 +94,7 @@ fn place_of(files: &FileTable, file: u64) -> Option<u16>
     Some(place as u16)
 }
 
-/// The change by which an edit of a file is made: it names the file by its place. None where the file does not live.
+/// The change by which an edit of a file is made. None where the file does not live.
 fn change_of(files: &FileTable, edit: FileEdit) -> Option<Change>
     requires { length files.now.living ≤ most_files }
     ensures { result ≡ change_of files.now edit }
@@ -133,7 +133,6 @@ fn planned(files: &FileTable, mut row: Row) -> Plan
     }
 }
 
-/// The descriptors of a process.
 fn descriptors_of(processes: &ProcTable, pid: u32) -> &Descriptors
     requires from_1 { 0 < pid }
     requires there { pid ≤ length processes.now.parts }
@@ -143,7 +142,6 @@ fn descriptors_of(processes: &ProcTable, pid: u32) -> &Descriptors
     processes.descriptors(pid).unwrap()
 }
 
-/// The row of a request.
 fn plan_row(
     alloc: Global,
     tables: &KernelTables,
@@ -173,13 +171,13 @@ fn plan_row(
         Request::Sync => Ok(Row::number(alloc, 0)),
         Request::Unlink { n, name } => unlink(alloc, tables.files, n, name),
         Request::Rename { n, m, names } => rename(alloc, tables.files, n, m, names),
+        Request::Exec { n, name } => exec(alloc, tables.files, n, name),
         Request::Unknown => Ok(Row::failure(alloc, Errno::NoSuchCall)),
     }
 }
 
-/// What a request of process `pid` comes to; nothing changes. It wants at most 32 files that live, of at most 16,384 bytes
-/// each. Where a machine asks this request, the bytes of the reply may be written at their place in that machine. Refused for
-/// want of memory alone.
+/// What a request of process `pid` comes to; nothing changes. It wants at most 32 files that live, of at most 16,384 bytes each.
+/// Where a machine asks this request, the bytes of the reply may be written at their place in it. Refused for want of memory alone.
 pub fn plan_call(
     alloc: Global,
     tables: &KernelTables,

@@ -30,7 +30,6 @@ pub struct Place {
     pub fits: bool,
 }
 
-/// Whether bytes may be read through a descriptor.
 fn may_read(files: &FileTable, descriptor: Option<Descriptor>) -> bool
     ensures { result ≡ may_read files.now descriptor }
 {
@@ -170,7 +169,7 @@ fn read_file(
     Row::only(alloc, with_bytes(bytes.len() as u32, place.at, copy)).setting(fd, Some(holds))
 }
 
-/// A read of a pipe: of none where it holds none and none can write it any more, and waiting where some still can.
+/// A read of a pipe that holds nothing gives no bytes where none can write it any more, and waits where some still can.
 fn read_pipe(alloc: Global, pipes: &PipeTable, pipe: u32, place: Place) -> Result<Row, AllocError>
     requires { place.n ≤ most_bytes }
     ensures { IfOk result (λ row. IsRow row

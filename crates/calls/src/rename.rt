@@ -36,7 +36,6 @@ pub fn rename(
     rename_named(alloc, files, old, new)
 }
 
-/// A rename of an old name to a new one.
 fn rename_named(alloc: Global, files: &FileTable, old: &[u8], new: &[u8]) -> Result<Row, AllocError>
     requires { AreNumbered files.now }
     ensures { IfOk result (λ row. IsRow row (rename_named (directory files.now) old.now new.now)) }

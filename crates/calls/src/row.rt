@@ -11,9 +11,9 @@ use disk_model::Change;
 use kernel_model::{Carrier, Descriptor, FileEdit, Output, PipeStep, Slot, TapeRead, Verdict};
 use std::alloc::{AllocError, Global};
 
-/// What a call comes to by the table: what the caller is told, the carriers that it reads and writes beside the caller's
-/// own, and what it edits: a file, by its number, a terminal, a tape's place, the pipes, descriptors of the caller, and of
-/// its children one that is made or one that is collected, by its number.
+/// What a call comes to by the table. The definition `Effect` has the same fields, on purpose. They are: what the caller is told;
+/// the carriers that the call reads and writes beside the caller's own; its edits. `edit` names a file by its number. `child` is a
+/// process that is made, `collects` a child that is collected.
 pub(crate) struct Row {
     pub verdict: Verdict,
     pub reads: Vec<Carrier>,

@@ -11,7 +11,7 @@ use kernel_model::{TAPES, TapeRead};
 use std::marker::Model;
 use std::sync::Arc;
 
-/// The tapes, 0 to 7: the bytes of each, which are shared with whoever gave them, and the place of the next one to be read.
+/// The tapes, 0 to 7. Each has its bytes, which are shared with whoever gave them, and the place of the next one to be read.
 pub struct TapeTable {
     tapes: Arc<Vec<Bytes>>,
     places: [usize; TAPES],
@@ -50,8 +50,8 @@ fn bytes_of(tapes: &[Bytes], tape: usize) -> &[u8]
 }
 
 impl TapeTable {
-    /// The tapes with these bytes, of which none is read. Tapes that are not given are empty, and more than 8 are left out.
-    /// Takes no memory.
+    /// The tapes with these bytes, of which none is read. Tapes that are not given are empty, and more than 8 are left out. Takes
+    /// no memory.
     pub fn new(tapes: Arc<Vec<Bytes>>) -> TapeTable
         ensures { result ≡ tapes_of tape_count tapes.value.items }
     {

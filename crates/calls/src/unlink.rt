@@ -34,7 +34,6 @@ pub fn unlink(
     unlink_file(alloc, number_named(files, name.as_slice()))
 }
 
-/// An unlink of this file, if there is one.
 fn unlink_file(alloc: Global, file: Option<u64>) -> Result<Row, AllocError>
     ensures { IfOk result (λ row. IsRow row (unlink_file file)) }
 {

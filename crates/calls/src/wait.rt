@@ -36,7 +36,6 @@ pub fn wait(
     wait_ended(alloc, at, children, processes.ended_child(pid))
 }
 
-/// These processes, as carriers.
 fn procs_of(alloc: Global, processes: &[u32]) -> Result<Vec<Carrier>, AllocError>
     ensures { IfOk result (λ carriers. carriers.items ≡ map Proc processes.now) }
 {

@@ -21,7 +21,6 @@ use pipes::{Pipe, PipeTable};
 use processes::Descriptors;
 use std::alloc::{AllocError, Global};
 
-/// Whether bytes may be written through a descriptor.
 fn may_write(files: &FileTable, descriptor: Option<Descriptor>) -> bool
     ensures { result ≡ may_write files.now descriptor }
 {
@@ -33,7 +32,6 @@ fn may_write(files: &FileTable, descriptor: Option<Descriptor>) -> bool
     }
 }
 
-/// How many bytes these are.
 fn count(bytes: &[u8]) -> u32
     requires { length bytes.now ≤ most_bytes }
     ensures count { result ≡ length bytes.now }
@@ -125,7 +123,6 @@ fn write_to(
     }
 }
 
-/// A write of these bytes to a terminal.
 fn write_terminal(alloc: Global, terminal: u32, bytes: Bytes) -> Result<Row, AllocError>
     requires { length bytes ≤ most_bytes }
     ensures { IfOk result (λ row. IsRow row (record (only (number (length bytes))) {
@@ -137,7 +134,6 @@ fn write_terminal(alloc: Global, terminal: u32, bytes: Bytes) -> Result<Row, All
     Ok(row)
 }
 
-/// Whether n bytes at an offset of a file end past the most that a file may hold.
 fn ends_too_far(offset: u32, n: u32) -> bool
     requires { n ≤ most_bytes }
     ensures { result ≡ nat_lt longest_file (offset + n) }

@@ -1,4 +1,5 @@
-//! What a machine asks for that stands at a call.
+//! Which system call a machine asks for that stands at one. `request_of` reads its registers, and copies the bytes that it names.
+//! Only those bytes take memory.
 #![tactic(auto)]
 
 ghost use Rattle.std.specs.Prelude.{◌≡◌, ◌+◌, ◌==◌, ◌||◌, None, IfOk, IsOk};
@@ -44,8 +45,7 @@ fn named_bytes(
     }
 }
 
-/// The bytes of two names, of n and of m bytes, where they are at most 64 and the process may read them. Else no memory is
-/// taken.
+/// As `named_bytes`, of two names of n and of m bytes one after the other, at most 64.
 fn named_pair(
     alloc: Global,
     machine: &Machine,
@@ -70,15 +70,15 @@ fn may_be_placed(machine: &Machine, at: u32, n: u32) -> bool
     n <= MOST_BYTES && machine.space().writable(at, n)
 }
 
-/// Whether a wait asks for no status, by the address 0, or the process may write one at the address.
+/// A wait at the address 0 asks for no status.
 fn may_take_status(machine: &Machine, at: u32) -> bool
     ensures { result ≡ ((at == 0) || may_be_placed machine.now.hart.memory word_size at word_size) }
 {
     at == 0 || machine.space().writable(at, WORD_SIZE)
 }
 
-/// The call that the registers name: its number in a7, its arguments in a0 to a2, with the bytes that it names. Refused
-/// for want of memory alone, which only the bytes of a write or of names take.
+/// The call that the registers name: its number in a7, its arguments in a0 to a2, with the bytes that it names. Refused for want of
+/// memory alone, which only the bytes of a write or of names take.
 pub fn request_of(alloc: Global, machine: &Machine) -> Result<Request, AllocError>
     ensures request { IfOk result (λ r. r ≡ request_at machine.now) }
     ensures whole { IfOk result (λ r. IsWhole r) }
@@ -126,6 +126,10 @@ pub fn request_of(alloc: Global, machine: &Machine) -> Result<Request, AllocErro
             n: a1,
             m: a2,
             names: named_pair(alloc, machine, a0, a1, a2)?,
+        }),
+        14 => Ok(Request::Exec {
+            n: a1,
+            name: named_bytes(alloc, machine, a0, a1, LONGEST_NAME)?,
         }),
         _ => Ok(Request::Unknown),
     }

@@ -1,4 +1,5 @@
-//! What is held back until the changes on which it rests are committed: items in order, of which a prefix is released.
+//! Output that is held back (buffered) until the changes on which it rests are committed. Read `Withheld` first: items in order,
+//! each with the mark of its event, of which the longest committed prefix is released. `Trace` is what one process is told.
 #![tactic(auto)]
 
 mod prefix;

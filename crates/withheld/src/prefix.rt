@@ -4,14 +4,13 @@ ghost use Rattle.withheld.specs.Withheld.{prefix_of};
 
 use commit_deps::Mark;
 
-/// How many of the first marks are known to pass: those that did before, unless fewer changes are committed now.
+/// Those that passed before, unless fewer changes are committed now.
 fn known(counted: usize, before: u64, committed: u64) -> usize
     ensures { result ≡ (if nat_le before committed then counted else 0) }
 {
     if before <= committed { counted } else { 0 }
 }
 
-/// The marks after the first so many.
 fn rest(marks: &[Mark], count: usize) -> &[Mark]
     requires { count ≤ length marks.now }
     ensures { result.now ≡ drop count marks.now }
@@ -29,8 +28,8 @@ fn prefix(marks: &[Mark], committed: u64) -> usize
         .count()
 }
 
-/// How many marks stand before the first that is not among the first `committed` changes, where the first `counted` are
-/// among the first `before`. Looks only at the marks after these, unless fewer changes are committed than before.
+/// How many marks stand before the first that is not among the first `committed` changes, where the first `counted` are among the
+/// first `before`. Looks at the marks after these alone, unless fewer changes are committed than before.
 pub fn prefix_from(marks: &[Mark], counted: usize, before: u64, committed: u64) -> usize
     requires { counted ≤ prefix_of before marks.now }
     ensures { result ≡ prefix_of committed marks.now }

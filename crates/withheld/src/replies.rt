@@ -15,32 +15,21 @@ pub fn zero_reply(alloc: Global) -> Reply
         a0: 0,
         at: 0,
         bytes: Bytes::empty(alloc),
+        image: None,
     }
 }
 
-/// A copy of a reply.
-fn copy_of_one(alloc: Global, reply: &Reply) -> Result<Reply, AllocError>
-    ensures { IfOk result (λ copy. copy ≡ reply.now) }
-{
-    Ok(Reply {
-        a0: reply.a0,
-        at: reply.at,
-        bytes: reply.bytes.try_clone(alloc)?,
-    })
-}
-
-/// Copies of these replies.
 fn copies_of(alloc: Global, replies: &[Reply]) -> Result<Vec<Reply>, AllocError>
     ensures { IfOk result (λ copies. copies.items ≡ replies.now) }
 {
     let mut copies = Vec::new(alloc);
     for reply in replies {
-        copies.push(copy_of_one(alloc, reply)?)?;
+        copies.push(reply.try_clone(alloc)?)?;
     }
     Ok(copies)
 }
 
-/// A copy of replies that are held back.
+/// A copy of replies that are held back, with their marks. Refused for want of memory alone.
 pub fn copy_of(alloc: Global, replies: &Withheld<Reply>) -> Result<Withheld<Reply>, AllocError>
     ensures items { IfOk result (λ copy. copy.items ≡ replies.now.items) }
     ensures committed { IfOk result (λ copy. copy.committed ≡ replies.now.committed) }

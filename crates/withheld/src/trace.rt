@@ -56,14 +56,15 @@ impl Trace {
         }
     }
 
-    /// The replies that are handed out.
+    /// The replies that are handed out, oldest first. Takes no memory.
     pub fn replies(&self) -> &[Reply]
         ensures { result.now ≡ replies_in (released self.now) }
     {
         self.replies.released()
     }
 
-    /// The status with which the process ended, where that is handed out.
+    /// The status with which the process ended. None until it has ended, all replies are handed out, and its end rests on committed
+    /// changes alone.
     pub fn ended(&self) -> Option<u32>
         ensures { result ≡ end_in (released self.now) }
     {
@@ -84,7 +85,7 @@ impl Trace {
         self.ending.is_some()
     }
 
-    /// Makes room for one item more.
+    /// Makes room for one item more. Where memory runs out nothing changes.
     pub fn reserve(&mut self) -> Result<(), AllocError>
         ensures room { OnOk result (1 ≤ self.new.room) }
         ensures same { IsSame self.old self.new }
@@ -111,7 +112,7 @@ impl Trace {
         self.ending = Some(Ending { status, mark });
     }
 
-    /// So many changes are committed now, and what rests on these alone is handed out.
+    /// Says how many changes are committed now: what rests on these alone is handed out. Takes no memory.
     pub fn advance(&mut self, committed: u64)
         ensures items { self.new.items ≡ self.old.items }
         ensures committed { self.new.committed ≡ committed }
@@ -135,7 +136,7 @@ impl Trace {
     }
 }
 
-/// Whether what comes after these replies with this mark is handed out: all of them are, and it rests on committed changes alone.
+/// All replies are handed out, and the mark rests on committed changes alone.
 fn is_handed_out(replies: &Withheld<Reply>, mark: Mark) -> bool
     ensures { result ≡ (not (holds_back replies.now) && nat_le mark replies.now.committed) }
 {

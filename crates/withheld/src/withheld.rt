@@ -46,7 +46,6 @@ impl<T> Model for Withheld<T> {
     ghost invariant = { λ w. (vec_len w.marks ≡ vec_len w.items) × (w.count ≡ prefix_of w.committed w.marks.items) };
 }
 
-/// Appends a mark so many times. Takes no memory.
 fn push_times(marks: &mut Vec<Mark>, mark: Mark, times: usize)
     requires { vec_len marks.old + times ≤ vec_capacity marks.old }
     ensures { marks.new.items ≡ marks.old.items ++ replicate times mark }
@@ -69,28 +68,28 @@ impl<T> Withheld<T> {
         }
     }
 
-    /// What is released.
+    /// The items that are released, which may be seen. Takes no memory.
     pub fn released(&self) -> &[T]
         ensures { result.now ≡ released self.now }
     {
         &self.items[..self.count]
     }
 
-    /// Whether some item is held back.
+    /// Whether some item is not released yet.
     pub fn holds_back(&self) -> bool
         ensures { result ≡ holds_back self.now }
     {
         self.count < self.items.len()
     }
 
-    /// How many changes are committed.
+    /// How many changes are committed, as `advance` said last; 0 before.
     pub fn committed(&self) -> u64
         ensures { result ≡ self.now.committed }
     {
         self.committed
     }
 
-    /// Makes room for so many items more.
+    /// Makes room for so many items more. Where memory runs out the items stay as they were.
     pub fn reserve(&mut self, count: usize) -> Result<(), AllocError>
         ensures room { OnOk result (count ≤ self.new.room) }
         ensures same { IsSame self.old self.new }
@@ -110,7 +109,8 @@ impl<T> Withheld<T> {
         self.count = prefix_from(&self.marks, self.count, self.committed, self.committed);
     }
 
-    /// So many changes are committed now, and what rests on these alone is released.
+    /// Says how many changes are committed now: what rests on these alone is released. Looks at the items that were held back
+    /// alone, unless the number fell. Takes no memory.
     pub fn advance(&mut self, committed: u64)
         ensures items { self.new.items ≡ self.old.items }
         ensures committed { self.new.committed ≡ committed }

@@ -32,6 +32,7 @@ no-bytes s ds children r other = of_row (λ (e : Effect). IfSome e.edit CarriesB
   made = λ _ _ _ _ _ _ _. tt;
   unlinked = λ _ _ _ _ _. tt;
   renamed = λ _ _ _ _ _ _. tt;
+  loaded = λ _ _ _ _ _ _ _ _. tt;
   closed = λ _ _ _. tt;
   moved = λ _ _ _ _ _ _. tt;
   piped = λ _ _ _ _ _ _ _. tt;
@@ -91,3 +92,8 @@ pub returns-in-Rename-clause-carries : goal.returns-in-Rename-clause-carries
 returns-in-Rename-clause-carries c =
     carried c.rename.result c.args.tables.now c.args.pid c.args.descriptors.now (request.Rename c.in-Rename.n c.in-Rename.m c.in-Rename.names)
     (λ _ _ _ is. let none : ⊥ = cc in none) c.rename.ensures
+
+pub returns-in-Exec-clause-carries : goal.returns-in-Exec-clause-carries
+returns-in-Exec-clause-carries c =
+    carried c.exec.result c.args.tables.now c.args.pid c.args.descriptors.now (request.Exec c.in-Exec.n c.in-Exec.name)
+    (λ _ _ _ is. let none : ⊥ = cc in none) c.exec.ensures
