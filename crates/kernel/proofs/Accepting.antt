@@ -8,7 +8,7 @@ use Rattle.std.proofs.lemmas.List.Sums.{sum_by-cons}
 use Rattle.std.proofs.lemmas.Option.{slice_get_within}
 use Rattle.disk_model.specs.Storage.{is_empty, piece_at}
 use Rattle.machine_model.specs.States.{stands_at}
-use Rattle.kernel_model.specs.Answers.{Kernel, Lending, AllAccepted, Test, ◌⇒◌, first_of, now, process_of, refusal, turn_refusal, enter_refusal, cut_refusal, write_refusal, has_ended, is_stopped, count_at, limit, is_lent, is_full, lending_at, quantum_out, loans_out, uncommitted, never_lent, with_child, with_event, with_events}
+use Rattle.kernel_model.specs.Answers.{Kernel, Lending, AllAccepted, at_boot, Test, ◌⇒◌, first_of, now, process_of, refusal, turn_refusal, enter_refusal, cut_refusal, write_refusal, has_ended, is_stopped, count_at, limit, is_lent, is_full, lending_at, quantum_out, loans_out, uncommitted, never_lent, with_child, with_event, with_events}
 use Rattle.kernel_model.specs.Loans.{LoanResult, events_of, settled_answer, outcome_after}
 use Rattle.kernel_model.specs.Rows.{most_processes}
 use Rattle.kernel_model.specs.State.{Process, process_at}
@@ -19,7 +19,6 @@ use Rattle.kernel_model.specs.declared.answer.Refused.{Refused}
 use Rattle.kernel_model.specs.declared.answer.Refused.TheVariants as refused
 use Rattle.kernel_model.specs.declared.event.Event.{Event}
 use Rattle.kernel_model.specs.declared.event.Event.TheVariants.{Turn, Enter, Cut, Complete, Fail}
-use Rattle.kernel.specs.Keeping.{at_boot}
 use Rattle.kernel.specs.Sums.{process_of_turn, process_of_enter, sum_of_turns, sum_of_enters, tells_enter}
 use Rattle.kernel.proofs.Applying.{accepted-more}
 

@@ -6,7 +6,7 @@ use Rattle.std.proofs.lemmas.List.{length-append}
 use Rattle.std.proofs.lemmas.List.Sums.{sum_by-append}
 use Rattle.disk_model.proofs.Lists.{each_append}
 use Rattle.machine_model.specs.States.{stands_at}
-use Rattle.kernel_model.specs.Answers.{Kernel, Lending, Applies, AllAccepted, now, committed, changes}
+use Rattle.kernel_model.specs.Answers.{Kernel, Lending, Applies, AllAccepted, at_boot, now, committed, changes}
 use Rattle.kernel_model.specs.Loans.{LoanOut, LoanResult, Lends, returned, events_of}
 use Rattle.kernel_model.specs.Ran.{ran_by_turns, ran_in}
 use Rattle.kernel_model.proofs.Runs.{ran-with_event, history-with_events}
@@ -22,7 +22,7 @@ use Rattle.kernel_step.proofs.FewLoans.{out-lent}
 use Rattle.kernel_step.specs.declared.loan.Done.{Done}
 use Rattle.kernel_step.specs.declared.loan.Rejected.{Rejected}
 use Rattle.kernel_step.specs.declared.running.Running.{Running}
-use Rattle.kernel.specs.Keeping.{KeepsLimits, at_boot}
+use Rattle.kernel.specs.Keeping.{KeepsLimits}
 use Rattle.kernel.specs.Parts.{IsCore}
 use Rattle.kernel.specs.Sums.{process_of_turn, process_of_enter, sum_of_turns, sum_of_enters, tells_enter}
 use Rattle.kernel.specs.declared.sums.Sums.{Sums}

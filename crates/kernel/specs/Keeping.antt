@@ -1,7 +1,7 @@
 -- What every core keeps.
-use Rattle.std.specs.Prelude.{◌+◌, ◌*◌, ◌^◌, ◌<◌, ◌≤◌, [], length, map}
+use Rattle.std.specs.Prelude.{◌+◌, ◌*◌, ◌^◌, ◌<◌, ◌≤◌, length}
 use Rattle.std.specs.List.{AllByRecursion}
-use Rattle.kernel_model.specs.Answers.{Kernel, AllAccepted, now, never_lent, loans_out, limit, committed, changes}
+use Rattle.kernel_model.specs.Answers.{Kernel, AllAccepted, at_boot, now, loans_out, limit, committed, changes}
 use Rattle.kernel_model.specs.Ran.{ran_by_turns}
 use Rattle.kernel_model.specs.Rows.{most_processes}
 use Rattle.kernel_model.specs.World.{BootProgram, Boot, most_programs, tape_count, terminal_count}
@@ -19,10 +19,6 @@ pub record IsBooted (b : Boot) : Type 0 where
   pub terminals : AllByRecursion (λ (p : BootProgram). p.terminal < terminal_count) b.programs
   -- and at most 8 tapes
   pub tapes : length b.tapes ≤ tape_count
-
--- a core of this boot before any event and any loan
-abbrev pub at_boot : Boot → Kernel
-at_boot b = record { boot = b; history = []; lendings = map (λ p. never_lent) b.programs; last_lent = 0 }
 
 -- what each core keeps
 pub record KeepsLimits (k : Kernel) : Type 0 where

@@ -1,12 +1,12 @@
 -- What a core's parts are.
 use Rattle.std.specs.Prelude.{◌≡◌, ◌+◌, ◌*◌, ◌≤◌, length}
 use Rattle.std.specs.List.{AllByRecursion}
-use Rattle.kernel_model.specs.Answers.{AllAccepted}
+use Rattle.kernel_model.specs.Answers.{AllAccepted, at_boot}
 use Rattle.kernel_model.specs.Rows.{most_processes}
 use Rattle.kernel_model.specs.World.{Boot}
 use Rattle.kernel_step.specs.Stands.{Stands}
 use Rattle.kernel_step.specs.declared.running.Running.{Running}
-use Rattle.kernel.specs.Keeping.{IsBooted, at_boot}
+use Rattle.kernel.specs.Keeping.{IsBooted}
 use Rattle.kernel.specs.Sums.{process_of_turn, process_of_enter, sum_of_turns, sum_of_enters}
 use Rattle.kernel.specs.declared.sums.Sums.{Sums}
 

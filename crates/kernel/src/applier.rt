@@ -6,7 +6,7 @@ ghost use Rattle.kernel.specs.Applying.{AppliedUpTo};
 use crate::cores::Core;
 use kernel_model::{Answer, Event, Refused};
 
-/// What applies events; each core does. A contract names what it responds to each, an answer or a refusal.
+/// What applies events; each core does. An `Applier` names in its ghost `responds` what it may respond to each.
 pub trait Applier {
     ghost use Rattle.kernel_model.specs.declared.answer.Answer.{Answer};
     ghost use Rattle.kernel_model.specs.declared.answer.Refused.{Refused};
@@ -28,7 +28,7 @@ impl Applier for Core {
     }
 }
 
-/// Applies each event in turn up to the first that is refused, and answers how many were accepted.
+/// Applies each event in turn up to the first that is refused. Gives how many were accepted.
 pub fn apply_each<A: Applier>(to: &mut A, events: &[Event]) -> usize
     ensures within { result ≤ length events.now }
     ensures stops { AppliedUpTo A.responds to.old events.now result to.new }
@@ -42,8 +42,7 @@ pub fn apply_each<A: Applier>(to: &mut A, events: &[Event]) -> usize
 }
 
 impl Core {
-    /// Applies each event in turn up to the first that is refused, and answers how many were applied: `apply_each`, in
-    /// words of the history.
+    /// As `apply_each`, in words of the history.
     pub fn run_script(&mut self, events: &[Event]) -> usize
         ensures within { result ≤ length events.now }
         ensures grown { self.new ≡ with_events self.old (take result events.now) }

@@ -64,15 +64,15 @@ impl From<DiskFault> for BootFault {
 }
 
 impl Core {
-    /// The core of 1 to 8 programs, which are processes 1 and up, of the tapes that they read (the first has tape 0), and of
-    /// the files that the disk holds. Refused where the disk cannot be read, by its first fault, and for want of memory; a
-    /// disk that holds files, as the crash or the end of a run leaves it, is refused for want of memory alone.
+    /// Boots 1 to 8 programs, which are processes 1 and up, with the tapes that they read (the first has tape 0) and the files that
+    /// the disk holds. Refused for want of memory, and where the disk cannot be read, by its first fault. A disk that a crash or
+    /// the end of a run left is refused for want of memory alone.
     ///
-    /// On the device nothing is in flight and nothing has failed: `SimDisk::quiet` is the test, and `SimDisk::zero`,
-    /// `SimDisk::open` and `halt` give such devices.
+    /// On the device nothing is in flight and nothing has failed. `SimDisk::quiet` tests it; `SimDisk::zero`, `SimDisk::open` and
+    /// `halt` give such devices.
     ///
-    /// Its boot meets all three premises under which `kernel_laws::headline` speaks of crashes: the disk holds its files,
-    /// and the memory of each program and each tape hold bytes.
+    /// The boot meets all three premises under which `kernel_laws::headline` speaks of crashes: the disk holds its files, and the
+    /// memory of each program and each tape hold bytes.
     pub fn boot(
         alloc: Global,
         device: SimDisk,
@@ -123,7 +123,6 @@ impl Core {
     }
 }
 
-/// The tapes, to be shared.
 fn share(alloc: Global, tapes: Vec<Bytes>) -> Result<Arc<Vec<Bytes>>, AllocError>
     ensures { IfOk result (λ shared. shared.value ≡ tapes) }
 {

@@ -39,8 +39,8 @@ impl Drop for Booted {
     }
 }
 
-/// The core: processes, which run on as on a kernel that commits inside each call, the history of the events that it accepted,
-/// and the disk to which the changes of files are still on their way.
+/// The core: processes, the history of the events that it accepted, and the disk to which the changes of files are on their way.
+/// The processes run on as on a kernel that commits inside each call.
 pub struct Core {
     pub(crate) booted: Booted,
     pub(crate) running: Running,
@@ -75,7 +75,7 @@ impl Model for Core {
 }
 
 impl Core {
-    /// The parts alone, which stand for the run; what it was booted from is let go.
+    /// The parts alone, which stand for the run.
     pub(crate) fn into_running(self) -> Running
         ensures { (b : Boot) × Stands b result × (kernel_in b result ≡ self) }
     {
@@ -88,8 +88,9 @@ impl Core {
     }
 
     /// Applies an event. An accepted one joins the history; a refused one changes nothing. The tests, in their order:
-    /// Turn: NoProcess, Ended, Lent, Budget; Enter: NoProcess, Ended, Lent, NotStopped, Budget; Cut: Budget, DiskFailed,
-    /// GroupInFlight, NothingToCut; Complete and Fail: Budget, NoSuchWrite; and want of memory last.
+    /// - Turn: NoProcess, Ended, Lent, Budget; Enter: NoProcess, Ended, Lent, NotStopped, Budget;
+    /// - Cut: Budget, DiskFailed, GroupInFlight, NothingToCut; Complete and Fail: Budget, NoSuchWrite;
+    /// - and want of memory last.
     pub fn apply(&mut self, event: Event) -> Result<Answer, Refused>
         ensures applies { Applies self.old event self.new result }
         ensures ran { IfOk result (λ a. ran_by_turns self.new ≡ ran_by_turns self.old + ran_in a) }
@@ -99,19 +100,19 @@ impl Core {
         result
     }
 
-    /// Lends the first lendable process after the one last lent, by rising number and round again, to run at most a
-    /// quantum of instructions. A process is lendable where it has not ended, is not lent, does not wait, and has room for
-    /// quantum + 1 more instructions. None where there is none. Refused: Budget, where the history has no room for the two
-    /// events of one more loan; OutOfMemory, only where some process is lendable. Nothing joins the history.
+    /// Lends (dispatches) the first lendable process after the one last lent, by rising number and round again, to run at most a
+    /// quantum of instructions. A process is lendable where it has not ended, is not lent, does not wait, and has room for one
+    /// instruction more than the quantum. None where there is none. Nothing joins the history. Refused: Budget, where the history
+    /// has no room for the two events of one more loan; OutOfMemory, only where some process is lendable.
     pub fn lend(&mut self, quantum: u32) -> Result<Option<Loan>, Refused>
         ensures { Lends self.old quantum self.new (lent_out result) }
     {
         self.running.lend(quantum)
     }
 
-    /// Takes a loan's result back: it becomes a Turn of its instructions and, where the state reached stands at a call or
-    /// a trap, an Enter. Refused, with the result: Stranger, exactly where it is not of the loan that its process is out
-    /// on (the process is not lent, or the number, the quantum or the state from which it began differs); OutOfMemory.
+    /// Takes a loan's result back. It becomes a Turn of its instructions and, where the state reached stands at a call or a trap,
+    /// an Enter. Refused, with the result: Stranger, exactly where it is not of the loan that its process is out on; OutOfMemory. A
+    /// stranger's process is not lent, or its number, its quantum or the state from which it began differs.
     pub fn settle(&mut self, done: Done) -> Result<Answer, Rejected>
         ensures { Settles self.old done self.new result }
     {

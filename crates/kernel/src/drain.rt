@@ -9,7 +9,6 @@ use crate::cores::Core;
 use kernel_laws::all_is_shown;
 use kernel_model::{Event, Refused};
 
-/// The completion of the write in flight that begins there; where none is in flight, a Cut.
 fn next_event(in_flight: Option<u32>) -> Event
     ensures { result ≡ completion_or_cut in_flight }
 {
@@ -20,10 +19,9 @@ fn next_event(in_flight: Option<u32>) -> Event
 }
 
 impl Core {
-    /// Cuts groups, and completes writes in flight, the one that begins first on the disk first, until every change is
-    /// committed: then all that was written to terminals is shown, and all that processes were told is handed out. Refused:
-    /// DiskFailed, at once where a write has failed; Budget, where the history is full; OutOfMemory. The events that were
-    /// applied before a refusal stay.
+    /// Cuts groups, and completes writes in flight in the order of their places on the disk, until every change is committed. Then
+    /// all that was written to terminals is shown, and all that processes were told is handed out. The events before a refusal
+    /// stay. Refused: DiskFailed, at once where a write has failed; Budget, where the history is full; OutOfMemory.
     pub fn drain(&mut self) -> Result<(), Refused>
         ensures drained { IsDrained self.old self.new result }
         ensures shown { OnOk result ((t : ℕ) → shown (now self.new) t ≡ contents (printed t (now self.new).log)) }

@@ -12,10 +12,9 @@ use kernel_laws::crashes_keep_the_committed;
 use simdisk::{SimDisk, fills_are_crashes};
 
 impl Core {
-    /// The disk that a crash leaves now, where the ranges of writes in flight or failed take these bytes, by rising place,
-    /// again and again from the start; an empty fill leaves the completed bytes. It holds the files after a prefix of the
-    /// run's changes, with every committed one in it, so that a core can be booted on it: `runs_go_on` says with which files.
-    /// Takes no memory.
+    /// The disk that a crash leaves now. The ranges of writes in flight or failed take these bytes, by rising place, again and
+    /// again from the start; an empty fill leaves the completed bytes. It holds the files after a prefix of the run's changes, with
+    /// every committed one in it. A core can be booted on it: `runs_go_on` says with which files. Takes no memory.
     pub fn halt(self, fill: &[u8]) -> SimDisk
         ensures device { result ≡ quiet (crashed (now self).storage.device fill.now) }
         ensures quiet { is_quiet result ≡ true }

@@ -1,8 +1,10 @@
-//! The core of the bench: processes, files and a disk, one event at a time.
+//! The core of the bench: processes, files and a disk, one event at a time. Read `Core` first, and `Core::boot`, `Core::apply` and
+//! `Core::lend` in it. Its calls promise what `kernel_laws::headline` says of whole runs.
 #![tactic(auto)]
 
 mod applier;
 mod boot;
+mod causal_past;
 mod cores;
 mod drain;
 mod halt;
@@ -13,9 +15,10 @@ mod views;
 
 pub use applier::{Applier, apply_each};
 pub use boot::BootFault;
+pub use cone_laws::cones;
 pub use cores::Core;
 pub use journal::DiskFault;
 pub use kernel_laws::{counts_never_fall, drains_are_events, interleavings, runs_go_on};
 pub use kernel_model::{Answer, Event, Outcome, Refused, Standing};
-pub use kernel_step::{Done, Loan, Program, Rejected};
+pub use kernel_step::{ConeFault, Done, Loan, Program, Rejected};
 pub use simdisk::SimDisk;

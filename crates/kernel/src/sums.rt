@@ -5,7 +5,6 @@ ghost use Rattle.kernel.specs.Sums.{process_of_turn, process_of_enter, tells_ent
 use kernel_model::{Answer, Event, Refused};
 use kernel_step::Rejected;
 
-/// The sums of the process numbers of a history's Turns and of its Enters.
 #[derive(Clone, Copy)]
 pub(crate) struct Sums {
     pub turns: u64,

@@ -13,8 +13,7 @@ use kernel_model::{Event, Refused};
 use machine_model::Reply;
 
 impl Core {
-    /// The bytes that a terminal, 0 to 7, shows: the longest prefix of those written to it that rests on committed changes
-    /// alone.
+    /// The bytes that a terminal, 0 to 7, shows: the longest prefix of those written to it that rests on committed changes alone.
     pub fn shown(&self, terminal: u32) -> &[u8]
         requires { terminal < terminal_count }
         ensures { result.now ≡ shown_of (now self.now) terminal }
@@ -22,8 +21,8 @@ impl Core {
         self.running.shown(terminal)
     }
 
-    /// The replies to a process's calls that are handed out: the longest prefix that rests on committed changes alone.
-    /// Refused: NoProcess.
+    /// The replies to a process's calls that are handed out: the longest prefix that rests on committed changes alone. Refused:
+    /// NoProcess.
     pub fn trace(&self, pid: u32) -> Result<&[Reply], Refused>
         ensures replies { IfOk result (λ rs. rs.now ≡ replies_in (handed (now self.now) pid)) }
         ensures there { OnOk result (is_some (process_of self.now pid) ≡ true) }
@@ -32,8 +31,8 @@ impl Core {
         self.running.trace(pid)
     }
 
-    /// The status with which a process ended, where all its replies are handed out and its end rests on committed changes
-    /// alone. Refused: NoProcess.
+    /// The status with which a process ended, where all its replies are handed out and its end rests on committed changes alone.
+    /// None before. Refused: NoProcess.
     pub fn ended(&self, pid: u32) -> Result<Option<u32>, Refused>
         ensures status { IfOk result (λ status. status ≡ end_in (handed (now self.now) pid)) }
         ensures there { OnOk result (is_some (process_of self.now pid) ≡ true) }
@@ -98,7 +97,7 @@ impl Core {
         &self.booted.files
     }
 
-    /// The least offset on the disk at which a write in flight begins.
+    /// The least offset on the disk at which a write in flight begins. None where no write is in flight.
     pub fn in_flight(&self) -> Option<u32>
         ensures { result ≡ least_in_flight (now self.now) }
     {

@@ -7,6 +7,7 @@ use Rattle.processes.specs.Parts.{part_of}
 use Rattle.commit_deps.specs.Kept.{Kept}
 use Rattle.commit_deps.specs.Keeps.{Keeps}
 use Rattle.commit_deps.specs.Kept.{Marked}
+use Rattle.footprints.specs.Footprints.{AreFootprints}
 use Rattle.kernel_model.specs.Answers.{Refuses, Applies, refusal, turn_refusal, limit, loans_out, ran_by, with_child, Lending}
 use Rattle.kernel_model.specs.Entries.{Entry}
 use Rattle.kernel_model.specs.State.{Process, process_at}
@@ -28,6 +29,7 @@ use Rattle.kernel_step.specs.declared.system.System.{System}
 use Rattle.kernel_step.specs.declared.task.Task.{Task}
 use Rattle.kernel_step.specs.declared.whereabouts.Whereabouts.TheVariants.{Here}
 use Rattle.kernel_step.proofs.FewLoans.{out-lent, few-same}
+use Rattle.kernel_step.proofs.Noting.{TurnGrows, turn-follows}
 use Rattle.kernel_step.proofs.Lists.{map-set-same, count-set-same}
 use Rattle.kernel_step.proofs.Refusing.{IsFineTurn, turn-fine}
 use Rattle.kernel_step.proofs.Quiet.{own-silent, screens-quiet, changes-part}
@@ -66,6 +68,7 @@ same-core b history history' tasks tasks' s d same_history same_tasks same_marks
         screens = h.mirrors.screens;
         committer = h.mirrors.committer;
       };
+      footprints = h.footprints;
       room = h.room;
       loans = h.loans;
     }))
@@ -85,11 +88,11 @@ turned-fine tasks new events pid n before later a t =
     turn-fine (process_of t.ran.task) (is_some (out_of t.ran.task)) (full_of events tasks) n
     (sym (turn-place tasks (full_of events tasks) pid t.place n t.ran.task t.placed t.ran.there) ∙ t.fine)
 
-pub turned-core : (b : Boot) (history history' : List Event) (old new : List Task) (s : System) (d : Kept) (pid n : ℕ) (a : Answer)
+pub turned-core : TurnGrows → (b : Boot) (history history' : List Event) (old new : List Task) (s : System) (d : Kept) (pid n : ℕ) (a : Answer)
     → KeepsRun b history old s → history' ≡ history ++ Turn pid n ∷ []
     → Turned (length history) pid n old new s.dependencies.marks d.marks a
     → KeepsRun b history' new (record s { dependencies = d })
-turned-core b history history' old new s d pid n a h grown t =
+turned-core law b history history' old new s d pid n a h grown t =
     let w : World = run_of b history in
     let fine = turned-fine old new (length history) pid n s.dependencies.marks d.marks a t in
     let task : Task = t.ran.task in
@@ -123,6 +126,9 @@ turned-core b history history' old new s d pid n a h grown t =
             (screens-quiet w.storage.committed w.log (own_entry pid) s.screens.items (own-silent pid) h.mirrors.screens);
         committer = h.mirrors.committer;
       });
+      footprints =
+          subst (λ (v : World). AreFootprints (history ++ Turn pid n ∷ []) v.log s.footprints.footprints) (sym (after-append (first_world b) history (Turn pid n)))
+          (turn-follows law w history s.footprints.footprints pid n of.process of.there (ap (λ (o : Option ℕ). is_some o) of.status ∙ fine.running) h.footprints);
       room = omega (arith, longer, out, space);
       loans = few-same (length history) (length (history ++ Turn pid n ∷ [])) old new (omega (arith, longer)) lendings h.loans;
     })

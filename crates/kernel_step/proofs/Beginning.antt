@@ -9,7 +9,8 @@ use Rattle.processes.specs.Parts.{Part, part_of, boot_part}
 use Rattle.disk_model.specs.Files.{IsMade}
 use Rattle.disk_model.specs.Runs.{first_storage}
 use Rattle.kernel_model.specs.Answers.{Lending}
-use Rattle.kernel_model.specs.Entries.{Item}
+use Rattle.footprints.specs.Footprints.{AreFootprints}
+use Rattle.kernel_model.specs.Entries.{Entry, Item}
 use Rattle.kernel_model.specs.Shown.{end_in}
 use Rattle.withheld.specs.Withheld.{Withheld, whats, nothing}
 use Rattle.kernel_model.specs.State.{Process}
@@ -173,10 +174,10 @@ few-made files made = let few : length files ≤ most_files = subst (λ (fs : Li
 -- ---- all parts
 pub first-core : (programs : List Program) (tapes : List (List ℕ)) (files : List NamedFile) (disk : List ℕ) (gate : ℕ) (tasks : List Task) (s : System)
     → IsMade files → AreFirst programs tasks → AreEmpty 8 s.screens.items
-    → Keeps [] s.dependencies.marks → s.changes.items ≡ [] → s.files ≡ numbered files → s.tapes ≡ tapes_of tape_count tapes
+    → Keeps [] s.dependencies.marks → s.footprints.footprints ≡ [] → s.changes.items ≡ [] → s.files ≡ numbered files → s.tapes ≡ tapes_of tape_count tapes
     → s.processes.parts ≡ parts_from 0 programs → s.pipes ≡ [] → s.served ≡ 0 → s.committer ≡ first_storage disk gate
     → KeepsRun (boot_with programs tapes files disk gate) [] tasks s
-first-core programs tapes files disk gate tasks s made first empty keeps changes same_files same_tapes parts pipes served committer = record {
+first-core programs tapes files disk gate tasks s made first empty keeps kept changes same_files same_tapes parts pipes served committer = record {
   mirrors = record {
     each = record {
       processes = first-processes 0 programs tasks first.count (λ i t there.
@@ -194,6 +195,7 @@ first-core programs tapes files disk gate tasks s made first empty keeps changes
     screens = first-screens s.screens.items empty;
     committer = committer;
   };
+  footprints = subst (λ (ks : List Entry). AreFootprints [] [] ks) (sym kept) (refl, refl);
   room = let none : count_out tasks ≡ 0 = first-out programs tasks first in omega (arith, none);
   loans = subst (λ (ls : List Lending). AreFewLoans 0 ls) (sym (lendings-first programs tasks first)) (none-lent programs);
 }

@@ -38,6 +38,7 @@ use Rattle.kernel_step.specs.declared.loan.Rejected.{Rejected}
 use Rattle.kernel_step.specs.declared.system.System.{System}
 use Rattle.kernel_step.specs.declared.task.Task.{Task}
 use Rattle.kernel_step.proofs.Refusing.{turn-fine}
+use Rattle.kernel_step.proofs.Replying.{replied-count}
 use Rattle.kernel_step.proofs.SettleAccepted.{events-accepted}
 use Rattle.kernel_step.proofs.SettleCore.{process-in, IsTakenOf}
 use Rattle.kernel_step.proofs.SettleWorld.{run-reaches}
@@ -95,7 +96,7 @@ effect-done s pid p e Waits there = omega arith
 effect-done s pid p e (Replies r) there =
     let put = done-put s.processes pid p (after_reply p e r) there in
     let all = done-append (put_process s.processes pid (after_reply p e r)) (forked p e.child) in
-    omega (arith, put, all)
+    omega (arith, put, all, replied-count p.state r)
 effect-done s pid p e (Ends status) there = let put = done-put s.processes pid p (after_end p status) there in omega (arith, put)
 
 stop-done : (s : SyncState) (pid : ℕ) (p : Process) (stop : Option Stop) → process_at s.processes pid ≡ Some p

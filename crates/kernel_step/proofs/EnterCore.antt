@@ -3,7 +3,9 @@ use Rattle.std.proofs.Common.{◌≡◌, ℕ, ◌+◌, ◌*◌, ◌^◌, ◌<◌
 use Rattle.std.proofs.lemmas.List.{length_push}
 use Rattle.std.proofs.lemmas.Bool.{leb-false}
 use Rattle.std.specs.Prelude.{IfOk, IfErr, OnOk, OnErr}
+use Rattle.footprints.specs.Footprints.{AreFootprints}
 use Rattle.kernel_model.specs.Answers.{Refuses, Applies, refusal, enter_refusal, limit, outcome_of, entered, Lending, never_lent, with_child}
+use Rattle.kernel_model.specs.Entries.{Entry}
 use Rattle.kernel_model.specs.State.{Process, process_at}
 use Rattle.kernel_model.specs.Steps.{step}
 use Rattle.kernel_model.specs.World.{Boot, World, first_world, happens, after, run_of}
@@ -12,6 +14,7 @@ use Rattle.kernel_model.specs.declared.answer.Answer.{Answer}
 use Rattle.kernel_model.specs.declared.answer.Refused.{Refused}
 use Rattle.kernel_model.specs.declared.event.Event.{Event}
 use Rattle.kernel_model.specs.declared.event.Event.TheVariants.{Enter}
+use Rattle.kernel_step.specs.Coning.{IsFootprintNoted}
 use Rattle.kernel_step.specs.Stands.{kernel_of, KeepsRun}
 use Rattle.kernel_step.specs.Mirrors.{Mirrors}
 use Rattle.kernel_step.specs.Tasks.{process_of, lending_of, count_out, AreFewLoans}
@@ -21,6 +24,7 @@ use Rattle.kernel_step.specs.declared.task.Task.{Task}
 use Rattle.kernel_step.proofs.EnterFine.{fine-full}
 use Rattle.kernel_step.proofs.FewLoans.{out-lent, same-out, few-same, few-longer, few-child}
 use Rattle.kernel_step.proofs.Lists.{count-cons}
+use Rattle.kernel_step.proofs.Noting.{EnterGrows, enter-follows}
 use Rattle.kernel_step.proofs.Turning.{enter-bare}
 
 -- a process that was made is not lent
@@ -78,17 +82,19 @@ refusal-is b history tasks s last pid h =
 abbrev pub Grows : List Task → List Task → System → ℕ → Type 0
 Grows old new s pid = (w : World) → Mirrors w old s → map lending_of new ≡ with_child (map lending_of old) (step w.sync (Enter pid)).entry.child
 
-pub enter-core : (b : Boot) (history history' : List Event) (old new : List Task) (s s' : System) (pid : ℕ) (r : Result Answer Refused)
+pub enter-core : EnterGrows → (b : Boot) (history history' : List Event) (old new : List Task) (s s' : System) (pid : ℕ) (r : Result Answer Refused)
     → KeepsRun b history old s
     → OnOk r (enter_refusal_of old (full_of (length history) old) pid ≡ None)
     → OnOk r ((w : World) → Mirrors w old s → Mirrors (happens w (Enter pid)) new s')
+    → OnOk r ((w : World) → Mirrors w old s → IsFootprintNoted pid (step w.sync (Enter pid)).entry s.footprints.footprints s'.footprints.footprints)
     → OnOk r (history' ≡ history ++ Enter pid ∷ [])
     → OnOk r (Grows old new s pid)
     → OnErr r ((w : World) → Mirrors w old s → Mirrors w new s')
+    → OnErr r (s'.footprints.footprints ≡ s.footprints.footprints)
     → OnErr r (history' ≡ history)
     → OnErr r (map lending_of new ≡ map lending_of old)
     → KeepsRun b history' new s'
-enter-core b history history' old new s s' pid (Ok a) h fine mirrors grown grows same stays lent =
+enter-core law b history history' old new s s' pid (Ok a) h fine mirrors noted grown grows same kept stays lent =
     let space : length history + 2 * count_out old < 2 ^ 40 =
     leb-false (2 ^ 40) (length history + 2 * count_out old)
     (fine-full (process_at (map process_of old) pid) (lent_of old pid) (full_of (length history) old) fine) in
@@ -99,17 +105,21 @@ enter-core b history history' old new s s' pid (Ok a) h fine mirrors grown grows
       mirrors =
           subst (λ (v : World). Mirrors v new s') (sym (after-append (first_world b) history (Enter pid)))
           (mirrors (run_of b history) h.mirrors);
+      footprints =
+          subst (λ (v : World). AreFootprints (history ++ Enter pid ∷ []) v.log s'.footprints.footprints) (sym (after-append (first_world b) history (Enter pid)))
+          (enter-follows law (run_of b history) history s.footprints.footprints s'.footprints.footprints pid (noted (run_of b history) h.mirrors) h.footprints);
       room = omega (arith, longer, out, space);
       loans =
           subst (λ (ls : List Lending). AreFewLoans (length (history ++ Enter pid ∷ [])) ls) (sym lendings)
           (few-child (length (history ++ Enter pid ∷ [])) (map lending_of old) (step (run_of b history).sync (Enter pid)).entry.child
           (few-longer (length history) (length (history ++ Enter pid ∷ [])) (map lending_of old) (omega (arith, longer)) h.loans));
     })
-enter-core b history history' old new s s' pid (Err why) h fine mirrors grown grows same stays lent =
+enter-core law b history history' old new s s' pid (Err why) h fine mirrors noted grown grows same kept stays lent =
     let out : count_out new ≡ count_out old = same-out old new lent in
     let was : length history + 2 * count_out old ≤ 2 ^ 40 = h.room in
     subst (λ (es : List Event). KeepsRun b es new s') (sym stays) (record {
       mirrors = same (run_of b history) h.mirrors;
+      footprints = subst (λ (ks : List Entry). AreFootprints history (run_of b history).log ks) (sym kept) h.footprints;
       room = omega (arith, out, was);
       loans = few-same (length history) (length history) old new (omega arith) lent h.loans;
     })

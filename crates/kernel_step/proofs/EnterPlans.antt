@@ -3,7 +3,8 @@ use Rattle.std.proofs.Common.{◌≡◌, ℕ, zero, suc, ◌+◌, ◌≤◌, inl
 use Rattle.std.proofs.lemmas.List.{append-nil}
 use Rattle.disk_model.specs.Files.{IsPossible}
 use Rattle.disk_model.specs.declared.change.Change.{Change}
-use Rattle.machine_model.specs.States.{State, stands_at, next, by_step, Stepped, Goes, Halts, replied}
+use Rattle.machine_model.specs.States.{State, stands_at, next, by_step, Stepped, Goes, Halts}
+use Rattle.machine_model.specs.Replies.{replied}
 use Rattle.machine_model.specs.declared.stop.Stop.{Stop}
 use Rattle.machine_model.specs.declared.stop.Stop.TheVariants.{Limit, Call, Trap}
 use Rattle.machine_model.specs.declared.stop.Cause.{Cause}

@@ -4,7 +4,8 @@ use Rattle.std.proofs.lemmas.Option.{slice_get_within}
 use Rattle.std.proofs.lemmas.List.{map-set, length-set, map-append, append-nil}
 use Rattle.std.proofs.lemmas.Bool.{eq-eqb, ne_eqb}
 use Rattle.disk_model.specs.Storage.{is_empty}
-use Rattle.machine_model.specs.States.{State, replied}
+use Rattle.machine_model.specs.States.{State}
+use Rattle.machine_model.specs.Replies.{replied}
 use Rattle.calls.specs.Plans.{IsNext}
 use Rattle.calls.specs.declared.plan.Plan.{Plan}
 use Rattle.commit_deps.specs.Marks.{IsMarkOf}
@@ -27,6 +28,7 @@ use Rattle.kernel_step.specs.declared.task.Task.{Task}
 use Rattle.kernel_step.proofs.EnterFine.{IsFineTask}
 use Rattle.kernel_step.proofs.EnterLists.{withholds-more, withholds-same, items-here, items-elsewhere}
 use Rattle.kernel_step.proofs.Lists.{get-set, get-joined}
+use Rattle.kernel_step.proofs.Replying.{replied-count}
 use Rattle.kernel_step.proofs.Quiet.{told-own, told-made, waiting-more}
 use Rattle.kernel_step.proofs.Turning.{IsProcessOf, world_with}
 
@@ -159,7 +161,7 @@ forked-runs mark s t u running new =
 -- ---- the tasks
 machine-count : (s : State) (v : Verdict) → (machine_after s v).count ≤ s.count + 1
 machine-count s Waits = omega arith
-machine-count s (Replies r) = omega arith
+machine-count s (Replies r) = omega (arith, replied-count s r)
 machine-count s (Ends status) = omega arith
 
 told-task : (w : World) (served pid place n : ℕ) (full : Bool) (q : Process) (t t' : Task) (plan : Plan) (mark : ℕ)

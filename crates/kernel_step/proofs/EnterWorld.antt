@@ -17,6 +17,7 @@ use Rattle.calls.specs.Plans.{NamesFile, NamesFiles, EditsAs, IsNext, all_seen}
 use Rattle.calls.specs.declared.plan.Plan.{Plan}
 use Rattle.commit_deps.specs.Keeps.{Keeps}
 use Rattle.commit_deps.specs.Kept.{Kept}
+use Rattle.footprints.specs.Kept.{Kept as KeptFootprints}
 use Rattle.commit_deps.specs.Marks.{IsMarkOf}
 use Rattle.commit_deps.specs.Kept.{Marked}
 use Rattle.pipes.specs.Seen.{Seen}
@@ -37,8 +38,9 @@ use Rattle.kernel_model.specs.declared.event.Event.TheVariants.{Enter}
 use Rattle.kernel_model.specs.declared.request.Verdict.{Verdict}
 use Rattle.kernel_model.specs.declared.request.Verdict.TheVariants.{Waits, Replies, Ends}
 use Rattle.calls.specs.Sights.{Sight}
-use Rattle.kernel_step.specs.Entering.{IsSightOf, item_of, sight_in, MayPlan, entry_of, parts_after, planned, PlansEnter, IsChild, MakesTask, IsNoted, IsFinished, IsCarriedOut, IsEntered, IsDone, IsTold, IsSameTask, IsSystemWith, IsSameSystem}
+use Rattle.kernel_step.specs.Entering.{IsSightOf, item_of, sight_in, MayPlan, entry_of, footprint_of, parts_after, planned, PlansEnter, IsChild, MakesTask, IsNoted, IsFinished, IsCarriedOut, IsEntered, IsDone, IsTold, IsSameTask, IsSystemWith, IsSameSystem}
 use Rattle.withheld.specs.Withheld.{Withheld, Held, whats}
+use Rattle.kernel_step.specs.Coning.{IsFootprintNoted}
 use Rattle.kernel_step.specs.Mirrors.{IsTask, AreTasks, AreChanges, ArePipes, Mirrors}
 use Rattle.kernel_step.specs.Ready.{IsPrepared}
 use Rattle.kernel_step.specs.Seen.{AreScreens}
@@ -198,8 +200,9 @@ noted-mark w s x marks mark noted changes kept =
     (noted.says w.log kept count, noted.kept w.log kept count)
 
 -- the run after an Enter that is done, what it came to, and how the processes stand with their loans then
-pub record IsRun (w : World) (pid : ℕ) (tasks new : List Task) (s' : System) (outcome : Outcome) : Type 0 where
+pub record IsRun (w : World) (pid : ℕ) (tasks new : List Task) (s s' : System) (outcome : Outcome) : Type 0 where
   pub mirrors : Mirrors (happens w (Enter pid)) new s'
+  pub footprint : IsFootprintNoted pid (step w.sync (Enter pid)).entry s.footprints.footprints s'.footprints.footprints
   pub outcome_is : outcome ≡ outcome_of (step w.sync (Enter pid)).entry.item
   pub child : Option ℕ
   pub child_is : child ≡ (step w.sync (Enter pid)).entry.child
@@ -216,7 +219,7 @@ made-lending number mark s t (Some u) ls made =
 pub done-runs : EnterLaws → (w : World) (tasks : List Task) (s s' : System) (pid place : ℕ) (full : Bool) (t t' : Task) (outcome : Outcome) (child : Option Task)
     → Mirrors w tasks s → pid ≡ place + 1 → slice_get tasks place ≡ Some t → IsFineTask t full
     → IsDone pid t t' s s' outcome child
-    → IsRun w pid tasks (slice_set tasks place t' ++ option_to_list child) s' outcome
+    → IsRun w pid tasks (slice_set tasks place t' ++ option_to_list child) s s' outcome
 done-runs laws w tasks s s' pid place full t t' outcome child h number there fine done =
     let plan : Plan = done.plan in
     let x : Entry = entry_of pid plan in
@@ -251,6 +254,9 @@ done-runs laws w tasks s s' pid place full t t' outcome child h number there fin
             done.system.screens w.storage.committed w.log x h.screens marked.0 refl;
         committer = done.system.committer ∙ h.committer;
       });
+      footprint =
+          subst (λ (y : Entry). IsFootprintNoted pid y s.footprints.footprints s'.footprints.footprints) (sym entry)
+          (record { reads = plan.reads.items; own = refl; noted = done.system.footprints });
       outcome_is = done.outcome_is ∙ sym (ap (λ (y : Entry). outcome_of y.item) entry);
       child = plan.child;
       child_is = sym (ap (λ (y : Entry). y.child) entry);
@@ -261,17 +267,22 @@ done-runs laws w tasks s s' pid place full t t' outcome child h number there fin
     }
 
 -- an Enter whose change of the files is done, whose event is noted, and of which then the rest is done
-finished-entered : (pid : ℕ) (plan : Plan) (mark : ℕ) (s s1 s3 : System) (d : Kept)
+finished-entered : (pid : ℕ) (plan : Plan) (mark : ℕ) (s s1 s3 : System) (d : Kept) (f : KeptFootprints)
     → IsSystemWith (changed_by s.files plan.change) s s1
     → IsNoted (entry_of pid plan) (length s1.changes.items) s1.dependencies.marks d.marks mark
-    → IsFinished pid plan mark (record s1 { dependencies = d }) s3
+    → f.footprints ≡ s1.footprints.footprints ++ footprint_of pid plan ∷ []
+    → IsFinished pid plan mark (record s1 { dependencies = d; footprints = f }) s3
     → IsEntered pid plan mark s s3
-finished-entered pid plan mark s s1 s3 d ready noted done =
+finished-entered pid plan mark s s1 s3 d f ready noted kept done =
     record {
       noted =
           subst (λ (ms : List Marked). IsNoted (entry_of pid plan) (length s.changes.items) s.dependencies.marks ms mark) (sym (ap (λ (k : Kept). k.marks) done.marks))
           (subst (λ (ms : List Marked). IsNoted (entry_of pid plan) (length s.changes.items) ms d.marks mark) ready.marks
           (subst (λ (cs : List Change). IsNoted (entry_of pid plan) (length cs) s1.dependencies.marks d.marks mark) ready.changes noted));
+      footprints =
+          ap (λ (k : KeptFootprints). k.footprints) done.footprints
+          ∙ kept
+          ∙ ap (λ (ks : List Entry). ks ++ footprint_of pid plan ∷ []) ready.footprints;
       changes = done.changes ∙ ap (λ (cs : List Change). cs ++ option_to_list plan.change) ready.changes;
       files = done.files ∙ ready.files;
       tapes = done.tapes ∙ ap (λ (ts : List TapeState). read_by ts plan.tape) ready.tapes;
@@ -292,6 +303,7 @@ pub shared-turned : (files : Numbered) (s s1 : System) (d : Kept) → IsSystemWi
     → IsSystemWith files (marked_with s d.marks) (record s1 { dependencies = d })
 shared-turned files s s1 d ready = record {
   marks = refl;
+  footprints = ready.footprints;
   changes = ready.changes;
   files = ready.files;
   tapes = ready.tapes;
@@ -318,7 +330,7 @@ carried-done pid m t u v s s1 s2 e outcome child here prepared same carried =
       made = carried.made plan.child (machine_of t) t.trace (subst (λ (x : State). IsChild plan.child x t.trace e.child) (sym here) entering.child);
       system =
           subst (λ (k : ℕ). IsEntered k plan carried.mark s s2) entering.process
-          (finished-entered e.pid plan carried.mark s s1 s2 carried.dependencies prepared.changed carried.noted carried.rest);
+          (finished-entered e.pid plan carried.mark s s1 s2 carried.dependencies carried.footprints prepared.changed carried.noted carried.kept carried.rest);
       outcome_is = carried.outcome_is;
     }
 

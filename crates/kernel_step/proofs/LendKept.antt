@@ -130,6 +130,7 @@ lent-core b history old new system quantum from loan h room lent =
         screens = h.mirrors.screens;
         committer = h.mirrors.committer;
       };
+      footprints = h.footprints;
       room = omega arith;
       loans = few-put (length history) old lent.place u (omega (arith, had, loans, one)) h.loans;
     })

@@ -18,11 +18,13 @@ pub mod LendPick
 pub mod Holding
 pub mod Lists
 pub mod Moving
+pub mod Noting
 pub mod Performing
 pub mod Preparing
 pub mod Quiet
 pub mod Refusing
 pub mod Releasing
+pub mod Replying
 pub mod SettleAccepted
 pub mod SettleCore
 pub mod SettleWorld

@@ -11,7 +11,7 @@ use Rattle.machine_model.specs.States.{State}
 use Rattle.pipes.specs.Seen.{Seen}
 use Rattle.processes.specs.Parts.{Part}
 use Rattle.withheld.specs.Withheld.{Withheld, Held, IsSame, whats}
-use Rattle.kernel_step.specs.Entering.{entry_of, MayBeTold, IsChild}
+use Rattle.kernel_step.specs.Entering.{entry_of, in_image_by, MayBeTold, IsChild}
 use Rattle.kernel_step.specs.Ready.{MayEnter, HasRoomForEnter, IsPrepared, IsReady, MayBeNoted}
 use Rattle.kernel_step.specs.Tasks.{machine_of, out_of, status_of}
 use Rattle.kernel_step.specs.declared.plan.Entering.{Entering}
@@ -42,6 +42,7 @@ is-ready u m parent trace s s1 d pid history e may prepared holds same here is t
     record {
       task = record {
         here = here;
+        goes_on = entering.next ∙ ap (λ (x : State). in_image_by x e.plan.verdict) (sym is);
         fine = subst (λ (x : State). MayBeTold x e.plan.verdict) (sym is) plans.verdict;
         budget = subst (λ (x : State). x.count < 2 ^ 40) (sym is) may.budget;
         running =
@@ -72,12 +73,15 @@ is-ready u m parent trace s s1 d pid history e may prepared holds same here is t
     }
 
 -- its event may be noted
-pub may-note : (m : State) (trace : Withheld Item) (s s1 : System) (d : Kept) (pid : ℕ) (e : Entering) → IsPrepared pid m trace s s1 e
+pub may-note : (m : State) (trace later : Withheld Item) (s s1 : System) (d : Kept) (pid : ℕ) (history : Vec Event) (e : Entering) → IsPrepared pid m trace s s1 e
+    → HasRoomForEnter history later s1 e
     → length e.writes.items ≤ d.room → MayBeNoted (record s1 { dependencies = d }) e
-may-note m trace s s1 d pid e prepared room =
+may-note m trace later s s1 d pid history e prepared holds room =
     let entering = prepared.entering in
     record {
       room = room;
+      footprint = holds.footprint;
+      carriers = holds.carriers;
       reads = subst (λ (k : ℕ). e.reads.items ≡ (entry_of k e.plan).reads) (sym entering.process) entering.reads;
       writes = subst (λ (k : ℕ). e.writes.items ≡ (entry_of k e.plan).writes) (sym entering.process) entering.writes;
     }

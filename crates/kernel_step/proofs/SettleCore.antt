@@ -16,6 +16,8 @@ use Rattle.kernel_model.specs.declared.answer.Outcome.{Outcome}
 use Rattle.kernel_model.specs.declared.event.Event.{Event}
 use Rattle.kernel_model.specs.declared.event.Event.TheVariants.{Turn, Enter}
 use Rattle.commit_deps.specs.Kept.{Kept}
+use Rattle.footprints.specs.Footprints.{AreFootprints}
+use Rattle.kernel_model.specs.Entries.{Entry}
 use Rattle.kernel_step.specs.Stands.{kernel_of, KeepsRun}
 use Rattle.kernel_step.specs.Entering.{IsSameTask, IsSameSystem}
 use Rattle.kernel_step.specs.Loaned.{loan_result}
@@ -30,7 +32,8 @@ use Rattle.kernel_step.proofs.EnterCore.{child-out}
 use Rattle.kernel_step.proofs.EnterWorld.{EnterLaws, same-mirrors, same-lendings}
 use Rattle.kernel_step.proofs.FewLoans.{same-out, few-longer, few-same, few-put, few-at, few-child}
 use Rattle.kernel_step.proofs.Lists.{get-map, count-cons, some-there}
-use Rattle.kernel_step.proofs.SettleWorld.{run-reaches, back-mirrors, both-run}
+use Rattle.kernel_step.proofs.Noting.{TurnGrows, EnterGrows, turn-follows, enter-follows}
+use Rattle.kernel_step.proofs.SettleWorld.{run-reaches, out-running, back-mirrors, both-run}
 use Rattle.kernel_step.proofs.Turning.{IsProcessOf, process-there, turn-child}
 
 -- ---- whose loan a result is of
@@ -77,6 +80,7 @@ later_core k d child = record k { history = k.history ++ events_of (loan_result 
 pub record IsTaken (b : Boot) (history history' : List Event) (tasks new : List Task) (last place : ℕ) (t u : Task) (s' : System) (d : Done) (a : Answer) : Type 0 where
   pub grown : history' ≡ history ++ events_of (loan_result d)
   pub mirrors : Mirrors (after (run_of b history) (events_of (loan_result d))) new s'
+  pub footprints : AreFootprints (history ++ events_of (loan_result d)) (after (run_of b history) (events_of (loan_result d))).log s'.footprints.footprints
   pub child : Option ℕ
   pub lendings : map lending_of new ≡ with_child (map lending_of (slice_set tasks place u)) child
   pub settled_is : settled (kernel_of b history tasks last) (loan_result d) ≡ later_core (returned (kernel_of b history tasks last) d.pid) d child
@@ -120,18 +124,33 @@ settled-enter k d at child stands is =
     ∙ ap (λ (xs : List Event). record r { history = xs; lendings = with_child r.lendings child }) (append_assoc r.history (Turn d.pid d.count ∷ []) (Enter d.pid ∷ []))
     ∙ ap (λ (xs : List Event). record r { history = r.history ++ xs; lendings = with_child r.lendings child }) (sym es)
 
-pub turn-taken : (b : Boot) (history history' : List Event) (tasks : List Task) (s s' : System) (last place : ℕ) (t u : Task) (d : Done) (a : Answer)
+-- the footprints after its Turn
+turned-footprints : TurnGrows → (b : Boot) (history : List Event) (tasks : List Task) (s : System) (place : ℕ) (t : Task) (d : Done)
+    → KeepsRun b history tasks s → d.pid ≡ place + 1 → slice_get tasks place ≡ Some t → IsLoanOf t d
+    → AreFootprints (history ++ Turn d.pid d.count ∷ []) (happens (run_of b history) (Turn d.pid d.count)).log s.footprints.footprints
+turned-footprints law b history tasks s place t d h number there of =
+    let own : IsProcessOf (run_of b history).sync.processes d.pid t = process-in b history tasks s d.pid place t h number there in
+    turn-follows law (run_of b history) history s.footprints.footprints d.pid d.count own.process own.there
+    (ap (λ (o : Option ℕ). is_some o) own.status
+    ∙ ap (λ (o : Option ℕ). is_some o) (out-running (run_of b history) s.served place t d.quantum (h.mirrors.each.each place t there) of.out))
+    h.footprints
+
+pub turn-taken : TurnGrows → (b : Boot) (history history' : List Event) (tasks : List Task) (s s' : System) (last place : ℕ) (t u : Task) (d : Done) (a : Answer)
     → KeepsRun b history tasks s → d.pid ≡ place + 1 → slice_get tasks place ≡ Some t → IsLoanOf t d → stands_at d.machine ≡ None
     → IsBack d.machine t u → IsTurnNoted d.pid s s' → history' ≡ history ++ Turn d.pid d.count ∷ []
     → a ≡ answer_of.Settled d.count d.stop None
     → IsTaken b history history' tasks (slice_set tasks place u) last place t u s' d a
-turn-taken b history history' tasks s s' last place t u d a h number there of stands back noted grown answer =
+turn-taken law b history history' tasks s s' last place t u d a h number there of stands back noted grown answer =
     let es = events-none d stands in
     record {
       grown = grown ∙ ap (λ (xs : List Event). history ++ xs) (sym es);
       mirrors =
           subst (λ (xs : List Event). Mirrors (after (run_of b history) xs) (slice_set tasks place u) s') (sym es)
           (back-mirrors (run_of b history) tasks s s' d.pid place d.count d.quantum d.machine t u h.mirrors number there of.out (reached t d of) d.room back noted);
+      footprints =
+          subst (λ (xs : List Event). AreFootprints (history ++ xs) (after (run_of b history) xs).log s'.footprints.footprints) (sym es)
+          (subst (λ (ks : List Entry). AreFootprints (history ++ Turn d.pid d.count ∷ []) (happens (run_of b history) (Turn d.pid d.count)).log ks) (sym noted.footprints)
+          (turned-footprints law b history tasks s place t d h number there of));
       child = None;
       lendings = refl;
       settled_is = settled-turn (kernel_of b history tasks last) d stands;
@@ -143,11 +162,11 @@ turn-taken b history history' tasks s s' last place t u d a h number there of st
           (if is_some o then Some (outcome_after (kernel_of b history tasks last) d.pid d.count) else None)) stands);
     }
 
-pub enter-taken : EnterLaws → (b : Boot) (old new : Running) (place : ℕ) (d : Done) (at : Stop) (a : Answer)
+pub enter-taken : EnterLaws → TurnGrows → EnterGrows → (b : Boot) (old new : Running) (place : ℕ) (d : Done) (at : Stop) (a : Answer)
     → KeepsRun b old.history.items old.tasks.items old.system → d.pid ≡ place + 1 → stands_at d.machine ≡ Some at
     → (e : IsCallSettled d place old new a) → IsLoanOf e.task d
     → IsTaken b old.history.items new.history.items old.tasks.items new.tasks.items old.last_lent place e.task e.after new.system d a
-enter-taken laws b old new place d at a h number stands e of =
+enter-taken laws turns enters b old new place d at a h number stands e of =
     let history : List Event = old.history.items in
     let tasks : List Task = old.tasks.items in
     let s' : System = new.system in
@@ -171,6 +190,12 @@ enter-taken laws b old new place d at a h number stands e of =
       mirrors =
           subst (λ (ts : List Task). Mirrors (after w (events_of (loan_result d))) ts s') (sym e.tasks)
           (subst (λ (xs : List Event). Mirrors (after w xs) (slice_set tasks place u ++ option_to_list e.child) s') (sym es) both.mirrors);
+      footprints =
+          subst (λ (xs : List Event). AreFootprints (history ++ xs) (after w xs).log s'.footprints.footprints) (sym es)
+          (subst (λ (xs : List Event). AreFootprints xs (happens (happens w (Turn d.pid d.count)) (Enter d.pid)).log s'.footprints.footprints)
+          (append_assoc history (Turn d.pid d.count ∷ []) (Enter d.pid ∷ []))
+          (enter-follows enters (happens w (Turn d.pid d.count)) (history ++ Turn d.pid d.count ∷ []) old.system.footprints.footprints s'.footprints.footprints d.pid
+          both.footprint (turned-footprints turns b history tasks old.system place t d h number e.there of)));
       child = both.child;
       lendings =
           ap (λ (ts : List Task). map lending_of ts) e.tasks
@@ -238,6 +263,8 @@ taken-core b history history' tasks new s s' last place t u d a h there of taken
     subst (λ (xs : List Event). KeepsRun b xs new s') (sym taken.grown) (record {
       mirrors =
           subst (λ (v : World). Mirrors v new s') (sym (after-after (first_world b) history es)) taken.mirrors;
+      footprints =
+          subst (λ (v : World). AreFootprints (history ++ es) v.log s'.footprints.footprints) (sym (after-after (first_world b) history es)) taken.footprints;
       room = omega (arith, was, less, same, few, longer);
       loans =
           subst (λ (ls : List Lending). AreFewLoans (length (history ++ es)) ls) (sym taken.lendings)
@@ -280,6 +307,7 @@ kept-core b history history' tasks s s' place t u h there same_history same rest
     let was : length history + 2 * count_out tasks ≤ 2 ^ 40 = h.room in
     subst (λ (xs : List Event). KeepsRun b xs (slice_set tasks place u) s') (sym same_history) (record {
       mirrors = same-mirrors (run_of b history) tasks s s' place t u there same rest h.mirrors;
+      footprints = subst (λ (ks : List Entry). AreFootprints history (run_of b history).log ks) (sym rest.footprints) h.footprints;
       room = omega (arith, out, was);
       loans = few-same (length history) (length history) tasks (slice_set tasks place u) (omega arith) lendings h.loans;
     })
@@ -301,6 +329,7 @@ same-task-as t =
 pub only-room : (s : System) (d : Kept) → d.marks ≡ s.dependencies.marks → IsSameSystem s (record s { dependencies = d })
 only-room s d marks = record {
   marks = marks;
+  footprints = refl;
   changes = refl;
   files = refl;
   tapes = refl;

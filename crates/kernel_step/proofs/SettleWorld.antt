@@ -134,14 +134,14 @@ pub both-run : EnterLaws → (w : World) (tasks : List Task) (s s' : System) (pi
     → Mirrors w tasks s → pid ≡ place + 1 → slice_get tasks place ≡ Some t → out_of t ≡ Some q → m ≡ (run n (machine_of t)).state → m.count < 2 ^ 40
     → is_some (stands_at m) ≡ true
     → (e : IsTurnEntered pid m t u s s' outcome child)
-    → IsRun (happens w (Turn pid n)) pid (slice_set tasks place e.middle) (slice_set tasks place u ++ option_to_list child) s' outcome
+    → IsRun (happens w (Turn pid n)) pid (slice_set tasks place e.middle) (slice_set tasks place u ++ option_to_list child) (marked_with s e.marks) s' outcome
 both-run laws w tasks s s' pid place n q m t u outcome child h number there out reached few stands e =
     let s1 : System = marked_with s e.marks in
     let w1 : World = happens w (Turn pid n) in
     let tasks1 : List Task = slice_set tasks place e.middle in
     let h1 : Mirrors w1 tasks1 s1 =
     back-mirrors w tasks s s1 pid place n q m t e.middle h number there out reached few e.back
-    (record { noted = e.turn; changes = refl; files = refl; tapes = refl; pipes = refl; parts = refl; served = refl; screens = refl; committer = refl }) in
+    (record { noted = e.turn; footprints = refl; changes = refl; files = refl; tapes = refl; pipes = refl; parts = refl; served = refl; screens = refl; committer = refl }) in
     let there1 : slice_get tasks1 place ≡ Some e.middle = get-set-here tasks place e.middle (slice_get_within tasks place t there) in
     let fine : IsFineTask e.middle false = record {
       running = back-status m t e.middle e.back ∙ out-running w s.served place t q (h.each.each place t there) out;
@@ -150,5 +150,5 @@ both-run laws w tasks s s' pid place n q m t u outcome child h number there out 
       few = subst (λ (x : State). x.count < 2 ^ 40) (sym e.back.machine) few;
       room = refl;
     } in
-    subst (λ (ts : List Task). IsRun w1 pid tasks1 (ts ++ option_to_list child) s' outcome) (set-set tasks place e.middle u)
+    subst (λ (ts : List Task). IsRun w1 pid tasks1 (ts ++ option_to_list child) s1 s' outcome) (set-set tasks place e.middle u)
     (done-runs laws w1 tasks1 s1 s' pid place false e.middle u outcome child h1 number there1 fine e.entered)

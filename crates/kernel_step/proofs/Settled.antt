@@ -18,6 +18,7 @@ use Rattle.kernel_step.specs.declared.running.Running.{Running}
 use Rattle.kernel_step.specs.declared.task.Task.{Task}
 use Rattle.kernel_step.proofs.Counting.{counted-settle}
 use Rattle.kernel_step.proofs.EnterWorld.{EnterLaws}
+use Rattle.kernel_step.proofs.Noting.{TurnGrows, EnterGrows}
 use Rattle.kernel_step.proofs.SettleAccepted.{events-accepted}
 use Rattle.kernel_step.proofs.SettleCore.{IsTaken, IsTakenOf, own-loan, turn-taken, enter-taken, taken-core, taken-events, kept-core, kept-kernel, get-one}
 
@@ -113,11 +114,11 @@ stranger-back b r d h other = record {
 }
 
 -- a result whose machine stands nowhere
-pub turn-settles : (b : Boot) (old new : Running) (place : ℕ) (t : Task) (d : Done) (r : Result Answer Rejected) → Stands b old
+pub turn-settles : TurnGrows → (b : Boot) (old new : Running) (place : ℕ) (t : Task) (d : Done) (r : Result Answer Rejected) → Stands b old
     → d.pid ≡ place + 1 → slice_get old.tasks.items place ≡ Some t → IsLoanOf t d → stands_at d.machine ≡ None
     → IfOk r (λ a. IsTurnSettled d place old new a) → OnErr r (IsNotSettled place old new) → IfErr r (λ e. LackedMemory d e)
     → TakesBack b d old new r
-turn-settles b old new place t d (Ok a) h number there of stands done same back =
+turn-settles law b old new place t d (Ok a) h number there of stands done same back =
     let own : IsLoanOf done.task d = subst (λ (x : Task). IsLoanOf x d) (get-one old.tasks.items place t done.task there done.there) of in
     settles b old new place t d (Ok a) h number there of (record {
       taken = record {
@@ -127,20 +128,20 @@ turn-settles b old new place t d (Ok a) h number there of stands done same back 
         of = own;
         taken =
             subst (λ (ts : List Task). IsTakenTo b d place old new a done.task done.after ts) (sym done.tasks)
-            (turn-taken b old.history.items new.history.items old.tasks.items old.system new.system old.last_lent place done.task done.after d a
+            (turn-taken law b old.history.items new.history.items old.tasks.items old.system new.system old.last_lent place done.task done.after d a
             h.parts number done.there own stands done.back done.system done.history done.answer);
       };
       ran = done.ran;
       last_lent = done.last_lent;
     }) same back
-turn-settles b old new place t d (Err e) h number there of stands done same back = settles b old new place t d (Err e) h number there of tt same back
+turn-settles law b old new place t d (Err e) h number there of stands done same back = settles b old new place t d (Err e) h number there of tt same back
 
 -- a result whose machine stands at a call or a trap
-pub call-settles : EnterLaws → (b : Boot) (old new : Running) (place : ℕ) (t : Task) (d : Done) (at : Stop) (r : Result Answer Rejected) → Stands b old
+pub call-settles : EnterLaws → TurnGrows → EnterGrows → (b : Boot) (old new : Running) (place : ℕ) (t : Task) (d : Done) (at : Stop) (r : Result Answer Rejected) → Stands b old
     → d.pid ≡ place + 1 → slice_get old.tasks.items place ≡ Some t → IsLoanOf t d → stands_at d.machine ≡ Some at
     → IfOk r (λ a. IsCallSettled d place old new a) → OnErr r (IsNotSettled place old new) → IfErr r (λ e. LackedMemory d e)
     → TakesBack b d old new r
-call-settles laws b old new place t d at (Ok a) h number there of stands done same back =
+call-settles laws turns enters b old new place t d at (Ok a) h number there of stands done same back =
     let own : IsLoanOf done.task d = subst (λ (x : Task). IsLoanOf x d) (get-one old.tasks.items place t done.task there done.there) of in
     settles b old new place t d (Ok a) h number there of (record {
       taken = record {
@@ -148,9 +149,9 @@ call-settles laws b old new place t d at (Ok a) h number there of stands done sa
         after = done.after;
         there = done.there;
         of = own;
-        taken = enter-taken laws b old new place d at a h.parts number stands done own;
+        taken = enter-taken laws turns enters b old new place d at a h.parts number stands done own;
       };
       ran = done.ran;
       last_lent = done.last_lent;
     }) same back
-call-settles laws b old new place t d at (Err e) h number there of stands done same back = settles b old new place t d (Err e) h number there of tt same back
+call-settles laws turns enters b old new place t d at (Err e) h number there of stands done same back = settles b old new place t d (Err e) h number there of tt same back

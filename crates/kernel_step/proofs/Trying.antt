@@ -17,6 +17,7 @@ use Rattle.kernel_step.specs.declared.task.Task.{Task}
 use Rattle.kernel_step.proofs.Applying.{turn-refusal-is, same-core, refused-applies, turned-core, turned-applies}
 use Rattle.kernel_step.proofs.Counting.{counted-other, counted-turn}
 use Rattle.kernel_step.proofs.EnterCore.{enter-core, enter-applies}
+use Rattle.kernel_step.proofs.Noting.{TurnGrows, EnterGrows}
 
 -- the process that was lent last is the same
 same-lent : (b : Boot) (old new : Running) (e : Event) (r : Result Answer Refused) → new.last_lent ≡ old.last_lent
@@ -24,12 +25,12 @@ same-lent : (b : Boot) (old new : Running) (e : Event) (r : Result Answer Refuse
 same-lent b old new e r same h =
     subst (λ (last : ℕ). Applies (kernel_in b old) e (kernel_of b new.history.items new.tasks.items last) r) (sym same) h
 
-pub turn-steps-run : (b : Boot) (old new : Running) (pid n : ℕ) (r : Result Answer Refused) → Stands b old
+pub turn-steps-run : TurnGrows → (b : Boot) (old new : Running) (pid n : ℕ) (r : Result Answer Refused) → Stands b old
     → IfOk r (λ a. IsTurnAccepted pid n old new a)
     → IfErr r (λ why. Refuses (turn_refusal_of old.tasks.items (is_history_full old) pid n) why)
     → OnErr r (IsTurnRefused old new)
     → Steps b (Turn pid n) old new r
-turn-steps-run b old new pid n (Ok a) h done why same =
+turn-steps-run law b old new pid n (Ok a) h done why same =
     let history : List Event = old.history.items in
     let later : List Event = new.history.items in
     let tasks : List Task = old.tasks.items in
@@ -39,12 +40,12 @@ turn-steps-run b old new pid n (Ok a) h done why same =
       stands = record {
         parts =
             subst (λ (s : System). KeepsRun b later after s) (sym done.system)
-            (turned-core b history later tasks after old.system new.system.dependencies pid n a h.parts done.history done.turned);
+            (turned-core law b history later tasks after old.system new.system.dependencies pid n a h.parts done.history done.turned);
         counted = counted-turn b history later tasks after old.last_lent old.ran new.ran pid n (Ok a) h.counted applies done.ran tt;
       };
       applies = same-lent b old new (Turn pid n) (Ok a) done.last_lent applies;
     }
-turn-steps-run b old new pid n (Err e) h done why same =
+turn-steps-run law b old new pid n (Err e) h done why same =
     let history : List Event = old.history.items in
     let later : List Event = new.history.items in
     let tasks : List Task = old.tasks.items in
@@ -61,12 +62,12 @@ turn-steps-run b old new pid n (Err e) h done why same =
       applies = same-lent b old new (Turn pid n) (Err e) same.last_lent applies;
     }
 
-pub enter-steps-run : (b : Boot) (old new : Running) (pid : ℕ) (r : Result Answer Refused) → Stands b old
+pub enter-steps-run : EnterGrows → (b : Boot) (old new : Running) (pid : ℕ) (r : Result Answer Refused) → Stands b old
     → IfOk r (λ a. IsEnterAccepted pid old new a)
     → IfErr r (λ why. Refuses (enter_refusal_of old.tasks.items (is_history_full old) pid) why)
     → OnErr r (IsEnterRefused old new)
     → Steps b (Enter pid) old new r
-enter-steps-run b old new pid (Ok a) h done why same =
+enter-steps-run law b old new pid (Ok a) h done why same =
     let history : List Event = old.history.items in
     let later : List Event = new.history.items in
     let tasks : List Task = old.tasks.items in
@@ -74,12 +75,12 @@ enter-steps-run b old new pid (Ok a) h done why same =
     let applies = enter-applies b history later tasks after old.system old.last_lent pid (Ok a) h.parts done.fine done.answer done.history done.lendings tt tt tt in
     record {
       stands = record {
-        parts = enter-core b history later tasks after old.system new.system pid (Ok a) h.parts done.fine done.mirrors done.history done.lendings tt tt tt;
+        parts = enter-core law b history later tasks after old.system new.system pid (Ok a) h.parts done.fine done.mirrors done.footprint done.history done.lendings tt tt tt tt;
         counted = subst (IsCounted b later) (sym done.ran) (counted-other b history later tasks after old.last_lent old.ran (Enter pid) (Ok a) refl h.counted applies);
       };
       applies = same-lent b old new (Enter pid) (Ok a) done.last_lent applies;
     }
-enter-steps-run b old new pid (Err e) h done why same =
+enter-steps-run law b old new pid (Err e) h done why same =
     let history : List Event = old.history.items in
     let later : List Event = new.history.items in
     let tasks : List Task = old.tasks.items in
@@ -87,7 +88,7 @@ enter-steps-run b old new pid (Err e) h done why same =
     let applies = enter-applies b history later tasks after old.system old.last_lent pid (Err e) h.parts tt tt tt tt why same.history same.lendings in
     record {
       stands = record {
-        parts = enter-core b history later tasks after old.system new.system pid (Err e) h.parts tt tt tt tt same.mirrors same.history same.lendings;
+        parts = enter-core law b history later tasks after old.system new.system pid (Err e) h.parts tt tt tt tt tt same.mirrors same.footprints same.history same.lendings;
         counted = subst (IsCounted b later) (sym same.ran) (counted-other b history later tasks after old.last_lent old.ran (Enter pid) (Err e) refl h.counted applies);
       };
       applies = same-lent b old new (Enter pid) (Err e) same.last_lent applies;

@@ -7,6 +7,7 @@ use Rattle.std.proofs.lemmas.Bool.{leb-false}
 use Rattle.commit_deps.specs.Keeps.{Keeps}
 use Rattle.commit_deps.specs.Kept.{Marked}
 use Rattle.disk_model.specs.Files.{IsFormed, IsMade}
+use Rattle.footprints.specs.Footprints.{AreFootprints, IsOfDisk}
 use Rattle.disk_model.specs.Storage.{Storage, cut, completed, failed, failed_by, is_empty, piece_at}
 use Rattle.disk_model.proofs.Lists.{each_drop}
 use Rattle.disk_model.proofs.Cutting.{cut-committed}
@@ -38,6 +39,7 @@ use Rattle.kernel_step.specs.Tests.{full_of}
 use Rattle.kernel_step.specs.declared.system.System.{System}
 use Rattle.kernel_step.specs.declared.task.Task.{Task}
 use Rattle.kernel_step.proofs.FewLoans.{same-out, few-same}
+use Rattle.kernel_step.proofs.Noting.{DiskGrows}
 use Rattle.kernel_step.proofs.Applying.{full-is, refused-applies}
 use Rattle.kernel_step.proofs.Refusing.{none-of-two, none-of-four}
 use Rattle.kernel_step.proofs.EnterParts.{pipes-quiet, counted-quiet}
@@ -47,6 +49,11 @@ use Rattle.kernel_step.proofs.Quiet.{disk-silent, screens-quiet, trace-quiet, ch
 -- the law of marks: those of a log are those of one event more, if that writes no carrier
 abbrev pub SilentLaw : Type 0
 SilentLaw = (log : List Entry) (marks : List Marked) (e : Entry) → e.writes ≡ [] → Keeps log marks → Keeps (log ++ e ∷ []) marks
+
+-- the laws by which the parts follow an event of the device: of the marks, and of the footprints
+pub record DiskLaws : Type 0 where
+  pub marks : SilentLaw
+  pub footprints : DiskGrows
 
 -- the run after an event of the device that leads to this storage
 abbrev pub stored_world : World → Storage → World
@@ -133,8 +140,9 @@ screens-still c log screens h = record {
 }
 
 -- ---- all parts after an event of the device
--- the pipes, the table of processes and the count of what was told stay
+-- the pipes, the table of processes, the count of what was told and the footprints stay
 pub record IsSameRest (old new : System) : Type 0 where
+  pub footprints : new.footprints.footprints ≡ old.footprints.footprints
   pub pipes : new.pipes ≡ old.pipes
   pub parts : new.processes.parts ≡ old.processes.parts
   pub served : new.served ≡ old.served
@@ -163,20 +171,24 @@ still-mirrors law w st st' tasks s h same committed =
     stored-mirrors law w st st' tasks tasks s (record s { committer = st' }) h same
     (subst (λ (c : ℕ). AreMoved c tasks tasks) (sym committed) (tasks-still w s.served tasks h.each))
     (subst (λ (c : ℕ). AreAdvanced c s.screens.items s.screens.items) (sym committed) (screens-still w.storage.committed w.log s.screens.items h.screens))
-    refl refl refl refl (record { pipes = refl; parts = refl; served = refl }) refl
+    refl refl refl refl (record { footprints = refl; pipes = refl; parts = refl; served = refl }) refl
 
 -- ---- the kernel after an event of the device
-pub stored-core : (b : Boot) (history history' : List Event) (old new : List Task) (s s' : System) (e : Event) (st : Storage) (full : Bool)
+pub stored-core : DiskGrows → (b : Boot) (history history' : List Event) (old new : List Task) (s s' : System) (e : Event) (st : Storage) (full : Bool)
     → KeepsRun b history old s → full ≡ full_of (length history) old → full ≡ false → history' ≡ history ++ e ∷ []
-    → happens (run_of b history) e ≡ stored_world (run_of b history) st
+    → IsOfDisk e → s'.footprints.footprints ≡ s.footprints.footprints → happens (run_of b history) e ≡ stored_world (run_of b history) st
     → AreMoved st.committed old new → Mirrors (stored_world (run_of b history) st) new s'
     → KeepsRun b history' new s'
-stored-core b history history' old new s s' e st full h is fine grown happen moved mirrors =
+stored-core law b history history' old new s s' e st full h is fine grown disk kept happen moved mirrors =
     let out : count_out new ≡ count_out old = same-out old new (tasks-lendings st.committed old new moved) in
     let space : length history + 2 * count_out old < 2 ^ 40 = leb-false (2 ^ 40) (length history + 2 * count_out old) (sym is ∙ fine) in
     let longer : length (history ++ e ∷ []) ≡ length history + 1 = length_push history e in
     subst (λ (es : List Event). KeepsRun b es new s') (sym grown) (record {
       mirrors = subst (λ (v : World). Mirrors v new s') (sym (after-append (first_world b) history e ∙ happen)) mirrors;
+      footprints =
+          subst (λ (v : World). AreFootprints (history ++ e ∷ []) v.log s'.footprints.footprints) (sym (after-append (first_world b) history e ∙ happen))
+          (subst (λ (ks : List Entry). AreFootprints (history ++ e ∷ []) ((run_of b history).log ++ disk_entry ∷ []) ks) (sym kept)
+          (law history (run_of b history).log s.footprints.footprints e disk_entry h.footprints disk refl refl));
       room = omega (arith, longer, out, space);
       loans = few-same (length history) (length (history ++ e ∷ [])) old new (omega (arith, longer)) (tasks-lendings st.committed old new moved) h.loans;
     })
@@ -210,7 +222,7 @@ write-refusal-is b history tasks s last at full h is =
 write-fine : (st : Storage) (at : ℕ) (full : Bool) → write_refusal st at full ≡ None → full ≡ false
 write-fine st at full h = (none-of-two full (is_none (piece_at st.device.in_flight at)) refused.Budget refused.NoSuchWrite h).0
 
-pub fail-core : SilentLaw → (b : Boot) (history history' : List Event) (tasks : List Task) (s : System) (d : Storage) (at : ℕ) (full : Bool) (r : Result Answer Refused)
+pub fail-core : DiskLaws → (b : Boot) (history history' : List Event) (tasks : List Task) (s : System) (d : Storage) (at : ℕ) (full : Bool) (r : Result Answer Refused)
     → KeepsRun b history tasks s → full ≡ full_of (length history) tasks
     → IfOk r (HasFailed s.committer d at full) → OnOk r (history' ≡ history ++ Fail at ∷ [])
     → OnErr r (history' ≡ history) → OnErr r (d ≡ s.committer)
@@ -220,9 +232,9 @@ fail-core law b history history' tasks s d at full (Ok a) h is done grown x y =
     let st : Storage = failed w.storage at in
     let same : d ≡ st = done.committer ∙ ap (λ (t : Storage). failed t at) h.mirrors.committer in
     let none : st.committed ≡ w.storage.committed = failed-committed w.storage at in
-    stored-core b history history' tasks tasks s (record s { committer = d }) (Fail at) st full h is (write-fine s.committer at full done.fine) grown refl
+    stored-core law.footprints b history history' tasks tasks s (record s { committer = d }) (Fail at) st full h is (write-fine s.committer at full done.fine) grown tt refl refl
     (subst (λ (c : ℕ). AreMoved c tasks tasks) (sym none) (tasks-still w s.served tasks h.mirrors.each))
-    (still-mirrors law w st d tasks s h.mirrors same none)
+    (still-mirrors law.marks w st d tasks s h.mirrors same none)
 fail-core law b history history' tasks s d at full (Err why) h is done grown x y = same-stored b history history' tasks s d x y h
 
 pub fail-applies : (b : Boot) (history history' : List Event) (tasks : List Task) (s : System) (d : Storage) (last at : ℕ) (full : Bool) (r : Result Answer Refused)
@@ -239,7 +251,7 @@ fail-applies b history history' tasks s d last at full (Err e) h is done grown w
     refused-applies b history history' tasks tasks last (Fail at) (write_refusal s.committer at full) e x refl (write-refusal-is b history tasks s last at full h is) why
 
 -- ---- a Complete
-pub completed-core : SilentLaw → (b : Boot) (history history' : List Event) (old new : List Task) (s s' : System) (at committed : ℕ) (full : Bool)
+pub completed-core : DiskLaws → (b : Boot) (history history' : List Event) (old new : List Task) (s s' : System) (at committed : ℕ) (full : Bool)
     → KeepsRun b history old s → full ≡ full_of (length history) old
     → IsCompleted s.committer s'.committer at full committed → history' ≡ history ++ Complete at ∷ []
     → AreMoved committed old new → AreAdvanced committed s.screens.items s'.screens.items
@@ -251,8 +263,8 @@ completed-core law b history history' old new s s' at committed full h is done g
     let same : s'.committer ≡ st = done.committer ∙ ap (λ (t : Storage). completed t at) h.mirrors.committer in
     let count : committed ≡ st.committed = done.count ∙ ap (λ (t : Storage). t.committed) same in
     let moved_so : AreMoved st.committed old new = subst (λ (c : ℕ). AreMoved c old new) count moved in
-    stored-core b history history' old new s s' (Complete at) st full h is (write-fine s.committer at full done.fine) grown refl moved_so
-    (stored-mirrors law w st s'.committer old new s s' h.mirrors same moved_so
+    stored-core law.footprints b history history' old new s s' (Complete at) st full h is (write-fine s.committer at full done.fine) grown tt rest.footprints refl moved_so
+    (stored-mirrors law.marks w st s'.committer old new s s' h.mirrors same moved_so
     (subst (λ (c : ℕ). AreAdvanced c s.screens.items s'.screens.items) count advanced) marks changes files tapes rest refl)
 
 pub completed-applies : (b : Boot) (history history' : List Event) (old new : List Task) (s : System) (d : Storage) (last at committed : ℕ) (full : Bool)
@@ -301,7 +313,7 @@ cut-same w s h committer =
     ∙ ap (λ (cs : List Change). cut w.storage (drop w.storage.committed cs) s.files.living) h.changes
     ∙ ap (λ (fs : Numbered). cut w.storage (drop w.storage.committed (changes_in_log w.log)) fs.living) h.files
 
-pub cut-core : SilentLaw → (b : Boot) (history history' : List Event) (tasks : List Task) (s : System) (d : Storage) (full : Bool) (r : Result Answer Refused)
+pub cut-core : DiskLaws → (b : Boot) (history history' : List Event) (tasks : List Task) (s : System) (d : Storage) (full : Bool) (r : Result Answer Refused)
     → KeepsRun b history tasks s → full ≡ full_of (length history) tasks
     → IfOk r (WasCut s.committer d s.changes.items s.files.living full history history')
     → OnErr r (IsUncut s.committer d history history')
@@ -311,9 +323,9 @@ cut-core law b history history' tasks s d full (Ok a) h is done x =
     let st : Storage = cut w.storage (drop w.storage.committed (changes_in_log w.log)) w.sync.files.living in
     let same : d ≡ st = done.committer ∙ cut-same w s h.mirrors.changes h.mirrors.committer in
     let none : st.committed ≡ w.storage.committed = cut-committed w.storage (drop w.storage.committed (changes_in_log w.log)) w.sync.files.living in
-    stored-core b history history' tasks tasks s (record s { committer = d }) Cut st full h is (cut-fine s.committer (drop s.committer.committed s.changes.items) full done.fine) done.history refl
+    stored-core law.footprints b history history' tasks tasks s (record s { committer = d }) Cut st full h is (cut-fine s.committer (drop s.committer.committed s.changes.items) full done.fine) done.history tt refl refl
     (subst (λ (c : ℕ). AreMoved c tasks tasks) (sym none) (tasks-still w s.served tasks h.mirrors.each))
-    (still-mirrors law w st d tasks s h.mirrors same none)
+    (still-mirrors law.marks w st d tasks s h.mirrors same none)
 cut-core law b history history' tasks s d full (Err why) h is done x = same-stored b history history' tasks s d x.history x.committer h
 
 pub cut-applies : (b : Boot) (history history' : List Event) (tasks : List Task) (s : System) (d : Storage) (last : ℕ) (full : Bool) (r : Result Answer Refused)

@@ -1,11 +1,12 @@
 -- What an Enter does to the parts of a running kernel.
-use Rattle.std.specs.Prelude.{◌≡◌, ℕ, ◌+◌, ◌^◌, ◌<◌, ◌≤◌, ◌⊎◌, true, List, [], ◌∷◌, ◌++◌, length, map, Option, Some, None, IfSome, option_to_list, slice_get}
+use Rattle.std.specs.Prelude.{◌≡◌, ℕ, ◌+◌, ◌^◌, ◌<◌, ◌≤◌, ◌⊎◌, true, List, [], ◌∷◌, ◌++◌, length, map, Option, Some, None, IfSome, option_map, option_to_list, slice_get}
 use Rattle.std.specs.List.{AllByRecursion}
 use Rattle.std.specs.Option.{ForSome}
 use Rattle.disk_model.specs.Files.{IsPossible}
 use Rattle.disk_model.specs.Numbers.{Numbered}
 use Rattle.memory_model.specs.Access.{is_writable}
-use Rattle.machine_model.specs.States.{State, stands_at, replied}
+use Rattle.machine_model.specs.States.{State, stands_at}
+use Rattle.machine_model.specs.Replies.{in_image, replied}
 use Rattle.machine_model.specs.declared.stop.Stop.TheVariants.{Call}
 use Rattle.calls.specs.Plans.{effect_with, AreLeft, EditsAs, IsNext, MayAllStep, OpensAlone, OpensNone, all_seen}
 use Rattle.calls.specs.Sights.{Sight, MayPlanCall}
@@ -13,6 +14,7 @@ use Rattle.calls.specs.declared.plan.Plan.{Plan}
 use Rattle.commit_deps.specs.Keeps.{Keeps}
 use Rattle.commit_deps.specs.Marks.{IsMarkOf}
 use Rattle.commit_deps.specs.Kept.{Kept, Marked}
+use Rattle.footprints.specs.Kept.{footprint, Kept as KeptFootprints}
 use Rattle.kernel_model.specs.Answers.{outcome_of}
 use Rattle.kernel_model.specs.Entries.{Entry, Item, Got, End as Ended}
 use Rattle.kernel_model.specs.Paths.{changes_in_log}
@@ -53,6 +55,12 @@ abbrev pub machine_after : State → Verdict → State
 machine_after s Waits = s
 machine_after s (Replies r) = replied s r
 machine_after s (Ends status) = s
+
+-- the first state of the image by which it goes on, if its reply has one, with its count after the call
+abbrev pub in_image_by : State → Verdict → Option State
+in_image_by s Waits = None
+in_image_by s (Replies r) = option_map (in_image s) r.image
+in_image_by s (Ends status) = None
 
 -- its descriptors
 abbrev pub descriptors_after : List (Option Descriptor) → Verdict → List Slot → List (Option Descriptor)
@@ -103,6 +111,10 @@ pub record HaveRoom (seen : List Seen) : Type 0 where
 pub record MayPlan (seen : Sight) (pid : ℕ) : Type 0 where
   pub call : MayPlanCall seen pid
   pub ends : HaveRoom seen.pipes
+
+-- the footprint of an Enter of process pid: the carriers that it reads beside its process, and those that it writes
+abbrev pub footprint_of : ℕ → Plan → Entry
+footprint_of pid plan = footprint plan.reads.items (writes_of pid plan.verdict plan.writes.items)
 
 -- the entry of an Enter of process pid
 abbrev pub entry_of : ℕ → Plan → Entry
@@ -221,7 +233,7 @@ MakesTask number mark s parent (Some u) = (number ≡ Some u.pid) × IsForked ma
 -- ---- what is prepared
 
 -- the plan of an Enter of process pid, where its machine and trace are these, all carriers that its event reads and writes, the
--- pipe and the process that it makes
+-- pipe and the process that it makes, and the machine with which the process goes on where its reply has an image
 pub record IsEntering (seen : Sight) (pid : ℕ) (s : State) (t : Withheld Item) (e : Entering) : Type 0 where
   pub process : e.pid ≡ pid
   pub plan : PlansEnter seen pid s e.plan
@@ -229,6 +241,7 @@ pub record IsEntering (seen : Sight) (pid : ℕ) (s : State) (t : Withheld Item)
   pub writes : e.writes.items ≡ (entry_of pid e.plan).writes
   pub spare : IsSpare e.plan.pipes.items e.spare
   pub child : IsChild e.plan.child s t e.child
+  pub next : e.next ≡ in_image_by s e.plan.verdict
 
 -- ---- what is done
 
@@ -268,6 +281,7 @@ ArePrinted output mark old new =
 -- the files are these, and all else that is shared is the same, though there may be room for more
 pub record IsSystemWith (held : Numbered) (old new : System) : Type 0 where
   pub marks : new.dependencies.marks ≡ old.dependencies.marks
+  pub footprints : new.footprints.footprints ≡ old.footprints.footprints
   pub changes : new.changes.items ≡ old.changes.items
   pub files : new.files ≡ held
   pub tapes : new.tapes ≡ old.tapes
@@ -291,6 +305,7 @@ pub record IsNoted (x : Entry) (count : ℕ) (old new : List Marked) (mark : ℕ
 -- is kept, the tape that it reads is past what was read, the steps of its pipes are done, and so is what becomes of the processes.
 pub record IsFinished (pid : ℕ) (plan : Plan) (mark : ℕ) (old new : System) : Type 0 where
   pub marks : new.dependencies ≡ old.dependencies
+  pub footprints : new.footprints ≡ old.footprints
   pub changes : new.changes.items ≡ old.changes.items ++ option_to_list plan.change
   pub files : new.files ≡ old.files
   pub tapes : new.tapes ≡ read_by old.tapes plan.tape
@@ -300,13 +315,15 @@ pub record IsFinished (pid : ℕ) (plan : Plan) (mark : ℕ) (old new : System) 
   pub committer : new.committer ≡ old.committer
   pub screens : ArePrinted plan.output mark old.screens.items new.screens.items
 
--- An Enter that was prepared is carried out: its event is noted, the rest of it is done, the task was told what it came to, and so
--- was the process that it made, if it made one.
+-- An Enter that was prepared is carried out: its event is noted, and its footprint, the rest of it is done, the task was told what it
+-- came to, and so was the process that it made, if it made one.
 pub record IsCarriedOut (e : Entering) (old new : Task) (before later : System) (outcome : Outcome) (child : Option Task) : Type 0 where
   pub mark : ℕ
   pub dependencies : Kept
   pub noted : IsNoted (entry_of e.pid e.plan) (length before.changes.items) before.dependencies.marks dependencies.marks mark
-  pub rest : IsFinished e.pid e.plan mark (record before { dependencies = dependencies }) later
+  pub footprints : KeptFootprints
+  pub kept : footprints.footprints ≡ before.footprints.footprints ++ footprint_of e.pid e.plan ∷ []
+  pub rest : IsFinished e.pid e.plan mark (record before { dependencies = dependencies; footprints = footprints }) later
   pub told : IsTold e.plan.verdict mark before.served old new
   pub made : (number : Option ℕ) (s : State) (parent : Withheld Item) → IsChild number s parent e.child → MakesTask number mark s parent child
   pub outcome_is : outcome ≡ outcome_of (item_of e.plan.verdict)
@@ -314,6 +331,7 @@ pub record IsCarriedOut (e : Entering) (old new : Task) (before later : System) 
 -- what is shared after an Enter, whose event has this mark
 pub record IsEntered (pid : ℕ) (plan : Plan) (mark : ℕ) (old new : System) : Type 0 where
   pub noted : IsNoted (entry_of pid plan) (length old.changes.items) old.dependencies.marks new.dependencies.marks mark
+  pub footprints : new.footprints.footprints ≡ old.footprints.footprints ++ footprint_of pid plan ∷ []
   pub changes : new.changes.items ≡ old.changes.items ++ option_to_list plan.change
   pub files : new.files ≡ changed_by old.files plan.change
   pub tapes : new.tapes ≡ read_by old.tapes plan.tape

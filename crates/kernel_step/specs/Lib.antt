@@ -1,6 +1,7 @@
 -- The definitions.
 pub mod Advanced
 pub mod Booting
+pub mod Coning
 pub mod Counted
 pub mod Entering
 pub mod First

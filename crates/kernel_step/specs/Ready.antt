@@ -12,7 +12,7 @@ use Rattle.machine_model.specs.States.{State, stands_at}
 use Rattle.pipes.specs.Seen.{Seen}
 use Rattle.processes.specs.Table.{Table, HasRoom as HasChildRoom}
 use Rattle.withheld.specs.Withheld.{Withheld, whats}
-use Rattle.kernel_step.specs.Entering.{sight_in, entry_of, MayBeTold, MayPlan, HasSpaceFor, IsSpare, IsEntering, IsSystemWith}
+use Rattle.kernel_step.specs.Entering.{sight_in, entry_of, in_image_by, MayBeTold, MayPlan, HasSpaceFor, IsSpare, IsEntering, IsSystemWith}
 use Rattle.kernel_step.specs.Tasks.{machine_of, out_of, status_of}
 use Rattle.kernel_step.specs.declared.plan.Entering.{Entering}
 use Rattle.kernel_step.specs.declared.system.System.{System}
@@ -40,6 +40,8 @@ pub record HasRoomForPlan (s : System) (pid : ℕ) (plan : Plan) : Type 0 where
 pub record HasRoomForEnter (history : Vec Event) (trace : Withheld Item) (s : System) (e : Entering) : Type 0 where
   pub events : vec_len history + 2 ≤ vec_capacity history
   pub writes : length e.writes.items + 1 ≤ s.dependencies.room
+  pub footprint : 1 ≤ s.footprints.enter_room
+  pub carriers : length e.plan.reads.items + length e.writes.items ≤ s.footprints.carrier_room
   pub replies : 1 ≤ trace.room
   pub plan : HasRoomForPlan s e.pid e.plan
 
@@ -50,18 +52,22 @@ pub record IsPrepared (pid : ℕ) (m : State) (trace : Withheld Item) (old new :
   pub entering : IsEntering (sight_in old) pid m trace e
   pub changed : IsSystemWith (changed_by old.files e.plan.change) old new
 
--- the event of an Enter may be noted: there is room for what it writes, and what it reads and writes is what its plan says
+-- the event of an Enter may be noted: there is room for what it writes, and for its footprint, and what it reads and writes is what its
+-- plan says
 pub record MayBeNoted (s : System) (e : Entering) : Type 0 where
   pub room : length e.writes.items ≤ s.dependencies.room
+  pub footprint : 1 ≤ s.footprints.enter_room
+  pub carriers : length e.plan.reads.items + length e.writes.items ≤ s.footprints.carrier_room
   pub reads : e.reads.items ≡ (entry_of e.pid e.plan).reads
   pub writes : e.writes.items ≡ (entry_of e.pid e.plan).writes
 
 -- ---- the rest of an Enter
 
--- a task may be told this: its machine is here, may be told it and do one more instruction; it has not ended, and has room for a
--- reply
-pub record TaskMayBeTold (verdict : Verdict) (t : Task) : Type 0 where
+-- a task may be told this, and go on with this machine if its reply has an image: its machine is here, may be told it and do one
+-- more instruction; it has not ended, and has room for a reply
+pub record TaskMayBeTold (verdict : Verdict) (next : Option State) (t : Task) : Type 0 where
   pub here : out_of t ≡ None
+  pub goes_on : next ≡ in_image_by (machine_of t) verdict
   pub fine : MayBeTold (machine_of t) verdict
   pub budget : (machine_of t).count < 2 ^ 40
   pub running : status_of t ≡ None
@@ -92,7 +98,7 @@ pub record MayChangeSystem (s : System) (pid : ℕ) (plan : Plan) (pipe : Option
 
 -- the rest of an Enter may be done
 pub record IsReady (t : Task) (s : System) (e : Entering) : Type 0 where
-  pub task : TaskMayBeTold e.plan.verdict t
+  pub task : TaskMayBeTold e.plan.verdict e.next t
   pub child : ChildMayBeTold e.child
   pub output : HasSpaceFor e.plan.output s.screens.items
   pub changes : vec_len s.changes < vec_capacity s.changes

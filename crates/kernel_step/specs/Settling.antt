@@ -36,6 +36,7 @@ pub record IsBack (m : State) (old new : Task) : Type 0 where
 -- nothing else of what is shared has changed but the marks
 pub record IsTurnNoted (pid : ℕ) (old new : System) : Type 0 where
   pub noted : IsOwnNoted pid old.dependencies.marks new.dependencies.marks
+  pub footprints : new.footprints.footprints ≡ old.footprints.footprints
   pub changes : new.changes.items ≡ old.changes.items
   pub files : new.files ≡ old.files
   pub tapes : new.tapes ≡ old.tapes

@@ -1,5 +1,6 @@
 -- What the parts of a running kernel stand for.
 use Rattle.std.specs.Prelude.{ℕ, ◌+◌, ◌*◌, ◌^◌, ◌≤◌, List, length, map, Result}
+use Rattle.footprints.specs.Footprints.{AreFootprints}
 use Rattle.kernel_model.specs.World.{Boot, run_of}
 use Rattle.kernel_model.specs.Answers.{Kernel, Applies}
 use Rattle.kernel_model.specs.declared.answer.Answer.{Answer}
@@ -23,10 +24,11 @@ kernel_of b history tasks last_lent = record { boot = b; history = history; lend
 abbrev pub kernel_in : Boot → Running → Kernel
 kernel_in b r = kernel_of b r.history.items r.tasks.items r.last_lent
 
--- the parts keep what the run says, the history has room for two events of each loan that is out, and each loan that is back has
--- come to an event
+-- the parts keep what the run says, the footprints of its Enters among it; the history has room for two events of each loan that is
+-- out, and each loan that is back has come to an event
 pub record KeepsRun (b : Boot) (history : List Event) (tasks : List Task) (system : System) : Type 0 where
   pub mirrors : Mirrors (run_of b history) tasks system
+  pub footprints : AreFootprints history (run_of b history).log system.footprints.footprints
   pub room : length history + 2 * count_out tasks ≤ 2 ^ 40
   pub loans : AreFewLoans (length history) (map lending_of tasks)
 

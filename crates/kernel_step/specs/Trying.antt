@@ -7,6 +7,7 @@ use Rattle.kernel_model.specs.Steps.{step}
 use Rattle.kernel_model.specs.World.{World, happens}
 use Rattle.kernel_model.specs.declared.answer.Answer.{Answer}
 use Rattle.kernel_model.specs.declared.event.Event.TheVariants.{Turn, Enter}
+use Rattle.kernel_step.specs.Coning.{IsFootprintNoted}
 use Rattle.kernel_step.specs.Mirrors.{Mirrors}
 use Rattle.kernel_step.specs.Parts.{Turned}
 use Rattle.kernel_step.specs.Tasks.{lending_of, count_out}
@@ -60,6 +61,8 @@ pub record IsEnterAccepted (pid : ℕ) (old new : Running) (a : Answer) : Type 0
   pub fine : enter_refusal_of old.tasks.items (is_history_full old) pid ≡ None
   pub answer : (w : World) → Mirrors w old.tasks.items old.system → a ≡ entered (outcome_of (step w.sync (Enter pid)).entry.item)
   pub mirrors : (w : World) → Mirrors w old.tasks.items old.system → Mirrors (happens w (Enter pid)) new.tasks.items new.system
+  pub footprint : (w : World) → Mirrors w old.tasks.items old.system
+      → IsFootprintNoted pid (step w.sync (Enter pid)).entry old.system.footprints.footprints new.system.footprints.footprints
   pub lendings : (w : World) → Mirrors w old.tasks.items old.system → map lending_of new.tasks.items ≡ with_child (map lending_of old.tasks.items) (step w.sync (Enter pid)).entry.child
   pub history : new.history.items ≡ old.history.items ++ Enter pid ∷ []
   pub ran : new.ran ≡ old.ran
@@ -68,6 +71,7 @@ pub record IsEnterAccepted (pid : ℕ) (old new : Running) (a : Answer) : Type 0
 -- an Enter was refused: of whatever run the parts kept what it said, they still do, and loans, history and counts are the same
 pub record IsEnterRefused (old new : Running) : Type 0 where
   pub mirrors : (w : World) → Mirrors w old.tasks.items old.system → Mirrors w new.tasks.items new.system
+  pub footprints : new.system.footprints.footprints ≡ old.system.footprints.footprints
   pub lendings : map lending_of new.tasks.items ≡ map lending_of old.tasks.items
   pub history : new.history.items ≡ old.history.items
   pub ran : new.ran ≡ old.ran

@@ -17,6 +17,7 @@ use byte_list::Bytes;
 use calls::TapeTable;
 use commit_deps::Dependencies;
 use files::FileTable;
+use footprints::Footprints;
 use group_commit::Committer;
 use kernel_model::TERMINALS;
 use machine::{Image, Machine};
@@ -42,8 +43,8 @@ impl Drop for Program {
 }
 
 impl Running {
-    /// The parts of a kernel of these programs, which are processes 1 and up, of the tapes that they read (the first has tape 0), of
-    /// these files, and of a committer that begins on the disk that holds them.
+    /// The parts of a kernel of these programs, which are processes 1 and up, and of the tapes that they read, from tape 0 on. The
+    /// files are those that the disk holds, and the committer begins on that disk.
     pub fn new(
         alloc: Global,
         programs: &[Program],
@@ -70,6 +71,7 @@ impl Running {
         let system = System {
             alloc,
             dependencies: Dependencies::new(alloc),
+            footprints: Footprints::new(alloc),
             changes: Vec::new(alloc),
             files,
             tapes: TapeTable::new(tapes),
@@ -89,7 +91,7 @@ impl Running {
     }
 }
 
-/// The tapes hold bytes. Going over them changes nothing, and is for this alone: a contract sees a tape as a list of numbers.
+/// The tapes hold bytes. A contract sees a tape as a list of numbers, so this goes over them for the clause alone.
 fn hold_bytes(tapes: &[Bytes])
     ensures { AllByRecursion (λ (tape : List ℕ). AllByRecursion (λ (byte : ℕ). byte < 256) tape) tapes.now }
 {
@@ -98,12 +100,10 @@ fn hold_bytes(tapes: &[Bytes])
     }
 }
 
-/// The items of a slice of bytes are bytes.
 fn are_bytes(bytes: &[u8])
     ensures { AllByRecursion (λ (byte : ℕ). byte < 256) bytes.now }
 {}
 
-/// The tasks of these programs, processes 1 and up.
 fn first_tasks(alloc: Global, programs: &[Program]) -> Result<Vec<Task>, AllocError>
     requires { length programs.now ≤ most_programs }
     ensures { IfOk result (λ tasks. AreFirst programs.now tasks.items) }
@@ -117,7 +117,7 @@ fn first_tasks(alloc: Global, programs: &[Program]) -> Result<Vec<Task>, AllocEr
     Ok(tasks)
 }
 
-/// What is kept of the processes of these programs beside their machines: program i reads tape i.
+/// Program i reads tape i.
 fn first_processes(alloc: Global, programs: &[Program]) -> Result<ProcTable, AllocError>
     requires { length programs.now ≤ most_programs }
     ensures { IfOk result (λ processes. processes.parts ≡ parts_from 0 programs.now) }
@@ -129,7 +129,6 @@ fn first_processes(alloc: Global, programs: &[Program]) -> Result<ProcTable, All
     Ok(processes)
 }
 
-/// The screens of terminals 0 to 7, with no bytes.
 fn empty_screens(alloc: Global) -> Result<Vec<Withheld<u8>>, AllocError>
     ensures { IfOk result (λ screens. AreEmpty 8 screens.items) }
 {

@@ -1,4 +1,4 @@
-//! An Enter: a process is told what its call, or its trap, comes to.
+//! An Enter, by a system call or a trap: a process is told what that comes to.
 ghost use Rattle.std.specs.Prelude.{◌≡◌, ◌<◌, ◌++◌, ◌∷◌, [], None, vec_len, vec_capacity, option_to_list, IfOk, IfErr, OnOk, OnErr};
 ghost use Rattle.kernel_model.specs.Answers.{Refuses, entered as answer_to};
 ghost use Rattle.kernel_model.specs.World.{Boot};
@@ -18,11 +18,11 @@ use crate::system::System;
 use crate::task::Task;
 use crate::tasks::enter_place;
 use disk_model::{checkpoints_fit, made_files_change};
+use footprints::footprints_grow;
 use kernel_model::{Answer, Event, Outcome, Refused, tables_keep_their_limits};
 use pipes::{ends_grow_by_one, steps_are_shown};
 use std::alloc::AllocError;
 
-/// The answer to an Enter.
 fn entered(outcome: Outcome) -> Answer
     ensures { result ≡ answer_to outcome }
 {
@@ -43,8 +43,8 @@ pub fn join(tasks: &mut Vec<Task>, child: Option<Task>)
     }
 }
 
-/// A process enters the kernel whose machine is here and stands at a call or a trap. Answers what the Enter came to, and the
-/// process that it made, if it made one. Where memory runs out nothing has changed.
+/// A process enters the kernel whose machine is here and stands at a call or a trap. Gives what the Enter came to, and the process
+/// that it made, if it made one. Where memory runs out nothing has changed.
 fn enter_task(
     history: &mut Vec<Event>,
     system: &mut System,
@@ -64,17 +64,17 @@ fn enter_task(
 }
 
 impl Running {
-    /// The process enters the kernel by the call or the trap at which it stands.
+    /// The process enters the kernel by the call or the trap at which it stands. Refused as `Core::apply` says.
     pub(crate) fn enter(&mut self, pid: u32) -> Result<Answer, Refused>
         requires { (b : Boot) × Stands b self.old }
         ensures { (b : Boot) → Stands b self.old → Steps b (Event.Enter pid) self.old self.new result }
     {
         tables_keep_their_limits();
+        footprints_grow();
         self.try_enter(pid)
     }
 
-    /// The process enters the kernel, as a contract over the parts alone has it. Refused, with nothing changed: NoProcess,
-    /// Ended, Lent, NotStopped, Budget, OutOfMemory.
+    /// As `enter`, by a contract over the parts alone.
     fn try_enter(&mut self, pid: u32) -> Result<Answer, Refused>
         requires { MayTryEnter self.old }
         ensures done { IfOk result (IsEnterAccepted pid self.old self.new) }

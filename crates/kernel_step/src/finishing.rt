@@ -25,7 +25,7 @@ use pipes::{Pipe, PipeTable};
 use processes::ProcTable;
 use withheld::Withheld;
 
-/// The number of a plan's change, if it makes one, where there are so many.
+/// The number of a plan's change, if it makes one; they are counted from 0.
 fn change_number(change: &Option<Change>, changes: usize) -> Option<u64>
     ensures { result ≡ (if is_some change.now then Some changes else None) }
 {
@@ -35,7 +35,7 @@ fn change_number(change: &Option<Change>, changes: usize) -> Option<u64>
     }
 }
 
-/// Notes the event of an Enter that is prepared, where there are so many changes, and answers its mark. Takes no memory.
+/// Notes the event of an Enter that is prepared, where there are so many changes, and gives its mark. Takes no memory.
 fn note_enter(dependencies: &mut Dependencies, entering: &Entering, changes: usize) -> Mark
     requires room { length entering.now.writes.items ≤ dependencies.old.room }
     requires few { changes < 2 ^ 63 }
@@ -91,7 +91,7 @@ fn step_all(pipes: &mut PipeTable, steps: &[PipeStep])
     }
 }
 
-/// The steps of a plan: a pipe that is ready is the next by number, or pipes that were made before are used. Takes no memory.
+/// The steps of a plan. A pipe that is ready becomes the next by number, or pipes that were made before are used. Takes no memory.
 fn step_pipes(pipes: &mut PipeTable, steps: &[PipeStep], spare: Option<Pipe>)
     requires spare { IsSpare steps.now spare }
     requires may { MayAllStep pipes.old steps.now }
@@ -129,7 +129,6 @@ fn change_children(processes: &mut ProcTable, pid: u32, plan: &Plan)
     }
 }
 
-/// What becomes of the parts of all processes by a plan. Takes no memory.
 fn change_parts(processes: &mut ProcTable, pid: u32, plan: &Plan)
     requires { MayChangeParts processes.old pid plan.now }
     ensures { processes.new.parts ≡ parts_after processes.old.parts pid plan.now }
@@ -142,7 +141,6 @@ fn change_parts(processes: &mut ProcTable, pid: u32, plan: &Plan)
     }
 }
 
-/// How many Enters are served after one of this plan, where so many were before.
 fn count_served(verdict: &Verdict, served: u64) -> u64
     requires { served < 2 ^ 63 }
     ensures { result ≡ served_after verdict.now served }
@@ -183,8 +181,8 @@ fn keep(changes: &mut Vec<Change>, change: Option<Change>)
     }
 }
 
-/// Does the rest of an Enter that is prepared, of a process whose machine is here, and whose event is noted with this mark. Answers
-/// what it came to, and the process that it made, if it made one. Takes no memory.
+/// Does the rest of an Enter that is prepared and whose event is noted with this mark. The process's machine is here. Gives what it
+/// came to, and the process that it made, if it made one. Takes no memory.
 fn finish(
     task: &mut Task,
     system: &mut System,
@@ -203,18 +201,20 @@ fn finish(
         plan,
         spare,
         child,
+        next,
         ..
     } = entering;
     print(&mut system.screens, &plan.output, mark);
     change_system(system, pid, &plan, spare);
     let (verdict, change) = plan.into_verdict_and_change();
     keep(&mut system.changes, change);
-    let outcome = tell(task, verdict, before, mark);
+    let outcome = tell(task, verdict, next, before, mark);
     (outcome, tell_child(system.alloc, child, mark))
 }
 
-/// Carries an Enter out that is prepared, of a process whose machine is here: its event is noted and joins the history, and the
-/// rest of it is done. Answers what it came to, and the process that it made, if it made one. Takes no memory.
+/// Carries out an Enter that is prepared, of a process whose machine is here. Its event is noted and joins the history, as does what
+/// it read and wrote, and the rest of it is done. Gives what it came to, and the process that it made, if it made one. Takes no
+/// memory.
 pub fn carry_out(
     history: &mut Vec<Event>,
     system: &mut System,
@@ -229,6 +229,9 @@ pub fn carry_out(
 {
     let pid = entering.pid;
     let mark = note_enter(&mut system.dependencies, &entering, system.changes.len());
+    system
+        .footprints
+        .note(&entering.plan.reads, &entering.writes);
     let (outcome, child) = finish(task, system, entering, mark);
     history.push(Event::Enter { pid }).unwrap();
     (outcome, child)

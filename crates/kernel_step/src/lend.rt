@@ -1,4 +1,4 @@
-//! Machines lent out.
+//! Machines lent out, as a scheduler dispatches them.
 ghost use Rattle.std.specs.Prelude.{◌≡◌, ◌+◌, ◌*◌, ◌^◌, ◌<◌, ◌≤◌, None, take, drop, position, IfOk, IfErr, OnOk, OnErr};
 ghost use Rattle.kernel_model.specs.Loans.{Lends};
 ghost use Rattle.kernel_model.specs.World.{Boot};
@@ -18,7 +18,7 @@ use std::alloc::{AllocError, Global};
 use std::mem;
 use std::sync::Arc;
 
-/// Whether a history of so many events has no room for the two events of one more loan.
+/// Two events are kept for each loan that is out.
 fn is_full_for_loan(events: usize, tasks: &[Task]) -> bool
     requires { events + 2 * count_out tasks.now ≤ 2 ^ 40 }
     ensures { result ≡ full_for_loan_of events tasks.now }
@@ -26,7 +26,7 @@ fn is_full_for_loan(events: usize, tasks: &[Task]) -> bool
     events as u64 + 2 * count_out(tasks) as u64 > LIMIT - 2
 }
 
-/// Whether a process may be lent for a quantum of instructions, and one more, where so many Enters were served.
+/// Whether a process may be lent for a quantum, by the words of `Core::lend`, where so many Enters were served.
 fn is_lendable(task: &Task, served: u64, quantum: u32) -> bool
     ensures { result ≡ is_fit quantum served task.now }
 {
@@ -38,7 +38,6 @@ fn is_lendable(task: &Task, served: u64, quantum: u32) -> bool
         && !task.is_asleep(served)
 }
 
-/// The place of the first of these processes that may be lent.
 fn first_lendable(tasks: &[Task], served: u64, quantum: u32) -> Option<usize>
     ensures { result ≡ position (is_fit quantum served) tasks.now }
 {
@@ -47,14 +46,12 @@ fn first_lendable(tasks: &[Task], served: u64, quantum: u32) -> Option<usize>
         .position(|task| is_lendable(task, served, quantum))
 }
 
-/// The tasks after the first so many.
 fn tasks_after(tasks: &[Task], count: usize) -> &[Task]
     ensures { result.now ≡ drop count tasks.now }
 {
     &tasks[count.min(tasks.len())..]
 }
 
-/// The first so many tasks.
 fn tasks_before(tasks: &[Task], count: usize) -> &[Task]
     ensures { result.now ≡ take count tasks.now }
 {
@@ -71,8 +68,8 @@ fn next_lendable(tasks: &[Task], from: usize, served: u64, quantum: u32) -> Opti
     }
 }
 
-/// Lends a process: its machine leaves, and a copy stays, which tells from which state it ran and is shared with the loan.
-/// Where memory runs out nothing has changed.
+/// Lends a process: its machine leaves. A copy stays, which the loan shares, and which tells from which state it ran. Where memory
+/// runs out nothing has changed.
 fn lend_task(alloc: Global, task: &mut Task, quantum: u32) -> Result<Loan, Refused>
     requires here { out_of task.old ≡ None }
     requires room { (machine_of task.old).count + quantum < 2 ^ 40 }
@@ -83,7 +80,7 @@ fn lend_task(alloc: Global, task: &mut Task, quantum: u32) -> Result<Loan, Refus
     ensures same { OnErr result (task.new ≡ task.old) }
 {
     let number = task.loans + 1;
-    let copy = task.machine().try_clone(alloc)?;
+    let copy = task.machine().still(alloc)?;
     let began = Arc::new(alloc, copy).map_err(AllocError::from)?;
     let out = Whereabouts::Out {
         began: Arc::try_clone(&began)?,
@@ -103,7 +100,6 @@ fn lend_task(alloc: Global, task: &mut Task, quantum: u32) -> Result<Loan, Refus
 }
 
 impl Running {
-    /// The place of the process that is lent next for a quantum of instructions, if one may be.
     pub(crate) fn next_lendable(&self, quantum: u32) -> Option<usize>
         ensures { result ≡ next_fit quantum self.now.system.served self.now.last_lent self.now.tasks.items }
     {
@@ -111,10 +107,7 @@ impl Running {
         next_lendable(&self.tasks, from, self.system.served, quantum)
     }
 
-    /// Lends the first lendable process after the one last lent, by rising number and round again, to run at most a
-    /// quantum of instructions. A process is lendable where it has not ended, is not lent, does not wait, and has room for
-    /// quantum + 1 more instructions. None where there is none. Refused: Budget, where the history has no room for the two
-    /// events of one more loan; OutOfMemory. Nothing joins the history.
+    /// As `Core::lend`. The clauses speak of every boot of which these are the parts.
     pub fn lend(&mut self, quantum: u32) -> Result<Option<Loan>, Refused>
         requires { (b : Boot) × Stands b self.old }
         ensures stands { (b : Boot) → Stands b self.old → Stands b self.new }

@@ -1,8 +1,11 @@
-//! One event at a time on the parts of a running kernel.
+//! Events, one at a time, on the parts of a running kernel. Read `Running` first, then its `apply`. An Enter (system call or trap)
+//! goes through three files: `plan` finds what it comes to, `room` takes all memory for it, and `finishing` carries it out and
+//! cannot fail.
 #![tactic(auto)]
 
 mod apply;
 mod booting;
+mod cones;
 mod enter;
 mod finishing;
 mod lend;
@@ -22,6 +25,7 @@ mod views;
 mod whereabouts;
 
 pub use booting::Program;
+pub use cones::ConeFault;
 pub use kernel_model::{Answer, Event, Outcome, Refused, Standing};
 pub use loan::{Done, Loan, Rejected};
 pub use running::Running;

@@ -7,8 +7,8 @@ use machine::Machine;
 use machine_model::Stop;
 use std::sync::Arc;
 
-/// A machine that is lent out, to run at most `quantum` instructions. `number` is the loan's number among those of the
-/// process, from 1; `began` is the state from which it runs, shared with the kernel.
+/// A machine that is lent out (dispatched), to run at most `quantum` instructions. `number` is the loan's number among those of the
+/// process, from 1. `began` is the state from which it runs, shared with the kernel.
 #[derive(Drop)]
 pub struct Loan {
     pub pid: u32,
@@ -20,8 +20,8 @@ pub struct Loan {
     ghost budget: { began.value.count + quantum < 2 ^ 40 },
 }
 
-/// What a loan came to. Its type keeps that the machine is `count` instructions of the table after `began`, and that it
-/// stands at `stop`, or that `stop` is Limit and `count` the quantum.
+/// What a loan came to. Its type keeps that the machine is `count` instructions of the table after `began`. It stands at `stop`, or
+/// `stop` is Limit and `count` the quantum.
 #[derive(Drop)]
 pub struct Done {
     pub pid: u32,

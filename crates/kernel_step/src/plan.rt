@@ -1,13 +1,14 @@
 //! What an Enter comes to, found before anything changes.
 ghost use Rattle.std.specs.Prelude.{◌≡◌, ◌+◌, ◌<◌, ◌≤◌, ◌^◌, ◌∷◌, length, IfOk, Some, None, true, is_some};
 ghost use Rattle.machine_model.specs.Numbers.{cause_number};
-ghost use Rattle.machine_model.specs.States.{stands_at, replied};
+ghost use Rattle.machine_model.specs.States.{stands_at};
+ghost use Rattle.machine_model.specs.Replies.{replied};
 ghost use Rattle.processes.specs.Parts.{descriptors_in, part_at};
 ghost use Rattle.kernel_model.specs.Shown.{end_in};
 ghost use Rattle.kernel_model.specs.Steps.{zero_reply};
 ghost use Rattle.withheld.specs.Withheld.{whats};
 ghost use Rattle.kernel_model.specs.declared.carrier.Carrier.TheVariants.{Proc};
-ghost use Rattle.kernel_step.specs.Entering.{sight_in, writes_of, MayPlan, AreSteps, IsSpare, PlansEnter, IsEntering, IsChild};
+ghost use Rattle.kernel_step.specs.Entering.{sight_in, writes_of, in_image_by, MayBeTold, MayPlan, AreSteps, IsSpare, PlansEnter, IsEntering, IsChild};
 ghost use Rattle.kernel_step.specs.Ready.{MayEnter};
 
 use crate::system::System;
@@ -29,8 +30,9 @@ pub struct Caller<'a> {
     pub machine: &'a Machine,
 }
 
-/// What an Enter of a process comes to: its plan, all carriers that its event reads and writes, and the pipe and the process
-/// that it makes, if it makes one. The process is not told anything yet.
+/// What an Enter of a process comes to; the process is not told anything yet. The carriers are all that its event reads and writes.
+/// `spare` and `child` are the pipe and the process that it makes, if it makes one. The process goes on with `next`, if its reply
+/// has an image.
 #[derive(Drop)]
 pub struct Entering {
     pub pid: u32,
@@ -39,16 +41,15 @@ pub struct Entering {
     pub writes: Vec<Carrier>,
     pub spare: Option<Pipe>,
     pub child: Option<Task>,
+    pub next: Option<Machine>,
 }
 
-/// The status with which a trap of this cause ends its process.
 fn trap_status(cause: Cause) -> u32
     ensures { result ≡ 256 + cause_number cause }
 {
     256 + u32::from(cause.number())
 }
 
-/// The descriptors of a process that is there.
 fn descriptors_of(processes: &ProcTable, pid: u32) -> &Descriptors
     requires from_1 { 0 < pid }
     requires there { pid ≤ length processes.now.parts }
@@ -75,7 +76,7 @@ fn plan_enter(system: &System, caller: &Caller<'_>, stop: Stop) -> Result<Plan, 
     }
 }
 
-/// The carriers of an event of a process: its own, and these.
+/// The process's own carrier, and these.
 fn with_own(alloc: Global, pid: u32, carriers: &[Carrier]) -> Result<Vec<Carrier>, AllocError>
     ensures { IfOk result (λ all. all.items ≡ Proc pid ∷ carriers.now) }
 {
@@ -141,8 +142,30 @@ fn prepare_child(
     Ok(Some(Task::made(pid, machine, trace)))
 }
 
+/// The machine with which a process goes on that is told this, if its reply has an image.
+fn prepare_next(
+    alloc: Global,
+    verdict: &Verdict,
+    machine: &Machine,
+) -> Result<Option<Machine>, AllocError>
+    requires fine { MayBeTold machine.now verdict.now }
+    requires budget { machine.now.count < 2 ^ 40 }
+    ensures { IfOk result (λ next. next ≡ in_image_by machine.now verdict.now) }
+{
+    let Verdict::Replies(reply) = verdict else {
+        return Ok(None);
+    };
+    match &reply.image {
+        Some(image) => {
+            let next = machine.entered(alloc, image)?;
+            Ok(Some(next))
+        }
+        None => Ok(None),
+    }
+}
+
 impl Entering {
-    /// What an Enter of a process comes to whose trace is this.
+    /// Finds what an Enter comes to of a process whose trace is this; nothing changes. Refused for want of memory alone.
     pub fn new(system: &System, caller: &Caller<'_>, trace: &Trace) -> Result<Entering, AllocError>
         requires { MayEnter system.now caller.now.pid caller.now.machine.now trace.now }
         ensures { IfOk result (λ e. IsEntering (sight_in system.now) caller.now.pid caller.now.machine.now trace.now e) }
@@ -154,6 +177,7 @@ impl Entering {
         let writes = all_writes(alloc, caller.pid, &plan)?;
         let spare = spare_pipe(alloc, &plan.pipes)?;
         let child = prepare_child(alloc, plan.child, caller.machine, trace)?;
+        let next = prepare_next(alloc, &plan.verdict, caller.machine)?;
         Ok(Entering {
             pid: caller.pid,
             plan,
@@ -161,6 +185,7 @@ impl Entering {
             writes,
             spare,
             child,
+            next,
         })
     }
 }

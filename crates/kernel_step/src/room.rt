@@ -46,14 +46,15 @@ fn change_files(files: &mut FileTable, change: &Option<Change>) -> Result<(), Al
     }
 }
 
-/// Takes the memory that an Enter of this plan takes of what is shared, and does its change of the files, which is the last step
-/// that may fail. Where memory runs out nothing has changed.
+/// Takes the memory that an Enter of this plan takes of what is shared. Then does its change of the files, the last step that may
+/// fail. Where memory runs out nothing has changed.
 fn ready(system: &mut System, pid: u32, plan: &Plan) -> Result<(), AllocError>
     requires from_1 { 0 < pid }
     requires there { pid ≤ length system.old.processes.parts }
     requires fresh { system.old.files.made + 1 < 2 ^ 64 }
     ensures holds { OnOk result (HasRoomForPlan system.new pid plan.now) }
     ensures room { system.old.dependencies.room ≤ system.new.dependencies.room }
+    ensures footprints { system.new.footprints ≡ system.old.footprints }
     ensures done { OnOk result (IsSystemWith (changed_by system.old.files plan.now.change) system.old system.new) }
     ensures err { OnErr result (IsSameSystem system.old system.new) }
 {
@@ -63,8 +64,8 @@ fn ready(system: &mut System, pid: u32, plan: &Plan) -> Result<(), AllocError>
     change_files(&mut system.files, &plan.change)
 }
 
-/// Takes the rest of the memory for an Enter that comes to this, with room for the Turn that a loan's result has before it, and
-/// does its change of the files, which is the last step that may fail. Where memory runs out nothing has changed.
+/// Takes the rest of the memory for an Enter that comes to this, and for the Turn that a loan's result has before it. Then does its
+/// change of the files, the last step that may fail. Where memory runs out nothing has changed.
 fn take_room(
     history: &mut Vec<Event>,
     system: &mut System,
@@ -86,13 +87,15 @@ fn take_room(
         2,
         entering.writes.len() + 1,
     )?;
+    let carriers = entering.plan.reads.len() + entering.writes.len();
+    system.footprints.reserve(1, carriers)?;
     trace.reserve()?;
     ready(system, entering.pid, &entering.plan)?;
     Ok(())
 }
 
-/// Finds what an Enter of a process comes to whose trace is this, takes all memory for it, and for a Turn before it, and does its
-/// change of the files, which is the last step that may fail. Where memory runs out nothing has changed.
+/// Finds what an Enter comes to of a process whose trace is this, and takes all memory for it and for a Turn before it. Then does
+/// its change of the files, the last step that may fail. Where memory runs out nothing has changed.
 pub fn prepare(
     history: &mut Vec<Event>,
     system: &mut System,

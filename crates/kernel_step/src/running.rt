@@ -8,8 +8,8 @@ use crate::task::Task;
 use crate::tasks::is_full;
 use kernel_model::Event;
 
-/// The parts of a running kernel, as its events leave them. What it was booted from they do not have: contracts speak of every boot
-/// of which they are the parts.
+/// The parts of a running kernel, as its events leave them. What it was booted from is not among them. Contracts speak of every
+/// boot of which they are the parts.
 pub struct Running {
     /// The accepted events, in order.
     pub(crate) history: Vec<Event>,
@@ -42,7 +42,7 @@ impl Running {
         is_full(self.history.len(), &self.tasks)
     }
 
-    /// What all processes share alone; the rest is let go.
+    /// What all processes share, without the rest.
     pub(crate) fn into_system(self) -> System
         ensures { result ≡ self.system }
     {

@@ -19,11 +19,11 @@ use crate::tasks::place_of;
 use crate::turn::{note_own, reserve};
 use crate::whereabouts::Whereabouts;
 use disk_model::{checkpoints_fit, made_files_change};
+use footprints::footprints_grow;
 use kernel_model::{Answer, Event, Refused, tables_keep_their_limits};
 use machine::Machine;
 use pipes::{ends_grow_by_one, steps_are_shown};
 
-/// Whether a result is of the loan that the process is out on.
 fn is_of_loan(task: &Task, done: &Done) -> bool
     ensures { IsTrue result ↔ IsLoanOf task.now done.now }
 {
@@ -35,7 +35,6 @@ fn is_of_loan(task: &Task, done: &Done) -> bool
     }
 }
 
-/// The process is back, with the machine that it was lent by.
 fn come_back(task: &mut Task, machine: Machine)
     ensures back { IsBack machine task.old task.new }
     ensures trace { task.new.trace ≡ task.old.trace }
@@ -43,7 +42,7 @@ fn come_back(task: &mut Task, machine: Machine)
     task.whereabouts = Whereabouts::Here(machine);
 }
 
-/// Takes a result back of a task whose machine stands at a call or a trap: it becomes a Turn and an Enter. Answers what the Enter
+/// Takes a result back of a task whose machine stands at a call or a trap: it becomes a Turn and an Enter. Gives what the Enter
 /// came to, and the process that it made.
 fn settle_enter(
     history: &mut Vec<Event>,
@@ -88,9 +87,7 @@ fn settle_enter(
 }
 
 impl Running {
-    /// Takes a loan's result back: it becomes a Turn of its instructions and, where the state reached stands at a call or
-    /// a trap, an Enter. Refused, with the result: Stranger, exactly where it is not of the loan that its process is out
-    /// on (the process is not lent, or the number, the quantum or the state from which it began differs); OutOfMemory.
+    /// As `Core::settle`. The clause speaks of every boot of which these are the parts.
     pub fn settle(&mut self, done: Done) -> Result<Answer, Rejected>
         requires { (b : Boot) × Stands b self.old }
         ensures { (b : Boot) → Stands b self.old → TakesBack b done self.old self.new result }
@@ -100,6 +97,7 @@ impl Running {
         steps_are_shown();
         ends_grow_by_one();
         tables_keep_their_limits();
+        footprints_grow();
         let Some(place) = place_of(&self.tasks, done.pid) else {
             return Err(Rejected {
                 why: Refused::Stranger,
@@ -119,8 +117,8 @@ impl Running {
         }
     }
 
-    /// Takes a result back of the process at this place, whose machine stands nowhere: it becomes a Turn, whose instructions are
-    /// counted with those that ran before. Refused, with nothing changed: OutOfMemory.
+    /// Takes a result back of the process at this place, whose machine stands nowhere: it becomes a Turn. Refused, with nothing
+    /// changed: OutOfMemory.
     fn settle_turn(&mut self, done: Done, place: usize) -> Result<Answer, Rejected>
         requires { MaySettleTurn place self.old }
         ensures done { IfOk result (IsTurnSettled done place self.old self.new) }
@@ -151,8 +149,7 @@ impl Running {
         })
     }
 
-    /// Takes a result back of the process at this place, whose machine stands at a call or a trap: it becomes a Turn, whose
-    /// instructions are counted with those that ran before, and an Enter. Refused, with nothing changed: OutOfMemory.
+    /// As `settle_turn`, of a machine that stands at a call or a trap: an Enter comes after the Turn.
     fn settle_call(&mut self, done: Done, place: usize) -> Result<Answer, Rejected>
         requires { MaySettleCall done place self.old }
         ensures done { IfOk result (IsCallSettled done place self.old self.new) }

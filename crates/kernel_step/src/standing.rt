@@ -11,7 +11,7 @@ use crate::tasks::{count_out, task_of};
 use kernel_model::{Refused, Standing};
 
 impl Running {
-    /// Whether no process is out on loan, and none is lendable for a quantum.
+    /// As `Core::over`.
     pub fn over(&self, quantum: u32) -> bool
         ensures { (b : Boot) → Stands b self.now → result ≡ is_over (kernel_in b self.now) quantum }
     {
@@ -19,7 +19,7 @@ impl Running {
         count_out(&self.tasks) == 0 && next.is_none()
     }
 
-    /// How a process stands. Refused: NoProcess.
+    /// As `Core::standing`.
     pub fn standing(&self, pid: u32) -> Result<Standing, Refused>
         ensures standing { IfOk result (λ standing. (b : Boot) → Stands b self.now → standing ≡ standing_of (kernel_in b self.now) pid) }
         ensures there { OnOk result ((b : Boot) → Stands b self.now → is_some (process_of (kernel_in b self.now) pid) ≡ true) }

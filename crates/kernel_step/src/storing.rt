@@ -14,7 +14,6 @@ use group_commit::{CommitRefusal, Committer};
 use kernel_model::{Answer, Event, Refused};
 use withheld::Withheld;
 
-/// The changes that are not committed, of all changes.
 fn uncommitted(changes: &[Change], committed: u64) -> &[Change]
     ensures { result.now ≡ drop committed changes.now }
 {
@@ -36,8 +35,8 @@ fn cut_refused(committer: &Committer, changes: &[Change], full: bool) -> Option<
     }
 }
 
-/// A group of the first uncommitted changes, or a checkpoint, is submitted to the device. Refused, with nothing changed:
-/// Budget, where the history is full; DiskFailed; GroupInFlight; NothingToCut; OutOfMemory.
+/// Submits a group of the first uncommitted changes, or a checkpoint, to the device. Refused, with nothing changed: Budget, where
+/// the history is full; DiskFailed; GroupInFlight; NothingToCut; OutOfMemory.
 pub fn cut(history: &mut Vec<Event>, system: &mut System, full: bool) -> Result<Answer, Refused>
     requires possible { IsMade system.old.files.living }
     requires formed { AllByRecursion IsFormed (drop system.old.committer.committed system.old.changes.items) }
@@ -73,8 +72,8 @@ fn write_refused(committer: &Committer, at: u32, full: bool) -> Option<Refused>
     None
 }
 
-/// The write in flight that begins there is complete. Answers how many changes are committed then. Refused, with nothing
-/// changed: Budget, where the history is full; NoSuchWrite; OutOfMemory.
+/// The write in flight that begins there is complete. Gives how many changes are committed then. Refused, with nothing changed:
+/// Budget, where the history is full; NoSuchWrite; OutOfMemory.
 pub fn complete(
     history: &mut Vec<Event>,
     full: bool,
@@ -100,8 +99,7 @@ pub fn complete(
     }
 }
 
-/// The write in flight that begins there has failed. Refused, with nothing changed: Budget, where the history is full;
-/// NoSuchWrite; OutOfMemory.
+/// The write in flight that begins there has failed. Refused as `complete` is.
 pub fn fail(
     history: &mut Vec<Event>,
     full: bool,
@@ -127,7 +125,6 @@ pub fn fail(
     }
 }
 
-/// More of all terminals' bytes may be shown, now that so many changes are committed.
 fn show_all(screens: &mut [Withheld<u8>], committed: u64)
     ensures { AreAdvanced committed screens.old screens.new }
 {

@@ -1,5 +1,4 @@
-//! What all processes share: what events rest on, the changes, the files, the pipes, the tapes, the terminals and the disk,
-//! what is kept of all processes beside their machines, and the allocator.
+//! What all processes share: the whole kernel but the tasks and the history.
 ghost use Rattle.std.specs.Prelude.{◌≡◌};
 ghost use Rattle.calls.specs.Sights.{sight_of};
 ghost use Rattle.kernel_step.specs.Entering.{sight_in};
@@ -8,6 +7,7 @@ use calls::{KernelTables, TapeTable};
 use commit_deps::Dependencies;
 use disk_model::Change;
 use files::FileTable;
+use footprints::Footprints;
 use group_commit::Committer;
 use pipes::PipeTable;
 use processes::ProcTable;
@@ -19,6 +19,8 @@ pub struct System {
     /// Where the host's memory comes from.
     pub alloc: Global,
     pub dependencies: Dependencies,
+    /// What each Enter of the history read and wrote.
+    pub footprints: Footprints,
     /// All changes of files so far.
     pub changes: Vec<Change>,
     pub files: FileTable,
@@ -37,6 +39,7 @@ impl Drop for System {
         let System {
             alloc: _,
             dependencies: _dependencies,
+            footprints: _footprints,
             changes: _changes,
             files: _files,
             tapes: _tapes,
@@ -50,13 +53,14 @@ impl Drop for System {
 }
 
 impl System {
-    /// The committer alone; the rest is let go.
+    /// The committer, without the rest.
     pub fn into_committer(self) -> Committer
         ensures { result ≡ self.committer }
     {
         let System {
             alloc: _,
             dependencies: _dependencies,
+            footprints: _footprints,
             changes: _changes,
             files: _files,
             tapes: _tapes,

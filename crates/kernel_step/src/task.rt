@@ -86,7 +86,7 @@ impl Task {
         self.whereabouts.is_out()
     }
 
-    /// Whether the process still waits, where so many Enters did not have to wait.
+    /// Whether the process still waits: no Enter was served since its own had to wait. `served` is how many were.
     pub fn is_asleep(&self, served: u64) -> bool
         ensures { result ≡ is_asleep served self.now.waited }
     {
@@ -96,7 +96,7 @@ impl Task {
         }
     }
 
-    /// How the process stands, where so many Enters did not have to wait.
+    /// As `Core::standing`, where so many Enters were served.
     pub fn standing(&self, served: u64) -> Standing
         ensures { result ≡ standing_in served self.now }
     {

@@ -36,7 +36,7 @@ pub fn task_of(tasks: &[Task], pid: u32) -> Result<&Task, Refused>
     }
 }
 
-/// How many tasks are out on loan.
+/// How many tasks are out on loan. Looks at each task.
 pub fn count_out(tasks: &[Task]) -> usize
     ensures { result ≡ count_out tasks.now }
 {

@@ -1,4 +1,4 @@
-//! A Turn: a process runs.
+//! A Turn, or time slice: a process runs.
 ghost use Rattle.std.specs.Prelude.{◌≡◌, ◌+◌, ◌≤◌, vec_len, vec_capacity, IfOk, IfErr, OnOk, OnErr};
 ghost use Rattle.kernel_model.specs.Answers.{Refuses};
 ghost use Rattle.kernel_model.specs.World.{Boot};
@@ -10,6 +10,7 @@ ghost use Rattle.kernel_step.specs.Tests.{turn_refusal_of};
 use crate::running::Running;
 use crate::tasks::{run_at, turn_place};
 use commit_deps::{Carrier, Dependencies};
+use footprints::footprints_grow;
 use kernel_model::{Answer, Event, Refused};
 use std::alloc::AllocError;
 
@@ -40,16 +41,16 @@ pub fn note_own(dependencies: &mut Dependencies, pid: u32)
 }
 
 impl Running {
-    /// The process runs at most n instructions.
+    /// The process runs at most n instructions. Refused as `Core::apply` says.
     pub(crate) fn turn(&mut self, pid: u32, n: u32) -> Result<Answer, Refused>
         requires { (b : Boot) × Stands b self.old }
         ensures { (b : Boot) → Stands b self.old → Steps b (Event.Turn pid n) self.old self.new result }
     {
+        footprints_grow();
         self.try_turn(pid, n)
     }
 
-    /// The process runs at most n instructions, as a contract over the parts alone has it. The instructions are counted with
-    /// those that ran before. Refused, with nothing changed: NoProcess, Ended, Lent, Budget, OutOfMemory.
+    /// As `turn`, by a contract over the parts alone.
     fn try_turn(&mut self, pid: u32, n: u32) -> Result<Answer, Refused>
         requires { MayTryTurn self.old }
         ensures done { IfOk result (IsTurnAccepted pid n self.old self.new) }

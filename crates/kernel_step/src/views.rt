@@ -19,7 +19,6 @@ use machine_model::Reply;
 use simdisk::SimDisk;
 use withheld::Withheld;
 
-/// Whether some screen holds a byte back.
 fn is_any_held_back(screens: &[Withheld<u8>]) -> bool
     ensures { result ≡ list_any holds_back screens.now }
 {
@@ -27,8 +26,7 @@ fn is_any_held_back(screens: &[Withheld<u8>]) -> bool
 }
 
 impl Running {
-    /// The bytes that a terminal, 0 to 7, shows: the longest prefix of those written to it that rests on committed changes
-    /// alone.
+    /// As `Core::shown`.
     pub fn shown(&self, terminal: u32) -> &[u8]
         requires kept { (b : Boot) × Stands b self.now }
         requires there { terminal < terminal_count }
@@ -38,8 +36,7 @@ impl Running {
         screen.released()
     }
 
-    /// The replies to a process's calls that are handed out: the longest prefix that rests on committed changes alone.
-    /// Refused: NoProcess.
+    /// As `Core::trace`.
     pub fn trace(&self, pid: u32) -> Result<&[Reply], Refused>
         ensures replies { IfOk result (λ rs. (b : Boot) → Stands b self.now → rs.now ≡ replies_in (handed (now (kernel_in b self.now)) pid)) }
         ensures there { OnOk result ((b : Boot) → Stands b self.now → is_some (process_of (kernel_in b self.now) pid) ≡ true) }
@@ -49,8 +46,7 @@ impl Running {
         Ok(task.trace.replies())
     }
 
-    /// The status with which a process ended, where all its replies are handed out and its end rests on committed changes
-    /// alone. Refused: NoProcess.
+    /// As `Core::ended`.
     pub fn ended(&self, pid: u32) -> Result<Option<u32>, Refused>
         ensures status { IfOk result (λ status. (b : Boot) → Stands b self.now → status ≡ end_in (handed (now (kernel_in b self.now)) pid)) }
         ensures there { OnOk result ((b : Boot) → Stands b self.now → is_some (process_of (kernel_in b self.now) pid) ≡ true) }
@@ -60,28 +56,28 @@ impl Running {
         Ok(task.trace.ended())
     }
 
-    /// The accepted events, in order.
+    /// As `Core::history`.
     pub fn history(&self) -> &[Event]
         ensures { (b : Boot) → result.now ≡ (kernel_in b self.now).history }
     {
         &self.history
     }
 
-    /// How many changes are committed.
+    /// As `Core::committed`.
     pub fn committed(&self) -> u64
         ensures { (b : Boot) → Stands b self.now → result ≡ committed_in (now (kernel_in b self.now)) }
     {
         self.system.committer.committed()
     }
 
-    /// How many changes of files there are, committed or not.
+    /// As `Core::changes`.
     pub fn changes(&self) -> u64
         ensures { (b : Boot) → Stands b self.now → result ≡ changes_in (now (kernel_in b self.now)) }
     {
         self.system.changes.len() as u64
     }
 
-    /// How many instructions the history's Turns ran, those of loans' results among them.
+    /// As `Core::ran`.
     pub fn ran(&self) -> u64
         ensures sum { (b : Boot) → Stands b self.now → result ≡ ran_by_turns (kernel_in b self.now) }
         ensures few { (b : Boot) → Stands b self.now → result ≤ 2 ^ 50 }
@@ -89,7 +85,7 @@ impl Running {
         self.ran
     }
 
-    /// Whether a Cut is wanted: a byte of some terminal is held back, no group is in flight, and no write has failed.
+    /// As `Core::wants_cut`.
     pub fn wants_cut(&self) -> bool
         ensures { (b : Boot) → Stands b self.now → result ≡ is_cut_wanted (now (kernel_in b self.now)) }
     {
@@ -97,22 +93,21 @@ impl Running {
         self.system.committer.wants_cut(held)
     }
 
-    /// The least offset on the disk at which a write in flight begins.
+    /// As `Core::in_flight`.
     pub fn in_flight(&self) -> Option<u32>
         ensures { (b : Boot) → Stands b self.now → result ≡ least_in_flight (now (kernel_in b self.now)) }
     {
         self.system.committer.in_flight()
     }
 
-    /// Whether a write has failed.
+    /// Whether a write has failed in this run. No later Cut is accepted then.
     pub fn has_failed(&self) -> bool
         ensures { (b : Boot) → Stands b self.now → result ≡ not (is_empty (now (kernel_in b self.now)).storage.device.failed) }
     {
         self.system.committer.has_failed()
     }
 
-    /// The disk that a crash leaves now, where the ranges of writes in flight or failed take these bytes, by rising place,
-    /// again and again from the start; an empty fill leaves the completed bytes. Takes no memory.
+    /// The device that `Core::halt` gives; what is known of its files is said there.
     pub fn crash(self, fill: &[u8]) -> SimDisk
         ensures { (b : Boot) → Stands b self → result ≡ quiet (crashed (now (kernel_in b self)).storage.device fill.now) }
     {

@@ -26,7 +26,7 @@ impl Whereabouts {
         }
     }
 
-    /// Whether the machine is out on loan.
+    /// Whether the machine is with a borrower.
     pub fn is_out(&self) -> bool
         ensures { result ≡ is_some (quantum_in self.now) }
     {

@@ -28,8 +28,8 @@ carry_out-requires-clause-ready c =
 pub carry_out-requires-clause-noting : goal.carry_out-requires-clause-noting
 carry_out-requires-clause-noting c =
     let room = c.in_ok-entering.ensures.holds.writes in
-    may-note c.machine-machine.result.now c.args.task.now.trace c.args.system.now c.prepare.new.system c.prepare.new.system.dependencies c.args.pid
-    c.in_ok-entering.entering c.in_ok-entering.ensures.prepared (omega (arith, room))
+    may-note c.machine-machine.result.now c.args.task.now.trace c.prepare.new.trace c.args.system.now c.prepare.new.system c.prepare.new.system.dependencies c.args.pid
+    c.prepare.new.history c.in_ok-entering.entering c.in_ok-entering.ensures.prepared c.in_ok-entering.ensures.holds (omega (arith, room))
 
 pub returns-clause-done : goal.returns-clause-done
 returns-clause-done c =

@@ -1,5 +1,7 @@
 -- The event is noted, and then the rest is done.
-use Rattle.std.proofs.Common.{◌≡◌, ℕ, length, subst, rules}
+use Rattle.std.proofs.Common.{◌≡◌, ◌∙◌, ◌++◌, ◌∷◌, [], ℕ, List, length, ap, subst, rules}
+use Rattle.footprints.specs.Kept.{footprint}
+use Rattle.kernel_model.specs.declared.carrier.Carrier.{Carrier}
 use Rattle.kernel_step.specs.Entering.{entry_of, IsNoted}
 use Rattle.kernel_step.proofs.finishing.carry_out.Goals as goal
 
@@ -26,6 +28,11 @@ returns-clause-carried c =
     record {
       mark = mark;
       dependencies = noted;
+      footprints = c.note.new.self;
+      kept =
+          c.note.ensures.footprints
+          ∙ ap (λ (cs : List Carrier). s.footprints.footprints ++ footprint cs c.deref-2.result.now ∷ []) c.deref.ensures.value
+          ∙ ap (λ (cs : List Carrier). s.footprints.footprints ++ footprint e.plan.reads.items cs ∷ []) (c.deref-2.ensures.value ∙ c.requires.noting.writes);
       noted = subst (λ (n : ℕ). IsNoted (entry_of e.pid e.plan) n s.dependencies.marks noted.marks mark) count c.note_enter-mark.ensures;
       rest = done.system;
       told = done.task;

@@ -21,7 +21,7 @@ tell_child-requires c = c.requires.child
 
 pub tell-outcome-requires : goal.tell-outcome-requires
 tell-outcome-requires c =
-    subst (λ (verdict : Verdict). TaskMayBeTold verdict c.args.task.now)
+    subst (λ (verdict : Verdict). TaskMayBeTold verdict c.args.entering.next c.args.task.now)
     (sym c.into_verdict_and_change-verdict.ensures.verdict) c.requires.task
 
 pub returns-clause-system : goal.returns-clause-system
@@ -29,6 +29,7 @@ returns-clause-system c =
     let same = c.change_system.ensures.system in
     record {
       marks = ap (λ (s : System). s.dependencies) same;
+      footprints = ap (λ (s : System). s.footprints) same;
       changes =
           c.keep.ensures
           ∙ ap (λ (s : System). s.changes.items ++ option_to_list c.into_verdict_and_change-verdict.result.1) same

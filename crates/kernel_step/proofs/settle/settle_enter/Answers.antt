@@ -24,8 +24,8 @@ pub carry_out-outcome-requires-clause-noting : goal.carry_out-outcome-requires-c
 carry_out-outcome-requires-clause-noting c =
     let room = c.in-Ok.ensures.holds.writes in
     let left = c.note_own.ensures.room in
-    may-note c.args.done.machine c.args.task.now.trace c.args.system.now c.prepare.new.system c.note_own.new.dependencies c.args.done.pid c.in-Ok.entering
-    c.in-Ok.ensures.prepared (omega (arith, room, left))
+    may-note c.args.done.machine c.args.task.now.trace c.prepare.new.trace c.args.system.now c.prepare.new.system c.note_own.new.dependencies c.args.done.pid
+    c.prepare.new.history c.in-Ok.entering c.in-Ok.ensures.prepared c.in-Ok.ensures.holds (omega (arith, room, left))
 
 pub returns-clause-done : goal.returns-clause-done
 returns-clause-done c =

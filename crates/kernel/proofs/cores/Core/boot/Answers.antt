@@ -5,14 +5,13 @@ use Rattle.std.proofs.lemmas.List.{length-map}
 use Rattle.disk_model.specs.declared.change.NamedFile.{NamedFile}
 use Rattle.disk_model.specs.Held.{IsHeldTo}
 use Rattle.kernel_model.specs.Bytes.{ProgramsHoldBytes, TapesHoldBytes}
-use Rattle.kernel_model.specs.Answers.{AllAccepted}
+use Rattle.kernel_model.specs.Answers.{AllAccepted, at_boot}
 use Rattle.kernel_model.specs.World.{BootProgram, Boot, HoldsItsFiles, tape_count, terminal_count}
 use Rattle.kernel_model.specs.declared.event.Event.{Event}
 use Rattle.kernel_step.specs.Booting.{program_of, boot_with, nothing_lent}
 use Rattle.kernel_step.specs.Stands.{Stands}
 use Rattle.kernel_step.specs.declared.booting.Program.{Program}
 use Rattle.kernel.specs.Booting.{boot_of}
-use Rattle.kernel.specs.Keeping.{at_boot}
 use Rattle.kernel_model.specs.Rows.{most_processes}
 use Rattle.kernel.specs.Sums.{process_of_turn, process_of_enter, sum_of_turns, sum_of_enters}
 use Rattle.kernel.specs.declared.cores.Booted.{Booted}

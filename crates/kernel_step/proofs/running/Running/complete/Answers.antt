@@ -28,10 +28,10 @@ returns c = λ b h.
     record {
       stands = record {
         parts =
-            completed-core c.silent_events_leave_marks.ensures b c.args.self.now.history.items c.complete.new.history.items c.args.self.now.tasks.items c.release.new.tasks.items
+            completed-core (record { marks = c.silent_events_leave_marks.ensures; footprints = c.footprints_grow.ensures.disk }) b c.args.self.now.history.items c.complete.new.history.items c.args.self.now.tasks.items c.release.new.tasks.items
             c.args.self.now.system (record c.args.self.now.system { screens = c.release.new.screens; committer = c.complete.new.committer }) c.args.at c.in_ok-committed.committed c.is_full-full.result h.parts c.is_full-full.ensures
             c.in_ok-committed.ensures.done c.in_ok-committed.ensures.history c.release.ensures.tasks c.release.ensures.screens refl refl refl refl
-            (record { pipes = refl; parts = refl; served = refl });
+            (record { footprints = refl; pipes = refl; parts = refl; served = refl });
         counted =
             counted-other b c.args.self.now.history.items c.complete.new.history.items c.args.self.now.tasks.items c.release.new.tasks.items c.args.self.now.last_lent c.args.self.now.ran (Complete c.args.at)
             (Ok (answer_of.Completed c.in_ok-committed.committed)) refl h.counted applies;

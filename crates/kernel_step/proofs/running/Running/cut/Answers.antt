@@ -23,7 +23,7 @@ returns c = λ b h.
       stands = record {
         parts =
             subst (λ (s : System). KeepsRun b c.cut.new.history.items c.args.self.now.tasks.items s) (sym c.cut.ensures.only)
-            (cut-core c.silent_events_leave_marks.ensures b c.args.self.now.history.items c.cut.new.history.items c.args.self.now.tasks.items c.args.self.now.system c.cut.new.system.committer
+            (cut-core (record { marks = c.silent_events_leave_marks.ensures; footprints = c.footprints_grow.ensures.disk }) b c.args.self.now.history.items c.cut.new.history.items c.args.self.now.tasks.items c.args.self.now.system c.cut.new.system.committer
             c.is_full-full.result c.cut.result h.parts c.is_full-full.ensures c.cut.ensures.done c.cut.ensures.same);
         counted =
             counted-other b c.args.self.now.history.items c.cut.new.history.items c.args.self.now.tasks.items c.args.self.now.tasks.items c.args.self.now.last_lent c.args.self.now.ran Cut c.cut.result refl h.counted applies;

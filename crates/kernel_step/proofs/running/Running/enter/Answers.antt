@@ -15,5 +15,5 @@ try_enter-requires c = record {
 
 pub returns : goal.returns
 returns c = λ b h.
-    enter-steps-run b c.args.self.now c.try_enter.new.self c.args.pid c.try_enter.result h
+    enter-steps-run c.footprints_grow.ensures.enter b c.args.self.now c.try_enter.new.self c.args.pid c.try_enter.result h
     c.try_enter.ensures.done c.try_enter.ensures.refused c.try_enter.ensures.same

@@ -12,7 +12,7 @@ returns c = λ b h.
     record {
       stands = record {
         parts =
-            fail-core c.silent_events_leave_marks.ensures b c.args.self.now.history.items c.fail.new.history.items c.args.self.now.tasks.items c.args.self.now.system c.fail.new.committer c.args.at
+            fail-core (record { marks = c.silent_events_leave_marks.ensures; footprints = c.footprints_grow.ensures.disk }) b c.args.self.now.history.items c.fail.new.history.items c.args.self.now.tasks.items c.args.self.now.system c.fail.new.committer c.args.at
             c.is_full-full.result c.fail.result h.parts c.is_full-full.ensures c.fail.ensures.done c.fail.ensures.history c.fail.ensures.same_history c.fail.ensures.same_committer;
         counted =
             counted-other b c.args.self.now.history.items c.fail.new.history.items c.args.self.now.tasks.items c.args.self.now.tasks.items c.args.self.now.last_lent c.args.self.now.ran (Fail c.args.at) c.fail.result refl h.counted applies;

@@ -12,15 +12,15 @@ use Rattle.kernel_step.proofs.running.Running.new.Goals as goal
 
 pub returns-clause-stands : goal.returns-clause-stands
 returns-clause-stands c = λ disk gate begins.
-    let s : System = record { alloc = c.args.alloc; dependencies = c.new-2.result; changes = c.new-3.result; files = c.args.files; tapes = c.new-4.result; pipes = c.in_ok-pipes.pipes; processes = c.in_ok-processes.processes; served = 0; screens = c.in_ok-screens.screens; committer = c.args.committer } in
+    let s : System = record { alloc = c.args.alloc; dependencies = c.new-2.result; footprints = c.new-3.result; changes = c.new-4.result; files = c.args.files; tapes = c.new-5.result; pipes = c.in_ok-pipes.pipes; processes = c.in_ok-processes.processes; served = 0; screens = c.in_ok-screens.screens; committer = c.args.committer } in
     record {
       parts =
-          subst (λ (es : List Event). KeepsRun (boot_with c.args.programs.now c.args.tapes.value.items c.args.files.living disk gate) es c.in_ok-tasks.tasks.items s) (sym c.new-5.ensures.items)
+          subst (λ (es : List Event). KeepsRun (boot_with c.args.programs.now c.args.tapes.value.items c.args.files.living disk gate) es c.in_ok-tasks.tasks.items s) (sym c.new-6.ensures.items)
           (first-core c.args.programs.now c.args.tapes.value.items c.args.files.living disk gate c.in_ok-tasks.tasks.items s
           c.requires.made c.in_ok-tasks.ensures c.in_ok-screens.ensures
-          c.new-2.ensures c.new-3.ensures.items c.requires.numbered c.new-4.ensures c.in_ok-processes.ensures c.in_ok-pipes.ensures (cc) begins);
+          c.new-2.ensures c.new-3.ensures c.new-4.ensures.items c.requires.numbered c.new-5.ensures c.in_ok-processes.ensures c.in_ok-pipes.ensures (cc) begins);
       counted =
-          subst (λ (es : List Event). IsCounted (boot_with c.args.programs.now c.args.tapes.value.items c.args.files.living disk gate) es 0) (sym c.new-5.ensures.items)
+          subst (λ (es : List Event). IsCounted (boot_with c.args.programs.now c.args.tapes.value.items c.args.files.living disk gate) es 0) (sym c.new-6.ensures.items)
           (first-counted c.args.programs.now c.args.tapes.value.items c.args.files.living disk gate c.requires.few);
     }
 

@@ -84,7 +84,7 @@ settle_call-requires c =
 pub returns-in-None : goal.returns-in-None
 returns-in-None c = λ b h.
     let at = (goal.at.returns-in-None c).After-index-task in
-    turn-settles b c.args.self.now c.settle_turn.new.self c.in-Some.place c.index-task.result.now c.args.done c.settle_turn.result h (placed at).number (there at)
+    turn-settles c.footprints_grow.ensures.turn b c.args.self.now c.settle_turn.new.self c.in-Some.place c.index-task.result.now c.args.done c.settle_turn.result h (placed at).number (there at)
     (of-loan c.index-task.result.now c.args.done c.is_of_loan.result c.if-not-is_of_loan.false c.is_of_loan.ensures.0)
     (sym c.stopped.ensures ∙ c.in-None.is) c.settle_turn.ensures.done c.settle_turn.ensures.same c.settle_turn.ensures.back
 
@@ -92,6 +92,6 @@ pub returns-in-Some-stopped : goal.returns-in-Some-stopped
 returns-in-Some-stopped c = λ b h.
     let at = (goal.at.returns-in-Some-stopped c).After-index-task in
     call-settles (record { changes = c.made_files_change.ensures; pipes = record { shown = c.steps_are_shown.ensures.next; grown = c.ends_grow_by_one.ensures } })
-    b c.args.self.now c.settle_call.new.self c.in-Some.place c.index-task.result.now c.args.done c.in-Some-stopped.field-0 c.settle_call.result h (placed at).number (there at)
+    c.footprints_grow.ensures.turn c.footprints_grow.ensures.enter b c.args.self.now c.settle_call.new.self c.in-Some.place c.index-task.result.now c.args.done c.in-Some-stopped.field-0 c.settle_call.result h (placed at).number (there at)
     (of-loan c.index-task.result.now c.args.done c.is_of_loan.result c.if-not-is_of_loan.false c.is_of_loan.ensures.0)
     (sym c.stopped.ensures ∙ c.in-Some-stopped.is) c.settle_call.ensures.done c.settle_call.ensures.same c.settle_call.ensures.back

@@ -27,6 +27,7 @@ returns-clause-done c =
       tasks = refl {A = List Task};
       system = record {
         noted = subst (λ (ms : List Marked). IsOwnNoted c.args.done.pid ms c.note_own.new.dependencies.marks) c.reserve.ensures.same_marks c.note_own.ensures.noted;
+        footprints = refl;
         changes = refl {A = List Change};
         files = refl;
         tapes = refl;

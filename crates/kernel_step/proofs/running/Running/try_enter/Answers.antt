@@ -57,7 +57,7 @@ enter_task-requires-clause-fine c =
 runs : (c : After-index_mut-task) (u : Task) (s' : System) (outcome : Outcome) (child : Option Task)
     → IsDone c.args.pid c.index_mut-task.result.now u c.args.self.now.system s' outcome child
     → (w : World) → Mirrors w c.args.self.now.tasks.items c.args.self.now.system
-    → IsRun w c.args.pid c.args.self.now.tasks.items (slice_set c.args.self.now.tasks.items c.in_ok-place.place u ++ option_to_list child) s' outcome
+    → IsRun w c.args.pid c.args.self.now.tasks.items (slice_set c.args.self.now.tasks.items c.in_ok-place.place u ++ option_to_list child) c.args.self.now.system s' outcome
 runs c u s' outcome child done w h =
     done-runs (record { changes = c.made_files_change.ensures; pipes = record { shown = c.steps_are_shown.ensures.next; grown = c.ends_grow_by_one.ensures } }) w c.args.self.now.tasks.items c.args.self.now.system s' c.args.pid c.in_ok-place.place c.is_full-full.result c.index_mut-task.result.now u outcome child
     h (placed c).number (there c) (fine c) done
@@ -76,6 +76,7 @@ returns-clause-done c =
           ∙ subst (λ (ts : List Task). enter_refusal_of ts c.is_full-full.result c.args.pid ≡ None) c.deref.ensures.value c.in_ok-place.ensures.fine;
       answer = λ w h. c.entered.ensures ∙ ap (λ (o : Outcome). answer_to o) (run w h).outcome_is;
       mirrors = λ w h. subst (λ (ts : List Task). Mirrors (happens w (Enter c.args.pid)) ts c.enter_task.new.system) (sym grown) (run w h).mirrors;
+      footprint = λ w h. (run w h).footprint;
       lendings = λ w h.
           ap (λ (ts : List Task). map lending_of ts) grown
           ∙ (run w h).lendings
@@ -95,6 +96,7 @@ returns-in_err-outcome-clause-same c =
           subst (λ (ts : List Task). Mirrors w (slice_set ts c.in_ok-place.place u) c.enter_task.new.system) (sym c.in_ok-reserve.ensures.items)
           (same-mirrors w tasks c.args.self.now.system c.enter_task.new.system c.in_ok-place.place c.index_mut-task.result.now u at
           c.in_err-outcome.ensures.err.task c.in_err-outcome.ensures.err.system h);
+      footprints = c.in_err-outcome.ensures.err.system.footprints;
       lendings =
           ap (λ (ts : List Task). map lending_of (slice_set ts c.in_ok-place.place u)) c.in_ok-reserve.ensures.items
           ∙ same-lendings tasks c.in_ok-place.place c.index_mut-task.result.now u at c.in_err-outcome.ensures.err.task.loans c.in_err-outcome.ensures.err.task.out;

@@ -11,5 +11,5 @@ try_turn-requires c = record {
 
 pub returns : goal.returns
 returns c = λ b h.
-    turn-steps-run b c.args.self.now c.try_turn.new.self c.args.pid c.args.n c.try_turn.result h
+    turn-steps-run c.footprints_grow.ensures.turn b c.args.self.now c.try_turn.new.self c.args.pid c.args.n c.try_turn.result h
     c.try_turn.ensures.done c.try_turn.ensures.refused c.try_turn.ensures.same
