@@ -7,7 +7,7 @@ use std::{fmt, io};
 /// The most words that are printed at a stop.
 const MOST: u32 = 8;
 
-/// The byte at an address, 0 where there is none.
+/// 0 where there is none.
 fn byte_at(space: &Space, at: u32) -> u8 {
     space.byte(at).unwrap_or(0)
 }
@@ -25,7 +25,6 @@ impl fmt::Display for WordBytes {
     }
 }
 
-/// The four bytes from an address on.
 fn bytes_at(space: &Space, at: u32) -> WordBytes {
     WordBytes([
         byte_at(space, at),
@@ -45,7 +44,7 @@ fn print_bytes<O: Write>(
     writeln!(out, "  {at:08x}:{before} ->{after}")
 }
 
-/// Prints the words of these that changed, where fewer than eight were printed before. Answers how many changed, with those before.
+/// Prints the words of these that changed, where fewer than eight were printed before. Gives how many changed, with those before.
 fn print_changed_words<O: Write>(
     before: &Space,
     after: &Space,
@@ -66,7 +65,7 @@ fn print_changed_words<O: Write>(
     Ok(changed)
 }
 
-/// Prints the words that changed, at most eight, and answers how many changed.
+/// Prints at most eight, and gives how many changed.
 fn print_first_words<O: Write>(
     before: &Space,
     after: &Space,
@@ -80,7 +79,6 @@ fn print_first_words<O: Write>(
     Ok(changed)
 }
 
-/// Prints how many words changed beside the first eight, if there are any.
 fn print_others<O: Write>(changed: u32, out: &mut O) -> io::Result<()> {
     if changed > MOST {
         let more = changed - MOST;

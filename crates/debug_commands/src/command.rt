@@ -46,7 +46,6 @@ impl CommandFault {
     }
 }
 
-/// A command's number.
 fn number_of(word: &str) -> Result<u64, CommandFault> {
     match decimal(word) {
         Some(number) => Ok(number),
@@ -54,7 +53,6 @@ fn number_of(word: &str) -> Result<u64, CommandFault> {
     }
 }
 
-/// A command's address.
 fn address_of(word: &str) -> Result<u32, CommandFault> {
     match hexadecimal(word) {
         Some(at) => Ok(at),

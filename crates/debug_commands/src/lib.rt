@@ -1,5 +1,5 @@
-//! The commands of a debugger, read from a person and answered in text: `debug` is a whole session, `read_trace` the replies
-//! that the program's calls take in it.
+//! The commands of a debugger, read from a person and answered in text. Read `debug` first, a whole session. `read_trace` reads the
+//! replies that the program's calls take in it.
 #![tactic(auto)]
 
 mod changes;

@@ -11,13 +11,12 @@ use std::alloc::Global;
 use std::io;
 use std::io::Write;
 
-/// Prints the trap at which the machine stands.
 fn print_trap<O: Write>(cause: Cause, out: &mut O) -> io::Result<()> {
     let number = cause.number();
     writeln!(out, "trap {number} {cause:?}")
 }
 
-/// Prints what kept a step from being done, if anything did, and answers whether the steps go on.
+/// Prints what kept a step from being done, if anything did. Gives whether the steps go on.
 fn print_step<O: Write>(
     stepped: Result<Stepped, DebugFault>,
     out: &mut O,
@@ -40,7 +39,6 @@ fn step<O: Write>(debugger: &mut Debugger, n: u64, out: &mut O) -> Result<(), Se
     Ok(())
 }
 
-/// Prints why a run stopped.
 fn print_stopped<O: Write>(stopped: Stopped, out: &mut O) -> io::Result<()> {
     match stopped {
         Stopped::Break(number) => writeln!(out, "break {number}"),
@@ -67,7 +65,7 @@ fn go<O: Write>(debugger: &mut Debugger, motion: Motion, out: &mut O) -> Result<
     }
 }
 
-/// Prints where a machine stands, and what is otherwise there than it was before.
+/// Prints where a machine stands, and the registers and the memory that differ from before.
 fn print_stop<O: Write>(
     before: &Machine,
     after: &Machine,

@@ -6,7 +6,6 @@ use std::alloc::Global;
 use std::io;
 use std::io::Write;
 
-/// How many registers there are.
 const REGISTERS: u8 = 32;
 
 /// Prints a register that changed, with the value before and the value after.

@@ -35,7 +35,6 @@ fn print_cleared<O: Write>(
     }
 }
 
-/// Prints where the machine stands, and all its registers.
 fn print_state<O: Write>(
     alloc: Global,
     machine: &Machine,
@@ -151,8 +150,8 @@ fn serve<I: Read, O: Write>(
 }
 
 /// A session with a program at its first state, whose calls take these replies. The commands are read from the input, a line each,
-/// and what one gives is flushed before the next is read: `step N`, `run` (to a breakpoint, a trap, the end of the trace, or 2^40
-/// instructions), `break ADDR`, `clear N`, `rewind N`, `state` and `quit`. The end of the input is `quit`.
+/// and what one gives is flushed before the next is read. They are `step N`, `run`, `break ADDR`, `clear N`, `rewind N`, `state`
+/// and `quit`. A run goes to a breakpoint, a trap, the end of the trace, or 2^40 instructions. The end of the input is `quit`.
 ///
 /// OutOfMemory and InputOutput end a session.
 pub fn debug<I: Read, O: Write>(
@@ -162,7 +161,7 @@ pub fn debug<I: Read, O: Write>(
     input: &mut I,
     out: &mut O,
 ) -> Result<(), SessionFault> {
-    let writable = writable_words(alloc, &image)?;
+    let writable = writable_words(alloc, &image, replies.as_slice())?;
     let mut debugger = Debugger::new(alloc, image, replies)?;
     serve(alloc, &mut debugger, writable.as_slice(), input, out)
 }

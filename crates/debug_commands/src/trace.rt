@@ -1,32 +1,65 @@
 //! Traces: the replies that a program's calls take.
 use crate::fault::SessionFault;
+use byte_list::Bytes;
+use elf32::{ElfFault, parse};
 use line_words::{bytes_of, hexadecimal};
 use machine_model::Reply;
 use std::alloc::{AllocError, Global};
 
-/// What a reply returns, where its bytes go, and the digits of these: of `A0 AT HEX`, or of `A0 -` for no bytes. None where a line
-/// has no such form.
-fn parts_of(line: &str) -> Option<(u32, u32, &str)> {
-    let (a0, stored) = line.split_once(' ')?;
-    let (at, digits) = match stored {
-        "-" => ("00000000", stored),
-        stored => stored.split_once(' ')?,
-    };
-    Some((hexadecimal(a0)?, hexadecimal(at)?, digits))
-}
-
-/// The reply of a line. None where it has no form of one.
-fn reply_of(alloc: Global, line: &str) -> Result<Option<Reply>, AllocError> {
-    let Some((a0, at, digits)) = parts_of(line) else {
-        return Ok(None);
-    };
+/// The reply of a number with bytes for a place, of which these are the digits. None where these have no such form.
+fn plain_reply(alloc: Global, a0: u32, at: u32, digits: &str) -> Result<Option<Reply>, AllocError> {
     match bytes_of(alloc, digits)? {
-        Some(bytes) => Ok(Some(Reply { a0, at, bytes })),
+        Some(bytes) => Ok(Some(Reply {
+            a0,
+            at,
+            bytes,
+            image: None,
+        })),
         None => Ok(None),
     }
 }
 
-/// Adds the reply of a line of this number.
+/// The reply of a call that entered a program, of whose file these are the digits. None where these are no file of an image.
+fn image_reply(alloc: Global, digits: &str) -> Result<Option<Reply>, AllocError> {
+    let Some(file) = bytes_of(alloc, digits)? else {
+        return Ok(None);
+    };
+    match parse(alloc, file.as_slice()) {
+        Ok(image) => Ok(Some(Reply {
+            a0: 0,
+            at: 0,
+            bytes: Bytes::empty(alloc),
+            image: Some(image),
+        })),
+        Err(ElfFault::OutOfMemory) => Err(AllocError),
+        Err(_) => Ok(None),
+    }
+}
+
+/// None where it has no such form.
+fn placed_reply(alloc: Global, a0: u32, stored: &str) -> Result<Option<Reply>, AllocError> {
+    match stored.split_once(' ') {
+        Some(("image", digits)) if a0 == 0 => image_reply(alloc, digits),
+        Some((at, digits)) => match hexadecimal(at) {
+            Some(at) => plain_reply(alloc, a0, at, digits),
+            None => Ok(None),
+        },
+        None => Ok(None),
+    }
+}
+
+/// The reply of a line. None where it has no form of one.
+fn reply_of(alloc: Global, line: &str) -> Result<Option<Reply>, AllocError> {
+    let Some((a0, stored)) = line.split_once(' ') else {
+        return Ok(None);
+    };
+    match (hexadecimal(a0), stored) {
+        (Some(a0), "-") => plain_reply(alloc, a0, 0, "-"),
+        (Some(a0), stored) => placed_reply(alloc, a0, stored),
+        (None, _) => Ok(None),
+    }
+}
+
 fn push_reply(
     alloc: Global,
     replies: &mut Vec<Reply>,
@@ -39,9 +72,10 @@ fn push_reply(
     }
 }
 
-/// Reads a trace: a line for each reply, `A0 -` or `A0 AT HEX`, A0 and AT of eight hexadecimal digits, HEX of pairs of them or `-`
-/// for none. Refused is the first line that has no such form. Lines are counted from 1 and end at a line feed; empty ones and those
-/// that begin with `#` are skipped.
+/// Reads a trace, a line for each reply. `A0 -` and `A0 AT HEX` are replies of a number, without and with bytes. `00000000 image
+/// HEX` is that of a call which entered a program, with the bytes of its file. A0 and AT are eight hexadecimal digits; HEX is pairs
+/// of them, or `-` for none. Lines are counted from 1 and end at a line feed. Empty ones and those that begin with `#` are skipped.
+/// Refused is the first line that has no such form, or whose file is no image; or OutOfMemory.
 pub fn read_trace(alloc: Global, text: &str) -> Result<Vec<Reply>, SessionFault> {
     let mut replies = Vec::new(alloc);
     let mut number = 0usize;

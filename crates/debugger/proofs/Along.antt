@@ -1,7 +1,10 @@
 -- Moves along a trace, one after the other.
-use Rattle.std.proofs.Common.{◌≡◌, ℕ, suc, zero, ◌+◌, ◌-◌, ◌<◌, ◌≤◌, Bool, true, false, cond, List, [], ◌∷◌, length, None, refl, sym, ap, subst, ◌∙◌, arith}
+use Rattle.std.proofs.Common.{◌≡◌, ℕ, suc, zero, ◌+◌, ◌-◌, ◌<◌, ◌≤◌, Bool, true, false, cond, List, [], ◌∷◌, length, Some, None, refl, sym, ap, subst, ◌∙◌, arith}
+use Rattle.std.specs.Prelude.{Option}
 use Rattle.memory_model.specs.Access.{is_writable}
-use Rattle.machine_model.specs.States.{State, Stepped, Goes, Halts, next, replied}
+use Rattle.machine_model.specs.States.{State, Stepped, Goes, Halts, next}
+use Rattle.machine_model.specs.Images.{Program}
+use Rattle.machine_model.specs.Replies.{replied, replied_by}
 use Rattle.machine_model.specs.declared.reply.Reply.{Reply}
 use Rattle.machine_model.specs.declared.stop.Stop.TheVariants.{Limit, Call, Trap}
 use Rattle.machine_model.proofs.Running.{next-count}
@@ -16,12 +19,20 @@ same_move t u e = cc
 rests_not : (why : Halt) (u : Traced) → Rests why ≡ Moves u → ⊥
 rests_not why u e = cc
 
+-- a reply counts as one instruction
+replied-count : (s : State) (r : Reply) → (replied s r).count ≡ s.count + 1
+replied-count s r = by r.image
+  where
+    by : (o : Option Program) → (replied_by s r o).count ≡ s.count + 1
+    by None = refl
+    by (Some p) = refl
+
 call-count : (s : State) (left : List Reply) (u : Traced) → next_at_call s left ≡ Moves u → u.state.count ≡ s.count + 1
 call-count s [] u e = absurd (rests_not halt.EndOfTrace u e)
 call-count s (r ∷ rs) u e = by (is_writable s.hart.memory r.at (length r.bytes)) e
   where
     by : (b : Bool) → cond b (Moves (traced (replied s r) rs)) (Rests halt.EndOfTrace) ≡ Moves u → u.state.count ≡ s.count + 1
-    by true e = sym (ap (λ (v : Traced). v.state.count) (same_move (traced (replied s r) rs) u e))
+    by true e = sym (ap (λ (v : Traced). v.state.count) (same_move (traced (replied s r) rs) u e)) ∙ replied-count s r
     by false e = absurd (rests_not halt.EndOfTrace u e)
 
 -- a move counts
@@ -107,3 +118,8 @@ leads-then m n f g h a b =
 -- as many in all
 pub leads-same : (m n : ℕ) (f g : Traced) → m ≡ n → Leads m f g → Leads n f g
 leads-same m n f g e a = subst (λ (k : ℕ). Leads k f g) e a
+
+-- what lies ahead of a state lies ahead of a later one
+pub onward-later : (n k : ℕ) (f g : Traced) → Leads n f g → halt_of (next_of (along (n + k) f)) ≡ None → halt_of (next_of (along k g)) ≡ None
+onward-later n k f g leads e =
+    ap (λ (t : Traced). halt_of (next_of (along k t))) (sym leads.moves) ∙ sym (ap (λ (t : Traced). halt_of (next_of t)) (along-add n k f)) ∙ e

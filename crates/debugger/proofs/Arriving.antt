@@ -68,7 +68,7 @@ advances-came p rs a b breaks reran most max halt from to some few came =
       on = omega arith;
       within = omega arith;
       past = λ n _ less. onward-before p rs b n to less;
-      progress = λ none. (let all : came.done ≡ most = came.all none in omega arith);
+      progress = λ none. (let some : 0 < came.done = came.progress none in omega arith);
       short = λ not. (let less : came.done < most = came.short not in omega arith);
       stands = λ why is. halt-there p rs b to ∙ came.stands why is;
       rest = refl;
@@ -89,16 +89,12 @@ advances-one p rs a b breaks reran max to some leads =
       rest = refl;
     }
 
--- a run that stays within the counts of the trace does all of it
-pub came-back : (p : Program) (rs : List Reply) (now kept b : Place) (most : ℕ) (halt : Option Halt) → IsAt p rs now → IsAt p rs kept → Came most (traced_at rs kept) halt (traced_at rs b) → kept.machine.count + most ≤ now.machine.count
-    → b.machine.count ≡ kept.machine.count + most
-came-back p rs now kept b most None at from came within = let all : came.done ≡ most = came.all refl in let counts : b.machine.count ≡ kept.machine.count + came.done = came.leads.counts in omega arith
-came-back p rs now kept b most (Some why) at from came within =
-    let less : came.done < most = came.short (λ e. none-some why (sym e)) in
-    let counts : b.machine.count ≡ kept.machine.count + came.done = came.leads.counts in
-    let before : b.machine.count < now.machine.count = omega arith in
-    let here : IsAt p rs b = is_at-leads p rs kept b came.done from came.leads in
-    absurd (none-some why (sym (onward-before p rs now b.machine.count at before) ∙ halt-there p rs b here ∙ came.stands why refl))
+-- from an earlier place up to a later one nothing keeps the machine from going on
+pub onward-from : (p : Program) (rs : List Reply) (now kept : Place) (k : ℕ) → IsAt p rs now → IsAt p rs kept → kept.machine.count + k < now.machine.count → halt_of (next_of (along k (traced_at rs kept))) ≡ None
+onward-from p rs now kept k at from less =
+    ap (λ (t : Traced). halt_of (next_of (along k t))) (sym from)
+    ∙ sym (ap (λ (t : Traced). halt_of (next_of t)) (reached-add p rs kept.machine.count k))
+    ∙ onward-before p rs now (kept.machine.count + k) at less
 
 -- one place is kept
 pub kept-first : (p : Program) (rs : List Reply) (a : Place) → a.machine.count ≡ 0 → IsAt p rs a → AreKept p rs (a ∷ [])

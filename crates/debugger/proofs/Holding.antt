@@ -1,5 +1,5 @@
 -- What a debugger keeps, from call to call.
-use Rattle.std.proofs.Common.{◌≡◌, ℕ, ◌+◌, ◌*◌, ◌/◌, ◌%◌, ◌^◌, ◌<◌, ◌≤◌, List, [], ◌∷◌, ◌++◌, length, get_or, refl, sym, ap, subst, ◌∙◌, arith}
+use Rattle.std.proofs.Common.{◌≡◌, ℕ, ◌+◌, ◌-◌, ◌*◌, ◌/◌, ◌%◌, ◌^◌, ◌<◌, ◌≤◌, List, [], ◌∷◌, ◌++◌, length, get_or, refl, sym, ap, subst, ◌∙◌, arith}
 use Rattle.std.specs.Prelude.{Option}
 use Rattle.std.proofs.lemmas.List.{length_push}
 use Rattle.std.proofs.lemmas.Option.{slice_get_read}
@@ -8,11 +8,10 @@ use Rattle.machine_model.specs.First.{first_state}
 use Rattle.machine_model.specs.Images.{Program}
 use Rattle.machine_model.specs.States.{State}
 use Rattle.machine_model.specs.declared.reply.Reply.{Reply}
-use Rattle.debugger.specs.Ways.{traced_at, Leads, Came}
-use Rattle.debugger.specs.declared.halt.Halt.{Halt}
+use Rattle.debugger.specs.Ways.{traced_at, Leads}
 use Rattle.debugger.specs.Keeping.{IsAt, IsKept, AreKept, Keeps}
 use Rattle.debugger.specs.declared.place.Place.{Place}
-use Rattle.debugger.proofs.Arriving.{is_at-first, is_at-leads, is_at-same, kept-first, kept-push, came-back}
+use Rattle.debugger.proofs.Arriving.{is_at-first, is_at-leads, is_at-same, kept-first, kept-push}
 
 -- at its first place
 pub keeps-first : (p : Program) (rs : List Reply) (a b : Place) (kept : List Place) (breaks : Slab ℕ) → a.machine ≡ first_state p → a.taken ≡ 0 → b ≡ a → kept ≡ b ∷ [] → breaks.slots ≡ [] → 64 ≤ breaks.capacity → Keeps p rs a kept breaks
@@ -63,11 +62,11 @@ kept-found p rs a kept breaks n q b k small at same =
     subst (λ (c : Place). IsKept p rs (n / 1024) c) (sym same) found
 
 -- from there it comes to that count
-pub kept-back : (p : Program) (rs : List Reply) (a b d : Place) (kept : List Place) (breaks : Slab ℕ) (n : ℕ) (halt : Option Halt) → Keeps p rs a kept breaks → n ≤ a.machine.count → IsKept p rs (n / 1024) b → Came (n % 1024) (traced_at rs b) halt (traced_at rs d)
+pub kept-back : (p : Program) (rs : List Reply) (a b d : Place) (kept : List Place) (breaks : Slab ℕ) (n : ℕ) → Keeps p rs a kept breaks → n ≤ a.machine.count → IsKept p rs (n / 1024) b → Leads (n - b.machine.count) (traced_at rs b) (traced_at rs d)
     → (d.machine.count ≡ n) × Keeps p rs d kept breaks
-kept-back p rs a b d kept breaks n halt k small from came =
+kept-back p rs a b d kept breaks n k small from leads =
     let counts : b.machine.count ≡ 1024 * (n / 1024) = from.counts in
-    let back : d.machine.count ≡ b.machine.count + n % 1024 = came-back p rs a b d (n % 1024) halt k.there from.there came (omega arith) in
+    let back : d.machine.count ≡ b.machine.count + (n - b.machine.count) = leads.counts in
     let enough : a.machine.count < 1024 * length kept = k.enough in
     let budget : a.machine.count ≤ 2 ^ 40 = k.budget in
-    (omega arith, keeps-at p rs a d kept breaks k (is_at-leads p rs b d came.done from.there came.leads) (omega arith) (omega arith))
+    (omega arith, keeps-at p rs a d kept breaks k (is_at-leads p rs b d (n - b.machine.count) from.there leads) (omega arith) (omega arith))

@@ -1,9 +1,9 @@
 -- What a debugger is to its callers.
-use Rattle.std.specs.Prelude.{ℕ, List, [], Option, None, refl, slice_index_or, count_by, is_some}
+use Rattle.std.specs.Prelude.{◌≡◌, ℕ, ◌+◌, ◌%◌, ◌⊎◌, List, [], Option, None, refl, slice_index_or, count_by, is_some}
 use Rattle.std.specs.Coded.{Coded, code_by, coded×, coded_ℕ, coded_list, coded_option}
 use Rattle.machine_model.specs.Images.{Program, program_code}
 use Rattle.machine_model.specs.declared.reply.Reply.{Reply}
-use Rattle.debugger.specs.Traces.{Traced, next_of, halt_of, reached}
+use Rattle.debugger.specs.Traces.{EntersNext, Traced, next_of, halt_of, reached}
 use Rattle.debugger.specs.declared.halt.Halt.{Halt}
 
 -- The program and the trace, the count at which it stands, the address of each breakpoint by its number, and how many
@@ -16,7 +16,7 @@ pub record Session : Type 0 where
   pub reran : ℕ
 
 abbrev pub reply_code : Coded Reply
-reply_code = code_by (ℕ × (ℕ × List ℕ)) (coded× coded_ℕ (coded× coded_ℕ (coded_list coded_ℕ))) (λ r. (r.a0, (r.at, r.bytes))) (λ p. record { a0 = p.0; at = p.1.0; bytes = p.1.1 }) (λ _. refl)
+reply_code = code_by (ℕ × (ℕ × (List ℕ × Option Program))) (coded× coded_ℕ (coded× coded_ℕ (coded× (coded_list coded_ℕ) (coded_option program_code)))) (λ r. (r.a0, (r.at, (r.bytes, r.image)))) (λ p. record { a0 = p.0; at = p.1.0; bytes = p.1.1.0; image = p.1.1.1 }) (λ _. refl)
 
 -- by this code a proof tells sessions apart
 abbrev pub session_code : Coded Session
@@ -37,6 +37,11 @@ place_at s n = reached s.program s.replies n
 -- what keeps the state after n instructions from going on, if anything does
 abbrev pub halt_at : Session → ℕ → Option Halt
 halt_at s n = halt_of (next_of (place_at s n))
+
+-- The next step takes memory: it goes to a count that is a multiple of 1,024, where a state is kept, or over a call whose reply
+-- has an image.
+abbrev pub TakesMemory : Session → Type 0
+TakesMemory s = ((s.count + 1) % 1024 ≡ 0) ⊎ EntersNext (place_at s s.count)
 
 -- the address of the breakpoint of a number
 abbrev pub break_of : Session → ℕ → Option ℕ

@@ -1,7 +1,7 @@
 -- Steps, and where a run stops.
 use Rattle.std.specs.Prelude.{◌≡◌, ℕ, ◌+◌, ◌%◌, ◌^◌, ◌<◌, ◌≤◌, ◌==◌, min, nat_lt, if◌then◌else◌, Bool, false, List, [], ◌∷◌, Option, Some, None, option_map, Result, Ok, Err}
 use Rattle.std.specs.Option.{option_or}
-use Rattle.debugger.specs.Sessions.{Session, place_at, halt_at}
+use Rattle.debugger.specs.Sessions.{Session, TakesMemory, place_at, halt_at}
 use Rattle.debugger.specs.declared.halt.Halt.{Halt}
 use Rattle.debugger.specs.declared.halt.Halt.TheVariants as halt
 use Rattle.debugger.specs.declared.fault.DebugFault.{DebugFault}
@@ -67,8 +67,8 @@ pub record Stops (old : Session) (max : ℕ) (why : Stopped) (new : Session) : T
   pub passes : Passes old max new
   pub here : stop_at old max new.count ≡ Some why
 
--- a run went on up to where the next step, to a count that is a multiple of 1,024, found no memory
+-- a run went on up to where the next step takes memory, and found none
 pub record StopsShort (old : Session) (max : ℕ) (new : Session) : Type 0 where
   pub passes : Passes old max new
   pub onward : stop_at old max new.count ≡ None
-  pub kept : (new.count + 1) % 1024 ≡ 0
+  pub takes : TakesMemory new

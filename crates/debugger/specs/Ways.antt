@@ -14,11 +14,11 @@ pub record Leads (n : ℕ) (from to : Traced) : Type 0 where
   pub moves : along n from ≡ to
   pub counts : to.state.count ≡ from.state.count + n
 
--- at most max instructions led from one to the other: all of them, or up to what keeps that from going on
+-- At most max instructions led from one to the other, up to what keeps that from going on; where nothing does, at least one.
 pub record Came (max : ℕ) (from : Traced) (halt : Option Halt) (to : Traced) : Type 0 where
   pub done : ℕ
   pub leads : Leads done from to
   pub within : done ≤ max
-  pub all : halt ≡ None → done ≡ max
+  pub progress : halt ≡ None → 0 < done
   pub short : halt ≢ None → done < max
   pub stands : (why : Halt) → halt ≡ Some why → halt_of (next_of to) ≡ Some why

@@ -2,7 +2,7 @@
 ghost use Rattle.std.specs.Prelude.{◌≡◌, ◌≢◌, ℕ, ◌+◌, ◌%◌, ◌^◌, ◌<◌, ◌≤◌, Ok, None, Some, IfOk, IfErr, OnOk, OnErr, IsTrue, ◌↔◌};
 ghost use Rattle.debugger.specs.Edits.{Changes};
 ghost use Rattle.debugger.specs.Keeping.{Advances};
-ghost use Rattle.debugger.specs.Sessions.{begins, break_count, break_of, halt_at, place_at};
+ghost use Rattle.debugger.specs.Sessions.{TakesMemory, begins, break_count, break_of, halt_at, place_at};
 ghost use Rattle.debugger.specs.Stops.{after_step, answer_of, least_from};
 ghost use Rattle.debugger.specs.declared.fault.DebugFault.TheVariants.{BreakTableFull, NoSuchBreak, OutOfMemory, PastTrace};
 ghost use Rattle.debugger.specs.declared.stops.Stepped.TheVariants.{Went};
@@ -27,9 +27,9 @@ const SPAN: u64 = 1024;
 /// The most breakpoints that are set at a time.
 const MOST_BREAKS: usize = 64;
 
-/// A program's machine that goes forwards and back along a trace: its calls take the replies of the trace in order, each
-/// counting as one instruction. The trace ends at a call for which no reply is left, and at one whose reply has bytes that may
-/// not be written. Its state is kept at each count that is a multiple of 1,024.
+/// A program's machine that goes forwards and back along a trace. Its calls take the replies of the trace in order, each counting
+/// as one instruction. The trace ends at a call for which no reply is left, and at one whose reply has bytes that may not be
+/// written. The state is kept at each count that is a multiple of 1,024.
 pub struct Debugger {
     alloc: Global,
     image: Image,
@@ -101,13 +101,13 @@ impl Debugger {
         &self.place.machine
     }
 
-    /// Does one instruction; a call takes the next reply. Where the machine stands at a trap it answers that, and nothing
-    /// changes. Refused, with nothing changed: Budget, where the count is 2^40, which is tested first; PastTrace, where the
-    /// trace ends here; OutOfMemory, only on the way to a count that is a multiple of 1,024.
+    /// Does one instruction; a call takes the next reply. At a trap it answers that, and nothing changes. Refused, with nothing
+    /// changed: Budget, where the count is 2^40, which is tested first; PastTrace, where the trace ends here; OutOfMemory. Memory
+    /// is taken only on the way to a count that is a multiple of 1,024, and over a call whose reply has an image.
     pub fn step(&mut self) -> Result<Stepped, DebugFault>
         ensures answer { IfOk result (λ how. answer_of self.old ≡ Ok how) }
         ensures refused { IfErr result (λ why. why ≢ OutOfMemory → answer_of self.old ≡ Err why) }
-        ensures memory { IfErr result (λ why. why ≡ OutOfMemory → (answer_of self.old ≡ Ok Went) × ((self.old.count + 1) % 1024 ≡ 0)) }
+        ensures memory { IfErr result (λ why. why ≡ OutOfMemory → (answer_of self.old ≡ Ok Went) × TakesMemory self.old) }
         ensures after { self.new ≡ after_step self.old result }
     {
         if self.count() == MOST_INSTRUCTIONS {
@@ -144,8 +144,8 @@ impl Debugger {
         }
     }
 
-    /// Takes the machine back to its state after n instructions, which runs again from the greatest kept count not above n.
-    /// Refused, with nothing changed: PastTrace, where n is above the present count; OutOfMemory.
+    /// Takes the machine back to its state after n instructions. It runs again from the greatest kept count not above n. Refused,
+    /// with nothing changed: PastTrace, where n is above the present count; OutOfMemory.
     pub fn rewind(&mut self, n: u64) -> Result<(), DebugFault>
         ensures back { OnOk result (self.new ≡ record self.old { count = n; reran = n % 1024 }) }
         ensures within { OnOk result (n ≤ self.old.count) }
@@ -159,7 +159,7 @@ impl Debugger {
         let kept = &self.kept[(n / SPAN) as usize];
         let mut place = kept.place(self.alloc)?;
         let from = place.machine.count();
-        let _ = place.advance(self.replies.as_slice(), (n % SPAN) as u32);
+        place.advance_to(self.alloc, self.replies.as_slice(), n)?;
         self.reran = place.machine.count() - from;
         self.place = place;
         Ok(())
@@ -172,7 +172,6 @@ impl Debugger {
         self.reran
     }
 
-    /// At which count the machine stands.
     pub(crate) fn count(&self) -> u64
         ensures value { result ≡ self.now.count }
         ensures within { result ≤ 2 ^ 40 }
@@ -202,14 +201,14 @@ impl Debugger {
     }
 
     /// Goes on by at most `max` instructions, and at least one where nothing keeps the machine from going on. Refused, with nothing
-    /// changed: OutOfMemory, on the way to a count that is a multiple of 1,024.
+    /// changed: OutOfMemory, where `step` takes memory too.
     pub(crate) fn go(&mut self, max: u64) -> Result<Option<Halt>, DebugFault>
         requires some { 0 < max }
         requires budget { self.old.count + max ≤ 2 ^ 40 }
         ensures advances { IfOk result (λ halt. Advances self.old max halt self.new) }
         ensures cause { IfErr result (λ why. why ≡ OutOfMemory) }
         ensures onward { OnErr result (halt_at self.old self.old.count ≡ None) }
-        ensures kept { OnErr result ((self.old.count + 1) % 1024 ≡ 0) }
+        ensures takes { OnErr result (TakesMemory self.old) }
         ensures same { OnErr result (self.new ≡ self.old) }
     {
         let room = SPAN * self.kept.len() as u64 - 1 - self.place.machine.count();
@@ -224,6 +223,9 @@ impl Debugger {
             return Ok(None);
         }
         let few = max.min(room).min(u64::from(u32::MAX)) as u32;
-        Ok(self.place.advance(self.replies.as_slice(), few))
+        let halt = self
+            .place
+            .advance(self.alloc, self.replies.as_slice(), few)?;
+        Ok(halt)
     }
 }

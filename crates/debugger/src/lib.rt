@@ -1,4 +1,5 @@
-//! A program's machine that goes forwards and back along a trace: its calls take the replies of the trace in order.
+//! A program's machine that goes forwards and back along a trace: its system calls take the replies of the trace in order. Read
+//! `Debugger` first. Each rewind comes to the state that the machine had at that count, and costs at most 1,023 instructions.
 #![tactic(auto)]
 
 mod breakpoints;

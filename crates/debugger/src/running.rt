@@ -10,7 +10,7 @@ use crate::stops::{Stopped, stopped_by};
 impl Debugger {
     /// Goes on to the first of its stops. Before each instruction: Limit, where `max` were done or the count is 2^40; then Trap or
     /// EndOfTrace. After it: Break, with the least number of a breakpoint at the program counter. Refused: OutOfMemory, which
-    /// leaves the machine where the next step would have gone to a count that is a multiple of 1,024.
+    /// leaves the machine where the next step takes memory.
     pub fn run_to_break(&mut self, max: u64) -> Result<Stopped, DebugFault>
         ensures stops { IfOk result (λ why. Stops self.old max why self.new) }
         ensures memory { IfErr result (λ why. why ≡ OutOfMemory) }

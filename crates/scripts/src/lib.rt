@@ -1,4 +1,5 @@
-//! Scripts: programs to be booted, and what is done with them line by line.
+//! Scripts: programs to be booted, and what is done with them line by line. Read `Script` first, and `replay`, which runs one and
+//! prints what each line gives. A script is read whole before it is run.
 #![tactic(auto)]
 
 mod fault;

@@ -2,9 +2,10 @@
 use crate::fault::ScriptFault;
 use crate::file_lines::write_files;
 use crate::script::{Action, Script, Setup, Step, Terminal};
+use elf32::write;
 use files::FileList;
 use kernel::{Answer, Core, Event, Refused};
-use machine_model::{Reply, Stop};
+use machine_model::{Image, Reply, Stop};
 use std::alloc::{AllocError, Global};
 use std::io::Write;
 use std::rt::Files;
@@ -27,18 +28,15 @@ impl fmt::Display for StopText {
     }
 }
 
-/// Writes how far a Turn came, and where it stopped.
 fn write_ran<W: fmt::Write>(f: &mut fmt::Formatter<W>, count: u32, stop: Stop) -> fmt::Result {
     let stop = StopText(stop);
     write!(f, "ran {count} {stop}")
 }
 
-/// Writes how many changes a Cut will commit, and by how many writes.
 fn write_cut<W: fmt::Write>(f: &mut fmt::Formatter<W>, changes: u64, writes: u64) -> fmt::Result {
     write!(f, "cut {changes} changes {writes} writes")
 }
 
-/// Writes how many changes are committed.
 fn write_completed<W: fmt::Write>(f: &mut fmt::Formatter<W>, committed: u64) -> fmt::Result {
     write!(f, "completed, {committed} committed")
 }
@@ -88,8 +86,20 @@ fn print_word<O: Write>(word: u32, out: &mut O) -> io::Result<()> {
     write!(out, "{word:08x} ")
 }
 
-/// Prints a reply: a0, and its bytes after the place where they go, or `-` for none.
+/// Prints a reply that entered a program: 0, and the bytes of a file that holds the program's image. They need not be those of the
+/// file that was executed, which may place its segments elsewhere.
+fn print_image<O: Write>(alloc: Global, image: &Image, out: &mut O) -> io::Result<()> {
+    let file = write(alloc, image)?;
+    let digits = bytes_text(alloc, file.as_slice())?;
+    print_word(0, out)?;
+    writeln!(out, "image {digits}")
+}
+
+/// Prints a reply: a0, and its bytes after the place where they go, or `-` for none; or the image that it brings.
 fn print_reply<O: Write>(alloc: Global, reply: &Reply, out: &mut O) -> io::Result<()> {
+    if let Some(image) = &reply.image {
+        return print_image(alloc, image, out);
+    }
     let bytes = bytes_text(alloc, reply.bytes.as_slice())?;
     print_word(reply.a0, out)?;
     if !reply.bytes.as_slice().is_empty() {
@@ -98,7 +108,6 @@ fn print_reply<O: Write>(alloc: Global, reply: &Reply, out: &mut O) -> io::Resul
     writeln!(out, "{bytes}")
 }
 
-/// Prints a terminal's number, and what it shows.
 fn print_shown<O: Write>(
     alloc: Global,
     core: &Core,
@@ -110,7 +119,7 @@ fn print_shown<O: Write>(
     writeln!(out, "shown {number} {bytes}")
 }
 
-/// Prints how many replies there are to a process's calls, and then a line for each.
+/// How many there are, and then a line for each.
 fn print_replies<O: Write>(
     alloc: Global,
     pid: u32,
@@ -125,7 +134,7 @@ fn print_replies<O: Write>(
     Ok(())
 }
 
-/// The replies to a process's calls that are handed out, a line each.
+/// Those that are handed out, a line each.
 fn print_trace<O: Write>(alloc: Global, core: &Core, pid: u32, out: &mut O) -> io::Result<()> {
     match core.trace(pid) {
         Err(why) => print_refusal(why, out),
@@ -140,7 +149,7 @@ fn print_boot_files<O: Write>(files: &FileList, out: &mut O) -> io::Result<()> {
     write_files(files, out)
 }
 
-/// Applies an event, and prints its answer or its refusal.
+/// Prints the answer, or the refusal.
 fn print_event<O: Write>(core: &mut Core, event: Event, out: &mut O) -> io::Result<()> {
     match core.apply(event) {
         Ok(answer) => {
@@ -162,7 +171,6 @@ fn print_drain<O: Write>(core: &mut Core, out: &mut O) -> io::Result<()> {
     }
 }
 
-/// Acts on the core, and prints what that gives.
 fn act<O: Write>(alloc: Global, core: &mut Core, action: Action, out: &mut O) -> io::Result<()> {
     match action {
         Action::Apply(event) => print_event(core, event, out),
@@ -186,7 +194,7 @@ fn crash<R: Files + AllocGlobal, O: Write>(
     Ok(next)
 }
 
-/// Does a step, and prints what it gives. After a crash the core that comes back is another one.
+/// After a crash the core that comes back is another one.
 fn play<R: Files + AllocGlobal, O: Write>(
     rt: &R,
     setup: &mut Setup,
@@ -203,7 +211,7 @@ fn play<R: Files + AllocGlobal, O: Write>(
     }
 }
 
-/// Boots what a script sets up on a disk of zeros, does the steps in order, and prints what each gives.
+/// Boots on a disk of zeros.
 fn play_all<R: Files + AllocGlobal, O: Write>(
     rt: &R,
     setup: &mut Setup,

@@ -1,4 +1,4 @@
-//! Scripts: programs to be booted, and what is done with them line by line.
+//! The lines of a script, read and kept.
 ghost use Rattle.std.specs.Prelude.{◌≡◌, ◌<◌, ◌≤◌, true, IfOk, IfSome, length, vec_len};
 ghost use Rattle.kernel_model.specs.World.{tape_count, terminal_count};
 
@@ -149,7 +149,6 @@ fn decimal(word: &str) -> Option<u32> {
     u32::try_from(line_words::decimal(word)?).ok()
 }
 
-/// The terminal of this number.
 fn terminal_of(number: u32) -> Option<Terminal> {
     if number < TERMINALS as u32 {
         Some(Terminal { number })
@@ -260,8 +259,7 @@ impl Setup {
         }
     }
 
-    /// Whether a tape of this number may have these bytes: there is such a number, which no tape has yet, and they are not
-    /// too many.
+    /// Whether a tape of this number may have these bytes: there is such a number, no tape has it yet, and they are not too many.
     fn takes_tape(&self, number: u32, bytes: &[u8]) -> bool
         ensures { result ≡ true → (number < tape_count) × (length bytes.now ≤ 65536) }
     {
@@ -331,8 +329,8 @@ impl Script {
         }
     }
 
-    /// Reads a line, and adds it, if it has a form and may stand here. Words are parted by one space each. Nothing is added by
-    /// an empty line, and by one that begins with `#`.
+    /// Reads a line, and adds it, if it has a form and may stand here. Words are parted by one space each. An empty line, and one
+    /// that begins with `#`, adds nothing.
     fn read(&mut self, alloc: Global, text: &str) -> Result<bool, AllocError> {
         if text.is_empty() || text.starts_with('#') {
             return Ok(true);
@@ -341,7 +339,6 @@ impl Script {
         self.read_words(alloc, words.as_slice())
     }
 
-    /// Reads the lines of a script.
     fn read_lines(&mut self, alloc: Global, text: &str) -> Result<(), ScriptFault> {
         let mut line = 0usize;
         for text in text.split('\n') {
@@ -353,10 +350,13 @@ impl Script {
         Ok(())
     }
 
-    /// Reads a script whole. Refused is the first line that has no form, is a set-up line (`program`, `image` or `tape`)
-    /// after a line that is none, is a ninth `program` or `image` line, or is a second line for one tape. Lines are counted
-    /// from 1 and end at a line feed; empty ones and those that begin with `#` are skipped. A script without a `program` and an
-    /// `image` line is refused when it is booted.
+    /// Reads a script whole. Refused is the first line of these:
+    /// - it has no form;
+    /// - it is a set-up line (`program`, `image` or `tape`) after a line that is none;
+    /// - it is a ninth `program` or `image` line, or a second line for one tape.
+    ///
+    /// Lines are counted from 1 and end at a line feed; empty ones and those that begin with `#` are skipped. A script without a
+    /// `program` or an `image` line is refused when it is booted.
     pub fn parse(alloc: Global, text: &str) -> Result<Script, ScriptFault> {
         let mut script = Script {
             setup: Setup {

@@ -43,8 +43,8 @@ impl ScriptProgram {
     }
 }
 
-/// Programs, to be booted once. The files of images are read at the first boot: one after the other, each with its checks
-/// before the next.
+/// Programs, to be booted once. The files of images are read at the first boot, one after the other, each with its checks before
+/// the next.
 fn programs_of<R: Files + AllocGlobal>(
     rt: &R,
     programs: &mut [ScriptProgram],

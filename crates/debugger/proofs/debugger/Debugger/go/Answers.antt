@@ -41,8 +41,8 @@ invariant_of-self-2 c =
     let count : c.count.result ≡ c.self.inside.place.machine.count = c.count.ensures in
     let same : c.self.inside.place.machine.count ≡ c.args.self.now.count = ap (λ (s : Session). s.count) c.self.view_is in
     let enough : c.self.inside.place.machine.count < 1024 * length c.self.inside.kept.items = c.self.invariant.enough in
-    let came : Came c.min-few.result (traced_at c.self.inside.replies.items c.self.inside.place) c.advance.result (traced_at c.self.inside.replies.items c.advance.new.self) =
-    subst (λ (rs : List Reply). Came c.min-few.result (traced_at rs c.self.inside.place) c.advance.result (traced_at rs c.advance.new.self)) c.as_slice-2.ensures.value c.advance.ensures in
+    let came : Came c.min-few.result (traced_at c.self.inside.replies.items c.self.inside.place) c.in_ok-halt.halt (traced_at c.self.inside.replies.items c.advance.new.self) =
+    subst (λ (rs : List Reply). Came c.min-few.result (traced_at rs c.self.inside.place) c.in_ok-halt.halt (traced_at rs c.advance.new.self)) c.as_slice-2.ensures.value c.in_ok-halt.ensures.came in
     let counts : c.advance.new.self.machine.count ≡ c.self.inside.place.machine.count + came.done = came.leads.counts in
     let within : came.done ≤ c.min-few.result = came.within in
     let few = c.min-few.ensures in
@@ -53,12 +53,12 @@ invariant_of-self-2 c =
 
 pub returns-clause-advances : goal.returns-clause-advances
 returns-clause-advances c =
-    let came : Came c.min-few.result (traced_at c.self.inside.replies.items c.self.inside.place) c.advance.result (traced_at c.self.inside.replies.items c.advance.new.self) =
-    subst (λ (rs : List Reply). Came c.min-few.result (traced_at rs c.self.inside.place) c.advance.result (traced_at rs c.advance.new.self)) c.as_slice-2.ensures.value c.advance.ensures in
+    let came : Came c.min-few.result (traced_at c.self.inside.replies.items c.self.inside.place) c.in_ok-halt.halt (traced_at c.self.inside.replies.items c.advance.new.self) =
+    subst (λ (rs : List Reply). Came c.min-few.result (traced_at rs c.self.inside.place) c.in_ok-halt.halt (traced_at rs c.advance.new.self)) c.as_slice-2.ensures.value c.in_ok-halt.ensures.came in
     let few = c.min-few.ensures in
     let most = c.min.ensures in
     let top = c.from.ensures in
-    subst (λ (s : Session). Advances s c.args.max c.advance.result (session_of c.self.inside.image c.self.inside.replies.items c.advance.new.self c.self.inside.breaks c.self.inside.reran)) c.self.view_is
-    (advances-came c.self.inside.image c.self.inside.replies.items c.self.inside.place c.advance.new.self c.self.inside.breaks c.self.inside.reran c.min-few.result c.args.max c.advance.result c.self.invariant.there
+    subst (λ (s : Session). Advances s c.args.max c.in_ok-halt.halt (session_of c.self.inside.image c.self.inside.replies.items c.advance.new.self c.self.inside.breaks c.self.inside.reran)) c.self.view_is
+    (advances-came c.self.inside.image c.self.inside.replies.items c.self.inside.place c.advance.new.self c.self.inside.breaks c.self.inside.reran c.min-few.result c.args.max c.in_ok-halt.halt c.self.invariant.there
     (is_at-leads c.self.inside.image c.self.inside.replies.items c.self.inside.place c.advance.new.self came.done c.self.invariant.there came.leads)
     (omega (arith, few, most, top, c.requires.some, c.if-room-eq0.false)) (omega (arith, few, most)) came)

@@ -1,5 +1,5 @@
 -- The way so far.
-use Rattle.std.proofs.Common.{◌-◌, ◌≤◌}
+use Rattle.std.proofs.Common.{◌≡◌, ◌-◌, ◌≤◌}
 use Rattle.debugger.specs.Ways.{Leads, traced_at}
 use Rattle.debugger.proofs.place.Place.advance.Given as goal
 
@@ -7,6 +7,7 @@ abbrev pub invariant-loop-done : goal.invariant-loop-done
 invariant-loop-done l = record {
   leads : Leads l.done (traced_at l.replies l.initial.self) (traced_at l.replies l.self);
   within : l.done ≤ l.max;
+  still : l.done ≡ 0 → l.self ≡ l.initial.self;
 }
 
 abbrev pub decreases-loop-done : goal.decreases-loop-done

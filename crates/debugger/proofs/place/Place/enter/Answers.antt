@@ -1,0 +1,7 @@
+-- A program is entered.
+use Rattle.debugger.proofs.Onward.{enters-leads}
+use Rattle.debugger.proofs.place.Place.enter.Goals as goal
+
+pub returns-in_ok-enter-clause-leads : goal.returns-in_ok-enter-clause-leads
+returns-in_ok-enter-clause-leads c =
+    enters-leads c.args.replies.now c.args.self.now.taken c.args.self.now.machine c.enter.new.self c.in-Some.image c.index-replies-self.result c.requires.enters c.requires.onward c.in-Some.is c.in_ok-enter.ensures.entered
