@@ -6,9 +6,11 @@
 //!
 //! A line that begins with the name or the number of a call stands for the instructions that load its arguments and call. An
 //! argument is a number, a label after `&`, or a register; one that is left out stays what it was. After ` = ` stands the reply:
-//! its number in decimal, and, where it has bytes, `at`, their place in eight hexadecimal digits, and the bytes, as `41+00*3`. A
-//! loop's calls have no replies beside them. After the loop stands `each N = R; R`, the same replies N times, or `numbers N M`, the
-//! replies from N to M. After its text each program has the places of `notation`.
+//! its number in decimal, and, where it has bytes, `at`, their place in eight hexadecimal digits, and the bytes, as `41+00*3`. The
+//! reply of an exec that entered a program is `image` and the bytes of the file that a trace prints, or `tool` or `probe`, a
+//! built-in program. Calls of a loop, or of a program that was entered, have no replies beside them. After them stands
+//! `each N = R; R`, the same replies N times, or `numbers N M`, the replies from N to M. After its text each program has the places
+//! of `notation`.
 //!
 //! Then come lines with ` => `, what is done and what is wanted of it:
 //! - `P => entered waits entered*3 ended`: process P runs up to a call or a trap and enters the kernel, once for each;
@@ -225,7 +227,6 @@ fn push_enters(
     Ok(())
 }
 
-/// Adds the line `commit` to a script, and what it prints.
 fn push_commit(script: &mut String, printed: &mut String, wanted: &str) -> Result<(), Error> {
     script.push_str("cut\ncomplete 65\ncomplete 64\n")?;
     push_texts(

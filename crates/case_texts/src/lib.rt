@@ -1,6 +1,6 @@
 //! Cases of the program `bench`, as they stand in files: what a case sets up and runs, as values, and what came of a run beside
-//! what is wanted. The notation `kernel_calls` is for programs that call the kernel, and `sessions` for runs by the command line.
-//! `arguments` and `compare` serve those who have no case in a file.
+//! what is wanted. Read the notation `kernel_calls` first, for programs that call the kernel, then `sessions`, for runs by the
+//! command line. `arguments` and `compare` serve those who have no case in a file.
 #![tactic(auto)]
 
 mod command_lines;

@@ -6,8 +6,10 @@ use assembler::{Row, assemble};
 use std::alloc::{AllocError, Global};
 use std::str::SplitWhitespace;
 
-/// What stands after each program's text, in pages that may be read and executed, and not written: the names `f`, `g` and
-/// `h`, pairs of them, letters, a name of 36 letters, and zeros.
+/// What stands after each program's text, in pages that may be read and executed, and not written. First come the names `f`, `g`
+/// and `h`, pairs of them, letters, a name of 36 letters, and zeros. Then come the files of two programs for `exec`, whose text
+/// stands from 0x00010054 on. `tool`, of 124 bytes, writes C to its terminal and exits with status 5. `probe`, of 164 bytes, asks
+/// for its number, reads two bytes from descriptor 3 to 0x7FFFFFFC, and waits for a child; then it does as `tool` does.
 const PLACES: &str = "
 f: .word 0x66
 g: .word 0x67
@@ -26,12 +28,40 @@ X: .word 0x58
 Y: .word 0x59
 long: .word 0x61616161,0x61616161,0x61616161,0x61616161,0x61616161,0x61616161,0x61616161,0x61616161,0x61616161
 zeros: .space 1028
+tool: .word 0x464C457F,0x00010101,0,0,0x00F30002,1,0x00010054,52,0,0,0x00200034,1,0
+.word 1,84,0x00010054,0x00010054,40,40,5,4096
+.word 0x00100513,0x00000597,0x02058593,0x00100613,0x00200893,0x00000073,0x00500513,0x00100893,0x00000073,0x43
+probe: .word 0x464C457F,0x00010101,0,0,0x00F30002,1,0x00010054,52,0,0,0x00200034,1,0
+.word 1,84,0x00010054,0x00010054,80,80,5,4096
+.word 0x00900893,0x00000073,0x00300513,0xFFC10593,0x00200613,0x00300893,0x00000073,0x00000513,0x00800893,0x00000073
+.word 0x00100513,0x00000597,0x02058593,0x00100613,0x00200893,0x00000073,0x00500513,0x00100893,0x00000073,0x43
 ";
+
+/// The bytes of the files that a trace prints where `tool` and `probe` were entered: text stands at 4,180 there.
+const TOOL_FILE: &str =
+    "7f454c460101010000000000000000000200f3000100000054000100340000000000000000000000340020000100000000000000\
+    0100000054100000540001005400010028000000280000000500000000100000+00*4096\
+    +13051000970500009385050213061000930820007300000013055000930810007300000043000000";
+
+const PROBE_FILE: &str =
+    "7f454c460101010000000000000000000200f3000100000054000100340000000000000000000000340020000100000000000000\
+    0100000054100000540001005400010050000000500000000500000000100000+00*4096\
+    +9308900073000000130530009305c1ff13062000930830007300000013050000930880007300000013051000970500009385050213061000\
+    930820007300000013055000930810007300000043000000";
+
+/// The parts of the file that the reply of an exec brings, by the name of a built-in program or as they stand.
+fn file_parts(word: &str) -> &str {
+    match word {
+        "tool" => TOOL_FILE,
+        "probe" => PROBE_FILE,
+        parts => parts,
+    }
+}
 
 /// The names of the calls, from number 1 on.
 const CALL_NAMES: &[&str] = &[
     "exit", "write", "read", "open", "close", "pipe", "fork", "wait", "getpid", "seek", "sync",
-    "unlink", "rename",
+    "unlink", "rename", "exec",
 ];
 
 /// The number of a call, by its name or as it stands.
@@ -103,6 +133,7 @@ fn push_reply(out: &mut String, reply: &str, words: &[&str]) -> Result<(), Error
             push_number(out, a0, at)?;
             push_parts_line(out, &[" "], parts)
         }
+        ["image", file] => push_parts_line(out, &["00000000 image "], file_parts(file)),
         _ => Err(refused("no reply: ", reply)),
     }
 }
@@ -136,7 +167,6 @@ impl Replies {
         push_reply(&mut self.printed, reply, words.as_slice())
     }
 
-    /// Adds replies that are parted by `;`.
     fn push_list(&mut self, alloc: Global, replies: &str) -> Result<(), Error> {
         for reply in replies.split(';') {
             self.push(alloc, reply)?;
@@ -153,7 +183,6 @@ impl Replies {
         Ok(())
     }
 
-    /// Adds the replies from one number to another.
     fn push_range(&mut self, first: u32, last: u32) -> Result<(), Error> {
         for number in first..=last {
             self.count = self.count.saturating_add(1);
@@ -216,8 +245,8 @@ fn push_segments(file: &mut Vec<u8>, size: u32) -> Result<(), Error> {
     Ok(())
 }
 
-/// Fills the file of an image: a program's text, a page that may be read alone, at 0x00020000, one that may be written
-/// alone, at 0x00030000, and one that may be executed alone, at 0x00040000.
+/// Fills the file of an image: a program's text, and three pages. The one at 0x00020000 may be read alone, at 0x00030000 written
+/// alone, at 0x00040000 executed alone.
 pub fn fill_image(file: &mut Vec<u8>, words: &[u32]) -> Result<(), Error> {
     file.clear();
     push_word_bytes(file, IMAGE_HEADER)?;

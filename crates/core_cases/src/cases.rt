@@ -23,7 +23,8 @@
 //! - `settle NAME`: the core takes the result back; one that is refused comes to why, and to what is given back of it, the
 //!   process, the number of the loan and how many instructions it ran;
 //! - `loans Q`: loans for a quantum of Q are run and taken back until no process is lent, and the line comes to their number;
-//! - `history`: the events; `last N`: the last N of them; `events`: their number;
+//! - `history`: the events; `last N`: the last N of them; `events`: their number; `cone N`: the numbers of those in the cone
+//!   of event N;
 //! - `ran`: how many instructions ran; `totals`: the four numbers of the history; `counts`: how many changes there are and how
 //!   many are committed, and whether a cut is wanted; `in_flight`;
 //! - `shown T`, in HEX; `replied P`: the numbers that the process was replied; `ended P`.
@@ -161,6 +162,7 @@ fn count_or_look(alloc: Global, core: &mut TestCore, command: &str) -> Result<St
         "history" => text(alloc, core.history()),
         "events" => text(alloc, core.history().len()),
         "last" => text(alloc, last_events(core, number(command, 1) as usize)),
+        "cone" => text(alloc, core.cone(number(command, 1))),
         "ran" => text(alloc, core.ran()),
         "totals" => text(alloc, core.totals()),
         "counts" => text(alloc, (core.changes(), core.committed(), core.wants_cut())),

@@ -8,7 +8,7 @@ use assembler::assemble;
 use bursts::{Done, Rejected, Totals, run_loan, totals_of};
 use byte_list::Bytes;
 use files::{FileList, FileTable};
-use kernel::{Answer, BootFault, Core, DiskFault, Event, Program, Refused, SimDisk};
+use kernel::{Answer, BootFault, ConeFault, Core, DiskFault, Event, Program, Refused, SimDisk};
 use kernel_model::{MOST_PROGRAMS, TAPES, TERMINALS};
 use std::alloc::{AllocError, Global};
 
@@ -167,6 +167,10 @@ impl TestCore {
 
     pub fn committed(&self) -> u64 {
         self.core.committed()
+    }
+
+    pub fn cone(&self, n: u32) -> Result<Vec<u64>, ConeFault> {
+        self.core.cone(u64::from(n))
     }
 
     pub fn ran(&self) -> u64 {

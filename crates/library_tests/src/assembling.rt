@@ -96,6 +96,7 @@ const INSTRUCTIONS: &[(&str, &[u32])] = &[
     ("_start: jal ra,8", &[0x008000EF]),
     ("_start: srai a0,a0,31", &[0x41F55513]),
     ("_start: fence", &[0x0FF0000F]),
+    ("_start: fence.i", &[0x0000100F]),
     ("_start: ebreak", &[0x00100073]),
     ("_start: addi fp,x8,-1", &[0xFFF40413]),
     ("_start: .word 0xFFFFFFFF", &[0xFFFFFFFF]),
@@ -200,6 +201,13 @@ const FORM_FAULTS: &[(&str, Cause, usize, usize)] = &[
     ("_start: j _start + 4", Syntax, 1, 18),
     ("_start: j _start+ 4", Syntax, 1, 19),
     ("_start: la a0,_start+4", Syntax, 1, 21),
+    // `fence.i` is no label's name, has no operands, and is one word only where nothing goes on.
+    ("_start: nop\nfence.i: nop", Syntax, 2, 1),
+    ("_start: j fence.i", Syntax, 1, 11),
+    ("_start: la a0,fence.i", Syntax, 1, 15),
+    ("_start: fence.i a0", Syntax, 1, 17),
+    ("_start: fence.ix", Syntax, 1, 14),
+    ("_start: fence .i", Syntax, 1, 15),
 ];
 
 /// Further ones: second labels, sizes and ranges.

@@ -40,6 +40,10 @@ const EBREAK: u32 = 0x0010_0073;
 
 const ECALL: u32 = 0x0000_0073;
 
+const A0_IS_1: u32 = 0x0010_0513;
+
+const A0_IS_300: u32 = 0x12c0_0513;
+
 /// The entry of a program of words.
 const ENTRY: u32 = 0x0001_0000;
 
@@ -119,6 +123,25 @@ const NO_REPLY: &[Call] = &[
     Call::Count(0),
 ];
 
+/// A machine goes over the call by which it enters another program, and on to that one's trap.
+const OVER_THE_ENTRY: &[Call] = &[
+    Call::Step(Ok(Stepped::Went)),
+    Call::State((1, 0x0001_0004, 1)),
+    Call::Step(Ok(Stepped::Went)),
+    Call::State((2, ENTRY, 0)),
+    Call::Run(100, Stopped::Trap(Cause::Breakpoint)),
+    Call::State((3, 0x0001_0004, 300)),
+];
+
+/// It goes back to before that call, and over it again.
+const BEFORE_AND_OVER: &[Call] = &[
+    Call::Rewind(1, Ok(())),
+    Call::State((1, 0x0001_0004, 1)),
+    Call::Step(Ok(Stepped::Went)),
+    Call::State((2, ENTRY, 0)),
+    Call::Step(Ok(Stepped::Went)),
+];
+
 /// Programs with the replies to their first calls, and calls of the debugger. The reply to the last one is of one byte for the
 /// program's text, which may not be written, and so counts as none.
 const SCRIPTS: &[(&[u32], &[Replied], &[Call])] = &[
@@ -160,7 +183,12 @@ fn replies_of(alloc: Global, replied: &[Replied]) -> Result<Vec<Reply>, AllocErr
     let mut replies = Vec::new(alloc);
     for &(a0, at, bytes) in replied {
         let bytes = Bytes::copy_of(alloc, bytes)?;
-        replies.push(Reply { a0, at, bytes })?;
+        replies.push(Reply {
+            a0,
+            at,
+            bytes,
+            image: None,
+        })?;
     }
     Ok(replies)
 }
@@ -201,6 +229,31 @@ fn goes_along_a_trace(rt: HostRuntime) -> Result<(), Fail> {
         let mut debugger = program(rt.alloc(), words, replied)?;
         assert_calls(&rt, &mut debugger, calls);
     }
+    Ok(())
+}
+
+/// A program that enters another by its first call.
+fn entering(alloc: Global) -> Result<Debugger, DebugFault> {
+    let image = Image::from_text(alloc, &[A0_IS_1, ECALL])?;
+    let entered = Image::from_text(alloc, &[A0_IS_300, EBREAK])?;
+    let mut replies = Vec::new(alloc);
+    replies.push(Reply {
+        a0: 0,
+        at: 0,
+        bytes: Bytes::empty(alloc),
+        image: Some(entered),
+    })?;
+    Debugger::new(alloc, image, replies)
+}
+
+#[test]
+fn goes_over_the_entry_of_a_program(rt: HostRuntime) -> Result<(), Fail> {
+    let mut debugger = entering(rt.alloc())?;
+    assert_calls(&rt, &mut debugger, OVER_THE_ENTRY);
+    let after = debugger.state().try_clone(rt.alloc())?;
+    assert_calls(&rt, &mut debugger, BEFORE_AND_OVER);
+    let same = debugger.state().is_same(&after);
+    assert_row(&rt, "the same", same, true);
     Ok(())
 }
 

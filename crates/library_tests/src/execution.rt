@@ -85,6 +85,13 @@ fn computes(rt: HostRuntime) {
     assert_immediates(&rt);
 }
 
+#[test]
+fn fences_have_no_effect(rt: HostRuntime) {
+    let next = (Outcome::Next, [0x0001_0004, ONES, 0]);
+    assert_row(&rt, "fence", done(Instr::Fence, ONES, 0), next);
+    assert_row(&rt, "fence.i", done(Instr::FenceI, ONES, 0), next);
+}
+
 /// A jump from 0x00010000 to 0x00010010 and this much further, with the link in the register that has the place, comes to this.
 fn assert_jump(rt: &impl Abort, imm: Immediate, outcome: Outcome, pc: u32, link: u32) {
     let ra = Reg::new(1);

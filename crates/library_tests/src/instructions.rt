@@ -17,17 +17,21 @@ const WORDS: &[(u32, &str)] = &[
     (0xFFC1_2503, "lw a0,-4(sp)"),
     (0x0000_0517, "auipc a0,0x0"),
     (0x0FF0_000F, "fence"),
+    (0x0000_100F, "fence.i"),
     (0x0000_0073, "ecall"),
     (0x0010_0073, "ebreak"),
 ];
 
-/// Words, and whether they are fences: the others mean nothing.
-const FENCES: &[(u32, bool)] = &[
-    (0x0FF0_000F, true),
-    (0x0000_000F, true),
-    (0x0000_0000, false),
-    (0xFFFF_FFFF, false),
-    (0x0000_100F, false),
+/// Words, and whether they are FENCE and FENCE.I: those that are neither mean nothing.
+const FENCES: &[(u32, [bool; 2])] = &[
+    (0x0FF0_000F, [true, false]),
+    (0x0000_000F, [true, false]),
+    (0x0000_100F, [false, true]),
+    // Every field is set that says nothing.
+    (0xFFFF_9F8F, [false, true]),
+    (0x0000_200F, [false, false]),
+    (0x0000_0000, [false, false]),
+    (0xFFFF_FFFF, [false, false]),
 ];
 
 /// Numbers, and whether they fit the fields of ADDI, BEQ, JAL, LUI and SLLI.
@@ -76,10 +80,13 @@ fn words_and_texts(rt: HostRuntime) -> Result<(), AllocError> {
 #[test]
 fn fences_and_illegal_words(rt: HostRuntime) {
     assert_row(&rt, "fence", encode(&Instr::Fence), 0x0FF0_000F);
-    for &(word, is_fence) in FENCES {
+    assert_row(&rt, "fence.i", encode(&Instr::FenceI), 0x0000_100F);
+    for &(word, fences) in FENCES {
         let meaning = decode(word);
-        let found = (meaning.is_some(), matches!(meaning, Some(Instr::Fence)));
-        assert_row(&rt, word, found, (is_fence, is_fence));
+        let is_fence = matches!(meaning, Some(Instr::Fence));
+        let is_fence_i = matches!(meaning, Some(Instr::FenceI));
+        let found = (meaning.is_some(), [is_fence, is_fence_i]);
+        assert_row(&rt, word, found, (fences[0] || fences[1], fences));
     }
 }
 

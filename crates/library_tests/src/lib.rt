@@ -1,5 +1,5 @@
-//! Tests of the lower crates over what they export. They stand in a crate of their own, since a crate with tests is proved
-//! twice.
+//! Tests of the lower crates over what they export. They stand in a crate of their own, since a crate with tests is proved twice.
+//! Each file's head says what it tests; `asserting` has what they share.
 #![tactic(auto)]
 
 #[cfg(test)]
@@ -16,6 +16,8 @@ mod debugging;
 mod devices;
 #[cfg(test)]
 mod disks;
+#[cfg(test)]
+mod event_cones;
 #[cfg(test)]
 mod execution;
 #[cfg(test)]

@@ -1,5 +1,5 @@
 //! Programs, loaded and run.
-ghost use Rattle.std.specs.Prelude.{◌≡◌, ◌<◌, ◌≤◌, IfOk, length};
+ghost use Rattle.std.specs.Prelude.{◌≡◌, ◌<◌, ◌≤◌, IfOk, None, length};
 
 use crate::asserting::assert_row;
 use crate::image_files::repeated;
@@ -17,6 +17,8 @@ const SW_T0_AT_T0: u32 = 0x0052_a023;
 const ADDI_T0_T0_1: u32 = 0x0012_8293;
 
 const JUMP_BACK_4: u32 = 0xffdf_f06f;
+
+const A7_IS_14: u32 = 0x00e0_0893;
 
 const ECALL: u32 = 0x0000_0073;
 
@@ -135,7 +137,8 @@ fn runs_the_longest_text(rt: HostRuntime) -> Result<(), AllocError> {
 
 /// A machine that stands at its first call, and has a reply of three bytes.
 fn assert_replied(rt: &impl Abort, machine: &mut Machine, reply: &Reply)
-    requires { length reply.now.bytes ≡ 3 }
+    requires size { length reply.now.bytes ≡ 3 }
+    requires none { reply.now.image ≡ None }
 {
     assert!(rt; matches!(machine.stopped(), Some(Stop::Call)));
     assert!(rt; machine.count() == 0);
@@ -154,10 +157,51 @@ fn replies_to_a_call(rt: HostRuntime) -> Result<(), AllocError> {
         a0: 7,
         at: 0x7fff_fff0,
         bytes: Bytes::copy_of(rt.alloc(), &[1, 2, 3])?,
+        image: None,
     };
-    assert_replied(&rt, &mut machine, &reply);
+    let copied = reply.try_clone(rt.alloc())?;
+    assert_replied(&rt, &mut machine, &copied);
     let kept = (copy.stopped(), copy.space().byte(0x7fff_fff0));
     assert_row(&rt, "copy", kept, (Some(Stop::Call), Some(0)));
+    Ok(())
+}
+
+/// A machine that stands at its first call, after one instruction, enters a program, as another that is made does.
+fn enter(
+    rt: &(impl Abort + AllocGlobal),
+    machine: &mut Machine,
+    image: &Image,
+) -> Result<(), AllocError> {
+    assert!(rt; matches!(machine.stopped(), Some(Stop::Call)));
+    assert!(rt; machine.count() == 1);
+    let entered = machine.entered(rt.alloc(), image)?;
+    assert_row(rt, "count", machine.count(), 1);
+    machine.enter(rt.alloc(), image)?;
+    assert_row(rt, "the same", machine.is_same(&entered), true);
+    Ok(())
+}
+
+/// A machine is in the first state of the program of one EBREAK, but that two instructions are done.
+fn assert_entered(rt: &impl Abort, machine: &mut Machine) {
+    assert!(rt; machine.count() == 2);
+    let first = (
+        machine.pc(),
+        machine.reg(Reg::new(2)),
+        machine.reg(Reg::new(17)),
+    );
+    assert_row(rt, "pc, sp and a7", first, (0x0001_0000, 0x8000_0000, 0));
+    assert_bytes(rt, machine, FIRST_BYTES);
+    assert_row(rt, "run", machine.run(5), (0, BREAK));
+}
+
+#[test]
+fn enters_a_program(rt: HostRuntime) -> Result<(), AllocError> {
+    let mut machine = machine_of(rt.alloc(), &[A7_IS_14, ECALL])?;
+    let _ = machine.run(5);
+    let image = Image::from_text(rt.alloc(), &[EBREAK])?;
+    let copy = image.try_clone(rt.alloc())?;
+    enter(&rt, &mut machine, &copy)?;
+    assert_entered(&rt, &mut machine);
     Ok(())
 }
 

@@ -9,6 +9,7 @@ ghost use Rattle.processes.specs.Parts.{part_at, descriptors_in};
 ghost use Rattle.calls.specs.Plans.{AreLeft, NamesFiles};
 
 use crate::asserting::assert_row;
+use crate::image_files::small_file;
 use byte_list::Bytes;
 use calls::{KernelTables, Plan, TapeTable, plan_call, plan_end};
 use disk_model::Change;
@@ -72,6 +73,8 @@ const UNLINK: u32 = 0x00c0_0893;
 
 const RENAME: u32 = 0x00d0_0893;
 
+const EXEC: u32 = 0x00e0_0893;
+
 const CALL_99: u32 = 0x0630_0893;
 
 const ECALL: u32 = 0x0000_0073;
@@ -105,8 +108,9 @@ fn two_processes(alloc: Global) -> Result<ProcTable, AllocError>
     Ok(processes)
 }
 
-/// One file, with the bytes 'abc'.
-fn file_of_abc(alloc: Global) -> Result<FileTable, AllocError>
+/// One file, with these bytes.
+fn file_of(alloc: Global, bytes: &[u8]) -> Result<FileTable, AllocError>
+    requires { length bytes.now ≤ longest_file }
     ensures count { IfOk result (λ files. length files.living ≡ 1) }
     ensures made { IfOk result (λ files. files.made ≡ 1) }
     ensures numbered { IfOk result AreNumbered }
@@ -115,7 +119,7 @@ fn file_of_abc(alloc: Global) -> Result<FileTable, AllocError>
 {
     let mut files = FileTable::new(alloc);
     files.create(Bytes::copy_of(alloc, b"f")?)?;
-    files.write(0, 0, b"abc")?;
+    files.write(0, 0, bytes)?;
     Ok(files)
 }
 
@@ -139,12 +143,18 @@ fn descriptors_of_pipes() -> Descriptors {
     descriptors
 }
 
-/// What process 2 is planned to do by a request.
-fn plan_of(alloc: Global, tapes: &TapeTable, request: Request) -> Result<Plan, AllocError>
-    requires { IsWhole request }
+/// What process 2 is planned to do by a request, where the file has these bytes.
+fn plan_over(
+    alloc: Global,
+    bytes: &[u8],
+    tapes: &TapeTable,
+    request: Request,
+) -> Result<Plan, AllocError>
+    requires short { length bytes.now ≤ longest_file }
+    requires whole { IsWhole request }
     ensures { IfOk result (λ plan. IfSome plan.tape (AreLeft tapes.now)) }
 {
-    let files = file_of_abc(alloc)?;
+    let files = file_of(alloc, bytes)?;
     let pipes = PipeTable::new(alloc)?;
     let processes = two_processes(alloc)?;
     let tables = KernelTables {
@@ -154,6 +164,14 @@ fn plan_of(alloc: Global, tapes: &TapeTable, request: Request) -> Result<Plan, A
         processes: &processes,
     };
     plan_call(alloc, &tables, 2, request)
+}
+
+/// What process 2 is planned to do by a request, where the file has the bytes 'abc'.
+fn plan_of(alloc: Global, tapes: &TapeTable, request: Request) -> Result<Plan, AllocError>
+    requires { IsWhole request }
+    ensures { IfOk result (λ plan. IfSome plan.tape (AreLeft tapes.now)) }
+{
+    plan_over(alloc, b"abc", tapes, request)
 }
 
 /// What a plan tells its caller: a reply's number, or as an error the status with which it ends, if it does.
@@ -192,6 +210,8 @@ const CALLS: &[([u32; 4], Result<u32, Option<u32>>)] = &[
     ([UNLINK, A0_IS_0, A1_IS_TEXT, A2_IS_4], Ok(0xffff_ffea)),
     ([RENAME, A0_IS_0, A1_IS_1, A2_IS_4], Ok(0xffff_fff2)),
     ([RENAME, A0_IS_0, A1_IS_1, A2_IS_1024], Ok(0xffff_ffea)),
+    ([EXEC, A0_IS_0, A1_IS_1, A2_IS_4], Ok(0xffff_fff2)),
+    ([EXEC, A0_IS_0, A1_IS_TEXT, A2_IS_4], Ok(0xffff_ffea)),
 ];
 
 #[test]
@@ -263,6 +283,60 @@ fn files_and_their_names(rt: HostRuntime) -> Result<(), AllocError> {
     let name = Some(b"g".as_slice());
     assert_names_change(&rt, &plan_of_rename(rt.alloc())?, name);
     Ok(())
+}
+
+/// What process 2 is planned to do where it executes the file of this name, and file f has these bytes.
+fn plan_of_exec(alloc: Global, bytes: &[u8], name: &[u8]) -> Result<Plan, AllocError>
+    requires short { length bytes.now ≤ longest_file }
+    requires name { length name.now ≡ 1 }
+{
+    let tapes = tapes_of(alloc, b"hi")?;
+    let name = Some(Bytes::copy_of(alloc, name)?);
+    plan_over(alloc, bytes, &tapes, Request::Exec { n: 1, name })
+}
+
+/// Where the program begins with which a plan replies, if it does.
+fn entry_told(plan: &Plan) -> Option<u32> {
+    match &plan.verdict {
+        Verdict::Replies(reply) => match &reply.image {
+            Some(image) => Some(image.entry()),
+            None => None,
+        },
+        Verdict::Ends(_) | Verdict::Waits => None,
+    }
+}
+
+/// A plan tells this number and perhaps a program, reads these carriers and writes none.
+fn assert_exec(rt: &impl Abort, plan: &Plan, reply: u32, entry: Option<u32>, reads: &[Carrier]) {
+    assert_plan(rt, plan, reply, None, reads);
+    assert_row(rt, "entry", entry_told(plan), entry);
+    assert_row(rt, "writes", plan.writes.len(), 0);
+}
+
+/// Process 2 executes the file of the program that is one ECALL.
+fn assert_small_file(rt: &(impl Abort + AllocGlobal)) -> Result<(), AllocError> {
+    let file = small_file(rt.alloc())?;
+    assert!(rt; file.len() == 4100);
+    let plan = plan_of_exec(rt.alloc(), &file, b"f")?;
+    let read = [Carrier::Names, Carrier::File(0)];
+    assert_exec(rt, &plan, 0, Some(0x0001_0000), &read);
+    Ok(())
+}
+
+/// Process 2 executes the file 'abc', which is none of a program, and a file that is not there.
+fn assert_no_program(rt: &(impl Abort + AllocGlobal)) -> Result<(), AllocError> {
+    let plan = plan_of_exec(rt.alloc(), b"abc", b"f")?;
+    let read = [Carrier::Names, Carrier::File(0)];
+    assert_exec(rt, &plan, 0xffff_fff8, None, &read);
+    let plan = plan_of_exec(rt.alloc(), b"abc", b"g")?;
+    assert_exec(rt, &plan, 0xffff_fffe, None, &[Carrier::Names]);
+    Ok(())
+}
+
+#[test]
+fn files_are_executed(rt: HostRuntime) -> Result<(), AllocError> {
+    assert_small_file(&rt)?;
+    assert_no_program(&rt)
 }
 
 #[test]

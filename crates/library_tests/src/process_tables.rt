@@ -36,8 +36,8 @@ fn fork_to_1024(rt: &impl Abort, table: &mut ProcTable) -> Result<(), AllocError
     Ok(())
 }
 
-/// Each of 1,024 processes reads tape 4, writes to terminal 2, has the next as its child, and has not ended; but 512 holds tape
-/// 7 too, and 1024 reads no tape and has no child.
+/// Each of 1,024 processes reads tape 4, writes to terminal 2, has the next as its child, and has not ended. But 512 holds tape 7
+/// too, and 1024 reads no tape and has no child.
 fn assert_each(rt: &impl Abort, table: &ProcTable) {
     for pid in 1..1025 {
         let tape = (pid != 1024).then_some(Descriptor::Tape(4));

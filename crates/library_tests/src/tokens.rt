@@ -32,6 +32,14 @@ const TOKENS: &[(&str, &str)] = &[
         "1[0..64] Word[0..64];",
     ),
     ("a.b_1", "1[0..5] Word[0..1] Word[1..5];"),
+    (
+        "fence.i: j fence.i+4,fence.i",
+        "1[0..28] Word[0..7] Colon[7..8] Word[9..10] Word[11..18] Plus[18..19] Number(4)[19..20] Comma[20..21] Word[21..28];",
+    ),
+    (
+        "fence.ix fence.i_ fence.i0 fence .i fence.i.i xfence.i",
+        "1[0..54] Word[0..5] Word[5..8] Word[9..14] Word[14..17] Word[18..23] Word[23..26] Word[27..32] Word[33..35] Word[36..43] Word[43..45] Word[46..52] Word[52..54];",
+    ),
 ];
 
 /// Sources that are refused, with the line and the column.

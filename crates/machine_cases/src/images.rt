@@ -1,5 +1,6 @@
-//! An image run to its first limits, and in longer and longer runs.
+//! Images run to their first limits, and in longer and longer runs.
 use crate::limits::{check_each, check_growing};
+use crate::replies::Calls;
 use anyhow::Error;
 use machine::Machine;
 use std::fs;
@@ -10,13 +11,13 @@ const EACH: u32 = 1_500;
 
 const WHOLE: u32 = 1_000_000;
 
-/// Runs the image of this file, and gives a line that says how many limits there were, and how many instructions.
+/// Runs the image of this file. Gives a line that says how many limits and how many instructions there were.
 pub fn check_image<R: Files + AllocGlobal>(rt: &R, name: &str) -> Result<String, Error> {
     let alloc = rt.alloc();
     let file = fs::read(rt, name)?;
     let image = elf32::parse(alloc, file.as_slice())?;
     let first = Machine::load(alloc, &image)?;
-    let count = check_each(alloc, &first, EACH)?;
-    let whole = check_growing(alloc, &first, WHOLE)?;
+    let count = check_each(alloc, &first, EACH, Calls::End)?;
+    let whole = check_growing(alloc, &first, WHOLE, Calls::End)?;
     Ok(format!(in alloc; "{name}: {count} limits, {whole} instructions")?)
 }

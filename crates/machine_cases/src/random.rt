@@ -1,6 +1,8 @@
-//! Random programs, with much of what sequences of words (superinstructions) are made of. They jump to near words, also into the
-//! middle of a sequence. Their accesses pass the end of a page, are not aligned, or are forbidden.
+//! Random programs, rich in words that make sequences (superinstructions). They jump to near words, also into the middle of a
+//! sequence. Their accesses pass the end of a page, are not aligned, or are forbidden.
 use crate::limits::check_each;
+use crate::numbers::Numbers;
+use crate::replies::Calls;
 use anyhow::{Error, bail};
 use machine::{Image, Machine};
 use std::alloc::{AllocError, Global};
@@ -93,40 +95,17 @@ const PATTERNS: &[(u32, u32)] = &[
     (0x0005_0067, 0x0010_8000),
     (0x0000_0437, 0x0000_7380),
     (0x0000_0417, 0x0000_3380),
-    // addi x0, fence, ecall
+    // addi x0, fence, fence.i, ecall
     (0x0010_0013, 0x00f0_0000),
     (0x0ff0_000f, 0x0000_0000),
+    (0x0000_100f, 0x0000_0000),
     (0x0000_0073, 0x0000_0000),
 ];
-
-/// Numbers that seem random, by xorshift.
-#[derive(Drop)]
-struct Numbers {
-    state: u32,
-}
-
-impl Numbers {
-    fn next(&mut self) -> u32 {
-        let mut state = self.state;
-        state ^= state << 13;
-        state ^= state >> 17;
-        state ^= state << 5;
-        self.state = state;
-        state
-    }
-
-    /// The word of a pattern with its free bits at random.
-    fn word(&mut self) -> u32 {
-        let chosen = self.next() as usize % PATTERNS.len();
-        let (fixed, free) = PATTERNS[chosen];
-        fixed ^ self.next() & free
-    }
-}
 
 fn program(alloc: Global, numbers: &mut Numbers) -> Result<Vec<u32>, AllocError> {
     let mut words = Vec::from_slice(alloc, &START)?;
     for _ in 0..WORDS {
-        words.push(numbers.word())?;
+        words.push(numbers.word(PATTERNS))?;
     }
     Ok(words)
 }
@@ -135,16 +114,14 @@ fn program(alloc: Global, numbers: &mut Numbers) -> Result<Vec<u32>, AllocError>
 fn check_programs(alloc: Global) -> Result<u64, Error> {
     let mut count = 0u64;
     for seed in 1..PROGRAMS + 1 {
-        let mut numbers = Numbers {
-            state: seed * 0x9e37,
-        };
+        let mut numbers = Numbers::new(seed);
         let words = program(alloc, &mut numbers)?;
         if words.is_empty() || words.len() > 61_440 {
             continue;
         }
         let image = Image::from_text(alloc, words.as_slice())?;
         let first = Machine::load(alloc, &image)?;
-        match check_each(alloc, &first, STEPS) {
+        match check_each(alloc, &first, STEPS, Calls::End) {
             Ok(limits) => count = count.saturating_add(u64::from(limits)),
             Err(error) => bail!("random program {seed}: {error}"),
         }

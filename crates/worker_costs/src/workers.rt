@@ -133,6 +133,7 @@ fn run_alone(alloc: Global, machine: &mut Machine) {
         a0: 1,
         at: 0,
         bytes: Bytes::empty(alloc),
+        image: None,
     };
     for _ in 0..u32::MAX {
         if machine.count() >= ENOUGH {
