@@ -7,7 +7,7 @@ mod dependencies;
 mod laws;
 mod mark;
 
-pub use dependencies::Dependencies;
+pub use dependencies::{Dependencies, Dependencies as Deps};
 pub use kernel_model::Carrier;
 pub use laws::silent_events_leave_marks;
 pub use mark::Mark;

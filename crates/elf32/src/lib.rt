@@ -11,5 +11,6 @@ mod writing;
 
 pub use image_model::ElfFault;
 pub use laws::{round_trips, sound_files};
+pub use machine_model::Image;
 pub use parsing::parse;
 pub use writing::write;

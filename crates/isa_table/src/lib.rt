@@ -12,5 +12,5 @@ pub use arithmetic::{
     quotient_signed, remainder, remainder_signed, shifted_right_signed, sign_extended,
 };
 pub use execute::{Outcome, exec, exec_ref};
-pub use machine_model::{BusFault, Cause, Width};
+pub use machine_model::{Bus, BusFault, Cause, Width};
 pub use regs::Regs;
