@@ -19,7 +19,7 @@ use disk_model::{Change, Piece, checkpoints_fit};
 use files::FileTable;
 use journal::{body_of, first_gate, half_end, half_of, rebuild};
 use simdisk::{DiskRefusal, SimDisk};
-use std::alloc::Global;
+use std::alloc::{AllocError, Global};
 use std::marker::Model;
 
 /// The most changes of a group.
@@ -113,6 +113,13 @@ impl Committer {
         self.device.in_flight()
     }
 
+    /// The writes in flight, in the order in which they were submitted.
+    pub fn writes_in_flight(&self) -> &[Piece]
+        ensures { result.now ≡ self.now.device.in_flight }
+    {
+        self.device.writes_in_flight()
+    }
+
     /// Whether a write in flight begins there, so that `completed` is not refused, and `failed` for memory alone.
     pub fn is_in_flight(&self, at: u32) -> bool
         ensures { result ≡ is_some (piece_at self.now.device.in_flight at) }
@@ -203,6 +210,13 @@ impl Committer {
             next_committed: _,
         } = self;
         device.crash(fill)
+    }
+
+    /// The disk that a crash would leave now for a fill, as `SimDisk::after_crash` makes it.
+    pub fn after_crash(&self, fill: &[u8]) -> Result<SimDisk, AllocError>
+        ensures { IfOk result (λ d. d ≡ quiet (crashed self.now.device fill.now)) }
+    {
+        self.device.after_crash(fill)
     }
 
     /// Begins a group of the first 64 of these changes, or of all where there are fewer. Gives how many changes it will commit, and

@@ -5,7 +5,7 @@ ghost use Rattle.disk_model.specs.Runs.{quiet};
 ghost use Rattle.simdisk.specs.Room.{has_room, crashed, AreSpaced};
 ghost use Rattle.simdisk.specs.declared.refusal.DiskRefusal.TheVariants.{NoSuchWrite, OutOfRange, OutOfMemory, BadLength};
 
-use crate::ranges::{are_apart, fill_ranges, least_start_of, overwrite, place_of, take_out};
+use crate::ranges::{are_apart, least_start_of, leave_crashed, overwrite, place_of, take_out};
 use crate::refusal::DiskRefusal;
 use byte_list::Bytes;
 use disk_model::Piece;
@@ -122,6 +122,13 @@ impl SimDisk {
         least_start_of(&self.in_flight)
     }
 
+    /// The writes in flight, in the order in which they were submitted.
+    pub fn writes_in_flight(&self) -> &[Piece]
+        ensures { result.now ≡ self.now.in_flight }
+    {
+        &self.in_flight
+    }
+
     /// Whether a write in flight begins there, so that `complete` is not refused, and `fail` for memory alone.
     pub fn is_in_flight(&self, at: u32) -> bool
         ensures { result ≡ is_some (piece_at self.now.in_flight at) }
@@ -204,11 +211,23 @@ impl SimDisk {
     pub fn crash(mut self, fill: &[u8]) -> SimDisk
         ensures { result ≡ quiet (crashed self fill.now) }
     {
-        if !fill.is_empty() {
-            fill_ranges(&mut self.bytes, &self.in_flight, &self.failed, fill);
-        }
+        leave_crashed(&mut self.bytes, &self.in_flight, &self.failed, fill);
         self.in_flight = Vec::new(self.alloc);
         self.failed = Vec::new(self.alloc);
         self
+    }
+
+    /// The disk that `crash` would leave for this fill now, in memory of its own: 2 MiB are copied.
+    pub fn after_crash(&self, fill: &[u8]) -> Result<SimDisk, AllocError>
+        ensures { IfOk result (λ d. d ≡ quiet (crashed self.now fill.now)) }
+    {
+        let mut bytes = Vec::from_slice(self.alloc, &self.bytes)?;
+        leave_crashed(&mut bytes, &self.in_flight, &self.failed, fill);
+        Ok(SimDisk {
+            alloc: self.alloc,
+            bytes,
+            in_flight: Vec::new(self.alloc),
+            failed: Vec::new(self.alloc),
+        })
     }
 }

@@ -3,7 +3,7 @@ ghost use Rattle.std.specs.Prelude.{◌≡◌, ◌≤◌, ◌<◌, ◌+◌, ◌+
 ghost use Rattle.std.specs.List.{remove};
 ghost use Rattle.disk_model.specs.declared.change.Piece.{Piece};
 ghost use Rattle.disk_model.specs.Storage.{overwritten, piece_at, without, least_start};
-ghost use Rattle.simdisk.specs.Room.{in_range, is_apart, filled};
+ghost use Rattle.simdisk.specs.Room.{crashed, in_range, is_apart, filled};
 
 use disk_model::Piece;
 
@@ -98,7 +98,7 @@ fn range_end(pieces: &[Piece]) -> usize
 }
 
 /// Gives each byte in the range of a piece, by rising place, the next byte of the fill, which begins again after its last.
-pub fn fill_ranges(disk: &mut [u8], in_flight: &[Piece], failed: &[Piece], fill: &[u8])
+fn fill_ranges(disk: &mut [u8], in_flight: &[Piece], failed: &[Piece], fill: &[u8])
     requires { 1 ≤ length fill.now }
     ensures { disk.new ≡ filled (in_flight.now ++ failed.now) fill.now 0 0 disk.old }
 {
@@ -110,5 +110,14 @@ pub fn fill_ranges(disk: &mut [u8], in_flight: &[Piece], failed: &[Piece], fill:
             disk[place] = fill[count % fill.len()];
             count += 1;
         }
+    }
+}
+
+/// Leaves the bytes of a disk as a crash leaves them for this fill; an empty fill leaves the old ones.
+pub fn leave_crashed(disk: &mut [u8], in_flight: &[Piece], failed: &[Piece], fill: &[u8])
+    ensures { disk.new ≡ crashed (record { disk = disk.old; in_flight = in_flight.now; failed = failed.now }) fill.now }
+{
+    if !fill.is_empty() {
+        fill_ranges(disk, in_flight, failed, fill);
     }
 }
