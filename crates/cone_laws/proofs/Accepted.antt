@@ -1,4 +1,4 @@
--- A core that is booted alike accepts each event of a cone where it stands, and then the event itself.
+-- A core that is booted alike accepts each event of a cone where it stands, and then the event itself. So it does the visible events.
 use Rattle.std.proofs.Common.{◌≡◌, ℕ, zero, suc, ◌+◌, ◌*◌, ◌<◌, ◌≤◌, ◌||◌, ◌⊎◌, inl, inr, Bool, true, false, not, nat_lt, nat_le, List, [], ◌∷◌, ◌++◌, length, length-append, map, slice_get, Option, Some, None, is_none, is_some, refl, sym, ap, subst, ◌∙◌, arith}
 use Rattle.std.specs.Prelude.{if◌then◌else◌, count_by}
 use Rattle.std.specs.List.{AllByRecursion}
@@ -20,10 +20,11 @@ use Rattle.kernel_model.specs.declared.event.Event.TheVariants.{Turn, Enter, Cut
 use Rattle.kernel_model.proofs.Numbering.{numbered_first}
 use Rattle.kernel_model.proofs.Runs.{now-with_event}
 use Rattle.cone_laws.specs.Agreement.{Agree, AgreeOn}
-use Rattle.cone_laws.specs.Cones.{selected, path_flags, entry_of, cone_before, IsOfProcess}
+use Rattle.cone_laws.specs.Cones.{selected, path_flags, entry_of, cone_before, is_visible, visible_flags, visible, IsOfProcess}
 use Rattle.cone_laws.proofs.Coned.{agree_all, paths_closed}
 use Rattle.cone_laws.proofs.Frames.{turn_reads, enter_reads}
 use Rattle.cone_laws.proofs.Selected.{all_left, all_right, needed, IsClosed, taken, passed, step_numbered, after_sync, after_log}
+use Rattle.cone_laws.proofs.Visible.{log_idles, visible_closed}
 
 -- ---- tests that are fewer
 turn_less : (a b c d f : Bool) (w x y z : Refused) → first_of ((a ⇒ w) ∷ (b ⇒ x) ∷ (c ⇒ y) ∷ ((d || f) ⇒ z) ∷ []) ≡ None
@@ -214,3 +215,36 @@ cone_accepted b es e of h =
     let by_state : AllAccepted (at_boot b) (selected (path_flags (sync_log s es) (step (run_of b es).sync e).entry.reads) es ++ e ∷ []) =
     subst (λ (u : SyncState). AllAccepted (at_boot b) (selected (path_flags (sync_log s es) (step u e).entry.reads) es ++ e ∷ [])) (sym (after_sync es (first_world b))) (accepted_alone b es e of h) in
     subst (λ (log : List Entry). AllAccepted (at_boot b) (selected (path_flags log (entry_of b es e).reads) es ++ e ∷ [])) (sym (after_log es (first_world b))) by_state
+
+-- ---- the visible events
+visible_of : (es : List Event) (c : ℕ) (past : List Entry) (s : SyncState) → AllByRecursion IsOfProcess (selected (visible_flags c past (sync_log s es)) es)
+visible_of [] c past s = tt
+visible_of (Turn pid n ∷ es) c past s =
+    by _ (is_visible c past (step s (Turn pid n)).entry) (visible_of es c (past ++ (step s (Turn pid n)).entry ∷ []) (step s (Turn pid n)).state)
+  where
+    by : (xs : List Event) (b : Bool) → AllByRecursion IsOfProcess xs → AllByRecursion IsOfProcess (if b then Turn pid n ∷ xs else xs)
+    by xs true h = (tt, h)
+    by xs false h = h
+visible_of (Enter pid ∷ es) c past s =
+    by _ (is_visible c past (step s (Enter pid)).entry) (visible_of es c (past ++ (step s (Enter pid)).entry ∷ []) (step s (Enter pid)).state)
+  where
+    by : (xs : List Event) (b : Bool) → AllByRecursion IsOfProcess xs → AllByRecursion IsOfProcess (if b then Enter pid ∷ xs else xs)
+    by xs true h = (tt, h)
+    by xs false h = h
+visible_of (Cut ∷ es) c past s = visible_of es c (past ++ (step s Cut).entry ∷ []) (step s Cut).state
+visible_of (Complete at ∷ es) c past s = visible_of es c (past ++ (step s (Complete at)).entry ∷ []) (step s (Complete at)).state
+visible_of (Fail at ∷ es) c past s = visible_of es c (past ++ (step s (Fail at)).entry ∷ []) (step s (Fail at)).state
+
+seen_accepted : (b : Boot) (es : List Event) (c : ℕ) → AllAccepted (at_boot b) es
+    → AllAccepted (at_boot b) (selected (visible_flags c [] (sync_log (first_world b).sync es)) es)
+seen_accepted b es c h =
+    let s = (first_world b).sync in
+    let log = sync_log s es in
+    let ms = visible_flags c [] log in
+    picked_accepted es ms s s (at_boot b) (at_boot b) [] refl refl (numbered_first b.files) (numbered_first b.files)
+    (visible_closed log c [] (log_idles es s (numbered_first b.files))) (agree_all s (needed ms log [])) (visible_of es c [] s) (booted_in b.programs) (omega arith) h
+
+pub visible_accepted : (b : Boot) (es : List Event) → AllAccepted (at_boot b) es → AllAccepted (at_boot b) (visible b es)
+visible_accepted b es h =
+    subst (λ (log : List Entry). AllAccepted (at_boot b) (selected (visible_flags (run_of b es).storage.committed [] log) es)) (sym (after_log es (first_world b)))
+    (seen_accepted b es (run_of b es).storage.committed h)

@@ -43,12 +43,14 @@ pub record ConeSuffices (b : Boot) (es : List Event) (e : Event) : Type 0 where
   pub as_many : length (changes_selected 0 (cone_flags (run_of b es).log (entry_of b es e)) ((run_of b es).log ++ entry_of b es e ∷ []))
       ≡ length (changes_in_log ((run_of b (cone_before b es e)).log ++ entry_of b (cone_before b es e) e ∷ []))
 
--- The run of the visible events says all that may be seen of the whole run.
+-- The run of the visible events gives the committed files, all that terminals show of the whole run, and all that is handed out there to
+-- each process that is there.
 pub record VisibleSuffice (b : Boot) (es : List Event) : Type 0 where
   -- its changes are exactly the committed ones, in their order, so its files are those after them
   pub changes : changes_in_log (run_of b (visible b es)).log ≡ take (run_of b es).storage.committed (changes_in_log (run_of b es).log)
   pub files : (run_of b (visible b es)).sync.files.living ≡ files_after b.files (take (run_of b es).storage.committed (changes_in_log (run_of b es).log))
   -- what each terminal shows is a beginning of what is written to it there
   pub terminals : (t : ℕ) → IsBeginningOf (shown (run_of b es) t) (contents (printed t (run_of b (visible b es)).log))
-  -- what each process is handed that is there, its end included, is all that it is told there
+  -- What each process is handed that is there, its end included, is all that it is told there. A process whose fork rests on an
+  -- uncommitted change is not there, and of what it is handed nothing is said.
   pub traces : (p : ℕ) → p ≤ length (run_of b (visible b es)).sync.processes → handed (run_of b es) p ≡ contents (told p (run_of b (visible b es)).log)
