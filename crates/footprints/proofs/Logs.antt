@@ -11,7 +11,7 @@ use Rattle.kernel_model.specs.declared.carrier.Carrier.TheVariants.{Proc}
 use Rattle.kernel_model.specs.declared.event.Event.{Event}
 use Rattle.kernel_model.specs.declared.event.Event.TheVariants.{Turn, Enter, Cut, Complete, Fail}
 use Rattle.cone_laws.specs.Cones.{path_flags, cone_numbers, numbers_selected}
-use Rattle.footprints.specs.Footprints.{footprint_of, enter_count, enters_among, footprint_by, footprints_after, AreFootprints, AreInCone, IsOfDisk}
+use Rattle.footprints.specs.Footprints.{footprint_of, enter_count, enters_among, footprint_by, footprints_after, AreFootprints, AreTheCone, IsOfDisk}
 use Rattle.footprints.specs.Kept.{footprint, no_footprint}
 use Rattle.footprints.proofs.Walking.{cone_by}
 
@@ -136,7 +136,7 @@ there_is (e ∷ es) zero h = (e, refl)
 there_is (e ∷ es) (suc i) h = there_is es i (omega arith)
 
 pub in_cone : (events : List Event) (kept : List Entry) (n : ℕ) (numbers : List ℕ) → 1 ≤ n → n ≤ length events
-    → numbers ≡ cone_by (footprints_after 0 events kept) n → AreInCone events kept n numbers
+    → numbers ≡ cone_by (footprints_after 0 events kept) n → AreTheCone events kept n numbers
 in_cone events kept n numbers some there is log are =
     let long : length events ≡ length log = sym (after_length events 0 kept) ∙ ap (λ (xs : List Entry). length xs) are.1 ∙ length-map log footprint_of in
     let e = there_is log (n - 1) (omega (arith, some, there, long)) in

@@ -1,52 +1,32 @@
 -- The carriers of an Enter stand where its ends say, also after more were noted.
-use Rattle.std.proofs.Common.{◌≡◌, ℕ, zero, suc, ◌+◌, ◌-◌, ◌<◌, ◌≤◌, List, [], ◌∷◌, ◌++◌, length, take, drop, get_or, refl, ap, ◌∙◌, arith}
-use Rattle.std.proofs.lemmas.List.{length-append, length-drop, take-append-le, drop-append-le, take_all}
+use Rattle.std.proofs.Common.{append-nil, append_assoc, ◌≡◌, ℕ, zero, suc, ◌+◌, ◌-◌, ◌<◌, ◌≤◌, ◌⊎◌, inl, inr, List, [], ◌∷◌, ◌++◌, length, take, drop, get_or, refl, sym, ap, subst, ◌∙◌, arith}
+use Rattle.std.specs.List.{AllByRecursion}
+use Rattle.std.proofs.lemmas.Bool.{cases_lt}
+use Rattle.std.proofs.lemmas.List.{length-append, length-drop, length-map, take-append-le, drop-append-le, take_all}
 use Rattle.std.proofs.Math.Seq.{drop-append-add, drop-append_seam, take-append_seam}
+use Rattle.disk_model.proofs.Lists.{each_append, each_more}
 use Rattle.kernel_model.specs.Entries.{Entry}
 use Rattle.kernel_model.specs.declared.carrier.Carrier.{Carrier}
-use Rattle.footprints.specs.Kept.{footprint, no_footprint, part, start_of, footprints_from, AreSpaced}
+use Rattle.cone_laws.specs.Cones.{IsBeginningOf}
+use Rattle.footprints.specs.Kept.{footprint, no_footprint, part, footprint_in, footprints_in, IsWithin, AreWithin, IsPlaced}
 use Rattle.footprints.specs.declared.footprints.Ends.{Ends}
 
-pub spaced_most : (es : List Ends) (from to : ℕ) → AreSpaced from to es → from ≤ to
-spaced_most [] from to h = omega (arith, h)
-spaced_most (e ∷ es) from to h = omega (arith, h.0, h.1, spaced_most es e.writes to h.2)
-
-pub kept_length : (es : List Ends) (from : ℕ) (cs : List Carrier) → length (footprints_from from cs es) ≡ length es
-kept_length [] from cs = refl
-kept_length (e ∷ es) from cs = ap suc (kept_length es e.writes cs)
+pub kept_length : (es : List Ends) (cs : List Carrier) → length (footprints_in cs es) ≡ length es
+kept_length es cs = length-map es (footprint_in cs)
 
 -- an Enter's ends
 abbrev pub no_ends : Ends
-no_ends = record { reads = 0; writes = 0 }
+no_ends = record { from = 0; reads = 0; writes = 0 }
 
-pub start_after : (es : List Ends) (from i : ℕ) → i < length es → start_of from es (suc i) ≡ (get_or es i no_ends).writes
-start_after [] from i h = absurd (let no : ⊥ = omega arith in no)
-start_after (e ∷ []) from zero h = refl
-start_after (e ∷ f ∷ es) from zero h = refl
-start_after (e ∷ es) from (suc i) h = start_after es e.writes i (omega arith)
+pub kept_at : (es : List Ends) (cs : List Carrier) (i : ℕ) → i < length es → get_or (footprints_in cs es) i no_footprint ≡ footprint_in cs (get_or es i no_ends)
+kept_at [] cs i h = absurd (let no : ⊥ = omega arith in no)
+kept_at (e ∷ es) cs zero h = refl
+kept_at (e ∷ es) cs (suc i) h = kept_at es cs i (omega arith)
 
-pub reads_at : (es : List Ends) (from : ℕ) (cs : List Carrier) (i : ℕ) → i < length es
-    → (get_or (footprints_from from cs es) i no_footprint).reads ≡ part (start_of from es i) (get_or es i no_ends).reads cs
-reads_at [] from cs i h = absurd (let no : ⊥ = omega arith in no)
-reads_at (e ∷ es) from cs zero h = refl
-reads_at (e ∷ es) from cs (suc i) h = reads_at es e.writes cs i (omega arith)
-
-pub writes_at : (es : List Ends) (from : ℕ) (cs : List Carrier) (i : ℕ) → i < length es
-    → (get_or (footprints_from from cs es) i no_footprint).writes ≡ part (get_or es i no_ends).reads (get_or es i no_ends).writes cs
-writes_at [] from cs i h = absurd (let no : ⊥ = omega arith in no)
-writes_at (e ∷ es) from cs zero h = refl
-writes_at (e ∷ es) from cs (suc i) h = writes_at es e.writes cs i (omega arith)
-
--- they come in order, and within the list
-pub record IsWithin (start high : ℕ) (e : Ends) : Type 0 where
-  pub starts : start ≤ e.reads
-  pub reads : e.reads ≤ e.writes
-  pub writes : e.writes ≤ high
-
-pub spaced_at : (es : List Ends) (from to i : ℕ) → AreSpaced from to es → i < length es → IsWithin (start_of from es i) to (get_or es i no_ends)
-spaced_at [] from to i h less = absurd (let no : ⊥ = omega arith in no)
-spaced_at (e ∷ es) from to zero h less = record { starts = h.0; reads = h.1; writes = spaced_most es e.writes to h.2 }
-spaced_at (e ∷ es) from to (suc i) h less = spaced_at es e.writes to i h.2 (omega arith)
+pub within_at : (es : List Ends) (many i : ℕ) → AreWithin many es → i < length es → IsWithin many (get_or es i no_ends)
+within_at [] many i h less = absurd (let no : ⊥ = omega arith in no)
+within_at (e ∷ es) many zero h less = h.0
+within_at (e ∷ es) many (suc i) h less = within_at es many i h.1 (omega arith)
 
 -- ---- more
 part_kept : (from to : ℕ) (cs more : List Carrier) → from ≤ to → to ≤ length cs → part from to (cs ++ more) ≡ part from to cs
@@ -54,17 +34,48 @@ part_kept from to cs more le most =
     ap (take (to - from)) (drop-append-le from cs more (omega (arith, le, most)))
     ∙ take-append-le (to - from) (drop from cs) more (omega (arith, le, most, length-drop from cs))
 
-kept_stay : (es : List Ends) (from : ℕ) (cs more : List Carrier) → AreSpaced from (length cs) es → footprints_from from (cs ++ more) es ≡ footprints_from from cs es
-kept_stay [] from cs more h = refl
-kept_stay (e ∷ es) from cs more h =
-    let most = spaced_most es e.writes (length cs) h.2 in
-    let reads = part_kept from e.reads cs more h.0 (omega (arith, h.1, most)) in
-    let writes = part_kept e.reads e.writes cs more h.1 most in
-    ap (λ (xs : List Carrier). footprint xs (part e.reads e.writes (cs ++ more)) ∷ footprints_from e.writes (cs ++ more) es) reads
-    ∙ ap (λ (ys : List Carrier). footprint (part from e.reads cs) ys ∷ footprints_from e.writes (cs ++ more) es) writes
-    ∙ ap (λ (zs : List Entry). footprint (part from e.reads cs) (part e.reads e.writes cs) ∷ zs) (kept_stay es e.writes cs more h.2)
+one_stays : (e : Ends) (cs more : List Carrier) → IsWithin (length cs) e → footprint_in (cs ++ more) e ≡ footprint_in cs e
+one_stays e cs more h =
+    ap (λ (xs : List Carrier). footprint xs (part e.reads e.writes (cs ++ more))) (part_kept e.from e.reads cs more h.starts (omega (arith, h.reads, h.writes)))
+    ∙ ap (λ (ys : List Carrier). footprint (part e.from e.reads cs) ys) (part_kept e.reads e.writes cs more h.reads h.writes)
 
--- the carriers that come last
+kept_stay : (es : List Ends) (cs more : List Carrier) → AreWithin (length cs) es → footprints_in (cs ++ more) es ≡ footprints_in cs es
+kept_stay [] cs more h = refl
+kept_stay (e ∷ es) cs more h =
+    ap (λ (x : Entry). x ∷ footprints_in (cs ++ more) es) (one_stays e cs more h.0) ∙ ap (λ (xs : List Entry). footprint_in cs e ∷ xs) (kept_stay es cs more h.1)
+
+kept_last : (es : List Ends) (cs : List Carrier) (e : Ends) → footprints_in cs (es ++ e ∷ []) ≡ footprints_in cs es ++ footprint_in cs e ∷ []
+kept_last [] cs e = refl
+kept_last (x ∷ es) cs e = ap (λ (xs : List Entry). footprint_in cs x ∷ xs) (kept_last es cs e)
+
+-- one more Enter
+pub kept_more : (es : List Ends) (cs after : List Carrier) (e : Ends) (noted : Entry) → AreWithin (length cs) es → IsPlaced cs after e noted
+    → footprints_in after (es ++ e ∷ []) ≡ footprints_in cs es ++ noted ∷ []
+kept_more es cs after e noted h placed =
+    kept_last es after e
+    ∙ ap (λ (zs : List Carrier). footprints_in zs es ++ footprint_in after e ∷ []) placed.stay.is
+    ∙ ap (λ (xs : List Entry). xs ++ footprint_in after e ∷ []) (kept_stay es cs placed.stay.rest h)
+    ∙ ap (λ (x : Entry). footprints_in cs es ++ x ∷ []) placed.is
+
+widen : (many more : ℕ) → many ≤ more → (e : Ends) → IsWithin many e → IsWithin more e
+widen many more le e h = record { starts = h.starts; reads = h.reads; writes = omega (arith, le, h.writes) }
+
+either_long : (many : ℕ) (long noted chosen : Ends) → (16 < noted.writes - noted.from → chosen ≡ noted) → (noted.writes - noted.from ≤ 16 → chosen ≡ long)
+    → IsWithin many long → IsWithin many noted → IsWithin many chosen
+either_long many long noted chosen big small h k = elim (cases_lt 16 (noted.writes - noted.from)) as (λ _. IsWithin many chosen) [
+  | inl less ↦ subst (λ (e : Ends). IsWithin many e) (sym (big less)) k
+  | inr most ↦ subst (λ (e : Ends). IsWithin many e) (sym (small most)) h
+]
+
+pub within_more : (es : List Ends) (cs after : List Carrier) (long e chosen : Ends) (noted : Entry) → AreWithin (length cs) (long ∷ es) → IsPlaced cs after e noted
+    → (16 < e.writes - e.from → chosen ≡ e) → (e.writes - e.from ≤ 16 → chosen ≡ long) → AreWithin (length after) (chosen ∷ (es ++ e ∷ []))
+within_more es cs after long e chosen noted h placed big small =
+    let longer : length cs ≤ length after = let all = ap (λ (zs : List Carrier). length zs) placed.stay.is in omega (arith, all, length-append cs placed.stay.rest) in (
+      either_long (length after) long e chosen big small (widen (length cs) (length after) longer long h.0) placed.within,
+      each_append (IsWithin (length after)) es (e ∷ []) (each_more (IsWithin (length cs)) (IsWithin (length after)) (widen (length cs) (length after) longer) es h.1) (placed.within, tt),
+    )
+
+-- ---- where a footprint is placed
 part_first : (cs rs ws : List Carrier) (from to : ℕ) → from ≡ length cs → to ≡ length cs + length rs → part from to (cs ++ (rs ++ ws)) ≡ rs
 part_first cs rs ws from to f t =
     let size : to - from ≡ length rs = omega (arith, f, t) in
@@ -81,25 +92,21 @@ part_last cs rs ws from to f t =
     ∙ ap (take (length ws)) (drop-append-add cs (rs ++ ws) (length rs) ∙ drop-append_seam rs ws)
     ∙ take_all (length ws) ws (omega arith)
 
-kept_last : (es : List Ends) (from : ℕ) (cs : List Carrier) (e : Ends) → AreSpaced from (length cs) es → (more : List Carrier)
-    → footprints_from from (cs ++ more) (es ++ e ∷ []) ≡ footprints_from from (cs ++ more) es ++ footprint (part (length cs) e.reads (cs ++ more)) (part e.reads e.writes (cs ++ more)) ∷ []
-kept_last [] from cs e h more = ap (λ (n : ℕ). footprint (part n e.reads (cs ++ more)) (part e.reads e.writes (cs ++ more)) ∷ []) h
-kept_last (f ∷ es) from cs e h more = ap (λ (zs : List Entry). footprint (part from f.reads (cs ++ more)) (part f.reads f.writes (cs ++ more)) ∷ zs) (kept_last es f.writes cs e h.2 more)
+-- last, where the reads end after themselves, and the writes after both
+pub placed_last : (cs rs ws between after : List Carrier) (from reads writes : ℕ) → between ≡ cs ++ rs → after ≡ between ++ ws → from ≡ length cs → reads ≡ length between → writes ≡ length after
+    → IsPlaced cs after (record { from = from; reads = reads; writes = writes }) (footprint rs ws)
+placed_last cs rs ws between after from reads writes b a f r w =
+    let all : after ≡ cs ++ (rs ++ ws) = a ∙ ap (λ (zs : List Carrier). zs ++ ws) b ∙ append_assoc cs rs ws in
+    let read_to : reads ≡ length cs + length rs = r ∙ ap (λ (zs : List Carrier). length zs) b ∙ length-append cs rs in
+    let written_to : writes ≡ length cs + length rs + length ws = let long = w ∙ ap (λ (zs : List Carrier). length zs) a in omega (arith, long, r, read_to, length-append between ws) in
+    record {
+      stay = record { rest = rs ++ ws; is = all };
+      within = record { starts = omega (arith, f, read_to); reads = omega (arith, read_to, written_to); writes = omega (arith, w) };
+      is = ap (λ (zs : List Carrier). footprint (part from reads zs) (part reads writes zs)) all
+          ∙ ap (λ (xs : List Carrier). footprint xs (part reads writes (cs ++ (rs ++ ws)))) (part_first cs rs ws from reads f read_to)
+          ∙ ap (λ (ys : List Carrier). footprint rs ys) (part_last cs rs ws reads writes read_to written_to);
+    }
 
--- one more Enter
-pub kept_more : (es : List Ends) (cs rs ws : List Carrier) (e : Ends) → AreSpaced 0 (length cs) es → e.reads ≡ length cs + length rs → e.writes ≡ length cs + length rs + length ws
-    → footprints_from 0 (cs ++ (rs ++ ws)) (es ++ e ∷ []) ≡ footprints_from 0 cs es ++ footprint rs ws ∷ []
-kept_more es cs rs ws e h reads writes =
-    kept_last es 0 cs e h (rs ++ ws)
-    ∙ ap (λ (zs : List Entry). zs ++ footprint (part (length cs) e.reads (cs ++ (rs ++ ws))) (part e.reads e.writes (cs ++ (rs ++ ws))) ∷ []) (kept_stay es 0 cs (rs ++ ws) h)
-    ∙ ap (λ (xs : List Carrier). footprints_from 0 cs es ++ footprint xs (part e.reads e.writes (cs ++ (rs ++ ws))) ∷ []) (part_first cs rs ws (length cs) e.reads refl reads)
-    ∙ ap (λ (ys : List Carrier). footprints_from 0 cs es ++ footprint rs ys ∷ []) (part_last cs rs ws e.reads e.writes reads writes)
-
-spaced_last : (es : List Ends) (from high to : ℕ) (e : Ends) → AreSpaced from high es → high ≤ e.reads → e.reads ≤ e.writes → e.writes ≡ to → AreSpaced from to (es ++ e ∷ [])
-spaced_last [] from high to e h a b c = (omega (arith, h, a), b, c)
-spaced_last (f ∷ es) from high to e h a b c = (h.0, h.1, spaced_last es f.writes high to e h.2 a b c)
-
-pub spaced_more : (es : List Ends) (cs rs ws : List Carrier) (e : Ends) → AreSpaced 0 (length cs) es → e.reads ≡ length cs + length rs → e.writes ≡ length cs + length rs + length ws
-    → AreSpaced 0 (length (cs ++ (rs ++ ws))) (es ++ e ∷ [])
-spaced_more es cs rs ws e h reads writes =
-    spaced_last es 0 (length cs) (length (cs ++ (rs ++ ws))) e h (omega (arith, reads)) (omega (arith, reads, writes)) (omega (arith, writes, length-append cs (rs ++ ws), length-append rs ws))
+-- where one stands already
+pub placed_there : (cs : List Carrier) (e : Ends) (noted : Entry) → IsWithin (length cs) e → footprint_in cs e ≡ noted → IsPlaced cs cs e noted
+placed_there cs e noted h is = record { stay = record { rest = []; is = sym (append-nil cs) }; within = h; is = is }

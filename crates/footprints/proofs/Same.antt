@@ -1,14 +1,17 @@
--- Two carriers are one where `==` says so.
+-- Two carriers are one where `==` says so, and so are two footprints.
 use Rattle.std.proofs.lemmas.List.{take_more}
-use Rattle.std.proofs.Common.{◌≡◌, ℕ, ◌+◌, ◌<◌, length, take, get_or, ◌==◌, ◌||◌, Bool, true, false, cond, List, [], ◌∷◌, ◌++◌, refl, sym, ap, ◌∙◌}
+use Rattle.std.proofs.Common.{◌≡◌, ℕ, ◌+◌, ◌<◌, length, take, get_or, ◌==◌, ◌||◌, ◌&&◌, Bool, true, false, cond, List, [], ◌∷◌, ◌++◌, refl, sym, ap, subst, ◌∙◌}
+use Rattle.std.specs.Bool.{Decides}
 use Rattle.std.specs.List.{list_any}
-use Rattle.std.proofs.lemmas.Bool.{eqb-true, eqb-false, eq-eqb, ne_eqb}
+use Rattle.std.proofs.lemmas.Bool.{eqb-true, eqb-false, eq-eqb, ne_eqb, and_parts, and_from, false≢true}
 use Rattle.std.proofs.lemmas.List.Folds.{list_any-append}
 use Rattle.std.proofs.Math.Bool.{or-false, or_assoc, or_comm}
 use Rattle.kernel_model.specs.declared.carrier.Carrier.{Carrier}
 use Rattle.kernel_model.specs.declared.carrier.Carrier.TheVariants.{Proc, File, Names, Pipe, Pipes, Tasks, Tape}
 use Rattle.kernel_model.specs.contracts.carrier.CarrierPartialEq.TheImpl as carrier
-use Rattle.kernel_model.specs.Entries.{is_same, is_among}
+use Rattle.kernel_model.specs.Entries.{Entry, is_same, is_among}
+use Rattle.cone_laws.proofs.Resting.{same_is}
+use Rattle.footprints.specs.Kept.{footprint}
 
 pub same-eq : (x y : Carrier) → carrier.ghosts.eq x y ≡ is_same x y
 same-eq (Proc a) (Proc b) = refl
@@ -60,6 +63,28 @@ same-eq (Tape a) (Pipe b) = refl
 same-eq (Tape a) Pipes = refl
 same-eq (Tape a) Tasks = refl
 same-eq (Tape a) (Tape b) = refl
+
+same_self : (x : Carrier) → is_same x x ≡ true
+same_self (Proc a) = eq-eqb a a refl
+same_self (File a) = eq-eqb a a refl
+same_self Names = refl
+same_self (Pipe a) = eq-eqb a a refl
+same_self Pipes = refl
+same_self Tasks = refl
+same_self (Tape a) = eq-eqb a a refl
+
+pub same-Decides : (x y : Carrier) → Decides (carrier.ghosts.eq x y) (x ≡ y)
+same-Decides x y = ((λ h. same_is x y (sym (same-eq x y) ∙ h)), (λ h. same-eq x y ∙ subst (λ (z : Carrier). is_same x z ≡ true) h (same_self x)))
+
+-- a footprint is one where its reads and its writes are
+pub footprint-Decides : (rs ws xs ys : List Carrier) (r w b : Bool) → Decides r (rs ≡ xs) → Decides w (ws ≡ ys) → b ≡ (r && w) → Decides b (footprint rs ws ≡ footprint xs ys)
+footprint-Decides rs ws xs ys r w b dr dw is = (
+  (λ h. let both = and_parts r w (sym is ∙ h) in ap (λ (zs : List Carrier). footprint zs ws) (dr.0 both.0) ∙ ap (λ (zs : List Carrier). footprint xs zs) (dw.0 both.1)),
+  (λ h. is ∙ and_from r w (dr.1 (ap (λ (e : Entry). e.reads) h)) (dw.1 (ap (λ (e : Entry). e.writes) h))),
+)
+
+pub footprint-differs : (rs ws xs ys : List Carrier) (r : Bool) → r ≡ false → Decides r (rs ≡ xs) → Decides r (footprint rs ws ≡ footprint xs ys)
+footprint-differs rs ws xs ys r is dr = ((λ h. absurd (false≢true (sym is ∙ h))), (λ h. dr.1 (ap (λ (e : Entry). e.reads) h)))
 
 -- a set has what is among its keys, and what is put into it
 pub has-among : (x : Carrier) (keys : List Carrier) → list_any (carrier.ghosts.eq x) keys ≡ is_among x keys

@@ -47,8 +47,8 @@ abbrev pub AreFootprints : List Event → List Entry → List Entry → Type 0
 AreFootprints events log kept = (length kept ≡ enters_among events) × (footprints_after 0 events kept ≡ map footprint_of log)
 
 -- these are the numbers of the events in the cone of event n, of whatever log of these events the footprints are
-abbrev pub AreInCone : List Event → List Entry → ℕ → List ℕ → Type 0
-AreInCone events kept n numbers = (log : List Entry) → AreFootprints events log kept → numbers ≡ cone_numbers log n (slice_get log (n - 1))
+abbrev pub AreTheCone : List Event → List Entry → ℕ → List ℕ → Type 0
+AreTheCone events kept n numbers = (log : List Entry) → AreFootprints events log kept → numbers ≡ cone_numbers log n (slice_get log (n - 1))
 
 -- the event is one of the disk
 abbrev pub IsOfDisk : Event → Type 0

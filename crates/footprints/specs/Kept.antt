@@ -1,7 +1,9 @@
--- How the footprints of Enters are kept: all carriers in one list, and of each Enter where its own end there.
-use Rattle.std.specs.Prelude.{◌≡◌, ℕ, zero, suc, ◌-◌, ◌≤◌, List, [], ◌∷◌, drop, take, None}
+-- How the footprints of Enters are kept: all carriers in one list, and of each Enter where its own begin and end there.
+use Rattle.std.specs.Prelude.{◌≡◌, ℕ, ◌-◌, ◌≤◌, List, [], length, map, drop, take, None}
+use Rattle.std.specs.List.{AllByRecursion}
 use Rattle.kernel_model.specs.Entries.{Entry}
 use Rattle.kernel_model.specs.declared.carrier.Carrier.{Carrier}
+use Rattle.cone_laws.specs.Cones.{IsBeginningOf}
 use Rattle.footprints.specs.declared.footprints.Ends.{Ends}
 
 -- a footprint: an entry of which the carriers alone are known
@@ -16,21 +18,29 @@ no_footprint = footprint [] []
 abbrev pub part : ℕ → ℕ → List Carrier → List Carrier
 part from to cs = take (to - from) (drop from cs)
 
--- the footprints with these ends, where the first one's carriers begin at a place of the list
-abbrev pub footprints_from : ℕ → List Carrier → List Ends → List Entry
-footprints_from from cs [] = []
-footprints_from from cs (e ∷ es) = footprint (part from e.reads cs) (part e.reads e.writes cs) ∷ footprints_from e.writes cs es
+-- the footprint with these ends
+abbrev pub footprint_in : List Carrier → Ends → Entry
+footprint_in cs e = footprint (part e.from e.reads cs) (part e.reads e.writes cs)
 
--- the place where the carriers of footprint i begin, counted from 0
-abbrev pub start_of : ℕ → List Ends → ℕ → ℕ
-start_of from es zero = from
-start_of from [] (suc i) = from
-start_of from (e ∷ es) (suc i) = start_of e.writes es i
+-- the footprints with these ends
+abbrev pub footprints_in : List Carrier → List Ends → List Entry
+footprints_in cs es = map (footprint_in cs) es
 
--- the ends rise, from one place up to another
-abbrev pub AreSpaced : ℕ → ℕ → List Ends → Type 0
-AreSpaced from to [] = from ≡ to
-AreSpaced from to (e ∷ es) = (from ≤ e.reads) × (e.reads ≤ e.writes) × AreSpaced e.writes to es
+-- the ends come in order, and within so many carriers
+pub record IsWithin (many : ℕ) (e : Ends) : Type 0 where
+  pub starts : e.from ≤ e.reads
+  pub reads : e.reads ≤ e.writes
+  pub writes : e.writes ≤ many
+
+-- so do all of these
+abbrev pub AreWithin : ℕ → List Ends → Type 0
+AreWithin many es = AllByRecursion (IsWithin many) es
+
+-- These carriers stay, with more after them or none. There this footprint has these ends.
+pub record IsPlaced (before after : List Carrier) (e : Ends) (noted : Entry) : Type 0 where
+  pub stay : IsBeginningOf before after
+  pub within : IsWithin (length after) e
+  pub is : footprint_in after e ≡ noted
 
 -- The footprints that are kept, one for each Enter. And the room that there is: for how many more, and for how many carriers more.
 pub record Kept : Type 0 where

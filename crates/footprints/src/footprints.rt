@@ -1,32 +1,25 @@
 //! What is kept of the footprints of events, and the walk back from one event over those on which it rests.
-ghost use Rattle.std.specs.Prelude.{◌≡◌, ◌+◌, ◌<◌, ◌≤◌, ◌∷◌, ◌++◌, ◌||◌, ◌⊎◌, [], length, vec_len, vec_capacity, get_or, IfOk, OnOk, OnErr};
+ghost use Rattle.std.specs.Prelude.{◌≡◌, ◌+◌, ◌-◌, ◌<◌, ◌≤◌, ◌∷◌, ◌++◌, ◌||◌, ◌⊎◌, [], length, vec_len, vec_capacity, get_or, IfOk, OnOk, OnErr};
+ghost use Rattle.std.specs.Bool.{Decides};
 ghost use Rattle.kernel_model.specs.declared.carrier.Carrier.{Carrier as Carried};
 ghost use Rattle.kernel_model.specs.Entries.{is_among, meets};
-ghost use Rattle.footprints.specs.Footprints.{is_enter, enter_count, enters_among, footprint_by, AreInCone};
-ghost use Rattle.footprints.specs.Kept.{footprint, no_footprint, part, start_of, footprints_from, AreSpaced};
+ghost use Rattle.footprints.specs.Footprints.{is_enter, enter_count, enters_among, footprint_by, AreTheCone};
+ghost use Rattle.footprints.specs.Kept.{footprint, no_footprint, part, footprint_in, footprints_in, IsWithin, AreWithin, IsPlaced};
 
 use crate::wanted::Wanted;
 use kernel_model::{Carrier, Event};
 use std::alloc::{AllocError, Global};
 use std::marker::Model;
 
-/// Where the carriers of an Enter end: those that it reads beside its process, and after them those that it writes.
+/// A footprint of more carriers than these is long. A long one that comes again is not kept again.
+const LONGEST_SHORT: usize = 16;
+
+/// Where the carriers of an Enter stand: from a place on those that it reads beside its process, and after them those that it writes.
 #[derive(Clone, Copy)]
 struct Ends {
+    from: usize,
     reads: usize,
     writes: usize,
-}
-
-/// The place where the carriers of an Enter begin, which is where those of the Enter before it end.
-fn start(ends: &[Ends], enter: usize) -> usize
-    requires { enter < length ends.now }
-    ensures { result ≡ start_of 0 ends.now enter }
-{
-    if enter == 0 {
-        0
-    } else {
-        ends[enter - 1].writes
-    }
 }
 
 /// The carriers from one place up to another.
@@ -41,20 +34,29 @@ fn part_of(carriers: &[Carrier], from: usize, to: usize) -> &[Carrier]
 /// The carriers that an Enter reads beside its process.
 fn read_by<'a>(carriers: &'a [Carrier], ends: &[Ends], enter: usize) -> &'a [Carrier]
     requires there { enter < length ends.now }
-    requires spaced { AreSpaced 0 (length carriers.now) ends.now }
-    ensures { result.now ≡ (get_or (footprints_from 0 carriers.now ends.now) enter no_footprint).reads }
+    requires within { AreWithin (length carriers.now) ends.now }
+    ensures { result.now ≡ (get_or (footprints_in carriers.now ends.now) enter no_footprint).reads }
 {
-    let from = start(ends, enter);
-    part_of(carriers, from, ends[enter].reads)
+    part_of(carriers, ends[enter].from, ends[enter].reads)
 }
 
 /// The carriers that an Enter writes.
 fn written_by<'a>(carriers: &'a [Carrier], ends: &[Ends], enter: usize) -> &'a [Carrier]
     requires there { enter < length ends.now }
-    requires spaced { AreSpaced 0 (length carriers.now) ends.now }
-    ensures { result.now ≡ (get_or (footprints_from 0 carriers.now ends.now) enter no_footprint).writes }
+    requires within { AreWithin (length carriers.now) ends.now }
+    ensures { result.now ≡ (get_or (footprints_in carriers.now ends.now) enter no_footprint).writes }
 {
     part_of(carriers, ends[enter].reads, ends[enter].writes)
+}
+
+/// Whether the footprint that stands there is this one.
+fn is_footprint(carriers: &[Carrier], ends: Ends, reads: &[Carrier], writes: &[Carrier]) -> bool
+    requires { IsWithin (length carriers.now) ends }
+    ensures { Decides result (footprint_in carriers.now ends ≡ footprint reads.now writes.now) }
+{
+    let read = part_of(carriers, ends.from, ends.reads);
+    let written = part_of(carriers, ends.reads, ends.writes);
+    read == reads && written == writes
 }
 
 /// These carriers come last. Answers how many there are then. Takes no memory.
@@ -67,6 +69,53 @@ fn append(carriers: &mut Vec<Carrier>, more: &[Carrier]) -> usize
 {
     carriers.extend_from_slice(more).unwrap();
     carriers.len()
+}
+
+/// The carriers of a footprint come last. Takes no memory.
+fn append_footprint(carriers: &mut Vec<Carrier>, reads: &[Carrier], writes: &[Carrier]) -> Ends
+    requires { vec_len carriers.old + (length reads.now + length writes.now) ≤ vec_capacity carriers.old }
+    ensures placed { IsPlaced carriers.old.items carriers.new.items result (footprint reads.now writes.now) }
+    ensures len { vec_len carriers.new ≡ vec_len carriers.old + (length reads.now + length writes.now) }
+    ensures room { vec_capacity carriers.old ≤ vec_capacity carriers.new }
+{
+    let from = carriers.len();
+    let read_to = append(carriers, reads);
+    let written_to = append(carriers, writes);
+    Ends {
+        from,
+        reads: read_to,
+        writes: written_to,
+    }
+}
+
+/// Where the carriers of a footprint stand: if it is the same as the last long one, with that one's. Else they come last. Takes no
+/// memory.
+fn place(carriers: &mut Vec<Carrier>, long: Ends, reads: &[Carrier], writes: &[Carrier]) -> Ends
+    requires long { IsWithin (length carriers.old.items) long }
+    requires room { vec_len carriers.old + (length reads.now + length writes.now) ≤ vec_capacity carriers.old }
+    ensures placed { IsPlaced carriers.old.items carriers.new.items result (footprint reads.now writes.now) }
+    ensures again { footprint_in carriers.old.items long ≡ footprint reads.now writes.now → carriers.new ≡ carriers.old }
+    ensures len { vec_len carriers.new ≤ vec_len carriers.old + (length reads.now + length writes.now) }
+    ensures room { vec_capacity carriers.old ≤ vec_capacity carriers.new }
+{
+    if is_footprint(carriers, long, reads, writes) {
+        long
+    } else {
+        append_footprint(carriers, reads, writes)
+    }
+}
+
+/// The last long footprint, once this one is noted after that one.
+fn last_long(long: Ends, noted: Ends) -> Ends
+    requires { noted.from ≤ noted.writes }
+    ensures long { 16 < noted.writes - noted.from → result ≡ noted }
+    ensures short { noted.writes - noted.from ≤ 16 → result ≡ long }
+{
+    if noted.writes - noted.from > LONGEST_SHORT {
+        noted
+    } else {
+        long
+    }
 }
 
 /// Whether an event is an Enter.
@@ -95,13 +144,17 @@ fn enters_before(event: Event, enters_after: usize) -> usize
     }
 }
 
-/// The footprints of a run's Enters, in order. An Enter takes 16 bytes, and 16 for each carrier: those that it reads beside its process,
-/// and all that it writes. The other events take none, since the history says their footprints: a Turn reads and writes its process, and
-/// an event of the disk reads and writes nothing.
+/// The footprints of a run's Enters, in order. An Enter takes 24 bytes, and 16 for each carrier: those that it reads beside its process,
+/// and all that it writes. An Enter of more than 16 carriers takes 24 bytes alone if the last one of more than 16 had just the same. So
+/// a process that waits for its many children, and asks again and again, takes 24 bytes each time. Where two of them ask by turns, each
+/// Enter takes the whole. The other events take nothing, since the history says their footprints: a Turn reads and writes its process,
+/// and an event of the disk reads and writes nothing.
 pub struct Footprints {
-    /// Those of all Enters, one Enter after the other: first those that it reads, then those that it writes.
+    /// Those of the Enters, one after the other: first those that it reads, then those that it writes.
     carriers: Vec<Carrier>,
     ends: Vec<Ends>,
+    /// Of the last Enter whose footprint is long. Before there is one, of no carriers.
+    long: Ends,
 }
 
 impl Drop for Footprints {
@@ -109,23 +162,24 @@ impl Drop for Footprints {
         let Footprints {
             carriers: _carriers,
             ends: _ends,
+            long: _long,
         } = self;
     }
 }
 
 impl Model for Footprints {
-    ghost use Rattle.std.specs.Prelude.{List, length, ◌-◌, vec_len, vec_capacity};
-    ghost use Rattle.footprints.specs.Kept.{Kept, footprints_from, AreSpaced};
+    ghost use Rattle.std.specs.Prelude.{List, length, ◌-◌, ◌∷◌, vec_len, vec_capacity};
+    ghost use Rattle.footprints.specs.Kept.{Kept, footprints_in, AreWithin};
 
     ghost Value = { Kept };
 
     ghost view = { λ f. record {
-      footprints = footprints_from 0 f.carriers.items f.ends.items;
+      footprints = footprints_in f.carriers.items f.ends.items;
       enter_room = vec_capacity f.ends - vec_len f.ends;
       carrier_room = vec_capacity f.carriers - vec_len f.carriers;
     } };
 
-    ghost invariant = { λ f. AreSpaced 0 (length f.carriers.items) f.ends.items };
+    ghost invariant = { λ f. AreWithin (length f.carriers.items) (f.long ∷ f.ends.items) };
 }
 
 impl Footprints {
@@ -136,6 +190,11 @@ impl Footprints {
         Footprints {
             carriers: Vec::new(alloc),
             ends: Vec::new(alloc),
+            long: Ends {
+                from: 0,
+                reads: 0,
+                writes: 0,
+            },
         }
     }
 
@@ -160,9 +219,9 @@ impl Footprints {
         ensures enter_room { self.old.enter_room ≤ self.new.enter_room + 1 }
         ensures carrier_room { self.old.carrier_room ≤ self.new.carrier_room + (length reads.now + length writes.now) }
     {
-        let reads = append(&mut self.carriers, reads);
-        let writes = append(&mut self.carriers, writes);
-        self.ends.push(Ends { reads, writes }).unwrap();
+        let ends = place(&mut self.carriers, self.long, reads, writes);
+        self.long = last_long(self.long, ends);
+        self.ends.push(ends).unwrap();
     }
 
     /// The carriers that an Enter reads beside its process.
@@ -219,7 +278,7 @@ impl Footprints {
         requires first { 1 ≤ n }
         requires there { n ≤ length events.now }
         requires kept { length self.now.footprints ≡ enters_among events.now }
-        ensures { IfOk result (λ numbers. AreInCone events.now self.now.footprints n numbers.items) }
+        ensures { IfOk result (λ numbers. AreTheCone events.now self.now.footprints n numbers.items) }
     {
         let mut enters = count_enters(&events[..n - 1]);
         let mut wanted = Wanted::new(alloc);

@@ -1,52 +1,36 @@
--- One Enter more, whose carriers come last.
-use Rattle.std.proofs.Common.{arith, rules, append_assoc, ◌≡◌, ◌+◌, ◌++◌, ◌∷◌, [], List, length, length-append, ap, sym, subst, ◌∙◌}
-use Rattle.kernel_model.specs.declared.carrier.Carrier.{Carrier}
-use Rattle.footprints.specs.Kept.{Kept, footprint, footprints_from, AreSpaced}
+-- One Enter more, whose carriers stand with those of the last long one, or last.
+use Rattle.std.proofs.Common.{arith, rules, ◌≡◌, ◌++◌, ◌∷◌, [], List, length, ap, subst, sym, ◌∙◌}
+use Rattle.footprints.specs.Kept.{Kept, footprint, footprints_in, AreWithin}
 use Rattle.footprints.specs.declared.footprints.Ends.{Ends}
-use Rattle.footprints.proofs.Placing.{kept_more, spaced_more}
+use Rattle.footprints.proofs.Placing.{kept_more, within_more}
 use Rattle.footprints.proofs.footprints.Footprints.note.Goals as goal
 use Rattle.footprints.proofs.footprints.Footprints.note.Goals.{After-unwrap}
 
--- the carriers and the ends then
-all_carriers : (c : After-unwrap) → c.append-writes.new.carriers.items ≡ c.self.inside.carriers.items ++ (c.args.reads.now ++ c.args.writes.now)
-all_carriers c =
-    c.append-writes.ensures.items
-    ∙ ap (λ (cs : List Carrier). cs ++ c.args.writes.now) c.append-reads.ensures.items
-    ∙ append_assoc c.self.inside.carriers.items c.args.reads.now c.args.writes.now
-
-read_to : (c : After-unwrap) → c.append-reads.result ≡ length c.self.inside.carriers.items + length c.args.reads.now
-read_to c =
-    c.append-reads.ensures.count ∙ ap (λ (cs : List Carrier). length cs) c.append-reads.ensures.items ∙ length-append c.self.inside.carriers.items c.args.reads.now
-
-written_to : (c : After-unwrap) → c.append-writes.result ≡ length c.self.inside.carriers.items + length c.args.reads.now + length c.args.writes.now
-written_to c =
-    let all = c.append-writes.ensures.count ∙ ap (λ (cs : List Carrier). length cs) (all_carriers c) in
-    omega (arith, all, length-append c.self.inside.carriers.items (c.args.reads.now ++ c.args.writes.now), length-append c.args.reads.now c.args.writes.now)
-
-all_ends : (c : After-unwrap) → c.push.new.self.items ≡ c.self.inside.ends.items ++ record { reads = c.append-reads.result; writes = c.append-writes.result } ∷ []
+all_ends : (c : After-unwrap) → c.push.new.self.items ≡ c.self.inside.ends.items ++ c.place-ends.result ∷ []
 all_ends c = search rules
 
-pub append-reads-requires : goal.append-reads-requires
-append-reads-requires c =
+pub place-ends-requires-clause-long : goal.place-ends-requires-clause-long
+place-ends-requires-clause-long c = c.self.invariant.0
+
+pub place-ends-requires-clause-room : goal.place-ends-requires-clause-room
+place-ends-requires-clause-room c =
     let room = ap (λ (k : Kept). k.carrier_room) c.self.view_is in
     omega (arith, room, c.requires.carriers, c.requires.enter)
 
-pub append-writes-requires : goal.append-writes-requires
-append-writes-requires c =
-    let room = ap (λ (k : Kept). k.carrier_room) c.self.view_is in
-    omega (arith, room, c.requires.carriers, c.append-reads.ensures.len, c.append-reads.ensures.room)
+pub last_long-self-inside-requires : goal.last_long-self-inside-requires
+last_long-self-inside-requires c =
+    let within = c.place-ends.ensures.placed.within in
+    omega (arith, within.starts, within.reads)
 
 pub invariant_of-self : goal.invariant_of-self
 invariant_of-self c =
     let at = (goal.at.invariant_of-self c).After-unwrap in
-    subst (λ (cs : List Carrier). AreSpaced 0 (length cs) c.push.new.self.items) (sym (all_carriers at))
-    (subst (λ (es : List Ends). AreSpaced 0 (length (c.self.inside.carriers.items ++ (c.args.reads.now ++ c.args.writes.now))) es) (sym (all_ends at))
-    (spaced_more c.self.inside.ends.items c.self.inside.carriers.items c.args.reads.now c.args.writes.now _ c.self.invariant (read_to at) (written_to at)))
+    subst (λ (es : List Ends). AreWithin (length at.place-ends.new.carriers.items) (at.last_long-self-inside.result ∷ es)) (sym (all_ends at))
+    (within_more c.self.inside.ends.items c.self.inside.carriers.items _ c.self.inside.long at.place-ends.result at.last_long-self-inside.result _ c.self.invariant at.place-ends.ensures.placed at.last_long-self-inside.ensures.long at.last_long-self-inside.ensures.short)
 
 pub returns-clause-footprints : goal.returns-clause-footprints
 returns-clause-footprints c =
     let at = (goal.at.returns-clause-footprints c).After-unwrap in
-    ap (λ (cs : List Carrier). footprints_from 0 cs c.push.new.self.items) (all_carriers at)
-    ∙ ap (λ (es : List Ends). footprints_from 0 (c.self.inside.carriers.items ++ (c.args.reads.now ++ c.args.writes.now)) es) (all_ends at)
-    ∙ kept_more c.self.inside.ends.items c.self.inside.carriers.items c.args.reads.now c.args.writes.now _ c.self.invariant (read_to at) (written_to at)
+    ap (λ (es : List Ends). footprints_in at.place-ends.new.carriers.items es) (all_ends at)
+    ∙ kept_more c.self.inside.ends.items c.self.inside.carriers.items _ at.place-ends.result _ c.self.invariant.1 at.place-ends.ensures.placed
     ∙ ap (λ (k : Kept). k.footprints ++ footprint c.args.reads.now c.args.writes.now ∷ []) c.self.view_is
