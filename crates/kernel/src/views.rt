@@ -1,5 +1,5 @@
 //! What may be seen of a run.
-ghost use Rattle.std.specs.Prelude.{◌≡◌, ◌<◌, None, true, is_some, IfOk, OnOk, IfErr};
+ghost use Rattle.std.specs.Prelude.{◌≡◌, ◌<◌, None, true, is_some, IsSomeAnd, IfOk, OnOk, IfErr};
 ghost use Rattle.kernel_model.specs.Answers.{now, process_of, committed as committed_in, changes as changes_in, in_flight as least_in_flight, wants_cut as is_cut_wanted};
 ghost use Rattle.kernel_model.specs.Ran.{ran_by_turns};
 ghost use Rattle.kernel_model.specs.Shown.{shown as shown_of, handed, replies_in, end_in};
@@ -8,8 +8,10 @@ ghost use Rattle.kernel_model.specs.declared.answer.Refused.TheVariants.{NoProce
 ghost use Rattle.kernel.specs.Sums.{sum_of_turns, sum_of_enters};
 
 use crate::cores::Core;
+use disk_model::Piece;
 use files::FileList;
 use kernel_model::{Event, Refused};
+use kernel_step::Machine;
 use machine_model::Reply;
 
 impl Core {
@@ -102,5 +104,23 @@ impl Core {
         ensures { result ≡ least_in_flight (now self.now) }
     {
         self.running.in_flight()
+    }
+
+    /// The writes in flight, in the order in which they were submitted, each with the place on the disk at which it begins, and its
+    /// bytes. A Complete or a Fail names one by its place.
+    pub fn writes_in_flight(&self) -> &[Piece]
+        ensures { result.now ≡ (now self.now).storage.device.in_flight }
+    {
+        self.running.writes_in_flight()
+    }
+
+    /// The machine of a process as it stands between two events; of one that is lent, as it stood when it was lent. For whoever draws
+    /// or debugs a run: `Machine::reg` and `Machine::pc` read its registers, and `byte` of its `Machine::space` its bytes.
+    /// Refused: NoProcess.
+    pub fn machine(&self, pid: u32) -> Result<&Machine, Refused>
+        ensures machine { IfOk result (λ machine. IsSomeAnd (process_of self.now pid) (λ process. machine.now ≡ process.state)) }
+        ensures none { IfErr result (λ why. (why ≡ NoProcess) × (process_of self.now pid ≡ None)) }
+    {
+        self.running.machine(pid)
     }
 }

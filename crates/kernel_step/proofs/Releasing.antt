@@ -1,5 +1,6 @@
 -- What a running kernel shows and hands out is what the run releases.
 use Rattle.std.proofs.Common.{◌≡◌, ℕ, Bool, true, false, nat_le, if◌then◌else◌, List, [], ◌∷◌, slice_get, length, map, suc, ◌+◌, Option, Some, is_some, refl, sym, ap, subst, ◌∙◌}
+use Rattle.std.specs.Prelude.{IsSomeAnd}
 use Rattle.kernel_model.specs.Paths.{is_durable}
 use Rattle.kernel_model.specs.Shown.{Given, prefix, released, told, handed}
 use Rattle.kernel_model.specs.State.{Process, process_at}
@@ -7,6 +8,7 @@ use Rattle.kernel_model.specs.World.{Boot, World, run_of}
 use Rattle.withheld.specs.Withheld.{Withheld, Held, whats, released as released_of}
 use Rattle.kernel_step.specs.Stands.{Stands}
 use Rattle.kernel_step.specs.Seen.{AreMarked, Withholds}
+use Rattle.kernel_step.specs.Tasks.{machine_of}
 use Rattle.kernel_step.specs.Tests.{IsTaskOf}
 use Rattle.kernel_step.specs.declared.running.Running.{Running}
 use Rattle.kernel_step.specs.declared.task.Task.{Task}
@@ -46,11 +48,24 @@ handed-is b r tasks pid t h same of =
     released-is w.storage.committed (told (of.place + 1) w.log) t.trace (h.parts.mirrors.each.each of.place t there).trace
     ∙ ap (λ (p : ℕ). handed w p) (sym of.placed.number)
 
--- ---- whether there is such a process
-pub there-is : (b : Boot) (r : Running) (tasks : List Task) (pid : ℕ) (t : Task) → Stands b r → tasks ≡ r.tasks.items → IsTaskOf tasks pid t
-    → is_some (process_at (run_of b r.history.items).sync.processes pid) ≡ true
-there-is b r tasks pid t h same of =
+-- ---- the process of a task
+
+-- the task of a process stands for it
+pub process-is : (b : Boot) (r : Running) (tasks : List Task) (pid : ℕ) (t : Task) → Stands b r → tasks ≡ r.tasks.items → IsTaskOf tasks pid t
+    → IsProcessOf (run_of b r.history.items).sync.processes pid t
+process-is b r tasks pid t h same of =
     let w : World = run_of b r.history.items in
     let there : slice_get r.tasks.items of.place ≡ Some t = subst (λ (ts : List Task). slice_get ts of.place ≡ Some t) same of.there in
-    let p : IsProcessOf w.sync.processes pid t = process-there w r.system.served r.tasks.items pid of.place t h.parts.mirrors.each of.placed.number there in
-    ap (λ (o : Option Process). is_some o) p.there
+    process-there w r.system.served r.tasks.items pid of.place t h.parts.mirrors.each of.placed.number there
+
+-- there is such a process
+pub there-is : (b : Boot) (r : Running) (tasks : List Task) (pid : ℕ) (t : Task) → Stands b r → tasks ≡ r.tasks.items → IsTaskOf tasks pid t
+    → is_some (process_at (run_of b r.history.items).sync.processes pid) ≡ true
+there-is b r tasks pid t h same of = ap (λ (o : Option Process). is_some o) (process-is b r tasks pid t h same of).there
+
+-- the task's machine is in the state of the process
+pub machine-is : (b : Boot) (r : Running) (tasks : List Task) (pid : ℕ) (t : Task) → Stands b r → tasks ≡ r.tasks.items → IsTaskOf tasks pid t
+    → IsSomeAnd (process_at (run_of b r.history.items).sync.processes pid) (λ (p : Process). machine_of t ≡ p.state)
+machine-is b r tasks pid t h same of =
+    let p : IsProcessOf (run_of b r.history.items).sync.processes pid t = process-is b r tasks pid t h same of in
+    subst (λ (o : Option Process). IsSomeAnd o (λ (q : Process). machine_of t ≡ q.state)) (sym p.there) (sym p.state)

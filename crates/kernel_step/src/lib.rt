@@ -28,4 +28,5 @@ pub use booting::Program;
 pub use cones::ConeFault;
 pub use kernel_model::{Answer, Event, Outcome, Refused, Standing};
 pub use loan::{Done, Loan, Rejected};
+pub use machine::Machine;
 pub use running::Running;

@@ -1,5 +1,5 @@
 //! What may be seen of a run.
-ghost use Rattle.std.specs.Prelude.{◌≡◌, ◌<◌, ◌≤◌, ◌^◌, None, true, not, is_some, IfOk, OnOk, IfErr};
+ghost use Rattle.std.specs.Prelude.{◌≡◌, ◌<◌, ◌≤◌, ◌^◌, None, true, not, is_some, IsSomeAnd, IfOk, OnOk, IfErr};
 ghost use Rattle.std.specs.List.{list_any};
 ghost use Rattle.disk_model.specs.Runs.{quiet};
 ghost use Rattle.disk_model.specs.Storage.{is_empty};
@@ -14,9 +14,12 @@ ghost use Rattle.kernel_step.specs.Stands.{Stands, kernel_in};
 
 use crate::running::Running;
 use crate::tasks::task_of;
+use disk_model::Piece;
 use kernel_model::{Event, Refused};
+use machine::Machine;
 use machine_model::Reply;
 use simdisk::SimDisk;
+use std::alloc::AllocError;
 use withheld::Withheld;
 
 fn is_any_held_back(screens: &[Withheld<u8>]) -> bool
@@ -100,6 +103,22 @@ impl Running {
         self.system.committer.in_flight()
     }
 
+    /// As `Core::writes_in_flight`.
+    pub fn writes_in_flight(&self) -> &[Piece]
+        ensures { (b : Boot) → Stands b self.now → result.now ≡ (now (kernel_in b self.now)).storage.device.in_flight }
+    {
+        self.system.committer.writes_in_flight()
+    }
+
+    /// As `Core::machine`.
+    pub fn machine(&self, pid: u32) -> Result<&Machine, Refused>
+        ensures machine { IfOk result (λ machine. (b : Boot) → Stands b self.now → IsSomeAnd (process_of (kernel_in b self.now) pid) (λ process. machine.now ≡ process.state)) }
+        ensures none { IfErr result (λ why. (b : Boot) → Stands b self.now → (why ≡ NoProcess) × (process_of (kernel_in b self.now) pid ≡ None)) }
+    {
+        let task = task_of(&self.tasks, pid)?;
+        Ok(task.machine())
+    }
+
     /// Whether a write has failed in this run. No later Cut is accepted then.
     pub fn has_failed(&self) -> bool
         ensures { (b : Boot) → Stands b self.now → result ≡ not (is_empty (now (kernel_in b self.now)).storage.device.failed) }
@@ -112,5 +131,12 @@ impl Running {
         ensures { (b : Boot) → Stands b self → result ≡ quiet (crashed (now (kernel_in b self)).storage.device fill.now) }
     {
         self.into_system().into_committer().crash(fill)
+    }
+
+    /// The device that `Core::after_crash` gives; what is known of its files is said there.
+    pub fn after_crash(&self, fill: &[u8]) -> Result<SimDisk, AllocError>
+        ensures { IfOk result (λ d. (b : Boot) → Stands b self.now → d ≡ quiet (crashed (now (kernel_in b self.now)).storage.device fill.now)) }
+    {
+        self.system.committer.after_crash(fill)
     }
 }

@@ -1,0 +1,8 @@
+-- What the parts say, the run says.
+use Rattle.std.proofs.Common.{ap, ◌∙◌}
+use Rattle.kernel_model.specs.Answers.{Kernel, now}
+use Rattle.kernel.specs.Booting.{boot_of}
+use Rattle.kernel.proofs.cores.Core.writes_in_flight.Goals as goal
+
+pub returns : goal.returns
+returns c = c.writes_in_flight.ensures (boot_of c.self.inside.booted) c.self.invariant.stands ∙ ap (λ (k : Kernel). (now k).storage.device.in_flight) c.self.view_is
