@@ -2,7 +2,7 @@
 use Rattle.std.proofs.Common.{◌≡◌, ◌+◌, ◌∙◌, refl, sym, ap, List, [], ◌∷◌, ◌++◌, arith}
 use Rattle.bursts.specs.declared.totals.Totals.{Totals}
 use Rattle.bursts.specs.Totals.{plus}
-use Rattle.bursts.specs.Holdings.{Holding, both, together, parts_in, sum_of}
+use Rattle.bursts.specs.Holdings.{Holding, Sum, with_share, with_shares, parts_in, sum_of}
 
 parts-push : (hs : List Holding) (h : Holding) → parts_in (hs ++ h ∷ []) ≡ parts_in hs + h.parts
 parts-push [] h = omega arith
@@ -21,7 +21,7 @@ sum-push (x ∷ hs) h =
     let d = ap (λ (t : Totals). t.enters) step in
     same_totals _ _ (omega arith) (omega arith) (omega arith) (omega arith)
 
-pub one_more : (all : Holding) (hs rest : List Holding) (h : Holding) → hs ≡ rest ++ h ∷ [] → together (both all h) rest ≡ together all hs
+pub one_more : (all : Sum) (hs rest : List Holding) (h : Holding) → hs ≡ rest ++ h ∷ [] → with_shares (with_share all h) rest ≡ with_shares all hs
 one_more all hs rest h is =
     let step = sum-push rest h in
     let a = ap (λ (t : Totals). t.events) step in
@@ -31,7 +31,7 @@ one_more all hs rest h is =
     (λ i. record {
       parts = the_parts i;
       totals = same_totals (plus (plus all.totals h.totals) (sum_of rest)) (plus all.totals (sum_of (rest ++ h ∷ []))) (omega arith) (omega arith) (omega arith) (omega arith) i;
-    }) ∙ ap (together all) (sym is)
+    }) ∙ ap (with_shares all) (sym is)
   where
     the_parts : (all.parts + h.parts) + parts_in rest ≡ all.parts + parts_in (rest ++ h ∷ [])
     the_parts = let parts = parts-push rest h in omega arith

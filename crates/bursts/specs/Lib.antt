@@ -1,3 +1,5 @@
 -- The definitions.
 pub mod Totals
+pub mod LoanIds
 pub mod Holdings
+pub mod Benches

@@ -1,5 +1,5 @@
 //! The core that many workers share, with its board and its books.
-ghost use Rattle.std.specs.Prelude.{◌≡◌, ◌≤◌, true};
+ghost use Rattle.std.specs.Prelude.{◌≡◌, ◌≤◌, ◌||◌, true, false, []};
 ghost use Rattle.crossbeam_utils.specs.Seq.{cell_view};
 ghost use Rattle.kernel_model.specs.Answers.{now, committed as committed_in, changes as changes_in, Applies};
 ghost use Rattle.kernel_model.specs.Loans.{Lends, is_over};
@@ -7,7 +7,7 @@ ghost use Rattle.kernel_model.specs.declared.event.Event.{Event};
 ghost use Rattle.kernel_step.specs.Loaned.{lent_out, Settles};
 ghost use Rattle.board.specs.Pairs.{publisher, pair_of};
 ghost use Rattle.bursts.specs.Totals.{none, history_totals, settled_totals, one_event as one_event_more, is_of_disk};
-ghost use Rattle.bursts.specs.Holdings.{parts_in, sum_of, GrowsBySettle, GrowsByOne};
+ghost use Rattle.bursts.specs.Holdings.{parts_in, sum_of, GrowsByLend, GrowsBySettle, GrowsByOne};
 
 use crate::naming::Naming;
 use crate::share::{Blanks, Books, Share};
@@ -17,8 +17,9 @@ use kernel::{Answer, Core, Done, Event, Loan, Refused, Rejected, counts_never_fa
 use std::marker::Model;
 use std::sync::Wait;
 
-/// A core to be put under a lock, the pass that publishes on its board, and the books of what all shares add up to. Its type keeps
-/// two facts. The pair published last is the core's, and the books are the totals of the core's history.
+/// A core to be put under a lock, the pass that publishes on its board, and the books of what all shares add up to. Contracts see
+/// the core, and whether `stop` was called. The type keeps two facts. The pair published last is the core's, and the books are the
+/// totals of the core's history.
 #[derive(Drop)]
 pub struct Bench<'a, N: Naming> {
     core: Core,
@@ -29,12 +30,11 @@ pub struct Bench<'a, N: Naming> {
 }
 
 impl<'a, N: Naming> Model for Bench<'a, N> {
-    ghost use Rattle.kernel_model.specs.Answers.{Kernel};
-    ghost use Rattle.kernel_model.specs.Codes.{kernel_code};
+    ghost use Rattle.bursts.specs.Benches.{OnBench, on_bench_code};
 
-    ghost Value = { Kernel };
+    ghost Value = { OnBench };
 
-    ghost coded = { kernel_code };
+    ghost coded = { on_bench_code };
 
     ghost use Rattle.std.specs.Prelude.{◌≡◌, true};
     ghost use Rattle.crossbeam_utils.specs.Seq.{cell_view};
@@ -42,7 +42,7 @@ impl<'a, N: Naming> Model for Bench<'a, N> {
     ghost use Rattle.board.specs.Pairs.{pair_of};
     ghost use Rattle.bursts.specs.Totals.{history_totals};
 
-    ghost view = { λ b. b.core };
+    ghost view = { λ b. record { core = b.core; stopped = b.stopped } };
 
     ghost invariant = { λ b. (b.writer.pass.table_id ≡ b.board.now.cell.table.shared.table_id)
         × ((cell_view b.writer.pass).publishes ≡ true)
@@ -65,8 +65,8 @@ impl<'a, N: Naming> Bench<'a, N> {
         requires ran { (blanks.ran.name ≡ N.ran) × (blanks.ran.parts ≡ 64) }
         requires turns { (blanks.turns.name ≡ N.turns) × (blanks.turns.parts ≡ 64) }
         requires enters { (blanks.enters.name ≡ N.enters) × (blanks.enters.parts ≡ 64) }
-        ensures core { result.0 ≡ core }
-        ensures share { (result.1.parts ≡ 64) × (result.1.totals ≡ history_totals core) }
+        ensures bench { result.0 ≡ record { core = core; stopped = false } }
+        ensures share { (result.1.parts ≡ 64) × (result.1.totals ≡ history_totals core) × (result.1.lent ≡ []) }
     {
         let totals = totals_of(&core);
         let (books, share) = Books::open(blanks, totals);
@@ -82,16 +82,23 @@ impl<'a, N: Naming> Bench<'a, N> {
 
     /// The core, to be looked at alone.
     pub fn core(&self) -> &Core
-        ensures { result.now ≡ self.now }
+        ensures { result.now ≡ self.now.core }
     {
         &self.core
     }
 
-    /// Lends, as `Core::lend` does. Neither the board nor the books change, so nothing is published.
-    pub fn lend(&mut self, quantum: u32) -> Result<Option<Loan>, Refused>
-        ensures { Lends self.old quantum self.new (lent_out result) }
+    /// Lends, as `Core::lend` does. A loan that is given is noted in the share. Neither the board nor the books change, so nothing
+    /// is published.
+    pub fn lend(&mut self, quantum: u32, share: &mut Share<N>) -> Result<Option<Loan>, Refused>
+        ensures lends { Lends self.old.core quantum self.new.core (lent_out result) }
+        ensures share { GrowsByLend share.old share.new result }
+        ensures stopped { self.new.stopped ≡ self.old.stopped }
     {
-        self.core.lend(quantum)
+        let given = self.core.lend(quantum)?;
+        if let Some(loan) = &given {
+            share.note(loan);
+        }
+        Ok(given)
     }
 
     /// Takes a loan's result back, as `Core::settle` does. The share grows by what its Turn and its Enter add, and the board shows
@@ -102,7 +109,8 @@ impl<'a, N: Naming> Bench<'a, N> {
         done: Done,
         share: &mut Share<N>,
     ) -> Result<Answer, Rejected>
-        ensures settles { Settles self.old done self.new result }
+        ensures settles { Settles self.old.core done self.new.core result }
+        ensures stopped { self.new.stopped ≡ self.old.stopped }
         ensures share { GrowsBySettle done.pid share.old share.new result }
     {
         counts_never_fall();
@@ -117,7 +125,8 @@ impl<'a, N: Naming> Bench<'a, N> {
     /// A Cut, as `Core::apply` does it: a group of changes is submitted to the disk. The share grows by one event. May wait for a
     /// load of the board.
     pub fn cut<R: Wait>(&mut self, rt: &R, share: &mut Share<N>) -> Result<Answer, Refused>
-        ensures applies { Applies self.old Event.Cut self.new result }
+        ensures applies { Applies self.old.core Event.Cut self.new.core result }
+        ensures stopped { self.new.stopped ≡ self.old.stopped }
         ensures share { GrowsByOne share.old share.new result }
     {
         self.apply(rt, Event::Cut, share)
@@ -131,7 +140,8 @@ impl<'a, N: Naming> Bench<'a, N> {
         at: u32,
         share: &mut Share<N>,
     ) -> Result<Answer, Refused>
-        ensures applies { Applies self.old (Event.Complete at) self.new result }
+        ensures applies { Applies self.old.core (Event.Complete at) self.new.core result }
+        ensures stopped { self.new.stopped ≡ self.old.stopped }
         ensures share { GrowsByOne share.old share.new result }
     {
         self.apply(rt, Event::Complete { at }, share)
@@ -145,7 +155,8 @@ impl<'a, N: Naming> Bench<'a, N> {
         at: u32,
         share: &mut Share<N>,
     ) -> Result<Answer, Refused>
-        ensures applies { Applies self.old (Event.Fail at) self.new result }
+        ensures applies { Applies self.old.core (Event.Fail at) self.new.core result }
+        ensures stopped { self.new.stopped ≡ self.old.stopped }
         ensures share { GrowsByOne share.old share.new result }
     {
         self.apply(rt, Event::Fail { at }, share)
@@ -159,7 +170,8 @@ impl<'a, N: Naming> Bench<'a, N> {
         share: &mut Share<N>,
     ) -> Result<Answer, Refused>
         requires { is_of_disk event ≡ true }
-        ensures applies { Applies self.old event self.new result }
+        ensures applies { Applies self.old.core event self.new.core result }
+        ensures stopped { self.new.stopped ≡ self.old.stopped }
         ensures share { GrowsByOne share.old share.new result }
     {
         counts_never_fall();
@@ -173,20 +185,22 @@ impl<'a, N: Naming> Bench<'a, N> {
 impl<'a, N: Naming> Bench<'a, N> {
     /// Whether the work is over: the core is, by `Core::over`, or `stop` was called. Takes no memory.
     pub fn over(&self, quantum: u32) -> bool
-        ensures { is_over self.now quantum ≡ true → result ≡ true }
+        ensures { result ≡ (self.now.stopped || is_over self.now.core quantum) }
     {
         self.stopped || self.core.over(quantum)
     }
 
     /// From now on `over` answers true.
     pub fn stop(&mut self)
-        ensures { self.new ≡ self.old }
+        ensures { self.new ≡ record { core = self.old.core; stopped = true } }
     {
         self.stopped = true;
     }
 
     /// Whether `stop` was called.
-    pub fn is_stopped(&self) -> bool {
+    pub fn is_stopped(&self) -> bool
+        ensures { result ≡ self.now.stopped }
+    {
         self.stopped
     }
 }
@@ -194,7 +208,7 @@ impl<'a, N: Naming> Bench<'a, N> {
 /// Takes a bench apart, into its core; the shares are used up. Whoever gives all 64 parts learns that they add up to the totals of
 /// the core's history. Takes no memory.
 pub fn gather<'a, N: Naming>(bench: Bench<'a, N>, shares: Vec<Share<N>>) -> Core
-    ensures core { result ≡ bench.entry }
+    ensures core { result ≡ bench.entry.core }
     ensures shares { parts_in shares.items ≡ 64 → sum_of shares.items ≡ history_totals result }
 {
     let Bench { core, books, .. } = bench;

@@ -1,11 +1,14 @@
 //! Shares of what the workers did, and the books in which they add up.
-ghost use Rattle.std.specs.Prelude.{◌≡◌, ◌+◌, ◌<◌, ◌≤◌, IfSome, IfNone};
+ghost use Rattle.std.specs.Prelude.{◌≡◌, ◌+◌, ◌<◌, ◌≤◌, [], ◌∷◌, IfSome, IfNone};
 ghost use Rattle.bursts.specs.Totals.{none, plus, history_totals, Fit};
-ghost use Rattle.bursts.specs.Holdings.{both, together, parts_in, sum_of, grown};
+ghost use Rattle.bursts.specs.LoanIds.{loan_id};
+ghost use Rattle.bursts.specs.Holdings.{with_share, with_shares, parts_in, sum_of, grown, lent_to, new_part};
 
+use crate::loan_id::LoanId;
 use crate::naming::{Enters, Events, Naming, Ran, Turns};
 use crate::totals::Totals;
-use kernel::Core;
+use kernel::{Core, Loan};
+use notes::Notes;
 use std::marker::Model;
 use std::sync::ledger::{Blank, Book, Ledger, Share as Mark};
 
@@ -31,8 +34,8 @@ impl Blanks {
     }
 }
 
-/// What its holder did, in four numbers, with a fraction of the right to know what all did. All shares of a bench have 64 parts.
-/// Who has them all knows that they add up to the history.
+/// What its holder did, in four numbers and the loans that it was lent, with a fraction of the right to know what all did. All
+/// shares of a bench have 64 parts. Who has them all knows that their numbers add up to the history.
 #[derive(Drop)]
 pub struct Share<N: Naming> {
     parts: u32,
@@ -41,6 +44,7 @@ pub struct Share<N: Naming> {
     ran: Mark<Ran<N>>,
     turns: Mark<Turns<N>>,
     enters: Mark<Enters<N>>,
+    lent: Notes<LoanId>,
 }
 
 impl<N: Naming> Model for Share<N> {
@@ -50,7 +54,7 @@ impl<N: Naming> Model for Share<N> {
 
     ghost use Rattle.std.specs.Prelude.{◌≡◌, ◌<◌};
 
-    ghost view = { λ s. record { parts = s.parts; totals = s.totals } };
+    ghost view = { λ s. record { parts = s.parts; totals = s.totals; lent = s.lent.items } };
 
     ghost invariant = { λ s. (0 < s.parts)
         × (s.events.parts ≡ s.parts) × (s.ran.parts ≡ s.parts) × (s.turns.parts ≡ s.parts) × (s.enters.parts ≡ s.parts)
@@ -75,8 +79,8 @@ impl<N: Naming> Share<N> {
 
     /// Splits one of its parts off, with no numbers. None where it has only one. Takes no memory.
     pub fn split(&mut self) -> Option<Share<N>>
-        ensures given { IfSome result (λ s. (s.parts ≡ 1) × (s.totals ≡ none)) }
-        ensures left { IfSome result (λ s. (self.new.parts + 1 ≡ self.old.parts) × (self.new.totals ≡ self.old.totals) × (1 < self.old.parts)) }
+        ensures given { IfSome result (λ s. s ≡ new_part) }
+        ensures left { IfSome result (λ s. (self.new.parts + 1 ≡ self.old.parts) × (self.new.totals ≡ self.old.totals) × (self.new.lent ≡ self.old.lent) × (1 < self.old.parts)) }
         ensures none { IfNone result ((self.new ≡ self.old) × (self.old.parts ≡ 1)) }
     {
         if self.parts == 1 {
@@ -95,7 +99,20 @@ impl<N: Naming> Share<N> {
             ran: self.ran.split_off(1, 0),
             turns: self.turns.split_off(1, 0),
             enters: self.enters.split_off(1, 0),
+            lent: Notes::new(),
         })
+    }
+
+    /// Notes a loan that its holder was lent.
+    pub(crate) fn note(&mut self, loan: &Loan)
+        ensures { self.new ≡ lent_to self.old (loan_id loan.now.pid loan.now.number loan.now.quantum ∷ []) }
+    {
+        let id = LoanId {
+            pid: loan.pid,
+            number: loan.number,
+            quantum: loan.quantum,
+        };
+        self.lent = self.lent.and(&id);
     }
 }
 
@@ -109,9 +126,9 @@ pub(crate) struct Sum<N: Naming> {
 }
 
 impl<N: Naming> Model for Sum<N> {
-    ghost use Rattle.bursts.specs.Holdings.{Holding};
+    ghost use Rattle.bursts.specs.Holdings.{Sum as SumOfShares};
 
-    ghost Value = { Holding };
+    ghost Value = { SumOfShares };
 
     ghost use Rattle.std.specs.Prelude.{◌≡◌};
 
@@ -122,7 +139,7 @@ impl<N: Naming> Model for Sum<N> {
 
 impl<N: Naming> Sum<N> {
     fn merge(&mut self, share: Share<N>)
-        ensures { self.new ≡ both self.old share }
+        ensures { self.new ≡ with_share self.old share }
     {
         let Share {
             events,
@@ -169,7 +186,7 @@ impl<N: Naming> Books<N> {
         requires turns { (blanks.turns.name ≡ N.turns) × (blanks.turns.parts ≡ 64) }
         requires enters { (blanks.enters.name ≡ N.enters) × (blanks.enters.parts ≡ 64) }
         ensures books { result.0 ≡ totals }
-        ensures share { result.1 ≡ record { parts = 64; totals = totals } }
+        ensures share { result.1 ≡ record { parts = 64; totals = totals; lent = [] } }
     {
         let Blanks {
             events,
@@ -201,6 +218,7 @@ impl<N: Naming> Books<N> {
             ran: ran_mark,
             turns: turn_mark,
             enters: enter_mark,
+            lent: Notes::new(),
         };
         (books, share)
     }
@@ -279,7 +297,7 @@ fn grow_ledger<L: Ledger>(book: &mut Book<L>, mark: &mut Mark<L>, by: u64)
 
 /// What these shares add up to, with what was there.
 fn sum_all<N: Naming>(mut all: Sum<N>, mut shares: Vec<Share<N>>) -> Sum<N>
-    ensures { result ≡ together all shares.items }
+    ensures { result ≡ with_shares all shares.items }
 {
     while let Some(share) = shares.pop() {
         all.merge(share);
