@@ -4,6 +4,7 @@ use mathlib.Core.Option.{some, some-ne-none, some-injective}
 use lib.ListN.{get_elem?}
 use Rattle.crossbeam_queue.specs.Fifo.{Pushes, Pops, Admits}
 use Rattle.crossbeam_deque.specs.Tasks as deque
+use Rattle.bursts.specs.declared.loan_id.LoanId.{LoanId}
 use Rattle.pool.specs.declared.hand.Hand.{Hand}
 use Rattle.pool.specs.Hands.{hand, no_hand, gave, took, weigh, total, Balanced}
 
@@ -17,76 +18,76 @@ total_more : (f : Hand → ℕ) (views : List Hand) (w : Hand) → total f (view
 total_more f [] w = omega arith
 total_more f (v ∷ vs) w = let step = total_more f vs w in omega arith
 
-weigh_append : (h : ℕ × ℕ → ℕ) (xs ys : List (ℕ × ℕ)) → weigh h (xs ++ ys) ≡ weigh h xs + weigh h ys
+weigh_append : (h : LoanId → ℕ) (xs ys : List LoanId) → weigh h (xs ++ ys) ≡ weigh h xs + weigh h ys
 weigh_append h [] ys = omega arith
 weigh_append h (x ∷ xs) ys = let step = weigh_append h xs ys in omega arith
 
-weigh_tags : {T : Type 0} (tag : T → ℕ × ℕ) (h : ℕ × ℕ → ℕ) (xs : List T) (x : T) → weigh h (map tag (xs ++ x ∷ [])) ≡ weigh h (map tag xs) + h (tag x)
-weigh_tags tag h [] x = omega arith
-weigh_tags tag h (y ∷ ys) x = let step = weigh_tags tag h ys x in omega arith
+weigh_ids : {T : Type 0} (id : T → LoanId) (h : LoanId → ℕ) (xs : List T) (x : T) → weigh h (map id (xs ++ x ∷ [])) ≡ weigh h (map id xs) + h (id x)
+weigh_ids id h [] x = omega arith
+weigh_ids id h (y ∷ ys) x = let step = weigh_ids id h ys x in omega arith
 
-pub puts : {T : Type 0} (tag : T → ℕ × ℕ) (n port : ℕ) (v : Hand) (x : T) → Pushes (Balanced tag) n port v x (λ w. w ≡ gave v (tag x))
-puts tag n port v x items views room b at =
-    let w = gave v (tag x) in (
+pub puts : {T : Type 0} (id : T → LoanId) (n port : ℕ) (v : Hand) (x : T) → Pushes (Balanced id) n port v x (λ w. w ≡ gave v (id x))
+puts id n port v x items views room b at =
+    let w = gave v (id x) in (
       w,
       (λ h.
           let s = total_set (λ u. weigh h u.put) views port v w at in
           let t = total_set (λ u. weigh h u.taken) views port v w at in
-          let p = weigh_append h v.put (tag x ∷ []) in
-          let q = weigh_tags tag h items x in
+          let p = weigh_append h v.put (id x ∷ []) in
+          let q = weigh_ids id h items x in
           let r = b h in
           omega arith),
       refl,
     )
 
-pub takes : {T : Type 0} (tag : T → ℕ × ℕ) (port : ℕ) (v : Hand) → Pops (Balanced tag) port v (λ x w. w ≡ took v (tag x))
-takes tag port v x items views b at =
-    let w = took v (tag x) in (
+pub takes : {T : Type 0} (id : T → LoanId) (port : ℕ) (v : Hand) → Pops (Balanced id) port v (λ x w. w ≡ took v (id x))
+takes id port v x items views b at =
+    let w = took v (id x) in (
       w,
       (λ h.
           let s = total_set (λ u. weigh h u.put) views port v w at in
           let t = total_set (λ u. weigh h u.taken) views port v w at in
-          let p = weigh_append h v.taken (tag x ∷ []) in
+          let p = weigh_append h v.taken (id x ∷ []) in
           let r = b h in
           omega arith),
       refl,
     )
 
-pub admits : {T : Type 0} (tag : T → ℕ × ℕ) → Admits (Balanced tag) no_hand
-admits tag items views b h =
+pub admits : {T : Type 0} (id : T → LoanId) → Admits (Balanced id) no_hand
+admits id items views b h =
     let s = total_more (λ u. weigh h u.put) views (hand [] []) in
     let t = total_more (λ u. weigh h u.taken) views (hand [] []) in
     let r = b h in
     omega arith
 
-weigh_map : {T : Type 0} (tag : T → ℕ × ℕ) (h : ℕ × ℕ → ℕ) (xs ys : List T) → weigh h (map tag (xs ++ ys)) ≡ weigh h (map tag xs) + weigh h (map tag ys)
-weigh_map tag h [] ys = omega arith
-weigh_map tag h (x ∷ xs) ys = let step = weigh_map tag h xs ys in omega arith
+weigh_map : {T : Type 0} (id : T → LoanId) (h : LoanId → ℕ) (xs ys : List T) → weigh h (map id (xs ++ ys)) ≡ weigh h (map id xs) + weigh h (map id ys)
+weigh_map id h [] ys = omega arith
+weigh_map id h (x ∷ xs) ys = let step = weigh_map id h xs ys in omega arith
 
 -- the same of a deque
-pub pushes : {T : Type 0} (tag : T → ℕ × ℕ) (port : ℕ) (v : Hand) (xs : List T) → deque.Pushes (Balanced tag) port v xs (λ w. w ≡ hand (v.put ++ map tag xs) v.taken)
-pushes tag port v xs items views b at =
-    let w = hand (v.put ++ map tag xs) v.taken in (
+pub pushes : {T : Type 0} (id : T → LoanId) (port : ℕ) (v : Hand) (xs : List T) → deque.Pushes (Balanced id) port v xs (λ w. w ≡ hand (v.put ++ map id xs) v.taken)
+pushes id port v xs items views b at =
+    let w = hand (v.put ++ map id xs) v.taken in (
       w,
       (λ h.
           let s = total_set (λ u. weigh h u.put) views port v w at in
           let t = total_set (λ u. weigh h u.taken) views port v w at in
-          let p = weigh_append h v.put (map tag xs) in
-          let q = weigh_map tag h items xs in
+          let p = weigh_append h v.put (map id xs) in
+          let q = weigh_map id h items xs in
           let r = b h in
           omega arith),
       refl,
     )
 
-pub takes_one : {T : Type 0} (tag : T → ℕ × ℕ) (port : ℕ) (v : Hand) → deque.Takes (Balanced tag) port v 1 (λ xs w. w ≡ hand v.put (v.taken ++ map tag xs))
-takes_one tag port v xs items views least few b at =
-    let w = hand v.put (v.taken ++ map tag xs) in (
+pub takes_one : {T : Type 0} (id : T → LoanId) (port : ℕ) (v : Hand) → deque.Takes (Balanced id) port v 1 (λ xs w. w ≡ hand v.put (v.taken ++ map id xs))
+takes_one id port v xs items views least few b at =
+    let w = hand v.put (v.taken ++ map id xs) in (
       w,
       (λ h.
           let s = total_set (λ u. weigh h u.put) views port v w at in
           let t = total_set (λ u. weigh h u.taken) views port v w at in
-          let p = weigh_append h v.taken (map tag xs) in
-          let q = weigh_map tag h xs items in
+          let p = weigh_append h v.taken (map id xs) in
+          let q = weigh_map id h xs items in
           let r = b h in
           omega arith),
       refl,

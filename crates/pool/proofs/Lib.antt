@@ -1,5 +1,7 @@
 pub mod Balance
-pub mod Takings
+pub mod Lends
+pub mod Looks
+pub mod Comes
 pub mod Sums
 pub mod Advance
 pub mod Fresh

@@ -1,26 +1,43 @@
--- What a fetch takes of the deques.
-use Rattle.std.specs.Prelude.{◌≡◌, ◌⊎◌, ℕ, List, [], ◌∷◌, ◌++◌, map, slice_get, slice_set, Option, Some, Result, Ok}
+-- What a fetch comes to.
+use Rattle.std.specs.Prelude.{◌≡◌, ◌⊎◌, ℕ, [], ◌∷◌, map, Option, Some, None, Result, MatchResult, MatchOption}
 use Rattle.kernel_model.specs.declared.answer.Refused.{Refused}
 use Rattle.kernel_step.specs.declared.loan.Loan.{Loan}
-use Rattle.pool.specs.declared.hand.Hand.{Hand}
-use Rattle.pool.specs.Tags.{loan_tag}
-use Rattle.pool.specs.Hands.{took}
+use Rattle.bursts.specs.LoanIds.{id_of_loan}
+use Rattle.bursts.specs.declared.loan_id.LoanId.{LoanId}
+use Rattle.pool.specs.Deques.{took_from, missed_at, Stolen}
+use Rattle.pool.specs.Lending.{Lent, IsLoanRefusal}
+use Rattle.pool.specs.Seats.{Seated}
 
--- one of these passes took this, and no other took anything
-abbrev pub TookAt : List Hand → List Hand → ℕ × ℕ → Type 0
-TookAt old new x = (i : ℕ) × (v : Hand) × (slice_get old i ≡ Some v) × (new ≡ slice_set old i (took v x))
+-- the seat after a look at each deque, where none had a loan
+abbrev pub looked : Seated → Seated
+looked s = record s { own = missed_at s.own; others = map missed_at s.others }
 
--- what each of these passes took
-abbrev pub takings : List Hand → List (List (ℕ × ℕ))
-takings views = map (λ (v : Hand). v.taken) views
+-- Nothing was fetched: nothing stood to spare, and no deque had a loan. But for these looks the seat is as it was.
+abbrev pub FindsNothing : Seated → Seated → Type 0
+FindsNothing s t = (s.spare ≡ None) × (t ≡ looked s)
 
--- no pass took anything; or one did, one thing alone, which is the answer
-abbrev pub TakesItsAnswer : List Hand → List Hand → Result (Option Loan) Refused → Type 0
-TakesItsAnswer old new result =
-    (takings new ≡ takings old)
-    ⊎ ((i : ℕ) × (ts : List (ℕ × ℕ)) × (l : Loan)
-    × (slice_get (takings old) i ≡ Some ts) × (result ≡ Ok (Some l)) × (takings new ≡ slice_set (takings old) i (ts ++ loan_tag l ∷ [])))
+-- the loan stood to spare
+abbrev pub Spared : Seated → Seated → LoanId → Type 0
+Spared s t x = (s.spare ≡ Some x) × (t ≡ record s { spare = None })
 
--- the answer is a loan of this process and number
-abbrev pub Answers : Result (Option Loan) Refused → ℕ × ℕ → Type 0
-Answers result x = (l : Loan) × (result ≡ Ok (Some l)) × (loan_tag l ≡ x)
+-- nothing stood to spare, and the own deque had the loan
+abbrev pub Popped : Seated → Seated → LoanId → Type 0
+Popped s t x = (s.spare ≡ None) × (t ≡ record s { own = took_from s.own x })
+
+-- nothing stood to spare, the own deque had none, and the first of the others that had one gave it
+abbrev pub Stole : Seated → Seated → LoanId → Type 0
+Stole s t x = (s.spare ≡ None) × Stolen s.others t.others x × (t ≡ record s { own = missed_at s.own; others = t.others })
+
+-- nothing stood to spare, no deque had a loan, and the core lent it and further ones
+abbrev pub Borrowed : Seated → ℕ → Seated → LoanId → Type 0
+Borrowed s q t x =
+    (s.spare ≡ None) × Lent (x ∷ []) q (missed_at s.own) t.own t.spare s.share t.share
+    × (t ≡ record s { own = t.own; others = map missed_at s.others; spare = t.spare; share = t.share })
+
+-- the loan was fetched from the first of these that had one
+abbrev pub Fetched : Seated → ℕ → Seated → LoanId → Type 0
+Fetched s q t x = Spared s t x ⊎ (Popped s t x ⊎ (Stole s t x ⊎ Borrowed s q t x))
+
+-- The answer is what was fetched. Where the lending was refused nothing was.
+abbrev pub Fetches : Seated → ℕ → Seated → Result (Option Loan) Refused → Type 0
+Fetches s q t result = MatchResult result (λ given. MatchOption given (FindsNothing s t) (λ l. Fetched s q t (id_of_loan l))) (λ why. FindsNothing s t × IsLoanRefusal why)

@@ -1,7 +1,10 @@
 pub mod Hands
-pub mod Tags
+pub mod Deques
+pub mod Lending
+pub mod Seats
+pub mod Seating
 pub mod Fetching
 pub mod Settled
-pub mod Seats
 pub mod Turns
+pub mod Crews
 pub mod Faults

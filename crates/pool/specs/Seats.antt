@@ -1,36 +1,51 @@
 -- What contracts see of a worker's seat.
-use Rattle.std.specs.Prelude.{◌≡◌, ℕ, ◌+◌, List, length, Option, None}
-use Rattle.std.specs.List.{AllByRecursion}
-use Rattle.bursts.specs.Holdings.{Holding}
-use Rattle.bursts.specs.Totals.{none}
+use Rattle.std.specs.Prelude.{◌≡◌, ℕ, List, [], ◌∷◌, ◌++◌, length, map, slice_get, Bool, Option, Some, None}
+use Rattle.bursts.specs.Holdings.{Holding, new_part}
+use Rattle.bursts.specs.declared.loan_id.LoanId.{LoanId}
 use Rattle.pool.specs.declared.hand.Hand.{Hand}
 use Rattle.pool.specs.Hands.{no_hand}
+use Rattle.pool.specs.Deques.{DequeId, AtDeque, new_at}
 
--- what its passes show, of its own deque, of the others' and of the queue of results; the process and the number of the loan that
--- it has to spare; and its share
+-- its own deque and those of the others, the loan that it has to spare, what its pass of the queue of results shows, its share, and
+-- each answer of the bench to whether the work is over
 pub record Seated : Type 0 where
-  pub own : Hand
-  pub others : List Hand
-  pub spare : Option (ℕ × ℕ)
+  pub own : AtDeque
+  pub others : List AtDeque
+  pub spare : Option LoanId
   pub results : Hand
   pub share : Holding
+  pub told : List Bool
 
 -- the same, but for what its pass of the queue shows
 abbrev pub with_results : Seated → Hand → Seated
-with_results s v = record { own = s.own; others = s.others; spare = s.spare; results = v; share = s.share }
+with_results s v = record s { results = v }
 
 -- the same, but for that and its share
 abbrev pub with_settled : Seated → Hand → Holding → Seated
-with_settled s v h = record { own = s.own; others = s.others; spare = s.spare; results = v; share = h }
+with_settled s v h = record s { results = v; share = h }
 
--- the deques of the others, of so many workers, from which nothing was taken
-abbrev pub AreOthers : ℕ → List Hand → Type 0
-AreOthers workers views = (length views + 1 ≡ workers) × AllByRecursion (λ (v : Hand). v ≡ no_hand) views
+-- the same, once the bench has answered so
+abbrev pub told_so : Seated → Bool → Seated
+told_so s over = record s { told = s.told ++ over ∷ [] }
 
--- a seat of so many at which nothing was done yet: it has one part of a share, and the deque of each other
-pub record IsNew (workers : ℕ) (s : Seated) : Type 0 where
-  pub own : s.own ≡ no_hand
-  pub others : AreOthers workers s.others
+-- A seat at which nothing was done yet, of the worker at this place among workers with these deques. Its own deque is the one at
+-- its place, and the others are those after it and then those before it. It has one part of a share.
+pub record IsNew (deques : List DequeId) (place : ℕ) (s : Seated) : Type 0 where
+  pub before : List DequeId
+  pub after : List DequeId
+  pub place_is : length before ≡ place
+  pub deques_are : deques ≡ before ++ s.own.deque ∷ after
+  pub own : s.own ≡ new_at s.own.deque
+  pub others : s.others ≡ map new_at (after ++ before)
   pub spare : s.spare ≡ None
   pub results : s.results ≡ no_hand
-  pub share : s.share ≡ record { parts = 1; totals = none }
+  pub share : s.share ≡ new_part
+  pub told : s.told ≡ []
+
+-- each of these things is so at its place
+abbrev pub AtEach : {X : Type 0} → (ℕ → X → Type 0) → List X → Type 0
+AtEach {X} P xs = (place : ℕ) (x : X) → slice_get xs place ≡ Some x → P place x
+
+-- There is a new seat for each of so many workers, each with a deque of its own.
+abbrev pub AreNew : ℕ → List Seated → Type 0
+AreNew workers seats = (deques : List DequeId) × (length deques ≡ workers) × AtEach (IsNew deques) seats

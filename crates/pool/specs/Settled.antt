@@ -2,10 +2,11 @@
 use Rattle.std.specs.Prelude.{◌≡◌, ℕ, ◌+◌, ◌≤◌, List, [], ◌∷◌, ◌++◌, length, Option, Some, None}
 use Rattle.kernel_step.specs.declared.loan.Rejected.{Rejected}
 use Rattle.bursts.specs.Holdings.{Holding, grown}
+use Rattle.bursts.specs.LoanIds.{id_of_result}
+use Rattle.bursts.specs.declared.loan_id.LoanId.{LoanId}
 use Rattle.bursts.specs.declared.totals.Totals.{Totals}
 use Rattle.pool.specs.declared.hand.Hand.{Hand}
 use Rattle.pool.specs.declared.settling.Settling.{Settling}
-use Rattle.pool.specs.Tags.{done_tag}
 use Rattle.pool.specs.Hands.{hand}
 
 -- what a settling adds to a share
@@ -13,19 +14,19 @@ abbrev pub totals_in : Settling → Totals
 totals_in s = record { events = s.events; ran = s.ran; turns = s.turns; enters = s.enters }
 
 -- the one result that was not taken back, if there was one
-abbrev pub rejected_in : Option Rejected → List (ℕ × ℕ)
+abbrev pub rejected_in : Option Rejected → List LoanId
 rejected_in None = []
-rejected_in (Some r) = done_tag r.done ∷ []
+rejected_in (Some r) = id_of_result r.done ∷ []
 
 -- the process numbers, added up
-abbrev pub sum_of_processes : List (ℕ × ℕ) → ℕ
+abbrev pub sum_of_processes : List LoanId → ℕ
 sum_of_processes [] = 0
-sum_of_processes (x ∷ xs) = x.0 + sum_of_processes xs
+sum_of_processes (x ∷ xs) = x.pid + sum_of_processes xs
 
 -- The pass took as many results as were settled, of these process numbers, and beside them the one rejected, if there was one. The
 -- share grew by what the settling says.
 pub record Settled (v : Hand) (h : Holding) (s : Settling) (w : Hand) (k : Holding) : Type 0 where
-  pub done : List (ℕ × ℕ)
+  pub done : List LoanId
   pub taken : w ≡ hand v.put (v.taken ++ (done ++ rejected_in s.rejected))
   pub settled : length done ≡ s.settled
   pub turns : sum_of_processes done ≡ s.turns

@@ -1,53 +1,68 @@
 -- What a turn at a seat comes to.
-use Rattle.std.specs.Prelude.{◌≡◌, ◌≤◌, ℕ, List, [], ◌∷◌, ◌++◌, None, Some, Ok, Result, MatchResult}
-use Rattle.kernel_step.specs.declared.loan.Loan.{Loan}
+use Rattle.std.specs.Prelude.{◌≡◌, ◌⊎◌, ◌≤◌, ℕ, List, [], ◌∷◌, ◌++◌, length, Bool, None, Some, Ok, Err, Result, MatchResult}
+use Rattle.kernel_step.specs.declared.loan.Rejected.{Rejected}
 use Rattle.bursts.specs.Holdings.{grown}
-use Rattle.bursts.specs.declared.totals.Totals.{Totals}
 use Rattle.bursts.specs.declared.fault.WorkFault.{WorkFault}
 use Rattle.bursts.specs.declared.fault.WorkFault.TheVariants as fault
+use Rattle.bursts.specs.declared.loan_id.LoanId.{LoanId}
 use Rattle.pool.specs.declared.settling.Settling.{Settling}
 use Rattle.pool.specs.declared.turning.Pooled.{Pooled}
 use Rattle.pool.specs.declared.turning.Pooled.TheVariants as pooled
-use Rattle.pool.specs.Tags.{loan_tag}
-use Rattle.pool.specs.Fetching.{TakesItsAnswer}
-use Rattle.pool.specs.Settled.{totals_in}
-use Rattle.pool.specs.Seats.{Seated, with_settled}
+use Rattle.pool.specs.Lending.{IsLoanRefusal}
+use Rattle.pool.specs.Fetching.{Fetched, FindsNothing}
+use Rattle.pool.specs.Settled.{totals_in, rejected_in, sum_of_processes}
+use Rattle.pool.specs.Seats.{Seated, with_settled, told_so}
 
--- These results were put into the queue, and the share grew by what was settled, of which none was rejected. Nothing else changed
--- at the seat but what its pass of the queue took.
-pub record Advances (old new : Seated) (xs : List (ℕ × ℕ)) (s : Settling) : Type 0 where
+-- These results were put into the queue, and as many as were settled were taken from it, of these process numbers, with the one
+-- rejected, if there was one. The share grew by what was settled. Nothing else changed at the seat.
+pub record Advances (old new : Seated) (xs : List LoanId) (s : Settling) : Type 0 where
+  pub done : List LoanId
   pub put : new.results.put ≡ old.results.put ++ xs
+  pub taken : new.results.taken ≡ old.results.taken ++ (done ++ rejected_in s.rejected)
+  pub settled : length done ≡ s.settled
+  pub turns : sum_of_processes done ≡ s.turns
+  pub events : s.settled ≤ s.events
   pub share : new.share ≡ grown old.share (totals_in s)
-  pub settled : s.settled ≤ s.events
-  pub accepted : s.rejected ≡ None
   pub rest : new ≡ with_settled old new.results new.share
 
--- the share grew
-abbrev pub Grows : Seated → Seated → Type 0
-Grows old new = (by : Totals) × (new.share ≡ grown old.share by)
+-- the same, and none was rejected
+abbrev pub AllAccepted : Seated → Seated → List LoanId → Settling → Type 0
+AllAccepted old new xs s = Advances old new xs s × (s.rejected ≡ None)
 
--- nothing was put into the queue or taken from it, and the share is as it was
-abbrev pub IsIdle : Seated → Seated → Type 0
-IsIdle old new = (new.results ≡ old.results) × (new.share ≡ old.share)
+-- the same of some settling, which ended with this result
+abbrev pub Rejects : Seated → Seated → List LoanId → Rejected → Type 0
+Rejects old new xs r = (s : Settling) × Advances old new xs s × (s.rejected ≡ Some r)
 
--- A loan was fetched, and its result, and no other, was put into the queue. The share grew by what was settled, of which none was
--- rejected.
-pub record Works (old new : Seated) (s : Settling) : Type 0 where
-  pub loan : Loan
-  pub fetched : TakesItsAnswer (old.own ∷ old.others) (new.own ∷ new.others) (Ok (Some loan))
-  pub put : new.results.put ≡ old.results.put ++ loan_tag loan ∷ []
-  pub share : new.share ≡ grown old.share (totals_in s)
-  pub accepted : s.rejected ≡ None
+-- the same, where this result was put in or was not
+abbrev pub RejectsSoon : Seated → Seated → LoanId → Rejected → Type 0
+RejectsSoon old new x r = Rejects old new [] r ⊎ Rejects old new (x ∷ []) r
 
-abbrev pub TurnedOut : Seated → Seated → Pooled → Type 0
-TurnedOut old new pooled.Idle = IsIdle old new
-TurnedOut old new (pooled.Worked s) = Works old new s
+-- A loan was fetched, and P of it and of the seat after that.
+abbrev pub AfterFetch : Seated → ℕ → (LoanId → Seated → Type 0) → Type 0
+AfterFetch old q P = (x : LoanId) × (m : Seated) × Fetched old q m x × P x m
 
--- Lend: the lending was refused, and nothing was fetched. Settle: a result was not taken back, and the share grew by what was
--- settled before it
-abbrev pub FaultedOut : Seated → Seated → WorkFault → Type 0
-FaultedOut old new (fault.Lend why) = IsIdle old new
-FaultedOut old new (fault.Settle rejected) = Grows old new
+-- Idle: nothing was fetched. Worked: the gate was held with the process of the loan fetched, and the loan's result, and no other,
+-- was put into the queue.
+abbrev pub TurnedOut : Seated → ℕ → (ℕ → Type 0) → Seated → Pooled → Type 0
+TurnedOut old q held new pooled.Idle = FindsNothing old new
+TurnedOut old q held new (pooled.Worked s) = AfterFetch old q (λ x m. held x.pid × AllAccepted m new (x ∷ []) s)
 
-abbrev pub TurnsOut : Seated → Seated → Result Pooled WorkFault → Type 0
-TurnsOut old new result = MatchResult result (TurnedOut old new) (FaultedOut old new)
+-- Lend: the lending was refused, and nothing was fetched. Settle: a result, of whichever worker, was not taken back.
+abbrev pub FaultedOut : Seated → ℕ → (ℕ → Type 0) → Seated → WorkFault → Type 0
+FaultedOut old q held new (fault.Lend why) = FindsNothing old new × IsLoanRefusal why
+FaultedOut old q held new (fault.Settle rejected) = AfterFetch old q (λ x m. held x.pid × RejectsSoon m new x rejected)
+
+-- What a turn comes to; `held` says of a process that the gate was held once, with it.
+abbrev pub TurnsOut : Seated → ℕ → (ℕ → Type 0) → Seated → Result Pooled WorkFault → Type 0
+TurnsOut old q held new result = MatchResult result (TurnedOut old q held new) (FaultedOut old q held new)
+
+-- no loan was fetched in the turn
+abbrev pub HadNoLoan : Result Pooled WorkFault → Type 0
+HadNoLoan (Ok pooled.Idle) = Unit {0}
+HadNoLoan (Ok (pooled.Worked s)) = ⊥
+HadNoLoan (Err (fault.Lend why)) = Unit {0}
+HadNoLoan (Err (fault.Settle rejected)) = ⊥
+
+-- What was in the queue was settled, and then the bench answered whether the work is over; or a result was not taken back.
+abbrev pub Asks : Seated → Seated → Result Bool Rejected → Type 0
+Asks old new result = MatchResult result (λ over. (m : Seated) × (s : Settling) × AllAccepted old m [] s × (new ≡ told_so m over)) (Rejects old new [])

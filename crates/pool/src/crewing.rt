@@ -1,4 +1,7 @@
 //! A crew: a thread for each seat and its gate.
+ghost use Rattle.std.specs.Prelude.{◌≡◌, IfNone};
+ghost use Rattle.pool.specs.Crews.{earlier, IsToldOver, EndsToldOver};
+
 use crate::fault::CrewFault;
 use crate::seats::Seat;
 use crate::turning::Pooled;
@@ -34,7 +37,9 @@ struct First {
 
 impl First {
     /// Keeps a fault, unless one of a pair before it is kept.
-    fn keep(&mut self, place: usize, fault: WorkFault) {
+    fn keep(&mut self, place: usize, fault: WorkFault)
+        ensures { self.new.fault ≡ earlier self.old.fault place fault }
+    {
         let is_first = match &self.fault {
             Some((kept, _)) => place < *kept,
             None => true,
@@ -163,7 +168,9 @@ enum Next {
 }
 
 /// Settles what is in the queue, after which the work may be over.
-fn after_idle_turn<N: Naming, R: Wait>(rt: &R, seat: &mut Seat<'_, '_, N>, quantum: u32) -> Next {
+fn after_idle_turn<N: Naming, R: Wait>(rt: &R, seat: &mut Seat<'_, '_, N>, quantum: u32) -> Next
+    ensures { EndsToldOver result seat.new }
+{
     match seat.is_over(rt, quantum) {
         Ok(true) => Next::End(None),
         Ok(false) => Next::Rest,
@@ -176,7 +183,9 @@ fn take_turn<N: Naming, G: Gate, R: Wait>(
     seat: &mut Seat<'_, '_, N>,
     gate: &mut G,
     quantum: u32,
-) -> Next {
+) -> Next
+    ensures { EndsToldOver result seat.new }
+{
     match seat.turn(rt, gate, quantum) {
         Ok(Pooled::Worked(_)) => Next::Ask,
         Ok(Pooled::Idle) => after_idle_turn(rt, seat, quantum),
@@ -184,13 +193,15 @@ fn take_turn<N: Naming, G: Gate, R: Wait>(
     }
 }
 
-/// Takes turns until the work is over or a turn fails, and gives that turn's fault.
+/// Takes turns until the bench answers that the work is over, or a turn fails, and gives that turn's fault.
 fn work_on<N: Naming, G: Gate, R: Wait>(
     rt: &R,
     seat: &mut Seat<'_, '_, N>,
     gate: &mut G,
     quantum: u32,
-) -> Option<WorkFault> {
+) -> Option<WorkFault>
+    ensures { IfNone result (IsToldOver seat.new) }
+{
     let parker = Parker::new();
     let mut idle = 0u32;
     for _ in rt.forever() {

@@ -2,7 +2,7 @@
 ghost use Rattle.std.specs.Prelude.{◌≡◌, IfOk, MatchOption, MatchResult};
 ghost use Rattle.crossbeam_deque.specs.Handles.{view, IsPassOf, SameWorker, worker_view, worker_flavor, worker_deque, worker_capacity, stealer_deque};
 ghost use Rattle.pool.specs.Hands.{no_hand, gave, took};
-ghost use Rattle.pool.specs.Tags.{loan_tag};
+ghost use Rattle.bursts.specs.LoanIds.{id_of_loan};
 
 use crate::hand::Hand;
 use bursts::Loan;
@@ -18,10 +18,10 @@ const ROOM: usize = 8;
 pub(crate) struct FairLoans;
 
 impl Protocol<Loan, Hand> for FairLoans {
-    ghost use Rattle.pool.specs.Tags.{loan_tag};
+    ghost use Rattle.bursts.specs.LoanIds.{id_of_loan};
     ghost use Rattle.pool.specs.Hands.{no_hand, Balanced};
 
-    ghost holds = { Balanced loan_tag };
+    ghost holds = { Balanced id_of_loan };
 
     ghost first = { no_hand };
 
@@ -33,10 +33,10 @@ struct Puts;
 
 impl Outcome<Loan, Hand> for Puts {
     ghost use Rattle.std.specs.Prelude.{◌≡◌, ◌++◌, map};
-    ghost use Rattle.pool.specs.Tags.{loan_tag};
+    ghost use Rattle.bursts.specs.LoanIds.{id_of_loan};
     ghost use Rattle.pool.specs.Hands.{hand};
 
-    ghost then = { λ v xs w. w ≡ hand (v.put ++ map loan_tag xs) v.taken };
+    ghost then = { λ v xs w. w ≡ hand (v.put ++ map id_of_loan xs) v.taken };
 }
 
 /// Loans are taken.
@@ -44,10 +44,10 @@ struct Takes;
 
 impl Outcome<Loan, Hand> for Takes {
     ghost use Rattle.std.specs.Prelude.{◌≡◌, ◌++◌, map};
-    ghost use Rattle.pool.specs.Tags.{loan_tag};
+    ghost use Rattle.bursts.specs.LoanIds.{id_of_loan};
     ghost use Rattle.pool.specs.Hands.{hand};
 
-    ghost then = { λ v xs w. w ≡ hand v.put (v.taken ++ map loan_tag xs) };
+    ghost then = { λ v xs w. w ≡ hand v.put (v.taken ++ map id_of_loan xs) };
 }
 
 /// A deque, in the hands of the worker that owns it.
@@ -77,7 +77,7 @@ pub(crate) fn guest(thief: &Thief) -> LoanPass
 /// Keeps a loan in the worker's own deque. It comes back where there is no room.
 pub(crate) fn keep(owner: &mut Owner, loan: Loan) -> Result<(), Loan>
     ensures same { SameWorker owner.old owner.new }
-    ensures put { MatchResult result (λ _. worker_view owner.new ≡ gave (worker_view owner.old) (loan_tag loan)) (λ l. (l ≡ loan) × (worker_view owner.new ≡ worker_view owner.old)) }
+    ensures put { MatchResult result (λ _. worker_view owner.new ≡ gave (worker_view owner.old) (id_of_loan loan)) (λ l. (l ≡ loan) × (worker_view owner.new ≡ worker_view owner.old)) }
 {
     owner.push_as::<Puts>(loan)
 }
@@ -85,7 +85,7 @@ pub(crate) fn keep(owner: &mut Owner, loan: Loan) -> Result<(), Loan>
 pub(crate) fn from_own(owner: &mut Owner) -> Option<Loan>
     requires { worker_flavor owner.old ≡ 0 }
     ensures same { SameWorker owner.old owner.new }
-    ensures taken { MatchOption result (worker_view owner.new ≡ worker_view owner.old) (λ l. worker_view owner.new ≡ took (worker_view owner.old) (loan_tag l)) }
+    ensures taken { MatchOption result (worker_view owner.new ≡ worker_view owner.old) (λ l. worker_view owner.new ≡ took (worker_view owner.old) (id_of_loan l)) }
 {
     owner.pop_as::<Takes>()
 }
@@ -94,7 +94,7 @@ pub(crate) fn from_own(owner: &mut Owner) -> Option<Loan>
 pub(crate) fn from_other<R: Wait>(rt: &R, thief: &Thief, pass: &mut LoanPass) -> Option<Loan>
     requires { IsPassOf (stealer_deque thief.now) pass.old }
     ensures pass { IsPassOf (stealer_deque thief.now) pass.new }
-    ensures taken { MatchOption result (view pass.new ≡ view pass.old) (λ l. view pass.new ≡ took (view pass.old) (loan_tag l)) }
+    ensures taken { MatchOption result (view pass.new ≡ view pass.old) (λ l. view pass.new ≡ took (view pass.old) (id_of_loan l)) }
 {
     for _ in rt.forever() {
         match thief.steal_as::<Takes>(pass) {

@@ -1,17 +1,22 @@
 //! How a worker comes to a loan.
-ghost use Rattle.std.specs.Prelude.{◌≡◌, ◌∷◌, Ok, Some, IfSome, MatchOption};
-ghost use Rattle.pool.specs.Tags.{loan_tag};
-ghost use Rattle.pool.specs.Fetching.{TookAt, TakesItsAnswer};
+ghost use Rattle.std.specs.Prelude.{◌≡◌, ◌⊎◌, [], ◌∷◌, true, false, Ok, None, is_some, option_map, map, IfErr, MatchOption, MatchResult};
+ghost use Rattle.kernel_model.specs.Answers.{Refuses};
+ghost use Rattle.kernel_model.specs.Loans.{pick, loan_refusal};
+ghost use Rattle.bursts.specs.LoanIds.{id_of_loan};
+ghost use Rattle.pool.specs.Deques.{Stolen, missed_at};
+ghost use Rattle.pool.specs.Lending.{LendsNoted, Lent, IsLoanRefusal};
+ghost use Rattle.pool.specs.Fetching.{Fetches};
 
 use crate::loans::{Other, Own};
 use crate::locking::lock_soon;
-use bursts::{Bench, Loan, Naming};
+use crate::seats::Seat;
+use bursts::{Bench, Loan, Naming, Share};
 use kernel::Refused;
 use std::sync::{Mutex, Wait};
 
 /// A loan stolen from the first of these deques that has one.
 fn steal_round<R: Wait>(rt: &R, others: &mut Vec<Other>) -> Option<Loan>
-    ensures { MatchOption result (others.new.items ≡ others.old.items) (λ l. TookAt others.old.items others.new.items (loan_tag l)) }
+    ensures { MatchOption result (others.new.items ≡ map missed_at others.old.items) (λ l. Stolen others.old.items others.new.items (id_of_loan l)) }
 {
     for place in 0..others.len() {
         let other = &mut others[place];
@@ -24,11 +29,17 @@ fn steal_round<R: Wait>(rt: &R, others: &mut Vec<Other>) -> Option<Loan>
 
 /// Lends up to seven more loans for the worker's own deque. Gives the one that found no room there, with which the lending ends. A
 /// refusal only ends it.
-fn lend_more<N: Naming>(bench: &mut Bench<'_, N>, own: &mut Own, quantum: u32) -> Option<Loan>
-    ensures { own.new.taken ≡ own.old.taken }
+fn lend_more<N: Naming>(
+    bench: &mut Bench<'_, N>,
+    own: &mut Own,
+    share: &mut Share<N>,
+    quantum: u32,
+) -> Option<Loan>
+    ensures bench { LendsNoted bench.old quantum bench.new share.old share.new }
+    ensures lent { Lent [] quantum own.old own.new (option_map id_of_loan result) share.old share.new }
 {
     for _ in 0..7u32 {
-        match bench.lend(quantum) {
+        match bench.lend(quantum, share) {
             Ok(Some(loan)) => {
                 if let Err(back) = own.keep(loan) {
                     return Some(back);
@@ -47,18 +58,27 @@ fn lend_some<N: Naming>(
     bench: &mut Bench<'_, N>,
     own: &mut Own,
     spare: &mut Option<Loan>,
+    share: &mut Share<N>,
     quantum: u32,
 ) -> Result<Option<Loan>, Refused>
-    ensures { own.new.taken ≡ own.old.taken }
+    ensures bench { LendsNoted bench.old quantum bench.new share.old share.new }
+    ensures lent { MatchResult result (λ given. MatchOption given ((own.new ≡ own.old) × (spare.new ≡ spare.old) × (share.new ≡ share.old))
+        (λ l. Lent (id_of_loan l ∷ []) quantum own.old own.new (option_map id_of_loan spare.new) share.old share.new))
+        (λ _. (own.new ≡ own.old) × (spare.new ≡ spare.old) × (share.new ≡ share.old)) }
+    ensures stopped { bench.old.stopped ≡ true → result ≡ Ok None }
+    ensures none { result ≡ Ok None → (bench.old.stopped ≡ true) ⊎ (pick bench.old.core quantum ≡ None) }
+    ensures refused { IfErr result (λ why. Refuses (loan_refusal bench.old.core) why) }
 {
     if bench.is_stopped() {
         return Ok(None);
     }
-    let first = bench.lend(quantum)?;
-    if first.is_some() {
-        *spare = lend_more(bench, own, quantum);
-    }
-    Ok(first)
+    let first = match bench.lend(quantum, share) {
+        Ok(Some(first)) => first,
+        Ok(None) => return Ok(None),
+        Err(why) => return Err(why),
+    };
+    *spare = lend_more(bench, own, share, quantum);
+    Ok(Some(first))
 }
 
 /// As `lend_some`, under the lock.
@@ -67,35 +87,42 @@ fn lend_under_lock<N: Naming, R: Wait>(
     lock: &Mutex<Bench<'_, N>>,
     own: &mut Own,
     spare: &mut Option<Loan>,
+    share: &mut Share<N>,
     quantum: u32,
 ) -> Result<Option<Loan>, Refused>
-    ensures { own.new.taken ≡ own.old.taken }
+    ensures { MatchResult result (λ given. MatchOption given ((own.new ≡ own.old) × (spare.new ≡ spare.old) × (share.new ≡ share.old))
+        (λ l. Lent (id_of_loan l ∷ []) quantum own.old own.new (option_map id_of_loan spare.new) share.old share.new))
+        (λ why. (own.new ≡ own.old) × (spare.new ≡ spare.old) × (share.new ≡ share.old) × IsLoanRefusal why) }
 {
     let mut guard = lock_soon(rt, lock);
-    lend_some(&mut *guard, own, spare, quantum)
+    lend_some(&mut *guard, own, spare, share, quantum)
 }
 
-/// A loan: the one to spare, else the next of the worker's own deque, else a stolen one, else one lent under the lock. At most one
-/// deque's pass shows one take more, and that is the answer.
-pub(crate) fn fetch<N: Naming, R: Wait>(
-    rt: &R,
-    lock: &Mutex<Bench<'_, N>>,
-    own: &mut Own,
-    others: &mut Vec<Other>,
-    spare: &mut Option<Loan>,
-    quantum: u32,
-) -> Result<Option<Loan>, Refused>
-    ensures takes { TakesItsAnswer (own.old ∷ others.old.items) (own.new ∷ others.new.items) result }
-    ensures spare { IfSome spare.old (λ l. result ≡ Ok (Some l)) }
-{
-    if let Some(loan) = spare.take() {
-        return Ok(Some(loan));
+impl<'p, 'b, N: Naming> Seat<'p, 'b, N> {
+    /// A loan, from the first of these that has one: the one to spare; its own deque; the others' deques, from the next worker on
+    /// and round again; the core, under the lock. The core lends up to eight: the first is the answer, and the others go to its own
+    /// deque. One that finds no room there becomes the one to spare, and no more are lent. None where nothing is lendable, and once
+    /// the work is to stop. Refused where the first lending is; the seat is then as it was.
+    pub fn fetch<R: Wait>(&mut self, rt: &R, quantum: u32) -> Result<Option<Loan>, Refused>
+        ensures { Fetches self.old quantum self.new result }
+    {
+        if let Some(loan) = self.spare.take() {
+            return Ok(Some(loan));
+        }
+        if let Some(loan) = self.own.next_loan() {
+            return Ok(Some(loan));
+        }
+        if let Some(loan) = steal_round(rt, &mut self.others) {
+            return Ok(Some(loan));
+        }
+        let pool = self.pool;
+        lend_under_lock(
+            rt,
+            &pool.bench,
+            &mut self.own,
+            &mut self.spare,
+            &mut self.share,
+            quantum,
+        )
     }
-    if let Some(loan) = own.next_loan() {
-        return Ok(Some(loan));
-    }
-    if let Some(loan) = steal_round(rt, others) {
-        return Ok(Some(loan));
-    }
-    lend_under_lock(rt, lock, own, spare, quantum)
 }

@@ -1,29 +1,31 @@
 //! The deques of loans as one worker has them: its own, and those of the others.
-ghost use Rattle.std.specs.Prelude.{◌≡◌, IfOk, MatchOption, MatchResult};
-ghost use Rattle.pool.specs.Hands.{no_hand, gave, took};
-ghost use Rattle.pool.specs.Tags.{loan_tag};
+ghost use Rattle.std.specs.Prelude.{◌≡◌, [], ◌∷◌, IfOk, MatchOption, MatchResult};
+ghost use Rattle.bursts.specs.LoanIds.{id_of_loan};
+ghost use Rattle.pool.specs.Deques.{new_at, put_in, took_from, missed_at};
 
 use crate::deques::{LoanPass, Owner, Thief, empty_deque, from_other, from_own, guest, keep};
 use bursts::Loan;
+use notes::Notes;
 use std::alloc::{AllocError, Global};
 use std::marker::Model;
 use std::sync::Wait;
 
-/// The worker's own deque. Contracts see what its pass put in and took.
+/// The worker's own deque. Contracts see which it is, what its pass put in and took, and how often nothing was found there.
 #[derive(Drop)]
 pub(crate) struct Own {
     owner: Owner,
+    missed: Notes<()>,
 }
 
 impl Model for Own {
-    ghost use Rattle.pool.specs.declared.hand.Hand.{Hand};
+    ghost use Rattle.pool.specs.Deques.{AtDeque};
 
-    ghost Value = { Hand };
+    ghost Value = { AtDeque };
 
-    ghost use Rattle.std.specs.Prelude.{◌≡◌};
-    ghost use Rattle.crossbeam_deque.specs.Handles.{worker_view, worker_flavor};
+    ghost use Rattle.std.specs.Prelude.{◌≡◌, length};
+    ghost use Rattle.crossbeam_deque.specs.Handles.{worker_deque, worker_view, worker_flavor};
 
-    ghost view = { λ o. worker_view o.owner };
+    ghost view = { λ o. record { deque = (worker_deque o.owner).0; hand = worker_view o.owner; missed = length o.missed.items } };
 
     ghost invariant = { λ o. worker_flavor o.owner ≡ 0 };
 }
@@ -31,58 +33,76 @@ impl Model for Own {
 impl Own {
     /// An empty deque, with room for 8 loans at first.
     pub(crate) fn new(alloc: Global) -> Result<Own, AllocError>
-        ensures { IfOk result (λ o. o ≡ no_hand) }
+        ensures { IfOk result (λ o. o ≡ new_at o.deque) }
     {
         let owner = empty_deque(alloc)?;
-        Ok(Own { owner })
+        Ok(Own {
+            owner,
+            missed: Notes::new(),
+        })
     }
 
     /// The same deque as another worker has it, which has taken nothing.
     pub(crate) fn other(&self) -> Result<Other, AllocError>
-        ensures { IfOk result (λ o. o ≡ no_hand) }
+        ensures { IfOk result (λ o. o ≡ new_at self.now.deque) }
     {
         let thief = self.owner.stealer()?;
         let pass = guest(&thief);
-        Ok(Other { thief, pass })
+        Ok(Other {
+            thief,
+            pass,
+            missed: Notes::new(),
+        })
     }
 
     pub(crate) fn next_loan(&mut self) -> Option<Loan>
-        ensures { MatchOption result (self.new ≡ self.old) (λ l. self.new ≡ took self.old (loan_tag l)) }
+        ensures { MatchOption result (self.new ≡ missed_at self.old) (λ l. self.new ≡ took_from self.old (id_of_loan l)) }
     {
-        from_own(&mut self.owner)
+        let found = from_own(&mut self.owner);
+        if found.is_none() {
+            self.missed = self.missed.and(&());
+        }
+        found
     }
 
     /// Keeps a loan. It comes back where there is no room.
     pub(crate) fn keep(&mut self, loan: Loan) -> Result<(), Loan>
-        ensures { MatchResult result (λ _. self.new ≡ gave self.old (loan_tag loan)) (λ l. (l ≡ loan) × (self.new ≡ self.old)) }
+        ensures { MatchResult result (λ _. self.new ≡ put_in self.old (id_of_loan loan ∷ [])) (λ l. (l ≡ loan) × (self.new ≡ self.old)) }
     {
         keep(&mut self.owner, loan)
     }
 }
 
-/// Another worker's deque. Contracts see what this worker's pass took from it.
+/// Another worker's deque. Contracts see which it is, what this worker's pass took from it, and how often this worker found nothing
+/// there.
 #[derive(Drop)]
 pub(crate) struct Other {
     thief: Thief,
     pass: LoanPass,
+    missed: Notes<()>,
 }
 
 impl Model for Other {
-    ghost use Rattle.pool.specs.declared.hand.Hand.{Hand};
+    ghost use Rattle.pool.specs.Deques.{AtDeque};
 
-    ghost Value = { Hand };
+    ghost Value = { AtDeque };
 
+    ghost use Rattle.std.specs.Prelude.{length};
     ghost use Rattle.crossbeam_deque.specs.Handles.{view as view_of, IsPassOf, stealer_deque};
 
-    ghost view = { λ o. view_of o.pass };
+    ghost view = { λ o. record { deque = (stealer_deque o.thief).0; hand = view_of o.pass; missed = length o.missed.items } };
 
     ghost invariant = { λ o. IsPassOf (stealer_deque o.thief) o.pass };
 }
 
 impl Other {
     pub(crate) fn steal<R: Wait>(&mut self, rt: &R) -> Option<Loan>
-        ensures { MatchOption result (self.new ≡ self.old) (λ l. self.new ≡ took self.old (loan_tag l)) }
+        ensures { MatchOption result (self.new ≡ missed_at self.old) (λ l. self.new ≡ took_from self.old (id_of_loan l)) }
     {
-        from_other(rt, &self.thief, &mut self.pass)
+        let found = from_other(rt, &self.thief, &mut self.pass);
+        if found.is_none() {
+            self.missed = self.missed.and(&());
+        }
+        found
     }
 }

@@ -41,7 +41,9 @@ impl<'b, N: Naming> Pool<'b, N> {
     }
 
     /// The bench, under its lock: for whoever cuts, completes or looks while the workers work.
-    pub fn bench(&self) -> &Mutex<Bench<'b, N>> {
+    pub fn bench(&self) -> &Mutex<Bench<'b, N>>
+        ensures { result.now ≡ self.now.bench }
+    {
         &self.bench
     }
 

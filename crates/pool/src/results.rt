@@ -2,7 +2,7 @@
 ghost use Rattle.std.specs.Prelude.{◌≡◌, IfOk, IfNone, IfSome, MatchOption, MatchResult};
 ghost use Rattle.crossbeam_queue.specs.Passes.{view, IsPassOf, ruled_capacity};
 ghost use Rattle.pool.specs.Hands.{no_hand, gave, took};
-ghost use Rattle.pool.specs.Tags.{done_tag};
+ghost use Rattle.bursts.specs.LoanIds.{id_of_result};
 
 use crate::hand::Hand;
 use bursts::Done;
@@ -18,10 +18,10 @@ const ROOM: usize = 1024;
 pub(crate) struct FairResults;
 
 impl Protocol<Done, Hand> for FairResults {
-    ghost use Rattle.pool.specs.Tags.{done_tag};
+    ghost use Rattle.bursts.specs.LoanIds.{id_of_result};
     ghost use Rattle.pool.specs.Hands.{no_hand, Balanced};
 
-    ghost holds = { Balanced done_tag };
+    ghost holds = { Balanced id_of_result };
 
     ghost first = { no_hand };
 }
@@ -31,10 +31,10 @@ struct Puts;
 
 impl Outcome<Done, Hand> for Puts {
     ghost use Rattle.std.specs.Prelude.{◌≡◌};
-    ghost use Rattle.pool.specs.Tags.{done_tag};
+    ghost use Rattle.bursts.specs.LoanIds.{id_of_result};
     ghost use Rattle.pool.specs.Hands.{gave};
 
-    ghost then = { λ v x w. w ≡ gave v (done_tag x) };
+    ghost then = { λ v x w. w ≡ gave v (id_of_result x) };
 }
 
 impl Lesson<Done, Hand> for Puts {
@@ -46,10 +46,10 @@ struct Takes;
 
 impl Outcome<Done, Hand> for Takes {
     ghost use Rattle.std.specs.Prelude.{◌≡◌};
-    ghost use Rattle.pool.specs.Tags.{done_tag};
+    ghost use Rattle.bursts.specs.LoanIds.{id_of_result};
     ghost use Rattle.pool.specs.Hands.{took};
 
-    ghost then = { λ v x w. w ≡ took v (done_tag x) };
+    ghost then = { λ v x w. w ≡ took v (id_of_result x) };
 }
 
 impl Lesson<Done, Hand> for Takes {
@@ -85,7 +85,7 @@ pub(crate) fn put_result<R: Wait>(
 ) -> Result<(), Done>
     requires { IsPassOf results.now pass.old }
     ensures queue { IsPassOf results.now pass.new }
-    ensures put { MatchResult result (λ _. view pass.new ≡ gave (view pass.old) (done_tag done)) (λ d. (d ≡ done) × (view pass.new ≡ view pass.old)) }
+    ensures put { MatchResult result (λ _. view pass.new ≡ gave (view pass.old) (id_of_result done)) (λ d. (d ≡ done) × (view pass.new ≡ view pass.old)) }
 {
     results.push_as::<Puts, R>(rt, pass, done)
 }
@@ -93,7 +93,7 @@ pub(crate) fn put_result<R: Wait>(
 pub(crate) fn take_result<R: Wait>(rt: &R, results: &Results, pass: &mut ResultPass) -> Option<Done>
     requires { IsPassOf results.now pass.old }
     ensures queue { IsPassOf results.now pass.new }
-    ensures taken { MatchOption result (view pass.new ≡ view pass.old) (λ d. view pass.new ≡ took (view pass.old) (done_tag d)) }
+    ensures taken { MatchOption result (view pass.new ≡ view pass.old) (λ d. view pass.new ≡ took (view pass.old) (id_of_result d)) }
 {
     results.pop_as::<Takes, R>(rt, pass)
 }

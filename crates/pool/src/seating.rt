@@ -1,21 +1,22 @@
 //! How the seats of a pool are made: all memory first, and then a part of the share for each.
 ghost use Rattle.std.specs.Prelude.{◌≡◌, ◌+◌, ◌<◌, [], ◌∷◌, ◌++◌, length, vec_len, IfOk, OnOk, OnErr};
 ghost use Rattle.std.specs.List.{AllByRecursion};
-ghost use Rattle.bursts.specs.Totals.{none};
-ghost use Rattle.pool.specs.Hands.{no_hand};
-ghost use Rattle.pool.specs.Seats.{AreOthers, IsNew};
+ghost use Rattle.bursts.specs.Holdings.{new_part};
+ghost use Rattle.pool.specs.Seating.{IsUnused, AreOthers, seat_with};
+ghost use Rattle.pool.specs.Seats.{AtEach, AreNew};
 
 use crate::loans::{Other, Own};
 use crate::pools::Pool;
 use crate::results::new_pass;
 use crate::seats::Seat;
 use bursts::{Naming, Share};
+use notes::Notes;
 use std::alloc::{AllocError, Global};
 
 /// An empty deque for each worker. The last is the first worker's, the one before it the next worker's, and so on.
 fn deques_for(alloc: Global, workers: u32) -> Result<Vec<Own>, AllocError>
     ensures len { IfOk result (λ deques. vec_len deques ≡ workers) }
-    ensures empty { IfOk result (λ deques. AllByRecursion (λ v. v ≡ no_hand) deques.items) }
+    ensures unused { IfOk result (λ deques. AllByRecursion IsUnused deques.items) }
 {
     let mut deques = Vec::new(alloc);
     for _ in 0..workers {
@@ -27,7 +28,7 @@ fn deques_for(alloc: Global, workers: u32) -> Result<Vec<Own>, AllocError>
 /// The deques of the others as this deque's worker has them: from the next worker on, and round again.
 fn others_of(alloc: Global, deques: &[Own], place: usize) -> Result<Vec<Other>, AllocError>
     requires { place < length deques.now }
-    ensures { IfOk result (λ others. AreOthers (length deques.now) others.items) }
+    ensures { IfOk result (λ others. AreOthers deques.now place others.items) }
 {
     let mut others = Vec::new(alloc);
     for step in 0..place {
@@ -42,7 +43,7 @@ fn others_of(alloc: Global, deques: &[Own], place: usize) -> Result<Vec<Other>, 
 /// The deques of the others, for the worker of each of these deques.
 fn all_others(alloc: Global, deques: &[Own]) -> Result<Vec<Vec<Other>>, AllocError>
     ensures len { IfOk result (λ all. vec_len all ≡ length deques.now) }
-    ensures others { IfOk result (λ all. AllByRecursion (λ others. AreOthers (length deques.now) others.items) all.items) }
+    ensures others { IfOk result (λ all. AtEach (λ place others. AreOthers deques.now place others.items) all.items) }
 {
     let mut all = Vec::new(alloc);
     for place in 0..deques.len() {
@@ -61,9 +62,9 @@ impl<'b, N: Naming> Pool<'b, N> {
     ) -> Result<Vec<Seat<'p, 'b, N>>, AllocError>
         requires { self.now.workers < share.old.parts }
         ensures len { IfOk result (λ seats. vec_len seats ≡ self.now.workers) }
-        ensures fresh { IfOk result (λ seats. AllByRecursion (IsNew self.now.workers) seats.items) }
+        ensures fresh { IfOk result (λ seats. AreNew self.now.workers seats.items) }
         ensures parts { OnOk result (share.new.parts + self.now.workers ≡ share.old.parts) }
-        ensures totals { OnOk result (share.new.totals ≡ share.old.totals) }
+        ensures totals { OnOk result ((share.new.totals ≡ share.old.totals) × (share.new.lent ≡ share.old.lent)) }
         ensures refused { OnErr result (share.new ≡ share.old) }
     {
         let mut deques = deques_for(alloc, self.workers)?;
@@ -90,9 +91,9 @@ fn last_of<T>(list: &mut Vec<T>) -> T
 /// A part of a share that has more.
 fn part_of<N: Naming>(share: &mut Share<N>) -> Share<N>
     requires { 1 < share.old.parts }
-    ensures part { result ≡ record { parts = 1; totals = none } }
+    ensures part { result ≡ new_part }
     ensures parts { share.new.parts + 1 ≡ share.old.parts }
-    ensures totals { share.new.totals ≡ share.old.totals }
+    ensures totals { (share.new.totals ≡ share.old.totals) × (share.new.lent ≡ share.old.lent) }
 {
     share.split().unwrap()
 }
@@ -104,10 +105,7 @@ fn seat_at<'p, 'b, N: Naming>(
     others: Vec<Other>,
     share: Share<N>,
 ) -> Seat<'p, 'b, N>
-    requires own { own ≡ no_hand }
-    requires others { AreOthers pool.now.workers others.items }
-    requires share { share ≡ record { parts = 1; totals = none } }
-    ensures { IsNew pool.now.workers result }
+    ensures { result ≡ seat_with own others.items share }
 {
     let pass = new_pass(&pool.results);
     Seat {
@@ -117,5 +115,6 @@ fn seat_at<'p, 'b, N: Naming>(
         spare: None,
         pass,
         share,
+        told: Notes::new(),
     }
 }

@@ -1,25 +1,24 @@
 //! A worker's seat at a pool.
-ghost use Rattle.std.specs.Prelude.{◌≡◌, ◌∷◌, IfSome, MatchResult};
+ghost use Rattle.std.specs.Prelude.{◌≡◌, ◌+◌, ◌≤◌, length, MatchResult};
 ghost use Rattle.crossbeam_queue.specs.Passes.{view, IsPassOf};
+ghost use Rattle.bursts.specs.LoanIds.{id_of_result};
 ghost use Rattle.pool.specs.Hands.{gave};
-ghost use Rattle.pool.specs.Tags.{done_tag};
-ghost use Rattle.pool.specs.Fetching.{TakesItsAnswer, Answers};
-ghost use Rattle.pool.specs.Settled.{Settled};
+ghost use Rattle.pool.specs.Settled.{Settled, rejected_in};
 ghost use Rattle.pool.specs.Seats.{with_results, with_settled};
 
-use crate::fetching::fetch;
 use crate::loans::{Other, Own};
 use crate::locking::lock_soon;
 use crate::pools::Pool;
 use crate::results::{ResultPass, put_result};
 use crate::settling::{Settling, settle_all};
 use bursts::{Done, Loan, Naming, Share};
-use kernel::Refused;
+use notes::Notes;
 use std::marker::Model;
 use std::sync::Wait;
 
 /// A worker's seat at a pool: its own deque of loans, those of the others from the next worker on and round again, room for one
-/// loan to spare, and one part of a share. Contracts see what its passes show.
+/// loan to spare, and one part of a share. Contracts see what its passes show, and what the bench answered to whether the work is
+/// over.
 #[derive(Drop)]
 pub struct Seat<'p, 'b, N: Naming> {
     pub(crate) pool: &'p Pool<'b, N>,
@@ -28,6 +27,7 @@ pub struct Seat<'p, 'b, N: Naming> {
     pub(crate) spare: Option<Loan>,
     pub(crate) pass: ResultPass,
     pub(crate) share: Share<N>,
+    pub(crate) told: Notes<bool>,
 }
 
 impl<'p, 'b, N: Naming> Model for Seat<'p, 'b, N> {
@@ -37,38 +37,17 @@ impl<'p, 'b, N: Naming> Model for Seat<'p, 'b, N> {
 
     ghost use Rattle.std.specs.Prelude.{option_map};
     ghost use Rattle.crossbeam_queue.specs.Passes.{view as view_of, IsPassOf};
-    ghost use Rattle.pool.specs.Tags.{loan_tag};
+    ghost use Rattle.bursts.specs.LoanIds.{id_of_loan};
 
-    ghost view = { λ s. record { own = s.own; others = s.others.items; spare = option_map loan_tag s.spare; results = view_of s.pass; share = s.share } };
+    ghost view = { λ s. record { own = s.own; others = s.others.items; spare = option_map id_of_loan s.spare; results = view_of s.pass; share = s.share; told = s.told.items } };
 
     ghost invariant = { λ s. IsPassOf s.pool.now.results s.pass };
 }
 
 impl<'p, 'b, N: Naming> Seat<'p, 'b, N> {
-    /// A loan, from the first of these that has one: the one to spare; its own deque; the others' deques, from the next worker on
-    /// and round again; the core, under the lock. The core lends up to eight: the first is the answer, and the others go to its own
-    /// deque. One that finds no room there becomes the one to spare, and no more are lent. None where nothing is lendable, and once
-    /// the work is to stop. Refused where the first lending is.
-    pub fn fetch<R: Wait>(&mut self, rt: &R, quantum: u32) -> Result<Option<Loan>, Refused>
-        ensures takes { TakesItsAnswer (self.old.own ∷ self.old.others) (self.new.own ∷ self.new.others) result }
-        ensures spare { IfSome self.old.spare (λ x. Answers result x) }
-        ensures results { self.new.results ≡ self.old.results }
-        ensures share { self.new.share ≡ self.old.share }
-    {
-        let pool = self.pool;
-        fetch(
-            rt,
-            &pool.bench,
-            &mut self.own,
-            &mut self.others,
-            &mut self.spare,
-            quantum,
-        )
-    }
-
     /// Hands a result in. It comes back only where the queue was full. Takes no memory.
     pub fn hand_in<R: Wait>(&mut self, rt: &R, done: Done) -> Result<(), Done>
-        ensures { MatchResult result (λ _. self.new ≡ with_results self.old (gave self.old.results (done_tag done))) (λ d. (d ≡ done) × (self.new ≡ self.old)) }
+        ensures { MatchResult result (λ _. self.new ≡ with_results self.old (gave self.old.results (id_of_result done))) (λ d. (d ≡ done) × (self.new ≡ self.old)) }
     {
         let pool = self.pool;
         put_result(rt, &pool.results, &mut self.pass, done)
@@ -79,6 +58,7 @@ impl<'p, 'b, N: Naming> Seat<'p, 'b, N> {
     pub fn settle_all<R: Wait>(&mut self, rt: &R) -> Settling
         ensures settled { Settled self.old.results self.old.share result self.new.results self.new.share }
         ensures others { self.new ≡ with_settled self.old self.new.results self.new.share }
+        ensures most { result.settled + length (rejected_in result.rejected) ≤ 1024 }
     {
         let pool = self.pool;
         let mut guard = lock_soon(rt, &pool.bench);

@@ -1,5 +1,5 @@
 //! Results that are settled together, under the lock.
-ghost use Rattle.std.specs.Prelude.{◌≡◌, ◌≤◌, ◌<◌, ◌^◌, ℕ, IfNone, IfSome, MatchResult};
+ghost use Rattle.std.specs.Prelude.{◌≡◌, ◌+◌, ◌≤◌, ◌<◌, ◌^◌, ℕ, length, IfNone, IfSome, MatchResult};
 ghost use Rattle.std.specs.declared.option.Option.{Option};
 ghost use Rattle.machine_model.specs.declared.stop.Stop.{Stop};
 ghost use Rattle.kernel_model.specs.declared.answer.Outcome.{Outcome};
@@ -8,8 +8,8 @@ ghost use Rattle.crossbeam_queue.specs.Passes.{view, IsPassOf};
 ghost use Rattle.bursts.specs.Totals.{plus, settled_totals, Fit};
 ghost use Rattle.bursts.specs.Holdings.{grown};
 ghost use Rattle.pool.specs.Hands.{took};
-ghost use Rattle.pool.specs.Tags.{done_tag};
-ghost use Rattle.pool.specs.Settled.{Settled, totals_in, more, after, no_settling};
+ghost use Rattle.bursts.specs.LoanIds.{loan_id, id_of_result};
+ghost use Rattle.pool.specs.Settled.{Settled, totals_in, rejected_in, more, after, no_settling};
 
 use crate::results::{ResultPass, Results, take_result};
 use bursts::{Bench, Naming, Rejected, Share, Totals};
@@ -138,8 +138,8 @@ fn settle_one<N: Naming, R: Wait>(
     ensures queue { IsPassOf results.now pass.new }
     ensures none { IfNone result ((view pass.new ≡ view pass.old) × (share.new ≡ share.old)) }
     ensures some { IfSome result (λ r. MatchResult r
-        (λ c. ((number : ℕ) × (view pass.new ≡ took (view pass.old) (c.turns, number))) × (share.new ≡ grown share.old c) × (c.turns < 2 ^ 32) × (c.ran < 2 ^ 32) × (c.enters < 2 ^ 32) × (1 ≤ c.events) × (c.events ≤ 2))
-        (λ j. (view pass.new ≡ took (view pass.old) (done_tag j.done)) × (share.new ≡ share.old))) }
+        (λ c. ((number : ℕ) × (quantum : ℕ) × (view pass.new ≡ took (view pass.old) (loan_id c.turns number quantum))) × (share.new ≡ grown share.old c) × (c.turns < 2 ^ 32) × (c.ran < 2 ^ 32) × (c.enters < 2 ^ 32) × (1 ≤ c.events) × (c.events ≤ 2))
+        (λ j. (view pass.new ≡ took (view pass.old) (id_of_result j.done)) × (share.new ≡ share.old))) }
 {
     let done = take_result(rt, results, pass)?;
     let pid = done.pid;
@@ -161,7 +161,7 @@ pub(crate) fn settle_all<N: Naming, R: Wait>(
     requires { IsPassOf results.now pass.old }
     ensures queue { IsPassOf results.now pass.new }
     ensures settled { Settled (view pass.old) share.old result (view pass.new) share.new }
-    ensures most { result.settled ≤ 1024 }
+    ensures most { result.settled + length (rejected_in result.rejected) ≤ 1024 }
 {
     let mut settling = Settling::none();
     for _ in 0..1024u64 {

@@ -3,9 +3,10 @@ ghost use Rattle.std.specs.Prelude.{◌≡◌, ◌∷◌, ◌≤◌, [], None, S
 ghost use Rattle.bursts.specs.Totals.{Fit};
 ghost use Rattle.bursts.specs.Holdings.{Holding, grown};
 ghost use Rattle.pool.specs.declared.settling.Settling.{Settling};
-ghost use Rattle.pool.specs.Tags.{done_tag};
+ghost use Rattle.bursts.specs.LoanIds.{id_of_result};
 ghost use Rattle.pool.specs.Settled.{totals_in, after};
-ghost use Rattle.pool.specs.Turns.{Advances, Grows, TurnsOut};
+ghost use Rattle.pool.specs.Seats.{told_so};
+ghost use Rattle.pool.specs.Turns.{AllAccepted, Rejects, RejectsSoon, TurnsOut, HadNoLoan, Asks};
 
 use crate::seats::Seat;
 use crate::settling::Settling;
@@ -59,7 +60,7 @@ impl<'p, 'b, N: Naming> Seat<'p, 'b, N> {
     fn settle_more<R: Wait>(&mut self, rt: &R, earlier: Settling) -> Result<Settling, Rejected>
         requires share { (h : Holding) × (self.old.share ≡ grown h (totals_in earlier)) }
         requires settled { earlier.settled ≤ earlier.events }
-        ensures { MatchResult result (λ s. (t : Settling) × Advances self.old self.new [] t × (s ≡ after earlier t)) (λ _. Grows self.old self.new) }
+        ensures { MatchResult result (λ s. (t : Settling) × AllAccepted self.old self.new [] t × (s ≡ after earlier t)) (Rejects self.old self.new []) }
     {
         let next = self.settle_all(rt);
         self.fits();
@@ -69,7 +70,7 @@ impl<'p, 'b, N: Naming> Seat<'p, 'b, N> {
 
     /// Hands a result in. As often as the queue is full what is in it is settled first; the answer adds that up.
     fn hand_in_at_last<R: Wait>(&mut self, rt: &R, done: Done) -> Result<Settling, Rejected>
-        ensures { MatchResult result (λ s. Advances self.old self.new (done_tag done ∷ []) s) (λ _. Grows self.old self.new) }
+        ensures { MatchResult result (AllAccepted self.old self.new (id_of_result done ∷ [])) (RejectsSoon self.old self.new (id_of_result done)) }
     {
         let mut left = done;
         let mut settling = Settling::none();
@@ -87,7 +88,7 @@ impl<'p, 'b, N: Naming> Seat<'p, 'b, N> {
 
     /// Hands a result in, and settles what is in the queue.
     fn hand_in_and_settle<R: Wait>(&mut self, rt: &R, done: Done) -> Result<Settling, Rejected>
-        ensures { MatchResult result (λ s. Advances self.old self.new (done_tag done ∷ []) s) (λ _. Grows self.old self.new) }
+        ensures { MatchResult result (AllAccepted self.old self.new (id_of_result done ∷ [])) (RejectsSoon self.old self.new (id_of_result done)) }
     {
         let settling = self.hand_in_at_last(rt, done)?;
         self.settle_more(rt, settling)
@@ -102,7 +103,8 @@ impl<'p, 'b, N: Naming> Seat<'p, 'b, N> {
         gate: &mut G,
         quantum: u32,
     ) -> Result<Pooled, WorkFault>
-        ensures { TurnsOut self.old self.new result }
+        ensures turn { TurnsOut self.old quantum (λ pid. G.holds gate.old pid gate.new) self.new result }
+        ensures gate { HadNoLoan result → gate.new ≡ gate.old }
     {
         let loan = match self.fetch(rt, quantum) {
             Ok(Some(loan)) => loan,
@@ -117,14 +119,21 @@ impl<'p, 'b, N: Naming> Seat<'p, 'b, N> {
         }
     }
 
-    /// Whether no process is lent and none lendable, or the work is to stop.
-    fn is_bench_over<R: Wait>(&self, rt: &R, quantum: u32) -> bool {
-        self.pool.bench().lock(rt).over(quantum)
+    /// Asks the bench whether no process is lent and none lendable, or the work is to stop, and notes its answer.
+    fn is_bench_over<R: Wait>(&mut self, rt: &R, quantum: u32) -> bool
+        ensures { self.new ≡ told_so self.old result }
+    {
+        let pool = self.pool;
+        let over = pool.bench.lock(rt).over(quantum);
+        self.told = self.told.and(&over);
+        over
     }
 
     /// Settles what is in the queue, and says whether the work is over: no process is lent and none lendable, or the work is to
     /// stop. Refused where a result is not taken back.
-    pub(crate) fn is_over<R: Wait>(&mut self, rt: &R, quantum: u32) -> Result<bool, Rejected> {
+    pub(crate) fn is_over<R: Wait>(&mut self, rt: &R, quantum: u32) -> Result<bool, Rejected>
+        ensures { Asks self.old self.new result }
+    {
         accepted(self.settle_all(rt))?;
         Ok(self.is_bench_over(rt, quantum))
     }

@@ -1,6 +1,6 @@
-use Rattle.pool.specs.Tags.{loan_tag}
+use Rattle.bursts.specs.LoanIds.{id_of_loan}
 use Rattle.pool.proofs.Balance.{admits}
 use Rattle.pool.proofs.deques.guest.Goals as goal
 
 pub pass-requires : goal.pass-requires
-pass-requires c = admits loan_tag
+pass-requires c = admits id_of_loan

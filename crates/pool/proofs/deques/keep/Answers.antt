@@ -1,7 +1,7 @@
 use Rattle.std.proofs.Common.{[], ◌∷◌}
-use Rattle.pool.specs.Tags.{loan_tag}
+use Rattle.bursts.specs.LoanIds.{id_of_loan}
 use Rattle.pool.proofs.Balance.{pushes}
 use Rattle.pool.proofs.deques.keep.Goals as goal
 
 pub push_as-requires-clause-pushes : goal.push_as-requires-clause-pushes
-push_as-requires-clause-pushes c = pushes loan_tag _ _ (c.args.loan ∷ [])
+push_as-requires-clause-pushes c = pushes id_of_loan _ _ (c.args.loan ∷ [])

@@ -1,12 +1,11 @@
--- So many deques of others.
-use Rattle.std.proofs.Common.{◌≡◌, ◌+◌, length}
-use Rattle.std.specs.List.{AllByRecursion}
-use Rattle.pool.specs.declared.hand.Hand.{Hand}
-use Rattle.pool.specs.Hands.{no_hand}
+-- So many of the deques before the place, from the last to the first, and then so many of those after it.
+use Rattle.std.proofs.Common.{length, List, []}
+use Rattle.pool.specs.Deques.{AtDeque}
+use Rattle.pool.proofs.Fresh.{Down}
 use Rattle.pool.proofs.seating.others_of.Given as goal
 
 abbrev pub invariant-loop-step : goal.invariant-loop-step
-invariant-loop-step l = (length l.others.items ≡ l.step) × AllByRecursion (λ (v : Hand). v ≡ no_hand) l.others.items
+invariant-loop-step l = Down l.deques l.place l.step [] l.others.items
 
 abbrev pub invariant-loop-step-2 : goal.invariant-loop-step-2
-invariant-loop-step-2 l = (length l.others.items ≡ l.place + l.step) × AllByRecursion (λ (v : Hand). v ≡ no_hand) l.others.items
+invariant-loop-step-2 l = (first : List AtDeque) × Down l.deques l.place l.place [] first × Down l.deques (length l.deques) l.step first l.others.items

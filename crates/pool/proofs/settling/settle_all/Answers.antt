@@ -1,5 +1,5 @@
 -- Each goal's answer is direct, since the search for one takes long here.
-use Rattle.std.proofs.Common.{◌≡◌, ℕ, ◌+◌, ◌*◌, ◌<◌, ◌≤◌, ◌^◌, ◌∙◌, refl, sym, ap, subst, [], ◌∷◌, ◌++◌, append_assoc, arith, None, Some, Ok, Err}
+use Rattle.std.proofs.Common.{◌≡◌, ℕ, ◌+◌, ◌*◌, ◌<◌, ◌≤◌, ◌^◌, ◌∙◌, refl, sym, ap, subst, [], ◌∷◌, ◌++◌, append_assoc, length, arith, None, Some, Ok, Err}
 use Rattle.std.proofs.lemmas.List.{append-nil}
 use Rattle.std.specs.Prelude.{Result, MatchResult}
 use borrow.Author.Count.{falls}
@@ -9,7 +9,7 @@ use Rattle.bursts.specs.declared.totals.Totals.{Totals}
 use Rattle.pool.specs.declared.hand.Hand.{Hand}
 use Rattle.pool.specs.declared.settling.Settling.{Settling}
 use Rattle.pool.specs.Hands.{hand, took}
-use Rattle.pool.specs.Tags.{done_tag}
+use Rattle.bursts.specs.LoanIds.{loan_id, id_of_result}
 use Rattle.pool.specs.Settled.{Settled, rejected_in, more, no_settling}
 use Rattle.pool.proofs.Sums.{grown_not, settles_more}
 use Rattle.pool.proofs.settling.settle_all.Goals as goal
@@ -34,8 +34,14 @@ twice_few n k up below = omega arith
 many : (n k : ℕ) → n ≤ 2 ^ 32 * k → k < 1024 → n < 2 ^ 48
 many n k up below = omega arith
 
-at_most : (n k : ℕ) → n ≤ k → k ≤ 1024 → n ≤ 1024
-at_most n k up below = omega arith
+none_more : (n k : ℕ) → n ≤ k → k ≤ 1024 → n + 0 ≤ 1024
+none_more n k up below = omega arith
+
+one_more : (n k : ℕ) → n ≤ k → k < 1024 → n + 1 ≤ 1024
+one_more n k up below = omega arith
+
+not_more : (k : ℕ) → k < 1024 → k ≤ 1024
+not_more k below = omega arith
 
 -- of settlings
 settled_none : (v : Hand) (h : Holding) (s : Settling) → s ≡ no_settling → Settled v h s v h
@@ -58,12 +64,12 @@ SoFar Q v h s w k n =
     × (s.settled ≤ n) × (s.events ≤ 2 * n) × (s.ran ≤ 2 ^ 32 * n) × (s.turns ≤ 2 ^ 32 * n) × (s.enters ≤ 2 ^ 32 * n)
 
 abbrev Adds : Hand → Holding → Totals → Hand → Holding → Type 0
-Adds w k b x j = ((number : ℕ) × (x ≡ took w (b.turns, number))) × (j ≡ grown k b) × (b.turns < 2 ^ 32) × (b.ran < 2 ^ 32) × (b.enters < 2 ^ 32) × (1 ≤ b.events) × (b.events ≤ 2)
+Adds w k b x j = ((number : ℕ) × (quantum : ℕ) × (x ≡ took w (loan_id b.turns number quantum))) × (j ≡ grown k b) × (b.turns < 2 ^ 32) × (b.ran < 2 ^ 32) × (b.enters < 2 ^ 32) × (1 ≤ b.events) × (b.events ≤ 2)
 
 settled_more : (Q R : Type 0) (v w x : Hand) (h k j : Holding) (s t : Settling) (b : Totals) (n : ℕ) → SoFar Q v h s w k n → R → Adds w k b x j → t ≡ more s b → SoFar R v h t x j (n + 1)
 settled_more Q R v w x h k j s t b n i q a is = (
   q,
-  subst (λ (u : Settling). Settled v h u x j) (sym is) (settles_more v w x h k j s b a.0.0 i.1 i.2 a.0.1 a.1 a.5),
+  subst (λ (u : Settling). Settled v h u x j) (sym is) (settles_more v w x h k j s b a.0.0 a.0.1 i.1 i.2 a.0.2 a.1 a.5),
   ap (λ (u : Settling). u.rejected) is ∙ i.2,
   omega (arith, ap (λ (u : Settling). u.settled) is, i.3),
   omega (arith, ap (λ (u : Settling). u.events) is, i.4, a.6),
@@ -72,7 +78,7 @@ settled_more Q R v w x h k j s t b n i q a is = (
   omega (arith, ap (λ (u : Settling). u.enters) is, i.7, a.4),
 )
 
-settled_but : (v w x : Hand) (h k j : Holding) (s t : Settling) (r : Rejected) → Settled v h s w k → s.rejected ≡ None → (x ≡ took w (done_tag r.done)) × (j ≡ k)
+settled_but : (v w x : Hand) (h k j : Holding) (s t : Settling) (r : Rejected) → Settled v h s w k → s.rejected ≡ None → (x ≡ took w (id_of_result r.done)) × (j ≡ k)
     → t ≡ record { settled = s.settled; events = s.events; ran = s.ran; turns = s.turns; enters = s.enters; rejected = Some r } → Settled v h t x j
 settled_but v w x h k j s t r d none one is =
     let before : w ≡ hand v.put (v.taken ++ d.done) =
@@ -80,12 +86,20 @@ settled_but v w x h k j s t r d none one is =
     in
     subst (λ (u : Settling). Settled v h u x j) (sym is) record {
       done = d.done;
-      taken = one.0 ∙ ap (λ (u : Hand). took u (done_tag r.done)) before ∙ ap (λ l. hand v.put l) (append_assoc v.taken d.done (done_tag r.done ∷ []));
+      taken = one.0 ∙ ap (λ (u : Hand). took u (id_of_result r.done)) before ∙ ap (λ l. hand v.put l) (append_assoc v.taken d.done (id_of_result r.done ∷ []));
       settled = d.settled;
       turns = d.turns;
       events = d.events;
       share = one.1 ∙ d.share;
     }
+
+-- at most 1,024 results were taken
+at_most : (s : Settling) (k : ℕ) → s.settled ≤ k → k ≤ 1024 → s.rejected ≡ None → s.settled + length (rejected_in s.rejected) ≤ 1024
+at_most s k up below none = subst (λ o. s.settled + length (rejected_in o) ≤ 1024) (sym none) (none_more _ k up below)
+
+at_most_but : (s t : Settling) (r : Rejected) (k : ℕ) → s.settled ≤ k → k < 1024
+    → t ≡ record { settled = s.settled; events = s.events; ran = s.ran; turns = s.turns; enters = s.enters; rejected = Some r } → t.settled + length (rejected_in t.rejected) ≤ 1024
+at_most_but s t r k up below is = subst (λ (u : Settling). u.settled + length (rejected_in u.rejected) ≤ 1024) (sym is) (one_more _ k up below)
 
 pub loop-init : goal.loop-init
 loop-init g c = (
@@ -136,5 +150,11 @@ returns-clause-queue g c = c.loop.invariant.0
 pub returns-clause-settled : goal.returns-clause-settled
 returns-clause-settled g c = c.loop.invariant.1
 
+pub returns-in-Some-Err-clause-most : goal.returns-in-Some-Err-clause-most
+returns-in-Some-Err-clause-most g c = at_most_but c.loop.settling _ c.in-Some-Err.rejected _ c.loop.invariant.3 c.loop-test.true c.ended_by.ensures
+
+pub returns-in-None-clause-most : goal.returns-in-None-clause-most
+returns-in-None-clause-most g c = at_most c.loop.settling _ c.loop.invariant.3 (not_more _ c.loop-test.true) c.loop.invariant.2
+
 pub returns-clause-most : goal.returns-clause-most
-returns-clause-most g c = at_most _ _ c.loop.invariant.3 c.loop.auto.counter-end
+returns-clause-most g c = at_most c.loop.settling _ c.loop.invariant.3 c.loop.auto.counter-end c.loop.invariant.2
