@@ -1,102 +1,56 @@
--- What a desk's record says, and what each call adds to it.
-use Rattle.std.specs.Prelude.{◌≡◌, ℕ, ◌+◌, List, Option, Some, None, Result, Ok, Err, MatchResult, MatchOption}
-use Rattle.std.specs.List.{fold}
-use Rattle.kernel_model.specs.Loans.{LoanOut, LoanResult}
+-- What a desk's record says, and what its calls answer.
+use Rattle.std.specs.Prelude.{◌≡◌, ℕ, List, [], ◌∷◌, ◌++◌, Option, Some, None, Result, Ok, Err}
+use Rattle.kernel_model.specs.Answers.{Kernel, Applies}
+use Rattle.kernel_model.specs.Loans.{Lends}
 use Rattle.kernel_model.specs.declared.answer.Answer.{Answer}
-use Rattle.kernel_model.specs.declared.answer.Answer.TheVariants.{Settled}
-use Rattle.kernel_model.specs.declared.answer.Outcome.{Outcome}
 use Rattle.kernel_model.specs.declared.answer.Refused.{Refused}
-use Rattle.desks.specs.declared.note.LoanId.{LoanId}
+use Rattle.kernel_model.specs.declared.event.Event.{Event}
+use Rattle.kernel_step.specs.Loaned.{lent_out, Settles}
+use Rattle.kernel_step.specs.declared.loan.Loan.{Loan}
+use Rattle.kernel_step.specs.declared.loan.Done.{Done}
+use Rattle.kernel_step.specs.declared.loan.Rejected.{Rejected}
+use Rattle.bursts.specs.declared.loan_id.LoanId.{LoanId}
+use Rattle.bursts.specs.LoanIds.{id_of_loan}
+use Rattle.bursts.specs.Holdings.{Holding}
 use Rattle.desks.specs.declared.note.Note.{Note}
 use Rattle.desks.specs.declared.note.Note.TheVariants as note
-use Rattle.bursts.specs.declared.totals.Totals.{Totals}
-use Rattle.bursts.specs.Totals.{plus, settled_totals, one_event}
 
--- how many loans were asked for, given and refused, how many results were handed in and accepted, the last loan that was given, and
--- the loan of the last result that was handed in
-pub record Calls : Type 0 where
-  pub asked : ℕ
-  pub given : ℕ
-  pub refused : ℕ
-  pub handed : ℕ
-  pub accepted : ℕ
-  pub loan : Option LoanId
-  pub result : Option LoanId
-
--- the same, and the four numbers of the desk's share
+-- what was asked of a desk and what it answered, in order, and its share
 pub record Record : Type 0 where
-  pub calls : Calls
-  pub share : Totals
+  pub notes : List Note
+  pub share : Holding
 
--- of a desk at which nothing was done
-abbrev pub no_calls : Calls
-no_calls = record { asked = 0; given = 0; refused = 0; handed = 0; accepted = 0; loan = None; result = None }
+-- the record with one note more
+abbrev pub noted : Record → Note → Record
+noted r n = record { notes = r.notes ++ n ∷ []; share = r.share }
 
--- a loan was asked for, and there was none
-abbrev pub idle : Calls → Calls
-idle c = record c { asked = c.asked + 1 }
+-- the note of a loan that was asked for, by what the desk gave
+abbrev pub lend_note : Result (Option Loan) Refused → Note
+lend_note (Ok (Some l)) = note.Given (id_of_loan l)
+lend_note (Ok None) = note.Idle
+lend_note (Err why) = note.Refused why
 
--- a loan was asked for, and given
-abbrev pub given : Calls → LoanId → Calls
-given c l = record c { asked = c.asked + 1; given = c.given + 1; loan = Some l }
+-- the note of a loan's result that was handed in, by what the desk answered
+abbrev pub result_note : LoanId → Result Answer Rejected → Note
+result_note id (Ok a) = note.Accepted id a
+result_note id (Err kept) = note.Rejected id kept.why
 
--- a loan was asked for, and refused
-abbrev pub refused : Calls → Calls
-refused c = record c { asked = c.asked + 1; refused = c.refused + 1 }
+-- Which core stood under the lock no clause of a desk can name. So these say that there is a core which answers so.
 
--- a loan's result was handed in, and taken back
-abbrev pub accepted : Calls → LoanId → Calls
-accepted c l = record c { handed = c.handed + 1; accepted = c.accepted + 1; result = Some l }
+-- some core gives this for a quantum
+pub record SomeCoreLends (quantum : ℕ) (result : Result (Option Loan) Refused) : Type 0 where
+  pub old : Kernel
+  pub new : Kernel
+  pub lends : Lends old quantum new (lent_out result)
 
--- a loan's result was handed in, and not taken back
-abbrev pub rejected : Calls → LoanId → Calls
-rejected c l = record c { handed = c.handed + 1; result = Some l }
+-- some core answers this to the result of a loan
+pub record SomeCoreSettles (done : Done) (result : Result Answer Rejected) : Type 0 where
+  pub old : Kernel
+  pub new : Kernel
+  pub settles : Settles old done new result
 
--- the calls with the one that was noted so
-abbrev pub noted : Calls → Note → Calls
-noted c note.Idle = idle c
-noted c (note.Given l) = given c l
-noted c note.Refused = refused c
-noted c (note.Accepted l) = accepted c l
-noted c (note.Rejected l) = rejected c l
-
--- the calls that these notes stand for, the first of them first
-abbrev pub calls_of : List Note → Calls
-calls_of notes = fold noted no_calls notes
-
-abbrev pub record_of : List Note → Totals → Record
-record_of notes share = record { calls = calls_of notes; share = share }
-
-abbrev pub loan_id : ℕ → ℕ → ℕ → LoanId
-loan_id pid number quantum = record { pid = pid; number = number; quantum = quantum }
-
--- which loan it is that was handed out
-abbrev pub id_of : LoanOut → LoanId
-id_of l = loan_id l.process l.number l.quantum
-
--- what a desk notes of what it was lent
-abbrev pub note_of : Result (Option LoanOut) Refused → Note
-note_of (Ok (Some l)) = note.Given (id_of l)
-note_of (Ok None) = note.Idle
-note_of (Err why) = note.Refused
-
--- A loan was asked for. One that was given is of the quantum asked for; the share is as it was.
-abbrev pub Asked : Record → Result (Option LoanOut) Refused → ℕ → Record → Type 0
-Asked r result quantum s = MatchResult result
-    (λ given_one. MatchOption given_one (s ≡ record { calls = idle r.calls; share = r.share })
-    (λ l. (l.quantum ≡ quantum) × (s ≡ record { calls = given r.calls (id_of l); share = r.share })))
-    (λ _. s ≡ record { calls = refused r.calls; share = r.share })
-
--- A loan's result was handed in. Where it was accepted, the share grew by what its answer says.
-abbrev pub HandedIn : {E : Type 0} → Record → LoanId → Result Answer E → Record → Type 0
-HandedIn r l result s = MatchResult result
-    (λ a. s ≡ record { calls = accepted r.calls l; share = plus r.share (settled_totals l.pid a) })
-    (λ _. s ≡ record { calls = rejected r.calls l; share = r.share })
-
--- An event of the disk. Where it was accepted, the share grew by one event.
-abbrev pub Counts : Record → Result Answer Refused → Record → Type 0
-Counts r result s = MatchResult result (λ _. s ≡ record { calls = r.calls; share = plus r.share one_event }) (λ _. s ≡ r)
-
--- the answer is that of a result with this count and stop
-abbrev pub TellsRun : LoanResult → Answer → Type 0
-TellsRun r a = (outcome : Option Outcome) × (a ≡ Settled r.reached.count r.reached.stop outcome)
+-- some core answers this to an event
+pub record SomeCoreApplies (event : Event) (result : Result Answer Refused) : Type 0 where
+  pub old : Kernel
+  pub new : Kernel
+  pub applies : Applies old event new result

@@ -1,30 +1,47 @@
 -- What a worker's turn comes to.
-use Rattle.std.specs.Prelude.{◌≡◌, ℕ, Result, MatchResult}
-use Rattle.desks.specs.declared.note.LoanId.{LoanId}
-use Rattle.bursts.specs.declared.totals.Totals.{Totals}
-use Rattle.desks.specs.declared.worker.Turned.{Turned}
-use Rattle.desks.specs.declared.worker.Turned.TheVariants as turned
+use Rattle.std.specs.Prelude.{◌≡◌, ℕ, List, [], ◌∷◌, ◌++◌, Result, Ok, Err, MatchResult}
+use Rattle.bursts.specs.declared.loan_id.LoanId.{LoanId}
+use Rattle.bursts.specs.LoanIds.{id_of_result}
+use Rattle.bursts.specs.Totals.{settled_totals}
+use Rattle.bursts.specs.Holdings.{Holding, grown, lent_to}
 use Rattle.bursts.specs.declared.fault.WorkFault.{WorkFault}
 use Rattle.bursts.specs.declared.fault.WorkFault.TheVariants as fault
-use Rattle.bursts.specs.Totals.{plus, settled_totals}
-use Rattle.desks.specs.Records.{Calls, Record, idle, given, refused, accepted, rejected}
+use Rattle.desks.specs.declared.note.Note.{Note}
+use Rattle.desks.specs.declared.note.Note.TheVariants as note
+use Rattle.desks.specs.declared.worker.Turned.{Turned}
+use Rattle.desks.specs.declared.worker.Turned.TheVariants as turned
+use Rattle.desks.specs.Records.{Record, noted}
 
--- one loan of quantum q was asked for and given, and one result was handed in, of that loan
-pub record Worked (r : Record) (q : ℕ) (s : Record) (share : ℕ → Totals) (handed : Calls → LoanId → Calls) : Type 0 where
-  pub loan : LoanId
-  pub quantum : loan.quantum ≡ q
-  pub calls : s.calls ≡ handed (given r.calls loan) loan
-  pub share_is : s.share ≡ share loan.pid
+-- A loan of the quantum that was asked for was given, the gate was held once, with its process, and its result was handed in, with
+-- this note. No more was asked of the desk, and its share came to this.
+pub record Worked (r : Record) (quantum : ℕ) (held : ℕ → Type 0) (s : Record) (loan : LoanId) (handed : Note) (share : Holding) : Type 0 where
+  pub asked : loan.quantum ≡ quantum
+  pub gate : held loan.pid
+  pub notes : s.notes ≡ r.notes ++ note.Given loan ∷ handed ∷ []
+  pub share_is : s.share ≡ share
 
--- Idle: one loan was asked for, and there was none. Settled: one was given, and its result was taken back with this answer.
-abbrev pub TurnedOut : Record → ℕ → Record → Turned → Type 0
-TurnedOut r q s turned.Idle = s ≡ record { calls = idle r.calls; share = r.share }
-TurnedOut r q s (turned.Settled a) = Worked r q s (λ pid. plus r.share (settled_totals pid a)) accepted
+-- Idle: there was no loan, and no more was asked. Settled: the result was taken back, with this answer of the desk's.
+abbrev pub TurnedOut : Record → ℕ → (ℕ → Type 0) → Record → Turned → Type 0
+TurnedOut r quantum held s turned.Idle = s ≡ noted r note.Idle
+TurnedOut r quantum held s (turned.Settled a) = (loan : LoanId)
+    × Worked r quantum held s loan (note.Accepted loan a) (grown (lent_to r.share (loan ∷ [])) (settled_totals loan.pid a))
 
--- Lend: one loan was asked for, and refused. Settle: one was given, and its result was not taken back.
-abbrev pub FaultedOut : Record → ℕ → Record → WorkFault → Type 0
-FaultedOut r q s (fault.Lend why) = s ≡ record { calls = refused r.calls; share = r.share }
-FaultedOut r q s (fault.Settle kept) = Worked r q s (λ pid. r.share) rejected
+-- Lend: the loan was refused for this reason, and no more was asked. Settle: the result was not taken back for this reason, and it
+-- is that of the loan given.
+abbrev pub FaultedOut : Record → ℕ → (ℕ → Type 0) → Record → WorkFault → Type 0
+FaultedOut r quantum held s (fault.Lend why) = s ≡ noted r (note.Refused why)
+FaultedOut r quantum held s (fault.Settle kept) =
+    let loan = id_of_result kept.done in
+    Worked r quantum held s loan (note.Rejected loan kept.why) (lent_to r.share (loan ∷ []))
 
-abbrev pub TurnsOut : Record → ℕ → Record → Result Turned WorkFault → Type 0
-TurnsOut r q s result = MatchResult result (TurnedOut r q s) (FaultedOut r q s)
+-- A worker's turn at a desk with the first record leaves it with the second; `held` says of a process that the gate was held once,
+-- with it.
+abbrev pub TurnsOut : Record → ℕ → (ℕ → Type 0) → Record → Result Turned WorkFault → Type 0
+TurnsOut r quantum held s result = MatchResult result (TurnedOut r quantum held s) (FaultedOut r quantum held s)
+
+-- no loan was given in the turn
+abbrev pub HadNoLoan : Result Turned WorkFault → Type 0
+HadNoLoan (Ok turned.Idle) = Unit {0}
+HadNoLoan (Ok (turned.Settled a)) = ⊥
+HadNoLoan (Err (fault.Lend why)) = Unit {0}
+HadNoLoan (Err (fault.Settle kept)) = ⊥

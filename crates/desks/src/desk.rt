@@ -1,40 +1,51 @@
 //! Desks: where workers get loans and hand their results in.
-ghost use Rattle.std.specs.Prelude.{◌≡◌, IfOk, IfErr};
-ghost use Rattle.kernel_step.specs.Loaned.{lent_out, loan_result};
-ghost use Rattle.desks.specs.Records.{Record, Asked, HandedIn, Counts, TellsRun, loan_id, record_of, calls_of, noted, note_of as note_for};
+ghost use Rattle.std.specs.Prelude.{◌≡◌, [], ◌∷◌, ◌++◌};
+ghost use Rattle.kernel_model.specs.declared.event.Event.{Event};
+ghost use Rattle.bursts.specs.LoanIds.{id_of_loan, id_of_result};
+ghost use Rattle.bursts.specs.Holdings.{GrowsByLend, GrowsBySettle, GrowsByOne};
+ghost use Rattle.desks.specs.declared.note.Note.TheVariants as note_of;
+ghost use Rattle.desks.specs.Records.{Record, noted, lend_note, result_note, SomeCoreLends, SomeCoreSettles, SomeCoreApplies};
 
-use crate::note::{LoanId, Note};
-use bursts::{Bench, Naming, Share};
+use crate::note::Note;
+use bursts::{Bench, LoanId, Naming, Share};
 use kernel::{Answer, Done, Loan, Refused, Rejected};
 use notes::Notes;
 use std::sync::{Mutex, Wait};
 
-/// A desk, with a record that exists in proofs alone. The record says how many loans were asked for, given and refused, and how
-/// many results were handed in and accepted. It also has the last ones, and the desk's share.
+/// A desk, with a record that exists in proofs alone. In it are a note of each loan that was asked for, of each result that was
+/// handed in, and of each stop, in order, with what the desk answered; beside them the desk's share.
 pub trait Desk {
     ghost account: { Self → Record };
 
     /// A loan of the next process, of at most so many instructions. None where no process is lendable.
     fn lend(&mut self, quantum: u32) -> Result<Option<Loan>, Refused>
-        ensures { Asked (account self.old) (lent_out result) quantum (account self.new) };
+        ensures notes { (account self.new).notes ≡ (account self.old).notes ++ lend_note result ∷ [] }
+        ensures share { GrowsByLend (account self.old).share (account self.new).share result }
+        ensures core { SomeCoreLends quantum result };
 
     /// Hands a loan's result in. Where it is not taken back it comes out again, with the reason.
     fn settle(&mut self, done: Done) -> Result<Answer, Rejected>
-        ensures noted { HandedIn (account self.old) (loan_id done.pid done.number done.quantum) result (account self.new) }
-        ensures answer { IfOk result (TellsRun (loan_result done)) }
-        ensures back { IfErr result (λ r. r.done ≡ done) };
+        ensures notes { (account self.new).notes ≡ (account self.old).notes ++ result_note (id_of_result done) result ∷ [] }
+        ensures share { GrowsBySettle done.pid (account self.old).share (account self.new).share result }
+        ensures core { SomeCoreSettles done result };
 
     /// A Cut: a group of changes is submitted to the disk.
     fn cut(&mut self) -> Result<Answer, Refused>
-        ensures { Counts (account self.old) result (account self.new) };
+        ensures notes { (account self.new).notes ≡ (account self.old).notes }
+        ensures share { GrowsByOne (account self.old).share (account self.new).share result }
+        ensures core { SomeCoreApplies Event.Cut result };
 
     /// The write in flight that begins at this offset of the disk is complete.
     fn complete(&mut self, at: u32) -> Result<Answer, Refused>
-        ensures { Counts (account self.old) result (account self.new) };
+        ensures notes { (account self.new).notes ≡ (account self.old).notes }
+        ensures share { GrowsByOne (account self.old).share (account self.new).share result }
+        ensures core { SomeCoreApplies (Event.Complete at) result };
 
     /// The write in flight that begins at this offset of the disk has failed.
     fn fail(&mut self, at: u32) -> Result<Answer, Refused>
-        ensures { Counts (account self.old) result (account self.new) };
+        ensures notes { (account self.new).notes ≡ (account self.old).notes }
+        ensures share { GrowsByOne (account self.old).share (account self.new).share result }
+        ensures core { SomeCoreApplies (Event.Fail at) result };
 
     /// The least offset on the disk at which a write in flight begins.
     fn in_flight(&mut self) -> Option<u32>
@@ -46,7 +57,7 @@ pub trait Desk {
 
     /// Says stop: from now on the work is over at all desks of this bench.
     fn stop(&mut self)
-        ensures { account self.new ≡ account self.old };
+        ensures { account self.new ≡ noted (account self.old) note_of.Stopped };
 }
 
 /// A desk over a bench under a lock. Each call may wait for the lock, and lets it go before it answers.
@@ -65,7 +76,8 @@ impl<'r, 'a, 'b, N: Naming, R: Wait> LockedDesk<'r, 'a, 'b, N, R> {
         bench: &'a Mutex<Bench<'b, N>>,
         share: Share<N>,
     ) -> LockedDesk<'r, 'a, 'b, N, R>
-        ensures { result.share ≡ share }
+        ensures share { result.share ≡ share }
+        ensures notes { result.notes.items ≡ [] }
     {
         LockedDesk {
             rt,
@@ -85,11 +97,11 @@ impl<'r, 'a, 'b, N: Naming, R: Wait> LockedDesk<'r, 'a, 'b, N, R> {
 }
 
 impl<'r, 'a, 'b, N: Naming, R: Wait> Desk for LockedDesk<'r, 'a, 'b, N, R> {
-    ghost account = { λ d. record_of d.notes.items d.share.totals };
+    ghost account = { λ d. record { notes = d.notes.items; share = d.share } };
 
     fn lend(&mut self, quantum: u32) -> Result<Option<Loan>, Refused> {
-        let given = self.bench.lock(self.rt).lend(quantum);
-        self.notes = with_note(&self.notes, note_of(&given));
+        let given = self.bench.lock(self.rt).lend(quantum, &mut self.share);
+        self.notes = self.notes.and(&note_of_lend(&given));
         given
     }
 
@@ -103,12 +115,7 @@ impl<'r, 'a, 'b, N: Naming, R: Wait> Desk for LockedDesk<'r, 'a, 'b, N, R> {
             .bench
             .lock(self.rt)
             .settle(self.rt, done, &mut self.share);
-        let note = if answer.is_ok() {
-            Note::Accepted(loan)
-        } else {
-            Note::Rejected(loan)
-        };
-        self.notes = with_note(&self.notes, note);
+        self.notes = self.notes.and(&note_of_result(loan, &answer));
         answer
     }
 
@@ -136,11 +143,12 @@ impl<'r, 'a, 'b, N: Naming, R: Wait> Desk for LockedDesk<'r, 'a, 'b, N, R> {
 
     fn stop(&mut self) {
         self.bench.lock(self.rt).stop();
+        self.notes = self.notes.and(&Note::Stopped);
     }
 }
 
-fn note_of(given: &Result<Option<Loan>, Refused>) -> Note
-    ensures { result ≡ note_for (lent_out given.now) }
+fn note_of_lend(given: &Result<Option<Loan>, Refused>) -> Note
+    ensures { result ≡ lend_note given.now }
 {
     match given {
         Ok(Some(loan)) => Note::Given(LoanId {
@@ -149,12 +157,15 @@ fn note_of(given: &Result<Option<Loan>, Refused>) -> Note
             quantum: loan.quantum,
         }),
         Ok(None) => Note::Idle,
-        Err(_) => Note::Refused,
+        Err(why) => Note::Refused(*why),
     }
 }
 
-fn with_note(notes: &Notes<Note>, note: Note) -> Notes<Note>
-    ensures { calls_of result.items ≡ noted (calls_of notes.now.items) note }
+fn note_of_result(loan: LoanId, answer: &Result<Answer, Rejected>) -> Note
+    ensures { result ≡ result_note loan answer.now }
 {
-    notes.and(&note)
+    match answer {
+        Ok(answer) => Note::Accepted(loan, *answer),
+        Err(rejected) => Note::Rejected(loan, rejected.why),
+    }
 }

@@ -6,7 +6,7 @@ mod desk;
 mod note;
 mod worker;
 
-pub use bursts::{Done, Gate, Loan, Rejected, WorkFault};
+pub use bursts::{Done, Gate, Loan, LoanId, Rejected, WorkFault};
 pub use desk::{Desk, LockedDesk};
-pub use note::{LoanId, Note};
+pub use note::Note;
 pub use worker::{Turned, worker_turn};

@@ -1,5 +1,6 @@
 //! What a worker does at a desk.
-ghost use Rattle.desks.specs.Work.{TurnsOut};
+ghost use Rattle.std.specs.Prelude.{◌≡◌};
+ghost use Rattle.desks.specs.Work.{TurnsOut, HadNoLoan};
 
 use crate::desk::Desk;
 use bursts::{Gate, WorkFault, run_loan};
@@ -15,13 +16,14 @@ pub enum Turned {
 }
 
 /// One turn of a worker: it asks for one loan, passes the gate, runs the loan, and hands the result in. From the loan to the result
-/// it has no lock.
+/// it has no lock. It asks nothing else of the desk.
 pub fn worker_turn<D: Desk, G: Gate>(
     desk: &mut D,
     gate: &mut G,
     quantum: u32,
 ) -> Result<Turned, WorkFault>
-    ensures { TurnsOut (D.account desk.old) quantum (D.account desk.new) result }
+    ensures turn { TurnsOut (D.account desk.old) quantum (λ pid. G.holds gate.old pid gate.new) (D.account desk.new) result }
+    ensures gate { HadNoLoan result → gate.new ≡ gate.old }
 {
     let loan = match desk.lend(quantum) {
         Ok(Some(loan)) => loan,

@@ -1,6 +1,9 @@
--- What was noted is what was lent.
-use Rattle.desks.proofs.Noting.{asks}
+-- The core under the lock is one that lends so.
 use Rattle.desks.proofs.desk.LockedDeskDesk.lend.Goals as goal
 
-pub returns : goal.returns
-returns g c = asks c.deref_mut.result.now c.lend-given.new.self _ _ _ _ _ _ c.lend-given.ensures c.note_of.ensures c.with_note-self.ensures
+pub returns-clause-core : goal.returns-clause-core
+returns-clause-core g c = record {
+  old = c.deref_mut.result.now.core;
+  new = c.lend-given.new.self.core;
+  lends = c.lend-given.ensures.lends;
+}
