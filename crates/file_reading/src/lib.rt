@@ -1,0 +1,9 @@
+//! Files of the host, each read no further than what is asked of it needs. So also a file without an end is refused. Only safety is
+//! proved.
+#![tactic(auto)]
+
+mod image_file;
+mod limited;
+
+pub use image_file::image_file_in;
+pub use limited::bytes_in;
