@@ -12,6 +12,8 @@ pub enum ScriptFault {
     Refused { line: usize },
     /// A file that holds no image, and the first check that it fails.
     Image(ElfFault),
+    /// The event of this number has no cone: there is no such event, or it is one of the disk.
+    NoEvent { event: u64 },
     /// A disk on which nothing can be booted.
     Boot(BootFault),
     OutOfMemory,

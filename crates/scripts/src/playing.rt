@@ -1,112 +1,19 @@
 //! The run of a script.
+ghost use Rattle.std.specs.Prelude.{◌≡◌, true, IfSome};
+ghost use Rattle.disk_model.specs.Storage.{is_quiet};
+
 use crate::fault::ScriptFault;
 use crate::file_lines::write_files;
+use crate::printing::{bytes_text, print_refusal, print_reply};
 use crate::script::{Action, Script, Setup, Step, Terminal};
-use elf32::write;
+use crate::texts::AnswerText;
 use files::FileList;
-use kernel::{Answer, Core, Event, Refused};
-use machine_model::{Image, Reply, Stop};
-use std::alloc::{AllocError, Global};
+use kernel::{Core, Event, SimDisk};
+use machine_model::Reply;
+use std::alloc::Global;
+use std::io;
 use std::io::Write;
 use std::rt::Files;
-use std::{fmt, io};
-
-/// Where a Turn stopped, as it is printed.
-#[derive(Drop)]
-struct StopText(Stop);
-
-impl fmt::Display for StopText {
-    fn fmt<W: fmt::Write>(&self, f: &mut fmt::Formatter<W>) -> fmt::Result {
-        match self.0 {
-            Stop::Limit => f.write_str("limit"),
-            Stop::Call => f.write_str("call"),
-            Stop::Trap(cause) => {
-                let number = cause.number();
-                write!(f, "trap {number}")
-            }
-        }
-    }
-}
-
-fn write_ran<W: fmt::Write>(f: &mut fmt::Formatter<W>, count: u32, stop: Stop) -> fmt::Result {
-    let stop = StopText(stop);
-    write!(f, "ran {count} {stop}")
-}
-
-fn write_cut<W: fmt::Write>(f: &mut fmt::Formatter<W>, changes: u64, writes: u64) -> fmt::Result {
-    write!(f, "cut {changes} changes {writes} writes")
-}
-
-fn write_completed<W: fmt::Write>(f: &mut fmt::Formatter<W>, committed: u64) -> fmt::Result {
-    write!(f, "completed, {committed} committed")
-}
-
-/// An answer, as it is printed.
-#[derive(Drop)]
-struct AnswerText(Answer);
-
-impl fmt::Display for AnswerText {
-    fn fmt<W: fmt::Write>(&self, f: &mut fmt::Formatter<W>) -> fmt::Result {
-        match self.0 {
-            Answer::Ran { count, stop } | Answer::Settled { count, stop, .. } => {
-                write_ran(f, count, stop)
-            }
-            Answer::Entered => f.write_str("entered"),
-            Answer::Waits => f.write_str("waits"),
-            Answer::Ended => f.write_str("ended"),
-            Answer::Cut { changes, writes } => write_cut(f, changes, writes),
-            Answer::Completed { committed } => write_completed(f, committed),
-            Answer::Failed => f.write_str("failed"),
-        }
-    }
-}
-
-/// Prints a refusal; want of memory ends the run.
-fn print_refusal<O: Write>(why: Refused, out: &mut O) -> io::Result<()> {
-    match why {
-        Refused::OutOfMemory => Err(io::Error::from(AllocError)),
-        why => {
-            let number = why.number();
-            writeln!(out, "refused {number} {why:?}")
-        }
-    }
-}
-
-/// Bytes as pairs of hexadecimal digits, or `-` for none.
-fn bytes_text(alloc: Global, bytes: &[u8]) -> Result<String, AllocError> {
-    if bytes.is_empty() {
-        String::from_str(alloc, "-")
-    } else {
-        hex::encode(alloc, bytes)
-    }
-}
-
-/// Prints a word of a reply: eight digits, and a space.
-fn print_word<O: Write>(word: u32, out: &mut O) -> io::Result<()> {
-    write!(out, "{word:08x} ")
-}
-
-/// Prints a reply that entered a program: 0, and the bytes of a file that holds the program's image. They need not be those of the
-/// file that was executed, which may place its segments elsewhere.
-fn print_image<O: Write>(alloc: Global, image: &Image, out: &mut O) -> io::Result<()> {
-    let file = write(alloc, image)?;
-    let digits = bytes_text(alloc, file.as_slice())?;
-    print_word(0, out)?;
-    writeln!(out, "image {digits}")
-}
-
-/// Prints a reply: a0, and its bytes after the place where they go, or `-` for none; or the image that it brings.
-fn print_reply<O: Write>(alloc: Global, reply: &Reply, out: &mut O) -> io::Result<()> {
-    if let Some(image) = &reply.image {
-        return print_image(alloc, image, out);
-    }
-    let bytes = bytes_text(alloc, reply.bytes.as_slice())?;
-    print_word(reply.a0, out)?;
-    if !reply.bytes.as_slice().is_empty() {
-        print_word(reply.at, out)?;
-    }
-    writeln!(out, "{bytes}")
-}
 
 fn print_shown<O: Write>(
     alloc: Global,
@@ -150,7 +57,7 @@ fn print_boot_files<O: Write>(files: &FileList, out: &mut O) -> io::Result<()> {
 }
 
 /// Prints the answer, or the refusal.
-fn print_event<O: Write>(core: &mut Core, event: Event, out: &mut O) -> io::Result<()> {
+pub fn print_event<O: Write>(core: &mut Core, event: Event, out: &mut O) -> io::Result<()> {
     match core.apply(event) {
         Ok(answer) => {
             let answer = AnswerText(answer);
@@ -211,18 +118,21 @@ fn play<R: Files + AllocGlobal, O: Write>(
     }
 }
 
-/// Boots on a disk of zeros.
-fn play_all<R: Files + AllocGlobal, O: Write>(
+/// Boots on the disk that a crash left, or on one of zeros, and does the steps. Gives the core that is there after the last one.
+pub fn play_all<R: Files + AllocGlobal, O: Write>(
     rt: &R,
     setup: &mut Setup,
+    left: Option<SimDisk>,
     steps: &[Step],
     out: &mut O,
-) -> Result<(), ScriptFault> {
-    let mut core = setup.boot(rt, None)?;
+) -> Result<Core, ScriptFault>
+    requires { IfSome left (λ device. is_quiet device ≡ true) }
+{
+    let mut core = setup.boot(rt, left)?;
     for step in steps {
         core = play(rt, setup, core, step, out)?;
     }
-    Ok(())
+    Ok(core)
 }
 
 /// Runs a script, and prints what each of its lines gives. The script is read whole before any image that it names.
@@ -232,5 +142,6 @@ pub fn replay<R: Files + AllocGlobal, O: Write>(
     out: &mut O,
 ) -> Result<(), ScriptFault> {
     let mut script = Script::parse(rt.alloc(), text)?;
-    play_all(rt, &mut script.setup, script.steps.as_slice(), out)
+    play_all(rt, &mut script.setup, None, script.steps.as_slice(), out)?;
+    Ok(())
 }

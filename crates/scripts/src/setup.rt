@@ -7,12 +7,12 @@ ghost use Rattle.kernel_model.specs.World.{terminal_count, tape_count};
 use crate::fault::ScriptFault;
 use crate::script::{ScriptProgram, ScriptTape, Setup, Source, tape_numbered};
 use byte_list::Bytes;
+use file_reading::image_file_in;
 use kernel::{Core, Program, SimDisk};
 use kernel_model::{MOST_PROGRAMS, TAPES};
 use machine_model::Image;
 use simdisk::DiskRefusal;
 use std::alloc::{AllocError, Global};
-use std::fs;
 use std::rt::Files;
 
 impl Source {
@@ -21,7 +21,7 @@ impl Source {
         match self {
             Source::Words(words) => Ok(Image::from_text(rt.alloc(), words.as_slice())?),
             Source::Path(path) => {
-                let file = fs::read(rt, path.as_str())?;
+                let file = image_file_in(rt, path.as_str())?;
                 let image = elf32::parse(rt.alloc(), file.as_slice())?;
                 *self = Source::File(file);
                 Ok(image)
