@@ -14,9 +14,11 @@ import tempfile
 
 TOP = os.path.realpath(f"{os.path.dirname(os.path.realpath(__file__))}/..")
 # How many of the words of a command name files, aside from its options.
-MOST_FILES = {"replay": 1, "asm": 2, "list": 1, "debug": 1, "disk": 1, "run": 8}
-FILE_OPTIONS = ("--trace", "--disk", "--tape")
-NUMBER_OPTIONS = ("--workers", "--quantum", "--term")
+MOST_FILES = {"replay": 1, "picture": 1, "crashes": 1, "asm": 2, "list": 1, "debug": 1, "disk": 1, "run": 8}
+# The commands whose file is a script.
+SCRIPT_COMMANDS = ("replay", "picture", "crashes")
+FILE_OPTIONS = ("--trace", "--disk", "--tape", "--expect")
+NUMBER_OPTIONS = ("--workers", "--quantum", "--term", "--fail", "--cone")
 IMAGE_LINE = re.compile(rb"^(image [0-9]+ )(?=[^/\s])", re.MULTILINE)
 # The longest that the program may run, in seconds.
 LONGEST_RUN = 600
@@ -77,7 +79,7 @@ class Room:
                 word = self.place_of(word) if option in FILE_OPTIONS else word
                 option = None
             elif files > 0:
-                word = self.script_of(word) if command == "replay" else self.place_of(word)
+                word = self.script_of(word) if command in SCRIPT_COMMANDS else self.place_of(word)
                 files -= 1
             found.append(word)
         return found

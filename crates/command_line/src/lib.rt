@@ -2,8 +2,13 @@
 #![tactic(auto)]
 
 mod command;
+mod numbers;
+mod parsing;
+mod refusing;
 mod rows;
 mod run_options;
+mod task;
 
-pub use command::{Task, parse};
+pub use parsing::parse;
 pub use run_options::{ImagePaths, RunNumbers, RunOptions};
+pub use task::Task;

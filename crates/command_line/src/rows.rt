@@ -1,18 +1,17 @@
 //! Commands as rows of a table: what is said of each, and the arguments that it takes.
-use clap::builder::ValueParser;
 use clap::{Arg, ArgAction, Command};
 use kernel_model::MOST_PROGRAMS;
 use std::alloc::{AllocError, Global};
 
-/// A number in a range.
+/// A decimal number in a range.
 #[derive(Clone, Copy)]
 pub struct NumberRow {
     /// The name of the value.
     pub value: &'static str,
     pub least: u64,
     pub most: u64,
-    /// The number where none is given.
-    pub default: &'static str,
+    /// The number where none is given, if there is one.
+    pub default: Option<&'static str>,
 }
 
 /// How an argument is given.
@@ -62,11 +61,13 @@ fn option<'a>(arg: Arg<'a>, name: &'a str, value: &'a str) -> Arg<'a> {
     arg.long(name).value_name(value)
 }
 
-/// An option whose value is a number in a range.
+/// An option whose value is a number. Its text is tested after all words are parted, by `faulty_number`.
 fn number<'a>(arg: Arg<'a>, name: &'a str, row: NumberRow) -> Arg<'a> {
-    option(arg, name, row.value)
-        .value_parser(ValueParser::unsigned(row.least, row.most))
-        .default_value(row.default)
+    let arg = option(arg, name, row.value);
+    match row.default {
+        Some(default) => arg.default_value(default),
+        None => arg,
+    }
 }
 
 fn argument_of<'a>(alloc: Global, row: &ArgumentRow) -> Arg<'a> {

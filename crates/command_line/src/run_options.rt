@@ -2,6 +2,7 @@
 ghost use Rattle.std.specs.Prelude.{◌<◌, ◌≤◌, vec_len, length};
 ghost use Rattle.kernel_model.specs.World.{most_programs, terminal_count};
 
+use crate::numbers::number_of;
 use crate::rows::{ArgumentRow, CommandRow, Form, NumberRow};
 use clap::ArgMatches;
 use kernel_model::{MOST_PROGRAMS, TERMINALS};
@@ -34,6 +35,8 @@ pub struct RunNumbers {
     pub quantum: u32,
     /// The terminal that is printed, 0 to 7.
     pub terminal: u32,
+    /// Which completion of the run fails, counted from 1, if one is to.
+    pub fail: Option<u32>,
     ghost some: { 1 ≤ workers },
     ghost few: { workers ≤ 16 },
     ghost moves: { 1 ≤ quantum },
@@ -64,7 +67,7 @@ pub const RUN: CommandRow = CommandRow {
                 value: "N",
                 least: 1,
                 most: 16,
-                default: "4",
+                default: Some("4"),
             }),
         },
         ArgumentRow {
@@ -74,7 +77,7 @@ pub const RUN: CommandRow = CommandRow {
                 value: "Q",
                 least: 1,
                 most: 1_000_000,
-                default: "10000",
+                default: Some("10000"),
             }),
         },
         ArgumentRow {
@@ -94,7 +97,17 @@ pub const RUN: CommandRow = CommandRow {
                 value: "T",
                 least: 0,
                 most: 7,
-                default: "0",
+                default: Some("0"),
+            }),
+        },
+        ArgumentRow {
+            name: "fail",
+            help: "which completion of the disk fails, 1 to 2147483647; none if it is not given",
+            form: Form::Number(NumberRow {
+                value: "K",
+                least: 1,
+                most: 2_147_483_647,
+                default: None,
             }),
         },
         ArgumentRow {
@@ -106,23 +119,29 @@ pub const RUN: CommandRow = CommandRow {
 };
 
 /// A run's numbers. None where one is out of range.
-fn run_numbers(workers: u32, quantum: u32, terminal: u32) -> Option<RunNumbers> {
+fn run_numbers(workers: u32, quantum: u32, terminal: u32, fail: Option<u32>) -> Option<RunNumbers> {
     if workers >= 1 && workers <= 16 && quantum >= 1 && terminal < TERMINALS as u32 {
         Some(RunNumbers {
             workers,
             quantum,
             terminal,
+            fail,
         })
     } else {
         None
     }
 }
 
+/// The number of an option of a run, each of which lies below 2^32.
+fn small_number(matches: &ArgMatches<'_>, option: &str) -> Option<u32> {
+    u32::try_from(number_of(matches, option)?).ok()
+}
+
 fn numbers_of(matches: &ArgMatches<'_>) -> Option<RunNumbers> {
-    let workers = matches.get_one::<u32>("workers")?;
-    let quantum = matches.get_one::<u32>("quantum")?;
-    let terminal = matches.get_one::<u32>("term")?;
-    run_numbers(workers, quantum, terminal)
+    let workers = small_number(matches, "workers")?;
+    let quantum = small_number(matches, "quantum")?;
+    let terminal = small_number(matches, "term")?;
+    run_numbers(workers, quantum, terminal, small_number(matches, "fail"))
 }
 
 /// The paths of the images, where they are 1 to 8.

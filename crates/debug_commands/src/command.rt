@@ -86,7 +86,7 @@ fn with_word(name: &str, word: &str) -> Result<Command, CommandFault> {
 /// The command of a line that has no blanks at its ends.
 pub fn command_of(line: &str) -> Result<Command, CommandFault> {
     match line.split_once(' ') {
-        Some((name, word)) => with_word(name, word.trim()),
+        Some((name, word)) => with_word(name, word.trim_ascii()),
         None => plain(line),
     }
 }

@@ -68,7 +68,7 @@ fn read_command(line: &[u8]) -> Option<Result<Command, CommandFault>> {
     let Ok(text) = str::from_utf8(line) else {
         return Some(Err(CommandFault::Unknown));
     };
-    let text = text.trim();
+    let text = text.trim_ascii();
     if text.is_empty() {
         None
     } else {

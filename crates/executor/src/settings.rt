@@ -11,6 +11,8 @@ pub struct Settings {
     pub quantum: u32,
     /// The terminal whose bytes are written out, 0 to 7.
     pub terminal: u32,
+    /// Which completion of the run fails, the first being 1. By None, or by 0, none does.
+    pub fail: Option<u32>,
     ghost some: { 1 ≤ workers },
     ghost few: { workers ≤ 16 },
     ghost moves: { 1 ≤ quantum },

@@ -6,7 +6,7 @@ use crate::settings::Settings;
 use bursts::{Bench, Blanks, Gate, Naming, Share, board_of, gather};
 use kernel::Core;
 use pool::{Pool, Seat, pool_crew};
-use run_threads::{BoardReader, CommitThread, RunFault, Screen, Watch};
+use run_threads::{BoardReader, CommitThread, Completions, RunFault, Screen, Watch};
 use std::alloc::{AllocError, Global};
 use std::io::Write;
 use std::marker::Brand;
@@ -45,8 +45,12 @@ struct Threading<'x, 'r, 'p, 'b, 'c, N: Naming, R: Wait> {
 /// thread commits what output waits for, and what a terminal shows is written out at once. Then all changes are committed, and the
 /// rest is written. Gives the core as it then stands.
 ///
+/// Where `settings.fail` says so, one completion of the run is a failure in its place. Those at the run's end count too. The run
+/// goes on to its end all the same: then some changes are not committed, just where a write has failed.
+///
 /// OutOfMemory: memory, a thread, or room in the history could not be had. Output: what the terminal shows could not be written.
-/// Either ends the run; what was written stays.
+/// Either ends the run. DiskFailed: a write of the core had failed before the run, and `settings.fail` is None; it comes after the
+/// workers have ended. What was written stays.
 pub fn run<R: Threads + Wait + Sync, O: Write>(
     rt: &R,
     alloc: Global,
@@ -56,7 +60,9 @@ pub fn run<R: Threads + Wait + Sync, O: Write>(
 ) -> Result<Core, RunFault> {
     let mut screen = Screen::new(out, settings.terminal);
     let mut core = run_named::<Brand, R, O>(rt, alloc, core, Blanks::new(), settings, &mut screen)?;
-    core.drain()?;
+    if settings.fail.is_none() {
+        core.drain()?;
+    }
     screen.finish(core.shown(settings.terminal))?;
     Ok(core)
 }
@@ -84,7 +90,7 @@ fn run_named<N: Naming + Send + Sync, R: Threads + Wait + Sync, O: Write>(
         return Err(RunFault::OutOfMemory);
     };
     let reader = BoardReader::new(board, pass);
-    run_pool(rt, alloc, pool, share, reader, settings.quantum, screen)
+    run_pool(rt, alloc, pool, share, reader, settings, screen)
 }
 
 /// The run of a pool, and the core that it leaves.
@@ -94,22 +100,23 @@ fn run_pool<N: Naming + Send + Sync, R: Threads + Wait + Sync, O: Write>(
     pool: Pool<'_, N>,
     share: Share<N>,
     reader: BoardReader<'_, N>,
-    quantum: u32,
+    settings: Settings,
     screen: &mut Screen<'_, O>,
 ) -> Result<Core, RunFault>
     requires { pool.workers < share.parts }
 {
-    run_seats(rt, alloc, &pool, share, reader, quantum, screen)?;
+    run_seats(rt, alloc, &pool, share, reader, settings, screen)?;
     Ok(gather(pool.end(), Vec::new(alloc)))
 }
 
+/// The run of a pool by a worker at each of its seats. Where a completion is to fail, the other changes are committed too.
 fn run_seats<N: Naming + Send + Sync, R: Threads + Wait + Sync, O: Write>(
     rt: &R,
     alloc: Global,
     pool: &Pool<'_, N>,
     mut share: Share<N>,
     reader: BoardReader<'_, N>,
-    quantum: u32,
+    settings: Settings,
     screen: &mut Screen<'_, O>,
 ) -> Result<(), RunFault>
     requires { pool.now.workers < share.parts }
@@ -117,7 +124,8 @@ fn run_seats<N: Naming + Send + Sync, R: Threads + Wait + Sync, O: Write>(
     let mut workers = workers_of(alloc, pool, &mut share)?;
     let seats = workers.as_mut_slice();
     let bench = pool.bench();
-    let committing = CommitThread::new(rt, reader, bench, share);
+    let completions = Completions::none(settings.fail);
+    let committing = CommitThread::new(rt, reader, bench, share, completions);
     let threading = Threading {
         bench,
         crew: Mutex::new(Crew {
@@ -125,10 +133,14 @@ fn run_seats<N: Naming + Send + Sync, R: Threads + Wait + Sync, O: Write>(
         }),
         committing: Mutex::new(committing),
         watch: Watch::new(),
-        quantum,
+        quantum: settings.quantum,
     };
     run_to_end(rt, alloc, &threading, screen);
-    threading.result()
+    let mut committing = threading.end()?;
+    if settings.fail.is_some() {
+        committing.finish(rt)?;
+    }
+    Ok(())
 }
 
 /// A worker for each seat of a pool.
@@ -204,11 +216,16 @@ fn show<N: Naming, R: Wait, O: Write>(
     screen.serve(rt, alloc, threading.bench, &threading.watch);
 }
 
-impl<N: Naming, R: Wait> Threading<'_, '_, '_, '_, '_, N, R> {
-    /// The first fault, if one came. What the threads shared goes.
-    fn result(self) -> Result<(), RunFault> {
-        let Threading { watch, .. } = self;
-        watch.result()
+impl<'r, 'p, 'b, 'c, N: Naming, R: Wait> Threading<'_, 'r, 'p, 'b, 'c, N, R> {
+    /// What the thread that commits has, or the first fault, if one came. What else the threads shared goes.
+    fn end(self) -> Result<CommitThread<'r, 'p, 'b, 'c, N, R>, RunFault> {
+        let Threading {
+            committing,
+            watch,
+            ..
+        } = self;
+        watch.result()?;
+        Ok(committing.into_inner())
     }
 
     /// Keeps the fault, and has the workers stop.

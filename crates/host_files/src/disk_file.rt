@@ -3,11 +3,12 @@ ghost use Rattle.std.specs.Prelude.{◌≡◌, true, IfOk};
 ghost use Rattle.disk_model.specs.Storage.{is_quiet};
 
 use crate::fault::FileFault;
-use crate::reading::bytes_in;
+use file_reading::bytes_in;
 use simdisk::{SIZE, SimDisk};
-use std::alloc::Global;
-use std::fs::OpenFile;
+use std::alloc::{AllocError, Global};
+use std::fs::{OpenFile, OpenOptions, Permissions};
 use std::io::{ErrorKind, Write};
+use std::os::unix::fs::{OpenOptionsExt, PermissionsExt};
 use std::rt::Files;
 use std::{fs, io};
 
@@ -41,23 +42,72 @@ pub fn disk_or_zeros<R: Files + AllocGlobal>(rt: &R, path: &str) -> Result<SimDi
     }
 }
 
-/// Writes a file whole, and syncs it to the host's disk.
-fn write_through<R: Files>(rt: &R, path: &str, bytes: &[u8]) -> io::Result<()> {
-    let mut file = fs::create(rt, path)?;
+/// The path of the file beside a disk's, in which the disk is written before it takes the name of the other.
+fn beside(alloc: Global, path: &str) -> Result<String, AllocError> {
+    format!(in alloc; "{path}.new")
+}
+
+/// Removes what has a path, if anything has. A link is removed, and not what it leads to.
+fn remove_if_there<R: Files>(rt: &R, path: &str) -> io::Result<()> {
+    match fs::remove_file(rt, path) {
+        Err(error) if error.kind() == ErrorKind::NotFound => Ok(()),
+        removed => removed,
+    }
+}
+
+/// Makes a file anew, in the place of what has its path. No link is followed. The file has these rights, or those of any new file.
+fn make_anew<R: Files>(rt: &R, path: &str, rights: Option<Permissions>) -> io::Result<R::File> {
+    remove_if_there(rt, path)?;
+    let mut options = OpenOptions::new();
+    options.write(true).create_new(true);
+    match rights {
+        Some(rights) => {
+            let file = options.mode(rights.mode()).open(rt, path)?;
+            file.set_permissions(rights)?;
+            Ok(file)
+        }
+        None => options.open(rt, path),
+    }
+}
+
+/// The rights of the file of a path, if there is one.
+fn rights_of<R: Files>(rt: &R, path: &str) -> io::Result<Option<Permissions>> {
+    match fs::metadata(rt, path) {
+        Ok(metadata) => Ok(Some(metadata.permissions())),
+        Err(error) if error.kind() == ErrorKind::NotFound => Ok(None),
+        Err(error) => Err(error),
+    }
+}
+
+/// Tests whether a disk can be kept in a file: whether the file beside it can be made, which is then removed. InputOutput where it
+/// cannot, and where the path is empty, which no file has.
+pub fn test_place<R: Files + AllocGlobal>(rt: &R, path: &str) -> Result<(), FileFault> {
+    if path.is_empty() {
+        return Err(FileFault::InputOutput);
+    }
+    let beside = beside(rt.alloc(), path)?;
+    let _file = make_anew(rt, beside.as_str(), None)?;
+    Ok(fs::remove_file(rt, beside.as_str())?)
+}
+
+/// Writes a file anew and whole, with the rights of another, if that is there, and syncs it to the host's disk.
+fn write_through<R: Files>(rt: &R, path: &str, beside: &str, bytes: &[u8]) -> io::Result<()> {
+    let rights = rights_of(rt, path)?;
+    let mut file = make_anew(rt, beside, rights)?;
     file.write_all(bytes)?;
     file.sync_all()
 }
 
-/// Writes a file whole beside another one, whose place it then takes.
+/// Writes a file whole beside another one, whose place and rights it then takes.
 fn replace<R: Files>(rt: &R, path: &str, beside: &str, bytes: &[u8]) -> io::Result<()> {
-    write_through(rt, beside, bytes)?;
+    write_through(rt, path, beside, bytes)?;
     fs::rename(rt, beside, path)
 }
 
-/// Keeps a disk in a file. It is written to a file beside it, of the same path with `.new` after it, which then takes its place. So
-/// whenever the program is killed, the file is whole: as it was, or as it is to be.
+/// Keeps a disk in a file. It is written to a file beside it, of the same path with `.new` after it, which then takes its place and
+/// its rights. So whenever the program is killed, the file is whole: as it was, or as it is to be.
 pub fn keep<R: Files + AllocGlobal>(rt: &R, path: &str, device: &SimDisk) -> Result<(), FileFault> {
-    let beside = format!(in rt.alloc(); "{path}.new")?;
+    let beside = beside(rt.alloc(), path)?;
     if let Err(error) = replace(rt, path, beside.as_str(), device.bytes()) {
         // What was written beside it is of no use; where it cannot be removed either, it stays.
         let _ = fs::remove_file(rt, beside.as_str());

@@ -10,8 +10,8 @@ mod reading;
 mod source;
 
 pub use debugging::debug_file;
-pub use disk_file::{disk_in, disk_or_zeros, keep, zeros};
+pub use disk_file::{disk_in, disk_or_zeros, keep, test_place, zeros};
 pub use fault::FileFault;
 pub use list::list_file;
-pub use reading::{bytes_in, image_in};
+pub use reading::image_in;
 pub use source::assemble_file;

@@ -1,11 +1,15 @@
 //! Sources assembled to files of images.
 use crate::fault::FileFault;
-use assembler::assemble;
+use assembler::{AsmFault, Cause, assemble};
+use file_reading::bytes_in;
 use machine_model::{Image, Segment};
 use std::alloc::Global;
 use std::fs;
 use std::io::Write;
 use std::rt::Files;
+
+/// The longest source that is assembled, in bytes.
+const MOST_SOURCE_BYTES: usize = 1_048_576;
 
 /// What comes of a source: the bytes of its image's file, and the line that is printed.
 struct Assembled {
@@ -45,6 +49,17 @@ fn assemble_source(alloc: Global, source: &str) -> Result<Assembled, FileFault> 
     })
 }
 
+/// Assembles the bytes of a source's file, or of its beginning where it is too long. There the last character may be cut short.
+fn assemble_bytes(alloc: Global, bytes: &[u8]) -> Result<Assembled, FileFault> {
+    match str::from_utf8(bytes) {
+        Ok(source) => assemble_source(alloc, source),
+        Err(error) if bytes.len() > MOST_SOURCE_BYTES && error.error_len().is_none() => {
+            Err(FileFault::from(AsmFault::whole(Cause::TooLarge)))
+        }
+        Err(_) => Err(FileFault::InputOutput),
+    }
+}
+
 /// Writes the image of what was assembled to a file, and prints the line.
 fn write_assembled<R: Files, O: Write>(
     rt: &R,
@@ -58,14 +73,15 @@ fn write_assembled<R: Files, O: Write>(
     Ok(())
 }
 
-/// Assembles the source in a file, writes its image to another, and prints the sizes of its text and data, and its entry.
+/// Assembles the source in a file, writes its image to another, and prints the sizes of its text and data, and its entry. Of a source
+/// that is too long no more is read than shows it.
 pub fn assemble_file<R: Files + AllocGlobal, O: Write>(
     rt: &R,
     source: &str,
     image: &str,
     out: &mut O,
 ) -> Result<(), FileFault> {
-    let text = fs::read_to_string(rt, source)?;
-    let assembled = assemble_source(rt.alloc(), text.as_str())?;
+    let bytes = bytes_in(rt, source, MOST_SOURCE_BYTES)?;
+    let assembled = assemble_bytes(rt.alloc(), &bytes)?;
     write_assembled(rt, &assembled, image, out)
 }

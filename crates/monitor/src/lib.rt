@@ -4,6 +4,7 @@
 
 mod program;
 mod running;
+mod script_files;
 
 pub use program::{bench, end_without_arguments};
 pub use run_files::Fault;

@@ -1,34 +1,18 @@
 //! The whole program.
 use crate::running::run_images;
+use crate::script_files::{
+    explore_file, picture_file, replay_cone_file, replay_file, replay_input,
+};
 use clap::Error;
 use clap::error::ErrorKind;
 use command_line::{Task, parse};
 use host_files::{assemble_file, debug_file, list_file};
-use run_files::{Fault, list_files};
-use scripts::replay;
+use run_files::{Fault, list_files, write_line};
+use std::io;
 use std::io::{BufWriter, Read, Write};
 use std::rt::Files;
 use std::sync::Wait;
 use std::thread::Threads;
-use std::{fs, io};
-
-fn replay_input<R: Files + AllocGlobal, I: Read, O: Write>(
-    rt: &R,
-    input: &mut I,
-    out: &mut O,
-) -> Result<(), Fault> {
-    let text = io::read_to_string(rt.alloc(), input)?;
-    Ok(replay(rt, text.as_str(), out)?)
-}
-
-fn replay_file<R: Files + AllocGlobal, O: Write>(
-    rt: &R,
-    path: &str,
-    out: &mut O,
-) -> Result<(), Fault> {
-    let text = fs::read_to_string(rt, path)?;
-    Ok(replay(rt, text.as_str(), out)?)
-}
 
 fn perform<R: Files + AllocGlobal + Threads + Wait + Sync, I: Read, O: Write, E: Write>(
     rt: &R,
@@ -40,6 +24,9 @@ fn perform<R: Files + AllocGlobal + Threads + Wait + Sync, I: Read, O: Write, E:
     match task {
         Task::ReplayInput => replay_input(rt, input, out),
         Task::ReplayFile(path) => replay_file(rt, path, out),
+        Task::ReplayCone { script, event } => replay_cone_file(rt, script, *event, out),
+        Task::Picture { script, cone } => picture_file(rt, script, *cone, out),
+        Task::Crashes { script, expect } => explore_file(rt, script, *expect, out),
         Task::Assemble { source, image } => Ok(assemble_file(rt, source, image, out)?),
         Task::List(path) => Ok(list_file(rt, path, out)?),
         Task::Debug { image, trace } => Ok(debug_file(rt, image, *trace, input, out)?),
@@ -67,7 +54,7 @@ fn run<R: Files + AllocGlobal + Threads + Wait + Sync, I: Read, O: Write, E: Wri
 fn end<E: Write>(fault: Fault, err: &mut E) -> u8 {
     let status = fault.status();
     // Where the line cannot be written either, the status still tells.
-    let _ = writeln!(err, "{fault}");
+    let _ = write_line(err, fault);
     status
 }
 

@@ -1,4 +1,5 @@
 //! Why the program ends early.
+use crash_outcomes::{ExpectationFault, ExploreFault};
 use host_files::FileFault;
 use kernel::{BootFault, DiskFault};
 use run_threads::RunFault;
@@ -16,9 +17,15 @@ pub enum Fault {
     /// The first line of the script that has no form, or that may not stand where it stands.
     #[error("bench: script refused at line {line}")]
     Script { line: usize },
+    /// The event of this number has no cone: there is none, or it is one of the disk.
+    #[error("bench: event refused: {event}")]
+    Event { event: u64 },
     /// What a file holds is refused.
     #[error("bench: {0}")]
     File(FileFault),
+    /// Expected outcomes of crashes that cannot be read, or a crash with another.
+    #[error("bench: {0}")]
+    Expectation(ExpectationFault),
     /// A disk that cannot be read, and its first fault.
     #[error("bench: disk refused: {number} {fault:?}")]
     Disk { number: u8, fault: DiskFault },
@@ -42,12 +49,13 @@ fn file_status(fault: &FileFault) -> u8 {
 }
 
 impl Fault {
-    /// The exit status, 1 to 6.
+    /// The exit status, 1 to 7.
     pub fn status(&self) -> u8 {
         match self {
             Fault::Argument => 1,
-            Fault::Script { .. } => 2,
+            Fault::Script { .. } | Fault::Event { .. } => 2,
             Fault::File(fault) => file_status(fault),
+            Fault::Expectation(fault) => fault.status(),
             Fault::Disk { .. } => 3,
             Fault::DiskFailed => 4,
             Fault::OutOfMemory => 5,
@@ -99,10 +107,22 @@ impl From<ScriptFault> for Fault {
     fn from(fault: ScriptFault) -> Fault {
         match fault {
             ScriptFault::Refused { line } => Fault::Script { line },
+            ScriptFault::NoEvent { event } => Fault::Event { event },
             ScriptFault::Image(fault) => Fault::File(FileFault::from(fault)),
             ScriptFault::Boot(fault) => Fault::from(fault),
             ScriptFault::OutOfMemory => Fault::OutOfMemory,
             ScriptFault::InputOutput => Fault::InputOutput,
+        }
+    }
+}
+
+impl From<ExploreFault> for Fault {
+    fn from(fault: ExploreFault) -> Fault {
+        match fault {
+            ExploreFault::Script(fault) => Fault::from(fault),
+            ExploreFault::Expectation(fault) => Fault::Expectation(fault),
+            ExploreFault::OutOfMemory => Fault::OutOfMemory,
+            ExploreFault::InputOutput => Fault::InputOutput,
         }
     }
 }

@@ -6,8 +6,10 @@ mod fault;
 mod file_lines;
 mod process_lines;
 mod setup;
+mod whole_line;
 
 pub use fault::Fault;
 pub use file_lines::list_files;
 pub use process_lines::print_processes;
 pub use setup::{boot, keep_disk};
+pub use whole_line::write_line;

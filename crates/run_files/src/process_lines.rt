@@ -1,5 +1,6 @@
 //! How processes stand at the end of a run.
 use crate::fault::Fault;
+use crate::whole_line::write_line;
 use kernel::{Core, Refused, Standing};
 use std::io::Write;
 
@@ -10,8 +11,8 @@ fn print_end<E: Write>(
     err: &mut E,
 ) -> Result<(), Fault> {
     match status {
-        Ok(Some(status)) => writeln!(err, "process {pid} ended {status}")?,
-        _ => writeln!(err, "process {pid} held")?,
+        Ok(Some(status)) => write_line(err, format_args!("process {pid} ended {status}"))?,
+        _ => write_line(err, format_args!("process {pid} held"))?,
     }
     Ok(())
 }
@@ -24,12 +25,15 @@ fn print_process<E: Write>(
 ) -> Result<(), Fault> {
     match standing {
         Standing::Ended => print_end(pid, core.ended(pid), err),
-        Standing::Waits => Ok(writeln!(err, "process {pid} waits")?),
-        Standing::Free | Standing::Lent => Ok(writeln!(err, "process {pid} stopped")?),
+        Standing::Waits => Ok(write_line(err, format_args!("process {pid} waits"))?),
+        Standing::Free | Standing::Lent => Ok(write_line(
+            err,
+            format_args!("process {pid} stopped"),
+        )?),
     }
 }
 
-/// Prints a line for each process, by rising number, up to the first number without a process.
+/// Prints a line for each process, each at once, by rising number, up to the first number without a process.
 pub fn print_processes<E: Write>(core: &Core, err: &mut E) -> Result<(), Fault> {
     for pid in 1..=u32::MAX {
         match core.standing(pid) {

@@ -7,7 +7,8 @@ ghost use Rattle.kernel_model.specs.World.{most_programs, tape_count, terminal_c
 use crate::fault::Fault;
 use byte_list::Bytes;
 use command_line::RunOptions;
-use host_files::{bytes_in, disk_or_zeros, image_in, keep, zeros};
+use file_reading::bytes_in;
+use host_files::{disk_or_zeros, image_in, keep, test_place, zeros};
 use kernel::{Core, Program, SimDisk};
 use scripts::MOST_TAPE_BYTES;
 use std::rt::Files;
@@ -57,12 +58,22 @@ fn device_in<R: Files + AllocGlobal>(rt: &R, path: Option<&str>) -> Result<SimDi
     }
 }
 
-/// Boots the core of a run. The tape is read first, then the images in order, then the disk; the first fault ends it.
-pub fn boot<R: Files + AllocGlobal>(rt: &R, options: &RunOptions<'_>) -> Result<Core, Fault> {
+/// The core of a run, on its tape, its images and its disk.
+fn core_in<R: Files + AllocGlobal>(rt: &R, options: &RunOptions<'_>) -> Result<Core, Fault> {
     let tapes = tapes_in(rt, options.tape)?;
     let programs = programs_in(rt, options.images.as_slice())?;
     let device = device_in(rt, options.disk)?;
     Ok(Core::boot(rt.alloc(), device, programs, tapes)?)
+}
+
+/// Boots the core of a run. The tape is read first, then the images in order, then the disk. At last it is tested whether the disk
+/// can be kept, so that no long run is lost at its end. The first fault ends it.
+pub fn boot<R: Files + AllocGlobal>(rt: &R, options: &RunOptions<'_>) -> Result<Core, Fault> {
+    let core = core_in(rt, options)?;
+    if let Some(path) = options.disk {
+        test_place(rt, path)?;
+    }
+    Ok(core)
 }
 
 /// Halts the core, and keeps the disk that it leaves, if it is to be kept.

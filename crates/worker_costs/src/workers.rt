@@ -115,6 +115,7 @@ fn time_of<R: AllocGlobal + Clock + Threads + Wait + Sync>(
         workers,
         quantum: QUANTUM,
         terminal: 0,
+        fail: None,
     };
     let core = boot(rt.alloc(), load)?;
     let start = Instant::now(rt)?;
