@@ -14,6 +14,8 @@
 //! - `turn P N`, `enter P`, `cut`, `complete AT`, `fail AT`: an event, which comes to its answer or its refusal;
 //! - `script EVENT; EVENT; ..`: these events by `run_script`, which comes to the number of those that were applied;
 //! - `drain`;
+//! - `scripts EVENT; ..`, `drains`: the same, and once more for what the first left, as where memory ran out;
+//! - `call P`: process P runs up to a call or a trap and enters the kernel; the line comes to the answer of the Enter;
 //! - `until N`: process 1 makes calls until there are N changes, and the line comes to their number;
 //! - `commit N`: N events, each the completion of the write in flight that begins first on the disk, or a Cut where none is;
 //! - `rounds N K`: N times, process 1 makes K further changes, which one group commits; the line comes to the numbers of
@@ -27,13 +29,19 @@
 //!   of event N;
 //! - `ran`: how many instructions ran; `totals`: the four numbers of the history; `counts`: how many changes there are and how
 //!   many are committed, and whether a cut is wanted; `in_flight`;
+//! - `writes`: the writes in flight, each by its place and how many bytes it has; `machine P`: how many instructions the process
+//!   did, its pc and its a0;
 //! - `shown T`, in HEX; `replied P`: the numbers that the process was replied; `ended P`.
+//!
+//! What is refused for want of memory is tried again (`watching`), so that a line comes to the same whichever growth is refused.
 //!
 //! By `halt HEX` or `halt` the core ends. Its writes in flight leave these bytes on the disk, or none, and the next core is
 //! booted on it. A case can have a second core, which is booted alike. After `other` the lines are about it, and after one
 //! more `other` about the first.
 //!
-//! Of the disk, as it is before a boot or after a halt:
+//! By `after HEX` or `after` the core goes on, and the disk is the one that a crash would leave now.
+//!
+//! Of the disk, as it is before a boot, after a halt or after a line `after`:
 //! - `recovered`: how many files it holds, or its fault; `boot`: how many files a core finds that is booted on it, or why it
 //!   is refused;
 //! - `files FILE N`: whether it holds the files that the program of this file leaves after its first N changes, by a plain
@@ -45,7 +53,8 @@ use crate::plain_files::has;
 use anyhow::{Error, bail};
 use bursts::{Done, Rejected};
 use files::part_of;
-use kernel::{Event, SimDisk};
+use formats::Reg;
+use kernel::{Event, Refused, SimDisk};
 use kernel_model::TERMINALS;
 use simdisk::DiskRefusal;
 use std::alloc::Global;
@@ -63,9 +72,22 @@ fn number(command: &str, place: usize) -> u32 {
     word(command, place).parse::<u32>().unwrap_or(0)
 }
 
+/// What comes after the first word of a command.
+fn after_word(command: &str) -> &str {
+    match command.split_once(' ') {
+        Some((_word, rest)) => rest,
+        None => "",
+    }
+}
+
 /// What a line comes to, as it is written.
 fn text<T: Debug + Drop>(alloc: Global, answer: T) -> Result<String, Error> {
     Ok(format!(in alloc; "{answer:?}")?)
+}
+
+/// The same of what succeeds, whose error would be the case's own.
+fn text_ok<T: Debug + Drop>(alloc: Global, answer: T) -> Result<String, Error> {
+    text(alloc, Ok::<T, Refused>(answer))
 }
 
 /// Bytes as they are written, `-` for none.
@@ -112,19 +134,28 @@ fn last_events(core: &TestCore, count: usize) -> &[Event] {
 }
 
 /// What a line comes to by which a core runs a script.
-fn run_script(alloc: Global, core: &mut TestCore, command: &str) -> Result<String, Error> {
-    let events = events_of(alloc, command.strip_prefix("script").unwrap_or(""))?;
+fn run_script(alloc: Global, core: &mut TestCore, commands: &str) -> Result<String, Error> {
+    let events = events_of(alloc, commands)?;
     text(alloc, core.run_script(events.as_slice()))
+}
+
+/// The same by two scripts.
+fn run_scripts(alloc: Global, core: &mut TestCore, commands: &str) -> Result<String, Error> {
+    let events = events_of(alloc, commands)?;
+    text(alloc, core.run_scripts(events.as_slice()))
 }
 
 /// What a line comes to by which a core applies events.
 fn apply(alloc: Global, core: &mut TestCore, command: &str) -> Result<String, Error> {
     match word(command, 0) {
-        "script" => run_script(alloc, core, command),
+        "script" => run_script(alloc, core, after_word(command)),
+        "scripts" => run_scripts(alloc, core, after_word(command)),
         "drain" => text(alloc, core.drain()),
+        "drains" => text(alloc, core.drains()?),
+        "call" => text(alloc, core.call(number(command, 1))?),
         _ => {
             let event = event_of(command)?;
-            text(alloc, core.apply(event))
+            text(alloc, core.apply(event)?)
         }
     }
 }
@@ -133,14 +164,43 @@ fn apply(alloc: Global, core: &mut TestCore, command: &str) -> Result<String, Er
 fn run(alloc: Global, core: &mut TestCore, command: &str) -> Result<String, Error> {
     let first = number(command, 1);
     match word(command, 0) {
-        "until" => text(alloc, core.change_up_to(u64::from(first))),
+        "until" => text_ok(alloc, core.change_up_to(u64::from(first))?),
         "commit" => text(alloc, core.commit(u64::from(first))),
-        "rounds" => text(
+        "rounds" => text_ok(
             alloc,
-            core.rounds(alloc, first, u64::from(number(command, 2))),
+            core.rounds(alloc, first, u64::from(number(command, 2)))?,
         ),
-        "loans" => text(alloc, core.loans(first)),
+        "loans" => text_ok(alloc, core.loans(first)?),
         _ => apply(alloc, core, command),
+    }
+}
+
+/// Where each write in flight begins, and how many bytes it has.
+fn writes_text(alloc: Global, core: &TestCore) -> Result<String, Error> {
+    let mut writes = Vec::new(alloc);
+    for write in core.writes_in_flight() {
+        writes.push((write.at, write.bytes.as_slice().len()))?;
+    }
+    text(alloc, writes)
+}
+
+/// How many instructions a process did, its pc and its a0.
+fn machine_text(alloc: Global, core: &TestCore, pid: u32) -> Result<String, Error> {
+    match core.machine(pid) {
+        Ok(machine) => text_ok(
+            alloc,
+            (machine.count(), machine.pc(), machine.reg(Reg::new(10))),
+        ),
+        Err(why) => text(alloc, Err::<(), Refused>(why)),
+    }
+}
+
+/// What a line comes to that looks at the disk or a machine; another one is `run`'s.
+fn see_or_run(alloc: Global, core: &mut TestCore, command: &str) -> Result<String, Error> {
+    match word(command, 0) {
+        "writes" => writes_text(alloc, core),
+        "machine" => machine_text(alloc, core, number(command, 1)),
+        _ => run(alloc, core, command),
     }
 }
 
@@ -150,9 +210,9 @@ fn look_or_run(alloc: Global, core: &mut TestCore, command: &str) -> Result<Stri
     match word(command, 0) {
         "in_flight" => text(alloc, core.in_flight()),
         "shown" => digits(alloc, core.shown(first)),
-        "replied" => text(alloc, core.replied(alloc, first)),
+        "replied" => text_ok(alloc, core.replied(alloc, first)?),
         "ended" => text(alloc, core.ended(first)),
-        _ => run(alloc, core, command),
+        _ => see_or_run(alloc, core, command),
     }
 }
 
@@ -273,9 +333,8 @@ impl Case {
     }
 
     /// The other core comes in the place of this one.
-    fn swap(&mut self) -> Result<(), Error> {
+    fn swap(&mut self) {
         mem::swap(&mut self.core, &mut self.other);
-        Ok(())
     }
 
     /// The core, which is booted where there is none.
@@ -295,6 +354,13 @@ impl Case {
         if let Some(core) = self.core.take() {
             self.device = core.halt(&fill);
         }
+        Ok(())
+    }
+
+    /// The disk becomes the one that a crash of the core would leave.
+    fn crash_copy(&mut self, digits: &str) -> Result<(), Error> {
+        let fill = hex::decode(self.alloc, digits)?;
+        self.device = self.core()?.after_crash(&fill)?;
         Ok(())
     }
 
@@ -322,7 +388,7 @@ impl Case {
     fn settle(&mut self, name: &str) -> Result<String, Error> {
         let alloc = self.alloc;
         let done = self.result(name)?;
-        match self.core()?.settle(done) {
+        match self.core()?.settle(done)? {
             Ok(answer) => text(alloc, answer),
             Err(rejected) => rejection_text(alloc, &rejected),
         }
@@ -365,7 +431,7 @@ impl Case {
     fn lend_or_look(&mut self, command: &str) -> Result<String, Error> {
         let alloc = self.alloc;
         match word(command, 0) {
-            "lend" => text(alloc, self.lend(number(command, 1), word(command, 2))),
+            "lend" => text_ok(alloc, self.lend(number(command, 1), word(command, 2))?),
             "settle" => self.settle(word(command, 1)),
             _ => count_or_look(alloc, self.core()?, command),
         }
@@ -379,7 +445,7 @@ impl Case {
         match word(command, 0) {
             "recovered" => self.recovered(),
             "boot" => self.booted(),
-            "files" => text(alloc, self.holds(word(command, 1), second)),
+            "files" => text_ok(alloc, self.holds(word(command, 1), second)?),
             "bytes" => digits(alloc, self.part(first, second)),
             "zeros" => text(alloc, self.is_zero(first, second)),
             _ => self.lend_or_look(command),
@@ -391,13 +457,14 @@ impl Case {
         let alloc = self.alloc;
         let first = word(command, 1);
         match word(command, 0) {
-            "tape" => text(alloc, self.tape(first)),
-            "disk" => text(
+            "tape" => text_ok(alloc, self.tape(first)?),
+            "disk" => text_ok(
                 alloc,
-                self.set_disk(number(command, 1), number(command, 2), word(command, 3)),
+                self.set_disk(number(command, 1), number(command, 2), word(command, 3))?,
             ),
-            "other" => text(alloc, self.swap()),
-            "halt" => text(alloc, self.halt(first)),
+            "other" => text_ok(alloc, self.swap()),
+            "halt" => text_ok(alloc, self.halt(first)?),
+            "after" => text_ok(alloc, self.crash_copy(first)?),
             _ => self.recover_or_lend(command),
         }
     }
@@ -406,9 +473,9 @@ impl Case {
     fn answer<R: Files + AllocGlobal>(&mut self, rt: &R, command: &str) -> Result<String, Error> {
         let alloc = self.alloc;
         match word(command, 0) {
-            "program" => text(
+            "program" => text_ok(
                 alloc,
-                self.program(rt, number(command, 1), word(command, 2)),
+                self.program(rt, number(command, 1), word(command, 2))?,
             ),
             _ => self.set_or_recover(command),
         }

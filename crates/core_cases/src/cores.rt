@@ -5,11 +5,15 @@ ghost use Rattle.kernel_model.specs.World.{terminal_count};
 
 use anyhow::{Error, bail};
 use assembler::assemble;
-use bursts::{Done, Rejected, Totals, run_loan, totals_of};
+use bursts::{Done, Loan, Rejected, Totals, totals_of};
 use byte_list::Bytes;
 use files::{FileList, FileTable};
-use kernel::{Answer, BootFault, ConeFault, Core, DiskFault, Event, Program, Refused, SimDisk};
+use kernel::{
+    Answer, BootFault, ConeFault, Core, DiskFault, Event, Machine, Piece, Program, Refused,
+    SimDisk, Standing,
+};
 use kernel_model::{MOST_PROGRAMS, TAPES, TERMINALS};
+use machine_model::Reply;
 use std::alloc::{AllocError, Global};
 
 /// A program that can be booted any number of times: its terminal, and its source.
@@ -53,12 +57,21 @@ fn tapes_of(alloc: Global, tapes: &[Vec<u8>]) -> Result<Vec<Bytes>, AllocError>
 }
 
 /// The files that a disk holds, as `journal::recover` finds them.
-pub fn recover(alloc: Global, device: &SimDisk) -> Result<FileTable, DiskFault> {
+fn recover_once(alloc: Global, device: &SimDisk) -> Result<FileTable, DiskFault> {
     journal::recover(alloc, device)
 }
 
+/// The same, once more where it is refused for want of memory.
+pub fn recover(alloc: Global, device: &SimDisk) -> Result<FileTable, DiskFault> {
+    match recover_once(alloc, device) {
+        Err(DiskFault::OutOfMemory) => recover_once(alloc, device),
+        found => found,
+    }
+}
+
 /// A core whose calls are looked at by running them. They are the core's own without their contracts, which would make each case a
-/// proof of what its run comes to.
+/// proof of what its run comes to. A call that is refused for want of memory is made once more: `watching` has those that compare
+/// what is seen of the core before and after the refusal.
 pub struct TestCore {
     core: Core,
 }
@@ -72,8 +85,7 @@ impl Drop for TestCore {
 }
 
 impl TestCore {
-    /// Boots these programs and tapes on the completed bytes of a disk. The inner error is why the core is not booted.
-    pub fn try_boot(
+    fn try_boot_once(
         alloc: Global,
         sources: &[Source],
         tapes: &[Vec<u8>],
@@ -90,6 +102,19 @@ impl TestCore {
         }
     }
 
+    /// Boots these programs and tapes on the completed bytes of a disk. The inner error is why the core is not booted.
+    pub fn try_boot(
+        alloc: Global,
+        sources: &[Source],
+        tapes: &[Vec<u8>],
+        device: &SimDisk,
+    ) -> Result<Result<TestCore, BootFault>, Error> {
+        match TestCore::try_boot_once(alloc, sources, tapes, device)? {
+            Err(BootFault::OutOfMemory) => TestCore::try_boot_once(alloc, sources, tapes, device),
+            booted => Ok(booted),
+        }
+    }
+
     /// As `try_boot`, where the core has to be booted.
     pub fn boot(
         alloc: Global,
@@ -100,7 +125,7 @@ impl TestCore {
         Ok(TestCore::try_boot(alloc, sources, tapes, device)??)
     }
 
-    pub fn apply(&mut self, event: Event) -> Result<Answer, Refused> {
+    pub fn apply_once(&mut self, event: Event) -> Result<Answer, Refused> {
         self.core.apply(event)
     }
 
@@ -117,13 +142,11 @@ impl TestCore {
         core.halt(fill)
     }
 
-    /// Lends a process, where one may be lent, for a quantum of instructions, and runs the loan apart from the core.
-    pub fn burst(&mut self, quantum: u32) -> Result<Option<Done>, Refused> {
-        let loan = self.core.lend(quantum)?;
-        Ok(loan.map(|loan| run_loan(loan)))
+    pub fn lend_once(&mut self, quantum: u32) -> Result<Option<Loan>, Refused> {
+        self.core.lend(quantum)
     }
 
-    pub fn settle(&mut self, done: Done) -> Result<Answer, Rejected> {
+    pub fn settle_once(&mut self, done: Done) -> Result<Answer, Rejected> {
         self.core.settle(done)
     }
 
@@ -144,13 +167,22 @@ impl TestCore {
         }
     }
 
+    /// The replies of a process, as far as they are handed out.
+    pub fn replies(&self, pid: u32) -> Result<&[Reply], Refused> {
+        self.core.trace(pid)
+    }
+
     /// The numbers that a process was replied, as far as they are handed out.
     pub fn replied(&self, alloc: Global, pid: u32) -> Result<Vec<u32>, Error> {
         let mut numbers = Vec::new(alloc);
-        for reply in self.core.trace(pid)? {
+        for reply in self.replies(pid)? {
             numbers.push(reply.a0)?;
         }
         Ok(numbers)
+    }
+
+    pub fn standing(&self, pid: u32) -> Result<Standing, Refused> {
+        self.core.standing(pid)
     }
 
     pub fn ended(&self, pid: u32) -> Result<Option<u32>, Refused> {
@@ -161,6 +193,27 @@ impl TestCore {
         self.core.in_flight()
     }
 
+    /// The writes in flight, in the order in which they were submitted.
+    pub fn writes_in_flight(&self) -> &[Piece] {
+        self.core.writes_in_flight()
+    }
+
+    fn after_crash_once(&self, fill: &[u8]) -> Result<SimDisk, AllocError> {
+        self.core.after_crash(fill)
+    }
+
+    /// The disk that a crash would leave now with this fill. The core goes on.
+    pub fn after_crash(&self, fill: &[u8]) -> Result<SimDisk, AllocError> {
+        match self.after_crash_once(fill) {
+            Err(_) => self.after_crash_once(fill),
+            disk => disk,
+        }
+    }
+
+    pub fn machine(&self, pid: u32) -> Result<&Machine, Refused> {
+        self.core.machine(pid)
+    }
+
     pub fn changes(&self) -> u64 {
         self.core.changes()
     }
@@ -169,8 +222,15 @@ impl TestCore {
         self.core.committed()
     }
 
-    pub fn cone(&self, n: u32) -> Result<Vec<u64>, ConeFault> {
+    fn cone_once(&self, n: u32) -> Result<Vec<u64>, ConeFault> {
         self.core.cone(u64::from(n))
+    }
+
+    pub fn cone(&self, n: u32) -> Result<Vec<u64>, ConeFault> {
+        match self.cone_once(n) {
+            Err(ConeFault::OutOfMemory) => self.cone_once(n),
+            cone => cone,
+        }
     }
 
     pub fn ran(&self) -> u64 {
@@ -183,79 +243,5 @@ impl TestCore {
 
     pub fn wants_cut(&self) -> bool {
         self.core.wants_cut()
-    }
-
-    /// Has process 1 make calls until there are so many changes, at most a hundred calls. Gives how many changes there are.
-    pub fn change_up_to(&mut self, changes: u64) -> Result<u64, Error> {
-        for _ in 0..100 {
-            if self.changes() >= changes {
-                return Ok(self.changes());
-            }
-            self.apply(Event::Turn { pid: 1, n: 10_000 })?;
-            self.apply(Event::Enter { pid: 1 })?;
-        }
-        bail!("process 1 makes no more changes")
-    }
-
-    /// Has process 1 make so many further changes, and cuts them as one group. Gives how many writes commit it.
-    pub fn cut_after(&mut self, changes: u64) -> Result<u64, Error> {
-        self.change_up_to(self.changes().saturating_add(changes))?;
-        match self.apply(Event::Cut)? {
-            Answer::Cut { writes, .. } => Ok(writes),
-            _ => bail!("this was no cut"),
-        }
-    }
-
-    /// Applies so many events: each completes the write in flight that begins first on the disk, or is a Cut where none is.
-    pub fn commit(&mut self, events: u64) -> Result<(), Refused> {
-        for _ in 0..events {
-            let event = match self.in_flight() {
-                Some(at) => Event::Complete { at },
-                None => Event::Cut,
-            };
-            self.apply(event)?;
-        }
-        Ok(())
-    }
-
-    /// As `cut_after`, and commits the group. Gives how many writes that took.
-    pub fn round(&mut self, changes: u64) -> Result<u64, Error> {
-        let writes = self.cut_after(changes)?;
-        self.commit(writes)?;
-        if self.committed() == self.changes() {
-            Ok(writes)
-        } else {
-            bail!("one group does not commit all changes")
-        }
-    }
-
-    /// So many such rounds, and the writes that each took.
-    pub fn rounds(&mut self, alloc: Global, rounds: u32, changes: u64) -> Result<Vec<u64>, Error> {
-        let mut writes = Vec::new(alloc);
-        for _ in 0..rounds {
-            writes.push(self.round(changes)?)?;
-        }
-        Ok(writes)
-    }
-
-    /// Runs a loan and takes it back, where a process may be lent. Says whether one was.
-    fn loan(&mut self, quantum: u32) -> Result<bool, Error> {
-        let Some(done) = self.burst(quantum)? else {
-            return Ok(false);
-        };
-        match self.settle(done) {
-            Ok(_answer) => Ok(true),
-            Err(_rejected) => bail!("a result is refused"),
-        }
-    }
-
-    /// Runs loans and takes them back until no process is lent, at most a hundred. Gives their number.
-    pub fn loans(&mut self, quantum: u32) -> Result<u32, Error> {
-        for count in 0..100 {
-            if !self.loan(quantum)? {
-                return Ok(count);
-            }
-        }
-        bail!("there is no end of loans")
     }
 }

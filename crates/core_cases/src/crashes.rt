@@ -9,17 +9,17 @@ use std::fs;
 use std::rt::Files;
 
 /// The bytes that a crash leaves in the ranges of writes in flight.
-const FILLS: &[&[u8]] = &[&[0x00], &[0x01], &[0x7F, 0xFF]];
+pub const FILLS: &[&[u8]] = &[&[0x00], &[0x01], &[0x7F, 0xFF]];
 
 /// How many changes groups have: the first one, and each other one.
 #[derive(Clone, Copy)]
-struct Sizes {
+pub struct Sizes {
     first: u32,
     others: u32,
 }
 
 /// Of the writer group 0 makes the file alone, and each other one has sixty-four writes.
-const WRITER: Sizes = Sizes {
+pub const WRITER: Sizes = Sizes {
     first: 1,
     others: 64,
 };
@@ -40,12 +40,27 @@ const CHECKPOINT: Sizes = Sizes {
     others: 50,
 };
 
-/// A run of a program from a disk of zeros, and those of its groups that crash.
+/// A run of a program from a disk of zeros, and those of its groups that crash, or whose writes fail.
 #[derive(Clone, Copy)]
-struct Run {
-    changer: Changer,
-    sizes: Sizes,
-    groups: &'static [u32],
+pub struct Run {
+    pub changer: Changer,
+    pub sizes: Sizes,
+    pub groups: &'static [u32],
+}
+
+impl Run {
+    /// Where it begins: on a disk of zeros, which this is.
+    pub fn origin<'a>(self, sources: &'a [Source], device: &'a SimDisk) -> Origin<'a> {
+        Origin {
+            changer: self.changer,
+            sizes: self.sizes,
+            sources,
+            tape: b"",
+            device,
+            before: 0,
+            group: 0,
+        }
+    }
 }
 
 /// Of the writer the making of the file, a group, the first checkpoint, and the first group after it.
@@ -93,7 +108,7 @@ fn boot(
 
 /// Where runs of a program begin: on this disk, after so many changes, with this group.
 #[derive(Clone, Copy)]
-struct Origin<'a> {
+pub struct Origin<'a> {
     changer: Changer,
     sizes: Sizes,
     sources: &'a [Source],
@@ -105,7 +120,7 @@ struct Origin<'a> {
 
 impl Origin<'_> {
     /// A core that has committed all groups before this one and has cut it, and how many writes commit it.
-    fn cut(&self, alloc: Global, group: u32) -> Result<(TestCore, u64), Error> {
+    pub fn cut(&self, alloc: Global, group: u32) -> Result<(TestCore, u64), Error> {
         let mut core = boot(alloc, self.sources, self.tape, self.device)?;
         for before in self.group..group {
             core.round(self.sizes.of(before))?;
@@ -126,7 +141,7 @@ impl Origin<'_> {
     }
 
     /// The disk that a crash of this core with this fill leaves. Refused where its files are not right.
-    fn crash(&self, alloc: Global, core: TestCore, fill: &[u8]) -> Result<SimDisk, Error> {
+    pub fn crash(&self, alloc: Global, core: TestCore, fill: &[u8]) -> Result<SimDisk, Error> {
         let least = self.after(core.committed())?;
         let most = self.after(core.changes())?;
         let left = core.halt(fill);
@@ -181,17 +196,8 @@ fn crash_groups(alloc: Global, sources: &[Source], fill: &[u8]) -> Result<(), Er
 /// Crashes with this fill throughout groups of one run.
 fn crash_run(alloc: Global, run: Run, sources: &[Source], fill: &[u8]) -> Result<(), Error> {
     let device = SimDisk::zero(alloc)?;
-    let origin = Origin {
-        changer: run.changer,
-        sizes: run.sizes,
-        sources,
-        tape: b"",
-        device: &device,
-        before: 0,
-        group: 0,
-    };
     for group in run.groups {
-        crash_group(alloc, origin, *group, fill)?;
+        crash_group(alloc, run.origin(sources, &device), *group, fill)?;
     }
     Ok(())
 }
@@ -225,7 +231,7 @@ fn crash_checkpoint(alloc: Global, sources: &[Source], fill: &[u8]) -> Result<()
 }
 
 /// A list of one program, for terminal 0, whose source stands in this file.
-fn one_source<R: Files + AllocGlobal>(rt: &R, name: &str) -> Result<Vec<Source>, Error> {
+pub fn one_source<R: Files + AllocGlobal>(rt: &R, name: &str) -> Result<Vec<Source>, Error> {
     let text = fs::read_to_string(rt, name)?;
     let mut sources = Vec::new(rt.alloc());
     sources.push(Source { terminal: 0, text })?;

@@ -1,5 +1,6 @@
 //! Tests of cores. `cases` runs the cases of a file, each line compared with what stands there beside it. `crashes` crashes a
-//! writer and a program that removes and renames its files, and compares what is left with a plain fold of the changes. Each
+//! writer and a program that removes and renames its files, and compares what is left with a plain fold of the changes. `failures`
+//! does so after each write of a group has failed. `watching` makes a call once more that is refused for want of memory. Each
 //! function gives a line that says what was tried; at the first case that comes out otherwise it refuses, with a text that says
 //! which.
 #![tactic(auto)]
@@ -8,7 +9,12 @@ mod cases;
 mod changers;
 mod cores;
 mod crashes;
+mod failures;
 mod plain_files;
+mod rounds;
+mod seen;
+mod watching;
 
 pub use cases::check_file;
 pub use crashes::{crash_renamer, crash_writer};
+pub use failures::fail_talker;

@@ -1,30 +1,58 @@
-//! Outputs that take few writes: what the program printed goes out at once, and its status says where it could not.
+//! Outputs that take few writes, and inputs that cannot be read: what the program printed goes out at once, and its status says
+//! where it could not, and whether memory ran out there.
 use anyhow::{Error, ensure};
 use case_texts::arguments;
 use std::fs;
-use std::io::{self, ErrorKind, Write};
+use std::io::{self, ErrorKind, Read, Write};
 use std::rt::Files;
 use std::sync::Wait;
 use std::thread::Threads;
 
-/// An output that takes so many writes, and then fails.
+/// An output that takes so many writes, and then fails for this reason.
 #[derive(Drop)]
 struct Output {
     writes: usize,
     room: usize,
+    failure: ErrorKind,
+    /// How many writes it had taken when it was flushed last.
+    flushed: usize,
+}
+
+impl Output {
+    fn new(room: usize, failure: ErrorKind) -> Output {
+        Output {
+            writes: 0,
+            room,
+            failure,
+            flushed: 0,
+        }
+    }
 }
 
 impl Write for Output {
     fn write(&mut self, buf: &[u8]) -> io::Result<usize> {
         if self.writes >= self.room {
-            return Err(io::Error::from(ErrorKind::BrokenPipe));
+            return Err(io::Error::from(self.failure));
         }
         self.writes += 1;
         Ok(buf.len())
     }
 
     fn flush(&mut self) -> io::Result<()> {
+        self.flushed = self.writes;
         Ok(())
+    }
+}
+
+/// An input that cannot be read for this reason.
+#[derive(Drop)]
+struct Input {
+    failure: ErrorKind,
+}
+
+impl Read for Input {
+    fn read(&mut self, _buf: &mut [u8]) -> io::Result<usize> {
+        Err(io::Error::from(self.failure))
     }
 }
 
@@ -35,15 +63,18 @@ const SCRIPT: &[u8] =
 /// What is said where the output fails.
 const FAILED: &str = "bench: input or output failed\n";
 
-/// Compares how a run with room for so many writes ended, how many it made, and what it said, with what is wanted.
-fn compare_end(
-    room: usize,
-    (ended, writes, err): (u8, usize, &[u8]),
-    status: u8,
-    said: &str,
-) -> Result<(), Error> {
+/// What is said where memory runs out.
+const OUT_OF_MEMORY: &str = "bench: out of memory\n";
+
+/// How a run ended, and what it said.
+type End<'a> = (u8, &'a str);
+
+/// Compares how a run ended with what is wanted. Its output is full, and what it took is flushed.
+fn compare_end(ended: u8, out: &Output, err: &[u8], (status, said): End<'_>) -> Result<(), Error> {
+    let room = out.room;
     ensure!(ended == status, "room for {room} writes: status {ended}");
-    ensure!(writes == room, "room for {room} writes: {writes} writes");
+    ensure!(out.writes == room, "room for {room} writes: fewer are made");
+    ensure!(out.flushed == room, "room for {room} writes: no flush");
     ensure!(
         err == said.as_bytes(),
         "room for {room} writes: another line"
@@ -51,30 +82,48 @@ fn compare_end(
     Ok(())
 }
 
-/// Runs the program with these words, parted by blanks, on the script. It has to fill the output's room, and to end with this
-/// status and this text on standard error.
-fn check_room<R: Files + AllocGlobal + Threads + Wait + Sync>(
+/// Runs the program with these words, parted by blanks, on the script. It has to fill the output, and to end so.
+fn check_output<R: Files + AllocGlobal + Threads + Wait + Sync>(
     rt: &R,
     line: &str,
-    room: usize,
-    status: u8,
-    said: &str,
+    mut out: Output,
+    end: End<'_>,
 ) -> Result<(), Error> {
     let words = arguments(rt.alloc(), line)?;
     let mut input = SCRIPT;
-    let mut out = Output { writes: 0, room };
     let mut err = Vec::new(rt.alloc());
     let ended = monitor::bench(rt, &words, &mut input, &mut out, &mut err);
-    compare_end(room, (ended, out.writes, err.as_slice()), status, said)
+    compare_end(ended, &out, err.as_slice(), end)
 }
 
-/// One write is enough for all output, of a script and of help; where there is none, the status is 6.
+/// Runs the program without words on an input that cannot be read.
+fn check_input<R: Files + AllocGlobal + Threads + Wait + Sync>(
+    rt: &R,
+    failure: ErrorKind,
+    end: End<'_>,
+) -> Result<(), Error> {
+    let words = arguments(rt.alloc(), "")?;
+    let mut input = Input { failure };
+    let mut out = Output::new(0, ErrorKind::BrokenPipe);
+    let mut err = Vec::new(rt.alloc());
+    let ended = monitor::bench(rt, &words, &mut input, &mut out, &mut err);
+    compare_end(ended, &out, err.as_slice(), end)
+}
+
+/// One write is enough for all output, of a script and of help; where there is none, the status is 6, or 5 where memory runs out.
+/// It is the same where the input cannot be read.
 pub fn check_faulty_output<R: Files + AllocGlobal + Threads + Wait + Sync>(
     rt: &R,
 ) -> Result<String, Error> {
-    for line in ["", "--help"] {
-        check_room(rt, line, 1, 0, "")?;
-        check_room(rt, line, 0, 6, FAILED)?;
+    for (failure, end) in [
+        (ErrorKind::BrokenPipe, (6, FAILED)),
+        (ErrorKind::OutOfMemory, (5, OUT_OF_MEMORY)),
+    ] {
+        for line in ["", "--help"] {
+            check_output(rt, line, Output::new(1, failure), (0, ""))?;
+            check_output(rt, line, Output::new(0, failure), end)?;
+        }
+        check_input(rt, failure, end)?;
     }
     Ok(String::from_str(rt.alloc(), "outputs that take one write or none")?)
 }
@@ -95,7 +144,8 @@ pub fn check_endless_run<R: Files + AllocGlobal + Threads + Wait + Sync>(
     rt: &R,
 ) -> Result<String, Error> {
     assemble_endless(rt)?;
-    check_room(rt, "run endless", 0, 6, FAILED)?;
+    let out = Output::new(0, ErrorKind::BrokenPipe);
+    check_output(rt, "run endless", out, (6, FAILED))?;
     fs::remove_file(rt, "endless")?;
     Ok(String::from_str(rt.alloc(), "a run without end whose output fails")?)
 }

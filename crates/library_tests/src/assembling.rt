@@ -189,6 +189,7 @@ const FORM_FAULTS: &[(&str, Cause, usize, usize)] = &[
     ("_start: nop\n foo a0", Syntax, 2, 2),
     ("_start: add a0,a1", Syntax, 1, 18),
     ("_start: add a0,a1 # more", Syntax, 1, 25),
+    ("_start: ecall \u{e9}", Syntax, 1, 15),
     ("_start: add a0,a1,a2,", Syntax, 1, 21),
     ("_start: add a0,a1,2", Syntax, 1, 19),
     ("_start: addi a0,a1,a2", Syntax, 1, 20),
@@ -224,6 +225,7 @@ const SIZE_FAULTS: &[(&str, Cause, usize, usize)] = &[
         1,
         1,
     ),
+    ("_start: ecall\n.data\n.space 4294967295", TooLarge, 1, 1),
     ("_start: nop\n.data\n.byte 0,256,foo", Syntax, 3, 13),
     ("_start: nop\n.data\n.byte 0,256,257", Range, 3, 9),
     ("_start: nop\n.data\n.byte -129", Range, 3, 7),
@@ -382,6 +384,9 @@ const LONGEST: Repeated<'static> = (
     ".................................................",
 );
 
+/// A comment of 1,048,577 bytes.
+const TOO_LONG: Repeated<'static> = ("#", "################", 65536, "");
+
 #[test]
 fn long_sources(rt: HostRuntime) -> Result<(), AllocError> {
     let mut source = String::new(rt.alloc());
@@ -390,6 +395,10 @@ fn long_sources(rt: HostRuntime) -> Result<(), AllocError> {
     assert_words(&rt, &[(&source, &[0x00000073])]);
     // One byte more.
     source.push_str(".")?;
+    assert_faults(&rt, &[(&source, TooLarge, 1, 1)]);
+    source.clear();
+    push_repeated(&mut source, TOO_LONG)?;
+    assert_row(&rt, "length", source.len(), 1_048_577);
     assert_faults(&rt, &[(&source, TooLarge, 1, 1)]);
     Ok(())
 }

@@ -65,6 +65,7 @@ const FAULTS: &[Changed] = &[
     (4101, &[(81, 0x20)], 7),
     (4101, &[(68, 5)], 8),
     (4101, &[(59, 0xff)], 9),
+    (4100, &[(57, 0xf0), (58, 0xff), (59, 0xff)], 9),
     (4101, &[(24, 2)], 12),
     (4101, &[(24, 4)], 12),
     (4101, &[(76, 4)], 12),
@@ -80,6 +81,18 @@ const FAULTS_IN_TURN: &[Changed] = &[
     (4100, &[(62, 0), (26, 0)], 10),
     // From 0x7FFF0000 on.
     (4100, &[(63, 0x7f), (62, 0xff)], 10),
+    (
+        4100,
+        &[
+            (61, 0xf0),
+            (62, 0xff),
+            (63, 0x7f),
+            (65, 0xf0),
+            (66, 0xff),
+            (67, 0x7f),
+        ],
+        10,
+    ),
     // Sixty-one pages, and sixty.
     (4100, &[(73, 0xc0), (74, 0x03)], 10),
     (4100, &[(73, 0xbf), (74, 0x03)], 0),
@@ -281,6 +294,30 @@ fn finds_the_first_fault(rt: HostRuntime) -> Result<(), AllocError> {
     assert_faults(&rt, &file, FAULTS_IN_TURN);
     let two = two_segments(rt.alloc())?;
     assert_faults(&rt, &two, FAULTS_OF_TWO);
+    Ok(())
+}
+
+/// The number of the fault of the small file cut to this length, 0 where it has none.
+fn fault_of_length(len: usize) -> u8 {
+    match len {
+        0..=51 => 1,
+        52..=83 => 6,
+        84..=4099 => 9,
+        _ => 0,
+    }
+}
+
+#[test]
+fn a_file_cut_to_each_length(rt: HostRuntime) -> Result<(), AllocError> {
+    let file = small_file(rt.alloc())?;
+    for len in 0..file.len() {
+        assert_row(
+            &rt,
+            len,
+            fault(rt.alloc(), &file[..len]),
+            fault_of_length(len),
+        );
+    }
     Ok(())
 }
 

@@ -2,10 +2,21 @@
 use crate::running::run;
 use anyhow::Error;
 use case_texts::{CallsCase, IMAGE_NAME, Ran, Step, check_missing, session_steps};
+use cone_cases::check_cones;
 use std::fs;
 use std::rt::Files;
 use std::sync::Wait;
 use std::thread::Threads;
+
+/// Runs a case's script, and compares the cones of its events with its runs.
+fn run_script<R: Files + AllocGlobal + Threads + Wait + Sync>(
+    rt: &R,
+    script: &[u8],
+) -> Result<Ran, Error> {
+    let ran = run(rt, "", script)?;
+    check_cones(rt, str::from_utf8(script)?)?;
+    Ok(ran)
+}
 
 /// Runs a case's script, beside its image's file, if it has one.
 fn run_calls<R: Files + AllocGlobal + Threads + Wait + Sync>(
@@ -13,10 +24,10 @@ fn run_calls<R: Files + AllocGlobal + Threads + Wait + Sync>(
     case: &CallsCase,
 ) -> Result<Ran, Error> {
     if case.image().is_empty() {
-        return Ok(run(rt, "", case.script())?);
+        return run_script(rt, case.script());
     }
     fs::write(rt, IMAGE_NAME, case.image())?;
-    let ran = run(rt, "", case.script())?;
+    let ran = run_script(rt, case.script())?;
     fs::remove_file(rt, IMAGE_NAME)?;
     Ok(ran)
 }

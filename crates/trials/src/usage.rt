@@ -11,8 +11,12 @@ faulty-output: outputs that take one write or none
 endless-run: a run without end whose output fails
 damaged-disk: a disk that cannot be read
 lost-arguments: arguments that cannot be read
+kept-disk: the file of a kept disk, its links and rights
+whole-lines: lines of standard error
 writer-crashes: crashes of writer.s
 renamer-crashes: crashes of renamer.s
+writer-failures: failures of writes of talker.s
+growths: calls beside the core, each made once more where it is refused for want of memory
 workers: two programs that are run by workers in threads, and at a desk
 written-code: a page that writes over its words
 random-programs: random programs at many limits

@@ -1,4 +1,5 @@
 //! Why a case ends early.
+use executor::RunFault;
 use kernel::{BootFault, Refused};
 use std::alloc::AllocError;
 use std::fmt;
@@ -26,6 +27,8 @@ pub enum Fault {
     QueueFull,
     /// A turn at the desk settles nothing.
     NothingSettled,
+    /// A run ends early.
+    Run(RunFault),
 }
 
 /// What a fault without a number is.
@@ -38,7 +41,7 @@ fn text_of(fault: Fault) -> &'static str {
         Fault::NoSeat => "there is no seat",
         Fault::QueueFull => "the queue is full",
         Fault::NothingSettled => "a turn at the desk settles nothing",
-        Fault::Boot(_) | Fault::Refused(_) | Fault::Crew(_) => "",
+        Fault::Boot(_) | Fault::Refused(_) | Fault::Crew(_) | Fault::Run(_) => "",
     }
 }
 
@@ -48,6 +51,7 @@ impl fmt::Display for Fault {
             Fault::Boot(why) => write!(f, "the core is not booted: {why}"),
             Fault::Refused(why) => write!(f, "refused: {why}"),
             Fault::Crew(number) => write!(f, "the crew stops with fault {number}"),
+            Fault::Run(why) => write!(f, "a run ends early: {why}"),
             fault => f.write_str(text_of(*fault)),
         }
     }
@@ -68,5 +72,11 @@ impl From<BootFault> for Fault {
 impl From<Refused> for Fault {
     fn from(why: Refused) -> Fault {
         Fault::Refused(why)
+    }
+}
+
+impl From<RunFault> for Fault {
+    fn from(why: RunFault) -> Fault {
+        Fault::Run(why)
     }
 }

@@ -1,10 +1,12 @@
-//! Two programs, run by workers at the seats of a pool in threads of their own, or by turns at one desk, and what their runs come
-//! to. Read `case` first. The lines are the same whatever the schedule: how the workers take turns shows in none.
+//! Two programs, run by workers at the seats of a pool in threads of their own, by turns at one desk, or to their ends. What their
+//! runs come to is said, also where a completion fails. Read `case` first. The lines are the same whatever the schedule: how the
+//! workers take turns shows in none.
 #![tactic(auto)]
 
 mod by_crew;
 mod case;
 mod desk;
+mod failing;
 mod fault;
 mod gated;
 mod gates;

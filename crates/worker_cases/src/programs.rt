@@ -47,6 +47,26 @@ const PRINTER: [u32; 10] = [
     0x0000_0073,
 ];
 
+/// A program that does what the first does, but writes nothing to its terminal.
+const QUIET: [u32; 16] = [
+    0x0660_0293,
+    0xfe51_2e23,
+    0xffc1_0513,
+    0x0010_0593,
+    0x0020_0613,
+    0x0040_0893,
+    0x0000_0073,
+    0x0410_0293,
+    0xfe51_2e23,
+    0xffc1_0593,
+    0x0030_0613,
+    0x0020_0893,
+    0x0000_0073,
+    0x0000_0513,
+    0x0010_0893,
+    0x0000_0073,
+];
+
 /// Both programs, on terminals 0 and 1.
 fn programs(alloc: Global) -> Result<Vec<Program>, AllocError>
     ensures count { IfOk result (λ programs. length programs.items ≡ 2) }
@@ -57,6 +77,17 @@ fn programs(alloc: Global) -> Result<Vec<Program>, AllocError>
     programs.push(Program { image, terminal: 0 })?;
     let image = Image::from_text(alloc, &PRINTER)?;
     programs.push(Program { image, terminal: 1 })?;
+    Ok(programs)
+}
+
+/// The quiet program.
+fn quiet_program(alloc: Global) -> Result<Vec<Program>, AllocError>
+    ensures count { IfOk result (λ programs. length programs.items ≡ 1) }
+    ensures terminals { IfOk result (λ programs. AllByRecursion (λ p. p.terminal < terminal_count) programs.items) }
+{
+    let mut programs = Vec::new(alloc);
+    let image = Image::from_text(alloc, &QUIET)?;
+    programs.push(Program { image, terminal: 0 })?;
     Ok(programs)
 }
 
@@ -72,6 +103,13 @@ fn device(alloc: Global) -> Result<SimDisk, Fault>
 /// A core of both programs.
 pub fn boot(alloc: Global) -> Result<Core, Fault> {
     let programs = programs(alloc)?;
+    let device = device(alloc)?;
+    Ok(Core::boot(alloc, device, programs, Vec::new(alloc))?)
+}
+
+/// A core of the quiet program.
+pub fn boot_quiet(alloc: Global) -> Result<Core, Fault> {
+    let programs = quiet_program(alloc)?;
     let device = device(alloc)?;
     Ok(Core::boot(alloc, device, programs, Vec::new(alloc))?)
 }

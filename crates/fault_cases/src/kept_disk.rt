@@ -1,0 +1,95 @@
+//! The file in which a run keeps its disk: what it is beside, which rights it has, and what no link leads to.
+use anyhow::{Error, ensure};
+use case_texts::arguments;
+use std::fs::{self, Permissions};
+use std::os::unix::fs::{PermissionsExt, symlink};
+use std::rt::Files;
+use std::sync::Wait;
+use std::thread::Threads;
+
+/// A program that ends.
+const ENDS: &str = "_start: li a7, 1\necall\n";
+
+/// Runs the program with these words, parted by blanks; it has to end with this status.
+fn run<R: Files + AllocGlobal + Threads + Wait + Sync>(
+    rt: &R,
+    line: &str,
+    status: u8,
+) -> Result<(), Error> {
+    let words = arguments(rt.alloc(), line)?;
+    let mut input: &[u8] = b"";
+    let mut out = Vec::new(rt.alloc());
+    let mut err = Vec::new(rt.alloc());
+    let ended = monitor::bench(rt, &words, &mut input, &mut out, &mut err);
+    ensure!(ended == status, "{line}: status {ended}");
+    Ok(())
+}
+
+/// The file with `.new` after its name is made anew: what a link of that name leads to stays as it was.
+fn check_link<R: Files + AllocGlobal + Threads + Wait + Sync>(rt: &R) -> Result<(), Error> {
+    fs::write(rt, "precious", "text")?;
+    symlink(rt, "precious", "kept.new")?;
+    run(rt, "run --disk kept ends", 0)?;
+    let text = fs::read_to_string(rt, "precious")?;
+    ensure!(text.as_str() == "text", "what the link led to was written");
+    ensure!(
+        fs::symlink_metadata(rt, "kept")?.is_file(),
+        "the disk's file is a link"
+    );
+    ensure!(
+        fs::symlink_metadata(rt, "kept.new").is_err(),
+        "the link is still there"
+    );
+    Ok(fs::remove_file(rt, "precious")?)
+}
+
+/// The disk's file keeps these rights.
+fn check_rights<R: Files + AllocGlobal + Threads + Wait + Sync>(
+    rt: &R,
+    rights: u32,
+) -> Result<(), Error> {
+    fs::set_permissions(rt, "kept", Permissions::from_mode(rights))?;
+    run(rt, "run --disk kept ends", 0)?;
+    let mode = fs::metadata(rt, "kept")?.permissions().mode() & 0o777;
+    ensure!(mode == rights, "the rights {rights:o} became {mode:o}");
+    Ok(())
+}
+
+/// A run whose disk could not be kept ends before it begins. Where the file beside it is a folder, that stays.
+fn check_folder<R: Files + AllocGlobal + Threads + Wait + Sync>(rt: &R) -> Result<(), Error> {
+    fs::create_dir(rt, "kept.new")?;
+    run(rt, "run --disk kept ends", 6)?;
+    Ok(fs::remove_dir(rt, "kept.new")?)
+}
+
+/// A link that leads to a disk is replaced by a file, and what it led to stays.
+fn check_linked_disk<R: Files + AllocGlobal + Threads + Wait + Sync>(rt: &R) -> Result<(), Error> {
+    symlink(rt, "kept", "linked")?;
+    run(rt, "run --disk linked ends", 0)?;
+    ensure!(
+        fs::symlink_metadata(rt, "linked")?.is_file(),
+        "the disk's file is still a link"
+    );
+    Ok(fs::remove_file(rt, "linked")?)
+}
+
+/// The file of a kept disk is no link's, and has the rights that it had.
+pub fn check_kept_disk<R: Files + AllocGlobal + Threads + Wait + Sync>(
+    rt: &R,
+) -> Result<String, Error> {
+    fs::write(rt, "ends.s", ENDS)?;
+    run(rt, "asm ends.s ends", 0)?;
+    check_link(rt)?;
+    check_rights(rt, 0o600)?;
+    check_rights(rt, 0o444)?;
+    check_rights(rt, 0o666)?;
+    check_folder(rt)?;
+    check_linked_disk(rt)?;
+    for name in ["ends.s", "ends", "kept"] {
+        fs::remove_file(rt, name)?;
+    }
+    Ok(String::from_str(
+        rt.alloc(),
+        "a disk's file: no link is followed, and its rights stay",
+    )?)
+}

@@ -1,0 +1,106 @@
+//! Events that are noted, and what rests on them.
+use anyhow::{Error, ensure};
+use commit_deps::{Carrier, Dependencies, Mark};
+use std::alloc::{AllocError, Global};
+use std::hash::{DefaultHasher, Hasher};
+
+/// An event: the carriers that it reads and writes, its change, and how many changes have to be committed for it.
+type Noted = (&'static [Carrier], &'static [Carrier], Option<u32>, u64);
+
+const CARRIERS: &[Carrier] = &[
+    Carrier::Proc(1),
+    Carrier::Proc(2),
+    Carrier::File(0),
+    Carrier::Pipe(0),
+    Carrier::Names,
+    Carrier::Tasks,
+];
+
+/// A process makes a file and writes to a pipe, which another reads; then it changes the file too.
+const EVENTS: &[Noted] = &[
+    (
+        &[Carrier::Proc(1), Carrier::Names],
+        &[Carrier::Proc(1), Carrier::Names, Carrier::File(0)],
+        Some(0),
+        1,
+    ),
+    (
+        &[Carrier::Proc(1), Carrier::Pipe(0)],
+        &[Carrier::Proc(1), Carrier::Pipe(0)],
+        None,
+        1,
+    ),
+    (
+        &[Carrier::Proc(2), Carrier::Tasks],
+        &[Carrier::Proc(2), Carrier::Tasks],
+        None,
+        0,
+    ),
+    (
+        &[Carrier::Proc(2), Carrier::Pipe(0)],
+        &[Carrier::Proc(2), Carrier::Pipe(0)],
+        None,
+        1,
+    ),
+    (
+        &[Carrier::Proc(2), Carrier::File(0)],
+        &[Carrier::Proc(2), Carrier::File(0)],
+        Some(1),
+        2,
+    ),
+];
+
+/// Whether an event wrote this carrier, and its readers need no more changes than these.
+fn needs_no_more(dependencies: &Dependencies, carrier: Carrier, committed: u64) -> bool {
+    match dependencies.of(carrier) {
+        Some(mark) => mark.below(committed),
+        None => false,
+    }
+}
+
+/// What is seen of the marks, as one number: for each carrier how many changes its readers need.
+fn seen_marks(dependencies: &Dependencies) -> u64 {
+    let mut state = DefaultHasher::new();
+    for carrier in CARRIERS {
+        for committed in 0..3 {
+            let is_enough = needs_no_more(dependencies, *carrier, committed);
+            state.write_u8(u8::from(is_enough));
+        }
+    }
+    state.finish()
+}
+
+fn note_once(dependencies: &mut Dependencies, event: &Noted) -> Result<Mark, AllocError> {
+    let &(reads, writes, change, _) = event;
+    match change {
+        Some(change) => dependencies.event(reads, writes, Some(u64::from(change))),
+        None => dependencies.event(reads, writes, None),
+    }
+}
+
+/// Notes an event, once more where it is refused for want of memory.
+fn note_surely(dependencies: &mut Dependencies, event: &Noted) -> Result<Mark, Error> {
+    let before = seen_marks(dependencies);
+    match note_once(dependencies, event) {
+        Err(_) => {
+            ensure!(
+                seen_marks(dependencies) == before,
+                "an event that was refused changed the marks"
+            );
+            Ok(note_once(dependencies, event)?)
+        }
+        Ok(mark) => Ok(mark),
+    }
+}
+
+/// Notes the events.
+pub fn check_marks(alloc: Global) -> Result<(), Error> {
+    let mut dependencies = Dependencies::new(alloc);
+    for (place, event) in EVENTS.iter().enumerate() {
+        let mark = note_surely(&mut dependencies, event)?;
+        let needs = event.3;
+        let is_right = mark.below(needs) && (needs == 0 || !mark.below(needs.saturating_sub(1)));
+        ensure!(is_right, "event {place} rests on other changes");
+    }
+    Ok(())
+}
