@@ -1,7 +1,7 @@
 -- What a desk's record says, and what its calls answer.
-use Rattle.std.specs.Prelude.{◌≡◌, ℕ, List, [], ◌∷◌, ◌++◌, Option, Some, None, Result, Ok, Err}
-use Rattle.kernel_model.specs.Answers.{Kernel, Applies}
-use Rattle.kernel_model.specs.Loans.{Lends}
+use Rattle.std.specs.Prelude.{◌≡◌, ◌||◌, ℕ, Bool, List, [], ◌∷◌, ◌++◌, Option, Some, None, Result, Ok, Err}
+use Rattle.kernel_model.specs.Answers.{Kernel, Applies, now, in_flight}
+use Rattle.kernel_model.specs.Loans.{Lends, is_over}
 use Rattle.kernel_model.specs.declared.answer.Answer.{Answer}
 use Rattle.kernel_model.specs.declared.answer.Refused.{Refused}
 use Rattle.kernel_model.specs.declared.event.Event.{Event}
@@ -54,3 +54,14 @@ pub record SomeCoreApplies (event : Event) (result : Result Answer Refused) : Ty
   pub old : Kernel
   pub new : Kernel
   pub applies : Applies old event new result
+
+-- of some core this is the write in flight that begins first, if there is one
+pub record SomeCoreHasFirst (at : Option ℕ) : Type 0 where
+  pub core : Kernel
+  pub first : at ≡ in_flight (now core)
+
+-- at some bench the work is over for a quantum, or is not: stop was said there, or its core is over
+pub record SomeBenchIsOver (quantum : ℕ) (over : Bool) : Type 0 where
+  pub core : Kernel
+  pub stopped : Bool
+  pub is : over ≡ (stopped || is_over core quantum)

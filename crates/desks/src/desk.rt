@@ -4,7 +4,7 @@ ghost use Rattle.kernel_model.specs.declared.event.Event.{Event};
 ghost use Rattle.bursts.specs.LoanIds.{id_of_loan, id_of_result};
 ghost use Rattle.bursts.specs.Holdings.{GrowsByLend, GrowsBySettle, GrowsByOne};
 ghost use Rattle.desks.specs.declared.note.Note.TheVariants as note_of;
-ghost use Rattle.desks.specs.Records.{Record, noted, lend_note, result_note, SomeCoreLends, SomeCoreSettles, SomeCoreApplies};
+ghost use Rattle.desks.specs.Records.{Record, noted, lend_note, result_note, SomeCoreLends, SomeCoreSettles, SomeCoreApplies, SomeCoreHasFirst, SomeBenchIsOver};
 
 use crate::note::Note;
 use bursts::{Bench, LoanId, Naming, Share};
@@ -49,11 +49,13 @@ pub trait Desk {
 
     /// The least offset on the disk at which a write in flight begins.
     fn in_flight(&mut self) -> Option<u32>
-        ensures { account self.new ≡ account self.old };
+        ensures account { account self.new ≡ account self.old }
+        ensures core { SomeCoreHasFirst result };
 
     /// Whether no process is lent and none is lendable for a quantum, or some desk said stop.
     fn over(&mut self, quantum: u32) -> bool
-        ensures { account self.new ≡ account self.old };
+        ensures account { account self.new ≡ account self.old }
+        ensures core { SomeBenchIsOver quantum result };
 
     /// Says stop: from now on the work is over at all desks of this bench.
     fn stop(&mut self)

@@ -10,11 +10,11 @@ use Rattle.bursts.specs.declared.totals.Totals.{Totals}
 use Rattle.pool.specs.declared.hand.Hand.{Hand}
 use Rattle.pool.specs.declared.settling.Settling.{Settling}
 use Rattle.pool.specs.Hands.{gave}
-use Rattle.pool.specs.Settled.{Settled, totals_in, rejected_in, after, no_settling}
+use Rattle.pool.specs.Settled.{Settled, Settlement, loans_in, totals_in, rejected_in, after, no_settling}
 use Rattle.pool.specs.Seats.{Seated, with_results, with_settled, told_so}
 use Rattle.pool.specs.Fetching.{Fetched}
 use Rattle.pool.specs.Turns.{Advances, AllAccepted, Rejects, RejectsSoon, AfterFetch}
-use Rattle.pool.proofs.Sums.{grown_twice, grown_not, sum_append}
+use Rattle.pool.proofs.Sums.{grown_twice, grown_not, loans_append, turns_append, entered_append, enters_append}
 
 rest_of : (a c : Seated) → c.own ≡ a.own → c.others ≡ a.others → c.spare ≡ a.spare → c.told ≡ a.told → c ≡ with_settled a c.results c.share
 rest_of a c own others spare told = λ i. record { own = own i; others = others i; spare = spare i; results = c.results; share = c.share; told = told i }
@@ -36,6 +36,8 @@ advances_not a = (
     settled = refl;
     turns = refl;
     events = omega arith;
+    entered = refl;
+    enters = refl;
     share = grown_not a.share;
     rest = rest_of a a refl refl refl refl;
   },
@@ -50,6 +52,8 @@ advances_settled a b s d rest = record {
   settled = d.settled;
   turns = d.turns;
   events = d.events;
+  entered = d.entered;
+  enters = d.enters;
   share = d.share;
   rest = rest;
 }
@@ -65,16 +69,18 @@ advances_put a b c x s d is =
         settled = e.settled;
         turns = e.turns;
         events = e.events;
+        entered = e.entered;
+        enters = e.enters;
         share = ap (λ (u : Seated). u.share) is ∙ e.share;
         rest = rest_twice a b c e.rest (rest_of b c (ap (λ (u : Seated). u.own) is) (ap (λ (u : Seated). u.others) is) (ap (λ (u : Seated). u.spare) is) (ap (λ (u : Seated). u.told) is));
       },
       d.1,
     )
 
-taken_twice : (k l m : List LoanId) (d e r : List LoanId) (o : Option Rejected) → o ≡ None → l ≡ k ++ (d ++ rejected_in o) → m ≡ l ++ (e ++ r) → m ≡ k ++ ((d ++ e) ++ r)
+taken_twice : (k l m : List LoanId) (d e : List Settlement) (r : List LoanId) (o : Option Rejected) → o ≡ None → l ≡ k ++ (loans_in d ++ rejected_in o) → m ≡ l ++ (loans_in e ++ r) → m ≡ k ++ (loans_in (d ++ e) ++ r)
 taken_twice k l m d e r o none p q =
-    let first : l ≡ k ++ d = p ∙ ap (λ o. k ++ (d ++ rejected_in o)) none ∙ ap (λ x. k ++ x) (append-nil d) in
-    q ∙ ap (λ x. x ++ (e ++ r)) first ∙ append_assoc k d (e ++ r) ∙ ap (λ x. k ++ x) (sym (append_assoc d e r))
+    let first : l ≡ k ++ loans_in d = p ∙ ap (λ o. k ++ (loans_in d ++ rejected_in o)) none ∙ ap (λ x. k ++ x) (append-nil (loans_in d)) in
+    q ∙ ap (λ x. x ++ (loans_in e ++ r)) first ∙ append_assoc k (loans_in d) (loans_in e ++ r) ∙ ap (λ x. k ++ x) (sym (append_assoc (loans_in d) (loans_in e) r) ∙ ap (λ x. x ++ r) (sym (loans_append d e)))
 
 -- and a settling after that
 pub advances_then : (a b c : Seated) (xs : List LoanId) (s t : Settling) → AllAccepted a b xs s → Advances b c [] t → Advances a c xs (after s t)
@@ -84,8 +90,10 @@ advances_then a b c xs s t ds e =
       put = e.put ∙ append-nil b.results.put ∙ d.put;
       taken = taken_twice a.results.taken b.results.taken c.results.taken d.done e.done (rejected_in t.rejected) s.rejected ds.1 d.taken e.taken;
       settled = length-append d.done e.done ∙ (λ i. d.settled i + e.settled i);
-      turns = sum_append d.done e.done ∙ (λ i. d.turns i + e.turns i);
+      turns = turns_append d.done e.done ∙ (λ i. d.turns i + e.turns i);
       events = let m = d.events in let n = e.events in omega (arith, m, n);
+      entered = let more = entered_append d.done e.done in let m = d.entered in let n = e.entered in omega (arith, more, m, n);
+      enters = enters_append d.done e.done ∙ (λ i. d.enters i + e.enters i);
       share = e.share ∙ ap (λ (h : Holding). grown h (totals_in t)) d.share ∙ grown_twice a.share (totals_in s) (totals_in t);
       rest = rest_twice a b c d.rest e.rest;
     }

@@ -6,7 +6,7 @@ use Rattle.kernel_step.specs.declared.loan.Loan.{Loan}
 use Rattle.bursts.specs.LoanIds.{id_of_loan}
 use Rattle.bursts.specs.declared.loan_id.LoanId.{LoanId}
 use Rattle.pool.specs.Deques.{AtDeque, took_from, missed_at, Stolen}
-use Rattle.pool.specs.Lending.{Lent, IsLoanRefusal}
+use Rattle.pool.specs.Lending.{Lent, IsLoanRefusal, IsNothingLendable}
 use Rattle.pool.specs.Seats.{Seated}
 use Rattle.pool.specs.Fetching.{Fetched, Fetches, FindsNothing, looked}
 
@@ -41,7 +41,7 @@ from_others s t q l o n old new some none own stolen results share told =
 -- what a lending gave, where the own deque was so before it
 abbrev pub Gave : ℕ → Seated → Seated → AtDeque → Option Loan → Option Loan → Result (Option Loan) Refused → Type 0
 Gave q s t own n m r = MatchResult r
-    (λ given. MatchOption given ((t.own ≡ own) × (m ≡ n) × (t.share ≡ s.share)) (λ l. Lent (id_of_loan l ∷ []) q own t.own (option_map id_of_loan m) s.share t.share))
+    (λ given. MatchOption given ((t.own ≡ own) × (m ≡ n) × (t.share ≡ s.share) × IsNothingLendable q) (λ l. Lent (id_of_loan l ∷ []) q own t.own (option_map id_of_loan m) s.share t.share))
     (λ why. (t.own ≡ own) × (m ≡ n) × (t.share ≡ s.share) × IsLoanRefusal why)
 
 finds_nothing : (s t : Seated) (o n m : Option Loan) (own : AtDeque) → s.spare ≡ option_map id_of_loan o → t.spare ≡ option_map id_of_loan m → o ≡ None → n ≡ None → own ≡ missed_at s.own
@@ -53,7 +53,8 @@ finds_nothing s t o n m own old new some none looked_own others results told kep
 -- the core
 pub from_core : (s t : Seated) (q : ℕ) (o n m : Option Loan) (own : AtDeque) (r : Result (Option Loan) Refused) → s.spare ≡ option_map id_of_loan o → t.spare ≡ option_map id_of_loan m → o ≡ None → n ≡ None
     → own ≡ missed_at s.own → t.others ≡ map missed_at s.others → t.results ≡ s.results → t.told ≡ s.told → Gave q s t own n m r → Fetches s q t r
-from_core s t q o n m own (Ok None) old new some none looked_own others results told g = finds_nothing s t o n m own old new some none looked_own others results told g.0 g.1 g.2
+from_core s t q o n m own (Ok None) old new some none looked_own others results told g =
+    (finds_nothing s t o n m own old new some none looked_own others results told g.0 g.1 g.2, g.3)
 from_core s t q o n m own (Ok (Some l)) old new some none looked_own others results told g =
     inr (inr (inr (
       no_spare s.spare o old some,

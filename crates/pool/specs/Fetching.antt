@@ -5,7 +5,7 @@ use Rattle.kernel_step.specs.declared.loan.Loan.{Loan}
 use Rattle.bursts.specs.LoanIds.{id_of_loan}
 use Rattle.bursts.specs.declared.loan_id.LoanId.{LoanId}
 use Rattle.pool.specs.Deques.{took_from, missed_at, Stolen}
-use Rattle.pool.specs.Lending.{Lent, IsLoanRefusal}
+use Rattle.pool.specs.Lending.{Lent, IsLoanRefusal, IsNothingLendable}
 use Rattle.pool.specs.Seats.{Seated}
 
 -- the seat after a look at each deque, where none had a loan
@@ -38,6 +38,6 @@ Borrowed s q t x =
 abbrev pub Fetched : Seated → ℕ → Seated → LoanId → Type 0
 Fetched s q t x = Spared s t x ⊎ (Popped s t x ⊎ (Stole s t x ⊎ Borrowed s q t x))
 
--- The answer is what was fetched. Where the lending was refused nothing was.
+-- The answer is what was fetched. Nothing was where nothing is lendable, and where the lending was refused.
 abbrev pub Fetches : Seated → ℕ → Seated → Result (Option Loan) Refused → Type 0
-Fetches s q t result = MatchResult result (λ given. MatchOption given (FindsNothing s t) (λ l. Fetched s q t (id_of_loan l))) (λ why. FindsNothing s t × IsLoanRefusal why)
+Fetches s q t result = MatchResult result (λ given. MatchOption given (FindsNothing s t × IsNothingLendable q) (λ l. Fetched s q t (id_of_loan l))) (λ why. FindsNothing s t × IsLoanRefusal why)

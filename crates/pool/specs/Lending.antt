@@ -1,5 +1,5 @@
 -- What one visit to the core lends.
-use Rattle.std.specs.Prelude.{◌≡◌, ℕ, ◌+◌, ◌≤◌, List, [], ◌∷◌, ◌++◌, length, Option, Some, None}
+use Rattle.std.specs.Prelude.{◌≡◌, ◌⊎◌, ℕ, ◌+◌, ◌≤◌, true, List, [], ◌∷◌, ◌++◌, length, Option, Some, None}
 use Rattle.std.specs.List.{AllByRecursion}
 use Rattle.kernel_model.specs.Answers.{Kernel, Refuses}
 use Rattle.kernel_model.specs.Loans.{pick, loan_count, with_loan, loan_refusal}
@@ -16,6 +16,10 @@ IsNext k q x = (pick k q ≡ Some x.pid) × (x.number ≡ loan_count k x.pid + 1
 -- some core refuses a loan for this reason
 abbrev pub IsLoanRefusal : Refused → Type 0
 IsLoanRefusal why = (k : Kernel) × Refuses (loan_refusal k) why
+
+-- some bench lends nothing of a quantum: stop was said there, or no process is lendable
+abbrev pub IsNothingLendable : ℕ → Type 0
+IsNothingLendable q = (b : OnBench) × ((b.stopped ≡ true) ⊎ (pick b.core q ≡ None))
 
 -- just these loans of a quantum were lent, one after the other, which left this core
 abbrev pub LendsAll : Kernel → ℕ → List LoanId → Kernel → Type 0

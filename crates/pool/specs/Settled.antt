@@ -1,5 +1,5 @@
 -- What a settling says.
-use Rattle.std.specs.Prelude.{◌≡◌, ℕ, ◌+◌, ◌≤◌, List, [], ◌∷◌, ◌++◌, length, Option, Some, None}
+use Rattle.std.specs.Prelude.{◌≡◌, ◌⊎◌, ℕ, ◌+◌, ◌≤◌, List, [], ◌∷◌, ◌++◌, length, map, Bool, if◌then◌else◌, Option, Some, None}
 use Rattle.kernel_step.specs.declared.loan.Rejected.{Rejected}
 use Rattle.bursts.specs.Holdings.{Holding, grown}
 use Rattle.bursts.specs.LoanIds.{id_of_result}
@@ -23,14 +23,38 @@ abbrev pub sum_of_processes : List LoanId → ℕ
 sum_of_processes [] = 0
 sum_of_processes (x ∷ xs) = x.pid + sum_of_processes xs
 
+-- a result that was settled: of which loan, and whether an Enter came after its Turn
+abbrev pub Settlement : Type 0
+Settlement = LoanId × Bool
+
+-- of which loans they are
+abbrev pub loans_in : List Settlement → List LoanId
+loans_in ds = map (λ (d : Settlement). d.0) ds
+
+-- how many came to an Enter
+abbrev pub count_entered : List Settlement → ℕ
+count_entered [] = 0
+count_entered (d ∷ ds) = (if d.1 then 1 else 0) + count_entered ds
+
+-- the process numbers of those, added up
+abbrev pub sum_of_entered : List Settlement → ℕ
+sum_of_entered [] = 0
+sum_of_entered (d ∷ ds) = (if d.1 then d.0.pid else 0) + sum_of_entered ds
+
+-- what one result adds: its Turn alone, or an Enter of the same process too
+abbrev pub IsOfOne : Totals → Type 0
+IsOfOne c = ((c.events ≡ 1) × (c.enters ≡ 0)) ⊎ ((c.events ≡ 2) × (c.enters ≡ c.turns))
+
 -- The pass took as many results as were settled, of these process numbers, and beside them the one rejected, if there was one. The
--- share grew by what the settling says.
+-- events are a Turn of each and the Enters that came after them, and no others. The share grew by what the settling says.
 pub record Settled (v : Hand) (h : Holding) (s : Settling) (w : Hand) (k : Holding) : Type 0 where
-  pub done : List LoanId
-  pub taken : w ≡ hand v.put (v.taken ++ (done ++ rejected_in s.rejected))
+  pub done : List Settlement
+  pub taken : w ≡ hand v.put (v.taken ++ (loans_in done ++ rejected_in s.rejected))
   pub settled : length done ≡ s.settled
-  pub turns : sum_of_processes done ≡ s.turns
+  pub turns : sum_of_processes (loans_in done) ≡ s.turns
   pub events : s.settled ≤ s.events
+  pub entered : s.settled + count_entered done ≡ s.events
+  pub enters : sum_of_entered done ≡ s.enters
   pub share : k ≡ grown h (totals_in s)
 
 -- nothing was settled

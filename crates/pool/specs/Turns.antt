@@ -1,5 +1,5 @@
 -- What a turn at a seat comes to.
-use Rattle.std.specs.Prelude.{◌≡◌, ◌⊎◌, ◌≤◌, ℕ, List, [], ◌∷◌, ◌++◌, length, Bool, None, Some, Ok, Err, Result, MatchResult}
+use Rattle.std.specs.Prelude.{◌≡◌, ◌⊎◌, ◌≤◌, ℕ, ◌+◌, List, [], ◌∷◌, ◌++◌, length, Bool, None, Some, Ok, Err, Result, MatchResult}
 use Rattle.kernel_step.specs.declared.loan.Rejected.{Rejected}
 use Rattle.bursts.specs.Holdings.{grown}
 use Rattle.bursts.specs.declared.fault.WorkFault.{WorkFault}
@@ -8,20 +8,23 @@ use Rattle.bursts.specs.declared.loan_id.LoanId.{LoanId}
 use Rattle.pool.specs.declared.settling.Settling.{Settling}
 use Rattle.pool.specs.declared.turning.Pooled.{Pooled}
 use Rattle.pool.specs.declared.turning.Pooled.TheVariants as pooled
-use Rattle.pool.specs.Lending.{IsLoanRefusal}
+use Rattle.pool.specs.Lending.{IsLoanRefusal, IsNothingLendable}
 use Rattle.pool.specs.Fetching.{Fetched, FindsNothing}
-use Rattle.pool.specs.Settled.{totals_in, rejected_in, sum_of_processes}
+use Rattle.pool.specs.Settled.{Settlement, loans_in, count_entered, sum_of_entered, totals_in, rejected_in, sum_of_processes}
 use Rattle.pool.specs.Seats.{Seated, with_settled, told_so}
 
 -- These results were put into the queue, and as many as were settled were taken from it, of these process numbers, with the one
--- rejected, if there was one. The share grew by what was settled. Nothing else changed at the seat.
+-- rejected, if there was one. The events are a Turn of each and the Enters that came after them. The share grew by what was
+-- settled. Nothing else changed at the seat.
 pub record Advances (old new : Seated) (xs : List LoanId) (s : Settling) : Type 0 where
-  pub done : List LoanId
+  pub done : List Settlement
   pub put : new.results.put ≡ old.results.put ++ xs
-  pub taken : new.results.taken ≡ old.results.taken ++ (done ++ rejected_in s.rejected)
+  pub taken : new.results.taken ≡ old.results.taken ++ (loans_in done ++ rejected_in s.rejected)
   pub settled : length done ≡ s.settled
-  pub turns : sum_of_processes done ≡ s.turns
+  pub turns : sum_of_processes (loans_in done) ≡ s.turns
   pub events : s.settled ≤ s.events
+  pub entered : s.settled + count_entered done ≡ s.events
+  pub enters : sum_of_entered done ≡ s.enters
   pub share : new.share ≡ grown old.share (totals_in s)
   pub rest : new ≡ with_settled old new.results new.share
 
@@ -41,10 +44,10 @@ RejectsSoon old new x r = Rejects old new [] r ⊎ Rejects old new (x ∷ []) r
 abbrev pub AfterFetch : Seated → ℕ → (LoanId → Seated → Type 0) → Type 0
 AfterFetch old q P = (x : LoanId) × (m : Seated) × Fetched old q m x × P x m
 
--- Idle: nothing was fetched. Worked: the gate was held with the process of the loan fetched, and the loan's result, and no other,
+-- Idle: nothing was fetched, since nothing is lendable. Worked: the gate was held with the process of the loan fetched, and the loan's result, and no other,
 -- was put into the queue.
 abbrev pub TurnedOut : Seated → ℕ → (ℕ → Type 0) → Seated → Pooled → Type 0
-TurnedOut old q held new pooled.Idle = FindsNothing old new
+TurnedOut old q held new pooled.Idle = FindsNothing old new × IsNothingLendable q
 TurnedOut old q held new (pooled.Worked s) = AfterFetch old q (λ x m. held x.pid × AllAccepted m new (x ∷ []) s)
 
 -- Lend: the lending was refused, and nothing was fetched. Settle: a result, of whichever worker, was not taken back.

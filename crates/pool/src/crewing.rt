@@ -6,21 +6,12 @@ use crate::fault::CrewFault;
 use crate::seats::Seat;
 use crate::turning::Pooled;
 use bursts::{Gate, Naming, WorkFault};
+use idle::Rest;
 use std::slice::IterMut;
 use std::sync::atomic::{AtomicBool, Ordering};
 use std::sync::{Mutex, Wait};
 use std::thread;
-use std::thread::{Parker, Threads};
-use std::time::Duration;
-
-/// How many times in a row a worker that finds no loan asks again at once.
-const HASTY: u32 = 64;
-
-/// How many microseconds it then waits at first. Each further wait is longer by as much.
-const PAUSE: u64 = 100;
-
-/// The longest wait, in these pauses.
-const MOST_PAUSES: u32 = 20;
+use std::thread::Threads;
 
 /// The pairs that no thread has taken yet, and how many were taken.
 #[derive(Drop)]
@@ -202,27 +193,13 @@ fn work_on<N: Naming, G: Gate, R: Wait>(
 ) -> Option<WorkFault>
     ensures { IfNone result (IsToldOver seat.new) }
 {
-    let parker = Parker::new();
-    let mut idle = 0u32;
+    let mut rest = Rest::new();
     for _ in rt.forever() {
         match take_turn(rt, seat, gate, quantum) {
-            Next::Ask => idle = 0,
-            Next::Rest => {
-                rest(rt, &parker, idle);
-                idle = idle.saturating_add(1);
-            }
+            Next::Ask => rest.end(),
+            Next::Rest => rest.take(rt),
             Next::End(fault) => return fault,
         }
     }
     unreachable!()
-}
-
-/// Leaves the processor to others. After many turns without a loan it sleeps, longer and longer, up to two milliseconds.
-fn rest<R: Wait>(rt: &R, parker: &Parker, idle: u32) {
-    if idle < HASTY {
-        thread::yield_now();
-    } else {
-        let pauses = (idle - HASTY + 1).min(MOST_PAUSES);
-        parker.park_timeout(rt, Duration::from_micros(PAUSE * u64::from(pauses)));
-    }
 }

@@ -4,7 +4,7 @@ ghost use Rattle.kernel_model.specs.Answers.{Refuses};
 ghost use Rattle.kernel_model.specs.Loans.{pick, loan_refusal};
 ghost use Rattle.bursts.specs.LoanIds.{id_of_loan};
 ghost use Rattle.pool.specs.Deques.{Stolen, missed_at};
-ghost use Rattle.pool.specs.Lending.{LendsNoted, Lent, IsLoanRefusal};
+ghost use Rattle.pool.specs.Lending.{LendsNoted, Lent, IsLoanRefusal, IsNothingLendable};
 ghost use Rattle.pool.specs.Fetching.{Fetches};
 
 use crate::loans::{Other, Own};
@@ -90,7 +90,7 @@ fn lend_under_lock<N: Naming, R: Wait>(
     share: &mut Share<N>,
     quantum: u32,
 ) -> Result<Option<Loan>, Refused>
-    ensures { MatchResult result (λ given. MatchOption given ((own.new ≡ own.old) × (spare.new ≡ spare.old) × (share.new ≡ share.old))
+    ensures { MatchResult result (λ given. MatchOption given ((own.new ≡ own.old) × (spare.new ≡ spare.old) × (share.new ≡ share.old) × IsNothingLendable quantum)
         (λ l. Lent (id_of_loan l ∷ []) quantum own.old own.new (option_map id_of_loan spare.new) share.old share.new))
         (λ why. (own.new ≡ own.old) × (spare.new ≡ spare.old) × (share.new ≡ share.old) × IsLoanRefusal why) }
 {

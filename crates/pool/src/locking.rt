@@ -4,10 +4,10 @@ use std::hint::spin_loop;
 use std::sync::{Mutex, MutexGuard, Wait};
 
 /// How often a worker tries for the lock before it sleeps until it is free.
-const TRIES: u32 = 1000;
+const TRIES: u32 = 100;
 
-/// The bench, under its lock. The lock is held for a few microseconds at a time, and to be woken takes longer. So a worker spins
-/// for a while before it sleeps.
+/// The bench, under its lock. The lock is mostly held for a few microseconds at a time, and to be woken takes longer. So a worker
+/// spins for about as long, and then sleeps.
 pub(crate) fn lock_soon<'m, 'b, N: Naming, R: Wait>(
     rt: &R,
     lock: &'m Mutex<Bench<'b, N>>,

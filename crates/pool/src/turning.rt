@@ -1,5 +1,7 @@
 //! What a worker does at its seat.
-ghost use Rattle.std.specs.Prelude.{◌≡◌, ◌∷◌, ◌≤◌, [], None, Some, IfOk, IfErr, MatchResult};
+ghost use Rattle.std.specs.Prelude.{◌≡◌, ◌∷◌, ◌≤◌, ◌||◌, [], None, Some, IfOk, IfErr, MatchResult};
+ghost use Rattle.kernel_model.specs.Loans.{is_over};
+ghost use Rattle.bursts.specs.Benches.{OnBench};
 ghost use Rattle.bursts.specs.Totals.{Fit};
 ghost use Rattle.bursts.specs.Holdings.{Holding, grown};
 ghost use Rattle.pool.specs.declared.settling.Settling.{Settling};
@@ -121,7 +123,8 @@ impl<'p, 'b, N: Naming> Seat<'p, 'b, N> {
 
     /// Asks the bench whether no process is lent and none lendable, or the work is to stop, and notes its answer.
     fn is_bench_over<R: Wait>(&mut self, rt: &R, quantum: u32) -> bool
-        ensures { self.new ≡ told_so self.old result }
+        ensures bench { (b : OnBench) × (result ≡ (b.stopped || is_over b.core quantum)) }
+        ensures told { self.new ≡ told_so self.old result }
     {
         let pool = self.pool;
         let over = pool.bench.lock(rt).over(quantum);

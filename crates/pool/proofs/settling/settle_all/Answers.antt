@@ -10,7 +10,7 @@ use Rattle.pool.specs.declared.hand.Hand.{Hand}
 use Rattle.pool.specs.declared.settling.Settling.{Settling}
 use Rattle.pool.specs.Hands.{hand, took}
 use Rattle.bursts.specs.LoanIds.{loan_id, id_of_result}
-use Rattle.pool.specs.Settled.{Settled, rejected_in, more, no_settling}
+use Rattle.pool.specs.Settled.{Settled, IsOfOne, loans_in, rejected_in, more, no_settling}
 use Rattle.pool.proofs.Sums.{grown_not, settles_more}
 use Rattle.pool.proofs.settling.settle_all.Goals as goal
 
@@ -51,11 +51,13 @@ settled_none v h s is = subst (λ (u : Settling). Settled v h u v h) (sym is) re
   settled = refl;
   turns = refl;
   events = omega arith;
+  entered = refl;
+  enters = refl;
   share = grown_not h;
 }
 
 settled_still : (v w x : Hand) (h k j : Holding) (s : Settling) → Settled v h s w k → x ≡ w → j ≡ k → Settled v h s x j
-settled_still v w x h k j s d same kept = record { done = d.done; taken = same ∙ d.taken; settled = d.settled; turns = d.turns; events = d.events; share = kept ∙ d.share }
+settled_still v w x h k j s d same kept = record { done = d.done; taken = same ∙ d.taken; settled = d.settled; turns = d.turns; events = d.events; entered = d.entered; enters = d.enters; share = kept ∙ d.share }
 
 -- so much was settled after so many results, and Q; and one result adds so much
 abbrev SoFar : Type 0 → Hand → Holding → Settling → Hand → Holding → ℕ → Type 0
@@ -64,7 +66,7 @@ SoFar Q v h s w k n =
     × (s.settled ≤ n) × (s.events ≤ 2 * n) × (s.ran ≤ 2 ^ 32 * n) × (s.turns ≤ 2 ^ 32 * n) × (s.enters ≤ 2 ^ 32 * n)
 
 abbrev Adds : Hand → Holding → Totals → Hand → Holding → Type 0
-Adds w k b x j = ((number : ℕ) × (quantum : ℕ) × (x ≡ took w (loan_id b.turns number quantum))) × (j ≡ grown k b) × (b.turns < 2 ^ 32) × (b.ran < 2 ^ 32) × (b.enters < 2 ^ 32) × (1 ≤ b.events) × (b.events ≤ 2)
+Adds w k b x j = ((number : ℕ) × (quantum : ℕ) × (x ≡ took w (loan_id b.turns number quantum))) × (j ≡ grown k b) × (b.turns < 2 ^ 32) × (b.ran < 2 ^ 32) × (b.enters < 2 ^ 32) × IsOfOne b × (b.events ≤ 2)
 
 settled_more : (Q R : Type 0) (v w x : Hand) (h k j : Holding) (s t : Settling) (b : Totals) (n : ℕ) → SoFar Q v h s w k n → R → Adds w k b x j → t ≡ more s b → SoFar R v h t x j (n + 1)
 settled_more Q R v w x h k j s t b n i q a is = (
@@ -81,15 +83,17 @@ settled_more Q R v w x h k j s t b n i q a is = (
 settled_but : (v w x : Hand) (h k j : Holding) (s t : Settling) (r : Rejected) → Settled v h s w k → s.rejected ≡ None → (x ≡ took w (id_of_result r.done)) × (j ≡ k)
     → t ≡ record { settled = s.settled; events = s.events; ran = s.ran; turns = s.turns; enters = s.enters; rejected = Some r } → Settled v h t x j
 settled_but v w x h k j s t r d none one is =
-    let before : w ≡ hand v.put (v.taken ++ d.done) =
-    d.taken ∙ ap (λ o. hand v.put (v.taken ++ (d.done ++ rejected_in o))) none ∙ ap (λ l. hand v.put (v.taken ++ l)) (append-nil d.done)
+    let before : w ≡ hand v.put (v.taken ++ loans_in d.done) =
+    d.taken ∙ ap (λ o. hand v.put (v.taken ++ (loans_in d.done ++ rejected_in o))) none ∙ ap (λ l. hand v.put (v.taken ++ l)) (append-nil (loans_in d.done))
     in
     subst (λ (u : Settling). Settled v h u x j) (sym is) record {
       done = d.done;
-      taken = one.0 ∙ ap (λ (u : Hand). took u (id_of_result r.done)) before ∙ ap (λ l. hand v.put l) (append_assoc v.taken d.done (id_of_result r.done ∷ []));
+      taken = one.0 ∙ ap (λ (u : Hand). took u (id_of_result r.done)) before ∙ ap (λ l. hand v.put l) (append_assoc v.taken (loans_in d.done) (id_of_result r.done ∷ []));
       settled = d.settled;
       turns = d.turns;
       events = d.events;
+      entered = d.entered;
+      enters = d.enters;
       share = one.1 ∙ d.share;
     }
 
