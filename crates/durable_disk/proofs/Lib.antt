@@ -1,0 +1,4 @@
+-- The lemmas.
+pub mod RecordSteps
+pub mod StageEnds
+pub mod TellingSteps

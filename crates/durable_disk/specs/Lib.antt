@@ -1,0 +1,3 @@
+-- The definitions.
+pub mod FileRecords
+pub mod Stages
