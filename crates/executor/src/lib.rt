@@ -7,4 +7,4 @@ mod threading;
 
 pub use run_threads::RunFault;
 pub use settings::Settings;
-pub use threading::run;
+pub use threading::{run, run_durable};

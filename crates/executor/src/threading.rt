@@ -4,9 +4,10 @@ ghost use Rattle.kernel_model.specs.Answers.{now, committed as committed_in, cha
 
 use crate::settings::Settings;
 use bursts::{Bench, Blanks, Gate, Naming, Share, board_of, gather};
+use durable_disk::{Completions, DiskFile, HostFile};
 use kernel::Core;
 use pool::{Pool, Seat, pool_crew};
-use run_threads::{BoardReader, CommitThread, Completions, RunFault, Screen, Watch};
+use run_threads::{BoardReader, CommitThread, LockedCore, RunFault, Screen, Watch};
 use std::alloc::{AllocError, Global};
 use std::io::Write;
 use std::marker::Brand;
@@ -33,10 +34,10 @@ struct Crew<'x, 'p, 'b, N: Naming> {
 
 /// What the threads of a run share.
 #[derive(Drop)]
-struct Threading<'x, 'r, 'p, 'b, 'c, N: Naming, R: Wait> {
+struct Threading<'x, 'r, 'p, 'b, 'c, N: Naming, R: Wait, F> {
     bench: &'p Mutex<Bench<'b, N>>,
     crew: Mutex<Crew<'x, 'p, 'b, N>>,
-    committing: Mutex<CommitThread<'r, 'p, 'b, 'c, N, R>>,
+    committing: Mutex<CommitThread<'r, 'p, 'b, 'c, N, R, F>>,
     watch: Watch,
     quantum: u32,
 }
@@ -59,7 +60,8 @@ pub fn run<R: Threads + Wait + Sync, O: Write>(
     out: &mut O,
 ) -> Result<Core, RunFault> {
     let mut screen = Screen::new(out, settings.terminal);
-    let mut core = run_named::<Brand, R, O>(rt, alloc, core, Blanks::new(), settings, &mut screen)?;
+    let no_file: Option<HostFile> = None;
+    let mut core = run_on(rt, alloc, core, settings, no_file, &mut screen)?;
     if settings.fail.is_none() {
         core.drain()?;
     }
@@ -67,13 +69,51 @@ pub fn run<R: Threads + Wait + Sync, O: Write>(
     Ok(core)
 }
 
+/// Runs a core as `run` does, and has a file hold its disk: each write that was in flight is written to the file and synced before it
+/// is complete. So what is shown rests on changes that the file holds. On the file stands the disk with which the core was booted.
+///
+/// Where the file refuses a write or a sync, the writes in flight have failed, and the run goes on to its end: then some changes are
+/// not committed. It is so too where `settings.fail` has a completion fail. The faults are those of `run`. The core is one of which
+/// no write has failed.
+pub fn run_durable<R: Threads + Wait + Sync, F: DiskFile + Send + Drop, O: Write>(
+    rt: &R,
+    alloc: Global,
+    core: Core,
+    settings: Settings,
+    file: F,
+    out: &mut O,
+) -> Result<Core, RunFault> {
+    let mut screen = Screen::new(out, settings.terminal);
+    let core = run_on(rt, alloc, core, settings, Some(file), &mut screen)?;
+    screen.finish(core.shown(settings.terminal))?;
+    Ok(core)
+}
+
+/// The run up to where no worker works any more, on a file that holds its disk, if one does.
+fn run_on<R: Threads + Wait + Sync, F: DiskFile + Send + Drop, O: Write>(
+    rt: &R,
+    alloc: Global,
+    core: Core,
+    settings: Settings,
+    file: Option<F>,
+    screen: &mut Screen<'_, O>,
+) -> Result<Core, RunFault> {
+    run_named::<Brand, R, F, O>(rt, alloc, core, Blanks::new(), settings, file, screen)
+}
+
 /// The run up to where no worker works any more, with the names of its ledgers and its board.
-fn run_named<N: Naming + Send + Sync, R: Threads + Wait + Sync, O: Write>(
+fn run_named<
+    N: Naming + Send + Sync,
+    R: Threads + Wait + Sync,
+    F: DiskFile + Send + Drop,
+    O: Write,
+>(
     rt: &R,
     alloc: Global,
     core: Core,
     blanks: Blanks,
     settings: Settings,
+    file: Option<F>,
     screen: &mut Screen<'_, O>,
 ) -> Result<Core, RunFault>
     requires committed { committed_in (now core) ≡ N.committed }
@@ -90,33 +130,41 @@ fn run_named<N: Naming + Send + Sync, R: Threads + Wait + Sync, O: Write>(
         return Err(RunFault::OutOfMemory);
     };
     let reader = BoardReader::new(board, pass);
-    run_pool(rt, alloc, pool, share, reader, settings, screen)
+    run_pool(rt, alloc, pool, share, reader, settings, file, screen)
 }
 
 /// The run of a pool, and the core that it leaves.
-fn run_pool<N: Naming + Send + Sync, R: Threads + Wait + Sync, O: Write>(
+fn run_pool<N: Naming + Send + Sync, R: Threads + Wait + Sync, F: DiskFile + Send + Drop, O: Write>(
     rt: &R,
     alloc: Global,
     pool: Pool<'_, N>,
     share: Share<N>,
     reader: BoardReader<'_, N>,
     settings: Settings,
+    file: Option<F>,
     screen: &mut Screen<'_, O>,
 ) -> Result<Core, RunFault>
     requires { pool.workers < share.parts }
 {
-    run_seats(rt, alloc, &pool, share, reader, settings, screen)?;
+    run_seats(rt, alloc, &pool, share, reader, settings, file, screen)?;
     Ok(gather(pool.end(), Vec::new(alloc)))
 }
 
-/// The run of a pool by a worker at each of its seats. Where a completion is to fail, the other changes are committed too.
-fn run_seats<N: Naming + Send + Sync, R: Threads + Wait + Sync, O: Write>(
+/// The run of a pool by a worker at each of its seats. In a durable run, and where a completion is to fail, the other
+/// changes are committed too.
+fn run_seats<
+    N: Naming + Send + Sync,
+    R: Threads + Wait + Sync,
+    F: DiskFile + Send + Drop,
+    O: Write,
+>(
     rt: &R,
     alloc: Global,
     pool: &Pool<'_, N>,
     mut share: Share<N>,
     reader: BoardReader<'_, N>,
     settings: Settings,
+    file: Option<F>,
     screen: &mut Screen<'_, O>,
 ) -> Result<(), RunFault>
     requires { pool.now.workers < share.parts }
@@ -124,8 +172,10 @@ fn run_seats<N: Naming + Send + Sync, R: Threads + Wait + Sync, O: Write>(
     let mut workers = workers_of(alloc, pool, &mut share)?;
     let seats = workers.as_mut_slice();
     let bench = pool.bench();
+    let finishes = settings.fail.is_some() || file.is_some();
     let completions = Completions::none(settings.fail);
-    let committing = CommitThread::new(rt, reader, bench, share, completions);
+    let core = LockedCore::new(rt, alloc, bench, share);
+    let committing = CommitThread::new(reader, core, file, completions);
     let threading = Threading {
         bench,
         crew: Mutex::new(Crew {
@@ -137,7 +187,7 @@ fn run_seats<N: Naming + Send + Sync, R: Threads + Wait + Sync, O: Write>(
     };
     run_to_end(rt, alloc, &threading, screen);
     let mut committing = threading.end()?;
-    if settings.fail.is_some() {
+    if finishes {
         committing.finish(rt)?;
     }
     Ok(())
@@ -159,10 +209,15 @@ fn workers_of<'p, 'b, N: Naming>(
 }
 
 /// Starts the threads, and writes what the terminal shows until no worker works any more; then waits for the threads.
-fn run_to_end<N: Naming + Send + Sync, R: Threads + Wait + Sync, O: Write>(
+fn run_to_end<
+    N: Naming + Send + Sync,
+    R: Threads + Wait + Sync,
+    F: DiskFile + Send + Drop,
+    O: Write,
+>(
     rt: &R,
     alloc: Global,
-    threading: &Threading<'_, '_, '_, '_, '_, N, R>,
+    threading: &Threading<'_, '_, '_, '_, '_, N, R, F>,
     screen: &mut Screen<'_, O>,
 ) {
     let screen = Mutex::new(screen);
@@ -180,9 +235,9 @@ fn run_to_end<N: Naming + Send + Sync, R: Threads + Wait + Sync, O: Write>(
     });
 }
 
-fn lead<N: Naming + Send + Sync, R: Threads + Wait + Sync>(
+fn lead<N: Naming + Send + Sync, R: Threads + Wait + Sync, F: Drop>(
     rt: &R,
-    threading: &Threading<'_, '_, '_, '_, '_, N, R>,
+    threading: &Threading<'_, '_, '_, '_, '_, N, R, F>,
 ) {
     if let Some(workers) = workers_in(rt, &threading.crew) {
         // Workers meet want of memory and a full history alone: all other refusals are of results that are not theirs.
@@ -201,24 +256,27 @@ fn workers_in<'x, 'p, 'b, N: Naming, R: Wait>(
     crew.lock(rt).workers.take()
 }
 
-fn commit<N: Naming, R: Wait>(rt: &R, threading: &Threading<'_, '_, '_, '_, '_, N, R>) {
+fn commit<N: Naming, R: Wait, F: DiskFile + Drop>(
+    rt: &R,
+    threading: &Threading<'_, '_, '_, '_, '_, N, R, F>,
+) {
     let mut committing = threading.committing.lock(rt);
     committing.serve(rt, &threading.watch);
 }
 
-fn show<N: Naming, R: Wait, O: Write>(
+fn show<N: Naming, R: Wait, F: Drop, O: Write>(
     rt: &R,
     alloc: Global,
-    threading: &Threading<'_, '_, '_, '_, '_, N, R>,
+    threading: &Threading<'_, '_, '_, '_, '_, N, R, F>,
     screen: &Mutex<&mut Screen<'_, O>>,
 ) {
     let mut screen = screen.lock(rt);
     screen.serve(rt, alloc, threading.bench, &threading.watch);
 }
 
-impl<'r, 'p, 'b, 'c, N: Naming, R: Wait> Threading<'_, 'r, 'p, 'b, 'c, N, R> {
+impl<'r, 'p, 'b, 'c, N: Naming, R: Wait, F: Drop> Threading<'_, 'r, 'p, 'b, 'c, N, R, F> {
     /// What the thread that commits has, or the first fault, if one came. What else the threads shared goes.
-    fn end(self) -> Result<CommitThread<'r, 'p, 'b, 'c, N, R>, RunFault> {
+    fn end(self) -> Result<CommitThread<'r, 'p, 'b, 'c, N, R, F>, RunFault> {
         let Threading {
             committing,
             watch,

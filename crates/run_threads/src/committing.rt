@@ -1,42 +1,37 @@
 //! The thread that commits.
 use crate::board_reader::BoardReader;
-use crate::completions::Completions;
 use crate::fault::RunFault;
+use crate::locked_core::LockedCore;
 use crate::rest::Rest;
 use crate::watch::Watch;
-use bursts::{Bench, Naming, Share};
-use desks::{Desk, LockedDesk};
+use bursts::Naming;
+use durable_disk::{Completions, DiskFile, StagedCore, commit_stage};
 use kernel::Refused;
-use std::sync::{Mutex, Wait};
+use std::sync::Wait;
 
-/// What the thread that commits has: a reader of the board, a desk, by which it commits, and a count of its completions.
+/// What the thread that commits has: a reader of the board, the core under its lock, and a count of its completions. In a durable
+/// run it also has the file that holds the disk.
 #[derive(Drop)]
-pub struct CommitThread<'r, 'a, 'b, 'c, N: Naming, R: Wait> {
+pub struct CommitThread<'r, 'a, 'b, 'c, N: Naming, R: Wait, F> {
     reader: BoardReader<'c, N>,
-    bench: &'a Mutex<Bench<'b, N>>,
-    desk: LockedDesk<'r, 'a, 'b, N, R>,
+    core: LockedCore<'r, 'a, 'b, N, R>,
+    file: Option<F>,
     completions: Completions,
 }
 
-/// Whether a byte of a terminal waits for a commit that is not on its way.
-fn wants_cut<N: Naming, R: Wait>(rt: &R, bench: &Mutex<Bench<'_, N>>) -> bool {
-    bench.lock(rt).core().wants_cut()
-}
-
-impl<'r, 'a, 'b, 'c, N: Naming, R: Wait> CommitThread<'r, 'a, 'b, 'c, N, R> {
-    /// A thread that commits at this bench, with a share of its books, and has one of its completions fail, if one is to.
+impl<'r, 'a, 'b, 'c, N: Naming, R: Wait, F: DiskFile> CommitThread<'r, 'a, 'b, 'c, N, R, F> {
+    /// A thread that commits at this core. Where a file is given, it holds each write before that is complete. One of the completions
+    /// fails, if one is to.
     pub fn new(
-        rt: &'r R,
         reader: BoardReader<'c, N>,
-        bench: &'a Mutex<Bench<'b, N>>,
-        share: Share<N>,
+        core: LockedCore<'r, 'a, 'b, N, R>,
+        file: Option<F>,
         completions: Completions,
-    ) -> CommitThread<'r, 'a, 'b, 'c, N, R> {
-        let desk = LockedDesk::new(rt, bench, share);
+    ) -> CommitThread<'r, 'a, 'b, 'c, N, R, F> {
         CommitThread {
             reader,
-            bench,
-            desk,
+            core,
+            file,
             completions,
         }
     }
@@ -50,30 +45,39 @@ impl<'r, 'a, 'b, 'c, N: Naming, R: Wait> CommitThread<'r, 'a, 'b, 'c, N, R> {
     /// Completes the write in flight that begins first on the disk, or has it fail, where this is the completion that is to. Says
     /// whether one is in flight.
     fn complete_first(&mut self) -> Result<bool, Refused> {
-        let Some(at) = self.desk.in_flight() else {
+        let Some(at) = self.core.first_in_flight() else {
             return Ok(false);
         };
         if self.completions.next_fails() {
-            self.desk.fail(at)?;
+            self.core.fail(at)?;
         } else {
-            self.desk.complete(at)?;
+            self.core.complete(at)?;
         }
         Ok(true)
     }
 
-    /// Completes the write in flight that begins first on the disk. Where there is none it cuts a group, if output waits for one.
-    /// Says whether there was something to do.
+    /// Completes writes in flight: in a durable run all of them, once the file holds them; else the first one. Says whether one is
+    /// in flight.
+    fn complete(&mut self) -> Result<bool, Refused> {
+        match &mut self.file {
+            Some(file) => commit_stage(&mut self.core, file, &mut self.completions),
+            None => self.complete_first(),
+        }
+    }
+
+    /// Completes writes in flight. Where there are none it cuts a group, if output waits for one. Says whether there was something
+    /// to do.
     fn turn<W: Wait>(&mut self, rt: &W) -> Result<bool, Refused> {
         if self.is_done(rt) {
             return Ok(false);
         }
-        if self.complete_first()? {
+        if self.complete()? {
             return Ok(true);
         }
-        if !wants_cut(rt, self.bench) {
+        if !self.core.wants_cut() {
             return Ok(false);
         }
-        self.desk.cut()?;
+        self.core.cut()?;
         Ok(true)
     }
 
@@ -90,7 +94,7 @@ impl<'r, 'a, 'b, 'c, N: Naming, R: Wait> CommitThread<'r, 'a, 'b, 'c, N, R> {
                 Ok(false) => rest.take(rt),
                 Err(why) => {
                     watch.note(rt, RunFault::from(why));
-                    self.desk.stop();
+                    self.core.stop();
                     return;
                 }
             }
@@ -104,11 +108,11 @@ impl<'r, 'a, 'b, 'c, N: Naming, R: Wait> CommitThread<'r, 'a, 'b, 'c, N, R> {
             if self.is_done(rt) {
                 break;
             }
-            if self.complete_first()? {
+            if self.complete()? {
                 continue;
             }
-            match self.desk.cut() {
-                Ok(_) => {}
+            match self.core.cut() {
+                Ok(()) => {}
                 Err(Refused::DiskFailed) => break,
                 Err(why) => return Err(RunFault::from(why)),
             }

@@ -1,6 +1,6 @@
 -- The names of the run's ledgers, and the pair with which its board opens.
 use Rattle.kernel_model.specs.Answers.{now, committed, changes}
-use Rattle.executor.proofs.threading.run.Given as goal
+use Rattle.executor.proofs.threading.run_on.Given as goal
 
 abbrev pub ghosts-run_named-N-Naming : goal.ghosts-run_named-N-Naming
 ghosts-run_named-N-Naming g a = record {
