@@ -1,5 +1,5 @@
 -- Moves along a trace, one after the other.
-use Rattle.std.proofs.Common.{◌≡◌, ℕ, suc, zero, ◌+◌, ◌-◌, ◌<◌, ◌≤◌, Bool, true, false, cond, List, [], ◌∷◌, length, Some, None, refl, sym, ap, subst, ◌∙◌, arith}
+use Rattle.std.proofs.Common.{◌≡◌, ℕ, suc, zero, ◌+◌, ◌-◌, ◌<◌, ◌≤◌, Bool, true, false, cond, List, [], ◌∷◌, ◌++◌, length, Some, None, refl, sym, ap, subst, ◌∙◌, arith}
 use Rattle.std.specs.Prelude.{Option}
 use Rattle.memory_model.specs.Access.{is_writable}
 use Rattle.machine_model.specs.States.{State, Stepped, Goes, Halts, next}
@@ -8,7 +8,8 @@ use Rattle.machine_model.specs.Replies.{replied, replied_by}
 use Rattle.machine_model.specs.declared.reply.Reply.{Reply}
 use Rattle.machine_model.specs.declared.stop.Stop.TheVariants.{Limit, Call, Trap}
 use Rattle.machine_model.proofs.Running.{next-count}
-use Rattle.debugger.specs.Traces.{Traced, traced, Next, Moves, Rests, next_at_call, next_by, next_of, by_next, along, halt_of}
+use Rattle.debugger.specs.Traces.{Traced, traced, Next, Moves, Rests, next_at_call, next_by, next_of, by_next, along, halt_of, reached}
+use Rattle.machine_model.specs.First.{first_state}
 use Rattle.debugger.specs.declared.halt.Halt.{Halt}
 use Rattle.debugger.specs.declared.halt.Halt.TheVariants as halt
 use Rattle.debugger.specs.Ways.{Leads}
@@ -123,3 +124,58 @@ leads-same m n f g e a = subst (λ (k : ℕ). Leads k f g) e a
 pub onward-later : (n k : ℕ) (f g : Traced) → Leads n f g → halt_of (next_of (along (n + k) f)) ≡ None → halt_of (next_of (along k g)) ≡ None
 onward-later n k f g leads e =
     ap (λ (t : Traced). halt_of (next_of (along k t))) (sym leads.moves) ∙ sym (ap (λ (t : Traced). halt_of (next_of t)) (along-add n k f)) ∙ e
+
+-- with more replies at the end of its trace
+abbrev pub longer : Traced → List Reply → Traced
+longer t more = traced t.state (t.left ++ more)
+
+call-more : (s : State) (left : List Reply) (u : Traced) (more : List Reply) → next_at_call s left ≡ Moves u → next_at_call s (left ++ more) ≡ Moves (longer u more)
+call-more s [] u more e = absurd (rests_not halt.EndOfTrace u e)
+call-more s (r ∷ rs) u more e = by (is_writable s.hart.memory r.at (length r.bytes)) e
+  where
+    by : (b : Bool) → cond b (Moves (traced (replied s r) rs)) (Rests halt.EndOfTrace) ≡ Moves u → cond b (Moves (traced (replied s r) (rs ++ more))) (Rests halt.EndOfTrace) ≡ Moves (longer u more)
+    by true e = ap (λ (v : Traced). Moves (longer v more)) (same_move (traced (replied s r) rs) u e)
+    by false e = absurd (rests_not halt.EndOfTrace u e)
+
+-- a move stays a move
+pub next_of-more : (t u : Traced) (more : List Reply) → next_of t ≡ Moves u → next_of (longer t more) ≡ Moves (longer u more)
+unfolding next_of
+next_of-more t u more = by (next t.state)
+  where
+    by : (x : Stepped) → next_by t x ≡ Moves u → next_by (longer t more) x ≡ Moves (longer u more)
+    by (Goes s) e = ap (λ (v : Traced). Moves (longer v more)) (same_move (traced s t.left) u e)
+    by (Halts (Trap cause)) e = absurd (rests_not (halt.Trap cause) u e)
+    by (Halts Call) e = call-more t.state t.left u more e
+    by (Halts Limit) e = absurd (rests_not halt.EndOfTrace u e)
+
+-- what was reached stays
+pub along-more : (n : ℕ) (t : Traced) (more : List Reply) → (along n t).state.count ≡ t.state.count + n → along n (longer t more) ≡ longer (along n t) more
+along-more zero t more all = along-zero (longer t more) ∙ sym (ap (λ (v : Traced). longer v more) (along-zero t))
+along-more (suc n) t more all = by (λ u. along-more n u more) (next_of t) refl
+  where
+    by : ((u : Traced) → (along n u).state.count ≡ u.state.count + n → along n (longer u more) ≡ longer (along n u) more) → (x : Next) → next_of t ≡ x → along (suc n) (longer t more) ≡ longer (along (suc n) t) more
+    by later (Moves u) is =
+        let same : (along (suc n) t).state.count ≡ (along n u).state.count = ap (λ (v : Traced). v.state.count) (along-moves n t u is) in
+        let one : u.state.count ≡ t.state.count + 1 = next_of-count t u is in
+        along-moves n (longer t more) (longer u more) (next_of-more t u more is)
+        ∙ later u (omega arith)
+        ∙ sym (ap (λ (v : Traced). longer v more) (along-moves n t u is))
+    by later (Rests why) is =
+        let same : (along (suc n) t).state.count ≡ t.state.count = ap (λ (v : Traced). v.state.count) (along-rests (suc n) t why is) in
+        absurd (omega arith)
+
+-- a program's states stay where its trace grows
+pub reached-more : (p : Program) (rs more : List Reply) (n : ℕ) → (first_state p).count ≡ 0 → (reached p rs n).state.count ≡ n → reached p (rs ++ more) n ≡ longer (reached p rs n) more
+unfolding reached
+reached-more p rs more n first all = along-more n (traced (first_state p) rs) more (omega (arith, first, all))
+
+-- and so do those before
+pub state-before : (p : Program) (rs more : List Reply) (m n : ℕ) → (first_state p).count ≡ 0 → (reached p rs m).state.count ≡ m → n ≤ m → (reached p (rs ++ more) n).state ≡ (reached p rs n).state
+unfolding reached
+state-before p rs more m n first all within =
+    let here : (along m (traced (first_state p) rs)).state.count ≡ m = all in
+    let split : m ≡ n + (m - n) = omega (arith, within) in
+    let whole : (along (m - n) (along n (traced (first_state p) rs))).state.count ≡ m = ap (λ (t : Traced). t.state.count) (sym (along-add n (m - n) (traced (first_state p) rs))) ∙ ap (λ (k : ℕ). (along k (traced (first_state p) rs)).state.count) (sym split) ∙ here in
+    let most : (along (m - n) (along n (traced (first_state p) rs))).state.count ≤ (along n (traced (first_state p) rs)).state.count + (m - n) = along-within (m - n) (along n (traced (first_state p) rs)) in
+    let few : (along n (traced (first_state p) rs)).state.count ≤ (first_state p).count + n = along-within n (traced (first_state p) rs) in
+    ap (λ (t : Traced). t.state) (along-more n (traced (first_state p) rs) more (omega (arith, first, within, whole, most, few)))

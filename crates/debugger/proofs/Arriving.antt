@@ -97,20 +97,21 @@ onward-from p rs now kept k at from less =
     ∙ onward-before p rs now (kept.machine.count + k) at less
 
 -- one place is kept
-pub kept-first : (p : Program) (rs : List Reply) (a : Place) → a.machine.count ≡ 0 → IsAt p rs a → AreKept p rs (a ∷ [])
-kept-first p rs a counts at zero b e =
+pub kept-first : (p : Program) (rs : List Reply) (a : Place) → a.machine.count ≡ 0 → IsAt p rs a → a.taken ≤ length rs → AreKept p rs (a ∷ [])
+kept-first p rs a counts at bound zero b e =
     let same : a ≡ b = same_Some a b e in
-    subst (λ (c : Place). IsKept p rs 0 c) same (record { counts = counts; there = at })
-kept-first p rs a counts at (suc k) b e = absurd (none-some b e)
+    subst (λ (c : Place). IsKept p rs 0 c) same (record { counts = counts; there = at; bound = bound })
+kept-first p rs a counts at bound (suc k) b e = absurd (none-some b e)
 
 -- one more is kept
-pub kept-push : (p : Program) (rs : List Reply) (kept : List Place) (a : Place) → AreKept p rs kept → a.machine.count ≡ 1024 * length kept → IsAt p rs a → AreKept p rs (kept ++ a ∷ [])
-kept-push p rs kept a are counts at k b e =
+pub kept-push : (p : Program) (rs : List Reply) (kept : List Place) (a : Place) → AreKept p rs kept → a.machine.count ≡ 1024 * length kept → IsAt p rs a → a.taken ≤ length rs → AreKept p rs (kept ++ a ∷ [])
+kept-push p rs kept a are counts at bound k b e =
     elim (slice_get-push kept a b k e) [
       | inl there ↦ are k b there
       | inr last ↦ (
           let count : b.machine.count ≡ 1024 * k = ap (λ (c : Place). c.machine.count) (sym last.1) ∙ counts ∙ ap (λ (n : ℕ). 1024 * n) (sym last.0) in
           let there : IsAt p rs b = subst (λ (c : Place). IsAt p rs c) last.1 at in
-          record { counts = count; there = there }
+          let took : b.taken ≤ length rs = subst (λ (c : Place). c.taken ≤ length rs) last.1 bound in
+          record { counts = count; there = there; bound = took }
           )
     ]

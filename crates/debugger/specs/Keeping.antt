@@ -21,6 +21,7 @@ IsAt program replies place = reached program replies place.machine.count ≡ tra
 pub record IsKept (program : Program) (replies : List Reply) (k : ℕ) (place : Place) : Type 0 where
   pub counts : place.machine.count ≡ 1024 * k
   pub there : IsAt program replies place
+  pub bound : place.taken ≤ length replies
 
 -- the places at counts that are multiples of 1,024, one after the other
 abbrev pub AreKept : Program → List Reply → List Place → Type 0
@@ -35,6 +36,7 @@ pub record Keeps (program : Program) (replies : List Reply) (place : Place) (kep
   pub budget : place.machine.count ≤ 2 ^ 40
   pub set : slab_len breaks ≤ 64
   pub room : 64 ≤ breaks.capacity
+  pub bound : place.taken ≤ length replies
 
 -- A session went on by at most max instructions, at least one where nothing keeps it from going on.
 pub record Advances (old : Session) (max : ℕ) (halt : Option Halt) (new : Session) : Type 0 where

@@ -1,5 +1,5 @@
 //! The debugger.
-ghost use Rattle.std.specs.Prelude.{◌≡◌, ◌≢◌, ℕ, ◌+◌, ◌%◌, ◌^◌, ◌<◌, ◌≤◌, Ok, None, Some, IfOk, IfErr, OnOk, OnErr, IsTrue, ◌↔◌};
+ghost use Rattle.std.specs.Prelude.{◌≡◌, ◌≢◌, ℕ, [], ◌∷◌, ◌++◌, ◌+◌, ◌%◌, ◌^◌, ◌<◌, ◌≤◌, Ok, None, Some, IfOk, IfErr, OnOk, OnErr, IsTrue, ◌↔◌};
 ghost use Rattle.debugger.specs.Edits.{Changes};
 ghost use Rattle.debugger.specs.Keeping.{Advances};
 ghost use Rattle.debugger.specs.Sessions.{TakesMemory, begins, break_count, break_of, halt_at, place_at};
@@ -91,6 +91,18 @@ impl Debugger {
             breaks,
             reran: 0,
         })
+    }
+
+    /// Adds a reply at the end of the trace. The states that were reached before stay, and so does what is kept. Refused, with
+    /// nothing changed: OutOfMemory.
+    pub fn extend(&mut self, reply: Reply) -> Result<(), DebugFault>
+        ensures longer { OnOk result (self.new ≡ record self.old { replies = self.old.replies ++ reply ∷ [] }) }
+        ensures stays { OnOk result ((n : ℕ) → n ≤ self.old.count → (place_at self.new n).state ≡ (place_at self.old n).state) }
+        ensures memory { IfErr result (λ why. why ≡ OutOfMemory) }
+        ensures same { OnErr result (self.new ≡ self.old) }
+    {
+        self.replies.push(reply)?;
+        Ok(())
     }
 
     /// The machine as it stands.

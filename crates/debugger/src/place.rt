@@ -1,5 +1,5 @@
 //! A machine on its way along a trace.
-ghost use Rattle.std.specs.Prelude.{◌≡◌, ◌≢◌, ℕ, ◌+◌, ◌-◌, ◌<◌, ◌≤◌, ◌^◌, true, None, Some, IfOk, OnOk, OnErr, drop};
+ghost use Rattle.std.specs.Prelude.{◌≡◌, ◌≢◌, ℕ, ◌+◌, ◌-◌, ◌<◌, ◌≤◌, ◌^◌, true, None, Some, IfOk, OnOk, OnErr, drop, length};
 ghost use Rattle.machine_model.specs.States.{stands_at};
 ghost use Rattle.debugger.specs.Traces.{EntersNext, Moves, Rests, along, brings_image, halt_of, next_at_call, next_of};
 ghost use Rattle.debugger.specs.Ways.{Came, Leads, traced_at};
@@ -80,6 +80,7 @@ impl Place {
         ensures onward { result ≡ StretchEnd.Entering → halt_of (next_at_call self.old.machine (drop self.old.taken replies.now)) ≡ None }
         ensures image { result ≡ StretchEnd.Entering → brings_image (drop self.old.taken replies.now) ≡ true }
         ensures left { result ≢ StretchEnd.Done → self.new ≡ self.old }
+        ensures bound { self.old.taken ≤ length replies.now → self.new.taken ≤ length replies.now }
     {
         if let Some(halt) = self.call_halt(replies) {
             return StretchEnd::Halted(halt);
@@ -100,6 +101,7 @@ impl Place {
         requires budget { self.old.machine.count < 2 ^ 40 }
         ensures leads { OnOk result (Leads 1 (traced_at replies.now self.old) (traced_at replies.now self.new)) }
         ensures same { OnErr result (self.new ≡ self.old) }
+        ensures bound { self.old.taken ≤ length replies.now → self.new.taken ≤ length replies.now }
     {
         if let Some(image) = &replies[self.taken].image {
             self.machine.enter(alloc, image)?;
@@ -123,6 +125,7 @@ impl Place {
         ensures onward { OnErr result (halt_of (next_of (traced_at replies.now self.old)) ≡ None) }
         ensures enters { OnErr result (EntersNext (traced_at replies.now self.old)) }
         ensures same { OnErr result (self.new ≡ self.old) }
+        ensures bound { self.old.taken ≤ length replies.now → self.new.taken ≤ length replies.now }
     {
         let mut done = 0;
         while done < max {
@@ -154,7 +157,8 @@ impl Place {
         requires near { count ≤ self.old.machine.count + 1023 }
         requires budget { count ≤ 2 ^ 40 }
         requires onward { (n : ℕ) → self.old.machine.count + n < count → halt_of (next_of (along n (traced_at replies.now self.old))) ≡ None }
-        ensures { OnOk result (Leads (count - self.old.machine.count) (traced_at replies.now self.old) (traced_at replies.now self.new)) }
+        ensures leads { OnOk result (Leads (count - self.old.machine.count) (traced_at replies.now self.old) (traced_at replies.now self.new)) }
+        ensures bound { self.old.taken ≤ length replies.now → self.new.taken ≤ length replies.now }
     {
         while self.machine.count() < count {
             let rest = (count - self.machine.count()) as u32;
@@ -167,7 +171,8 @@ impl Place {
     pub fn next(&self, alloc: Global, replies: &[Reply]) -> Result<Place, AllocError>
         requires onward { halt_of (next_of (traced_at replies.now self.now)) ≡ None }
         requires budget { self.now.machine.count < 2 ^ 40 }
-        ensures { IfOk result (λ place. Leads 1 (traced_at replies.now self.now) (traced_at replies.now place)) }
+        ensures leads { IfOk result (λ place. Leads 1 (traced_at replies.now self.now) (traced_at replies.now place)) }
+        ensures bound { IfOk result (λ place. self.now.taken ≤ length replies.now → place.taken ≤ length replies.now) }
     {
         let mut next = self.try_clone(alloc)?;
         let _ = next.advance(alloc, replies, 1)?;
@@ -187,6 +192,7 @@ impl Place {
         ensures onward { result.1 ≡ StretchEnd.Entering → halt_of (next_of (traced_at replies.now self.new)) ≡ None }
         ensures enters { result.1 ≡ StretchEnd.Entering → EntersNext (traced_at replies.now self.new) }
         ensures taken { result.1 ≢ StretchEnd.Done → self.new.taken ≡ self.old.taken }
+        ensures bound { self.old.taken ≤ length replies.now → self.new.taken ≤ length replies.now }
     {
         let (done, stop) = self.machine.run(max);
         match stop {

@@ -21,14 +21,15 @@ invariant_of-self-then-room-eq0 c =
     let same : c.self.inside.place.machine.count ≡ c.args.self.now.count = ap (λ (s : Session). s.count) c.self.view_is in
     let enough : c.self.inside.place.machine.count < 1024 * length c.self.inside.kept.items = c.self.invariant.enough in
     let leads : Leads 1 (traced_at c.self.inside.replies.items c.self.inside.place) (traced_at c.self.inside.replies.items c.in_ok-next.next) =
-    subst (λ (rs : List Reply). Leads 1 (traced_at rs c.self.inside.place) (traced_at rs c.in_ok-next.next)) c.as_slice-then-room-eq0.ensures.value c.in_ok-next.ensures in
+    subst (λ (rs : List Reply). Leads 1 (traced_at rs c.self.inside.place) (traced_at rs c.in_ok-next.next)) c.as_slice-then-room-eq0.ensures.value c.in_ok-next.ensures.leads in
     keeps-push c.self.inside.image c.self.inside.replies.items c.self.inside.place c.in_ok-next.next c.in_ok-kept.kept c.self.inside.kept.items c.push.new.self.items c.self.inside.breaks
     c.self.invariant leads c.in_ok-kept.ensures c.in_ok-push.ensures.items (omega (arith, c.if-room-eq0.true)) (omega (arith, c.requires.some, c.requires.budget))
+    (subst (λ (rs : List Reply). c.self.inside.place.taken ≤ length rs → c.in_ok-next.next.taken ≤ length rs) c.as_slice-then-room-eq0.ensures.value c.in_ok-next.ensures.bound c.self.invariant.bound)
 
 pub returns-then-room-eq0-clause-advances : goal.returns-then-room-eq0-clause-advances
 returns-then-room-eq0-clause-advances c =
     let leads : Leads 1 (traced_at c.self.inside.replies.items c.self.inside.place) (traced_at c.self.inside.replies.items c.in_ok-next.next) =
-    subst (λ (rs : List Reply). Leads 1 (traced_at rs c.self.inside.place) (traced_at rs c.in_ok-next.next)) c.as_slice-then-room-eq0.ensures.value c.in_ok-next.ensures in
+    subst (λ (rs : List Reply). Leads 1 (traced_at rs c.self.inside.place) (traced_at rs c.in_ok-next.next)) c.as_slice-then-room-eq0.ensures.value c.in_ok-next.ensures.leads in
     let there : IsAt c.self.inside.image c.self.inside.replies.items c.in_ok-next.next =
     is_at-leads c.self.inside.image c.self.inside.replies.items c.self.inside.place c.in_ok-next.next 1 c.self.invariant.there leads in
     subst (λ (s : Session). Advances s c.args.max None (session_of c.self.inside.image c.self.inside.replies.items c.in_ok-next.next c.self.inside.breaks c.self.inside.reran)) c.self.view_is
@@ -50,6 +51,7 @@ invariant_of-self-2 c =
     keeps-at c.self.inside.image c.self.inside.replies.items c.self.inside.place c.advance.new.self c.self.inside.kept.items c.self.inside.breaks c.self.invariant
     (is_at-leads c.self.inside.image c.self.inside.replies.items c.self.inside.place c.advance.new.self came.done c.self.invariant.there came.leads)
     (omega (arith, few, most)) (omega (arith, few, most, c.requires.budget))
+    (subst (λ (rs : List Reply). c.self.inside.place.taken ≤ length rs → c.advance.new.self.taken ≤ length rs) c.as_slice-2.ensures.value c.advance.ensures.bound c.self.invariant.bound)
 
 pub returns-clause-advances : goal.returns-clause-advances
 returns-clause-advances c =

@@ -1,5 +1,5 @@
 -- Back from what is kept.
-use Rattle.std.proofs.Common.{◌≡◌, ℕ, ◌+◌, ◌-◌, ◌*◌, ◌/◌, ◌%◌, ◌≤◌, ◌^◌, List, None, sym, ap, subst, ◌∙◌, arith, rules}
+use Rattle.std.proofs.Common.{◌≡◌, ℕ, ◌+◌, ◌-◌, ◌*◌, ◌/◌, ◌%◌, ◌≤◌, ◌^◌, List, length, None, sym, ap, subst, ◌∙◌, arith, rules}
 use Rattle.machine_model.specs.declared.reply.Reply.{Reply}
 use Rattle.debugger.specs.Sessions.{Session}
 use Rattle.debugger.specs.Traces.{along, halt_of, next_of}
@@ -39,7 +39,8 @@ invariant_of-self c =
     let small : c.args.n ≤ c.self.inside.place.machine.count = omega arith in
     let found : IsKept c.self.inside.image c.self.inside.replies.items (c.args.n / 1024) c.in_ok-place.place = kept-found c.self.inside.image c.self.inside.replies.items c.self.inside.place c.self.inside.kept.items c.self.inside.breaks c.args.n c.index-kept.result.now c.in_ok-place.place c.self.invariant small c.index-kept.ensures c.in_ok-place.ensures in
     (kept-back c.self.inside.image c.self.inside.replies.items c.self.inside.place c.in_ok-place.place c.advance_to.new.self c.self.inside.kept.items c.self.inside.breaks c.args.n c.self.invariant small found
-    (subst (λ (rs : List Reply). Leads (c.args.n - c.in_ok-place.place.machine.count) (traced_at rs c.in_ok-place.place) (traced_at rs c.advance_to.new.self)) c.as_slice.ensures.value c.in_ok-advance_to.ensures)).1
+    (subst (λ (rs : List Reply). Leads (c.args.n - c.in_ok-place.place.machine.count) (traced_at rs c.in_ok-place.place) (traced_at rs c.advance_to.new.self)) c.as_slice.ensures.value c.in_ok-advance_to.ensures.leads)
+    (subst (λ (rs : List Reply). c.in_ok-place.place.taken ≤ length rs → c.advance_to.new.self.taken ≤ length rs) c.as_slice.ensures.value c.in_ok-advance_to.ensures.bound)).1
 
 pub returns-clause-back : goal.returns-clause-back
 returns-clause-back c =
@@ -47,7 +48,8 @@ returns-clause-back c =
     let small : c.args.n ≤ c.self.inside.place.machine.count = omega arith in
     let found : IsKept c.self.inside.image c.self.inside.replies.items (c.args.n / 1024) c.in_ok-place.place = kept-found c.self.inside.image c.self.inside.replies.items c.self.inside.place c.self.inside.kept.items c.self.inside.breaks c.args.n c.index-kept.result.now c.in_ok-place.place c.self.invariant small c.index-kept.ensures c.in_ok-place.ensures in
     let back : c.advance_to.new.self.machine.count ≡ c.args.n = (kept-back c.self.inside.image c.self.inside.replies.items c.self.inside.place c.in_ok-place.place c.advance_to.new.self c.self.inside.kept.items c.self.inside.breaks c.args.n c.self.invariant small found
-    (subst (λ (rs : List Reply). Leads (c.args.n - c.in_ok-place.place.machine.count) (traced_at rs c.in_ok-place.place) (traced_at rs c.advance_to.new.self)) c.as_slice.ensures.value c.in_ok-advance_to.ensures)).0 in
+    (subst (λ (rs : List Reply). Leads (c.args.n - c.in_ok-place.place.machine.count) (traced_at rs c.in_ok-place.place) (traced_at rs c.advance_to.new.self)) c.as_slice.ensures.value c.in_ok-advance_to.ensures.leads)
+    (subst (λ (rs : List Reply). c.in_ok-place.place.taken ≤ length rs → c.advance_to.new.self.taken ≤ length rs) c.as_slice.ensures.value c.in_ok-advance_to.ensures.bound)).0 in
     let counts : c.in_ok-place.place.machine.count ≡ 1024 * (c.args.n / 1024) = found.counts in
     let first : c.count-from.result ≡ c.in_ok-place.place.machine.count = c.count-from.ensures in
     let last : c.count-2.result ≡ c.advance_to.new.self.machine.count = c.count-2.ensures in

@@ -6,7 +6,7 @@ use Rattle.debugger.proofs.Onward.{came-on, came-halts, halted-not_done}
 use Rattle.debugger.proofs.place.Place.advance.Goals as goal
 
 pub loop-done-init : goal.loop-done-init
-loop-done-init c = record { leads = leads-none (traced_at c.args.replies.now c.args.self.now); within = omega arith; still = λ _. refl }
+loop-done-init c = record { leads = leads-none (traced_at c.args.replies.now c.args.self.now); within = omega arith; still = λ _. refl; bound = λ e. e }
 
 pub stretch-n-requires-clause-budget : goal.stretch-n-requires-clause-budget
 stretch-n-requires-clause-budget c =
@@ -21,6 +21,7 @@ loop-done-preserved c =
           c.loop-done.invariant.leads c.stretch-n.ensures.leads);
       within = omega arith;
       still = λ none. absurd (omega (arith, none));
+      bound = λ e. c.stretch-n.ensures.bound (c.loop-done.invariant.bound e);
     }
 
 pub returns-in-Halted-clause-came : goal.returns-in-Halted-clause-came
@@ -41,4 +42,5 @@ returns c = record {
   onward = tt;
   enters = tt;
   same = tt;
+  bound = c.loop-done.invariant.bound;
 }

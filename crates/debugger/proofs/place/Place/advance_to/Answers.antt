@@ -10,6 +10,7 @@ loop-alloc-init c = record {
   leads = leads-same 0 (c.args.self.now.machine.count - c.args.self.now.machine.count) (traced_at c.args.replies.now c.args.self.now) (traced_at c.args.replies.now c.args.self.now) (omega arith) (leads-none (traced_at c.args.replies.now c.args.self.now));
   ahead = omega arith;
   within = c.requires.ahead;
+  bound = λ e. e;
 }
 
 pub loop-alloc-smaller : goal.loop-alloc-smaller
@@ -32,4 +33,4 @@ loop-alloc-preserved c =
     c.loop-alloc.invariant.leads c.in_ok-advance.ensures.came (omega arith) c.requires.onward in
     let more : c.loop-alloc.self.machine.count < c.advance.new.self.machine.count = on.0 in
     let ahead : c.args.self.now.machine.count ≤ c.loop-alloc.self.machine.count = c.loop-alloc.invariant.ahead in
-    record { leads = on.2; ahead = omega arith; within = on.1 }
+    record { leads = on.2; ahead = omega arith; within = on.1; bound = λ e. c.advance.ensures.bound (c.loop-alloc.invariant.bound e) }

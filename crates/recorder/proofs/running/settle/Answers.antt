@@ -1,0 +1,11 @@
+-- A result makes the core grow, also where it is handed back.
+use Rattle.recorder.proofs.Growing.{grows-settles, grows-then}
+use Rattle.recorder.proofs.running.settle.Goals as goal
+
+pub returns-in-Ok-clause-grows : goal.returns-in-Ok-clause-grows
+returns-in-Ok-clause-grows c = λ first before.
+    grows-then first c.args.core.now c.settle.new.self before (grows-settles c.args.core.now c.settle.new.self c.run_loan.result c.settle.result c.settle.ensures)
+
+pub returns-in-Err-clause-grows : goal.returns-in-Err-clause-grows
+returns-in-Err-clause-grows c = λ first before.
+    grows-then first c.args.core.now c.settle.new.self before (grows-settles c.args.core.now c.settle.new.self c.run_loan.result c.settle.result c.settle.ensures)

@@ -1,0 +1,15 @@
+//! What a recorder finds.
+use machine_model::Reply;
+
+/// What a recorder finds of its process.
+#[derive(Drop)]
+pub enum Recorded {
+    /// The replies of its trace that were not taken before, in order. There is at least one.
+    Replies(Vec<Reply>),
+    /// It ended with this status. Each reply was taken.
+    Ended(u32),
+    /// It waits for what nobody will do: no process runs on. Each reply was taken.
+    Waits,
+    /// As many loans were done as were asked for.
+    Going,
+}

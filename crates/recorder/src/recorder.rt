@@ -1,0 +1,162 @@
+//! Recorders.
+ghost use Rattle.std.specs.Prelude.{◌≡◌, ◌≢◌, None, IfOk, IfErr, OnOk, OnErr, MatchOption};
+ghost use Rattle.kernel_model.specs.Answers.{Kernel, now, process_of};
+ghost use Rattle.kernel_model.specs.Drains.{IsAllCommitted};
+ghost use Rattle.kernel_model.specs.Loans.{is_over};
+ghost use Rattle.kernel_model.specs.declared.answer.Refused.TheVariants.{NoProcess};
+ghost use Rattle.recorder.specs.Recording.{Finds, Grows, HasNone, Rests, quantum};
+
+use crate::copies::copies_of;
+use crate::recorded::Recorded;
+use crate::running::{QUANTUM, run_next};
+use kernel::{Core, Refused, Standing};
+use std::alloc::Global;
+use std::marker::Model;
+
+/// A core that runs on for one process, whose replies are recorded. Processes take turns, by rising number and round again. All
+/// changes are committed before a call ends well: so its caller sees what rests on committed changes alone.
+pub struct Recorder {
+    alloc: Global,
+    core: Core,
+    process: u32,
+    /// How many replies of its trace were taken.
+    taken: usize,
+}
+
+impl Drop for Recorder {
+    fn drop(self) {
+        let Recorder {
+            alloc: _,
+            core: _core,
+            process: _,
+            taken: _,
+        } = self;
+    }
+}
+
+impl Model for Recorder {
+    ghost use Rattle.recorder.specs.Recording.{Recording, recording_code};
+
+    ghost Value = { Recording };
+
+    ghost coded = { recording_code };
+
+    ghost view = { λ r. record { kernel = r.core; process = r.process; taken = r.taken } };
+}
+
+impl Recorder {
+    /// A recorder of a process, which may be made later. No reply of it is taken. Takes no memory.
+    pub fn new(alloc: Global, core: Core, process: u32) -> Recorder
+        ensures { result ≡ record { kernel = core; process = process; taken = 0 } }
+    {
+        Recorder {
+            alloc,
+            core,
+            process,
+            taken: 0,
+        }
+    }
+
+    /// The core as it stands.
+    pub fn core(&self) -> &Core
+        ensures { result.now ≡ self.now.kernel }
+    {
+        &self.core
+    }
+
+    /// Runs the core on until the process has replies that were not taken, and takes them; at most so many loans of 65,536
+    /// instructions each. The trace of a process that a fork made begins with its parent's up to then, and a 0.
+    ///
+    /// Refused: NoProcess, where there is no such process and none runs on; Budget, where the process has no room for as many
+    /// instructions, or the history for events; DiskFailed, where a write of the disk had failed before; OutOfMemory. What ran
+    /// stays, and no reply is taken.
+    pub fn more(&mut self, loans: u32) -> Result<Recorded, Refused>
+        ensures finds { IfOk result (λ recorded. Finds self.old.taken self.new recorded) }
+        ensures committed { OnOk result (IsAllCommitted (now self.new.kernel)) }
+        ensures none { IfErr result (λ why. why ≡ NoProcess → (process_of self.new.kernel self.new.process ≡ None) × Rests self.new.kernel) }
+        ensures taken { OnErr result (self.new.taken ≡ self.old.taken) }
+        ensures grows { Grows self.old.kernel self.new.kernel }
+        ensures process { self.new.process ≡ self.old.process }
+    {
+        self.commit()?;
+        for _ in 0..loans {
+            if let Some(recorded) = self.found()? {
+                return Ok(recorded);
+            }
+            if self.is_over() {
+                return self.rest();
+            }
+            self.run_next()?;
+        }
+        Ok(Recorded::Going)
+    }
+
+    /// Commits every change.
+    fn commit(&mut self) -> Result<(), Refused>
+        ensures committed { OnOk result (IsAllCommitted (now self.new.kernel)) }
+        ensures refused { IfErr result (λ why. why ≢ NoProcess) }
+        ensures grows { Grows self.old.kernel self.new.kernel }
+        ensures process { self.new.process ≡ self.old.process }
+        ensures taken { self.new.taken ≡ self.old.taken }
+    {
+        self.core.drain()?;
+        Ok(())
+    }
+
+    /// Whether no process runs on.
+    fn is_over(&self) -> bool
+        ensures { result ≡ is_over self.now.kernel quantum }
+    {
+        self.core.over(QUANTUM)
+    }
+
+    /// Runs the next process on loan, if there is one, and commits what it changed.
+    fn run_next(&mut self) -> Result<(), Refused>
+        ensures committed { OnOk result (IsAllCommitted (now self.old.kernel) → IsAllCommitted (now self.new.kernel)) }
+        ensures refused { IfErr result (λ why. why ≢ NoProcess) }
+        ensures grows { (first : Kernel) → Grows first self.old.kernel → Grows first self.new.kernel }
+        ensures process { self.new.process ≡ self.old.process }
+        ensures taken { self.new.taken ≡ self.old.taken }
+    {
+        run_next(&mut self.core)
+    }
+
+    /// The replies that were not taken, which are taken now, or the process's end; None where there is neither.
+    fn found(&mut self) -> Result<Option<Recorded>, Refused>
+        ensures finds { IfOk result (λ found. MatchOption found (HasNone self.new × (self.new.taken ≡ self.old.taken)) (λ recorded. Finds self.old.taken self.new recorded)) }
+        ensures refused { IfErr result (λ why. why ≢ NoProcess) }
+        ensures taken { OnErr result (self.new.taken ≡ self.old.taken) }
+        ensures kernel { self.new.kernel ≡ self.old.kernel }
+        ensures process { self.new.process ≡ self.old.process }
+    {
+        let Ok(trace) = self.core.trace(self.process) else {
+            return Ok(None);
+        };
+        let count = trace.len();
+        if self.taken < count {
+            let replies = copies_of(self.alloc, &trace[self.taken..])?;
+            self.taken = count;
+            return Ok(Some(Recorded::Replies(replies)));
+        }
+        match (
+            self.core.standing(self.process),
+            self.core.ended(self.process),
+        ) {
+            (Ok(Standing::Ended), Ok(Some(status))) => Ok(Some(Recorded::Ended(status))),
+            _ => Ok(None),
+        }
+    }
+
+    /// How the process stands where no process runs on.
+    fn rest(&self) -> Result<Recorded, Refused>
+        requires none { HasNone self.now }
+        requires over { Rests self.now.kernel }
+        ensures finds { IfOk result (λ recorded. Finds self.now.taken self.now recorded) }
+        ensures none { IfErr result (λ why. why ≡ NoProcess → process_of self.now.kernel self.now.process ≡ None) }
+    {
+        match self.core.standing(self.process)? {
+            Standing::Waits => Ok(Recorded::Waits),
+            _ => Err(Refused::Budget),
+        }
+    }
+}
