@@ -1,0 +1,12 @@
+//! What a machine stands at that stands at a trap: the cause, the address that the instruction names, and what is there. Read
+//! `trap_report` first.
+#![tactic(auto)]
+
+mod address;
+mod report;
+#[cfg(test)]
+mod tests;
+mod there;
+
+pub use report::{TrapReport, trap_report};
+pub use there::There;

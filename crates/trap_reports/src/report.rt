@@ -1,0 +1,103 @@
+//! What is reported of a machine that stands at a trap.
+ghost use Rattle.std.specs.Prelude.{◌≡◌, IfSome};
+ghost use Rattle.std.specs.Option.{option_map};
+ghost use Rattle.machine_model.specs.States.{stands_at};
+ghost use Rattle.trap_reports.specs.Traps.{cause_in};
+
+use crate::address::named_by;
+use crate::there::There;
+use formats::decode;
+use machine::Machine;
+use machine_model::{Cause, Stop};
+use std::fmt;
+
+/// A trap: its cause, where the machine stands, and what it is about. It prints as one line.
+#[derive(Clone, Copy, Debug)]
+pub struct TrapReport {
+    pub cause: Cause,
+    pub pc: u32,
+    /// The word at the pc, if bytes stand there.
+    pub word: Option<u32>,
+    /// The address that the instruction names, if it names one, and what is there.
+    pub named: Option<(u32, There)>,
+    /// What is at the pc.
+    pub there: There,
+}
+
+/// The four bytes at an address as a word, whatever the rights of their page.
+fn word_at(machine: &Machine, at: u32) -> Option<u32> {
+    let space = machine.space();
+    Some(u32::from_le_bytes([
+        space.byte(at)?,
+        space.byte(at.wrapping_add(1))?,
+        space.byte(at.wrapping_add(2))?,
+        space.byte(at.wrapping_add(3))?,
+    ]))
+}
+
+/// The address that the instruction at the pc names, if it names one, and what is there.
+fn named_at(machine: &Machine, word: Option<u32>) -> Option<(u32, There)> {
+    let at = named_by(machine, decode(word?)?)?;
+    Some((at, There::at(machine.space(), at)))
+}
+
+/// The report of a machine that stands at a trap of this cause.
+fn report(machine: &Machine, cause: Cause) -> TrapReport
+    ensures cause { result.cause ≡ cause }
+    ensures pc { result.pc ≡ machine.now.hart.pc }
+{
+    let pc = machine.pc();
+    let word = word_at(machine, pc);
+    TrapReport {
+        cause,
+        pc,
+        word,
+        named: named_at(machine, word),
+        there: There::at(machine.space(), pc),
+    }
+}
+
+/// What is reported of a machine. None where it stands at no trap.
+pub fn trap_report(machine: &Machine) -> Option<TrapReport>
+    ensures cause { option_map (λ r. r.cause) result ≡ cause_in (stands_at machine.now) }
+    ensures pc { IfSome result (λ r. r.pc ≡ machine.now.hart.pc) }
+{
+    match machine.stopped() {
+        Some(Stop::Trap(cause)) => Some(report(machine, cause)),
+        _ => None,
+    }
+}
+
+/// Writes what a trap is about, after its pc.
+fn write_about<W: fmt::Write>(report: &TrapReport, f: &mut fmt::Formatter<W>) -> fmt::Result {
+    match (report.cause, report.named, report.word) {
+        (Cause::PageFault, Some((at, there)), _) => write!(f, ", address {at:08x}, {there}"),
+        (Cause::MisalignedData, Some((at, _)), _) => {
+            write!(
+                f,
+                ", address {at:08x}, no multiple of the width of the access"
+            )
+        }
+        (Cause::MisalignedTarget, Some((at, _)), _) => {
+            write!(f, ", to address {at:08x}, no multiple of 4")
+        }
+        (Cause::Illegal, _, Some(word)) => {
+            write!(f, ", where the word {word:08x} means no instruction")
+        }
+        (Cause::Breakpoint, _, _) => f.write_str(", where ebreak stands"),
+        _ => {
+            let there = report.there;
+            write!(f, ", {there}")
+        }
+    }
+}
+
+impl fmt::Display for TrapReport {
+    fn fmt<W: fmt::Write>(&self, f: &mut fmt::Formatter<W>) -> fmt::Result {
+        let number = self.cause.number();
+        let cause = self.cause;
+        let pc = self.pc;
+        write!(f, "trap {number} {cause:?} at pc {pc:08x}")?;
+        write_about(self, f)
+    }
+}
