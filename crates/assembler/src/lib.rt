@@ -12,8 +12,10 @@ mod listing;
 
 pub use assembly::assemble;
 pub use fault::{AsmFault, Cause};
+pub use labels::Spot;
 pub use laws::{
     assembled_is_listed, images_are_by_lines, loads_are_right, one_outcome, parts_add_up,
     word_meanings,
 };
+pub use layout::Position;
 pub use listing::{Listing, Row};
