@@ -1,0 +1,3 @@
+-- The definitions.
+pub mod Checks
+pub mod Names
