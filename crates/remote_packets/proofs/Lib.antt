@@ -1,0 +1,4 @@
+pub mod Cuts
+pub mod Bounds
+pub mod Escaping
+pub mod RoundTrip
