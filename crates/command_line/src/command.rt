@@ -1,4 +1,5 @@
 //! The commands, as rows.
+use crate::debug_options::DEBUG;
 use crate::rows::{ArgumentRow, CommandRow, Form, NumberRow};
 use crate::run_options::RUN;
 
@@ -84,6 +85,53 @@ pub const ASSEMBLE: CommandRow = CommandRow {
     ],
 };
 
+const CHECK: CommandRow = CommandRow {
+    name: "check",
+    whole: "bench check",
+    about: "Say what is wrong with a source, where, and what would cure it",
+    arguments: &[ArgumentRow {
+        name: "SOURCE",
+        help: "the source's file",
+        form: Form::File,
+    }],
+};
+
+pub const IMAGE: CommandRow = CommandRow {
+    name: "image",
+    whole: "bench image",
+    about: "Make an image of an executable that a stock linker wrote",
+    arguments: &[
+        ArgumentRow {
+            name: "ELF",
+            help: "the executable's file: ELF, 32 bits, for RISC-V, linked statically",
+            form: Form::File,
+        },
+        ArgumentRow {
+            name: "IMAGE",
+            help: "the image's file, which is written anew; another than the executable's",
+            form: Form::File,
+        },
+    ],
+};
+
+pub const SYMBOLS: CommandRow = CommandRow {
+    name: "symbols",
+    whole: "bench symbols",
+    about: "Write what gdb is told of a source: its labels, lines and data",
+    arguments: &[
+        ArgumentRow {
+            name: "SOURCE",
+            help: "the source's file",
+            form: Form::File,
+        },
+        ArgumentRow {
+            name: "ELF",
+            help: "the file of symbols, which is written anew; another than the source's",
+            form: Form::File,
+        },
+    ],
+};
+
 const LIST: CommandRow = CommandRow {
     name: "list",
     whole: "bench list",
@@ -93,24 +141,6 @@ const LIST: CommandRow = CommandRow {
         help: "the image's file",
         form: Form::File,
     }],
-};
-
-const DEBUG: CommandRow = CommandRow {
-    name: "debug",
-    whole: "bench debug",
-    about: "Debug an image, by commands on standard input",
-    arguments: &[
-        ArgumentRow {
-            name: "IMAGE",
-            help: "the image's file",
-            form: Form::File,
-        },
-        ArgumentRow {
-            name: "trace",
-            help: "the replies that its calls take",
-            form: Form::Option("FILE"),
-        },
-    ],
 };
 
 const DISK: CommandRow = CommandRow {
@@ -125,7 +155,9 @@ const DISK: CommandRow = CommandRow {
 };
 
 /// The commands, in the order of the help.
-pub const COMMANDS: &[CommandRow] = &[REPLAY, PICTURE, CRASHES, ASSEMBLE, LIST, DEBUG, DISK, RUN];
+pub const COMMANDS: &[CommandRow] = &[
+    REPLAY, PICTURE, CRASHES, ASSEMBLE, CHECK, IMAGE, SYMBOLS, LIST, DEBUG, DISK, RUN,
+];
 
 /// The row of the command of this name, if there is one.
 pub fn row_named(name: &str) -> Option<&'static CommandRow> {

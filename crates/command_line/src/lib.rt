@@ -1,14 +1,19 @@
-//! The command line of the program `bench`: its words as a `Task`. Read `parse` first. Its types keep the limits of a run.
+//! The command line of the program `bench`: its words as a `Task`, and whether reasons are told. Read `parse` first. Its types keep the limits of a run.
 #![tactic(auto)]
 
 mod command;
+mod debug_options;
+mod examples;
 mod numbers;
 mod parsing;
 mod refusing;
 mod rows;
 mod run_options;
+mod tapes;
 mod task;
 
-pub use parsing::parse;
+pub use debug_options::LiveOptions;
+pub use parsing::{Asked, parse};
 pub use run_options::{ImagePaths, RunNumbers, RunOptions};
+pub use tapes::TapePaths;
 pub use task::Task;

@@ -50,7 +50,8 @@ pub fn with_usage(alloc: Global, words: &[String], error: Error) -> Result<Error
     if error.kind() != ErrorKind::InvalidValue {
         return Ok(error);
     }
-    match words.first().and_then(|name| row_named(name.as_str())) {
+    let command = words.iter().find(|word| !word.starts_with('-'));
+    match command.and_then(|name| row_named(name.as_str())) {
         Some(row) => again(alloc, row, error),
         None => Ok(error),
     }

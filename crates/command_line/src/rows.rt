@@ -1,4 +1,5 @@
 //! Commands as rows of a table: what is said of each, and the arguments that it takes.
+use crate::examples::example_of;
 use clap::{Arg, ArgAction, Command};
 use kernel_model::MOST_PROGRAMS;
 use std::alloc::{AllocError, Global};
@@ -23,8 +24,12 @@ pub enum Form {
     Images,
     /// As an option, once at most, whose value has this name.
     Option(&'static str),
+    /// As an option, any number of times, whose value has this name.
+    Options(&'static str),
     /// As an option, once at most, whose value is a number.
     Number(NumberRow),
+    /// As an option without a value, once at most.
+    Flag,
 }
 
 /// An argument of a command.
@@ -76,7 +81,9 @@ fn argument_of<'a>(alloc: Global, row: &ArgumentRow) -> Arg<'a> {
         Form::File => arg.required(true),
         Form::Images => images(arg),
         Form::Option(value) => option(arg, row.name, value),
+        Form::Options(value) => option(arg, row.name, value).action(ArgAction::Append),
         Form::Number(range) => number(arg, row.name, range),
+        Form::Flag => arg.long(row.name).action(ArgAction::SetTrue),
     }
 }
 
@@ -100,7 +107,11 @@ pub fn named<'a>(alloc: Global, row: &CommandRow) -> Result<Command<'a>, AllocEr
 /// The command of a row, with its arguments.
 pub fn command_of<'a>(alloc: Global, row: &CommandRow) -> Result<Command<'a>, AllocError> {
     let arguments = arguments_of(alloc, row.arguments)?;
-    named(alloc, row)?.args(arguments)
+    let command = named(alloc, row)?.args(arguments)?;
+    match example_of(row.name) {
+        Some(example) => Ok(command.after_help(example)),
+        None => Ok(command),
+    }
 }
 
 /// The commands of rows, with their arguments.

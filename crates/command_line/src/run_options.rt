@@ -4,6 +4,7 @@ ghost use Rattle.kernel_model.specs.World.{most_programs, terminal_count};
 
 use crate::numbers::number_of;
 use crate::rows::{ArgumentRow, CommandRow, Form, NumberRow};
+use crate::tapes::TapePaths;
 use clap::ArgMatches;
 use kernel_model::{MOST_PROGRAMS, TERMINALS};
 use std::alloc::{AllocError, Global};
@@ -49,9 +50,12 @@ pub struct RunOptions<'a> {
     pub numbers: RunNumbers,
     /// The path of the disk's file, if the disk is kept.
     pub disk: Option<&'a str>,
-    /// The path of what stands on tape 0, if anything does.
-    pub tape: Option<&'a str>,
+    /// Whether the disk's file holds each change before what rests on it is shown.
+    pub is_durable: bool,
+    pub tapes: TapePaths<'a>,
     pub images: ImagePaths<'a>,
+    /// The process whose status is to be the program's, if one is.
+    pub status: Option<u32>,
 }
 
 /// The command `run`.
@@ -86,9 +90,19 @@ pub const RUN: CommandRow = CommandRow {
             form: Form::Option("FILE"),
         },
         ArgumentRow {
+            name: "durable",
+            help: "have the disk's file hold each change before what rests on it is printed",
+            form: Form::Flag,
+        },
+        ArgumentRow {
             name: "tape",
-            help: "what the first image's program may read",
+            help: "what the first image's program may read; - is standard input",
             form: Form::Option("FILE"),
+        },
+        ArgumentRow {
+            name: "tape-of",
+            help: "what the program of terminal T may read; may be given for each T",
+            form: Form::Options("T=FILE"),
         },
         ArgumentRow {
             name: "term",
@@ -107,6 +121,16 @@ pub const RUN: CommandRow = CommandRow {
                 value: "K",
                 least: 1,
                 most: 2_147_483_647,
+                default: None,
+            }),
+        },
+        ArgumentRow {
+            name: "status",
+            help: "the process whose status is that of the command",
+            form: Form::Number(NumberRow {
+                value: "P",
+                least: 1,
+                most: 4_294_967_295,
                 default: None,
             }),
         },
@@ -132,8 +156,8 @@ fn run_numbers(workers: u32, quantum: u32, terminal: u32, fail: Option<u32>) -> 
     }
 }
 
-/// The number of an option of a run, each of which lies below 2^32.
-fn small_number(matches: &ArgMatches<'_>, option: &str) -> Option<u32> {
+/// The number of an option that lies below 2^32.
+pub fn small_number(matches: &ArgMatches<'_>, option: &str) -> Option<u32> {
     u32::try_from(number_of(matches, option)?).ok()
 }
 
@@ -145,7 +169,7 @@ fn numbers_of(matches: &ArgMatches<'_>) -> Option<RunNumbers> {
 }
 
 /// The paths of the images, where they are 1 to 8.
-fn images_of<'a>(
+pub fn images_of<'a>(
     alloc: Global,
     matches: &ArgMatches<'a>,
 ) -> Result<Option<ImagePaths<'a>>, AllocError> {
@@ -174,7 +198,9 @@ pub fn run_options<'a>(
     Ok(Some(RunOptions {
         numbers,
         disk: matches.get_str("disk"),
-        tape: matches.get_str("tape"),
+        is_durable: matches.get_flag("durable"),
+        tapes: TapePaths::of(matches),
         images,
+        status: small_number(matches, "status"),
     }))
 }

@@ -1,11 +1,14 @@
 //! What the command line asks for.
-use crate::command::ASSEMBLE;
+use crate::command::{ASSEMBLE, IMAGE, SYMBOLS};
+use crate::debug_options::{DEBUG, LiveOptions, debug_conflict, live_options};
 use crate::numbers::number_of;
 use crate::refusing::refusal;
+use crate::rows::CommandRow;
 use crate::run_options::{RUN, RunOptions, run_options};
+use crate::tapes::faulty_tape;
 use clap::error::ErrorKind;
 use clap::{ArgMatches, Error};
-use std::alloc::Global;
+use std::alloc::{AllocError, Global};
 
 /// What the program is to do.
 #[derive(Drop)]
@@ -34,13 +37,28 @@ pub enum Task<'a> {
         source: &'a str,
         image: &'a str,
     },
+    /// Say what is wrong with the source in a file.
+    Check(&'a str),
+    /// Make an image, in a file, of the executable in another that a linker wrote.
+    Image {
+        linked: &'a str,
+        image: &'a str,
+    },
+    /// Write what gdb is told of the source in a file to another.
+    Symbols {
+        source: &'a str,
+        symbols: &'a str,
+    },
     /// List the words of the image in a file.
     List(&'a str),
-    /// Debug the image in a file, with the replies of the trace in another, or none.
+    /// Debug the image in a file, with the replies of the trace in another, or none, and beside its source, if it is given.
     Debug {
         image: &'a str,
         trace: Option<&'a str>,
+        source: Option<&'a str>,
     },
+    /// Debug a process while a kernel answers its calls.
+    DebugLive(LiveOptions<'a>),
     /// List the files on the disk in a file.
     Disk(&'a str),
     /// Run images.
@@ -61,16 +79,57 @@ fn assemble_task<'a>(alloc: Global, matches: &ArgMatches<'a>) -> Result<Option<T
     }
 }
 
+/// What the arguments of the command `image` ask for. An image that would be written over its own executable is refused.
+fn image_task<'a>(alloc: Global, matches: &ArgMatches<'a>) -> Result<Option<Task<'a>>, Error> {
+    match (matches.get_str("ELF"), matches.get_str("IMAGE")) {
+        (Some(linked), Some(image)) if linked == image => Err(refusal(
+            alloc,
+            &IMAGE,
+            ErrorKind::ArgumentConflict,
+            "<ELF> and <IMAGE> are the same path",
+        )?),
+        (Some(linked), Some(image)) => Ok(Some(Task::Image { linked, image })),
+        _ => Ok(None),
+    }
+}
+
+/// What the arguments of the command `symbols` ask for. A file that would be written over its own source is refused.
+fn symbols_task<'a>(alloc: Global, matches: &ArgMatches<'a>) -> Result<Option<Task<'a>>, Error> {
+    match (matches.get_str("SOURCE"), matches.get_str("ELF")) {
+        (Some(source), Some(symbols)) if source == symbols => Err(refusal(
+            alloc,
+            &SYMBOLS,
+            ErrorKind::ArgumentConflict,
+            "<SOURCE> and <ELF> are the same path",
+        )?),
+        (Some(source), Some(symbols)) => Ok(Some(Task::Symbols { source, symbols })),
+        _ => Ok(None),
+    }
+}
+
+/// Refuses the first tape that is not given as it has to be.
+fn test_tapes(alloc: Global, matches: &ArgMatches<'_>) -> Result<(), Error> {
+    match faulty_tape(matches) {
+        None => Ok(()),
+        Some(fault) => {
+            let message = format!(in alloc; "{fault}")?;
+            Err(refusal(alloc, &RUN, ErrorKind::ValueValidation, message.as_str())?)
+        }
+    }
+}
+
 fn run_task<'a>(alloc: Global, matches: &ArgMatches<'a>) -> Result<Option<Task<'a>>, Error> {
+    test_tapes(alloc, matches)?;
     match run_options(alloc, matches)? {
-        Some(options) => Ok(Some(Task::Run(options))),
-        // All else is refused by the command itself; but it does not count images before and after an option together.
-        None => Err(refusal(
+        Some(options) if options.is_durable && options.disk.is_none() => Err(refusal(
             alloc,
             &RUN,
-            ErrorKind::TooManyValues,
-            "there are more than 8 images",
+            ErrorKind::MissingRequiredArgument,
+            "'--durable' needs '--disk <FILE>'",
         )?),
+        Some(options) => Ok(Some(Task::Run(options))),
+        // All else is refused by the command itself; but it does not count images before and after an option together.
+        None => Err(too_many_images(alloc, &RUN)?),
     }
 }
 
@@ -96,11 +155,38 @@ fn crashes_task<'a>(matches: &ArgMatches<'a>) -> Option<Task<'a>> {
     })
 }
 
-fn debug_task<'a>(matches: &ArgMatches<'a>) -> Option<Task<'a>> {
+/// The refusal of more than eight images.
+fn too_many_images(alloc: Global, row: &CommandRow) -> Result<Error, AllocError> {
+    refusal(
+        alloc,
+        row,
+        ErrorKind::TooManyValues,
+        "there are more than 8 images",
+    )
+}
+
+/// What the arguments of the command `debug` without `--live` ask for.
+fn debug_one<'a>(matches: &ArgMatches<'a>, images: &[&'a str]) -> Option<Task<'a>> {
     Some(Task::Debug {
-        image: matches.get_str("IMAGE")?,
+        image: *images.first()?,
         trace: matches.get_str("trace"),
+        source: matches.get_str("source"),
     })
+}
+
+/// What the arguments of the command `debug` ask for. Options that do not go together are refused.
+fn debug_task<'a>(alloc: Global, matches: &ArgMatches<'a>) -> Result<Option<Task<'a>>, Error> {
+    let images = matches.get_strs("IMAGE").unwrap_or_default();
+    if let Some(message) = debug_conflict(matches, images.len()) {
+        return Err(refusal(alloc, &DEBUG, ErrorKind::ArgumentConflict, message)?);
+    }
+    if !matches.get_flag("live") {
+        return Ok(debug_one(matches, images));
+    }
+    match live_options(alloc, matches)? {
+        Some(options) => Ok(Some(Task::DebugLive(options))),
+        None => Err(too_many_images(alloc, &DEBUG)?),
+    }
 }
 
 /// What a command that takes files and its arguments ask for. None for a name that is not handled here.
@@ -109,8 +195,8 @@ fn file_task<'a>(name: &str, matches: &ArgMatches<'a>) -> Option<Task<'a>> {
         "replay" => replay_task(matches),
         "picture" => picture_task(matches),
         "crashes" => crashes_task(matches),
+        "check" => Some(Task::Check(matches.get_str("SOURCE")?)),
         "list" => Some(Task::List(matches.get_str("IMAGE")?)),
-        "debug" => debug_task(matches),
         "disk" => Some(Task::Disk(matches.get_str("FILE")?)),
         _ => None,
     }
@@ -125,6 +211,9 @@ pub fn task_of<'a>(
     match name {
         "run" => run_task(alloc, matches),
         "asm" => assemble_task(alloc, matches),
+        "debug" => debug_task(alloc, matches),
+        "image" => image_task(alloc, matches),
+        "symbols" => symbols_task(alloc, matches),
         name => Ok(file_task(name, matches)),
     }
 }

@@ -1,5 +1,5 @@
 //! What changed in memory.
-use crate::writable::Words;
+use crate::writable::{Words, Writable, words_of};
 use memory::Space;
 use std::io::Write;
 use std::{fmt, io};
@@ -69,12 +69,12 @@ fn print_changed_words<O: Write>(
 fn print_first_words<O: Write>(
     before: &Space,
     after: &Space,
-    writable: &[Words],
+    writable: &Writable,
     out: &mut O,
 ) -> io::Result<u32> {
     let mut changed = 0;
-    for words in writable {
-        changed = print_changed_words(before, after, *words, changed, out)?;
+    for page in writable.pages() {
+        changed = print_changed_words(before, after, words_of(*page), changed, out)?;
     }
     Ok(changed)
 }
@@ -92,7 +92,7 @@ fn print_others<O: Write>(changed: u32, out: &mut O) -> io::Result<()> {
 pub fn print_changed_memory<O: Write>(
     before: &Space,
     after: &Space,
-    writable: &[Words],
+    writable: &Writable,
     out: &mut O,
 ) -> io::Result<()> {
     if before.is_same(after) {

@@ -1,4 +1,6 @@
 //! The commands of a session.
+use crate::aids::Aids;
+use crate::showing::MOST_SHOWN;
 use line_words::{decimal, hexadecimal};
 
 /// What moves the machine.
@@ -20,6 +22,8 @@ pub enum Command {
     Break(u32),
     /// The breakpoint of a number is removed.
     Clear(u64),
+    /// Bytes from an address on are printed.
+    Show { at: u32, count: u32 },
     /// All registers are printed.
     State,
     Quit,
@@ -31,10 +35,11 @@ pub enum CommandFault {
     Unknown,
     Number,
     Address,
+    Count,
 }
 
 impl CommandFault {
-    /// The answer to such a line.
+    /// The answer to such a line where a session has no aids.
     pub fn text(self) -> &'static str {
         match self {
             CommandFault::Unknown => {
@@ -42,6 +47,20 @@ impl CommandFault {
             }
             CommandFault::Number => "faulty number: N is decimal",
             CommandFault::Address => "faulty address: ADDR is eight hexadecimal digits",
+            CommandFault::Count => "faulty number: N is decimal, from 1 to 4096",
+        }
+    }
+
+    /// The same where it has some.
+    pub fn aided_text(self) -> &'static str {
+        match self {
+            CommandFault::Unknown => {
+                "unknown command; there are: step N, run, break ADDR, break LABEL, clear N, rewind N, state, show ADDR N, quit"
+            }
+            CommandFault::Address => {
+                "faulty address: ADDR is eight hexadecimal digits, LABEL a label in the text of the source"
+            }
+            fault => fault.text(),
         }
     }
 }
@@ -53,40 +72,65 @@ fn number_of(word: &str) -> Result<u64, CommandFault> {
     }
 }
 
-fn address_of(word: &str) -> Result<u32, CommandFault> {
+/// The address of a word, which may be a label.
+fn address_of(word: &str, aids: &Aids) -> Result<u32, CommandFault> {
     match hexadecimal(word) {
         Some(at) => Ok(at),
-        None => Err(CommandFault::Address),
+        None => aids.address_of(word).ok_or(CommandFault::Address),
     }
 }
 
 /// The command of this name that stands alone.
-fn plain(name: &str) -> Result<Command, CommandFault> {
+fn plain(name: &str, aids: &Aids) -> Result<Command, CommandFault> {
     match name {
         "run" => Ok(Command::Move(Motion::Run)),
         "state" => Ok(Command::State),
         "quit" => Ok(Command::Quit),
         "step" | "clear" | "rewind" => Err(CommandFault::Number),
         "break" => Err(CommandFault::Address),
+        "show" if aids.some() => Err(CommandFault::Address),
         _ => Err(CommandFault::Unknown),
     }
 }
 
-/// The command of this name, with the word after it.
-fn with_word(name: &str, word: &str) -> Result<Command, CommandFault> {
+/// How many bytes are to be printed.
+fn count_of(word: &str) -> Result<u32, CommandFault> {
+    match decimal(word) {
+        Some(count) if 1 <= count && count <= u64::from(MOST_SHOWN) => Ok(count as u32),
+        _ => Err(CommandFault::Count),
+    }
+}
+
+/// The command that prints memory, of the words after its name.
+fn show(words: &str, aids: &Aids) -> Result<Command, CommandFault> {
+    match words.split_once(' ') {
+        Some((at, count)) => Ok(Command::Show {
+            at: address_of(at, aids)?,
+            count: count_of(count.trim_ascii())?,
+        }),
+        None => {
+            address_of(words, aids)?;
+            Err(CommandFault::Count)
+        }
+    }
+}
+
+/// The command of this name, with the words after it.
+fn with_word(name: &str, word: &str, aids: &Aids) -> Result<Command, CommandFault> {
     match name {
         "step" => Ok(Command::Move(Motion::Step(number_of(word)?))),
         "rewind" => Ok(Command::Move(Motion::Rewind(number_of(word)?))),
         "clear" => Ok(Command::Clear(number_of(word)?)),
-        "break" => Ok(Command::Break(address_of(word)?)),
+        "break" => Ok(Command::Break(address_of(word, aids)?)),
+        "show" if aids.some() => show(word, aids),
         _ => Err(CommandFault::Unknown),
     }
 }
 
 /// The command of a line that has no blanks at its ends.
-pub fn command_of(line: &str) -> Result<Command, CommandFault> {
+pub fn command_of(line: &str, aids: &Aids) -> Result<Command, CommandFault> {
     match line.split_once(' ') {
-        Some((name, word)) => with_word(name, word.trim_ascii()),
-        None => plain(line),
+        Some((name, word)) => with_word(name, word.trim_ascii(), aids),
+        None => plain(line, aids),
     }
 }

@@ -2,17 +2,25 @@
 //! replies that the program's calls take in it.
 #![tactic(auto)]
 
+mod aids;
 mod changes;
 mod command;
 mod fault;
+mod live;
 mod moving;
+mod quoted;
 mod refusal;
 mod registers;
+mod rights;
 mod session;
+mod showing;
 mod standing;
 mod trace;
+mod traps;
 mod writable;
 
+pub use aids::Aids;
 pub use fault::SessionFault;
+pub use live::Live;
 pub use session::debug;
 pub use trace::read_trace;

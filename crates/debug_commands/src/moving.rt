@@ -1,91 +1,158 @@
 //! Motions of the machine: why it stops, where it stands then, and what changed.
+use crate::aids::Aids;
 use crate::changes::print_changed_memory;
 use crate::command::Motion;
 use crate::fault::SessionFault;
 use crate::refusal::{print_refusal, print_refused};
 use crate::registers::print_changed_registers;
-use crate::standing::print_place;
-use crate::writable::Words;
+use crate::standing::print_place_in;
+use crate::traps::print_address;
+use crate::writable::Writable;
 use debugger::{Cause, DebugFault, Debugger, MOST_INSTRUCTIONS, Machine, Stepped, Stopped};
 use std::alloc::Global;
 use std::io;
 use std::io::Write;
 
-fn print_trap<O: Write>(cause: Cause, out: &mut O) -> io::Result<()> {
-    let number = cause.number();
-    writeln!(out, "trap {number} {cause:?}")
+/// A debugger, and what a session keeps beside it.
+pub struct Moved {
+    pub debugger: Debugger,
+    pub writable: Writable,
+    pub aids: Aids,
 }
 
-/// Prints what kept a step from being done, if anything did. Gives whether the steps go on.
-fn print_step<O: Write>(
-    stepped: Result<Stepped, DebugFault>,
-    out: &mut O,
-) -> Result<bool, SessionFault> {
-    match stepped {
-        Ok(Stepped::Went) => return Ok(true),
-        Ok(Stepped::Trap(cause)) => print_trap(cause, out)?,
-        Err(why) => print_refusal(why, out)?,
+impl Drop for Moved {
+    fn drop(self) {
+        let Moved {
+            debugger: _debugger,
+            writable: _writable,
+            aids: _aids,
+        } = self;
     }
-    Ok(false)
 }
 
-/// Does so many instructions, or fewer where the machine can go no further.
-fn step<O: Write>(debugger: &mut Debugger, n: u64, out: &mut O) -> Result<(), SessionFault> {
-    for _ in 0..n {
-        if !print_step(debugger.step(), out)? {
-            return Ok(());
+impl Moved {
+    /// Prints the trap at which the machine stands; with aids also its address.
+    fn print_trap<O: Write>(&self, cause: Cause, out: &mut O) -> io::Result<()> {
+        let number = cause.number();
+        writeln!(out, "trap {number} {cause:?}")?;
+        if self.aids.some() {
+            print_address(self.debugger.state(), cause, out)?;
+        }
+        Ok(())
+    }
+
+    /// What stands at the end of the trace is answered by the kernel. Says whether the trace is longer now; None where no kernel
+    /// answers.
+    fn answer<O: Write>(&mut self, out: &mut O) -> Result<Option<bool>, SessionFault> {
+        match &mut self.aids.live {
+            Some(live) => {
+                let longer = live.answer(&mut self.debugger, &mut self.writable, out)?;
+                Ok(Some(longer))
+            }
+            None => Ok(None),
         }
     }
-    Ok(())
-}
 
-fn print_stopped<O: Write>(stopped: Stopped, out: &mut O) -> io::Result<()> {
-    match stopped {
-        Stopped::Break(number) => writeln!(out, "break {number}"),
-        Stopped::Trap(cause) => print_trap(cause, out),
-        Stopped::EndOfTrace => out.write_all(b"end of trace\n"),
-        Stopped::Limit => out.write_all(b"limit\n"),
+    /// Prints what kept a step from being done, if anything did. Says whether the steps go on.
+    fn print_step<O: Write>(
+        &self,
+        stepped: Result<Stepped, DebugFault>,
+        out: &mut O,
+    ) -> Result<bool, SessionFault> {
+        match stepped {
+            Ok(Stepped::Went) => return Ok(true),
+            Ok(Stepped::Trap(cause)) => self.print_trap(cause, out)?,
+            Err(why) => print_refusal(why, out)?,
+        }
+        Ok(false)
     }
-}
 
-/// Prints why a run stopped, or why it was refused.
-fn print_run<O: Write>(run: Result<Stopped, DebugFault>, out: &mut O) -> Result<(), SessionFault> {
-    match run {
-        Ok(stopped) => Ok(print_stopped(stopped, out)?),
-        Err(why) => print_refusal(why, out),
+    /// Does an instruction, if it can be done, where at the end of the trace the kernel is asked. Says whether the steps go on.
+    fn step_once<O: Write>(&mut self, out: &mut O) -> Result<bool, SessionFault> {
+        let mut stepped = self.debugger.step();
+        if matches!(&stepped, Err(DebugFault::PastTrace)) {
+            match self.answer(out)? {
+                Some(true) => stepped = self.debugger.step(),
+                Some(false) => return Ok(false),
+                None => {}
+            }
+        }
+        self.print_step(stepped, out)
     }
-}
 
-/// Moves the machine, and prints why it stopped, where the command does not say it.
-fn go<O: Write>(debugger: &mut Debugger, motion: Motion, out: &mut O) -> Result<(), SessionFault> {
-    match motion {
-        Motion::Step(n) => step(debugger, n, out),
-        Motion::Run => print_run(debugger.run_to_break(MOST_INSTRUCTIONS), out),
-        Motion::Rewind(n) => print_refused(debugger.rewind(n), out),
+    /// Does so many instructions, or fewer where the machine can go no further.
+    fn step<O: Write>(&mut self, n: u64, out: &mut O) -> Result<(), SessionFault> {
+        for _ in 0..n {
+            if !self.step_once(out)? {
+                return Ok(());
+            }
+        }
+        Ok(())
     }
-}
 
-/// Prints where a machine stands, and the registers and the memory that differ from before.
-fn print_stop<O: Write>(
-    before: &Machine,
-    after: &Machine,
-    writable: &[Words],
-    out: &mut O,
-) -> io::Result<()> {
-    print_place(after, out)?;
-    print_changed_registers(before, after, out)?;
-    print_changed_memory(before.space(), after.space(), writable, out)
-}
+    /// Prints why a run stopped.
+    fn print_stopped<O: Write>(&self, stopped: Stopped, out: &mut O) -> io::Result<()> {
+        match stopped {
+            Stopped::Break(number) => writeln!(out, "break {number}"),
+            Stopped::Trap(cause) => self.print_trap(cause, out),
+            Stopped::EndOfTrace => out.write_all(b"end of trace\n"),
+            Stopped::Limit => out.write_all(b"limit\n"),
+        }
+    }
 
-/// Moves the machine, and prints what that comes to.
-pub fn show_motion<O: Write>(
-    alloc: Global,
-    debugger: &mut Debugger,
-    writable: &[Words],
-    motion: Motion,
-    out: &mut O,
-) -> Result<(), SessionFault> {
-    let before = debugger.state().try_clone(alloc)?;
-    go(debugger, motion, out)?;
-    Ok(print_stop(&before, debugger.state(), writable, out)?)
+    /// Runs to a stop. Says whether it has to go on, which it has at the end of a trace that the kernel made longer.
+    fn run_once<O: Write>(&mut self, out: &mut O) -> Result<bool, SessionFault> {
+        let stopped = self.debugger.run_to_break(MOST_INSTRUCTIONS)?;
+        if stopped == Stopped::EndOfTrace {
+            if let Some(longer) = self.answer(out)? {
+                return Ok(longer);
+            }
+        }
+        self.print_stopped(stopped, out)?;
+        Ok(false)
+    }
+
+    /// Runs on, and prints why the run stopped.
+    fn run<O: Write>(&mut self, out: &mut O) -> Result<(), SessionFault> {
+        for _ in 0..MOST_INSTRUCTIONS {
+            if !self.run_once(out)? {
+                return Ok(());
+            }
+        }
+        Ok(())
+    }
+
+    /// Moves the machine, and prints why it stopped, where the command does not say it.
+    fn go<O: Write>(&mut self, motion: Motion, out: &mut O) -> Result<(), SessionFault> {
+        match motion {
+            Motion::Step(n) => self.step(n, out),
+            Motion::Run => self.run(out),
+            Motion::Rewind(n) => print_refused(self.debugger.rewind(n), out),
+        }
+    }
+
+    /// Prints where the machine stands.
+    pub fn print_place<O: Write>(&self, out: &mut O) -> io::Result<()> {
+        print_place_in(self.debugger.state(), self.aids.source.as_ref(), out)
+    }
+
+    /// Prints where the machine stands, and the registers and the memory that differ from before.
+    fn print_stop<O: Write>(&self, before: &Machine, out: &mut O) -> io::Result<()> {
+        let after = self.debugger.state();
+        self.print_place(out)?;
+        print_changed_registers(before, after, out)?;
+        print_changed_memory(before.space(), after.space(), &self.writable, out)
+    }
+
+    /// Moves the machine, and prints what that comes to.
+    pub fn show_motion<O: Write>(
+        &mut self,
+        alloc: Global,
+        motion: Motion,
+        out: &mut O,
+    ) -> Result<(), SessionFault> {
+        let before = self.debugger.state().try_clone(alloc)?;
+        self.go(motion, out)?;
+        Ok(self.print_stop(&before, out)?)
+    }
 }

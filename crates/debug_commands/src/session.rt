@@ -1,12 +1,13 @@
 //! A session: commands line by line, and their answers.
+use crate::aids::Aids;
 use crate::command::{Command, CommandFault, command_of};
 use crate::fault::SessionFault;
-use crate::moving::show_motion;
+use crate::moving::Moved;
 use crate::refusal::print_refusal;
 use crate::registers::print_registers;
-use crate::standing::print_place;
-use crate::writable::{Words, writable_words};
-use debugger::{DebugFault, Debugger, Image, Machine, Reply};
+use crate::showing::print_memory;
+use crate::writable::Writable;
+use debugger::{DebugFault, Debugger, Image, Reply};
 use std::alloc::Global;
 use std::io;
 use std::io::{BufRead, BufReader, Read, Write};
@@ -35,28 +36,29 @@ fn print_cleared<O: Write>(
     }
 }
 
-fn print_state<O: Write>(
-    alloc: Global,
-    machine: &Machine,
-    out: &mut O,
-) -> Result<(), SessionFault> {
-    print_place(machine, out)?;
-    print_registers(alloc, machine, out)
+fn print_state<O: Write>(alloc: Global, moved: &Moved, out: &mut O) -> Result<(), SessionFault> {
+    moved.print_place(out)?;
+    print_registers(alloc, moved.debugger.state(), out)
 }
 
 /// Answers a command, and says whether the session goes on.
 fn answer<O: Write>(
     alloc: Global,
-    debugger: &mut Debugger,
-    writable: &[Words],
+    moved: &mut Moved,
     command: Command,
     out: &mut O,
 ) -> Result<bool, SessionFault> {
     let answered = match command {
-        Command::Move(motion) => show_motion(alloc, debugger, writable, motion, out),
-        Command::Break(at) => print_set(debugger.break_at(at), at, out),
-        Command::Clear(number) => print_cleared(debugger.clear(number as usize), number, out),
-        Command::State => print_state(alloc, debugger.state(), out),
+        Command::Move(motion) => moved.show_motion(alloc, motion, out),
+        Command::Break(at) => print_set(moved.debugger.break_at(at), at, out),
+        Command::Clear(number) => print_cleared(moved.debugger.clear(number as usize), number, out),
+        Command::Show { at, count } => Ok(print_memory(
+            moved.debugger.state().space(),
+            at,
+            count,
+            out,
+        )?),
+        Command::State => print_state(alloc, moved, out),
         Command::Quit => return Ok(false),
     };
     answered?;
@@ -64,7 +66,7 @@ fn answer<O: Write>(
 }
 
 /// The command of a line, as its bytes came; None where the line is blank.
-fn read_command(line: &[u8]) -> Option<Result<Command, CommandFault>> {
+fn read_command(line: &[u8], aids: &Aids) -> Option<Result<Command, CommandFault>> {
     let Ok(text) = str::from_utf8(line) else {
         return Some(Err(CommandFault::Unknown));
     };
@@ -72,24 +74,32 @@ fn read_command(line: &[u8]) -> Option<Result<Command, CommandFault>> {
     if text.is_empty() {
         None
     } else {
-        Some(command_of(text))
+        Some(command_of(text, aids))
     }
+}
+
+/// Prints why a line is no command.
+fn print_fault<O: Write>(fault: CommandFault, aids: &Aids, out: &mut O) -> io::Result<()> {
+    let text = if aids.some() {
+        fault.aided_text()
+    } else {
+        fault.text()
+    };
+    writeln!(out, "{text}")
 }
 
 /// Answers a line, and says whether the session goes on.
 fn answer_line<O: Write>(
     alloc: Global,
-    debugger: &mut Debugger,
-    writable: &[Words],
+    moved: &mut Moved,
     line: &[u8],
     out: &mut O,
 ) -> Result<bool, SessionFault> {
-    match read_command(line) {
+    match read_command(line, &moved.aids) {
         None => Ok(true),
-        Some(Ok(command)) => answer(alloc, debugger, writable, command, out),
+        Some(Ok(command)) => answer(alloc, moved, command, out),
         Some(Err(fault)) => {
-            let text = fault.text();
-            writeln!(out, "{text}")?;
+            print_fault(fault, &moved.aids, out)?;
             Ok(true)
         }
     }
@@ -98,8 +108,7 @@ fn answer_line<O: Write>(
 /// Reads a line and answers it, and says whether the session goes on.
 fn answer_next<B: BufRead, O: Write>(
     alloc: Global,
-    debugger: &mut Debugger,
-    writable: &[Words],
+    moved: &mut Moved,
     lines: &mut B,
     line: &mut Vec<u8>,
     out: &mut O,
@@ -108,7 +117,7 @@ fn answer_next<B: BufRead, O: Write>(
     if lines.read_until(b'\n', line)? == 0 {
         return Ok(false);
     }
-    let goes_on = answer_line(alloc, debugger, writable, line.as_slice(), out)?;
+    let goes_on = answer_line(alloc, moved, line.as_slice(), out)?;
     out.flush()?;
     Ok(goes_on)
 }
@@ -116,52 +125,63 @@ fn answer_next<B: BufRead, O: Write>(
 /// Answers each line of the input before the next is read.
 fn answer_all<B: BufRead, O: Write>(
     alloc: Global,
-    debugger: &mut Debugger,
-    writable: &[Words],
+    moved: &mut Moved,
     lines: &mut B,
     out: &mut O,
 ) -> Result<(), SessionFault> {
     let mut line = Vec::new(alloc);
     for _ in 0..u64::MAX {
-        if !answer_next(alloc, debugger, writable, lines, &mut line, out)? {
+        if !answer_next(alloc, moved, lines, &mut line, out)? {
             return Ok(());
         }
     }
     Ok(())
 }
 
-/// Prints where the machine stands before the first command.
-fn print_start<O: Write>(machine: &Machine, out: &mut O) -> io::Result<()> {
-    print_place(machine, out)?;
+/// Prints what terminals show already, and where the machine stands before the first command.
+fn print_start<O: Write>(moved: &mut Moved, out: &mut O) -> io::Result<()> {
+    if let Some(live) = &mut moved.aids.live {
+        live.print_shown(out)?;
+    }
+    moved.print_place(out)?;
     out.flush()
 }
 
 /// A session with a debugger at a program's first state.
 fn serve<I: Read, O: Write>(
     alloc: Global,
-    debugger: &mut Debugger,
-    writable: &[Words],
+    moved: &mut Moved,
     input: &mut I,
     out: &mut O,
 ) -> Result<(), SessionFault> {
-    print_start(debugger.state(), out)?;
+    print_start(moved, out)?;
     let mut lines = BufReader::new(alloc, input)?;
-    answer_all(alloc, debugger, writable, &mut lines, out)
+    answer_all(alloc, moved, &mut lines, out)
 }
 
 /// A session with a program at its first state, whose calls take these replies. The commands are read from the input, a line each,
 /// and what one gives is flushed before the next is read. They are `step N`, `run`, `break ADDR`, `clear N`, `rewind N`, `state`
 /// and `quit`. A run goes to a breakpoint, a trap, the end of the trace, or 2^40 instructions. The end of the input is `quit`.
 ///
+/// With a kernel the trace ends only where that has no more replies: what terminals show is printed as it shows, and a line says
+/// why there are no more. With a source the line of the next instruction is printed, and `break LABEL` is a command. With either
+/// the address of a trap is printed, and `show ADDR N` is a command.
+///
 /// OutOfMemory and InputOutput end a session.
 pub fn debug<I: Read, O: Write>(
     alloc: Global,
     image: Image,
     replies: Vec<Reply>,
+    aids: Aids,
     input: &mut I,
     out: &mut O,
 ) -> Result<(), SessionFault> {
-    let writable = writable_words(alloc, &image, replies.as_slice())?;
-    let mut debugger = Debugger::new(alloc, image, replies)?;
-    serve(alloc, &mut debugger, writable.as_slice(), input, out)
+    let writable = Writable::new(alloc, &image, replies.as_slice())?;
+    let debugger = Debugger::new(alloc, image, replies)?;
+    let mut moved = Moved {
+        debugger,
+        writable,
+        aids,
+    };
+    serve(alloc, &mut moved, input, out)
 }

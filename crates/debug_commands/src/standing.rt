@@ -1,15 +1,37 @@
 //! Where a machine stands.
 use debugger::Machine;
 use formats::decode;
+use source_lines::SourceLines;
 use std::io;
 use std::io::Write;
 
 /// Prints how many instructions were done, the program counter, and the word there with the instruction that it means.
-pub fn print_place<O: Write>(machine: &Machine, out: &mut O) -> io::Result<()> {
+fn print_place<O: Write>(machine: &Machine, out: &mut O) -> io::Result<()> {
     let count = machine.count();
     let pc = machine.pc();
     write!(out, "count {count}, pc {pc:08x}: ")?;
     print_word_at(machine, pc, out)
+}
+
+/// Prints the line of the source that the word at an address is of, if there is one.
+fn print_line<O: Write>(source: &SourceLines, at: u32, out: &mut O) -> io::Result<()> {
+    match source.line_at(at) {
+        Some((number, text)) => writeln!(out, "  line {number}: {text}"),
+        None => Ok(()),
+    }
+}
+
+/// The same as `print_place`, and then the line of the source, where there is one.
+pub fn print_place_in<O: Write>(
+    machine: &Machine,
+    source: Option<&SourceLines>,
+    out: &mut O,
+) -> io::Result<()> {
+    print_place(machine, out)?;
+    match source {
+        Some(source) => print_line(source, machine.pc(), out),
+        None => Ok(()),
+    }
 }
 
 /// Prints the word at an address, if one may be fetched there.

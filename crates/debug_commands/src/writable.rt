@@ -17,7 +17,8 @@ pub struct Words {
     pub end: u32,
 }
 
-fn words_of(page: u32) -> Words {
+/// The words of a page of this number.
+pub fn words_of(page: u32) -> Words {
     let first = (page % 0x80000) * PAGE_WORDS;
     Words {
         first,
@@ -45,28 +46,51 @@ fn put_writable_pages(pages: &mut Vec<u32>, image: &Image) -> Result<(), AllocEr
     Ok(())
 }
 
-/// The words that the programs of a trace may write, in order and each once: those of their segments' pages with that right, and of
-/// the stack. The programs are the first one and those that a reply brings.
-pub fn writable_words(
-    alloc: Global,
-    image: &Image,
-    replies: &[Reply],
-) -> Result<Vec<Words>, AllocError> {
-    let mut pages = Vec::new(alloc);
-    put_writable_pages(&mut pages, image)?;
-    for reply in replies {
-        if let Some(image) = &reply.image {
-            put_writable_pages(&mut pages, image)?;
+/// The memory that the programs of a trace may write: their segments' pages with that right, and the stack. The programs are the
+/// first one and those that a reply brings.
+pub struct Writable {
+    /// The numbers of the pages, in order and each once.
+    pages: Vec<u32>,
+}
+
+impl Drop for Writable {
+    fn drop(self) {
+        let Writable { pages: _pages } = self;
+    }
+}
+
+impl Writable {
+    /// That of a program and of those that these replies bring.
+    pub fn new(alloc: Global, image: &Image, replies: &[Reply]) -> Result<Writable, AllocError> {
+        let mut pages = Vec::new(alloc);
+        for page in STACK.0..STACK.1 {
+            pages.push(page)?;
+        }
+        let mut writable = Writable { pages };
+        writable.add(image)?;
+        for reply in replies {
+            writable.add_reply(reply)?;
+        }
+        Ok(writable)
+    }
+
+    fn add(&mut self, image: &Image) -> Result<(), AllocError> {
+        put_writable_pages(&mut self.pages, image)?;
+        self.pages.sort_unstable();
+        self.pages.dedup();
+        Ok(())
+    }
+
+    /// Adds that of the program that a reply brings, if it brings one.
+    pub fn add_reply(&mut self, reply: &Reply) -> Result<(), AllocError> {
+        match &reply.image {
+            Some(image) => self.add(image),
+            None => Ok(()),
         }
     }
-    for page in STACK.0..STACK.1 {
-        pages.push(page)?;
+
+    /// The numbers of its pages, in order.
+    pub fn pages(&self) -> &[u32] {
+        self.pages.as_slice()
     }
-    pages.sort_unstable();
-    pages.dedup();
-    let mut words = Vec::new(alloc);
-    for page in &pages {
-        words.push(words_of(*page))?;
-    }
-    Ok(words)
 }

@@ -26,7 +26,9 @@ pub fn zeros(alloc: Global) -> Result<SimDisk, FileFault>
 }
 
 /// The disk in a file. DiskLength where the file has not a disk's 2,097,152 bytes.
-pub fn disk_in<R: Files + AllocGlobal>(rt: &R, path: &str) -> Result<SimDisk, FileFault> {
+pub fn disk_in<R: Files + AllocGlobal>(rt: &R, path: &str) -> Result<SimDisk, FileFault>
+    ensures { IfOk result (λ device. is_quiet device ≡ true) }
+{
     let bytes = bytes_in(rt, path, SIZE)?;
     disk_of(rt.alloc(), &bytes)
 }
@@ -104,14 +106,23 @@ fn replace<R: Files>(rt: &R, path: &str, beside: &str, bytes: &[u8]) -> io::Resu
     fs::rename(rt, beside, path)
 }
 
-/// Keeps a disk in a file. It is written to a file beside it, of the same path with `.new` after it, which then takes its place and
-/// its rights. So whenever the program is killed, the file is whole: as it was, or as it is to be.
-pub fn keep<R: Files + AllocGlobal>(rt: &R, path: &str, device: &SimDisk) -> Result<(), FileFault> {
+/// Writes a file whole. It is written to a file beside it, of the same path with `.new` after it, which then takes its place and its
+/// rights. So whenever the program is killed, the file is whole: as it was, or as it is to be.
+pub fn write_whole<R: Files + AllocGlobal>(
+    rt: &R,
+    path: &str,
+    bytes: &[u8],
+) -> Result<(), FileFault> {
     let beside = beside(rt.alloc(), path)?;
-    if let Err(error) = replace(rt, path, beside.as_str(), device.bytes()) {
+    if let Err(error) = replace(rt, path, beside.as_str(), bytes) {
         // What was written beside it is of no use; where it cannot be removed either, it stays.
         let _ = fs::remove_file(rt, beside.as_str());
         return Err(FileFault::from(error));
     }
     Ok(())
+}
+
+/// Keeps a disk in a file, which is written whole.
+pub fn keep<R: Files + AllocGlobal>(rt: &R, path: &str, device: &SimDisk) -> Result<(), FileFault> {
+    write_whole(rt, path, device.bytes())
 }

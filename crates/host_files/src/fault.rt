@@ -2,6 +2,7 @@
 use assembler::{AsmFault, Cause};
 use debug_commands::SessionFault;
 use elf32::ElfFault;
+use linked_elf::LinkFault;
 use simdisk::DiskRefusal;
 use std::alloc::{AllocError, AllocFailed};
 use std::io;
@@ -13,15 +14,27 @@ pub enum FileFault {
     /// The first fault of a source.
     #[error("source refused: {number} {fault}")]
     Source { number: u8, fault: AsmFault },
+    /// A source that assembles to another image than the one beside which it is given.
+    #[error("source refused: OtherImage: it assembles to another image than the one given")]
+    OtherImage,
     /// A file that holds no image, and the first check that it fails.
     #[error("image refused: {number} {fault}")]
     Image { number: u8, fault: ElfFault },
+    /// An executable that no image can be made of, and why.
+    #[error("executable refused: {0}")]
+    Linked(LinkFault),
+    /// An image that would be written over its own executable.
+    #[error("executable refused: the image would be written over it")]
+    SameFile,
     /// The first line of a trace that is no reply.
     #[error("trace refused at line {line}")]
     Trace { line: usize },
     /// A disk of another length than a disk's.
     #[error("disk refused: 4 BadLength")]
     DiskLength,
+    /// A disk's file that another run has.
+    #[error("disk in use by another run")]
+    DiskInUse,
     #[error("out of memory")]
     OutOfMemory,
     /// A file that cannot be read or is no text, or a stream or a file that cannot be written.
@@ -61,6 +74,15 @@ impl From<ElfFault> for FileFault {
                 number: fault.number(),
                 fault,
             },
+        }
+    }
+}
+
+impl From<LinkFault> for FileFault {
+    fn from(fault: LinkFault) -> FileFault {
+        match fault {
+            LinkFault::OutOfMemory => FileFault::OutOfMemory,
+            fault => FileFault::Linked(fault),
         }
     }
 }

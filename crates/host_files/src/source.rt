@@ -1,6 +1,7 @@
-//! Sources assembled to files of images.
+//! Sources assembled to files of images, and of symbols for gdb.
 use crate::fault::FileFault;
 use assembler::{AsmFault, Cause, assemble};
+use debug_symbols::{SymbolFile, symbol_file};
 use file_reading::bytes_in;
 use machine_model::{Image, Segment};
 use std::alloc::Global;
@@ -9,9 +10,9 @@ use std::io::Write;
 use std::rt::Files;
 
 /// The longest source that is assembled, in bytes.
-const MOST_SOURCE_BYTES: usize = 1_048_576;
+pub const MOST_SOURCE_BYTES: usize = 1_048_576;
 
-/// What comes of a source: the bytes of its image's file, and the line that is printed.
+/// What comes of a source: the bytes of a file, and the line that is printed.
 struct Assembled {
     file: Vec<u8>,
     line: String,
@@ -49,10 +50,10 @@ fn assemble_source(alloc: Global, source: &str) -> Result<Assembled, FileFault> 
     })
 }
 
-/// Assembles the bytes of a source's file, or of its beginning where it is too long. There the last character may be cut short.
-fn assemble_bytes(alloc: Global, bytes: &[u8]) -> Result<Assembled, FileFault> {
+/// The bytes of a source's file as text, or of its beginning where it is too long. There the last character may be cut short.
+pub fn text_of(bytes: &[u8]) -> Result<&str, FileFault> {
     match str::from_utf8(bytes) {
-        Ok(source) => assemble_source(alloc, source),
+        Ok(source) => Ok(source),
         Err(error) if bytes.len() > MOST_SOURCE_BYTES && error.error_len().is_none() => {
             Err(FileFault::from(AsmFault::whole(Cause::TooLarge)))
         }
@@ -60,14 +61,20 @@ fn assemble_bytes(alloc: Global, bytes: &[u8]) -> Result<Assembled, FileFault> {
     }
 }
 
-/// Writes the image of what was assembled to a file, and prints the line.
+/// The text of the source in a file. Of one that is too long no more is read than shows it.
+pub fn source_text<R: Files + AllocGlobal>(rt: &R, path: &str) -> Result<String, FileFault> {
+    let bytes = bytes_in(rt, path, MOST_SOURCE_BYTES)?;
+    Ok(String::from_str(rt.alloc(), text_of(&bytes)?)?)
+}
+
+/// Writes what came of a source to a file, and prints the line.
 fn write_assembled<R: Files, O: Write>(
     rt: &R,
     assembled: &Assembled,
-    image: &str,
+    path: &str,
     out: &mut O,
 ) -> Result<(), FileFault> {
-    fs::write(rt, image, assembled.file.as_slice())?;
+    fs::write(rt, path, assembled.file.as_slice())?;
     let line = assembled.line.as_str();
     writeln!(out, "{line}")?;
     Ok(())
@@ -82,6 +89,33 @@ pub fn assemble_file<R: Files + AllocGlobal, O: Write>(
     out: &mut O,
 ) -> Result<(), FileFault> {
     let bytes = bytes_in(rt, source, MOST_SOURCE_BYTES)?;
-    let assembled = assemble_bytes(rt.alloc(), &bytes)?;
+    let assembled = assemble_source(rt.alloc(), text_of(&bytes)?)?;
     write_assembled(rt, &assembled, image, out)
+}
+
+fn symbols_of(alloc: Global, source: &str, path: &str) -> Result<Assembled, FileFault> {
+    let symbols = symbol_file(alloc, source, path)?;
+    let (labels, words) = (symbols.labels, symbols.words);
+    let SymbolFile {
+        bytes,
+        labels: _,
+        words: _,
+    } = symbols;
+    Ok(Assembled {
+        line: format!(in alloc; "{labels} labels, {words} words of text")?,
+        file: bytes,
+    })
+}
+
+/// Writes what gdb is told of the source in a file to another, and prints how many labels and words of text there are. gdb looks for
+/// the source by the same path.
+pub fn symbols_file<R: Files + AllocGlobal, O: Write>(
+    rt: &R,
+    source: &str,
+    symbols: &str,
+    out: &mut O,
+) -> Result<(), FileFault> {
+    let bytes = bytes_in(rt, source, MOST_SOURCE_BYTES)?;
+    let written = symbols_of(rt.alloc(), text_of(&bytes)?, source)?;
+    write_assembled(rt, &written, symbols, out)
 }

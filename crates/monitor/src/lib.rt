@@ -2,6 +2,7 @@
 //! of it; what it reads and prints is tested.
 #![tactic(auto)]
 
+mod debugging;
 mod program;
 mod running;
 mod script_files;

@@ -1,53 +1,84 @@
 //! The whole program.
+use crate::debugging::debug_live;
 use crate::running::run_images;
 use crate::script_files::{
     explore_file, picture_file, replay_cone_file, replay_file, replay_input,
 };
 use clap::Error;
 use clap::error::ErrorKind;
-use command_line::{Task, parse};
-use host_files::{assemble_file, debug_file, list_file};
+use command_line::{Asked, Task, parse};
+use explanations::explain;
+use host_files::{assemble_file, check_file, debug_file, image_file, list_file, symbols_file};
 use run_files::{Fault, list_files, write_line};
+use std::fs::File;
 use std::io;
 use std::io::{BufWriter, Read, Write};
 use std::rt::Files;
 use std::sync::Wait;
 use std::thread::Threads;
 
-fn perform<R: Files + AllocGlobal + Threads + Wait + Sync, I: Read, O: Write, E: Write>(
-    rt: &R,
-    task: &Task<'_>,
-    input: &mut I,
-    out: &mut O,
-    err: &mut E,
-) -> Result<(), Fault> {
-    match task {
-        Task::ReplayInput => replay_input(rt, input, out),
-        Task::ReplayFile(path) => replay_file(rt, path, out),
-        Task::ReplayCone { script, event } => replay_cone_file(rt, script, *event, out),
-        Task::Picture { script, cone } => picture_file(rt, script, *cone, out),
-        Task::Crashes { script, expect } => explore_file(rt, script, *expect, out),
-        Task::Assemble { source, image } => Ok(assemble_file(rt, source, image, out)?),
-        Task::List(path) => Ok(list_file(rt, path, out)?),
-        Task::Debug { image, trace } => Ok(debug_file(rt, image, *trace, input, out)?),
-        Task::Disk(path) => list_files(rt, path, out),
-        Task::Run(options) => run_images(rt, options, out, err),
+/// Does what is asked for, and gives the exit status where all went well.
+fn perform<
+    R: Files<File = File> + AllocGlobal + Threads + Wait + Sync,
+    I: Read,
+    O: Write,
+    E: Write,
+>(rt: &R, asked: &Asked<'_>, input: &mut I, out: &mut O, err: &mut E) -> Result<u8, Fault> {
+    match &asked.task {
+        Task::ReplayInput => replay_input(rt, input, out)?,
+        Task::ReplayFile(path) => replay_file(rt, path, out)?,
+        Task::ReplayCone { script, event } => replay_cone_file(rt, script, *event, out)?,
+        Task::Picture { script, cone } => picture_file(rt, script, *cone, out)?,
+        Task::Crashes { script, expect } => explore_file(rt, script, *expect, out)?,
+        Task::Assemble { source, image } => assemble_file(rt, source, image, out)?,
+        Task::Check(path) => check_file(rt, path, out)?,
+        Task::Image { linked, image } => image_file(rt, linked, image, out)?,
+        Task::Symbols { source, symbols } => symbols_file(rt, source, symbols, out)?,
+        Task::List(path) => list_file(rt, path, out)?,
+        Task::Debug {
+            image,
+            trace,
+            source,
+        } => debug_file(rt, image, *trace, *source, input, out)?,
+        Task::DebugLive(options) => debug_live(rt, options, input, out)?,
+        Task::Disk(path) => list_files(rt, path, out)?,
+        Task::Run(options) => return run_images(rt, options, asked.explain, input, out, err),
     }
+    Ok(0)
 }
 
-/// Does a task. What it printed goes out, also where a fault ends it early.
-fn run<R: Files + AllocGlobal + Threads + Wait + Sync, I: Read, O: Write, E: Write>(
+/// Does what is asked for. What it printed goes out, also where a fault ends it early.
+fn run<R: Files<File = File> + AllocGlobal + Threads + Wait + Sync, I: Read, O: Write, E: Write>(
     rt: &R,
-    task: &Task<'_>,
+    asked: &Asked<'_>,
     input: &mut I,
     out: &mut O,
     err: &mut E,
-) -> Result<(), Fault> {
-    let done = perform(rt, task, input, out, err);
+) -> Result<u8, Fault> {
+    let done = perform(rt, asked, input, out, err);
     let flushed = out.flush();
-    done?;
+    let status = done?;
     flushed?;
-    Ok(())
+    Ok(status)
+}
+
+/// The end of what was asked for: a fault's line, and where it is to be explained a line more that says why.
+fn end_asked<R: Files + AllocGlobal, E: Write>(
+    rt: &R,
+    asked: &Asked<'_>,
+    done: Result<u8, Fault>,
+    err: &mut E,
+) -> u8 {
+    let fault = match done {
+        Ok(status) => return status,
+        Err(fault) => fault,
+    };
+    let status = end(fault, err);
+    if asked.explain {
+        // As with the line before it, the status tells where this one cannot be written.
+        let _ = explain(rt, &asked.task, fault, err);
+    }
+    status
 }
 
 /// The end of a run that a fault cut short: prints its line, and gives its status.
@@ -89,7 +120,7 @@ pub fn end_without_arguments<E: Write>(error: &io::Error, err: &mut E) -> u8 {
 }
 
 /// Does what the words ask for, and gives the exit status.
-fn obey<R: Files + AllocGlobal + Threads + Wait + Sync, I: Read, O: Write, E: Write>(
+fn obey<R: Files<File = File> + AllocGlobal + Threads + Wait + Sync, I: Read, O: Write, E: Write>(
     rt: &R,
     words: &[String],
     input: &mut I,
@@ -98,23 +129,22 @@ fn obey<R: Files + AllocGlobal + Threads + Wait + Sync, I: Read, O: Write, E: Wr
 ) -> u8 {
     match parse(rt.alloc(), words) {
         Err(error) => end_usage(&error, out, err),
-        Ok(task) => match run(rt, &task, input, out, err) {
-            Ok(()) => 0,
-            Err(fault) => end(fault, err),
-        },
+        Ok(asked) => {
+            let done = run(rt, &asked, input, out, err);
+            end_asked(rt, &asked, done, err)
+        }
     }
 }
 
 /// The whole program: it does what the words, the program's name aside, ask for, and gives the exit status. Without words it
 /// replays the script on the input. What it prints goes to `out` through a buffer, which has gone out before anything is written to
 /// `err` and before the status is given. One line on `err` says why it ended early.
-pub fn bench<R: Files + AllocGlobal + Threads + Wait + Sync, I: Read, O: Write, E: Write>(
-    rt: &R,
-    words: &[String],
-    input: &mut I,
-    out: &mut O,
-    err: &mut E,
-) -> u8 {
+pub fn bench<
+    R: Files<File = File> + AllocGlobal + Threads + Wait + Sync,
+    I: Read,
+    O: Write,
+    E: Write,
+>(rt: &R, words: &[String], input: &mut I, out: &mut O, err: &mut E) -> u8 {
     match BufWriter::new(rt.alloc(), out) {
         Ok(mut out) => {
             let status = obey(rt, words, input, &mut out, err);

@@ -1,9 +1,11 @@
 //! Runs of images by many workers.
 use command_line::{RunNumbers, RunOptions};
-use executor::{Settings, run};
+use durable_disk::HostFile;
+use executor::{RunFault, Settings, run, run_durable};
 use kernel::Core;
-use run_files::{Fault, boot, keep_disk, print_processes};
-use std::io::Write;
+use run_files::{Fault, boot, keep_disk, print_processes, status_of};
+use std::fs::File;
+use std::io::{Read, Write};
 use std::rt::Files;
 use std::sync::Wait;
 use std::thread::Threads;
@@ -22,24 +24,66 @@ fn has_failed(core: &Core) -> bool {
     core.committed() < core.changes()
 }
 
-/// Runs images to their end. What the terminal shows is printed as it is shown. Then `err` gets a line about each process. Then the
-/// disk is kept, if it is to be, also where `err` took no line. DiskFailed where a write of the disk has failed: it comes after all
-/// this, and the disk is kept as a crash would leave it that keeps nothing of what was in flight.
-pub fn run_images<R: Files + AllocGlobal + Threads + Wait + Sync, O: Write, E: Write>(
+/// Runs the core of a run, on the file that holds its disk, if the run is durable.
+fn run_core<R: Threads + Wait + Sync + AllocGlobal, O: Write>(
+    rt: &R,
+    core: Core,
+    file: Option<HostFile>,
+    settings: Settings,
+    out: &mut O,
+) -> Result<Core, RunFault> {
+    match file {
+        Some(file) => run_durable(rt, rt.alloc(), core, settings, file, out),
+        None => run(rt, rt.alloc(), core, settings, out),
+    }
+}
+
+/// Runs a core to its end, tells of its processes, and keeps its disk, if it is to be kept at the end.
+fn run_to_end<R: Files<File = File> + AllocGlobal + Threads + Wait + Sync, O: Write, E: Write>(
     rt: &R,
     options: &RunOptions<'_>,
+    core: Core,
+    file: Option<HostFile>,
+    explain: bool,
     out: &mut O,
     err: &mut E,
-) -> Result<(), Fault> {
-    let core = boot(rt, options)?;
-    let core = run(rt, rt.alloc(), core, settings_of(options.numbers), out)?;
+) -> Result<u8, Fault> {
+    let core = run_core(rt, core, file, settings_of(options.numbers), out)?;
     out.flush()?;
-    let told = print_processes(&core, err);
+    let told = print_processes(&core, explain, err);
     let has_failed = has_failed(&core);
-    keep_disk(rt, options.disk, core)?;
+    let status = options.status.map_or(0, |pid| status_of(&core, pid));
+    if !options.is_durable {
+        keep_disk(rt, options.disk, core)?;
+    }
     told?;
     if has_failed {
         return Err(Fault::DiskFailed);
     }
-    Ok(())
+    Ok(status)
+}
+
+/// Runs images to their end. What the terminal shows is printed as it is shown. Then `err` gets a line about each process. Then the
+/// disk is kept, if it is to be, also where `err` took no line; the file of a durable run holds it already. DiskFailed where a write
+/// of the disk has failed: it comes after all this, and the disk is kept as a crash would leave it that keeps nothing of what was in
+/// flight. Gives the exit status where all went well: that of a process, if the options name one, else 0.
+pub fn run_images<
+    R: Files<File = File> + AllocGlobal + Threads + Wait + Sync,
+    I: Read,
+    O: Write,
+    E: Write,
+>(
+    rt: &R,
+    options: &RunOptions<'_>,
+    explain: bool,
+    input: &mut I,
+    out: &mut O,
+    err: &mut E,
+) -> Result<u8, Fault> {
+    let (core, lock, file) = boot(rt, options, input)?;
+    let done = run_to_end(rt, options, core, file, explain, out, err);
+    if let Some(lock) = lock {
+        lock.release(rt);
+    }
+    done
 }

@@ -20,6 +20,9 @@ pub enum Fault {
     /// The event of this number has no cone: there is none, or it is one of the disk.
     #[error("bench: event refused: {event}")]
     Event { event: u64 },
+    /// A process that does not come to be.
+    #[error("bench: process refused: NoProcess: no process {process} comes to be")]
+    Process { process: u32 },
     /// What a file holds is refused.
     #[error("bench: {0}")]
     File(FileFault),
@@ -41,10 +44,15 @@ pub enum Fault {
 
 fn file_status(fault: &FileFault) -> u8 {
     match fault {
-        FileFault::Source { .. } | FileFault::Image { .. } | FileFault::Trace { .. } => 2,
+        FileFault::Source { .. }
+        | FileFault::OtherImage
+        | FileFault::Image { .. }
+        | FileFault::Linked(_)
+        | FileFault::SameFile
+        | FileFault::Trace { .. } => 2,
         FileFault::DiskLength => 3,
         FileFault::OutOfMemory => 5,
-        FileFault::InputOutput => 6,
+        FileFault::DiskInUse | FileFault::InputOutput => 6,
     }
 }
 
@@ -53,7 +61,7 @@ impl Fault {
     pub fn status(&self) -> u8 {
         match self {
             Fault::Argument => 1,
-            Fault::Script { .. } | Fault::Event { .. } => 2,
+            Fault::Script { .. } | Fault::Event { .. } | Fault::Process { .. } => 2,
             Fault::File(fault) => file_status(fault),
             Fault::Expectation(fault) => fault.status(),
             Fault::Disk { .. } => 3,

@@ -3,6 +3,18 @@ use crate::fault::Fault;
 use crate::whole_line::write_line;
 use kernel::{Core, Refused, Standing};
 use std::io::Write;
+use trap_reports::trap_report;
+
+/// Prints of a process that ended by a trap what that was about. An end that is held back tells nothing.
+fn print_trap<E: Write>(core: &Core, pid: u32, err: &mut E) -> Result<(), Fault> {
+    if let Ok(Some(_)) = core.ended(pid)
+        && let Ok(machine) = core.machine(pid)
+        && let Some(report) = trap_report(machine)
+    {
+        write_line(err, format_args!("process {pid}: {report}"))?;
+    }
+    Ok(())
+}
 
 /// Prints the status with which a process ended, or that it is held back.
 fn print_end<E: Write>(
@@ -33,12 +45,16 @@ fn print_process<E: Write>(
     }
 }
 
-/// Prints a line for each process, each at once, by rising number, up to the first number without a process.
-pub fn print_processes<E: Write>(core: &Core, err: &mut E) -> Result<(), Fault> {
+/// Prints a line for each process, each at once, by rising number, up to the first number without a process. Where it is to be
+/// explained, a line about its trap follows that of a process that ended by one.
+pub fn print_processes<E: Write>(core: &Core, explain: bool, err: &mut E) -> Result<(), Fault> {
     for pid in 1..=u32::MAX {
         match core.standing(pid) {
             Ok(standing) => print_process(core, pid, standing, err)?,
             Err(_) => return Ok(()),
+        }
+        if explain {
+            print_trap(core, pid, err)?;
         }
     }
     Ok(())

@@ -6,31 +6,68 @@ ghost use Rattle.kernel_model.specs.World.{most_programs, tape_count, terminal_c
 
 use crate::fault::Fault;
 use byte_list::Bytes;
-use command_line::RunOptions;
+use command_line::{LiveOptions, RunOptions};
+use durable_disk::HostFile;
 use file_reading::bytes_in;
-use host_files::{disk_or_zeros, image_in, keep, test_place, zeros};
+use host_files::{
+    DiskLock, FileFault, disk_or_zeros, image_in, keep, open_durable, test_place, zeros,
+};
 use kernel::{Core, Program, SimDisk};
+use machine_model::Image;
 use scripts::MOST_TAPE_BYTES;
+use std::alloc::Global;
+use std::fs::File;
+use std::io::{self, Read};
 use std::rt::Files;
 
-/// The tape in a file. InputOutput where the file is longer than a tape may be.
-fn tape_in<R: Files + AllocGlobal>(rt: &R, path: &str) -> Result<Bytes, Fault> {
-    let bytes = bytes_in(rt, path, MOST_TAPE_BYTES)?;
+/// The bytes of a reader to its end, or of its beginning where it has more than a tape may have.
+fn tape_bytes<I: Read>(alloc: Global, input: &mut I) -> io::Result<Vec<u8>> {
+    let mut bytes = Vec::new(alloc);
+    input
+        .take((MOST_TAPE_BYTES as u64).saturating_add(1))
+        .read_to_end(&mut bytes)?;
+    Ok(bytes)
+}
+
+/// A tape of these bytes. InputOutput where they are more than a tape may have.
+fn tape_of(bytes: Vec<u8>) -> Result<Bytes, Fault> {
     if bytes.len() > MOST_TAPE_BYTES {
         return Err(Fault::InputOutput);
     }
     Ok(Bytes::new(bytes))
 }
 
-/// The tapes of a run: the first one, from a file, or none.
-fn tapes_in<R: Files + AllocGlobal>(rt: &R, path: Option<&str>) -> Result<Vec<Bytes>, Fault>
+/// The tape in a file; by `-` what is left of the input. InputOutput where there is more than a tape may have.
+fn tape_in<R: Files + AllocGlobal, I: Read>(
+    rt: &R,
+    path: &str,
+    input: &mut I,
+) -> Result<Bytes, Fault> {
+    let bytes = match path {
+        "-" => tape_bytes(rt.alloc(), input)?,
+        path => bytes_in(rt, path, MOST_TAPE_BYTES)?,
+    };
+    tape_of(bytes)
+}
+
+/// The tapes of a run, in order; one without a file is empty.
+fn tapes_in<R: Files + AllocGlobal, I: Read>(
+    rt: &R,
+    paths: &[Option<&str>],
+    input: &mut I,
+) -> Result<Vec<Bytes>, Fault>
+    requires { length paths.now ≤ tape_count }
     ensures { IfOk result (λ tapes. length tapes.items ≤ tape_count) }
 {
-    let alloc = rt.alloc();
-    match path {
-        Some(path) => Ok(vec![in alloc; tape_in(rt, path)?]?),
-        None => Ok(Vec::new(alloc)),
+    let mut tapes = Vec::new(rt.alloc());
+    for path in paths {
+        let tape = match path {
+            Some(path) => tape_in(rt, path, input)?,
+            None => Bytes::new(Vec::new(rt.alloc())),
+        };
+        tapes.push(tape)?;
     }
+    Ok(tapes)
 }
 
 /// The programs of images, each with the terminal of its place.
@@ -48,7 +85,97 @@ fn programs_in<R: Files + AllocGlobal>(rt: &R, paths: &[&str]) -> Result<Vec<Pro
     Ok(programs)
 }
 
-/// The disk of a run: that of a file, or zeros.
+/// What a run begins with: its core; the lock of its disk's file, if the disk is kept; and that file, of a durable run.
+pub type Setup = (Core, Option<DiskLock>, Option<HostFile>);
+
+/// The disk of a path, with its file, where the run is durable. Else it is at last tested whether the disk can be kept, so that no
+/// long run is lost at its end.
+fn core_at<R: Files<File = File> + AllocGlobal>(
+    rt: &R,
+    path: &str,
+    is_durable: bool,
+    programs: Vec<Program>,
+    tapes: Vec<Bytes>,
+) -> Result<(Core, Option<HostFile>), Fault>
+    requires tapes { length tapes.items ≤ tape_count }
+    requires some { 1 ≤ length programs.items }
+    requires programs { length programs.items ≤ most_programs }
+    requires terminals { AllByRecursion (λ p. p.terminal < terminal_count) programs.items }
+{
+    if is_durable {
+        let (file, device) = open_durable(rt, path)?;
+        let core = Core::boot(rt.alloc(), device, programs, tapes)?;
+        return Ok((core, Some(file)));
+    }
+    let device = disk_or_zeros(rt, path)?;
+    let core = Core::boot(rt.alloc(), device, programs, tapes)?;
+    test_place(rt, path)?;
+    Ok((core, None))
+}
+
+/// Tests whether the disk of a path can be read.
+fn test_disk<R: Files + AllocGlobal>(rt: &R, path: &str) -> Result<(), Fault> {
+    let device = disk_or_zeros(rt, path)?;
+    journal::recover(rt.alloc(), &device)?;
+    Ok(())
+}
+
+/// Why a disk whose file cannot be locked is refused: by its own first fault, if it has one.
+fn refusal_at<R: Files + AllocGlobal>(rt: &R, path: &str, fault: FileFault) -> Fault {
+    if matches!(fault, FileFault::DiskInUse) {
+        return Fault::from(fault);
+    }
+    match test_disk(rt, path) {
+        Ok(()) => Fault::from(fault),
+        Err(first) => first,
+    }
+}
+
+/// The core on the disk of a path, which is locked. The lock goes where a fault ends the run.
+fn setup_at<R: Files<File = File> + AllocGlobal>(
+    rt: &R,
+    path: &str,
+    is_durable: bool,
+    programs: Vec<Program>,
+    tapes: Vec<Bytes>,
+) -> Result<Setup, Fault>
+    requires tapes { length tapes.items ≤ tape_count }
+    requires some { 1 ≤ length programs.items }
+    requires programs { length programs.items ≤ most_programs }
+    requires terminals { AllByRecursion (λ p. p.terminal < terminal_count) programs.items }
+{
+    let lock = match DiskLock::take(rt, path) {
+        Ok(lock) => lock,
+        Err(fault) => return Err(refusal_at(rt, path, fault)),
+    };
+    match core_at(rt, path, is_durable, programs, tapes) {
+        Ok((core, file)) => Ok((core, Some(lock), file)),
+        Err(fault) => {
+            lock.release(rt);
+            Err(fault)
+        }
+    }
+}
+
+/// Boots the core of a run. The tapes are read first, in order, then the images in order, then the disk, which no other run may have. At last it
+/// is tested whether the disk can be kept. The first fault ends it.
+pub fn boot<R: Files<File = File> + AllocGlobal, I: Read>(
+    rt: &R,
+    options: &RunOptions<'_>,
+    input: &mut I,
+) -> Result<Setup, Fault> {
+    let tapes = tapes_in(rt, options.tapes.as_slice(), input)?;
+    let programs = programs_in(rt, options.images.as_slice())?;
+    match options.disk {
+        Some(path) => setup_at(rt, path, options.is_durable, programs, tapes),
+        None => {
+            let device = zeros(rt.alloc())?;
+            Ok((Core::boot(rt.alloc(), device, programs, tapes)?, None, None))
+        }
+    }
+}
+
+/// The disk of a session: that of a file, or zeros.
 fn device_in<R: Files + AllocGlobal>(rt: &R, path: Option<&str>) -> Result<SimDisk, Fault>
     ensures { IfOk result (λ device. is_quiet device ≡ true) }
 {
@@ -58,22 +185,40 @@ fn device_in<R: Files + AllocGlobal>(rt: &R, path: Option<&str>) -> Result<SimDi
     }
 }
 
-/// The core of a run, on its tape, its images and its disk.
-fn core_in<R: Files + AllocGlobal>(rt: &R, options: &RunOptions<'_>) -> Result<Core, Fault> {
-    let tapes = tapes_in(rt, options.tape)?;
-    let programs = programs_in(rt, options.images.as_slice())?;
-    let device = device_in(rt, options.disk)?;
-    Ok(Core::boot(rt.alloc(), device, programs, tapes)?)
+/// The tapes of a session: the first one, from a file, or none.
+fn session_tapes<R: Files + AllocGlobal>(rt: &R, path: Option<&str>) -> Result<Vec<Bytes>, Fault>
+    ensures { IfOk result (λ tapes. length tapes.items ≤ tape_count) }
+{
+    let alloc = rt.alloc();
+    match path {
+        Some(path) => {
+            let tape = tape_of(bytes_in(rt, path, MOST_TAPE_BYTES)?)?;
+            Ok(vec![in alloc; tape]?)
+        }
+        None => Ok(Vec::new(alloc)),
+    }
 }
 
-/// Boots the core of a run. The tape is read first, then the images in order, then the disk. At last it is tested whether the disk
-/// can be kept, so that no long run is lost at its end. The first fault ends it.
-pub fn boot<R: Files + AllocGlobal>(rt: &R, options: &RunOptions<'_>) -> Result<Core, Fault> {
-    let core = core_in(rt, options)?;
-    if let Some(path) = options.disk {
-        test_place(rt, path)?;
+/// The images of programs once more.
+fn images_of(alloc: Global, programs: &[Program]) -> Result<Vec<Image>, Fault> {
+    let mut images = Vec::new(alloc);
+    for program in programs {
+        images.push(program.image.try_clone(alloc)?)?;
     }
-    Ok(core)
+    Ok(images)
+}
+
+/// Boots the core of a session that is debugged, and gives the images too. All is read as by `boot`, and nothing is written.
+pub fn boot_live<R: Files + AllocGlobal>(
+    rt: &R,
+    options: &LiveOptions<'_>,
+) -> Result<(Core, Vec<Image>), Fault> {
+    let tapes = session_tapes(rt, options.tape)?;
+    let programs = programs_in(rt, options.images.as_slice())?;
+    let images = images_of(rt.alloc(), programs.as_slice())?;
+    let device = device_in(rt, options.disk)?;
+    let core = Core::boot(rt.alloc(), device, programs, tapes)?;
+    Ok((core, images))
 }
 
 /// Halts the core, and keeps the disk that it leaves, if it is to be kept.

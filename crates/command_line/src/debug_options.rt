@@ -1,0 +1,108 @@
+//! The command `debug`, and its options.
+use crate::rows::{ArgumentRow, CommandRow, Form, NumberRow};
+use crate::run_options::{ImagePaths, images_of, small_number};
+use clap::ArgMatches;
+use std::alloc::{AllocError, Global};
+
+/// What is debugged while a kernel answers its calls.
+#[derive(Drop)]
+pub struct LiveOptions<'a> {
+    /// The number of the process that is debugged, from 1.
+    pub process: u32,
+    /// The path of what stands on tape 0, if anything does.
+    pub tape: Option<&'a str>,
+    /// The path of the disk's file, if there is one.
+    pub disk: Option<&'a str>,
+    /// The path of the source of the process's image, if it is given.
+    pub source: Option<&'a str>,
+    pub images: ImagePaths<'a>,
+}
+
+/// The command `debug`.
+pub const DEBUG: CommandRow = CommandRow {
+    name: "debug",
+    whole: "bench debug",
+    about: "Debug an image, by commands on standard input",
+    arguments: &[
+        ArgumentRow {
+            name: "IMAGE",
+            help: "the image's file; with --live the files of 1 to 8 images, for the terminals 0, 1, ..",
+            form: Form::Images,
+        },
+        ArgumentRow {
+            name: "trace",
+            help: "the replies that its calls take",
+            form: Form::Option("FILE"),
+        },
+        ArgumentRow {
+            name: "live",
+            help: "let a kernel answer its calls, and print what terminals show",
+            form: Form::Flag,
+        },
+        ArgumentRow {
+            name: "process",
+            help: "with --live, the process that is debugged, 1 to 1024; 1 if it is not given",
+            form: Form::Number(NumberRow {
+                value: "P",
+                least: 1,
+                most: 1024,
+                default: None,
+            }),
+        },
+        ArgumentRow {
+            name: "tape",
+            help: "with --live, what the first image's program may read",
+            form: Form::Option("FILE"),
+        },
+        ArgumentRow {
+            name: "disk",
+            help: "with --live, the disk's file, zeros if there is none; it is not written",
+            form: Form::Option("FILE"),
+        },
+        ArgumentRow {
+            name: "source",
+            help: "the source that assembles to the image; its lines are printed, and its labels name addresses",
+            form: Form::Option("FILE"),
+        },
+    ],
+};
+
+/// Why the options of the command do not go together, if they do not.
+pub fn debug_conflict(matches: &ArgMatches<'_>, images: usize) -> Option<&'static str> {
+    if matches.get_flag("live") {
+        return matches.get_str("trace").map(
+            |_| "the argument '--live' cannot be used with '--trace <FILE>'",
+        );
+    }
+    if matches.get_str("process").is_some() {
+        return Some("the argument '--process <P>' cannot be used without '--live'");
+    }
+    if matches.get_str("tape").is_some() {
+        return Some("the argument '--tape <FILE>' cannot be used without '--live'");
+    }
+    if matches.get_str("disk").is_some() {
+        return Some("the argument '--disk <FILE>' cannot be used without '--live'");
+    }
+    if images > 1 {
+        return Some("more than one image cannot be used without '--live'");
+    }
+    None
+}
+
+/// The options of a session in which a kernel answers. None where there are more than 8 images, or an argument is missing.
+pub fn live_options<'a>(
+    alloc: Global,
+    matches: &ArgMatches<'a>,
+) -> Result<Option<LiveOptions<'a>>, AllocError> {
+    let process = small_number(matches, "process").unwrap_or(1);
+    let Some(images) = images_of(alloc, matches)? else {
+        return Ok(None);
+    };
+    Ok(Some(LiveOptions {
+        process,
+        tape: matches.get_str("tape"),
+        disk: matches.get_str("disk"),
+        source: matches.get_str("source"),
+        images,
+    }))
+}

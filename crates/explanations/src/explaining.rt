@@ -1,0 +1,271 @@
+//! Which file a refusal is about, and the reason.
+use crate::image_reason::image_reason;
+use crate::input_output::file_reason;
+use crate::lines::line_reason;
+use crate::task_files::{Role, TaskFile, files_of};
+use command_line::Task;
+use crash_outcomes::ExpectationFault;
+use elf32::ElfFault;
+use file_reading::{bytes_in, image_file_in};
+use host_files::{FileFault, source_reason};
+use run_files::{Fault, write_line};
+use simdisk::SIZE;
+use std::fs;
+use std::io::Write;
+use std::rt::Files;
+
+/// A file, and the reason for which it is refused. The path is empty where it is no file.
+#[derive(Drop)]
+struct Reason {
+    path: String,
+    why: String,
+}
+
+fn about<R: AllocGlobal>(rt: &R, path: &str, why: &str) -> Result<Option<Reason>, Fault> {
+    Ok(Some(Reason {
+        path: String::from_str(rt.alloc(), path)?,
+        why: String::from_str(rt.alloc(), why)?,
+    }))
+}
+
+/// The path of the first file with this role.
+fn path_of<'a>(files: &[TaskFile<'a>], role: Role) -> Option<&'a str> {
+    let file = files.iter().find(|file| file.role == role)?;
+    Some(file.path)
+}
+
+/// The path of an image that a line of a script names, if it names one.
+fn image_path(line: &str) -> Option<&str> {
+    let rest = line.trim_start().strip_prefix("image ")?;
+    let (_terminal, path) = rest.trim_start().split_once(' ')?;
+    Some(path.trim_ascii())
+}
+
+/// Why the file of this path is no image, if it is none.
+fn image_at<R: Files + AllocGlobal>(rt: &R, path: &str) -> Result<Option<Reason>, Fault> {
+    let file = image_file_in(rt, path)?;
+    let fault = match elf32::parse(rt.alloc(), &file) {
+        Ok(_image) => return Ok(None),
+        Err(ElfFault::OutOfMemory) => return Err(Fault::OutOfMemory),
+        Err(fault) => fault,
+    };
+    match image_reason(rt.alloc(), &file, fault)? {
+        Some(why) => about(rt, path, why.as_str()),
+        None => Ok(None),
+    }
+}
+
+/// The first image of a script that is none.
+fn script_image<R: Files + AllocGlobal>(rt: &R, script: &str) -> Result<Option<Reason>, Fault> {
+    let text = fs::read_to_string(rt, script)?;
+    for line in text.as_str().lines() {
+        if let Some(path) = image_path(line)
+            && let Some(found) = image_at(rt, path)?
+        {
+            return Ok(Some(found));
+        }
+    }
+    Ok(None)
+}
+
+/// The first image that is none.
+fn first_image<R: Files + AllocGlobal>(
+    rt: &R,
+    files: &[TaskFile<'_>],
+) -> Result<Option<Reason>, Fault> {
+    for file in files {
+        let found = match file.role {
+            Role::Image => image_at(rt, file.path)?,
+            Role::Script => script_image(rt, file.path)?,
+            _ => None,
+        };
+        if found.is_some() {
+            return Ok(found);
+        }
+    }
+    Ok(None)
+}
+
+/// The line of a file that is refused.
+fn line_at<R: Files + AllocGlobal>(
+    rt: &R,
+    files: &[TaskFile<'_>],
+    role: Role,
+    line: usize,
+    why: &str,
+) -> Result<Option<Reason>, Fault> {
+    let Some(path) = path_of(files, role) else {
+        return Ok(None);
+    };
+    let text = fs::read_to_string(rt, path)?;
+    let said = line_reason(rt.alloc(), text.as_str(), line, why)?;
+    about(rt, path, said.as_str())
+}
+
+fn source_at<R: Files + AllocGlobal>(
+    rt: &R,
+    files: &[TaskFile<'_>],
+) -> Result<Option<Reason>, Fault> {
+    let Some(path) = path_of(files, Role::Source) else {
+        return Ok(None);
+    };
+    match source_reason(rt, path)? {
+        Some(why) => about(rt, path, why.as_str()),
+        None => Ok(None),
+    }
+}
+
+/// The path of the disk of a task, if it has one.
+fn disk_path<'a>(files: &[TaskFile<'a>]) -> Option<&'a str> {
+    path_of(files, Role::Disk).or(path_of(files, Role::KeptDisk))
+}
+
+fn disk_length<R: Files + AllocGlobal>(
+    rt: &R,
+    files: &[TaskFile<'_>],
+) -> Result<Option<Reason>, Fault> {
+    let Some(path) = disk_path(files) else {
+        return Ok(None);
+    };
+    let count = bytes_in(rt, path, SIZE)?.len();
+    if count > SIZE {
+        return about(rt, path, "a disk has 2097152 bytes, and this file has more");
+    }
+    let why = format!(in rt.alloc(); "a disk has 2097152 bytes, and this file has {count}")?;
+    about(rt, path, why.as_str())
+}
+
+/// The first file that cannot be read or written.
+fn first_unusable<R: Files + AllocGlobal>(
+    rt: &R,
+    files: &[TaskFile<'_>],
+) -> Result<Option<Reason>, Fault> {
+    for file in files {
+        if let Some(why) = file_reason(rt, *file)? {
+            return about(rt, file.path, why.as_str());
+        }
+    }
+    about(
+        rt,
+        "",
+        "standard input could not be read as text, or standard output not be written",
+    )
+}
+
+fn file_fault<R: Files + AllocGlobal>(
+    rt: &R,
+    files: &[TaskFile<'_>],
+    fault: FileFault,
+) -> Result<Option<Reason>, Fault> {
+    match fault {
+        FileFault::Source { .. } => source_at(rt, files),
+        FileFault::Image { .. } => first_image(rt, files),
+        FileFault::Trace { line } => line_at(rt, files, Role::Trace, line, "is no reply"),
+        FileFault::Linked(fault) => {
+            let why = format!(in rt.alloc(); "{fault}")?;
+            said_of(rt, path_of(files, Role::Linked), why.as_str())
+        }
+        FileFault::SameFile => said_of(
+            rt,
+            path_of(files, Role::Written),
+            "the image would be written over the executable",
+        ),
+        FileFault::OtherImage => said_of(
+            rt,
+            path_of(files, Role::Source),
+            "it assembles to another image than the one given",
+        ),
+        FileFault::DiskLength => disk_length(rt, files),
+        FileFault::DiskInUse => said_of(
+            rt,
+            disk_path(files),
+            "another run has this disk, and ends before the next may begin",
+        ),
+        FileFault::OutOfMemory => no_room(rt),
+        FileFault::InputOutput => first_unusable(rt, files),
+    }
+}
+
+fn no_room<R: AllocGlobal>(rt: &R) -> Result<Option<Reason>, Fault> {
+    about(
+        rt,
+        "",
+        "the host gave no more memory, or no thread; or the run has 2^40 events",
+    )
+}
+
+/// What is said of a file of this role.
+fn said_of<R: AllocGlobal>(rt: &R, path: Option<&str>, why: &str) -> Result<Option<Reason>, Fault> {
+    match path {
+        Some(path) => about(rt, path, why),
+        None => about(rt, "", why),
+    }
+}
+
+fn reason_of<R: Files + AllocGlobal>(
+    rt: &R,
+    files: &[TaskFile<'_>],
+    fault: Fault,
+) -> Result<Option<Reason>, Fault> {
+    match fault {
+        Fault::Argument => Ok(None),
+        Fault::Script { line } => line_at(
+            rt,
+            files,
+            Role::Script,
+            line,
+            "has no form, or may not stand there",
+        ),
+        Fault::Event { .. } => said_of(
+            rt,
+            path_of(files, Role::Script),
+            "since the last boot it has no such event, or that is one of the disk",
+        ),
+        Fault::Process { .. } => about(
+            rt,
+            "",
+            "the images, and what they fork, make no process of this number",
+        ),
+        Fault::File(fault) => file_fault(rt, files, fault),
+        Fault::Expectation(ExpectationFault::Refused { line }) => {
+            line_at(rt, files, Role::Expectations, line, "has no form")
+        }
+        Fault::Expectation(ExpectationFault::NotExpected { .. }) => said_of(
+            rt,
+            path_of(files, Role::Expectations),
+            "it has no list of files that is the one that this crash leaves",
+        ),
+        Fault::Disk { fault, .. } => {
+            let why = format!(in rt.alloc(); "{fault}")?;
+            said_of(rt, disk_path(files), why.as_str())
+        }
+        Fault::DiskFailed => said_of(
+            rt,
+            disk_path(files),
+            "a write failed, as --fail has it, and no change after it is committed",
+        ),
+        Fault::OutOfMemory => no_room(rt),
+        Fault::InputOutput => first_unusable(rt, files),
+    }
+}
+
+/// Writes a line that names the file of a task that a fault is about, and the reason. No line is written where none is found, as for
+/// a file that is another by then.
+pub fn explain<R: Files + AllocGlobal, E: Write>(
+    rt: &R,
+    task: &Task<'_>,
+    fault: Fault,
+    err: &mut E,
+) -> Result<(), Fault> {
+    let files = files_of(rt.alloc(), task)?;
+    let Some(found) = reason_of(rt, files.as_slice(), fault)? else {
+        return Ok(());
+    };
+    let (path, why) = (found.path.as_str(), found.why.as_str());
+    if path.is_empty() {
+        write_line(err, format_args!("bench: {why}"))?;
+    } else {
+        write_line(err, format_args!("bench: {path}: {why}"))?;
+    }
+    Ok(())
+}

@@ -1,0 +1,111 @@
+//! Why a file could not be read or written.
+use crate::task_files::{Role, TaskFile};
+use file_reading::{bytes_in, image_file_in};
+use host_files::test_place;
+use simdisk::SIZE;
+use std::alloc::{AllocError, Global};
+use std::fs::OpenOptions;
+use std::io::ErrorKind;
+use std::rt::Files;
+use std::{fs, io};
+
+/// The longest tape, in bytes.
+const MOST_TAPE_BYTES: usize = 65_536;
+
+/// The reason that the system gives.
+fn system_reason(alloc: Global, error: &io::Error) -> Result<String, AllocError> {
+    format!(in alloc; "{error}")
+}
+
+/// Why a file that has to be text cannot be read, if it cannot.
+fn text_reason<R: Files + AllocGlobal>(rt: &R, path: &str) -> Result<Option<String>, AllocError> {
+    match fs::read(rt, path) {
+        Err(error) => Ok(Some(system_reason(rt.alloc(), &error)?)),
+        Ok(bytes) => match str::from_utf8(bytes.as_slice()) {
+            Ok(_) => Ok(None),
+            Err(error) => Ok(Some(format!(in rt.alloc();
+                "it is no text: after {} bytes comes one that is not UTF-8",
+                error.valid_up_to()
+            )?)),
+        },
+    }
+}
+
+fn tape_reason<R: Files + AllocGlobal>(rt: &R, path: &str) -> Result<Option<String>, AllocError> {
+    match bytes_in(rt, path, MOST_TAPE_BYTES) {
+        Err(error) => Ok(Some(system_reason(rt.alloc(), &error)?)),
+        Ok(bytes) if bytes.len() > MOST_TAPE_BYTES => Ok(Some(String::from_str(
+            rt.alloc(),
+            "a tape has at most 65536 bytes, and this file has more",
+        )?)),
+        Ok(_) => Ok(None),
+    }
+}
+
+fn read_reason<T: Drop>(alloc: Global, read: io::Result<T>) -> Result<Option<String>, AllocError> {
+    match read {
+        Err(error) => Ok(Some(system_reason(alloc, &error)?)),
+        Ok(_) => Ok(None),
+    }
+}
+
+/// Why a disk cannot be kept in a file, if it cannot.
+fn kept_disk_reason<R: Files + AllocGlobal>(
+    rt: &R,
+    path: &str,
+) -> Result<Option<String>, AllocError> {
+    match fs::metadata(rt, path) {
+        Err(error) if error.kind() != ErrorKind::NotFound => {
+            return Ok(Some(system_reason(rt.alloc(), &error)?));
+        }
+        _ => {}
+    }
+    match test_place(rt, path) {
+        Ok(()) => Ok(None),
+        Err(_) => Ok(Some(format!(in rt.alloc();
+            "the file {path}.new beside it cannot be made and removed"
+        )?)),
+    }
+}
+
+/// Why a file cannot be made, if it cannot. One that can is removed again.
+fn made_reason<R: Files + AllocGlobal>(rt: &R, path: &str) -> Result<Option<String>, AllocError> {
+    let made = OpenOptions::new()
+        .write(true)
+        .create_new(true)
+        .open(rt, path);
+    let is_made = made.is_ok();
+    let reason = read_reason(rt.alloc(), made);
+    if is_made {
+        let _ = fs::remove_file(rt, path);
+    }
+    reason
+}
+
+/// Why a file cannot be written, if it cannot. One that is there keeps its bytes.
+fn written_reason<R: Files + AllocGlobal>(
+    rt: &R,
+    path: &str,
+) -> Result<Option<String>, AllocError> {
+    match OpenOptions::new().write(true).open(rt, path) {
+        Err(error) if error.kind() == ErrorKind::NotFound => made_reason(rt, path),
+        opened => read_reason(rt.alloc(), opened),
+    }
+}
+
+/// Why a file of a task cannot be read or written, if it cannot.
+pub fn file_reason<R: Files + AllocGlobal>(
+    rt: &R,
+    file: TaskFile<'_>,
+) -> Result<Option<String>, AllocError> {
+    let path = file.path;
+    match file.role {
+        Role::Script | Role::Source | Role::Trace | Role::Expectations => text_reason(rt, path),
+        Role::Image => read_reason(rt.alloc(), image_file_in(rt, path)),
+        Role::Linked => read_reason(rt.alloc(), bytes_in(rt, path, SIZE)),
+        Role::Tape => tape_reason(rt, path),
+        Role::Disk => read_reason(rt.alloc(), bytes_in(rt, path, SIZE)),
+        Role::KeptDisk => kept_disk_reason(rt, path),
+        Role::Written => written_reason(rt, path),
+    }
+}

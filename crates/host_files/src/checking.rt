@@ -1,0 +1,55 @@
+//! Sources checked.
+use crate::fault::FileFault;
+use crate::source::{MOST_SOURCE_BYTES, text_of};
+use file_reading::bytes_in;
+use source_checks::{Checked, advice, check, print_checked};
+use std::alloc::Global;
+use std::io::Write;
+use std::rt::Files;
+
+/// Prints what was found of a source. A fault of it is the fault here.
+fn end<O: Write>(
+    alloc: Global,
+    source: &str,
+    checked: &Checked,
+    out: &mut O,
+) -> Result<(), FileFault> {
+    print_checked(alloc, source, checked, out)?;
+    match checked {
+        Checked::Refused(fault) => Err(FileFault::from(*fault)),
+        Checked::Passed { .. } => Ok(()),
+    }
+}
+
+/// Checks the source in a file, and prints what is found. The fault is that of `assemble_file`.
+pub fn check_file<R: Files + AllocGlobal, O: Write>(
+    rt: &R,
+    path: &str,
+    out: &mut O,
+) -> Result<(), FileFault> {
+    let bytes = bytes_in(rt, path, MOST_SOURCE_BYTES)?;
+    match text_of(&bytes) {
+        Ok(source) => end(rt.alloc(), source, &check(rt.alloc(), source)?, out),
+        Err(FileFault::Source { fault, .. }) => {
+            end(rt.alloc(), "", &Checked::Refused(fault), out)
+        }
+        Err(fault) => Err(fault),
+    }
+}
+
+/// What is said in one line of the fault of the source in a file. None where it has none now.
+pub fn source_reason<R: Files + AllocGlobal>(
+    rt: &R,
+    path: &str,
+) -> Result<Option<String>, FileFault> {
+    let bytes = bytes_in(rt, path, MOST_SOURCE_BYTES)?;
+    let (source, fault) = match text_of(&bytes) {
+        Ok(source) => match check(rt.alloc(), source)? {
+            Checked::Refused(fault) => (source, fault),
+            Checked::Passed { .. } => return Ok(None),
+        },
+        Err(FileFault::Source { fault, .. }) => ("", fault),
+        Err(fault) => return Err(fault),
+    };
+    Ok(Some(advice(rt.alloc(), source, fault)?))
+}

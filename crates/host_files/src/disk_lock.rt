@@ -1,0 +1,63 @@
+//! The lock by which one run at a time has a disk's file.
+use crate::fault::FileFault;
+use std::fs::{self, File, OpenOptions, TryLockError};
+use std::io;
+use std::os::unix::fs::MetadataExt;
+use std::rt::Files;
+
+/// The lock of a path at which a disk is kept: a file beside it, of the same path with `.lck` after it, which is locked. It goes by
+/// the path, since the disk's file may not be there yet, and since another file takes its place where a disk is kept.
+#[derive(Drop)]
+pub struct DiskLock {
+    path: String,
+    file: File,
+}
+
+/// Locks an open file. DiskInUse where another open of it is locked.
+pub fn lock_file(file: &File) -> Result<(), FileFault> {
+    match file.try_lock() {
+        Ok(()) => Ok(()),
+        Err(TryLockError::WouldBlock) => Err(FileFault::DiskInUse),
+        Err(TryLockError::Error(error)) => Err(FileFault::from(error)),
+    }
+}
+
+/// Whether a path, no link of which is followed at its end, leads to this open file.
+fn leads_to<R: Files>(rt: &R, path: &str, file: &File) -> io::Result<bool> {
+    let there = fs::symlink_metadata(rt, path)?;
+    let open = file.metadata()?;
+    Ok(there.dev() == open.dev() && there.ino() == open.ino())
+}
+
+impl DiskLock {
+    /// Locks the path of a disk's file. DiskInUse where a run has it. InputOutput where the file beside it cannot be made, and where
+    /// the path is empty, which no file has.
+    pub fn take<R: Files<File = File> + AllocGlobal>(
+        rt: &R,
+        path: &str,
+    ) -> Result<DiskLock, FileFault> {
+        if path.is_empty() {
+            return Err(FileFault::InputOutput);
+        }
+        let path = format!(in rt.alloc(); "{path}.lck")?;
+        let file = OpenOptions::new()
+            .write(true)
+            .create(true)
+            .open(rt, path.as_str())?;
+        lock_file(&file)?;
+        match leads_to(rt, path.as_str(), &file) {
+            Ok(true) => Ok(DiskLock { path, file }),
+            // The run that had it has just removed it.
+            _ => Err(FileFault::DiskInUse),
+        }
+    }
+
+    /// Lets another run have the disk's file. The file beside it is removed before it is unlocked. Where it cannot be, or holds
+    /// anything, it stays.
+    pub fn release<R: Files>(self, rt: &R) {
+        let DiskLock { path, file } = self;
+        if matches!(file.metadata(), Ok(metadata) if metadata.len() == 0) {
+            let _ = fs::remove_file(rt, path.as_str());
+        }
+    }
+}

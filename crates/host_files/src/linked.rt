@@ -1,0 +1,68 @@
+//! Executables of stock linkers made to images.
+use crate::disk_file::write_whole;
+use crate::fault::FileFault;
+use file_reading::bytes_in;
+use linked_elf::{MOST_BYTES, image_of};
+use machine_model::{Image, Segment};
+use std::fs::Metadata;
+use std::io::{ErrorKind, Write};
+use std::os::unix::fs::MetadataExt;
+use std::rt::Files;
+use std::{fs, io};
+
+/// The bytes of a page.
+const PAGE: u64 = 4096;
+
+/// What has a path, if anything has. Links are followed.
+fn metadata_of<R: Files>(rt: &R, path: &str) -> io::Result<Option<Metadata>> {
+    match fs::metadata(rt, path) {
+        Ok(metadata) => Ok(Some(metadata)),
+        Err(error) if error.kind() == ErrorKind::NotFound => Ok(None),
+        Err(error) => Err(error),
+    }
+}
+
+/// Whether two paths lead to one file.
+fn is_same_file<R: Files>(rt: &R, one: &str, other: &str) -> io::Result<bool> {
+    match (metadata_of(rt, one)?, metadata_of(rt, other)?) {
+        (Some(one), Some(other)) => Ok(one.dev() == other.dev() && one.ino() == other.ino()),
+        _ => Ok(false),
+    }
+}
+
+/// How many pages a segment has; it lies below 2^32.
+fn page_count(segment: &Segment) -> u64 {
+    let first = u64::from(segment.vaddr) / PAGE;
+    let end = u64::from(segment.vaddr) + u64::from(segment.memsz);
+    end.div_ceil(PAGE).saturating_sub(first)
+}
+
+/// Prints how many segments and pages an image has, and where it begins.
+fn print_size<O: Write>(image: &Image, out: &mut O) -> Result<(), FileFault> {
+    let segments = image.segments().len();
+    let mut pages: u64 = 0;
+    for segment in image.segments() {
+        pages = pages.saturating_add(page_count(segment));
+    }
+    let entry = image.entry();
+    writeln!(out, "{segments} segments, {pages} pages, entry {entry:08x}")?;
+    Ok(())
+}
+
+/// Makes an image of the executable in a file, writes it to another, and prints how many segments and pages it has, and its entry.
+/// Nothing is written where the executable is refused, or where both paths lead to one file, which is SameFile.
+pub fn image_file<R: Files + AllocGlobal, O: Write>(
+    rt: &R,
+    linked: &str,
+    image: &str,
+    out: &mut O,
+) -> Result<(), FileFault> {
+    let bytes = bytes_in(rt, linked, MOST_BYTES)?;
+    let program = image_of(rt.alloc(), &bytes)?;
+    if is_same_file(rt, linked, image)? {
+        return Err(FileFault::SameFile);
+    }
+    let file = elf32::write(rt.alloc(), &program)?;
+    write_whole(rt, image, &file)?;
+    print_size(&program, out)
+}

@@ -1,0 +1,137 @@
+//! A process debugged while a kernel answers its calls.
+use command_line::LiveOptions;
+use debug_commands::{Aids, Live, debug};
+use host_files::{FileFault, source_lines_in};
+use kernel::{Core, Event, Refused};
+use machine_model::Image;
+use recorder::Recorder;
+use run_files::{Fault, boot_live};
+use std::alloc::Global;
+use std::io::{Read, Write};
+use std::rt::Files;
+
+/// How many loans are done at most until a process that is asked for has come to be.
+const LOANS: u32 = 4096;
+
+/// The process that entered the kernel last.
+fn last_entered(history: &[Event]) -> Option<u32> {
+    history.iter().rev().find_map(|event| match event {
+        Event::Enter { pid } => Some(*pid),
+        _ => None,
+    })
+}
+
+fn is_there(core: &Core, process: u32) -> bool {
+    core.standing(process).is_ok()
+}
+
+/// Of each process, by its number less one, the number of the image of which it comes by forks, less one.
+struct Ancestors {
+    images: Vec<usize>,
+}
+
+impl Drop for Ancestors {
+    fn drop(self) {
+        let Ancestors { images: _images } = self;
+    }
+}
+
+impl Ancestors {
+    /// Those of the processes of so many images.
+    fn new(alloc: Global, count: usize) -> Result<Ancestors, Fault> {
+        let mut images = Vec::new(alloc);
+        for image in 0..count {
+            images.push(image)?;
+        }
+        Ok(Ancestors { images })
+    }
+
+    /// That of a process.
+    fn of(&self, process: u32) -> Option<usize> {
+        self.images.get(process.checked_sub(1)? as usize).copied()
+    }
+
+    /// The number of the next process that is made.
+    fn next(&self) -> Option<u32> {
+        u32::try_from(self.images.len()).ok()?.checked_add(1)
+    }
+
+    /// Adds the process that was made last, if one was: the process that entered the kernel last made it.
+    fn add(&mut self, core: &Core) -> Result<(), Fault> {
+        if !self.next().is_some_and(|next| is_there(core, next)) {
+            return Ok(());
+        }
+        if let Some(image) = last_entered(core.history()).and_then(|parent| self.of(parent)) {
+            self.images.push(image)?;
+        }
+        Ok(())
+    }
+}
+
+fn fault_of(why: Refused, process: u32) -> Fault {
+    match why {
+        Refused::OutOfMemory => Fault::OutOfMemory,
+        _ => Fault::Process { process },
+    }
+}
+
+/// Runs the kernel on until a process has come to be. Gives the number of the image of which it comes, less one.
+fn await_process(
+    alloc: Global,
+    recorder: &mut Recorder,
+    process: u32,
+    images: usize,
+) -> Result<usize, Fault> {
+    let mut ancestors = Ancestors::new(alloc, images)?;
+    for _ in 0..LOANS {
+        if let Some(image) = ancestors.of(process) {
+            return Ok(image);
+        }
+        if let Err(why) = recorder.more(1) {
+            return Err(fault_of(why, process));
+        }
+        ancestors.add(recorder.core())?;
+    }
+    Err(Fault::Process { process })
+}
+
+/// Debugs a process of a run of images, by the commands on the input. A kernel answers its calls, and nothing is written to the
+/// disk's file. Refused is a process that does not come to be.
+pub fn debug_live<R: Files + AllocGlobal, I: Read, O: Write>(
+    rt: &R,
+    options: &LiveOptions<'_>,
+    input: &mut I,
+    out: &mut O,
+) -> Result<(), Fault> {
+    let alloc = rt.alloc();
+    let process = options.process;
+    let (core, mut images) = boot_live(rt, options)?;
+    let mut recorder = Recorder::new(alloc, core, process);
+    let place = await_process(alloc, &mut recorder, process, images.len())?;
+    if place >= images.len() {
+        return Err(Fault::Process { process });
+    }
+    let image = images.swap_remove(place);
+    debug_image(rt, image, recorder, options, input, out)
+}
+
+/// Debugs an image's program as a process of a kernel.
+fn debug_image<R: Files + AllocGlobal, I: Read, O: Write>(
+    rt: &R,
+    image: Image,
+    recorder: Recorder,
+    options: &LiveOptions<'_>,
+    input: &mut I,
+    out: &mut O,
+) -> Result<(), Fault> {
+    let alloc = rt.alloc();
+    let source = source_lines_in(rt, options.source, &image)?;
+    let aids = Aids {
+        live: Some(Live::new(recorder, options.process)),
+        source,
+    };
+    let replies = Vec::new(alloc);
+    debug(alloc, image, replies, aids, input, out).map_err(|fault| Fault::from(FileFault::from(
+        fault,
+    )))
+}
