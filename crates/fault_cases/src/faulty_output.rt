@@ -2,7 +2,7 @@
 //! where it could not, and whether memory ran out there.
 use anyhow::{Error, ensure};
 use case_texts::arguments;
-use std::fs;
+use std::fs::{self, File};
 use std::io::{self, ErrorKind, Read, Write};
 use std::rt::Files;
 use std::sync::Wait;
@@ -83,7 +83,7 @@ fn compare_end(ended: u8, out: &Output, err: &[u8], (status, said): End<'_>) -> 
 }
 
 /// Runs the program with these words, parted by blanks, on the script. It has to fill the output, and to end so.
-fn check_output<R: Files + AllocGlobal + Threads + Wait + Sync>(
+fn check_output<R: Files<File = File> + AllocGlobal + Threads + Wait + Sync>(
     rt: &R,
     line: &str,
     mut out: Output,
@@ -97,7 +97,7 @@ fn check_output<R: Files + AllocGlobal + Threads + Wait + Sync>(
 }
 
 /// Runs the program without words on an input that cannot be read.
-fn check_input<R: Files + AllocGlobal + Threads + Wait + Sync>(
+fn check_input<R: Files<File = File> + AllocGlobal + Threads + Wait + Sync>(
     rt: &R,
     failure: ErrorKind,
     end: End<'_>,
@@ -112,7 +112,7 @@ fn check_input<R: Files + AllocGlobal + Threads + Wait + Sync>(
 
 /// One write is enough for all output, of a script and of help; where there is none, the status is 6, or 5 where memory runs out.
 /// It is the same where the input cannot be read.
-pub fn check_faulty_output<R: Files + AllocGlobal + Threads + Wait + Sync>(
+pub fn check_faulty_output<R: Files<File = File> + AllocGlobal + Threads + Wait + Sync>(
     rt: &R,
 ) -> Result<String, Error> {
     for (failure, end) in [
@@ -128,7 +128,9 @@ pub fn check_faulty_output<R: Files + AllocGlobal + Threads + Wait + Sync>(
     Ok(String::from_str(rt.alloc(), "outputs that take one write or none")?)
 }
 
-fn assemble_endless<R: Files + AllocGlobal + Threads + Wait + Sync>(rt: &R) -> Result<(), Error> {
+fn assemble_endless<R: Files<File = File> + AllocGlobal + Threads + Wait + Sync>(
+    rt: &R,
+) -> Result<(), Error> {
     let words = arguments(rt.alloc(), "asm endless.s endless")?;
     let mut input: &[u8] = b"";
     let mut out = Vec::new(rt.alloc());
@@ -140,7 +142,7 @@ fn assemble_endless<R: Files + AllocGlobal + Threads + Wait + Sync>(rt: &R) -> R
 
 /// A program that writes a byte which rests on a change, and then never ends. Its run ends only since that byte goes out while the
 /// program runs, and cannot be written. It reads the source `endless.s`.
-pub fn check_endless_run<R: Files + AllocGlobal + Threads + Wait + Sync>(
+pub fn check_endless_run<R: Files<File = File> + AllocGlobal + Threads + Wait + Sync>(
     rt: &R,
 ) -> Result<String, Error> {
     assemble_endless(rt)?;

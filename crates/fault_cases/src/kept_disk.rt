@@ -1,7 +1,8 @@
-//! The file in which a run keeps its disk: what it is beside, which rights it has, and what no link leads to.
+//! The file in which a run keeps its disk: what it is beside, which rights it has, what no link leads to, and
+//! which run has it.
 use anyhow::{Error, ensure};
 use case_texts::arguments;
-use std::fs::{self, Permissions};
+use std::fs::{self, File, OpenOptions, Permissions};
 use std::os::unix::fs::{PermissionsExt, symlink};
 use std::rt::Files;
 use std::sync::Wait;
@@ -11,7 +12,7 @@ use std::thread::Threads;
 const ENDS: &str = "_start: li a7, 1\necall\n";
 
 /// Runs the program with these words, parted by blanks; it has to end with this status.
-fn run<R: Files + AllocGlobal + Threads + Wait + Sync>(
+fn run<R: Files<File = File> + AllocGlobal + Threads + Wait + Sync>(
     rt: &R,
     line: &str,
     status: u8,
@@ -26,7 +27,9 @@ fn run<R: Files + AllocGlobal + Threads + Wait + Sync>(
 }
 
 /// The file with `.new` after its name is made anew: what a link of that name leads to stays as it was.
-fn check_link<R: Files + AllocGlobal + Threads + Wait + Sync>(rt: &R) -> Result<(), Error> {
+fn check_link<R: Files<File = File> + AllocGlobal + Threads + Wait + Sync>(
+    rt: &R,
+) -> Result<(), Error> {
     fs::write(rt, "precious", "text")?;
     symlink(rt, "precious", "kept.new")?;
     run(rt, "run --disk kept ends", 0)?;
@@ -44,7 +47,7 @@ fn check_link<R: Files + AllocGlobal + Threads + Wait + Sync>(rt: &R) -> Result<
 }
 
 /// The disk's file keeps these rights.
-fn check_rights<R: Files + AllocGlobal + Threads + Wait + Sync>(
+fn check_rights<R: Files<File = File> + AllocGlobal + Threads + Wait + Sync>(
     rt: &R,
     rights: u32,
 ) -> Result<(), Error> {
@@ -56,14 +59,18 @@ fn check_rights<R: Files + AllocGlobal + Threads + Wait + Sync>(
 }
 
 /// A run whose disk could not be kept ends before it begins. Where the file beside it is a folder, that stays.
-fn check_folder<R: Files + AllocGlobal + Threads + Wait + Sync>(rt: &R) -> Result<(), Error> {
+fn check_folder<R: Files<File = File> + AllocGlobal + Threads + Wait + Sync>(
+    rt: &R,
+) -> Result<(), Error> {
     fs::create_dir(rt, "kept.new")?;
     run(rt, "run --disk kept ends", 6)?;
     Ok(fs::remove_dir(rt, "kept.new")?)
 }
 
 /// A link that leads to a disk is replaced by a file, and what it led to stays.
-fn check_linked_disk<R: Files + AllocGlobal + Threads + Wait + Sync>(rt: &R) -> Result<(), Error> {
+fn check_linked_disk<R: Files<File = File> + AllocGlobal + Threads + Wait + Sync>(
+    rt: &R,
+) -> Result<(), Error> {
     symlink(rt, "kept", "linked")?;
     run(rt, "run --disk linked ends", 0)?;
     ensure!(
@@ -73,8 +80,52 @@ fn check_linked_disk<R: Files + AllocGlobal + Threads + Wait + Sync>(rt: &R) -> 
     Ok(fs::remove_file(rt, "linked")?)
 }
 
+/// While another run has the disk's file, a run is refused before it begins, durable or not. A durable run is also refused where another
+/// has the file by another path. A folder where the lock would be is in the way of both.
+fn check_lock<R: Files<File = File> + AllocGlobal + Threads + Wait + Sync>(
+    rt: &R,
+) -> Result<(), Error> {
+    let lock = OpenOptions::new()
+        .write(true)
+        .create(true)
+        .open(rt, "kept.lck")?;
+    ensure!(lock.try_lock().is_ok(), "the lock is had");
+    run(rt, "run --disk kept ends", 6)?;
+    run(rt, "run --durable --disk kept ends", 6)?;
+    run(rt, "run --disk missing ends", 0)?;
+    lock.unlock()?;
+    run(rt, "run --durable --disk kept ends", 0)?;
+    ensure!(
+        fs::symlink_metadata(rt, "kept.lck").is_err(),
+        "the lock is still there"
+    );
+    let file = fs::open(rt, "missing")?;
+    ensure!(file.try_lock().is_ok(), "the disk's file is locked");
+    run(rt, "run --durable --disk missing ends", 6)?;
+    file.unlock()?;
+    run(rt, "run --durable --disk missing ends", 0)?;
+    fs::create_dir(rt, "kept.lck")?;
+    run(rt, "run --disk kept ends", 6)?;
+    run(rt, "run --durable --disk kept ends", 6)?;
+    fs::remove_dir(rt, "kept.lck")?;
+    Ok(fs::remove_file(rt, "missing")?)
+}
+
+/// A durable run writes the file to which a link leads, and the link stays.
+fn check_durable_link<R: Files<File = File> + AllocGlobal + Threads + Wait + Sync>(
+    rt: &R,
+) -> Result<(), Error> {
+    symlink(rt, "kept", "linked")?;
+    run(rt, "run --durable --disk linked ends", 0)?;
+    ensure!(
+        fs::symlink_metadata(rt, "linked")?.is_symlink(),
+        "the disk's path is no link any more"
+    );
+    Ok(fs::remove_file(rt, "linked")?)
+}
+
 /// The file of a kept disk is no link's, and has the rights that it had.
-pub fn check_kept_disk<R: Files + AllocGlobal + Threads + Wait + Sync>(
+pub fn check_kept_disk<R: Files<File = File> + AllocGlobal + Threads + Wait + Sync>(
     rt: &R,
 ) -> Result<String, Error> {
     fs::write(rt, "ends.s", ENDS)?;
@@ -85,11 +136,13 @@ pub fn check_kept_disk<R: Files + AllocGlobal + Threads + Wait + Sync>(
     check_rights(rt, 0o666)?;
     check_folder(rt)?;
     check_linked_disk(rt)?;
+    check_lock(rt)?;
+    check_durable_link(rt)?;
     for name in ["ends.s", "ends", "kept"] {
         fs::remove_file(rt, name)?;
     }
     Ok(String::from_str(
         rt.alloc(),
-        "a disk's file: no link is followed, and its rights stay",
+        "a disk's file: no link is followed, its rights stay, and one run has it",
     )?)
 }

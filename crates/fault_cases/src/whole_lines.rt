@@ -1,7 +1,7 @@
 //! Standard error: each line goes out whole, by one write.
 use anyhow::{Error, ensure};
 use case_texts::arguments;
-use std::fs;
+use std::fs::{self, File};
 use std::io::{self, Write};
 use std::rt::Files;
 use std::sync::Wait;
@@ -32,7 +32,7 @@ impl Write for Lines {
 }
 
 /// Runs the program with these words, parted by blanks. It has to write to standard error so many times, each time whole lines.
-fn check_writes<R: Files + AllocGlobal + Threads + Wait + Sync>(
+fn check_writes<R: Files<File = File> + AllocGlobal + Threads + Wait + Sync>(
     rt: &R,
     line: &str,
     writes: usize,
@@ -51,7 +51,7 @@ fn check_writes<R: Files + AllocGlobal + Threads + Wait + Sync>(
 }
 
 /// Faults of each kind, a faulty command line, and the lines of a run's processes.
-pub fn check_whole_lines<R: Files + AllocGlobal + Threads + Wait + Sync>(
+pub fn check_whole_lines<R: Files<File = File> + AllocGlobal + Threads + Wait + Sync>(
     rt: &R,
 ) -> Result<String, Error> {
     fs::write(rt, "ends.s", ENDS)?;

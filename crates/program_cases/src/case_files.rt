@@ -2,13 +2,13 @@
 //! of the program by its command line. A file begins with a comment, and each case with a line `== TITLE`.
 use crate::playing::{play_calls, play_session};
 use anyhow::{Error, bail};
-use std::fs;
+use std::fs::{self, File};
 use std::rt::Files;
 use std::sync::Wait;
 use std::thread::Threads;
 
 /// Runs a case, in the notation that the name of its file ends with.
-fn check_case<R: Files + AllocGlobal + Threads + Wait + Sync>(
+fn check_case<R: Files<File = File> + AllocGlobal + Threads + Wait + Sync>(
     rt: &R,
     name: &str,
     case: &str,
@@ -20,7 +20,7 @@ fn check_case<R: Files + AllocGlobal + Threads + Wait + Sync>(
     }
 }
 
-fn check_cases<R: Files + AllocGlobal + Threads + Wait + Sync>(
+fn check_cases<R: Files<File = File> + AllocGlobal + Threads + Wait + Sync>(
     rt: &R,
     name: &str,
 ) -> Result<usize, Error> {
@@ -37,7 +37,7 @@ fn check_cases<R: Files + AllocGlobal + Threads + Wait + Sync>(
 }
 
 /// Runs the cases of a file, and gives a line that says how many they are.
-pub fn check_file<R: Files + AllocGlobal + Threads + Wait + Sync>(
+pub fn check_file<R: Files<File = File> + AllocGlobal + Threads + Wait + Sync>(
     rt: &R,
     name: &str,
 ) -> Result<String, Error> {

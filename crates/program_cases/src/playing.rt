@@ -3,13 +3,13 @@ use crate::running::run;
 use anyhow::Error;
 use case_texts::{CallsCase, IMAGE_NAME, Ran, Step, check_missing, session_steps};
 use cone_cases::check_cones;
-use std::fs;
+use std::fs::{self, File};
 use std::rt::Files;
 use std::sync::Wait;
 use std::thread::Threads;
 
 /// Runs a case's script, and compares the cones of its events with its runs.
-fn run_script<R: Files + AllocGlobal + Threads + Wait + Sync>(
+fn run_script<R: Files<File = File> + AllocGlobal + Threads + Wait + Sync>(
     rt: &R,
     script: &[u8],
 ) -> Result<Ran, Error> {
@@ -19,7 +19,7 @@ fn run_script<R: Files + AllocGlobal + Threads + Wait + Sync>(
 }
 
 /// Runs a case's script, beside its image's file, if it has one.
-fn run_calls<R: Files + AllocGlobal + Threads + Wait + Sync>(
+fn run_calls<R: Files<File = File> + AllocGlobal + Threads + Wait + Sync>(
     rt: &R,
     case: &CallsCase,
 ) -> Result<Ran, Error> {
@@ -33,7 +33,7 @@ fn run_calls<R: Files + AllocGlobal + Threads + Wait + Sync>(
 }
 
 /// Runs a case of programs that call the kernel.
-pub fn play_calls<R: Files + AllocGlobal + Threads + Wait + Sync>(
+pub fn play_calls<R: Files<File = File> + AllocGlobal + Threads + Wait + Sync>(
     rt: &R,
     text: &str,
 ) -> Result<(), Error> {
@@ -42,7 +42,7 @@ pub fn play_calls<R: Files + AllocGlobal + Threads + Wait + Sync>(
     case.compare(rt.alloc(), &ran)
 }
 
-fn play_step<R: Files + AllocGlobal + Threads + Wait + Sync>(
+fn play_step<R: Files<File = File> + AllocGlobal + Threads + Wait + Sync>(
     rt: &R,
     step: &Step,
 ) -> Result<(), Error> {
@@ -58,7 +58,7 @@ fn play_step<R: Files + AllocGlobal + Threads + Wait + Sync>(
 }
 
 /// Does the steps of a case by the command line.
-pub fn play_session<R: Files + AllocGlobal + Threads + Wait + Sync>(
+pub fn play_session<R: Files<File = File> + AllocGlobal + Threads + Wait + Sync>(
     rt: &R,
     text: &str,
 ) -> Result<(), Error> {

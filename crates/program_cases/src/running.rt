@@ -1,12 +1,13 @@
 //! Runs of the whole program, over text in memory.
 use case_texts::{Ran, arguments};
 use std::alloc::AllocError;
+use std::fs::File;
 use std::rt::Files;
 use std::sync::Wait;
 use std::thread::Threads;
 
 /// Runs the program with these words, parted by blanks, on an input.
-pub fn run<R: Files + AllocGlobal + Threads + Wait + Sync>(
+pub fn run<R: Files<File = File> + AllocGlobal + Threads + Wait + Sync>(
     rt: &R,
     words: &str,
     input: &[u8],

@@ -8,13 +8,14 @@ mod words;
 
 use anyhow::Error;
 use std::env;
+use std::fs::File;
 use std::rt::Files;
 use std::sync::Wait;
 use std::thread::Threads;
 use std::time::Clock;
 
 /// Runs the trials of these words, of which the first is the program's name. Without others it prints the words that there are.
-fn run<R: AllocGlobal + Clock + Eprint + Files + Print + Threads + Wait + Sync>(
+fn run<R: AllocGlobal + Clock + Eprint + Files<File = File> + Print + Threads + Wait + Sync>(
     rt: &R,
     words: &[String],
 ) -> Result<(), Error> {

@@ -1,13 +1,14 @@
 //! What each word names.
 use crate::usage;
 use anyhow::{Error, bail};
+use std::fs::File;
 use std::rt::Files;
 use std::sync::Wait;
 use std::thread::Threads;
 use std::time::Clock;
 
 /// What a word comes to that names no file, in lines.
-fn named<R: AllocGlobal + Clock + Eprint + Files + Threads + Wait + Sync>(
+fn named<R: AllocGlobal + Clock + Eprint + Files<File = File> + Threads + Wait + Sync>(
     rt: &R,
     word: &str,
 ) -> Result<String, Error> {
@@ -36,7 +37,7 @@ fn named<R: AllocGlobal + Clock + Eprint + Files + Threads + Wait + Sync>(
 
 /// What a word comes to, in lines, the last without a line feed. A word is the name of a file, by what it ends with, or names a
 /// computation or a measurement.
-pub fn report<R: AllocGlobal + Clock + Eprint + Files + Threads + Wait + Sync>(
+pub fn report<R: AllocGlobal + Clock + Eprint + Files<File = File> + Threads + Wait + Sync>(
     rt: &R,
     word: &str,
 ) -> Result<String, Error> {

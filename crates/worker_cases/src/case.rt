@@ -4,9 +4,9 @@ ghost use Rattle.kernel_model.specs.Answers.{now, committed as committed_in, cha
 
 use crate::fault::Fault;
 use crate::gates::{CaseGate, Lendings};
-use crate::programs::boot;
+use crate::programs::{boot, boot_forkers};
 use crate::workers::{Worker, shares_of, workers_of};
-use crate::{by_crew, desk, gated, stealing, stranger, turns};
+use crate::{by_crew, desk, faults, gated, late, nine, stealing, stranger, turns};
 use bursts::{Bench, Blanks, Naming, Share, board_of, gather, totals_of};
 use desks::{Desk, LockedDesk};
 use kernel::Core;
@@ -33,6 +33,14 @@ pub enum Case {
     Turns,
     /// A result of another core is handed in before two workers begin.
     Stranger,
+    /// The same, but the work is to stop before they begin.
+    Idle,
+    /// Two results of another core, by each of which a turn fails.
+    Faults,
+    /// One seat fetches loans among nine processes.
+    Nine,
+    /// One worker is idle until a desk settles its loan.
+    Late,
     /// All turns at a desk, with a group that is committed and one that fails.
     Desk,
 }
@@ -43,7 +51,7 @@ impl Case {
         ensures { (1 ≤ result) × (result ≤ 16) }
     {
         match self {
-            Case::Turns | Case::Desk => 1,
+            Case::Turns | Case::Desk | Case::Nine | Case::Late => 1,
             _ => 2,
         }
     }
@@ -56,7 +64,10 @@ pub fn play<R: Threads + Wait + Sync>(
     case: Case,
     line: &mut String,
 ) -> Result<(), Fault> {
-    let core = boot(alloc)?;
+    let core = match case {
+        Case::Faults | Case::Nine => boot_forkers(alloc)?,
+        _ => boot(alloc)?,
+    };
     play_named::<Brand, R>(rt, alloc, core, Blanks::new(), case, line)
 }
 
@@ -151,7 +162,7 @@ fn play_at<N: Naming + Send + Sync, R: Threads + Wait + Sync>(
     Ok(shares_of(alloc, workers, share)?)
 }
 
-fn play_by<N: Naming + Send + Sync, D: Desk, R: Threads + Wait + Sync>(
+fn play_by<N: Naming + Send + Sync, D: Desk + Send, R: Threads + Wait + Sync>(
     rt: &R,
     alloc: Global,
     bench: &Mutex<Bench<'_, N>>,
@@ -165,8 +176,12 @@ fn play_by<N: Naming + Send + Sync, D: Desk, R: Threads + Wait + Sync>(
         Case::ByCrew => by_crew::play(rt, bench, workers, desk, line),
         Case::Gated => gated::play(rt, bench, workers, line),
         Case::Stealing => stealing::play(rt, bench, workers, line),
-        Case::Turns => turns::play(rt, workers, desk, line),
+        Case::Turns => turns::play(rt, bench, workers, desk, line),
         Case::Stranger => stranger::play(rt, alloc, bench, workers, line),
+        Case::Idle => stranger::play_idle(rt, alloc, bench, workers, line),
+        Case::Faults => faults::play(rt, alloc, bench, workers, line),
+        Case::Nine => nine::play(rt, bench, workers, desk, line),
+        Case::Late => late::play(rt, bench, workers, desk, line),
         Case::Desk => desk::play(rt, reader, desk, line),
     }
 }

@@ -4,7 +4,7 @@
 use crate::case::QUANTUM;
 use crate::fault::Fault;
 use crate::gates::Open;
-use bursts::{Naming, WorkFault};
+use bursts::{Gate, Naming, WorkFault};
 use desks::{Desk, Turned, worker_turn};
 use kernel::Answer;
 use run_threads::BoardReader;
@@ -16,8 +16,8 @@ use std::sync::Wait;
 struct Found {
     /// What the board showed after the first turn, after the commit, and at the end.
     shown: [(u64, u64); 3],
-    /// Whether the desk was over before it was told to stop, and after it.
-    over: [bool; 2],
+    /// Whether the desk was over at first, after the commit, and once it was told to stop.
+    over: [bool; 3],
     /// How many instructions the first turn ran.
     first: u32,
     /// How many turns settled a result after the commit.
@@ -35,15 +35,15 @@ fn count_of(turned: &Result<Turned, WorkFault>) -> Option<u32> {
 }
 
 /// A turn of a worker. How many instructions its result ran; None where it is idle or fails.
-pub fn turn<D: Desk>(desk: &mut D) -> Option<u32> {
-    let turned = worker_turn(desk, &mut Open, QUANTUM);
+pub fn turn<D: Desk, G: Gate>(desk: &mut D, gate: &mut G) -> Option<u32> {
+    let turned = worker_turn(desk, gate, QUANTUM);
     count_of(&turned)
 }
 
 /// How many turns of a worker settle a result, up to the first that is idle or fails, at most 10.
 fn turns<D: Desk>(desk: &mut D) -> u32 {
     for count in 0..10 {
-        if turn(desk).is_none() {
+        if turn(desk, &mut Open).is_none() {
             return count;
         }
     }
@@ -77,7 +77,7 @@ fn begin<N: Naming, D: Desk, R: Wait>(
     reader: &mut BoardReader<'_, N>,
     desk: &mut D,
 ) -> Result<(u32, [(u64, u64); 2]), Fault> {
-    let Some(first) = turn(desk) else {
+    let Some(first) = turn(desk, &mut Open) else {
         return Err(Fault::NothingSettled);
     };
     let made = reader.seen(rt);
@@ -92,13 +92,14 @@ fn all_turns<N: Naming, D: Desk, R: Wait>(
 ) -> Result<Found, Fault> {
     let before = desk.over(QUANTUM);
     let (first, [made, committed]) = begin(rt, reader, desk)?;
+    let between = desk.over(QUANTUM);
     desk.stop();
     let after = desk.over(QUANTUM);
     let rest = turns(desk);
     let failed = fail_to_commit(desk)?;
     Ok(Found {
         shown: [made, committed, reader.seen(rt)],
-        over: [before, after],
+        over: [before, between, after],
         first,
         rest,
         failed,

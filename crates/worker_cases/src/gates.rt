@@ -11,11 +11,12 @@ impl Gate for Open {
     fn hold(&mut self, _pid: u32) {}
 }
 
-/// How often process 2 was lent, and whether that came late.
+/// How often process 2 was lent, whether that came late, and whether who is held until then was freed.
 #[derive(Drop)]
 pub struct Lendings {
     twos: AtomicU64,
     late: AtomicBool,
+    freed: AtomicBool,
 }
 
 impl Lendings {
@@ -24,23 +25,51 @@ impl Lendings {
         Lendings {
             twos: AtomicU64::new(0),
             late: AtomicBool::new(false),
+            freed: AtomicBool::new(false),
         }
     }
 }
 
-/// The gate of a worker in a case. If it is to hold anybody, it holds the first loan of process 1 until process 2 was lent twice,
-/// for a bounded number of polls. The worker that lends first leaves process 2 in its deque, and is held. So process 2 runs only
-/// where the other worker steals it.
+/// Whom a gate holds.
+#[derive(Clone, Copy)]
+enum Holds {
+    Nobody,
+    /// The first loan of process 1, until process 2 was lent twice.
+    UntilTwo,
+    /// Each loan, until `free` is called.
+    UntilFreed,
+}
+
+/// The gate of a worker in a case, which may hold it, for a bounded number of polls. In the case of two programs the worker that
+/// lends first leaves process 2 in its deque, and is held. So process 2 runs only where the other worker steals it.
 #[derive(Clone, Copy)]
 pub struct CaseGate<'a> {
     lendings: &'a Lendings,
-    holds: bool,
+    holds: Holds,
 }
 
 impl<'a> CaseGate<'a> {
-    /// A gate that counts these lendings, and holds somebody if it is to.
+    /// A gate that counts these lendings, and holds a worker until process 2 was lent twice, if it is to.
     pub fn new(lendings: &'a Lendings, holds: bool) -> CaseGate<'a> {
+        let holds = if holds {
+            Holds::UntilTwo
+        } else {
+            Holds::Nobody
+        };
         CaseGate { lendings, holds }
+    }
+
+    /// The same, but it holds its worker until `free` is called.
+    pub fn until_freed(&self) -> CaseGate<'a> {
+        CaseGate {
+            lendings: self.lendings,
+            holds: Holds::UntilFreed,
+        }
+    }
+
+    /// Nobody is held until this any more.
+    pub fn free(&self) {
+        self.lendings.freed.store(true, Ordering::SeqCst);
     }
 
     /// Whether process 2 was lent twice too late.
@@ -53,9 +82,14 @@ impl<'a> Gate for CaseGate<'a> {
     fn hold(&mut self, pid: u32) {
         if pid == 2 {
             self.lendings.twos.fetch_add(1, Ordering::SeqCst);
-        } else if self.holds {
-            self.holds = false;
-            wait_for_two(self.lendings);
+        }
+        match self.holds {
+            Holds::UntilTwo if pid == 1 => {
+                self.holds = Holds::Nobody;
+                wait_for_two(self.lendings);
+            }
+            Holds::UntilFreed => wait_until_freed(self.lendings),
+            _ => {}
         }
     }
 }
@@ -69,4 +103,13 @@ fn wait_for_two(lendings: &Lendings) {
         thread::yield_now();
     }
     lendings.late.store(true, Ordering::SeqCst);
+}
+
+fn wait_until_freed(lendings: &Lendings) {
+    for _ in 0..10_000_000 {
+        if lendings.freed.load(Ordering::SeqCst) {
+            return;
+        }
+        thread::yield_now();
+    }
 }

@@ -1,5 +1,6 @@
 //! Two programs, run by workers at the seats of a pool in threads of their own, by turns at one desk, or to their ends. What their
-//! runs come to is said, also where a completion fails. Read `case` first. The lines are the same whatever the schedule: how the
+//! runs come to is said, also where a completion fails, or a
+//! durable run has a file that refuses a call. Read `case` first. The lines are the same whatever the schedule: how the
 //! workers take turns shows in none.
 #![tactic(auto)]
 
@@ -8,10 +9,15 @@ mod case;
 mod desk;
 mod failing;
 mod fault;
+mod faults;
 mod gated;
 mod gates;
+mod late;
 mod lines;
+mod looks;
+mod nine;
 mod programs;
+mod refusing;
 mod stealing;
 mod stranger;
 mod turns;

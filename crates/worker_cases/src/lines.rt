@@ -1,17 +1,21 @@
 //! The cases, one after the other, each in a line.
 use crate::case::{Case, play};
-use crate::failing;
+use crate::{failing, refusing};
 use anyhow::{Error, bail};
 use std::sync::Wait;
 use std::thread::Threads;
 
 /// Each case with its name.
-const CASES: [(&str, Case); 6] = [
+const CASES: [(&str, Case); 10] = [
     ("two workers", Case::ByCrew),
     ("a worker held", Case::Gated),
     ("a seat that steals", Case::Stealing),
     ("turns at a seat", Case::Turns),
     ("a result of another core", Case::Stranger),
+    ("idle workers", Case::Idle),
+    ("two turns that fail", Case::Faults),
+    ("nine processes", Case::Nine),
+    ("a process lent elsewhere", Case::Late),
     ("a desk", Case::Desk),
 ];
 
@@ -30,6 +34,10 @@ pub fn play_cases<R: AllocGlobal + Threads + Wait + Sync>(rt: &R) -> Result<Stri
     lines.push_str("\n")?;
     if let Err(fault) = failing::play(rt, alloc, &mut lines) {
         bail!("a completion that fails: {fault}");
+    }
+    lines.push_str("\n")?;
+    if let Err(fault) = refusing::play(rt, alloc, &mut lines) {
+        bail!("a file that refuses a call: {fault}");
     }
     Ok(lines)
 }

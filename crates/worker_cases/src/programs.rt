@@ -67,6 +67,15 @@ const QUIET: [u32; 16] = [
     0x0000_0073,
 ];
 
+/// A program that forks, and exits. So does the process that it makes.
+const FORKER: [u32; 5] = [
+    0x0070_0893,
+    0x0000_0073,
+    0x0000_0513,
+    0x0010_0893,
+    0x0000_0073,
+];
+
 /// Both programs, on terminals 0 and 1.
 fn programs(alloc: Global) -> Result<Vec<Program>, AllocError>
     ensures count { IfOk result (λ programs. length programs.items ≡ 2) }
@@ -91,6 +100,19 @@ fn quiet_program(alloc: Global) -> Result<Vec<Program>, AllocError>
     Ok(programs)
 }
 
+/// Eight programs that fork.
+fn forkers(alloc: Global) -> Result<Vec<Program>, AllocError>
+    ensures count { IfOk result (λ programs. length programs.items ≡ 8) }
+    ensures terminals { IfOk result (λ programs. AllByRecursion (λ p. p.terminal < terminal_count) programs.items) }
+{
+    let mut programs = Vec::new(alloc);
+    for terminal in 0..8u32 {
+        let image = Image::from_text(alloc, &FORKER)?;
+        programs.push(Program { image, terminal })?;
+    }
+    Ok(programs)
+}
+
 fn device(alloc: Global) -> Result<SimDisk, Fault>
     ensures { IfOk result (λ device. is_quiet device ≡ true) }
 {
@@ -107,9 +129,31 @@ pub fn boot(alloc: Global) -> Result<Core, Fault> {
     Ok(Core::boot(alloc, device, programs, Vec::new(alloc))?)
 }
 
+/// The bytes of a disk of zeros.
+pub fn zeros(alloc: Global) -> Result<Vec<u8>, Fault> {
+    let device = device(alloc)?;
+    Ok(Vec::from_slice(alloc, device.bytes())?)
+}
+
+/// A core of both programs, on a disk of these bytes.
+pub fn boot_on(alloc: Global, bytes: &[u8]) -> Result<Core, Fault> {
+    let programs = programs(alloc)?;
+    match SimDisk::open(alloc, bytes) {
+        Ok(device) => Ok(Core::boot(alloc, device, programs, Vec::new(alloc))?),
+        Err(_) => Err(Fault::OutOfMemory),
+    }
+}
+
 /// A core of the quiet program.
 pub fn boot_quiet(alloc: Global) -> Result<Core, Fault> {
     let programs = quiet_program(alloc)?;
+    let device = device(alloc)?;
+    Ok(Core::boot(alloc, device, programs, Vec::new(alloc))?)
+}
+
+/// A core of eight programs that fork.
+pub fn boot_forkers(alloc: Global) -> Result<Core, Fault> {
+    let programs = forkers(alloc)?;
     let device = device(alloc)?;
     Ok(Core::boot(alloc, device, programs, Vec::new(alloc))?)
 }
@@ -118,6 +162,13 @@ pub fn boot_quiet(alloc: Global) -> Result<Core, Fault> {
 pub fn result_of_another(alloc: Global) -> Result<Done, Fault> {
     let mut core = boot(alloc)?;
     next_result(&mut core)
+}
+
+/// The results of the first two loans of another core, of process 1 and of process 2.
+pub fn two_of_another(alloc: Global) -> Result<(Done, Done), Fault> {
+    let mut core = boot(alloc)?;
+    let first = next_result(&mut core)?;
+    Ok((first, next_result(&mut core)?))
 }
 
 /// The result of the next loan of this core, of at most 50 instructions.

@@ -1,10 +1,9 @@
 //! Two seats, one after the other: the first to fetch keeps the other process in its deque, from which the other seat steals it.
-use crate::case::QUANTUM;
 use crate::fault::Fault;
+use crate::nine::fetch;
 use crate::workers::{Worker, seat_at};
 use bursts::{Bench, Naming};
 use kernel::Standing;
-use pool::Seat;
 use std::sync::{Mutex, Wait};
 
 /// The first seat fetches a loan, and then the second. Says whose loans these are, and how process 2 stands between the two.
@@ -21,14 +20,6 @@ pub fn play<N: Naming, R: Wait>(
         line,
         "a seat fetches process {first}, and process 2 is {standing:?}; another fetches process {second}"
     )?)
-}
-
-/// Whose loan a seat fetches.
-fn fetch<N: Naming, R: Wait>(rt: &R, seat: &mut Seat<'_, '_, N>) -> Result<u32, Fault> {
-    match seat.fetch(rt, QUANTUM)? {
-        Some(loan) => Ok(loan.pid),
-        None => Err(Fault::NothingLent),
-    }
 }
 
 fn standing_of_two<N: Naming, R: Wait>(

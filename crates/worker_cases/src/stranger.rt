@@ -2,7 +2,7 @@
 use crate::fault::Fault;
 use crate::programs::result_of_another;
 use crate::workers::{Worker, crew_fault, seat_at};
-use bursts::{Bench, Naming};
+use bursts::{Bench, Done, Naming};
 use pool::Seat;
 use std::alloc::Global;
 use std::sync::{Mutex, Wait};
@@ -17,7 +17,7 @@ pub fn play<N: Naming + Send + Sync, R: Threads + Wait + Sync>(
     workers: &mut [Worker<'_, '_, '_, N>],
     line: &mut String,
 ) -> Result<(), Fault> {
-    hand_in_of_another(rt, alloc, seat_at(workers, 0)?)?;
+    hand_in(rt, seat_at(workers, 0)?, result_of_another(alloc)?)?;
     let fault = crew_fault(rt, workers);
     let stopped = is_stopped(rt, bench);
     Ok(write!(
@@ -26,12 +26,30 @@ pub fn play<N: Naming + Send + Sync, R: Threads + Wait + Sync>(
     )?)
 }
 
-fn hand_in_of_another<N: Naming, R: Wait>(
+/// The work is to stop before these workers begin, so that they are idle, and a result of another core is handed in. Says the
+/// number of the crew's fault, 0 for none.
+pub fn play_idle<N: Naming + Send + Sync, R: Threads + Wait + Sync>(
     rt: &R,
     alloc: Global,
-    seat: &mut Seat<'_, '_, N>,
+    bench: &Mutex<Bench<'_, N>>,
+    workers: &mut [Worker<'_, '_, '_, N>],
+    line: &mut String,
 ) -> Result<(), Fault> {
-    let done = result_of_another(alloc)?;
+    bench.lock(rt).stop();
+    hand_in(rt, seat_at(workers, 0)?, result_of_another(alloc)?)?;
+    let fault = crew_fault(rt, workers);
+    Ok(write!(
+        line,
+        "a result of another core, and idle workers: fault {fault}"
+    )?)
+}
+
+/// Puts a result into the queue, which has room.
+pub fn hand_in<N: Naming, R: Wait>(
+    rt: &R,
+    seat: &mut Seat<'_, '_, N>,
+    done: Done,
+) -> Result<(), Fault> {
     if seat.hand_in(rt, done).is_ok() {
         Ok(())
     } else {
@@ -39,6 +57,7 @@ fn hand_in_of_another<N: Naming, R: Wait>(
     }
 }
 
-fn is_stopped<N: Naming, R: Wait>(rt: &R, bench: &Mutex<Bench<'_, N>>) -> bool {
+/// Whether the work is to stop.
+pub fn is_stopped<N: Naming, R: Wait>(rt: &R, bench: &Mutex<Bench<'_, N>>) -> bool {
     bench.lock(rt).is_stopped()
 }

@@ -2,37 +2,41 @@
 use crate::case::QUANTUM;
 use crate::desk::turn;
 use crate::fault::Fault;
-use crate::gates::Open;
+use crate::looks::Looks;
 use crate::workers::{Worker, crew, seat_at};
-use bursts::{Naming, WorkFault};
+use bursts::{Bench, Gate, Naming, WorkFault};
 use desks::Desk;
 use pool::{Pooled, Seat};
-use std::sync::Wait;
+use std::sync::{Mutex, Wait};
 use std::thread::Threads;
 
 /// One turn at a desk, then turns at the one seat until it is idle, and at the end a crew of nobody. Says how many turns at the
-/// seat settled one result each.
+/// seat settled one result each, how often the gate was held, and how often with a process that was then out on loan.
 pub fn play<N: Naming + Send + Sync, D: Desk, R: Threads + Wait + Sync>(
     rt: &R,
+    bench: &Mutex<Bench<'_, N>>,
     workers: &mut [Worker<'_, '_, '_, N>],
     desk: &mut D,
     line: &mut String,
 ) -> Result<(), Fault> {
-    if turn(desk).is_none() {
+    let mut gate = Looks::new(rt, bench);
+    if turn(desk, &mut gate).is_none() {
         return Err(Fault::NothingSettled);
     }
-    let count = turns_at(rt, seat_at(workers, 0)?);
+    let count = turns_at(rt, seat_at(workers, 0)?, &mut gate);
     crew(rt, &mut workers[..0])?;
+    let held = gate.held;
+    let lent = gate.lent;
     Ok(write!(
         line,
-        "a turn at a desk, and {count} at a seat, each settle one result"
+        "a turn at a desk, and {count} at a seat, each settle one result; held {held} times, {lent} with a process on loan"
     )?)
 }
 
 /// How many turns at a seat settle one result each, up to the first that is idle, or settles another number of results.
-fn turns_at<N: Naming, R: Wait>(rt: &R, seat: &mut Seat<'_, '_, N>) -> u32 {
+fn turns_at<N: Naming, G: Gate, R: Wait>(rt: &R, seat: &mut Seat<'_, '_, N>, gate: &mut G) -> u32 {
     for count in 0..10 {
-        if !turns_one(rt, seat) {
+        if !turns_one(rt, seat, gate) {
             return count;
         }
     }
@@ -40,8 +44,12 @@ fn turns_at<N: Naming, R: Wait>(rt: &R, seat: &mut Seat<'_, '_, N>) -> u32 {
 }
 
 /// One turn at a seat. Says whether it settled one result.
-fn turns_one<N: Naming, R: Wait>(rt: &R, seat: &mut Seat<'_, '_, N>) -> bool {
-    let turned = seat.turn(rt, &mut Open, QUANTUM);
+fn turns_one<N: Naming, G: Gate, R: Wait>(
+    rt: &R,
+    seat: &mut Seat<'_, '_, N>,
+    gate: &mut G,
+) -> bool {
+    let turned = seat.turn(rt, gate, QUANTUM);
     settles_one(&turned)
 }
 

@@ -5,7 +5,7 @@ use crate::case::QUANTUM;
 use crate::fault::Fault;
 use crate::gates::CaseGate;
 use bursts::{Naming, Share};
-use pool::{Pool, Seat, pool_crew};
+use pool::{CrewFault, Pool, Seat, pool_crew};
 use std::alloc::{AllocError, Global};
 use std::sync::Wait;
 use std::thread::Threads;
@@ -40,12 +40,20 @@ pub fn seat_at<'w, 'p, 'b, N: Naming>(
     }
 }
 
-/// The workers work in threads of their own until the work is over. The number of the fault with which they stop, 0 for none.
+/// The workers work in threads of their own until the work is over.
+pub fn crew_result<N: Naming + Send + Sync, R: Threads + Wait + Sync>(
+    rt: &R,
+    workers: &mut [Worker<'_, '_, '_, N>],
+) -> Result<(), CrewFault> {
+    pool_crew(rt, workers, QUANTUM)
+}
+
+/// The same. The number of the fault with which they stop, 0 for none.
 pub fn crew_fault<N: Naming + Send + Sync, R: Threads + Wait + Sync>(
     rt: &R,
     workers: &mut [Worker<'_, '_, '_, N>],
 ) -> u8 {
-    match pool_crew(rt, workers, QUANTUM) {
+    match crew_result(rt, workers) {
         Ok(()) => 0,
         Err(fault) => fault.number(),
     }

@@ -1,9 +1,85 @@
 #!/bin/sh
-# build.sh SOURCE.c IMAGE: builds a C program for bench. It needs Debian's gcc-riscv64-unknown-elf.
+# Builds an image of C and assembly. `build.sh` without words says how.
 set -eu
+usage() {
+    cat >&2 <<'END'
+usage: build.sh [--picolibc] [FLAGS] SOURCE.. IMAGE
+Builds an image of sources in C (.c) and assembly (.s, .S), of objects (.o) and of archives (.a).
+
+  --picolibc  with Debian's picolibc: printf, malloc and the rest of a C library
+  FLAGS       what the compiler is given besides, each as one word: -O3 -DN=5 -Ifolder -lm
+  IMAGE       the image, which is written anew; never over a source
+
+CC is the compiler, riscv64-unknown-elf-gcc if it is not set; CC='clang --target=riscv32' links with LLVM's lld.
+
+example: build.sh -O3 hello.c more.c /tmp/hello.image
+END
+    exit 2
+}
+refuse() {
+    echo "build.sh: $1" >&2
+    exit 2
+}
+
 here=$(dirname "$0")
+libc=no
+if [ "${1-}" = --picolibc ]; then
+    libc=yes
+    shift
+fi
+[ $# -ge 2 ] || usage
+for image; do :; done
+sources=0
+for word; do
+    case $word in
+        --help | -h) usage ;;
+    esac
+done
+case $image in
+    -* | '') refuse "the last word names no image" ;;
+    *.c | *.s | *.S | *.h | *.o | *.a | *.ld | *.sh) refuse "$image has the name of a source: the last word is the image" ;;
+esac
+count=$#
+for word; do
+    count=$((count - 1))
+    [ $count -gt 0 ] || break
+    case $word in
+        -*) ;;
+        *)
+            [ -f "$word" ] || refuse "$word is not there"
+            [ ! "$word" -ef "$image" ] || refuse "$image is a source"
+            sources=$((sources + 1))
+            ;;
+    esac
+done
+[ $sources -gt 0 ] || usage
+
+CC=${CC:-riscv64-unknown-elf-gcc}
+case $CC in
+    *clang*) OBJCOPY=${OBJCOPY:-llvm-objcopy} linker=-fuse-ld=lld ;;
+    *) OBJCOPY=${OBJCOPY:-riscv64-unknown-elf-objcopy} linker=-Wl,--no-warn-rwx-segments ;;
+esac
+# Helpers of the compiler, as a division of 64 bits: GCC's, also for clang.
+helpers=$(riscv64-unknown-elf-gcc -march=rv32im -mabi=ilp32 -print-libgcc-file-name 2>/dev/null || true)
+pico=${PICOLIBC:-/usr/lib/picolibc/riscv64-unknown-elf}
+if [ $libc = yes ]; then
+    [ -d "$pico" ] || refuse "Debian's picolibc-riscv64-unknown-elf is not there"
+    before="-isystem $pico/include" library="$here/picolibc.c" after="-L$pico/lib/rv32im/ilp32 -Wl,--start-group -lc $helpers -Wl,--end-group"
+else
+    before=-ffreestanding library="$here/library.c" after=$helpers
+fi
+
 linked=$(mktemp)
 trap 'rm -f "$linked"' EXIT
-riscv64-unknown-elf-gcc -march=rv32im -mabi=ilp32 -mstrict-align -O2 -ffreestanding -nostdlib -I "$here" \
-    -T "$here/image.ld" "$here/start.s" "$1" -lgcc -o "$linked"
-riscv64-unknown-elf-objcopy -O binary "$linked" "$2"
+# Of all words but the last the sources and the flags, after the flags that each program needs.
+rest=$#
+while [ $rest -gt 0 ]; do
+    word=$1
+    shift
+    rest=$((rest - 1))
+    [ $rest -eq 0 ] || set -- "$@" "$word"
+done
+$CC -march=rv32im -mabi=ilp32 -mstrict-align -O2 -ftls-model=local-exec -ffunction-sections -fdata-sections -fno-pic $before \
+    -static -nostdlib $linker -Wl,--gc-sections -Wl,--orphan-handling=error -T "$here/image.ld" -I "$here" \
+    "$here/start.s" "$@" "$library" $after -o "$linked"
+$OBJCOPY -O binary "$linked" "$image"

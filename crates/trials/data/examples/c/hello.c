@@ -5,6 +5,6 @@ static const char text[] = "hello from C\n";
 
 int main(void)
 {
-    write(1, text, sizeof text - 1);
+    sys_write(1, text, sizeof text - 1);
     return 0;
 }

@@ -1,6 +1,7 @@
 /* Lays out an image with the headers that it needs: `objcopy -O binary` then writes exactly these bytes. Text, with
    constants, stands from 0x00010000 on; data, if there is any, from the next page on. The headers stand in the page
-   before the text, which no segment names, so that it is a page of the file and none of the program. */
+   before the text, which no segment names, so that it is a page of the file and none of the program.
+   It serves GNU ld and LLVM's lld. A section that it does not name is refused by --orphan-handling=error, with its name. */
 ENTRY(_start)
 SECTIONS
 {
@@ -16,25 +17,40 @@ SECTIONS
         /* data, of which the file has no zeros at the end */
         LONG(1) LONG(bytes_end > data_start ? data_start - 0xF000 : 0) LONG(data_start) LONG(data_start)
         LONG(bytes_end - data_start) LONG(data_end - data_start) LONG(6) LONG(0x1000)
-        . = 0x1000;
+        . = ALIGN(0x1000);
     }
     .text 0x10000 :
     {
-        *(.text.start) *(.text .text.*) *(.rodata .rodata.* .srodata .srodata.*)
+        KEEP(*(.text.start)) *(.text .text.*) *(.rodata .rodata.* .srodata .srodata.*)
         text_end = .;
     }
     . = ALIGN(0x1000);
     data_start = .;
-    .data :
+    /* What runs before main and after exit, in its order. */
+    .init_array :
     {
-        *(.data .data.* .sdata .sdata.*)
-        bytes_end = .;
+        __preinit_array_start = .;
+        KEEP(*(.preinit_array))
+        __preinit_array_end = .;
+        __init_array_start = .;
+        KEEP(*(SORT_BY_INIT_PRIORITY(.init_array.*))) KEEP(*(.init_array))
+        __init_array_end = .;
+        __fini_array_start = .;
+        KEEP(*(SORT_BY_INIT_PRIORITY(.fini_array.*))) KEEP(*(.fini_array))
+        __fini_array_end = .;
     }
-    .bss :
-    {
-        *(.sbss .sbss.* .bss .bss.* COMMON)
-        data_end = .;
-    }
-    /DISCARD/ : { *(.comment .riscv.attributes .note* .eh_frame*) }
+    .data : { *(.data .data.* .sdata .sdata.* .got .got.plt) }
+    /* Thread-local data stands where it is used, since there is one thread. */
+    .tdata : { *(.tdata .tdata.*) }
+    bytes_end = .;
+    .tbss : { *(.tbss .tbss.* .tcommon) }
+    __tls_base = SIZEOF(.tdata) > 0 ? ADDR(.tdata) : ADDR(.tbss);
+    . = SIZEOF(.tbss) > 0 ? ADDR(.tbss) + SIZEOF(.tbss) : .;
+    .bss : { *(.sbss .sbss.* .bss .bss.* COMMON) }
+    data_end = .;
+    .symtab 0 : { *(.symtab) }
+    .strtab 0 : { *(.strtab) }
+    .shstrtab 0 : { *(.shstrtab) }
+    /DISCARD/ : { *(.comment .riscv.attributes .note* .eh_frame* .debug* .rela* .stab*) }
     ASSERT(data_end <= 0x10000 + 60 * 0x1000, "more than 60 pages")
 }
