@@ -1,7 +1,7 @@
 #!/bin/sh
 # killed-runs.sh [RUNS]: kills runs that keep their disk, later and later in the run (200 runs where no number is given), and looks at
 # the disk's file after each: it has to be whole, with the files before the run or those after it. The last line says how often it was
-# which; at a file that is neither the script ends with status 1.
+# which; at a file that is neither the script ends with status 1. `killed-durable-runs.py` kills durable runs.
 set -eu
 here=$(CDPATH='' cd "$(dirname "$0")/.." && pwd)
 bench=${BENCH:-$here/bench}

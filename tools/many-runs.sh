@@ -1,7 +1,8 @@
 #!/bin/sh
 # many-runs.sh [RUNS]: runs each example, and eight of them side by side, again and again (200 times where no number is given), by
 # 1 to 16 workers and with quanta of 1, 7 and 10000 instructions, and compares each run with the first. The last line says how many
-# were compared; at the first difference, or a run that fails, the script ends with status 1.
+# were compared; at the first difference, or a run that fails, the script ends with status 1. Before that it sees that there are as
+# many worker threads as --workers says, and that --quantum says how long a loan is. It needs Linux's /proc.
 #
 # Eight programs side by side fix what each terminal shows, how many processes there are and how each ends, but not which
 # number a process gets: so the numbers are left out there.
@@ -55,6 +56,44 @@ compare() {
         fi
     done
 }
+
+# How many threads the program has while it runs an endless program by so many workers.
+threads() {
+    "$bench" run --workers "$1" endless >printed 2>said &
+    running=$!
+    before=0
+    now=1
+    while [ "$now" -eq 1 ] || [ "$now" -ne "$before" ]; do
+        sleep 1
+        before=$now
+        now=$(ls "/proc/$running/task" | wc -l)
+    done
+    echo "$now"
+    kill "$running"
+    wait "$running" 2>killed || true
+}
+
+# A pool has a thread for each worker.
+echo '_start: jal zero,_start' >endless.s
+"$bench" asm endless.s endless >said
+one=$(threads 1)
+for workers in 2 5 16; do
+    more=$(($(threads "$workers") - one))
+    if [ "$more" -ne $((workers - 1)) ]; then
+        echo "by $workers workers there are $more threads more than by one" >&2
+        exit 1
+    fi
+done
+
+# By one worker a loan's length shows in what is written first: the child, which counts first, is lent first.
+"$bench" asm "$here/crates/trials/data/forked.s" forked >said
+for row in 1000000:CP 10:PC; do
+    ran --workers 1 --quantum "${row%:*}" forked
+    if [ "$(tr -d "\n" <printed)" != "${row#*:}" ]; then
+        echo "by quantum ${row%:*} forked printed $(cat printed)" >&2
+        exit 1
+    fi
+done
 
 # Each terminal has sixteen runs in a row, so that it meets each number of workers.
 run=0

@@ -51,7 +51,7 @@ FILES = {
     "space.s": b"_start: ecall\n.data\n.space 4294967295\n",
     "allowed.files": b"files -\n",
 }
-SOURCES = ["first.s", "printer.s", "reader.s", "waiter.s", "three_files.s"]
+SOURCES = ["first.s", "printer.s", "reader.s", "waiter.s", "three_files.s", "linked/gnu.elf"]
 IMAGES = {"first": "first.s", "printer": "printer.s", "reader": "reader.s", "waiter": "waiter.s", "primes": "primes.s", "init": "init.s"}
 COMMANDS_OF_DEBUG = b"step 3\nstate\nbreak 00010018\nrun\nrewind 2\nrun\nclear 0\nrun\nstep 1\nrewind 0\nrun\nquit\n"
 LONG_DEBUG = b"step 3000\nrewind 1500\nbreak 00010010\nrun\nstate\nrun\nquit\n"
@@ -63,6 +63,11 @@ COMMANDS = [
     ("asm refused", 2, "asm bad.s out", b""),
     ("asm of a large space", 2, "asm space.s out", b""),
     ("asm of no text", 6, "asm no-text.s primes", b""),
+    ("check", 0, "check primes.s", b""),
+    ("check refused", 2, "check bad.s", b""),
+    ("image", 0, "image linked/gnu.elf out", b""),
+    ("image over a file", 0, "image linked/gnu.elf primes", b""),
+    ("image refused", 2, "image short out", b""),
     ("list", 0, "list primes", b""),
     ("list refused", 2, "list short", b""),
     ("replay", 0, "replay first-run.script", b""),
@@ -88,6 +93,7 @@ COMMANDS = [
     ("run on a new disk", 0, "run --disk new first", b""),
     ("run on a kept disk", 0, "run --disk kept --workers 2 first printer", b""),
     ("run with a tape", 0, "run --tape tape --quantum 3 reader first waiter", b""),
+    ("run to a status", 0, "run --status 1 first", b""),
     ("run that fails", 4, "run --fail 1 first", b""),
     ("run that fails on a disk", 4, "run --fail 2 --disk kept first", b""),
     ("run refused", 2, "run first short", b""),

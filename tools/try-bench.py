@@ -14,11 +14,11 @@ import tempfile
 
 TOP = os.path.realpath(f"{os.path.dirname(os.path.realpath(__file__))}/..")
 # How many of the words of a command name files, aside from its options.
-MOST_FILES = {"replay": 1, "picture": 1, "crashes": 1, "asm": 2, "list": 1, "debug": 1, "disk": 1, "run": 8}
+MOST_FILES = {"replay": 1, "picture": 1, "crashes": 1, "asm": 2, "check": 1, "image": 2, "list": 1, "debug": 8, "disk": 1, "run": 8}
 # The commands whose file is a script.
 SCRIPT_COMMANDS = ("replay", "picture", "crashes")
-FILE_OPTIONS = ("--trace", "--disk", "--tape", "--expect")
-NUMBER_OPTIONS = ("--workers", "--quantum", "--term", "--fail", "--cone")
+FILE_OPTIONS = ("--trace", "--disk", "--tape", "--tape-of", "--expect", "--source")
+NUMBER_OPTIONS = ("--workers", "--quantum", "--term", "--fail", "--status", "--cone", "--process")
 IMAGE_LINE = re.compile(rb"^(image [0-9]+ )(?=[^/\s])", re.MULTILINE)
 # The longest that the program may run, in seconds.
 LONGEST_RUN = 600
@@ -42,8 +42,15 @@ class Room:
         os.symlink(os.getcwd(), self.here)
 
     def place_of(self, word):
-        """Returns the place of the file that a word names."""
-        return word if not word or os.path.isabs(word) else f"{self.here}/{word}"
+        """Returns the place of the file that a word names; `-` names none, but standard input."""
+        return word if word in ("", "-") or os.path.isabs(word) else f"{self.here}/{word}"
+
+    def value_of(self, option, value):
+        """Returns the value of an option with a place for the file that it names, of `--tape-of` after the tape's number."""
+        tape, equals, name = value.partition("=")
+        if option == "--tape-of" and equals:
+            return f"{tape}={self.place_of(name)}"
+        return self.place_of(value)
 
     def keep(self, name, content):
         path = f"{self.folder}/{name}"
@@ -72,11 +79,11 @@ class Room:
             if is_option:
                 option, equals, value = word.partition("=")
                 if equals and option in FILE_OPTIONS:
-                    word = f"{option}={self.place_of(value)}"
+                    word = f"{option}={self.value_of(option, value)}"
                 is_ended = word == "--"
                 option = None if equals or option not in FILE_OPTIONS + NUMBER_OPTIONS else option
             elif option:
-                word = self.place_of(word) if option in FILE_OPTIONS else word
+                word = self.value_of(option, word) if option in FILE_OPTIONS else word
                 option = None
             elif files > 0:
                 word = self.script_of(word) if command in SCRIPT_COMMANDS else self.place_of(word)
@@ -86,7 +93,8 @@ class Room:
 
     def input_of(self, words):
         """Returns the place of what the program reads from standard input."""
-        if words and words[0] != "debug":
+        is_tape = words and words[0] == "run" and any(word in ("-", "--tape=-") or word.endswith("=-") for word in words)
+        if words and words[0] != "debug" and not is_tape:
             return os.devnull
         with open(0, "rb", closefd=False) as file:
             content = file.read()

@@ -1,0 +1,157 @@
+#!/bin/sh
+# Runs GCC's execution tests on bench, and says how many end as under qemu-riscv32: the same output and the same status. The tests are
+# those of Debian's gcc-12-source, of which nothing stands here. Each is built three times, with examples/c and Debian's picolibc:
+#   - by build.sh, whose image `bench run` runs;
+#   - by the linker's own script, whose executable `bench image` makes an image of, and `bench run` runs;
+#   - the same with the numbers of Linux's calls, which qemu-riscv32 runs.
+# TESTS may name a folder that has the tests already. It needs the packages gcc-12-source, gcc-riscv64-unknown-elf, picolibc-riscv64-unknown-elf and qemu-user.
+set -eu
+usage() {
+    cat >&2 <<'END'
+usage: tools/torture.sh [--bench PROGRAM] [--sample N] [--seed S] [--levels WORDS] [--jobs J] [TEST..]
+  --bench PROGRAM  the program, crates/bench/out/bench if it is not given
+  --sample N       so many tests, picked by the seed; all if it is not given
+  --seed S         which ones, 1 if it is not given
+  --levels WORDS   the compiler's levels, '-O0 -O2' if they are not given
+  --jobs J         how many run at a time, 2 if it is not given
+  TEST             only these tests, by name, as 20000112-1
+
+example: tools/torture.sh --sample 300 --seed 7
+END
+    exit 2
+}
+
+# Why a test may end otherwise on bench: a limit of bench's, and no fault.
+reason_for() {
+    if grep -q 'trampolines' "$tests/$1.c"; then
+        echo 'code on the stack, for a nested function'
+        return
+    fi
+    case $1 in
+        *) return 1 ;;
+    esac
+}
+
+here=$(CDPATH='' cd "$(dirname "$0")" && pwd)
+examples=$here/../examples/c
+CC=${CC:-riscv64-unknown-elf-gcc}
+pico=${PICOLIBC:-/usr/lib/picolibc/riscv64-unknown-elf}
+
+# Builds a test by the linker's own script, with more flags.
+link_stock() {
+    linked=$1 source=$2
+    shift 2
+    $CC -march=rv32im -mabi=ilp32 -mstrict-align -ftls-model=local-exec -isystem "$pico/include" -I "$examples" -w "$@" \
+        -ffunction-sections -fdata-sections -static -nostdlib -Wl,--gc-sections -Wl,--defsym=__tls_base=room_of_thread \
+        -Wl,-z,noexecstack "$examples/start.s" "$source" "$examples/picolibc.c" "$room/thread.c" \
+        -L"$pico/lib/rv32im/ilp32" -Wl,--start-group -lm -lc -lgcc -Wl,--end-group -o "$linked"
+}
+
+# Runs an image, and leaves its output and, as a line, its status.
+run_image() {
+    if ! timeout 300 "$bench" run "$1" >"$2" 2>"$2.said"; then
+        cat "$2.said" >>"$2"
+        return
+    fi
+    sed -n 's/^process 1 ended /ended /p; /^process 1 [^e]/p' "$2.said" >>"$2"
+}
+
+# What a test with a level comes to, as one line: its verdict, its name, its level.
+one() {
+    test=$1 level=$2
+    source=$tests/$test.c
+    flags=$(sed -n 's/.*{ *dg-options *"\([^"]*\)" *}.*/\1/p; s/.*{ *dg-additional-options *"\([^"]*\)" *}.*/\1/p' "$source" | tr '\n' ' ')
+    at=$(mktemp -d "$room/run.XXXXXX")
+    # shellcheck disable=SC2086
+    if ! link_stock "$at/linux" "$source" $level $flags -DCALL_EXIT=93 -DCALL_WRITE=64 -DCALL_READ=63 2>"$at/why"; then
+        echo "unbuilt $test $level: $(grep -m1 -E 'error|undefined' "$at/why" || head -n1 "$at/why")"
+        rm -rf "$at"
+        return
+    fi
+    status=0
+    timeout 120 qemu-riscv32 "$at/linux" >"$at/wanted" 2>/dev/null || status=$?
+    # A signal is a trap; 124 is the end of patience.
+    if [ $status -ge 128 ] && [ $status -ne 134 ]; then
+        echo trap >>"$at/wanted"
+    else
+        echo "ended $status" >>"$at/wanted"
+    fi
+    verdict=same
+    for way in script stock; do
+        # shellcheck disable=SC2086
+        case $way in
+            script) CC=$CC "$examples/build.sh" --picolibc -w $level $flags "$source" -lm "$at/image" >"$at/why" 2>&1 || verdict="$way not built" ;;
+            stock)
+                link_stock "$at/stock" "$source" $level $flags >"$at/why" 2>&1 || verdict="$way not built"
+                "$bench" image "$at/stock" "$at/image" >"$at/why" 2>&1 || verdict="$way refused: $(head -n1 "$at/why")"
+                ;;
+        esac
+        if [ "$verdict" = same ]; then
+            run_image "$at/image" "$at/came"
+            sed -i 's/^ended 2[5-9][0-9]$/trap/' "$at/came"
+            cmp -s "$at/came" "$at/wanted" || verdict="$way differs: $(tail -n1 "$at/came" | cut -c1-60), wanted $(tail -n1 "$at/wanted" | cut -c1-60)"
+        elif [ "$way" = script ]; then
+            verdict="$verdict: $(grep -m1 -E 'error|undefined|pages' "$at/why" || head -n1 "$at/why")"
+        fi
+        [ "$verdict" = same ] || break
+    done
+    if [ "$verdict" = same ]; then
+        echo "same $test $level"
+    elif why=$(reason_for "$test"); then
+        echo "excepted $test $level: $verdict ($why)"
+    else
+        echo "OTHERWISE $test $level: $verdict"
+    fi
+    rm -rf "$at"
+}
+
+if [ "${1-}" = --one ]; then
+    tests=$2 room=$3 bench=$4
+    one "$5" "$6"
+    exit
+fi
+
+bench=$here/../crates/bench/out/bench sample=0 seed=1 levels='-O0 -O2' jobs=2 names=
+while [ $# -gt 0 ]; do
+    case $1 in
+        --bench) bench=${2:?} && shift 2 ;;
+        --sample) sample=${2:?} && shift 2 ;;
+        --seed) seed=${2:?} && shift 2 ;;
+        --levels) levels=${2:?} && shift 2 ;;
+        --jobs) jobs=${2:?} && shift 2 ;;
+        -*) usage ;;
+        *) names="$names $1" && shift ;;
+    esac
+done
+bench=$(readlink -f "$bench")
+[ -x "$bench" ] || { echo "torture.sh: no program at $bench: build it by ./bench, or give --bench" >&2; exit 1; }
+room=$(mktemp -d)
+trap 'rm -rf "$room"' EXIT
+tests=${TESTS:-}
+if [ -z "$tests" ]; then
+    archive=$(ls /usr/src/gcc-12/gcc-12*.tar.xz 2>/dev/null | head -n 1)
+    [ -n "$archive" ] || { echo 'torture.sh: the package gcc-12-source is not there' >&2; exit 1; }
+    tar -xf "$archive" -C "$room" --wildcards '*/gcc.c-torture/execute/*.c'
+    tests=$(echo "$room"/*/gcc/testsuite/gcc.c-torture/execute)
+fi
+# Room for the data of the one thread, which the linker's own script does not give.
+echo 'char room_of_thread[1024] __attribute__((aligned(16)));' >"$room/thread.c"
+if [ -n "$names" ]; then
+    printf '%s\n' $names
+else
+    # Of all tests in an order that the seed gives the first ones.
+    (cd "$tests" && ls -- *.c) | sed 's/\.c$//' | awk -v seed="$seed" 'BEGIN { srand(seed) } { print rand() "\t" $0 }' | sort -g | cut -f 2
+fi | if [ "$sample" -gt 0 ]; then head -n "$sample"; else cat; fi >"$room/names"
+while read -r name; do
+    for level in $levels; do
+        printf '%s\n%s\n' "$name" "$level"
+    done
+done <"$room/names" >"$room/pairs"
+xargs -d '\n' -n 2 -P "$jobs" "$here/torture.sh" --one "$tests" "$room" "$bench" <"$room/pairs" >"$room/lines"
+grep -E '^(excepted|OTHERWISE)' "$room/lines" | sort || true
+grep '^unbuilt' "$room/lines" | sort || true
+awk '{ n[$1]++ } END {
+    printf "%d runs as under qemu-riscv32, from a script and from the linker'\''s own; %d excepted, %d otherwise, %d not built for either\n",
+        n["same"], n["excepted"], n["OTHERWISE"], n["unbuilt"]
+    exit n["OTHERWISE"] > 0
+}' "$room/lines"
