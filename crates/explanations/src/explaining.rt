@@ -242,7 +242,7 @@ fn reason_of<R: Files + AllocGlobal>(
         Fault::DiskFailed => said_of(
             rt,
             disk_path(files),
-            "a write failed, as --fail has it, and no change after it is committed",
+            "a write failed, and no change after it is committed",
         ),
         Fault::OutOfMemory => no_room(rt),
         Fault::InputOutput => first_unusable(rt, files),

@@ -2,15 +2,13 @@
 use crate::task_files::{Role, TaskFile};
 use file_reading::{bytes_in, image_file_in};
 use host_files::test_place;
+use scripts::MOST_TAPE_BYTES;
 use simdisk::SIZE;
 use std::alloc::{AllocError, Global};
 use std::fs::OpenOptions;
 use std::io::ErrorKind;
 use std::rt::Files;
 use std::{fs, io};
-
-/// The longest tape, in bytes.
-const MOST_TAPE_BYTES: usize = 65_536;
 
 /// The reason that the system gives.
 fn system_reason(alloc: Global, error: &io::Error) -> Result<String, AllocError> {

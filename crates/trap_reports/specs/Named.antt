@@ -2,6 +2,7 @@
 use Rattle.std.specs.Prelude.{ℕ, ℤ, ◌-◌, ◌%◌, Option, Some, None}
 use Rattle.formats.specs.declared.instr.Instr.{Instr}
 use Rattle.formats.specs.declared.instr.Instr.TheVariants as instr
+use Rattle.formats.specs.Table.{instr_of}
 use Rattle.machine_model.specs.Effects.{Hart, reg, moved}
 
 -- the address that a register and an immediate name
@@ -59,3 +60,13 @@ named_by instr.Fence h = None
 named_by instr.FenceI h = None
 named_by instr.Ecall h = None
 named_by instr.Ebreak h = None
+
+-- the same of a word that may mean no instruction
+abbrev pub named_by_any : Option Instr → Hart → Option ℕ
+named_by_any None h = None
+named_by_any (Some i) h = named_by i h
+
+-- the address that a word names, if a word is there and means an instruction
+abbrev pub named_in : Option ℕ → Hart → Option ℕ
+named_in None h = None
+named_in (Some word) h = named_by_any (instr_of word) h

@@ -2,6 +2,8 @@
 ghost use Rattle.std.specs.Prelude.{◌≡◌, IfSome};
 ghost use Rattle.std.specs.Option.{option_map};
 ghost use Rattle.machine_model.specs.States.{stands_at};
+ghost use Rattle.memory_model.specs.Access.{value_at};
+ghost use Rattle.trap_reports.specs.Named.{named_in};
 ghost use Rattle.trap_reports.specs.Traps.{cause_in};
 
 use crate::address::named_by;
@@ -25,18 +27,22 @@ pub struct TrapReport {
 }
 
 /// The four bytes at an address as a word, whatever the rights of their page.
-fn word_at(machine: &Machine, at: u32) -> Option<u32> {
+fn word_at(machine: &Machine, at: u32) -> Option<u32>
+    ensures { IfSome result (λ word. word ≡ value_at machine.now.hart.memory at 4) }
+{
     let space = machine.space();
     Some(u32::from_le_bytes([
         space.byte(at)?,
-        space.byte(at.wrapping_add(1))?,
-        space.byte(at.wrapping_add(2))?,
-        space.byte(at.wrapping_add(3))?,
+        space.byte(at.checked_add(1)?)?,
+        space.byte(at.checked_add(2)?)?,
+        space.byte(at.checked_add(3)?)?,
     ]))
 }
 
 /// The address that the instruction at the pc names, if it names one, and what is there.
-fn named_at(machine: &Machine, word: Option<u32>) -> Option<(u32, There)> {
+fn named_at(machine: &Machine, word: Option<u32>) -> Option<(u32, There)>
+    ensures { option_map (λ n. n.0) result ≡ named_in word machine.now.hart }
+{
     let at = named_by(machine, decode(word?)?)?;
     Some((at, There::at(machine.space(), at)))
 }
@@ -45,6 +51,8 @@ fn named_at(machine: &Machine, word: Option<u32>) -> Option<(u32, There)> {
 fn report(machine: &Machine, cause: Cause) -> TrapReport
     ensures cause { result.cause ≡ cause }
     ensures pc { result.pc ≡ machine.now.hart.pc }
+    ensures word { IfSome result.word (λ word. word ≡ value_at machine.now.hart.memory machine.now.hart.pc 4) }
+    ensures named { option_map (λ n. n.0) result.named ≡ named_in result.word machine.now.hart }
 {
     let pc = machine.pc();
     let word = word_at(machine, pc);
@@ -61,6 +69,8 @@ fn report(machine: &Machine, cause: Cause) -> TrapReport
 pub fn trap_report(machine: &Machine) -> Option<TrapReport>
     ensures cause { option_map (λ r. r.cause) result ≡ cause_in (stands_at machine.now) }
     ensures pc { IfSome result (λ r. r.pc ≡ machine.now.hart.pc) }
+    ensures word { IfSome result (λ r. IfSome r.word (λ word. word ≡ value_at machine.now.hart.memory machine.now.hart.pc 4)) }
+    ensures named { IfSome result (λ r. option_map (λ n. n.0) r.named ≡ named_in r.word machine.now.hart) }
 {
     match machine.stopped() {
         Some(Stop::Trap(cause)) => Some(report(machine, cause)),
