@@ -5,6 +5,9 @@ pub mod SpaceStore
 pub mod Mapping
 pub mod Cells
 pub mod Ranges
+pub mod Stretches
+pub mod Flat
+pub mod Putting
 pub mod SameWords
 pub mod Standing
 pub mod Copies

@@ -1,23 +1,14 @@
--- Ranges of addresses, a byte at a time.
-use Rattle.std.proofs.Common.{◌≡◌, ℕ, suc, zero, ◌+◌, ◌-◌, ◌<◌, Bool, true, false, cond, List, [], ◌∷◌, refl, sym, ap, ◌∙◌, arith, inl, inr}
+-- The rights of a range of addresses.
+use Rattle.std.proofs.Common.{◌≡◌, ℕ, suc, zero, ◌+◌, Bool, true, false, cond, List, [], ◌∷◌, refl, sym, ap, ◌∙◌, inl, inr}
 use Rattle.std.specs.Prelude.{Option, Some, None}
 use Rattle.std.specs.FinMap.{get}
 use Rattle.std.proofs.lemmas.Bool.Decides.{eqb_tells}
 use Rattle.memory_model.specs.Memory.{Memory, Cell}
-use Rattle.memory_model.specs.Access.{fault_at, range_fault, byte_of, bytes_at, with_byte, put_bytes}
+use Rattle.memory_model.specs.Access.{fault_at, range_fault, with_byte, put_bytes}
 use Rattle.memory_model.specs.declared.access.Rights.{Rights}
 use Rattle.memory_model.specs.declared.access.BusFault.{BusFault}
 use Rattle.memory_model.specs.declared.access.BusFault.TheVariants.{NoRight}
 use Rattle.memory_model.proofs.Memories.{get-insert}
-
-one_more : (n i : ℕ) → i < n → n - i ≡ suc (n - (i + 1))
-one_more n i h = omega arith
-
-pub range_fault-next : (right : Rights → Bool) (m : Memory) (at n i : ℕ) → i < n → range_fault right m (at + i) (n - i) ≡ fault_at right (get m (at + i)) (range_fault right m (at + (i + 1)) (n - (i + 1)))
-range_fault-next right m at n i h = ap (range_fault right m (at + i)) (one_more n i h) ∙ ap (λ a. fault_at right (get m (at + i)) (range_fault right m a (n - (i + 1)))) (omega arith)
-
-pub bytes_at-next : (m : Memory) (at n i : ℕ) → i < n → bytes_at m (at + i) (n - i) ≡ byte_of (get m (at + i)) ∷ bytes_at m (at + (i + 1)) (n - (i + 1))
-bytes_at-next m at n i h = ap (bytes_at m (at + i)) (one_more n i h) ∙ ap (λ a. byte_of (get m (at + i)) ∷ bytes_at m a (n - (i + 1))) (omega arith)
 
 -- what is written keeps its rights
 fault_at-with_byte : (right : Rights → Bool) (m : Memory) (q b p : ℕ) (c : Option Cell) (rest : Option BusFault) → get m q ≡ c → fault_at right (get (with_byte m q b c) p) rest ≡ fault_at right (get m p) rest

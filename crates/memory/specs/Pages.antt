@@ -1,5 +1,5 @@
 -- Where the pages of a process are kept: in runs of words.
-use Rattle.std.specs.Prelude.{◌≡◌, ℕ, ◌-◌, ◌*◌, ◌&&◌, Bool, true, false, nat_lt, nat_le, if◌then◌else◌, ◌/◌, ◌%◌, List, [], ◌∷◌, length, slice_index_or, slice_set, Option, Some, None}
+use Rattle.std.specs.Prelude.{◌≡◌, ℕ, ◌+◌, ◌-◌, ◌*◌, ◌<◌, ◌&&◌, Bool, true, false, nat_lt, nat_le, if◌then◌else◌, ◌/◌, ◌%◌, List, [], ◌∷◌, ◌++◌, length, take, drop, slice_index_or, slice_set, Option, Some, None}
 use Rattle.memory.specs.Words.{Word, word_fault, memory_of_words}
 use Rattle.memory_model.specs.Access.{put_bytes, to_write}
 use Rattle.memory_model.specs.Bytes.{put_in}
@@ -37,6 +37,10 @@ words_of own shared n = word_among true own (word_among false shared None n) n
 abbrev pub with_bytes : Pages → ℕ → List ℕ → Pages
 with_bytes p at bytes = record { first = p.first; read = p.read; execute = p.execute; words = slice_set p.words (at / 4 - p.first) (put_in (bytes_of p (at / 4)) (at % 4) bytes) }
 
+-- a run with these words from word n on
+abbrev pub with_words : Pages → ℕ → List (List ℕ) → Pages
+with_words p n ws = record { first = p.first; read = p.read; execute = p.execute; words = take (n - p.first) p.words ++ (ws ++ drop (n - p.first + length ws) p.words) }
+
 -- the run of pages from a page on that bytes fill
 abbrev pub pages_of : ℕ → Rights → List ℕ → Pages
 pages_of page rights bytes = record { first = page * 1024; read = rights.read; execute = rights.execute; words = first_chunks 4 (length bytes / 4) bytes }
@@ -59,3 +63,11 @@ abbrev pub Stores : List Pages → ℕ → List ℕ → List Pages → Type 0
 Stores old at bytes new =
     ((rest : Option Word) → word_fault to_write (word_among true old rest (at / 4)) ≡ None)
     × ((rest : ℕ → Option Word) → memory_of_words (λ n. word_among true new (rest n) n) ≡ put_bytes (memory_of_words (λ n. word_among true old (rest n) n)) at bytes)
+
+-- each of these runs that has word m has word n too
+abbrev pub HaveBoth : List Pages → ℕ → ℕ → Type 0
+HaveBoth ps n m = (i : ℕ) (d : Pages) → i < length ps → has_word (slice_index_or ps i d) m ≡ true → has_word (slice_index_or ps i d) n ≡ true
+
+-- a process's own runs after bytes were put from an address on, whatever else stands in the memory
+abbrev pub Puts : List Pages → ℕ → List ℕ → List Pages → Type 0
+Puts old at bytes new = (rest : ℕ → Option Word) → memory_of_words (λ n. word_among true new (rest n) n) ≡ put_bytes (memory_of_words (λ n. word_among true old (rest n) n)) at bytes

@@ -1,6 +1,7 @@
 //! Bytes in and out, as the caller sees it: `copy_in` is from the program's memory to the caller, `copy_out` from the caller
-//! to the program's memory. No byte stands past the greatest address, so a copy that would pass it is Unmapped.
-ghost use Rattle.std.specs.Prelude.{◌≡◌, ◌+◌, ◌/◌, ◌%◌, ◌^◌, ◌<◌, ◌≤◌, IfOk, IfNone, IfSome, OnOk, OnErr, Some, option_map, length};
+//! to the program's memory. No byte stands past the greatest address, so a copy that would pass it is Unmapped. Copies and tests
+//! go by stretches: one look-up finds all bytes that stand together in a run.
+ghost use Rattle.std.specs.Prelude.{◌≡◌, ◌+◌, ◌/◌, ◌%◌, ◌^◌, ◌<◌, ◌≤◌, IfOk, IfNone, IfSome, OnOk, OnErr, None, Some, option_map, length, take};
 ghost use Rattle.std.specs.FinMap.{get};
 ghost use Rattle.memory_model.specs.Access.{range_fault, or_fault, bytes_at, put_bytes, is_writable, to_read, to_write};
 ghost use Rattle.memory.specs.Access.{right_of};
@@ -77,8 +78,9 @@ impl Space {
         if let Some(fault) = self.first_fault(Access::Write, at, bytes.len()) {
             return Err(fault);
         }
-        for (i, byte) in bytes.iter().enumerate() {
-            self.store(at + i as u32, Width::Byte, u32::from(*byte))?;
+        let mut done = 0;
+        while done < bytes.len() {
+            done += self.put_some(at + done as u32, &bytes[done..]);
         }
         Ok(())
     }
@@ -104,25 +106,64 @@ impl Space {
         ensures fault { result ≡ range_fault (right_of access) self.now at n }
         ensures within { IfNone result (at + n ≤ 2 ^ 32) }
     {
-        for i in 0..n {
-            match self.cell(u64::from(at) + i as u64) {
-                Some((_, rights)) if access.is_allowed(rights) => {}
-                Some(_) => return Some(BusFault::NoRight),
-                None => return Some(BusFault::Unmapped),
+        let mut done = 0;
+        while done < n {
+            let Some((bytes, rights)) = self.stretch(u64::from(at) + done as u64, n - done) else {
+                return Some(BusFault::Unmapped);
+            };
+            if !access.is_allowed(rights) {
+                return Some(BusFault::NoRight);
             }
+            done += bytes.len();
         }
         None
     }
 
-    /// A copy of n bytes from an address on, whatever their rights.
+    /// A copy of n bytes from an address on, which may all be read.
     fn copy_of(&self, alloc: Global, at: u32, n: u32) -> Result<Bytes, AllocError>
-        requires { at + n ≤ 2 ^ 32 }
+        requires readable { range_fault to_read self.now at n ≡ None }
+        requires within { at + n ≤ 2 ^ 32 }
         ensures { IfOk result (λ bytes. bytes ≡ bytes_at self.now at n) }
     {
         let mut bytes = Vec::with_capacity(alloc, n as usize)?;
-        for i in 0..n {
-            bytes.push(self.byte(at + i).unwrap_or(0))?;
+        while bytes.len() < n as usize {
+            let done = bytes.len();
+            let place = u64::from(at) + done as u64;
+            let Some((found, _)) = self.stretch(place, n as usize - done) else {
+                unreachable!()
+            };
+            bytes.extend_from_slice(found)?;
         }
         Ok(Bytes::new(bytes))
+    }
+
+    /// Puts the first of these bytes at an address that may be written, and answers how many: whole words as far as one run has
+    /// them, and one byte where there is none.
+    fn put_some(&mut self, at: u32, bytes: &[u8]) -> usize
+        requires some { 0 < length bytes.now }
+        requires writable { range_fault to_write self.old at 1 ≡ None }
+        ensures some { 0 < result }
+        ensures within { result ≤ length bytes.now }
+        ensures put { self.new ≡ put_bytes self.old at (take result bytes.now) }
+    {
+        let count = self.put_words(at, bytes);
+        if count > 0 {
+            return count;
+        }
+        let _ = self.store(at, Width::Byte, u32::from(bytes[0]));
+        1
+    }
+
+    /// Puts the first of these bytes from an address on, and answers how many: the whole words that one run has there. None where
+    /// the address is no multiple of four.
+    fn put_words(&mut self, at: u32, bytes: &[u8]) -> usize
+        ensures within { result ≤ length bytes.now }
+        ensures put { self.new ≡ put_bytes self.old at (take result bytes.now) }
+    {
+        if at % 4 != 0 {
+            return 0;
+        }
+        let (words, _) = bytes.as_chunks::<4>();
+        4 * self.own.put(at / 4, words)
     }
 }

@@ -16,6 +16,7 @@ mod own;
 mod part;
 mod place;
 mod space;
+mod stretch;
 
 pub use fault::CopyFault;
 pub use kept::KeptSpace;

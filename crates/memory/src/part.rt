@@ -1,13 +1,16 @@
 //! A run of pages as words.
-ghost use Rattle.std.specs.Prelude.{◌≡◌, ◌+◌, ◌-◌, ◌*◌, ◌%◌, ◌/◌, ◌^◌, ◌<◌, ◌≤◌, ◌==◌, Bool, Some, IfOk, IfSome, IfNone, IsTrue, ◌↔◌, length, slice_index, true, false};
+ghost use Rattle.std.specs.Prelude.{◌≡◌, ℕ, ◌+◌, ◌-◌, ◌*◌, ◌%◌, ◌/◌, ◌^◌, ◌<◌, ◌≤◌, ◌==◌, Bool, Some, IfOk, IfSome, IfNone, IsTrue, ◌↔◌, length, slice_index, slice_index_or, take, [], true, false};
 ghost use Rattle.memory_model.specs.Access.{size, low_bytes, to_read, to_execute};
 ghost use Rattle.memory_model.specs.Bytes.{value_in, put_in};
 ghost use Rattle.memory.specs.Words.{word_taken};
-ghost use Rattle.memory.specs.Pages.{has_word, bytes_of, no_pages, word_in, with_bytes, pages_of};
+ghost use Rattle.memory.specs.Pages.{has_word, bytes_of, no_pages, word_in, with_bytes, with_words, pages_of};
 
 use memory_model::{BusFault, Rights, Width};
 use std::alloc::{AllocError, Global};
 use std::marker::Model;
+
+/// One above the number of the last word.
+pub(crate) const WORDS: u32 = 0x4000_0000;
 
 /// A run of pages with one set of rights, as words: word n is the one at address 4n. Whether they may be written is the right of
 /// the list that the run stands in.
@@ -171,6 +174,50 @@ impl Part {
         let k = (at / 4 - self.first) as usize;
         write_word(&mut self.words[k], at % 4, width, value);
     }
+
+    /// Where this run begins, if that is past word n and before `end`; else `end`.
+    pub fn next_start(&self, n: u32, end: u32) -> u32
+        requires { n < end }
+        ensures past { n < result }
+        ensures within { result ≤ end }
+        ensures none { (m : ℕ) → n ≤ m → m < result → has_word self.now m ≡ true → has_word self.now n ≡ true }
+    {
+        if n < self.first && self.first < end {
+            self.first
+        } else {
+            end
+        }
+    }
+
+    /// The bytes from an address on that stand in this run before word `end`, at most `most`.
+    pub fn bytes(&self, at: u32, end: u32, most: usize) -> &[u8]
+        requires here { has_word self.now (at / 4) ≡ true }
+        requires past { at / 4 < end }
+        requires some { 0 < most }
+        ensures some { 0 < length result.now }
+        ensures most { length result.now ≤ most }
+        ensures range { at + length result.now ≤ 2 ^ 32 }
+        ensures here { (j : ℕ) → j < length result.now → has_word self.now ((at + j) / 4) ≡ true }
+        ensures within { (j : ℕ) → j < length result.now → (at + j) / 4 < end }
+        ensures bytes { (j : ℕ) → j < length result.now → slice_index result.now j ≡ slice_index (bytes_of self.now ((at + j) / 4)) ((at + j) % 4) }
+    {
+        let k = (at / 4 - self.first) as usize;
+        let past = self.words.len().min((end - self.first) as usize);
+        bytes_in(&self.words[k..past], (at % 4) as usize, most)
+    }
+
+    /// Puts the first of these words at word n and after it, as many as this run has there. Answers how many.
+    pub fn put(&mut self, n: u32, words: &[[u8; 4]]) -> usize
+        requires here { has_word self.old n ≡ true }
+        ensures count { result ≤ length words.now }
+        ensures within { n + result ≤ self.old.first + length self.old.words }
+        ensures pages { self.new ≡ with_words self.old n (take result words.now) }
+    {
+        let k = (n - self.first) as usize;
+        let count = words.len().min(self.words.len() - k);
+        self.words[k..k + count].copy_from_slice(&words[..count]);
+        count
+    }
 }
 
 /// Whether words are the same. Their bytes are compared as one slice, which is much faster than word by word.
@@ -178,6 +225,19 @@ pub(crate) fn are_same_words(words: &[[u8; 4]], others: &[[u8; 4]]) -> bool
     ensures { IsTrue result ↔ (words.now ≡ others.now) }
 {
     words.as_flattened() == others.as_flattened()
+}
+
+/// The bytes of these words past those that are skipped, at most `most`.
+fn bytes_in(words: &[[u8; 4]], skipped: usize, most: usize) -> &[u8]
+    requires { skipped < 4 * length words.now }
+    ensures some { 0 < most → 0 < length result.now }
+    ensures most { length result.now ≤ most }
+    ensures within { skipped + length result.now ≤ 4 * length words.now }
+    ensures bytes { (j : ℕ) → j < length result.now → slice_index result.now j ≡ slice_index (slice_index_or words.now ((skipped + j) / 4) []) ((skipped + j) % 4) }
+{
+    let bytes = words.as_flattened();
+    let count = most.min(bytes.len() - skipped);
+    &bytes[skipped..skipped + count]
 }
 
 /// Whether an address is a multiple of a width.

@@ -1,7 +1,7 @@
 //! Which run has a word; the first that has it decides.
-ghost use Rattle.std.specs.Prelude.{◌≡◌, Option, IfSome, map, option_map, position, true};
+ghost use Rattle.std.specs.Prelude.{◌≡◌, ℕ, ◌<◌, ◌≤◌, Option, IfSome, Some, map, option_map, position, true};
 ghost use Rattle.memory.specs.Words.{IsReadable};
-ghost use Rattle.memory.specs.Pages.{has_word, word_in, words_of};
+ghost use Rattle.memory.specs.Pages.{HaveBoth, has_word, word_in, words_of};
 
 use crate::own::OwnParts;
 use crate::part::Part;
@@ -23,11 +23,41 @@ pub fn place_of_shared(parts: &[Arc<Part>], n: u32) -> Option<usize>
     parts.iter().position(|part| part.has(n))
 }
 
-/// The first run that has word n, and whether it may be written.
+/// The lowest word past n and before `end` at which one of these runs begins; else `end`.
+pub fn next_start_of(parts: &[Part], n: u32, end: u32) -> u32
+    requires { n < end }
+    ensures past { n < result }
+    ensures within { result ≤ end }
+    ensures none { (m : ℕ) → n ≤ m → m < result → HaveBoth parts.now n m }
+{
+    let mut next = end;
+    for part in parts {
+        next = part.next_start(n, next);
+    }
+    next
+}
+
+/// As `next_start_of`, over shared runs.
+pub fn next_start_shared(parts: &[Arc<Part>], n: u32, end: u32) -> u32
+    requires { n < end }
+    ensures past { n < result }
+    ensures within { result ≤ end }
+    ensures none { (m : ℕ) → n ≤ m → m < result → HaveBoth (map (λ a. a.value) parts.now) n m }
+{
+    let mut next = end;
+    for part in parts {
+        next = part.next_start(n, next);
+    }
+    next
+}
+
+/// The first run that has word n, and whether it may be written. It has the words after n too, up to its end or to the next run
+/// that begins.
 #[inline]
 pub fn part_of<'a>(own: &'a OwnParts, shared: &'a [Arc<Part>], n: u32) -> Option<(&'a Part, bool)>
     ensures word { option_map (λ f. word_in f.1 f.0.now n) result ≡ words_of own.now (map (λ a. a.value) shared.now) n }
     ensures here { IfSome result (λ f. has_word f.0.now n ≡ true) }
+    ensures along { IfSome result (λ f. (m : ℕ) → HaveBoth own.now n m → HaveBoth (map (λ a. a.value) shared.now) n m → has_word f.0.now m ≡ true → words_of own.now (map (λ a. a.value) shared.now) m ≡ Some (word_in f.1 f.0.now m)) }
 {
     if let Some(part) = own.part_of(n) {
         return Some((part, true));

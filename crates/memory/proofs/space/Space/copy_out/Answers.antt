@@ -1,43 +1,36 @@
--- One more byte is written, and the rights stay.
-use Rattle.std.proofs.Common.{◌≡◌, ℕ, suc, ◌+◌, ◌-◌, ◌%◌, ◌^◌, List, [], ◌∷◌, length, drop, get_or, sym, ap, ◌∙◌, arith, drop-cons, rules}
-use Rattle.std.specs.FinMap.{get}
+-- One part more is written, and the rights stay.
+use Rattle.std.proofs.Common.{◌≡◌, ℕ, ◌+◌, ◌-◌, ◌<◌, List, length, drop, ap, ◌∙◌, arith, rules}
+use Rattle.std.proofs.lemmas.List.{length-drop}
+use Rattle.std.specs.List.{between}
+use Rattle.std.proofs.lemmas.Slice.{between_to_end}
 use Rattle.memory_model.specs.Memory.{Memory}
-use Rattle.memory_model.specs.Access.{range_fault, put_bytes, to_write}
-use Rattle.memory.proofs.Ranges.{range_fault-next, range_fault-put_bytes, fault_at-None}
+use Rattle.memory_model.specs.Access.{to_write}
+use Rattle.memory.proofs.Stretches.{put-step, may-step, range_fault-first}
 use Rattle.memory.proofs.space.Space.copy_out.Goals as goal
 
-pub loop-i-preserved : goal.loop-i-preserved
-loop-i-preserved c =
-    let m : Memory = c.loop-i.self in
+pub put_some-done-requires-clause-writable : goal.put_some-done-requires-clause-writable
+put_some-done-requires-clause-writable c =
     let bytes : List ℕ = c.args.bytes.now in
-    let i : ℕ = c.loop-i.i in
-    let a : ℕ = c.args.at + i in
-    let byte : c.from.result % 2 ^ 8 ≡ get_or bytes i 0 = omega (arith, c.from.ensures, c.type_inv.bytes i) in
-    let after : a + 1 ≡ c.args.at + (i + 1) = omega arith in
-    let next : i + 1 ≡ suc i = omega arith in
-    let new : c.store.new.self ≡ put_bytes m a (get_or bytes i 0 ∷ []) = c.in_ok-store.ensures.ok ∙ ap (λ (b : ℕ). put_bytes m a (b ∷ [])) byte in
+    let done : ℕ = c.loop-done.done in
+    let some : 0 < length bytes - done = omega arith in
+    range_fault-first to_write c.loop-done.self (c.args.at + done) (length bytes - done) c.loop-done.invariant.writable some
+
+pub loop-done-preserved : goal.loop-done-preserved
+loop-done-preserved c =
+    let m : Memory = c.loop-done.self in
+    let bytes : List ℕ = c.args.bytes.now in
+    let done : ℕ = c.loop-done.done in
+    let rest : List ℕ = between done (length bytes) bytes in
+    let is : rest ≡ drop done bytes = between_to_end bytes done (length bytes) (omega arith) in
     record {
-      rest = ap (λ (n : Memory). put_bytes n (c.args.at + (i + 1)) (drop (i + 1) bytes)) new
-          ∙ ap (λ (b : ℕ). put_bytes (put_bytes m a (get_or bytes i 0 ∷ [])) b (drop (i + 1) bytes)) (sym after)
-          ∙ ap (put_bytes m a) (ap (λ (j : ℕ). get_or bytes i 0 ∷ drop j bytes) next ∙ sym (drop-cons bytes i 0 c.loop-i-test.true))
-          ∙ c.loop-i.invariant.rest;
-      writable = ap (λ (n : Memory). range_fault to_write n (c.args.at + (i + 1)) (length bytes - (i + 1))) new
-          ∙ range_fault-put_bytes to_write (get_or bytes i 0 ∷ []) m a (c.args.at + (i + 1)) (length bytes - (i + 1))
-          ∙ fault_at-None to_write (get m a) _ (sym (range_fault-next to_write m c.args.at (length bytes) i c.loop-i-test.true) ∙ c.loop-i.invariant.writable);
+      rest = put-step m c.put_some-done.new.self c.args.at done c.put_some-done.result bytes rest is c.put_some-done.ensures.within c.put_some-done.ensures.put ∙ c.loop-done.invariant.rest;
+      writable = may-step m c.put_some-done.new.self c.args.at done c.put_some-done.result bytes rest is c.put_some-done.ensures.within c.put_some-done.ensures.put to_write c.loop-done.invariant.writable;
+      below = omega (arith, c.put_some-done.ensures.within, ap length is, length-drop done bytes, c.loop-done-test.true);
     }
 
 -- Without answers these would be proved too; with them, an edit that breaks one is refused sooner.
 pub returns-in-Some-clause-answer : goal.returns-in-Some-clause-answer
 returns-in-Some-clause-answer c = search rules
 
-pub loop-i-init : goal.loop-i-init
-loop-i-init c = search rules
-
-pub overflow_cast-i : goal.overflow_cast-i
-overflow_cast-i c = search rules
-
-pub overflow_add-at : goal.overflow_add-at
-overflow_add-at c = search rules
-
-pub returns-clause-answer : goal.returns-clause-answer
-returns-clause-answer c = search rules
+pub loop-done-init : goal.loop-done-init
+loop-done-init c = search rules
