@@ -14,10 +14,10 @@ use Rattle.debugger.specs.declared.halt.Halt.{Halt}
 use Rattle.debugger.specs.declared.halt.Halt.TheVariants as halt
 use Rattle.debugger.specs.Ways.{Leads}
 
-same_move : (t u : Traced) → Moves t ≡ Moves u → t ≡ u
+pub same_move : (t u : Traced) → Moves t ≡ Moves u → t ≡ u
 same_move t u e = cc
 
-rests_not : (why : Halt) (u : Traced) → Rests why ≡ Moves u → ⊥
+pub rests_not : (why : Halt) (u : Traced) → Rests why ≡ Moves u → ⊥
 rests_not why u e = cc
 
 -- a reply counts as one instruction

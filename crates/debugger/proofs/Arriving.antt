@@ -1,5 +1,5 @@
 -- Places of a program with its trace, by their counts.
-use Rattle.std.proofs.Common.{◌≡◌, ℕ, suc, zero, ◌+◌, ◌*◌, ◌<◌, ◌≤◌, List, [], ◌∷◌, ◌++◌, length, drop, Some, None, refl, sym, ap, subst, ◌∙◌, arith, inl, inr}
+use Rattle.std.proofs.Common.{◌≡◌, ℕ, suc, zero, ◌+◌, ◌*◌, ◌<◌, ◌≤◌, List, [], ◌∷◌, ◌++◌, length, drop, None, refl, sym, ap, subst, ◌∙◌, arith, inl, inr}
 use Rattle.std.specs.Prelude.{Option}
 use Rattle.std.proofs.lemmas.Option.{same_Some, none-some}
 use Rattle.machine_model.proofs.Lists.{slice_get-push}
@@ -24,7 +24,7 @@ pub reached-zero : (p : Program) (rs : List Reply) → reached p rs 0 ≡ traced
 reached-zero p rs = reached-along p rs 0 ∙ along-zero (traced (first_state p) rs)
 
 -- after some, and then more
-reached-add : (p : Program) (rs : List Reply) (m n : ℕ) → reached p rs (m + n) ≡ along n (reached p rs m)
+pub reached-add : (p : Program) (rs : List Reply) (m n : ℕ) → reached p rs (m + n) ≡ along n (reached p rs m)
 reached-add p rs m n =
     reached-along p rs (m + n) ∙ along-add m n (traced (first_state p) rs) ∙ ap (along n) (sym (reached-along p rs m))
 

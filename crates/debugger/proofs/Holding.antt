@@ -1,5 +1,5 @@
 -- What a debugger keeps, from call to call.
-use Rattle.std.proofs.Common.{◌≡◌, ℕ, ◌+◌, ◌-◌, ◌*◌, ◌/◌, ◌%◌, ◌^◌, ◌<◌, ◌≤◌, List, [], ◌∷◌, ◌++◌, length, get_or, refl, sym, ap, subst, ◌∙◌, arith}
+use Rattle.std.proofs.Common.{◌≡◌, ℕ, ◌+◌, ◌-◌, ◌*◌, ◌/◌, ◌^◌, ◌<◌, ◌≤◌, List, [], ◌∷◌, ◌++◌, length, get_or, refl, sym, ap, subst, ◌∙◌, arith}
 use Rattle.std.specs.Prelude.{Option}
 use Rattle.std.proofs.lemmas.List.{length_push, length-append, drop-append-le}
 use Rattle.std.proofs.lemmas.Option.{slice_get_read}
@@ -12,7 +12,7 @@ use Rattle.debugger.specs.Ways.{traced_at, Leads}
 use Rattle.debugger.specs.Keeping.{IsAt, IsKept, AreKept, Keeps}
 use Rattle.debugger.specs.declared.place.Place.{Place}
 use Rattle.debugger.specs.Traces.{Traced, traced}
-use Rattle.debugger.proofs.Along.{longer, reached-more, state-before}
+use Rattle.debugger.proofs.Along.{longer, reached-more}
 use Rattle.debugger.proofs.Arriving.{is_at-first, is_at-leads, is_at-same, kept-first, kept-push}
 
 -- at its first place

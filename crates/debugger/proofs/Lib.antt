@@ -1,7 +1,9 @@
 -- The proofs.
 pub mod Along
 pub mod Arriving
+pub mod Hitting
 pub mod Holding
 pub mod Least
 pub mod Onward
+pub mod Outside
 pub mod Stopping

@@ -1,6 +1,6 @@
 -- Runs of a machine as moves along its trace.
 use Rattle.std.proofs.Common.{◌≡◌, ℕ, suc, zero, ◌+◌, ◌-◌, ◌<◌, ◌≤◌, Bool, true, false, cond, List, [], ◌∷◌, length, get_or, drop, Some, None, refl, sym, ap, subst, ◌∙◌, arith}
-use Rattle.std.specs.Prelude.{◌≢◌, Option}
+use Rattle.std.specs.Prelude.{Option}
 use Rattle.std.proofs.lemmas.Option.{same_Some, none-some}
 use Rattle.machine_model.specs.States.{State, Stepped, Goes, Halts, Ran, next, run, reached_at, stands_at, by_step}
 use Rattle.machine_model.specs.declared.reply.Reply.{Reply}
@@ -12,7 +12,7 @@ use Rattle.std.proofs.lemmas.List.{drop_more}
 use Rattle.memory_model.specs.Access.{is_writable}
 use Rattle.machine_model.specs.Images.{Program}
 use Rattle.machine_model.specs.Replies.{in_image, replied, replied_by}
-use Rattle.debugger.specs.Traces.{EntersNext, Traced, traced, Next, Moves, Rests, brings_image, next_at_call, next_by, next_of, along, halt_of}
+use Rattle.debugger.specs.Traces.{EntersNext, Traced, traced, Moves, Rests, brings_image, next_at_call, next_by, next_of, along, halt_of}
 use Rattle.debugger.specs.declared.halt.Halt.{Halt}
 use Rattle.debugger.specs.declared.halt.Halt.TheVariants as halt
 use Rattle.debugger.specs.declared.place.StretchEnd.TheVariants as end
@@ -149,6 +149,12 @@ comes-on f g h done max count o leads came near onward =
     let within : came.done ≤ max = came.within in
     let some : 0 < came.done = came-some max g h o came (λ k less. onward-later done k f g leads (onward (done + k) (omega arith))) in
     (omega arith, omega arith, leads-same (done + came.done) (h.state.count - f.state.count) f h (omega arith) (leads-then done came.done f g h leads came.leads))
+
+-- one instruction more of a way to a count
+pub one-on : (f g h : Traced) (done count : ℕ) (o : Option Halt) → Leads done f g → Came 1 g o h → g.state.count < count → ((n : ℕ) → f.state.count + n < count → halt_of (next_of (along n f)) ≡ None) → Leads (done + 1) f h
+one-on f g h done count o leads came less onward =
+    let counts : g.state.count ≡ f.state.count + done = leads.counts in
+    leads-then done 1 f g h leads (came-one g h o (ap (λ (t : Traced). halt_of (next_of t)) (sym leads.moves) ∙ onward done (omega arith)) came)
 
 pub trap-not_limit : (cause : Cause) → Trap cause ≡ Limit → ⊥
 trap-not_limit cause e = cc

@@ -7,3 +7,6 @@ pub mod Edits
 pub mod Ways
 pub mod Places
 pub mod Keeping
+pub mod Backward
+pub mod Hits
+pub mod Accesses

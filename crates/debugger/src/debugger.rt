@@ -1,15 +1,20 @@
 //! The debugger.
-ghost use Rattle.std.specs.Prelude.{◌≡◌, ◌≢◌, ℕ, [], ◌∷◌, ◌++◌, ◌+◌, ◌%◌, ◌^◌, ◌<◌, ◌≤◌, Ok, None, Some, IfOk, IfErr, OnOk, OnErr, IsTrue, ◌↔◌};
+ghost use Rattle.std.specs.Prelude.{◌≡◌, ◌≢◌, ℕ, [], ◌∷◌, ◌++◌, ◌+◌, ◌-◌, ◌*◌, ◌/◌, ◌%◌, ◌^◌, ◌<◌, ◌≤◌, Ok, None, Some, IfOk, IfErr, OnOk, OnErr, IsTrue, ◌↔◌};
+ghost use Rattle.std.specs.Option.{option_or};
+ghost use Rattle.debugger.specs.Accesses.{LeavesOutside, next_access_of};
 ghost use Rattle.debugger.specs.Edits.{Changes};
+ghost use Rattle.debugger.specs.Hits.{last_below};
 ghost use Rattle.debugger.specs.Keeping.{Advances};
 ghost use Rattle.debugger.specs.Sessions.{TakesMemory, begins, break_count, break_of, halt_at, place_at};
 ghost use Rattle.debugger.specs.Stops.{after_step, answer_of, least_from};
 ghost use Rattle.debugger.specs.declared.fault.DebugFault.TheVariants.{BreakTableFull, NoSuchBreak, OutOfMemory, PastTrace};
 ghost use Rattle.debugger.specs.declared.stops.Stepped.TheVariants.{Went};
 
+use crate::access::Access;
 use crate::breakpoints::least_at;
 use crate::fault::DebugFault;
 use crate::halt::Halt;
+use crate::hits::Hit;
 use crate::kept::KeptPlace;
 use crate::place::Place;
 use crate::stops::{Stepped, stepped_by};
@@ -22,7 +27,7 @@ use std::marker::Model;
 pub const MOST_INSTRUCTIONS: u64 = 1 << 40;
 
 /// The places at counts that are multiples of this are kept.
-const SPAN: u64 = 1024;
+pub(crate) const SPAN: u64 = 1024;
 
 /// The most breakpoints that are set at a time.
 const MOST_BREAKS: usize = 64;
@@ -184,6 +189,16 @@ impl Debugger {
         self.reran
     }
 
+    /// What the next step loads or stores: an instruction its bytes, and a call the bytes of its reply, or all of the memory where
+    /// that has an image. None where the step does neither, or where a trap or the end of the trace keeps the machine from it.
+    /// What the kernel reads at a call is no load.
+    pub fn next_access(&self) -> Option<Access>
+        ensures access { result ≡ next_access_of (place_at self.now self.now.count) }
+        ensures outside { LeavesOutside (place_at self.now self.now.count) result }
+    {
+        self.place.next_access(self.replies.as_slice())
+    }
+
     pub(crate) fn count(&self) -> u64
         ensures value { result ≡ self.now.count }
         ensures within { result ≤ 2 ^ 40 }
@@ -196,6 +211,26 @@ impl Debugger {
         ensures { result ≡ least_from 0 self.now.breaks (place_at self.now self.now.count).state.hart.pc }
     {
         least_at(&self.breaks, self.place.machine.pc())
+    }
+
+    /// The last hit below a count, if it stands where the part of 1,024 instructions begins in which that count ends, or later.
+    pub(crate) fn last_hit_of_part(&self, end: u64) -> Result<Option<Hit>, DebugFault>
+        requires some { 0 < end }
+        requires reached { end ≤ self.now.count }
+        ensures hit { IfOk result (λ hit. last_below self.now end ≡ option_or hit (last_below self.now (1024 * ((end - 1) / 1024)))) }
+        ensures memory { IfErr result (λ why. why ≡ OutOfMemory) }
+    {
+        let kept = &self.kept[((end - 1) / SPAN) as usize];
+        let mut start = kept.place(self.alloc)?;
+        let hit = start.last_hit(self.alloc, self.replies.as_slice(), &self.breaks, end)?;
+        Ok(hit)
+    }
+
+    /// Whether no breakpoint is set.
+    pub(crate) fn has_no_break(&self) -> bool
+        ensures { IsTrue result → (address : ℕ) → least_from 0 self.now.breaks address ≡ None }
+    {
+        self.breaks.is_empty()
     }
 
     /// How many instructions may be done before the breakpoints are looked at, up to a count: one where some are set.

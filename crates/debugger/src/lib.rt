@@ -2,15 +2,20 @@
 //! `Debugger` first. Each rewind comes to the state that the machine had at that count, and costs at most 1,023 instructions.
 #![tactic(auto)]
 
+mod access;
+mod backward;
 mod breakpoints;
 mod debugger;
 mod fault;
 mod halt;
+mod hits;
 mod kept;
+mod next_access;
 mod place;
 mod running;
 mod stops;
 
+pub use access::{Access, AccessKind};
 pub use debugger::{Debugger, MOST_INSTRUCTIONS};
 pub use fault::DebugFault;
 pub use machine::{Cause, Image, Machine, Reply};

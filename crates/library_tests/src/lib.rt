@@ -23,6 +23,8 @@ mod execution;
 #[cfg(test)]
 mod file_tables;
 #[cfg(test)]
+mod going_back;
+#[cfg(test)]
 mod groups;
 #[cfg(test)]
 mod image_files;

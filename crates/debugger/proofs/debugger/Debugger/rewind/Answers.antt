@@ -1,5 +1,5 @@
 -- Back from what is kept.
-use Rattle.std.proofs.Common.{◌≡◌, ℕ, ◌+◌, ◌-◌, ◌*◌, ◌/◌, ◌%◌, ◌≤◌, ◌^◌, List, length, None, sym, ap, subst, ◌∙◌, arith, rules}
+use Rattle.std.proofs.Common.{◌≡◌, ℕ, ◌-◌, ◌*◌, ◌/◌, ◌%◌, ◌≤◌, List, length, None, sym, ap, subst, ◌∙◌, arith, rules}
 use Rattle.machine_model.specs.declared.reply.Reply.{Reply}
 use Rattle.debugger.specs.Sessions.{Session}
 use Rattle.debugger.specs.Traces.{along, halt_of, next_of}

@@ -1,5 +1,5 @@
 -- One part of the way more.
-use Rattle.std.proofs.Common.{◌≡◌, ◌+◌, ◌-◌, ◌*◌, ◌%◌, ◌<◌, ◌≤◌, arith}
+use Rattle.std.proofs.Common.{◌≡◌, ◌-◌, ◌<◌, ◌≤◌, arith}
 use Rattle.debugger.specs.Ways.{traced_at}
 use Rattle.debugger.proofs.Along.{leads-none, leads-same}
 use Rattle.debugger.proofs.Onward.{comes-on}
