@@ -88,6 +88,15 @@ turned-fine tasks new events pid n before later a t =
     turn-fine (process_of t.ran.task) (is_some (out_of t.ran.task)) (full_of events tasks) n
     (sym (turn-place tasks (full_of events tasks) pid t.place n t.ran.task t.placed t.ran.there) ∙ t.fine)
 
+-- as many are out as before
+pub turned-out : (old new : List Task) (events pid n : ℕ) (before later : List Marked) (a : Answer) → Turned events pid n old new before later a
+    → count_out new ≡ count_out old
+turned-out old new events pid n before later a t =
+    let task : Task = t.ran.task in
+    ap (λ (ts : List Task). count_out ts) t.ran.after
+    ∙ count-set-same (λ (u : Task). is_some (out_of u)) old t.place task (record task { whereabouts = Here (run n (machine_of task)).state }) t.ran.there
+    (sym (ap (λ (o : Option ℕ). is_some o) t.ran.here))
+
 pub turned-core : TurnGrows → (b : Boot) (history history' : List Event) (old new : List Task) (s : System) (d : Kept) (pid n : ℕ) (a : Answer)
     → KeepsRun b history old s → history' ≡ history ++ Turn pid n ∷ []
     → Turned (length history) pid n old new s.dependencies.marks d.marks a
@@ -103,10 +112,7 @@ turned-core law b history history' old new s d pid n a h grown t =
     turn-happens w pid n of.process of.there (ap (λ (o : Option ℕ). is_some o) of.status ∙ fine.running) in
     let log : (happens w (Turn pid n)).log ≡ w.log ++ own_entry pid ∷ [] = ap (λ (v : World). v.log) next in
     let files : (happens w (Turn pid n)).sync.files ≡ w.sync.files = ap (λ (v : World). v.sync.files) next in
-    let out : count_out new ≡ count_out old =
-    ap (λ (ts : List Task). count_out ts) t.ran.after
-    ∙ count-set-same (λ (u : Task). is_some (out_of u)) old t.place task (record task { whereabouts = Here (run n (machine_of task)).state }) t.ran.there
-    (sym (ap (λ (o : Option ℕ). is_some o) t.ran.here)) in
+    let out : count_out new ≡ count_out old = turned-out old new (length history) pid n s.dependencies.marks d.marks a t in
     let lendings : map lending_of new ≡ map lending_of old =
     ap (λ (ts : List Task). map lending_of ts) t.ran.after
     ∙ map-set-same lending_of old t.place task (record task { whereabouts = Here (run n (machine_of task)).state }) t.ran.there

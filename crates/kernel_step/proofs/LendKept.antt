@@ -107,6 +107,12 @@ lent-tasks w served tasks place quantum t u h there fit lent =
       ];
     }
 
+-- one loan more is out
+pub lent-more : (old new : List Task) (quantum served from : ℕ) (loan : Loan) → Lent quantum served from old new loan → count_out new ≡ count_out old + 1
+lent-more old new quantum served from loan lent =
+    ap (λ (ts : List Task). count_out ts) lent.after
+    ∙ count_out-lent quantum old lent.place lent.task lent.later lent.there (fits quantum served lent.task lent.fit).here lent.lent.out
+
 pub lent-core : (b : Boot) (history : List Event) (old new : List Task) (system : System) (quantum from : ℕ) (loan : Loan)
     → KeepsRun b history old system → full_for_loan_of (length history) old ≡ false → Lent quantum system.served from old new loan → KeepsRun b history new system
 lent-core b history old new system quantum from loan h room lent =

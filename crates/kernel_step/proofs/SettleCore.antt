@@ -250,14 +250,21 @@ settled-loans n m q tasks place t u more there out same h =
     let had : t.loans ≤ n + 1 = subst (λ (o : Option ℕ). t.loans ≤ n + unsettled o) out (few-at n tasks place t h there) in
     few-put m tasks place u (omega (arith, more, had, same)) (few-longer n m (map lending_of tasks) (omega (arith, more)) h)
 
+-- one loan fewer is out
+pub taken-out : (b : Boot) (history history' : List Event) (tasks new : List Task) (last place : ℕ) (t u : Task) (s' : System) (d : Done) (a : Answer)
+    → slice_get tasks place ≡ Some t → IsLoanOf t d → IsTaken b history history' tasks new last place t u s' d a
+    → count_out new + 1 ≡ count_out tasks
+taken-out b history history' tasks new last place t u s' d a there of taken =
+    ap (λ (n : ℕ). n + 1) (child-out (slice_set tasks place u) new taken.child taken.lendings)
+    ∙ count-back tasks place d.quantum t u there of.out taken.out
+
 pub taken-core : (b : Boot) (history history' : List Event) (tasks new : List Task) (s s' : System) (last place : ℕ) (t u : Task) (d : Done) (a : Answer)
     → KeepsRun b history tasks s → slice_get tasks place ≡ Some t → IsLoanOf t d → IsTaken b history history' tasks new last place t u s' d a
     → KeepsRun b history' new s'
 taken-core b history history' tasks new s s' last place t u d a h there of taken =
     let es : List Event = events_of (loan_result d) in
     let was : length history + 2 * count_out tasks ≤ 2 ^ 40 = h.room in
-    let less : count_out (slice_set tasks place u) + 1 ≡ count_out tasks = count-back tasks place d.quantum t u there of.out taken.out in
-    let same : count_out new ≡ count_out (slice_set tasks place u) = child-out (slice_set tasks place u) new taken.child taken.lendings in
+    let less : count_out new + 1 ≡ count_out tasks = taken-out b history history' tasks new last place t u s' d a there of taken in
     let few : length es ≤ 2 = few-events (loan_result d) in
     let longer : length (history ++ es) ≡ length history + length es = length-append history es in
     subst (λ (xs : List Event). KeepsRun b xs new s') (sym taken.grown) (record {
@@ -265,7 +272,7 @@ taken-core b history history' tasks new s s' last place t u d a h there of taken
           subst (λ (v : World). Mirrors v new s') (sym (after-after (first_world b) history es)) taken.mirrors;
       footprints =
           subst (λ (v : World). AreFootprints (history ++ es) v.log s'.footprints.footprints) (sym (after-after (first_world b) history es)) taken.footprints;
-      room = omega (arith, was, less, same, few, longer);
+      room = omega (arith, was, less, few, longer);
       loans =
           subst (λ (ls : List Lending). AreFewLoans (length (history ++ es)) ls) (sym taken.lendings)
           (few-child (length (history ++ es)) (map lending_of (slice_set tasks place u)) taken.child
@@ -298,12 +305,16 @@ pub record IsTakenOf (b : Boot) (history history' : List Event) (tasks new : Lis
   pub taken : IsTaken b history history' tasks new last place task after s' d a
 
 -- a result that is not taken back changes nothing
+pub kept-out : (tasks : List Task) (place : ℕ) (t u : Task) → slice_get tasks place ≡ Some t → IsSameTask t u
+    → count_out (slice_set tasks place u) ≡ count_out tasks
+kept-out tasks place t u there same = same-out tasks (slice_set tasks place u) (same-lendings tasks place t u there same.loans same.out)
+
 pub kept-core : (b : Boot) (history history' : List Event) (tasks : List Task) (s s' : System) (place : ℕ) (t u : Task)
     → KeepsRun b history tasks s → slice_get tasks place ≡ Some t → history' ≡ history → IsSameTask t u → IsSameSystem s s'
     → KeepsRun b history' (slice_set tasks place u) s'
 kept-core b history history' tasks s s' place t u h there same_history same rest =
     let lendings = same-lendings tasks place t u there same.loans same.out in
-    let out : count_out (slice_set tasks place u) ≡ count_out tasks = same-out tasks (slice_set tasks place u) lendings in
+    let out : count_out (slice_set tasks place u) ≡ count_out tasks = kept-out tasks place t u there same in
     let was : length history + 2 * count_out tasks ≤ 2 ^ 40 = h.room in
     subst (λ (xs : List Event). KeepsRun b xs (slice_set tasks place u) s') (sym same_history) (record {
       mirrors = same-mirrors (run_of b history) tasks s s' place t u there same rest h.mirrors;
@@ -342,8 +353,8 @@ only-room s d marks = record {
 
 -- no task has changed
 pub unsettled-same : (old new : Running) (place : ℕ) → place < length old.tasks.items → new.tasks.items ≡ old.tasks.items → IsSameSystem old.system new.system
-    → new.history.items ≡ old.history.items → new.ran ≡ old.ran → new.last_lent ≡ old.last_lent → IsNotSettled place old new
-unsettled-same old new place within is system history ran last =
+    → new.history.items ≡ old.history.items → new.ran ≡ old.ran → new.out ≡ old.out → new.last_lent ≡ old.last_lent → IsNotSettled place old new
+unsettled-same old new place within is system history ran out last =
     let one = some-there old.tasks.items place within in
     record {
       task = one.0;
@@ -354,6 +365,7 @@ unsettled-same old new place within is system history ran last =
       system = system;
       history = history;
       ran = ran;
+      out = out;
       last_lent = last;
     }
 

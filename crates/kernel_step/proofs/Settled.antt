@@ -1,5 +1,5 @@
 -- A loan's result, taken back or not.
-use Rattle.std.proofs.Common.{◌≡◌, ◌∙◌, ℕ, ◌+◌, List, Some, None, Result, Ok, Err, refl, sym, ap, subst, slice_get}
+use Rattle.std.proofs.Common.{◌≡◌, ◌∙◌, ℕ, ◌+◌, List, Some, None, Result, Ok, Err, refl, sym, ap, subst, slice_get, arith}
 use Rattle.std.specs.Prelude.{IfOk, IfErr, OnErr}
 use Rattle.machine_model.specs.States.{stands_at}
 use Rattle.machine_model.specs.declared.stop.Stop.{Stop}
@@ -12,6 +12,7 @@ use Rattle.kernel_step.specs.Counted.{IsCounted}
 use Rattle.kernel_step.specs.Loaned.{loan_result}
 use Rattle.kernel_step.specs.Settling.{IsLoanOf, IsTurnSettled, IsCallSettled, IsNotSettled, LackedMemory}
 use Rattle.kernel_step.specs.Stands.{kernel_of, kernel_in, KeepsRun, Stands, TakesBack}
+use Rattle.kernel_step.specs.Tasks.{count_out}
 use Rattle.kernel_step.specs.declared.loan.Done.{Done}
 use Rattle.kernel_step.specs.declared.loan.Rejected.{Rejected}
 use Rattle.kernel_step.specs.declared.running.Running.{Running}
@@ -20,12 +21,13 @@ use Rattle.kernel_step.proofs.Counting.{counted-settle}
 use Rattle.kernel_step.proofs.EnterWorld.{EnterLaws}
 use Rattle.kernel_step.proofs.Noting.{TurnGrows, EnterGrows}
 use Rattle.kernel_step.proofs.SettleAccepted.{events-accepted}
-use Rattle.kernel_step.proofs.SettleCore.{IsTaken, IsTakenOf, own-loan, turn-taken, enter-taken, taken-core, taken-events, kept-core, kept-kernel, get-one}
+use Rattle.kernel_step.proofs.SettleCore.{IsTaken, IsTakenOf, own-loan, turn-taken, enter-taken, taken-core, taken-out, taken-events, kept-core, kept-out, kept-kernel, get-one}
 
 -- the parts follow the result's events, and its instructions are counted
 record IsTakenAndCounted (b : Boot) (d : Done) (place : ℕ) (old new : Running) (a : Answer) : Type 0 where
   taken : IsTakenOf b old.history.items new.history.items old.tasks.items new.tasks.items old.last_lent place new.system d a
   ran : new.ran ≡ old.ran + d.count
+  out : new.out + 1 ≡ old.out
   last_lent : new.last_lent ≡ old.last_lent
 
 -- the same of these tasks
@@ -47,6 +49,13 @@ settles b old new place t d (Ok a) h number there of done same back =
       counted =
           counted-settle b history later tasks after old.system new.system old.last_lent place old.ran new.ran t d (Ok a) h.parts number there of h.counted
           all tt done.ran tt;
+      out =
+          let less : count_out after + 1 ≡ count_out tasks =
+          taken-out b history later tasks after old.last_lent place all.task all.after new.system d a all.there all.of all.taken in
+          let was : old.out ≡ count_out tasks = h.out in
+          let fewer : new.out + 1 ≡ old.out = done.out in
+          let is : new.out ≡ count_out after = omega (arith, less, was, fewer) in
+          is;
     }
     in record {
       stands = stands;
@@ -78,6 +87,9 @@ settles b old new place t d (Err e) h number there of done same back =
         counted =
             subst (λ (xs : List Event). IsCounted b xs new.ran) (sym same.history)
             (subst (λ (n : ℕ). IsCounted b history n) (sym same.ran) h.counted);
+        out =
+            same.out ∙ h.out
+            ∙ sym (ap (λ (ts : List Task). count_out ts) same.tasks ∙ kept-out tasks place same.task same.after same.there same.same);
       };
       settles = record {
         own = tt;
@@ -132,6 +144,7 @@ turn-settles law b old new place t d (Ok a) h number there of stands done same b
             h.parts number done.there own stands done.back done.system done.history done.answer);
       };
       ran = done.ran;
+      out = done.out;
       last_lent = done.last_lent;
     }) same back
 turn-settles law b old new place t d (Err e) h number there of stands done same back = settles b old new place t d (Err e) h number there of tt same back
@@ -152,6 +165,7 @@ call-settles laws turns enters b old new place t d at (Ok a) h number there of s
         taken = enter-taken laws turns enters b old new place d at a h.parts number stands done own;
       };
       ran = done.ran;
+      out = done.out;
       last_lent = done.last_lent;
     }) same back
 call-settles laws turns enters b old new place t d at (Err e) h number there of stands done same back = settles b old new place t d (Err e) h number there of tt same back

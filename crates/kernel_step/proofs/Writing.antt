@@ -113,6 +113,10 @@ pub tasks-lendings : (c : ℕ) (old new : List Task) → AreMoved c old new → 
 tasks-lendings c old new m = map-each lending_of old new m.count
     (λ i t there. let before = m.each i t there in (before.0, before.1, lending-moved c before.0 t before.2))
 
+-- as many are out as before
+pub moved-out : (c : ℕ) (old new : List Task) → AreMoved c old new → count_out new ≡ count_out old
+moved-out c old new m = same-out old new (tasks-lendings c old new m)
+
 pub tasks-moved : (w : World) (served : ℕ) (st : Storage) (old new : List Task) → AreTasks w served old → AreMoved st.committed old new → AreTasks (stored_world w st) served new
 tasks-moved w served st old new h m = record {
   processes = tasks-processes st.committed old new m ∙ h.processes;
@@ -130,10 +134,10 @@ still w served place t h = record {
   waited = refl;
 }
 
-tasks-still : (w : World) (served : ℕ) (tasks : List Task) → AreTasks w served tasks → AreMoved w.storage.committed tasks tasks
+pub tasks-still : (w : World) (served : ℕ) (tasks : List Task) → AreTasks w served tasks → AreMoved w.storage.committed tasks tasks
 tasks-still w served tasks h = record { count = refl; each = λ i t there. (t, there, still w served i t (h.each i t there)) }
 
-screens-still : (c : ℕ) (log : List Entry) (screens : List (Withheld ℕ)) → AreScreens c log screens → AreAdvanced c screens screens
+pub screens-still : (c : ℕ) (log : List Entry) (screens : List (Withheld ℕ)) → AreScreens c log screens → AreAdvanced c screens screens
 screens-still c log screens h = record {
   count = refl;
   each = λ t s there. (s, there, record { items = refl; committed = (h.each t s there).committed });
@@ -180,7 +184,7 @@ pub stored-core : DiskGrows → (b : Boot) (history history' : List Event) (old 
     → AreMoved st.committed old new → Mirrors (stored_world (run_of b history) st) new s'
     → KeepsRun b history' new s'
 stored-core law b history history' old new s s' e st full h is fine grown disk kept happen moved mirrors =
-    let out : count_out new ≡ count_out old = same-out old new (tasks-lendings st.committed old new moved) in
+    let out : count_out new ≡ count_out old = moved-out st.committed old new moved in
     let space : length history + 2 * count_out old < 2 ^ 40 = leb-false (2 ^ 40) (length history + 2 * count_out old) (sym is ∙ fine) in
     let longer : length (history ++ e ∷ []) ≡ length history + 1 = length_push history e in
     subst (λ (es : List Event). KeepsRun b es new s') (sym grown) (record {

@@ -46,13 +46,15 @@ pub record IsTurnNoted (pid : ℕ) (old new : System) : Type 0 where
   pub screens : new.screens.items ≡ old.screens.items
   pub committer : new.committer ≡ old.committer
 
--- a result of the process at this place may become a Turn: the place is there, and there is room to count its instructions
+-- a result of the process at this place may become a Turn: the place is there, a loan is out, and there is room to count its
+-- instructions
 pub record MaySettleTurn (place : ℕ) (r : Running) : Type 0 where
   pub within : place < length r.tasks.items
+  pub some : 0 < r.out
   pub few : r.ran < 2 ^ 63
 
--- a result became a Turn: the task at this place is back, the Turn is noted and joined the history, and its instructions are
--- counted
+-- a result became a Turn: the task at this place is back, and one loan fewer is out; the Turn is noted and joined the history, and
+-- its instructions are counted
 pub record IsTurnSettled (d : Done) (place : ℕ) (old new : Running) (a : Answer) : Type 0 where
   pub task : Task
   pub there : slice_get old.tasks.items place ≡ Some task
@@ -62,6 +64,7 @@ pub record IsTurnSettled (d : Done) (place : ℕ) (old new : Running) (a : Answe
   pub system : IsTurnNoted d.pid old.system new.system
   pub history : new.history.items ≡ old.history.items ++ Turn d.pid d.count ∷ []
   pub ran : new.ran ≡ old.ran + d.count
+  pub out : new.out + 1 ≡ old.out
   pub last_lent : new.last_lent ≡ old.last_lent
   pub answer : a ≡ answer_of.Settled d.count d.stop None
 
@@ -77,15 +80,16 @@ pub record IsTurnEntered (pid : ℕ) (m : State) (old new : Task) (before later 
   pub turn : IsOwnNoted pid before.dependencies.marks marks
   pub entered : IsDone pid middle new (marked_with before marks) later outcome child
 
--- a result of the process at this place may become a Turn and an Enter: the process may enter by its machine, and there is room to
--- count its instructions
+-- a result of the process at this place may become a Turn and an Enter: the process may enter by its machine, a loan is out, and
+-- there is room to count its instructions
 pub record MaySettleCall (d : Done) (place : ℕ) (r : Running) : Type 0 where
   pub within : place < length r.tasks.items
   pub fine : (t : Task) → slice_get r.tasks.items place ≡ Some t → MayEnter r.system d.pid d.machine t.trace
+  pub some : 0 < r.out
   pub few : r.ran < 2 ^ 63
 
--- a result became a Turn and an Enter of the task at this place, which joined the history; its instructions are counted, and a
--- child that it made comes after all tasks
+-- a result became a Turn and an Enter of the task at this place, which joined the history; its instructions are counted, one loan
+-- fewer is out, and a child that it made comes after all tasks
 pub record IsCallSettled (d : Done) (place : ℕ) (old new : Running) (a : Answer) : Type 0 where
   pub task : Task
   pub there : slice_get old.tasks.items place ≡ Some task
@@ -96,6 +100,7 @@ pub record IsCallSettled (d : Done) (place : ℕ) (old new : Running) (a : Answe
   pub tasks : new.tasks.items ≡ slice_set old.tasks.items place after ++ option_to_list child
   pub history : new.history.items ≡ old.history.items ++ Turn d.pid d.count ∷ Enter d.pid ∷ []
   pub ran : new.ran ≡ old.ran + d.count
+  pub out : new.out + 1 ≡ old.out
   pub last_lent : new.last_lent ≡ old.last_lent
   pub answer : a ≡ answer_of.Settled d.count d.stop (Some outcome)
 
@@ -109,6 +114,7 @@ pub record IsNotSettled (place : ℕ) (old new : Running) : Type 0 where
   pub system : IsSameSystem old.system new.system
   pub history : new.history.items ≡ old.history.items
   pub ran : new.ran ≡ old.ran
+  pub out : new.out ≡ old.out
   pub last_lent : new.last_lent ≡ old.last_lent
 
 -- memory ran out, and the result is handed back

@@ -1,5 +1,5 @@
 -- What the parts of a running kernel stand for.
-use Rattle.std.specs.Prelude.{ℕ, ◌+◌, ◌*◌, ◌^◌, ◌≤◌, List, length, map, Result}
+use Rattle.std.specs.Prelude.{◌≡◌, ℕ, ◌+◌, ◌*◌, ◌^◌, ◌≤◌, List, length, map, Result}
 use Rattle.footprints.specs.Footprints.{AreFootprints}
 use Rattle.kernel_model.specs.World.{Boot, run_of}
 use Rattle.kernel_model.specs.Answers.{Kernel, Applies}
@@ -32,10 +32,11 @@ pub record KeepsRun (b : Boot) (history : List Event) (tasks : List Task) (syste
   pub room : length history + 2 * count_out tasks ≤ 2 ^ 40
   pub loans : AreFewLoans (length history) (map lending_of tasks)
 
--- the parts are those of the run that was booted from this, and count its instructions
+-- the parts are those of the run that was booted from this, and count its instructions and the tasks that are out on loan
 pub record Stands (b : Boot) (r : Running) : Type 0 where
   pub parts : KeepsRun b r.history.items r.tasks.items r.system
   pub counted : IsCounted b r.history.items r.ran
+  pub out : r.out ≡ count_out r.tasks.items
 
 -- After an event the parts stand for the run with it, and the answer is its own; where it is refused, nothing has changed.
 pub record Steps (b : Boot) (e : Event) (old new : Running) (result : Result Answer Refused) : Type 0 where

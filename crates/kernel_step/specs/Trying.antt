@@ -20,9 +20,10 @@ is_history_full r = full_of (length r.history.items) r.tasks.items
 
 -- ---- a Turn
 
--- a Turn may be tried: the history, with two events kept for each loan that is out, is not too long, and there is room to count what
--- runs
+-- a Turn may be tried: the loans that are out are counted; the history, with two events kept for each, is not too long, and there is
+-- room to count what runs
 pub record MayTryTurn (r : Running) : Type 0 where
+  pub kept : r.out ≡ count_out r.tasks.items
   pub room : length r.history.items + 2 * count_out r.tasks.items ≤ 2 ^ 40
   pub few : r.ran < 2 ^ 63
 
@@ -33,6 +34,7 @@ pub record IsTurnAccepted (pid n : ℕ) (old new : Running) (a : Answer) : Type 
   pub system : new.system ≡ record old.system { dependencies = new.system.dependencies }
   pub history : new.history.items ≡ old.history.items ++ Turn pid n ∷ []
   pub ran : new.ran ≡ old.ran + ran_in a
+  pub out : new.out ≡ old.out
   pub last_lent : new.last_lent ≡ old.last_lent
 
 -- a Turn was refused, and nothing has changed, though there may be room for more
@@ -42,17 +44,19 @@ pub record IsTurnRefused (old new : Running) : Type 0 where
   pub system : new.system ≡ record old.system { dependencies = new.system.dependencies }
   pub history : new.history.items ≡ old.history.items
   pub ran : new.ran ≡ old.ran
+  pub out : new.out ≡ old.out
   pub last_lent : new.last_lent ≡ old.last_lent
 
 -- ---- an Enter
 
--- an Enter may be tried: the parts keep what some run says, whose tables keep their limits, and the history, with two events kept for
--- each loan that is out, is not too long
+-- an Enter may be tried: the parts keep what some run says, whose tables keep their limits; the loans that are out are counted, and
+-- the history, with two events kept for each, is not too long
 pub record MayTryEnter (r : Running) : Type 0 where
   pub world : World
   pub mirrors : Mirrors world r.tasks.items r.system
   pub limits : KeepLimits world.sync
   pub short : length world.log ≤ 2 ^ 40
+  pub kept : r.out ≡ count_out r.tasks.items
   pub room : length r.history.items + 2 * count_out r.tasks.items ≤ 2 ^ 40
 
 -- process pid entered the kernel: of whatever run the parts kept what it said, they do so after the Enter, which comes to this
@@ -66,6 +70,7 @@ pub record IsEnterAccepted (pid : ℕ) (old new : Running) (a : Answer) : Type 0
   pub lendings : (w : World) → Mirrors w old.tasks.items old.system → map lending_of new.tasks.items ≡ with_child (map lending_of old.tasks.items) (step w.sync (Enter pid)).entry.child
   pub history : new.history.items ≡ old.history.items ++ Enter pid ∷ []
   pub ran : new.ran ≡ old.ran
+  pub out : new.out ≡ old.out
   pub last_lent : new.last_lent ≡ old.last_lent
 
 -- an Enter was refused: of whatever run the parts kept what it said, they still do, and loans, history and counts are the same
@@ -75,4 +80,5 @@ pub record IsEnterRefused (old new : Running) : Type 0 where
   pub lendings : map lending_of new.tasks.items ≡ map lending_of old.tasks.items
   pub history : new.history.items ≡ old.history.items
   pub ran : new.ran ≡ old.ran
+  pub out : new.out ≡ old.out
   pub last_lent : new.last_lent ≡ old.last_lent

@@ -40,8 +40,9 @@ impl Running {
         silent_events_leave_marks();
         footprints_grow();
         let full = self.is_full();
+        let before = self.system.committer.committed();
         let committed = complete(&mut self.history, full, &mut self.system.committer, at)?;
-        release(&mut self.tasks, &mut self.system.screens, committed);
+        release(&mut self.tasks, &mut self.system.screens, before, committed);
         Ok(Answer::Completed { committed })
     }
 

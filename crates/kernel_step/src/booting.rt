@@ -85,6 +85,7 @@ impl Running {
             history: Vec::new(alloc),
             ran: 0,
             tasks,
+            out: 0,
             system,
             last_lent: 0,
         })

@@ -1,5 +1,5 @@
 //! Machines lent out, as a scheduler dispatches them.
-ghost use Rattle.std.specs.Prelude.{◌≡◌, ◌+◌, ◌*◌, ◌^◌, ◌<◌, ◌≤◌, None, take, drop, position, IfOk, IfErr, OnOk, OnErr};
+ghost use Rattle.std.specs.Prelude.{◌≡◌, ◌+◌, ◌*◌, ◌^◌, ◌<◌, ◌≤◌, None, length, take, drop, position, IfOk, IfErr, OnOk, OnErr};
 ghost use Rattle.kernel_model.specs.Loans.{Lends};
 ghost use Rattle.kernel_model.specs.World.{Boot};
 ghost use Rattle.kernel_step.specs.Stands.{Stands, kernel_in};
@@ -11,20 +11,11 @@ ghost use Rattle.kernel_step.specs.Tasks.{machine_of, out_of, count_out};
 use crate::loan::Loan;
 use crate::running::Running;
 use crate::task::{LIMIT, Task};
-use crate::tasks::count_out;
 use crate::whereabouts::Whereabouts;
 use kernel_model::Refused;
 use std::alloc::{AllocError, Global};
 use std::mem;
 use std::sync::Arc;
-
-/// Two events are kept for each loan that is out.
-fn is_full_for_loan(events: usize, tasks: &[Task]) -> bool
-    requires { events + 2 * count_out tasks.now ≤ 2 ^ 40 }
-    ensures { result ≡ full_for_loan_of events tasks.now }
-{
-    events as u64 + 2 * count_out(tasks) as u64 > LIMIT - 2
-}
 
 /// Whether a process may be lent for a quantum, by the words of `Core::lend`, where so many Enters were served.
 fn is_lendable(task: &Task, served: u64, quantum: u32) -> bool
@@ -100,6 +91,15 @@ fn lend_task(alloc: Global, task: &mut Task, quantum: u32) -> Result<Loan, Refus
 }
 
 impl Running {
+    /// Whether the history has no room for the two events of one more loan, with two kept for each that is out.
+    fn is_full_for_loan(&self) -> bool
+        requires kept { self.now.out ≡ count_out self.now.tasks.items }
+        requires room { length self.now.history.items + 2 * count_out self.now.tasks.items ≤ 2 ^ 40 }
+        ensures { result ≡ full_for_loan_of (length self.now.history.items) self.now.tasks.items }
+    {
+        self.history.len() as u64 + 2 * self.out > LIMIT - 2
+    }
+
     pub(crate) fn next_lendable(&self, quantum: u32) -> Option<usize>
         ensures { result ≡ next_fit quantum self.now.system.served self.now.last_lent self.now.tasks.items }
     {
@@ -113,7 +113,7 @@ impl Running {
         ensures stands { (b : Boot) → Stands b self.old → Stands b self.new }
         ensures lends { (b : Boot) → Stands b self.old → Lends (kernel_in b self.old) quantum (kernel_in b self.new) (lent_out result) }
     {
-        if is_full_for_loan(self.history.len(), &self.tasks) {
+        if self.is_full_for_loan() {
             return Err(Refused::Budget);
         }
         let Some(place) = self.next_lendable(quantum) else {
@@ -121,6 +121,7 @@ impl Running {
         };
         let loan = lend_task(self.system.alloc, &mut self.tasks[place], quantum)?;
         self.last_lent = loan.pid;
+        self.out += 1;
         Ok(Some(loan))
     }
 }

@@ -4,8 +4,7 @@ ghost use Rattle.kernel_step.specs.Tasks.{count_out};
 ghost use Rattle.kernel_step.specs.Tests.{full_of};
 
 use crate::system::System;
-use crate::task::Task;
-use crate::tasks::is_full;
+use crate::task::{LIMIT, Task};
 use kernel_model::Event;
 
 /// The parts of a running kernel, as its events leave them. What it was booted from is not among them. Contracts speak of every
@@ -16,6 +15,8 @@ pub struct Running {
     /// How many instructions the history's Turns ran, those of loans' results among them.
     pub(crate) ran: u64,
     pub(crate) tasks: Vec<Task>,
+    /// How many of the tasks are out on loan: kept, so that no event has to look at each of them.
+    pub(crate) out: u64,
     pub(crate) system: System,
     /// The number of the process that was lent last, 0 before any.
     pub(crate) last_lent: u32,
@@ -27,6 +28,7 @@ impl Drop for Running {
             history: _history,
             ran: _,
             tasks: _tasks,
+            out: _,
             system: _system,
             last_lent: _,
         } = self;
@@ -36,10 +38,11 @@ impl Drop for Running {
 impl Running {
     /// Whether the history has no room for one more event, with two kept for each loan that is out.
     pub(crate) fn is_full(&self) -> bool
-        requires { length self.now.history.items + 2 * count_out self.now.tasks.items ≤ 2 ^ 40 }
+        requires kept { self.now.out ≡ count_out self.now.tasks.items }
+        requires room { length self.now.history.items + 2 * count_out self.now.tasks.items ≤ 2 ^ 40 }
         ensures { result ≡ full_of (length self.now.history.items) self.now.tasks.items }
     {
-        is_full(self.history.len(), &self.tasks)
+        self.history.len() as u64 + 2 * self.out >= LIMIT
     }
 
     /// What all processes share, without the rest.
@@ -50,6 +53,7 @@ impl Running {
             history: _history,
             ran: _,
             tasks: _tasks,
+            out: _,
             system,
             last_lent: _,
         } = self;

@@ -140,6 +140,7 @@ impl Running {
         } = done;
         note_own(&mut self.system.dependencies, pid);
         come_back(&mut self.tasks[place], machine);
+        self.out -= 1;
         self.history.push(Event::Turn { pid, n: count }).unwrap();
         self.ran += u64::from(count);
         Ok(Answer::Settled {
@@ -166,6 +167,7 @@ impl Running {
         let count = u64::from(done.count);
         let (answer, child) = settle_enter(&mut self.history, &mut self.system, task, done)?;
         join(&mut self.tasks, child);
+        self.out -= 1;
         self.ran += count;
         Ok(answer)
     }

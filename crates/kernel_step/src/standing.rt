@@ -7,7 +7,7 @@ ghost use Rattle.kernel_model.specs.declared.answer.Refused.TheVariants.{NoProce
 ghost use Rattle.kernel_step.specs.Stands.{Stands, kernel_in};
 
 use crate::running::Running;
-use crate::tasks::{count_out, task_of};
+use crate::tasks::task_of;
 use kernel_model::{Refused, Standing};
 
 impl Running {
@@ -15,8 +15,7 @@ impl Running {
     pub fn over(&self, quantum: u32) -> bool
         ensures { (b : Boot) → Stands b self.now → result ≡ is_over (kernel_in b self.now) quantum }
     {
-        let next = self.next_lendable(quantum);
-        count_out(&self.tasks) == 0 && next.is_none()
+        self.out == 0 && self.next_lendable(quantum).is_none()
     }
 
     /// As `Core::standing`.

@@ -133,11 +133,17 @@ fn show_all(screens: &mut [Withheld<u8>], committed: u64)
     }
 }
 
-/// More may be shown of all terminals and handed out of what processes were told, now that so many changes are committed.
-pub fn release(tasks: &mut Vec<Task>, screens: &mut Vec<Withheld<u8>>, committed: u64)
+/// More may be shown of all terminals and handed out of what processes were told, now that so many changes are committed. Where no
+/// more are than before, it looks at none of them.
+pub fn release(tasks: &mut Vec<Task>, screens: &mut Vec<Withheld<u8>>, before: u64, committed: u64)
+    requires told { AreMoved before tasks.old.items tasks.old.items }
+    requires written { AreAdvanced before screens.old.items screens.old.items }
     ensures tasks { AreMoved committed tasks.old.items tasks.new.items }
     ensures screens { AreAdvanced committed screens.old.items screens.new.items }
 {
+    if committed == before {
+        return;
+    }
     show_all(screens, committed);
     hand_all(tasks, committed);
 }

@@ -1,13 +1,13 @@
 //! The tasks of all processes.
-ghost use Rattle.std.specs.Prelude.{◌≡◌, ◌+◌, ◌*◌, ◌^◌, ◌≤◌, ◌<◌, None, Some, true, is_some, length, map, slice_get, MatchOption, IfOk, IfErr, OnErr};
+ghost use Rattle.std.specs.Prelude.{◌≡◌, ◌+◌, ◌^◌, ◌≤◌, ◌<◌, None, Some, true, is_some, length, map, slice_get, MatchOption, IfOk, IfErr, OnErr};
 ghost use Rattle.kernel_model.specs.State.{process_at};
 ghost use Rattle.kernel_model.specs.declared.answer.Refused.TheVariants.{NoProcess, Lent};
-ghost use Rattle.kernel_step.specs.Tasks.{machine_of, out_of, process_of, count_out, RanAt};
-ghost use Rattle.kernel_step.specs.Tests.{full_of, turn_refusal_of, enter_refusal_of, IsPlaceOf, IsTaskOf};
+ghost use Rattle.kernel_step.specs.Tasks.{machine_of, out_of, process_of, RanAt};
+ghost use Rattle.kernel_step.specs.Tests.{turn_refusal_of, enter_refusal_of, IsPlaceOf, IsTaskOf};
 ghost use Rattle.kernel_step.specs.Advanced.{AreMoved};
 ghost use Rattle.kernel_step.specs.declared.task.Task.{Task};
 
-use crate::task::{LIMIT, Task};
+use crate::task::Task;
 use crate::whereabouts::Whereabouts;
 use kernel_model::Refused;
 use machine_model::Stop;
@@ -34,27 +34,6 @@ pub fn task_of(tasks: &[Task], pid: u32) -> Result<&Task, Refused>
         Some(place) => Ok(&tasks[place]),
         None => Err(Refused::NoProcess),
     }
-}
-
-/// How many tasks are out on loan. Looks at each task.
-pub fn count_out(tasks: &[Task]) -> usize
-    ensures { result ≡ count_out tasks.now }
-{
-    let mut count = 0;
-    for task in tasks {
-        if task.is_out() {
-            count += 1;
-        }
-    }
-    count
-}
-
-/// Whether a history of so many events has no room for one more, with two kept for each loan that is out.
-pub fn is_full(events: usize, tasks: &[Task]) -> bool
-    requires { events + 2 * count_out tasks.now ≤ 2 ^ 40 }
-    ensures { result ≡ full_of events tasks.now }
-{
-    events as u64 + 2 * count_out(tasks) as u64 >= LIMIT
 }
 
 /// The place of a process's task, or why a Turn of at most n instructions is refused of it, memory aside.

@@ -6,6 +6,16 @@ use Rattle.withheld.specs.Withheld.{Withheld}
 use Rattle.kernel_step.specs.declared.task.Task.{Task}
 use Rattle.kernel_step.proofs.storing.release.Goals as goal
 
+-- no more are committed
+pub returns-then-committed-before-clause-tasks : goal.returns-then-committed-before-clause-tasks
+returns-then-committed-before-clause-tasks c =
+    subst (λ (n : ℕ). AreMoved n c.args.tasks.now.items c.args.tasks.now.items) (sym c.if-committed-before.true) c.requires.told
+
+pub returns-then-committed-before-clause-screens : goal.returns-then-committed-before-clause-screens
+returns-then-committed-before-clause-screens c =
+    subst (λ (n : ℕ). AreAdvanced n c.args.screens.now.items c.args.screens.now.items) (sym c.if-committed-before.true) c.requires.written
+
+-- more are
 pub returns-clause-tasks : goal.returns-clause-tasks
 returns-clause-tasks c =
     let size : length c.hand_all.new.tasks ≡ c.args.tasks.now.len = c.hand_all.ensures.count ∙ c.deref_mut-2.ensures.len in

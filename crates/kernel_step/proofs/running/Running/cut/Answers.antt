@@ -27,6 +27,7 @@ returns c = λ b h.
             c.is_full-full.result c.cut.result h.parts c.is_full-full.ensures c.cut.ensures.done c.cut.ensures.same);
         counted =
             counted-other b c.args.self.now.history.items c.cut.new.history.items c.args.self.now.tasks.items c.args.self.now.tasks.items c.args.self.now.last_lent c.args.self.now.ran Cut c.cut.result refl h.counted applies;
+        out = h.out;
       };
       applies = applies;
     }

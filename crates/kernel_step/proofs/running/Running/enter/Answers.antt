@@ -10,6 +10,7 @@ try_enter-requires c = record {
   mirrors = c.requires.1.parts.mirrors;
   limits = c.tables_keep_their_limits.ensures.tables c.requires.0 c.args.self.now.history.items;
   short = log-short c.requires.0 c.args.self.now.history.items c.args.self.now.tasks.items c.args.self.now.system c.requires.1.parts;
+  kept = c.requires.1.out;
   room = c.requires.1.parts.room;
 }
 

@@ -16,6 +16,7 @@ returns c = λ b h.
             c.is_full-full.result c.fail.result h.parts c.is_full-full.ensures c.fail.ensures.done c.fail.ensures.history c.fail.ensures.same_history c.fail.ensures.same_committer;
         counted =
             counted-other b c.args.self.now.history.items c.fail.new.history.items c.args.self.now.tasks.items c.args.self.now.tasks.items c.args.self.now.last_lent c.args.self.now.ran (Fail c.args.at) c.fail.result refl h.counted applies;
+        out = h.out;
       };
       applies = applies;
     }

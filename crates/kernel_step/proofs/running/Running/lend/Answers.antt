@@ -7,7 +7,7 @@ use Rattle.kernel_step.specs.declared.task.Task.{Task}
 use Rattle.kernel_model.specs.declared.answer.Refused.TheVariants.{OutOfMemory}
 use Rattle.kernel_step.proofs.EnterFine.{none-some}
 use Rattle.kernel_step.proofs.FewLoans.{few-here}
-use Rattle.kernel_step.proofs.LendKept.{fits, lent-core, lends-one, lends-none, lends-wanting}
+use Rattle.kernel_step.proofs.LendKept.{fits, lent-core, lent-more, lends-one, lends-none, lends-wanting}
 use Rattle.kernel_step.proofs.LendNext.{IsFitThere, fit-there}
 use Rattle.kernel_step.specs.Stands.{KeepsRun, kernel_in}
 use Rattle.kernel_step.proofs.running.Running.lend.Goals as goal
@@ -80,6 +80,10 @@ returns-clause-stands c = λ b h.
           lent-core b c.args.self.now.history.items c.args.self.now.tasks.items (slice_set c.args.self.now.tasks.items c.in-Some.place c.lend_task.new.task)
           c.args.self.now.system c.args.quantum c.args.self.now.last_lent c.in_ok-loan.loan h.parts room (lent (goal.at.returns-clause-stands c).In_ok-loan);
       counted = h.counted;
+      out =
+          ap (λ (n : ℕ). n + 1) h.out
+          ∙ sym (lent-more c.args.self.now.tasks.items (slice_set c.args.self.now.tasks.items c.in-Some.place c.lend_task.new.task)
+          c.args.quantum c.args.self.now.system.served c.args.self.now.last_lent c.in_ok-loan.loan (lent (goal.at.returns-clause-stands c).In_ok-loan));
     }
 
 pub returns-clause-lends : goal.returns-clause-lends
@@ -98,6 +102,7 @@ pub returns-in_err-loan-clause-stands : goal.returns-in_err-loan-clause-stands
 returns-in_err-loan-clause-stands c = λ b h. record {
   parts = subst (λ (ts : List Task). KeepsRun b c.args.self.now.history.items ts c.args.self.now.system) (sym (still (goal.at.returns-in_err-loan-clause-stands c).In_err-loan)) h.parts;
   counted = h.counted;
+  out = h.out ∙ ap (λ (ts : List Task). count_out ts) (sym (still (goal.at.returns-in_err-loan-clause-stands c).In_err-loan));
 }
 
 pub returns-in_err-loan-clause-lends : goal.returns-in_err-loan-clause-lends

@@ -7,7 +7,7 @@ use Rattle.kernel_step.specs.Counted.{IsCounted}
 use Rattle.kernel_step.specs.Stands.{KeepsRun}
 use Rattle.kernel_step.specs.declared.system.System.{System}
 use Rattle.kernel_step.proofs.Counting.{first-counted}
-use Rattle.kernel_step.proofs.Beginning.{first-core, lendings-first, programs-hold}
+use Rattle.kernel_step.proofs.Beginning.{first-core, first-out, lendings-first, programs-hold}
 use Rattle.kernel_step.proofs.running.Running.new.Goals as goal
 
 pub returns-clause-stands : goal.returns-clause-stands
@@ -22,6 +22,7 @@ returns-clause-stands c = λ disk gate begins.
       counted =
           subst (λ (es : List Event). IsCounted (boot_with c.args.programs.now c.args.tapes.value.items c.args.files.living disk gate) es 0) (sym c.new-6.ensures.items)
           (first-counted c.args.programs.now c.args.tapes.value.items c.args.files.living disk gate c.requires.few);
+      out = sym (first-out c.args.programs.now c.in_ok-tasks.tasks.items c.in_ok-tasks.ensures);
     }
 
 pub returns-clause-lendings : goal.returns-clause-lendings

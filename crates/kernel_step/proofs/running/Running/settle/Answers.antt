@@ -1,11 +1,11 @@
 -- The parts follow the result's events.
-use Rattle.std.proofs.Common.{◌≡◌, ◌∙◌, sym, ap, subst, List, Bool, true, false, Option, Some, None, is_some, IsTrue, map, slice_get, rules}
+use Rattle.std.proofs.Common.{◌≡◌, ◌<◌, ◌+◌, ◌∙◌, arith, refl, sym, ap, subst, List, Bool, true, false, Option, Some, None, is_some, IsTrue, map, slice_get, slice_set, rules}
 use Rattle.std.proofs.lemmas.Bool.{false≢true}
 use Rattle.machine_model.specs.declared.stop.Stop.{Stop}
 use Rattle.kernel_model.specs.State.{process_at}
 use Rattle.kernel_model.specs.World.{run_of}
 use Rattle.kernel_step.specs.Settling.{IsLoanOf}
-use Rattle.kernel_step.specs.Tasks.{process_of, status_of}
+use Rattle.kernel_step.specs.Tasks.{count_out, process_of, status_of}
 use Rattle.kernel_step.specs.Tests.{IsPlaceOf}
 use Rattle.kernel_step.specs.declared.loan.Done.{Done}
 use Rattle.kernel_step.specs.declared.task.Task.{Task}
@@ -13,7 +13,8 @@ use Rattle.kernel_step.proofs.Counting.{counted-few}
 use Rattle.kernel_step.proofs.Lists.{get-there}
 use Rattle.kernel_step.proofs.EnterCore.{log-short, served-few}
 use Rattle.kernel_step.proofs.EnterWorld.{fresh-files, may-plan}
-use Rattle.kernel_step.proofs.SettleCore.{loan-own, not-there, get-one}
+use Rattle.kernel_step.proofs.SettleAccepted.{returned_task}
+use Rattle.kernel_step.proofs.SettleCore.{count-back, loan-own, not-there, get-one}
 use Rattle.kernel_step.proofs.Settled.{stranger-back, turn-settles, call-settles}
 use Rattle.kernel_step.proofs.SettleWorld.{out-running}
 use Rattle.kernel_step.proofs.running.Running.settle.Goals as goal
@@ -29,6 +30,16 @@ there c = get-there c.args.self.now.tasks.items c.in-Some.place c.index-task.res
 -- it is out on this loan
 of-loan : (t : Task) (d : Done) (x : Bool) → x ≡ true → (IsTrue x → IsLoanOf t d) → IsLoanOf t d
 of-loan t d x is h = h (subst (λ (y : Bool). IsTrue y) (sym is) (let yes : IsTrue true = search rules in yes))
+
+-- so a loan is out
+some-out : (c : After-index-task) → IsLoanOf c.index-task.result.now c.args.done → 0 < c.args.self.now.out
+some-out c of =
+    let tasks : List Task = c.args.self.now.tasks.items in
+    let t : Task = c.index-task.result.now in
+    let less : count_out (slice_set tasks c.in-Some.place (returned_task t)) + 1 ≡ count_out tasks =
+    count-back tasks c.in-Some.place c.args.done.quantum t (returned_task t) (there c) of.out refl in
+    let kept : c.args.self.now.out ≡ count_out tasks = c.requires.1.out in
+    omega (arith, less, kept)
 
 -- ---- a stranger
 pub returns-in_default : goal.returns-in_default
@@ -52,6 +63,7 @@ settle_turn-requires c =
     let at = (goal.at.settle_turn-requires c).After-index-task in
     record {
       within = (placed at).there;
+      some = some-out at (of-loan c.index-task.result.now c.args.done c.is_of_loan.result c.if-not-is_of_loan.false c.is_of_loan.ensures.0);
       few = counted-few c.requires.0 c.args.self.now.history.items c.args.self.now.tasks.items c.args.self.now.system c.args.self.now.ran c.requires.1.parts c.requires.1.counted;
     }
 
@@ -61,6 +73,7 @@ settle_call-requires c =
     let of = of-loan c.index-task.result.now c.args.done c.is_of_loan.result c.if-not-is_of_loan.false c.is_of_loan.ensures.0 in
     record {
       within = (placed at).there;
+      some = some-out at of;
       few = counted-few c.requires.0 c.args.self.now.history.items c.args.self.now.tasks.items c.args.self.now.system c.args.self.now.ran c.requires.1.parts c.requires.1.counted;
       fine = λ t at-place.
           let same : t ≡ c.index-task.result.now = get-one c.args.self.now.tasks.items c.in-Some.place t c.index-task.result.now at-place (there at) in

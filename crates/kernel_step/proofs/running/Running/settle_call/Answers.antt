@@ -1,5 +1,5 @@
 -- The child comes after the others.
-use Rattle.std.proofs.Common.{◌≡◌, ◌<◌, ◌++◌, ◌∙◌, ℕ, ◌+◌, List, Some, length, refl, slice_get, slice_set, option_to_list, ap, sym, subst}
+use Rattle.std.proofs.Common.{◌≡◌, ◌<◌, ◌++◌, ◌∙◌, ℕ, ◌+◌, List, Some, length, refl, slice_get, slice_set, option_to_list, ap, sym, subst, arith}
 use Rattle.kernel_step.specs.declared.task.Task.{Task}
 use Rattle.kernel_step.proofs.EnterResults.{on-err-any}
 use Rattle.kernel_step.proofs.Lists.{get-there}
@@ -30,6 +30,7 @@ returns-clause-done c =
       tasks = c.join.ensures ∙ ap (λ (ts : List Task). slice_set ts c.args.place c.settle_enter.new.task ++ option_to_list c.in_ok-answer.child) c.reserve.ensures.items;
       history = c.in_ok-answer.ensures.history;
       ran = ap (λ (n : ℕ). c.args.self.now.ran + n) c.from-count.ensures;
+      out = omega (arith, c.requires.some);
       last_lent = refl;
       answer = done.1;
     }
@@ -37,7 +38,7 @@ returns-clause-done c =
 pub returns-then-is_err-clause-same : goal.returns-then-is_err-clause-same
 returns-then-is_err-clause-same c =
     unsettled-same c.args.self.now _ c.args.place c.requires.within c.reserve.ensures.items
-    (only-room c.args.self.now.system c.args.self.now.system.dependencies refl) refl refl refl
+    (only-room c.args.self.now.system c.args.self.now.system.dependencies refl) refl refl refl refl
 
 pub returns-in_err-answer-clause-same : goal.returns-in_err-answer-clause-same
 returns-in_err-answer-clause-same c =
@@ -50,5 +51,6 @@ returns-in_err-answer-clause-same c =
       system = c.in_err-answer.ensures.err.system;
       history = c.in_err-answer.ensures.err.history;
       ran = refl;
+      out = refl;
       last_lent = refl;
     })

@@ -1,5 +1,5 @@
 -- The task is back, and the Turn is noted.
-use Rattle.std.proofs.Common.{◌≡◌, ◌∙◌, ℕ, ◌+◌, [], ◌∷◌, ◌++◌, List, refl, ap, subst, rules}
+use Rattle.std.proofs.Common.{◌≡◌, ◌∙◌, ℕ, ◌+◌, [], ◌∷◌, ◌++◌, List, refl, ap, subst, arith, rules}
 use Rattle.disk_model.specs.declared.change.Change.{Change}
 use Rattle.commit_deps.specs.Kept.{Marked}
 use Rattle.kernel_model.specs.declared.event.Event.{Event}
@@ -14,7 +14,7 @@ use Rattle.kernel_step.proofs.running.Running.settle_turn.Goals as goal
 pub returns-then-is_err-clause-same : goal.returns-then-is_err-clause-same
 returns-then-is_err-clause-same c =
     unsettled-same c.args.self.now _ c.args.place c.requires.within refl
-    (only-room c.args.self.now.system c.reserve.new.dependencies c.reserve.ensures.same_marks) c.reserve.ensures.same_history refl refl
+    (only-room c.args.self.now.system c.reserve.new.dependencies c.reserve.ensures.same_marks) c.reserve.ensures.same_history refl refl refl
 
 pub returns-clause-done : goal.returns-clause-done
 returns-clause-done c =
@@ -39,6 +39,7 @@ returns-clause-done c =
       };
       history = pushed ∙ ap (λ (es : List Event). es ++ Turn c.args.done.pid c.args.done.count ∷ []) c.reserve.ensures.same_history;
       ran = ap (λ (n : ℕ). c.args.self.now.ran + n) c.from.ensures;
+      out = omega (arith, c.requires.some);
       last_lent = refl;
       answer = refl;
     }

@@ -83,6 +83,7 @@ returns-clause-done c =
           ∙ ap (λ (o : Option ℕ). with_child (map lending_of tasks) o) (run w h).child_is;
       history = c.in_ok-outcome.ensures.history;
       ran = refl;
+      out = refl;
       last_lent = refl;
     }
 
@@ -102,5 +103,6 @@ returns-in_err-outcome-clause-same c =
           ∙ same-lendings tasks c.in_ok-place.place c.index_mut-task.result.now u at c.in_err-outcome.ensures.err.task.loans c.in_err-outcome.ensures.err.task.out;
       history = c.in_err-outcome.ensures.err.history;
       ran = refl;
+      out = refl;
       last_lent = refl;
     })

@@ -5,6 +5,7 @@ use Rattle.kernel_step.proofs.running.Running.turn.Goals as goal
 
 pub try_turn-requires : goal.try_turn-requires
 try_turn-requires c = record {
+  kept = c.requires.1.out;
   room = c.requires.1.parts.room;
   few = counted-few c.requires.0 c.args.self.now.history.items c.args.self.now.tasks.items c.args.self.now.system c.args.self.now.ran c.requires.1.parts c.requires.1.counted;
 }
