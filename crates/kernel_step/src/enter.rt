@@ -1,5 +1,6 @@
 //! An Enter, by a system call or a trap: a process is told what that comes to.
-ghost use Rattle.std.specs.Prelude.{◌≡◌, ◌<◌, ◌++◌, ◌∷◌, [], None, vec_len, vec_capacity, option_to_list, IfOk, IfErr, OnOk, OnErr};
+ghost use Rattle.std.specs.Prelude.{◌≡◌, ◌<◌, ◌++◌, ◌∷◌, [], None, Some, vec_len, vec_capacity, option_to_list, IfOk, IfErr, OnOk, OnErr};
+ghost use Rattle.machine_model.specs.States.{stands_at};
 ghost use Rattle.kernel_model.specs.Answers.{Refuses, entered as answer_to};
 ghost use Rattle.kernel_model.specs.World.{Boot};
 ghost use Rattle.kernel_step.specs.Stands.{Stands, Steps};
@@ -20,6 +21,7 @@ use crate::tasks::enter_place;
 use disk_model::{checkpoints_fit, made_files_change};
 use footprints::footprints_grow;
 use kernel_model::{Answer, Event, Outcome, Refused, tables_keep_their_limits};
+use machine_model::Stop;
 use pipes::{ends_grow_by_one, steps_are_shown};
 use std::alloc::AllocError;
 
@@ -43,22 +45,24 @@ pub fn join(tasks: &mut Vec<Task>, child: Option<Task>)
     }
 }
 
-/// A process enters the kernel whose machine is here and stands at a call or a trap. Gives what the Enter came to, and the process
+/// A process enters the kernel whose machine is here and stands at this call or trap. Gives what the Enter came to, and the process
 /// that it made, if it made one. Where memory runs out nothing has changed.
 fn enter_task(
     history: &mut Vec<Event>,
     system: &mut System,
     pid: u32,
+    stop: Stop,
     task: &mut Task,
 ) -> Result<(Outcome, Option<Task>), AllocError>
     requires here { out_of task.old ≡ None }
+    requires stands { stands_at (machine_of task.old) ≡ Some stop }
     requires fine { MayEnter system.old pid (machine_of task.old) task.old.trace }
     ensures done { IfOk result (λ r. IsDone pid task.old task.new system.old system.new r.0 r.1) }
     ensures history { OnOk result (history.new.items ≡ history.old.items ++ Event.Enter pid ∷ []) }
     ensures err { OnErr result (AreUnchanged task.old task.new system.old system.new history.old.items history.new.items) }
 {
     let machine = task.whereabouts.machine();
-    let caller = Caller { pid, machine };
+    let caller = Caller { pid, machine, stop };
     let entering = prepare(history, system, &caller, &mut task.trace)?;
     Ok(carry_out(history, system, task, entering))
 }
@@ -86,10 +90,10 @@ impl Running {
         steps_are_shown();
         ends_grow_by_one();
         let full = self.is_full();
-        let place = enter_place(&self.tasks, full, pid)?;
+        let (place, stop) = enter_place(&self.tasks, full, pid)?;
         self.tasks.reserve(1)?;
         let task = &mut self.tasks[place];
-        let (outcome, child) = enter_task(&mut self.history, &mut self.system, pid, task)?;
+        let (outcome, child) = enter_task(&mut self.history, &mut self.system, pid, stop, task)?;
         join(&mut self.tasks, child);
         Ok(entered(outcome))
     }

@@ -1,6 +1,6 @@
 //! Machines that are lent, and what comes back.
 ghost use Rattle.std.specs.Prelude.{◌≡◌, ◌+◌, ◌<◌, ◌^◌};
-ghost use Rattle.machine_model.specs.States.{run, reached_at};
+ghost use Rattle.machine_model.specs.States.{run, reached_at, stands_at};
 
 use kernel_model::Refused;
 use machine::Machine;
@@ -33,6 +33,18 @@ pub struct Done {
     pub stop: Stop,
     ghost ran: { run quantum began.value ≡ reached_at count machine stop },
     ghost room: { machine.count < 2 ^ 40 },
+}
+
+impl Done {
+    /// The call or the trap at which its machine stands, if it stands at one. The machine is asked only where the limit stopped it.
+    pub(crate) fn standing(&self) -> Option<Stop>
+        ensures { result ≡ stands_at self.now.machine }
+    {
+        match self.stop {
+            Stop::Limit => self.machine.stopped(),
+            stop => Some(stop),
+        }
+    }
 }
 
 /// A result that was not taken back: why, and the result itself.

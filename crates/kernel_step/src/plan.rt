@@ -23,11 +23,12 @@ use requests::request_of;
 use std::alloc::{AllocError, Global};
 use withheld::{Trace, zero_reply};
 
-/// A process that enters the kernel: its number, and its machine, where that stands.
+/// A process that enters the kernel: its number, its machine, and the call or the trap at which that stands, which was asked for once.
 #[derive(Clone, Copy)]
 pub struct Caller<'a> {
     pub pid: u32,
     pub machine: &'a Machine,
+    pub stop: Stop,
 }
 
 /// What an Enter of a process comes to; the process is not told anything yet. The carriers are all that its event reads and writes.
@@ -59,12 +60,12 @@ fn descriptors_of(processes: &ProcTable, pid: u32) -> &Descriptors
 }
 
 /// The plan of the Enter of a process whose machine stands here, at a call or at a trap.
-fn plan_enter(system: &System, caller: &Caller<'_>, stop: Stop) -> Result<Plan, AllocError>
-    requires stands { stands_at caller.now.machine.now ≡ Some stop }
+fn plan_enter(system: &System, caller: &Caller<'_>) -> Result<Plan, AllocError>
+    requires stands { stands_at caller.now.machine.now ≡ Some caller.now.stop }
     requires fine { MayPlan (sight_in system.now) caller.now.pid }
     ensures { IfOk result (λ plan. PlansEnter (sight_in system.now) caller.now.pid caller.now.machine.now plan) }
 {
-    match stop {
+    match caller.stop {
         Stop::Trap(cause) => {
             let descriptors = descriptors_of(&system.processes, caller.pid);
             plan_end(system.alloc, descriptors, trap_status(cause))
@@ -167,12 +168,12 @@ fn prepare_next(
 impl Entering {
     /// Finds what an Enter comes to of a process whose trace is this; nothing changes. Refused for want of memory alone.
     pub fn new(system: &System, caller: &Caller<'_>, trace: &Trace) -> Result<Entering, AllocError>
-        requires { MayEnter system.now caller.now.pid caller.now.machine.now trace.now }
+        requires fine { MayEnter system.now caller.now.pid caller.now.machine.now trace.now }
+        requires stands { stands_at caller.now.machine.now ≡ Some caller.now.stop }
         ensures { IfOk result (λ e. IsEntering (sight_in system.now) caller.now.pid caller.now.machine.now trace.now e) }
     {
         let alloc = system.alloc;
-        let stop = caller.machine.stopped().unwrap();
-        let plan = plan_enter(system, caller, stop)?;
+        let plan = plan_enter(system, caller)?;
         let reads = with_own(alloc, caller.pid, &plan.reads)?;
         let writes = all_writes(alloc, caller.pid, &plan)?;
         let spare = spare_pipe(alloc, &plan.pipes)?;

@@ -1,5 +1,6 @@
 //! The memory for an Enter, taken before anything of it is done.
-ghost use Rattle.std.specs.Prelude.{◌≡◌, ◌+◌, ◌^◌, ◌<◌, ◌≤◌, length, IfOk, OnOk, OnErr};
+ghost use Rattle.std.specs.Prelude.{◌≡◌, ◌+◌, ◌^◌, ◌<◌, ◌≤◌, Some, length, IfOk, OnOk, OnErr};
+ghost use Rattle.machine_model.specs.States.{stands_at};
 ghost use Rattle.kernel_model.specs.State.{changed_by};
 ghost use Rattle.withheld.specs.Withheld.{IsSame};
 ghost use Rattle.kernel_step.specs.Entering.{HasSpaceFor, StayScreens, IsSameSystem, IsSystemWith};
@@ -102,7 +103,8 @@ pub fn prepare(
     caller: &Caller<'_>,
     trace: &mut Trace,
 ) -> Result<Entering, AllocError>
-    requires { MayEnter system.old caller.now.pid caller.now.machine.now trace.old }
+    requires fine { MayEnter system.old caller.now.pid caller.now.machine.now trace.old }
+    requires stands { stands_at caller.now.machine.now ≡ Some caller.now.stop }
     ensures history { history.new.items ≡ history.old.items }
     ensures trace { IsSame trace.old trace.new }
     ensures prepared { IfOk result (λ e. IsPrepared caller.now.pid caller.now.machine.now trace.old system.old system.new e) }

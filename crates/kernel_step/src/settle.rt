@@ -1,5 +1,6 @@
 //! Loans' results taken back.
 ghost use Rattle.std.specs.Prelude.{◌≡◌, ◌++◌, ◌∷◌, [], ◌↔◌, IsTrue, Some, IfOk, IfErr, OnOk, OnErr};
+ghost use Rattle.machine_model.specs.States.{stands_at};
 ghost use Rattle.kernel_model.specs.World.{Boot};
 ghost use Rattle.kernel_step.specs.Stands.{Stands, TakesBack};
 ghost use Rattle.kernel_model.specs.declared.answer.Outcome.{Outcome};
@@ -22,6 +23,7 @@ use disk_model::{checkpoints_fit, made_files_change};
 use footprints::footprints_grow;
 use kernel_model::{Answer, Event, Refused, tables_keep_their_limits};
 use machine::Machine;
+use machine_model::Stop;
 use pipes::{ends_grow_by_one, steps_are_shown};
 
 fn is_of_loan(task: &Task, done: &Done) -> bool
@@ -42,15 +44,17 @@ fn come_back(task: &mut Task, machine: Machine)
     task.whereabouts = Whereabouts::Here(machine);
 }
 
-/// Takes a result back of a task whose machine stands at a call or a trap: it becomes a Turn and an Enter. Gives what the Enter
+/// Takes a result back of a task whose machine stands at this call or trap: it becomes a Turn and an Enter. Gives what the Enter
 /// came to, and the process that it made.
 fn settle_enter(
     history: &mut Vec<Event>,
     system: &mut System,
     task: &mut Task,
     done: Done,
+    standing: Stop,
 ) -> Result<(Answer, Option<Task>), Rejected>
-    requires { MayEnter system.old done.pid done.machine task.old.trace }
+    requires fine { MayEnter system.old done.pid done.machine task.old.trace }
+    requires stands { stands_at done.machine ≡ Some standing }
     ensures done { IfOk result (λ r. (o : Outcome) × (r.0 ≡ Answer.Settled done.count done.stop (Some o))
         × IsTurnEntered done.pid done.machine task.old task.new system.old system.new o r.1) }
     ensures history { OnOk result (history.new.items ≡ history.old.items ++ Event.Turn done.pid done.count ∷ Event.Enter done.pid ∷ []) }
@@ -61,6 +65,7 @@ fn settle_enter(
     let caller = Caller {
         pid,
         machine: &done.machine,
+        stop: standing,
     };
     let Ok(entering) = prepare(history, system, &caller, &mut task.trace) else {
         return Err(Rejected {
@@ -111,9 +116,9 @@ impl Running {
                 done,
             });
         }
-        match done.machine.stopped() {
+        match done.standing() {
             None => self.settle_turn(done, place),
-            Some(_) => self.settle_call(done, place),
+            Some(standing) => self.settle_call(done, place, standing),
         }
     }
 
@@ -150,9 +155,10 @@ impl Running {
         })
     }
 
-    /// As `settle_turn`, of a machine that stands at a call or a trap: an Enter comes after the Turn.
-    fn settle_call(&mut self, done: Done, place: usize) -> Result<Answer, Rejected>
-        requires { MaySettleCall done place self.old }
+    /// As `settle_turn`, of a machine that stands at this call or trap: an Enter comes after the Turn.
+    fn settle_call(&mut self, done: Done, place: usize, standing: Stop) -> Result<Answer, Rejected>
+        requires fine { MaySettleCall done place self.old }
+        requires stands { stands_at done.machine ≡ Some standing }
         ensures done { IfOk result (IsCallSettled done place self.old self.new) }
         ensures same { OnErr result (IsNotSettled place self.old self.new) }
         ensures back { IfErr result (LackedMemory done) }
@@ -165,7 +171,13 @@ impl Running {
         }
         let task = &mut self.tasks[place];
         let count = u64::from(done.count);
-        let (answer, child) = settle_enter(&mut self.history, &mut self.system, task, done)?;
+        let (answer, child) = settle_enter(
+            &mut self.history,
+            &mut self.system,
+            task,
+            done,
+            standing,
+        )?;
         join(&mut self.tasks, child);
         self.out -= 1;
         self.ran += count;

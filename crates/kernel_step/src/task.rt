@@ -1,11 +1,13 @@
 //! Processes.
-ghost use Rattle.std.specs.Prelude.{◌≡◌, Some, None, is_some};
+ghost use Rattle.std.specs.Prelude.{◌≡◌, Some, None, is_some, IfOk, IfErr, OnOk};
+ghost use Rattle.machine_model.specs.States.{stands_at};
 ghost use Rattle.withheld.specs.Withheld.{nothing};
 ghost use Rattle.kernel_model.specs.Answers.{turn_refusal, enter_refusal};
 
 use crate::whereabouts::Whereabouts;
 use kernel_model::{Refused, Standing};
 use machine::Machine;
+use machine_model::Stop;
 use std::alloc::Global;
 use withheld::Trace;
 
@@ -128,22 +130,24 @@ impl Task {
         None
     }
 
-    /// Why an Enter is refused, memory aside, where the history may be full.
-    pub fn enter_refused(&self, full: bool) -> Option<Refused>
-        ensures { result ≡ enter_refusal (Some (process_of self.now)) (is_some (out_of self.now)) full }
+    /// The call or the trap at which its machine stands, or why an Enter is refused, memory aside, where the history may be full.
+    pub fn enter_stop(&self, full: bool) -> Result<Stop, Refused>
+        ensures fine { OnOk result (enter_refusal (Some (process_of self.now)) (is_some (out_of self.now)) full ≡ None) }
+        ensures stop { IfOk result (λ stop. stands_at (machine_of self.now) ≡ Some stop) }
+        ensures refused { IfErr result (λ why. enter_refusal (Some (process_of self.now)) (is_some (out_of self.now)) full ≡ Some why) }
     {
         if self.trace.has_end() {
-            return Some(Refused::Ended);
+            return Err(Refused::Ended);
         }
         if self.is_out() {
-            return Some(Refused::Lent);
+            return Err(Refused::Lent);
         }
-        if self.machine().stopped().is_none() {
-            return Some(Refused::NotStopped);
-        }
+        let Some(stop) = self.machine().stopped() else {
+            return Err(Refused::NotStopped);
+        };
         if full || self.machine().count() >= LIMIT {
-            return Some(Refused::Budget);
+            return Err(Refused::Budget);
         }
-        None
+        Ok(stop)
     }
 }

@@ -1,5 +1,6 @@
 //! The tasks of all processes.
-ghost use Rattle.std.specs.Prelude.{◌≡◌, ◌+◌, ◌^◌, ◌≤◌, ◌<◌, None, Some, true, is_some, length, map, slice_get, MatchOption, IfOk, IfErr, OnErr};
+ghost use Rattle.std.specs.Prelude.{◌≡◌, ◌+◌, ◌^◌, ◌≤◌, ◌<◌, None, Some, true, is_some, length, map, slice_get, MatchOption, IfOk, IfErr, OnOk, OnErr};
+ghost use Rattle.machine_model.specs.States.{stands_at};
 ghost use Rattle.kernel_model.specs.State.{process_at};
 ghost use Rattle.kernel_model.specs.declared.answer.Refused.TheVariants.{NoProcess, Lent};
 ghost use Rattle.kernel_step.specs.Tasks.{machine_of, out_of, process_of, RanAt};
@@ -53,19 +54,20 @@ pub fn turn_place(tasks: &[Task], full: bool, pid: u32, n: u32) -> Result<usize,
     }
 }
 
-/// The place of a process's task, or why an Enter is refused of it, memory aside.
-pub fn enter_place(tasks: &[Task], full: bool, pid: u32) -> Result<usize, Refused>
-    ensures fine { IfOk result (λ place. enter_refusal_of tasks.now full pid ≡ None) }
-    ensures place { IfOk result (λ place. IsPlaceOf tasks.now pid place) }
+/// The place of a process's task, and the call or the trap at which its machine stands; or why an Enter is refused of it, memory aside.
+pub fn enter_place(tasks: &[Task], full: bool, pid: u32) -> Result<(usize, Stop), Refused>
+    ensures fine { OnOk result (enter_refusal_of tasks.now full pid ≡ None) }
+    ensures place { IfOk result (λ r. IsPlaceOf tasks.now pid r.0) }
+    ensures stop { IfOk result (λ r. (t : Task) → slice_get tasks.now r.0 ≡ Some t → stands_at (machine_of t) ≡ Some r.1) }
     ensures refused { IfErr result (λ why. enter_refusal_of tasks.now full pid ≡ Some why) }
 {
     let Some(place) = place_of(tasks, pid) else {
         return Err(Refused::NoProcess);
     };
     let task = &tasks[place];
-    match task.enter_refused(full) {
-        Some(why) => Err(why),
-        None => Ok(place),
+    match task.enter_stop(full) {
+        Ok(stop) => Ok((place, stop)),
+        Err(why) => Err(why),
     }
 }
 

@@ -2,7 +2,7 @@
 use Rattle.std.proofs.Common.{◌≡◌, ◌∙◌, ◌++◌, [], ◌∷◌, ℕ, List, refl, sym, ap, subst, arith}
 use Rattle.kernel_model.specs.declared.event.Event.{Event}
 use Rattle.kernel_model.specs.declared.event.Event.TheVariants.{Enter}
-use Rattle.machine_model.specs.States.{State}
+use Rattle.machine_model.specs.States.{State, stands_at}
 use Rattle.kernel_step.specs.Ready.{MayEnter}
 use Rattle.kernel_step.specs.Tasks.{machine_of}
 use Rattle.kernel_step.specs.declared.task.Task.{Task}
@@ -10,9 +10,12 @@ use Rattle.kernel_step.proofs.EnterWorld.{carried-done}
 use Rattle.kernel_step.proofs.Preparing.{is-ready, may-note}
 use Rattle.kernel_step.proofs.enter.enter_task.Goals as goal
 
-pub prepare-requires : goal.prepare-requires
-prepare-requires c =
+pub prepare-requires-clause-fine : goal.prepare-requires-clause-fine
+prepare-requires-clause-fine c =
     subst (λ (x : State). MayEnter c.args.system.now c.args.pid x c.args.task.now.trace) (sym c.machine-machine.ensures) c.requires.fine
+
+pub prepare-requires-clause-stands : goal.prepare-requires-clause-stands
+prepare-requires-clause-stands c = ap (λ (x : State). stands_at x) c.machine-machine.ensures ∙ c.requires.stands
 
 pub carry_out-requires-clause-ready : goal.carry_out-requires-clause-ready
 carry_out-requires-clause-ready c =

@@ -27,7 +27,7 @@ plan_call-requires-clause-may c = subst (λ (seen : Sight). MayPlanCall seen c.a
 
 pub returns-in_ok-request-in_default : goal.returns-in_ok-request-in_default
 returns-in_ok-request-in_default c =
-    let call : c.args.stop ≡ Call = stands-call c.args.caller.now.machine.now c.args.stop c.requires.stands (λ cause is. c.in_default.not-Trap cause is) in
+    let call : c.args.caller.now.stop ≡ Call = stands-call c.args.caller.now.machine.now c.args.caller.now.stop c.requires.stands (λ cause is. c.in_default.not-Trap cause is) in
     result-plans (sight_in c.args.system.now) c.args.caller.now.pid c.args.caller.now.machine.now c.plan_call.result c.in_ok-request-in_default.request
     (c.requires.stands ∙ ap (λ (s : Stop). Some s) call)
     (c.in_ok-request-in_default.ensures.request)

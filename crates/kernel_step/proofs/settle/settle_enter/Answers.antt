@@ -17,7 +17,7 @@ carry_out-outcome-requires-clause-ready c =
     let back = c.come_back.ensures.back in
     is-ready c.come_back.new.task c.args.done.machine c.args.task.now.trace c.prepare.new.trace c.args.system.now c.prepare.new.system c.note_own.new.dependencies
     c.args.done.pid c.prepare.new.history c.in-Ok.entering
-    c.requires c.in-Ok.ensures.prepared c.in-Ok.ensures.holds c.in-Ok.ensures.trace
+    c.requires.fine c.in-Ok.ensures.prepared c.in-Ok.ensures.holds c.in-Ok.ensures.trace
     back.out back.machine c.come_back.ensures.trace
 
 pub carry_out-outcome-requires-clause-noting : goal.carry_out-outcome-requires-clause-noting

@@ -67,9 +67,9 @@ settle_turn-requires c =
       few = counted-few c.requires.0 c.args.self.now.history.items c.args.self.now.tasks.items c.args.self.now.system c.args.self.now.ran c.requires.1.parts c.requires.1.counted;
     }
 
-pub settle_call-requires : goal.settle_call-requires
-settle_call-requires c =
-    let at = (goal.at.settle_call-requires c).After-index-task in
+pub settle_call-requires-clause-fine : goal.settle_call-requires-clause-fine
+settle_call-requires-clause-fine c =
+    let at = (goal.at.settle_call-requires-clause-fine c).After-index-task in
     let of = of-loan c.index-task.result.now c.args.done c.is_of_loan.result c.if-not-is_of_loan.false c.is_of_loan.ensures.0 in
     record {
       within = (placed at).there;
@@ -78,7 +78,7 @@ settle_call-requires c =
       fine = λ t at-place.
           let same : t ≡ c.index-task.result.now = get-one c.args.self.now.tasks.items c.in-Some.place t c.index-task.result.now at-place (there at) in
           record {
-            stands = ap (λ (o : Option Stop). is_some o) (sym c.stopped.ensures ∙ c.in-Some-stopped.is);
+            stands = ap (λ (o : Option Stop). is_some o) (sym c.standing.ensures ∙ c.in-Some-standing.is);
             budget = c.args.done.room;
             running =
                 subst (λ (u : Task). status_of u ≡ None) (sym same)
@@ -99,12 +99,12 @@ returns-in-None c = λ b h.
     let at = (goal.at.returns-in-None c).After-index-task in
     turn-settles c.footprints_grow.ensures.turn b c.args.self.now c.settle_turn.new.self c.in-Some.place c.index-task.result.now c.args.done c.settle_turn.result h (placed at).number (there at)
     (of-loan c.index-task.result.now c.args.done c.is_of_loan.result c.if-not-is_of_loan.false c.is_of_loan.ensures.0)
-    (sym c.stopped.ensures ∙ c.in-None.is) c.settle_turn.ensures.done c.settle_turn.ensures.same c.settle_turn.ensures.back
+    (sym c.standing.ensures ∙ c.in-None.is) c.settle_turn.ensures.done c.settle_turn.ensures.same c.settle_turn.ensures.back
 
-pub returns-in-Some-stopped : goal.returns-in-Some-stopped
-returns-in-Some-stopped c = λ b h.
-    let at = (goal.at.returns-in-Some-stopped c).After-index-task in
+pub returns-in-Some-standing : goal.returns-in-Some-standing
+returns-in-Some-standing c = λ b h.
+    let at = (goal.at.returns-in-Some-standing c).After-index-task in
     call-settles (record { changes = c.made_files_change.ensures; pipes = record { shown = c.steps_are_shown.ensures.next; grown = c.ends_grow_by_one.ensures } })
-    c.footprints_grow.ensures.turn c.footprints_grow.ensures.enter b c.args.self.now c.settle_call.new.self c.in-Some.place c.index-task.result.now c.args.done c.in-Some-stopped.field-0 c.settle_call.result h (placed at).number (there at)
+    c.footprints_grow.ensures.turn c.footprints_grow.ensures.enter b c.args.self.now c.settle_call.new.self c.in-Some.place c.index-task.result.now c.args.done c.in-Some-standing.standing c.settle_call.result h (placed at).number (there at)
     (of-loan c.index-task.result.now c.args.done c.is_of_loan.result c.if-not-is_of_loan.false c.is_of_loan.ensures.0)
-    (sym c.stopped.ensures ∙ c.in-Some-stopped.is) c.settle_call.ensures.done c.settle_call.ensures.same c.settle_call.ensures.back
+    (sym c.standing.ensures ∙ c.in-Some-standing.is) c.settle_call.ensures.done c.settle_call.ensures.same c.settle_call.ensures.back

@@ -11,11 +11,11 @@ use Rattle.kernel_step.proofs.running.Running.settle_call.Goals.{After-index_mut
 there : (c : After-index_mut-task) → slice_get c.args.self.now.tasks.items c.args.place ≡ Some c.index_mut-task.result.now
 there c =
     let same : c.reserve.new.self.items ≡ c.args.self.now.tasks.items = c.reserve.ensures.items in
-    let within : c.args.place < length c.reserve.new.self.items = subst (λ (ts : List Task). c.args.place < length ts) (sym same) c.requires.within in
+    let within : c.args.place < length c.reserve.new.self.items = subst (λ (ts : List Task). c.args.place < length ts) (sym same) c.requires.fine.within in
     ap (λ (ts : List Task). slice_get ts c.args.place) (sym same) ∙ get-there c.reserve.new.self.items c.args.place c.index_mut-task.result.now within c.index_mut-task.ensures.value
 
-pub settle_enter-requires : goal.settle_enter-requires
-settle_enter-requires c = c.requires.fine c.index_mut-task.result.now (there (goal.at.settle_enter-requires c).After-index_mut-task)
+pub settle_enter-requires-clause-fine : goal.settle_enter-requires-clause-fine
+settle_enter-requires-clause-fine c = c.requires.fine.fine c.index_mut-task.result.now (there (goal.at.settle_enter-requires-clause-fine c).After-index_mut-task)
 
 pub returns-clause-done : goal.returns-clause-done
 returns-clause-done c =
@@ -30,14 +30,14 @@ returns-clause-done c =
       tasks = c.join.ensures ∙ ap (λ (ts : List Task). slice_set ts c.args.place c.settle_enter.new.task ++ option_to_list c.in_ok-answer.child) c.reserve.ensures.items;
       history = c.in_ok-answer.ensures.history;
       ran = ap (λ (n : ℕ). c.args.self.now.ran + n) c.from-count.ensures;
-      out = omega (arith, c.requires.some);
+      out = omega (arith, c.requires.fine.some);
       last_lent = refl;
       answer = done.1;
     }
 
 pub returns-then-is_err-clause-same : goal.returns-then-is_err-clause-same
 returns-then-is_err-clause-same c =
-    unsettled-same c.args.self.now _ c.args.place c.requires.within c.reserve.ensures.items
+    unsettled-same c.args.self.now _ c.args.place c.requires.fine.within c.reserve.ensures.items
     (only-room c.args.self.now.system c.args.self.now.system.dependencies refl) refl refl refl refl
 
 pub returns-in_err-answer-clause-same : goal.returns-in_err-answer-clause-same

@@ -1,5 +1,6 @@
 -- The parts do what the run says.
 use Rattle.std.proofs.Common.{◌≡◌, ◌∙◌, ℕ, ◌^◌, ◌≤◌, refl, ap, sym, subst, ◌++◌, List, Option, None, Some, length, slice_get, slice_set, map, option_to_list, Bool, arith}
+use Rattle.machine_model.specs.States.{stands_at}
 use Rattle.kernel_model.specs.Answers.{with_child}
 use Rattle.kernel_model.specs.Answers.{entered as answer_to}
 use Rattle.kernel_model.specs.World.{World, happens}
@@ -8,7 +9,7 @@ use Rattle.kernel_model.specs.declared.event.Event.TheVariants.{Enter}
 use Rattle.kernel_step.specs.Entering.{IsDone}
 use Rattle.kernel_step.specs.Mirrors.{Mirrors}
 use Rattle.kernel_step.specs.Tests.{IsPlaceOf, enter_refusal_of}
-use Rattle.kernel_step.specs.Tasks.{lending_of}
+use Rattle.kernel_step.specs.Tasks.{machine_of, lending_of}
 use Rattle.kernel_step.specs.declared.system.System.{System}
 use Rattle.kernel_step.specs.declared.task.Task.{Task}
 use Rattle.kernel_step.proofs.EnterFine.{IsFineTask, fine-task}
@@ -52,6 +53,11 @@ enter_task-requires-clause-fine c =
       few = omega (arith, served, short);
       fresh = fresh-files c.requires.world c.args.self.now.system c.requires.mirrors.changes c.requires.short;
     }
+
+pub enter_task-requires-clause-stands : goal.enter_task-requires-clause-stands
+enter_task-requires-clause-stands c =
+    subst (λ (ts : List Task). (t : Task) → slice_get ts c.in_ok-place.place ≡ Some t → stands_at (machine_of t) ≡ Some c.in_ok-place.stop) c.deref.ensures.value
+    c.in_ok-place.ensures.stop c.index_mut-task.result.now (there (goal.at.enter_task-requires-clause-stands c).After-index_mut-task)
 
 -- the run after it
 runs : (c : After-index_mut-task) (u : Task) (s' : System) (outcome : Outcome) (child : Option Task)
