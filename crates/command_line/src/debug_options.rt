@@ -67,12 +67,21 @@ pub const DEBUG: CommandRow = CommandRow {
     ],
 };
 
+/// Why the options do not go together with `--live`, if they do not.
+fn live_conflict(matches: &ArgMatches<'_>) -> Option<&'static str> {
+    if matches.get_str("trace").is_some() {
+        return Some("the argument '--live' cannot be used with '--trace <FILE>'");
+    }
+    if matches.get_str("tape") == Some("-") {
+        return Some("the argument '--tape -' cannot be used here: standard input has the commands");
+    }
+    None
+}
+
 /// Why the options of the command do not go together, if they do not.
 pub fn debug_conflict(matches: &ArgMatches<'_>, images: usize) -> Option<&'static str> {
     if matches.get_flag("live") {
-        return matches.get_str("trace").map(
-            |_| "the argument '--live' cannot be used with '--trace <FILE>'",
-        );
+        return live_conflict(matches);
     }
     if matches.get_str("process").is_some() {
         return Some("the argument '--process <P>' cannot be used without '--live'");

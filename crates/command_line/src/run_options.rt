@@ -1,11 +1,13 @@
 //! The command `run`, and its options.
-ghost use Rattle.std.specs.Prelude.{◌<◌, ◌≤◌, vec_len, length};
+ghost use Rattle.std.specs.Prelude.{◌≡◌, ◌<◌, ◌≤◌, true, IfSome, vec_len, length};
+ghost use Rattle.std.proofs.Props.{props};
 ghost use Rattle.kernel_model.specs.World.{most_programs, terminal_count};
 
 use crate::numbers::number_of;
 use crate::rows::{ArgumentRow, CommandRow, Form, NumberRow};
 use crate::tapes::TapePaths;
 use clap::ArgMatches;
+use clap::parser::ValueSource;
 use kernel_model::{MOST_PROGRAMS, TERMINALS};
 use std::alloc::{AllocError, Global};
 
@@ -34,14 +36,14 @@ pub struct RunNumbers {
     pub workers: u32,
     /// The most instructions that a worker runs at a time, from 1 on.
     pub quantum: u32,
-    /// The terminal that is printed, 0 to 7.
-    pub terminal: u32,
+    /// The terminal that is printed, 0 to 7; None where all are.
+    pub terminal: Option<u32>,
     /// Which completion of the run fails, counted from 1, if one is to.
     pub fail: Option<u32>,
     ghost some: { 1 ≤ workers },
     ghost few: { workers ≤ 16 },
     ghost moves: { 1 ≤ quantum },
-    ghost there: { terminal < terminal_count },
+    ghost there: { IfSome terminal (λ t. t < terminal_count) } by { Prim.hlevel props },
 }
 
 /// What is to be run, and how.
@@ -115,6 +117,11 @@ pub const RUN: CommandRow = CommandRow {
             }),
         },
         ArgumentRow {
+            name: "all-terms",
+            help: "print all terminals, each part after a line that names its terminal",
+            form: Form::Flag,
+        },
+        ArgumentRow {
             name: "fail",
             help: "which completion of the disk fails, 1 to 2147483647; none if it is not given",
             form: Form::Number(NumberRow {
@@ -142,9 +149,24 @@ pub const RUN: CommandRow = CommandRow {
     ],
 };
 
+/// Whether there is this terminal, if one is given.
+fn is_terminal(terminal: Option<u32>) -> bool
+    ensures { result ≡ true → IfSome terminal (λ t. t < terminal_count) }
+{
+    match terminal {
+        Some(terminal) => terminal < TERMINALS as u32,
+        None => true,
+    }
+}
+
 /// A run's numbers. None where one is out of range.
-fn run_numbers(workers: u32, quantum: u32, terminal: u32, fail: Option<u32>) -> Option<RunNumbers> {
-    if workers >= 1 && workers <= 16 && quantum >= 1 && terminal < TERMINALS as u32 {
+fn run_numbers(
+    workers: u32,
+    quantum: u32,
+    terminal: Option<u32>,
+    fail: Option<u32>,
+) -> Option<RunNumbers> {
+    if workers >= 1 && workers <= 16 && quantum >= 1 && is_terminal(terminal) {
         Some(RunNumbers {
             workers,
             quantum,
@@ -161,11 +183,24 @@ pub fn small_number(matches: &ArgMatches<'_>, option: &str) -> Option<u32> {
     u32::try_from(number_of(matches, option)?).ok()
 }
 
+/// Whether one terminal is asked for, and all of them too.
+pub fn asks_one_and_all(matches: &ArgMatches<'_>) -> bool {
+    matches.get_flag("all-terms") && matches.value_source("term") == Some(ValueSource::CommandLine)
+}
+
+/// The terminal that is printed. None where all are.
+fn terminal_of(matches: &ArgMatches<'_>) -> Option<u32> {
+    if matches.get_flag("all-terms") {
+        return None;
+    }
+    small_number(matches, "term")
+}
+
 fn numbers_of(matches: &ArgMatches<'_>) -> Option<RunNumbers> {
     let workers = small_number(matches, "workers")?;
     let quantum = small_number(matches, "quantum")?;
-    let terminal = small_number(matches, "term")?;
-    run_numbers(workers, quantum, terminal, small_number(matches, "fail"))
+    let fail = small_number(matches, "fail");
+    run_numbers(workers, quantum, terminal_of(matches), fail)
 }
 
 /// The paths of the images, where they are 1 to 8.

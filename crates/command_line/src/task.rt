@@ -4,7 +4,7 @@ use crate::debug_options::{DEBUG, LiveOptions, debug_conflict, live_options};
 use crate::numbers::number_of;
 use crate::refusing::refusal;
 use crate::rows::CommandRow;
-use crate::run_options::{RUN, RunOptions, run_options};
+use crate::run_options::{RUN, RunOptions, asks_one_and_all, run_options};
 use crate::tapes::faulty_tape;
 use clap::error::ErrorKind;
 use clap::{ArgMatches, Error};
@@ -118,8 +118,22 @@ fn test_tapes(alloc: Global, matches: &ArgMatches<'_>) -> Result<(), Error> {
     }
 }
 
+/// Refuses one terminal beside all of them.
+fn test_terminals(alloc: Global, matches: &ArgMatches<'_>) -> Result<(), Error> {
+    if !asks_one_and_all(matches) {
+        return Ok(());
+    }
+    Err(refusal(
+        alloc,
+        &RUN,
+        ErrorKind::ArgumentConflict,
+        "the argument '--all-terms' cannot be used with '--term <T>'",
+    )?)
+}
+
 fn run_task<'a>(alloc: Global, matches: &ArgMatches<'a>) -> Result<Option<Task<'a>>, Error> {
     test_tapes(alloc, matches)?;
+    test_terminals(alloc, matches)?;
     match run_options(alloc, matches)? {
         Some(options) if options.is_durable && options.disk.is_none() => Err(refusal(
             alloc,

@@ -1,5 +1,5 @@
-//! Runs a core to its end: worker threads, a thread that commits, and a console for one of its terminals. Read `run` first, and
-//! then `pool` and `run_threads`, whose threads it starts. Only safety is proved of it.
+//! Runs a core to its end: worker threads, a thread that commits, and a console for one of its terminals, or for all. Read `run`
+//! first, and then `pool` and `run_threads`, whose threads it starts. Only safety is proved of it.
 #![tactic(auto)]
 
 mod settings;

@@ -1,5 +1,6 @@
 //! How a run is done.
-ghost use Rattle.std.specs.Prelude.{◌<◌, ◌≤◌};
+ghost use Rattle.std.specs.Prelude.{◌<◌, ◌≤◌, IfSome};
+ghost use Rattle.std.proofs.Props.{props};
 ghost use Rattle.kernel_model.specs.World.{terminal_count};
 
 /// How a run is done.
@@ -9,12 +10,12 @@ pub struct Settings {
     pub workers: u32,
     /// The most instructions of a loan, from 1 on.
     pub quantum: u32,
-    /// The terminal whose bytes are written out, 0 to 7.
-    pub terminal: u32,
+    /// The terminal whose bytes are written out, 0 to 7. By None those of all are, each part after a line that names its terminal.
+    pub terminal: Option<u32>,
     /// Which completion of the run fails, the first being 1. By None, or by 0, none does.
     pub fail: Option<u32>,
     ghost some: { 1 ≤ workers },
     ghost few: { workers ≤ 16 },
     ghost moves: { 1 ≤ quantum },
-    ghost there: { terminal < terminal_count },
+    ghost there: { IfSome terminal (λ t. t < terminal_count) } by { Prim.hlevel props },
 }

@@ -43,13 +43,13 @@ struct Threading<'x, 'r, 'p, 'b, 'c, N: Naming, R: Wait, F> {
 }
 
 /// Runs a core until every process has ended, or nothing is lent and nothing is lendable. Worker threads run the processes, one
-/// thread commits what output waits for, and what a terminal shows is written out at once. Then all changes are committed, and the
-/// rest is written. Gives the core as it then stands.
+/// thread commits what output waits for, and what a terminal shows, or what all show, is written out at once. Then all changes are
+/// committed, and the rest is written. Gives the core as it then stands.
 ///
 /// Where `settings.fail` says so, one completion of the run is a failure in its place. Those at the run's end count too. The run
 /// goes on to its end all the same: then some changes are not committed, just where a write has failed.
 ///
-/// OutOfMemory: memory, a thread, or room in the history could not be had. Output: what the terminal shows could not be written.
+/// OutOfMemory: memory, a thread, or room in the history could not be had. Output: what terminals show could not be written.
 /// Either ends the run. DiskFailed: a write of the core had failed before the run, and `settings.fail` is None; it comes after the
 /// workers have ended. What was written stays.
 pub fn run<R: Threads + Wait + Sync, O: Write>(
@@ -65,7 +65,7 @@ pub fn run<R: Threads + Wait + Sync, O: Write>(
     if settings.fail.is_none() {
         core.drain()?;
     }
-    screen.finish(core.shown(settings.terminal))?;
+    screen.finish(alloc, &core)?;
     Ok(core)
 }
 
@@ -85,7 +85,7 @@ pub fn run_durable<R: Threads + Wait + Sync, F: DiskFile + Send + Drop, O: Write
 ) -> Result<Core, RunFault> {
     let mut screen = Screen::new(out, settings.terminal);
     let core = run_on(rt, alloc, core, settings, Some(file), &mut screen)?;
-    screen.finish(core.shown(settings.terminal))?;
+    screen.finish(alloc, &core)?;
     Ok(core)
 }
 
@@ -208,7 +208,7 @@ fn workers_of<'p, 'b, N: Naming>(
     Ok(workers)
 }
 
-/// Starts the threads, and writes what the terminal shows until no worker works any more; then waits for the threads.
+/// Starts the threads, and writes what terminals show until no worker works any more; then waits for the threads.
 fn run_to_end<
     N: Naming + Send + Sync,
     R: Threads + Wait + Sync,

@@ -63,10 +63,11 @@ fn run_to_end<R: Files<File = File> + AllocGlobal + Threads + Wait + Sync, O: Wr
     Ok(status)
 }
 
-/// Runs images to their end. What the terminal shows is printed as it is shown. Then `err` gets a line about each process. Then the
-/// disk is kept, if it is to be, also where `err` took no line; the file of a durable run holds it already. DiskFailed where a write
-/// of the disk has failed: it comes after all this, and the disk is kept as a crash would leave it that keeps nothing of what was in
-/// flight. Gives the exit status where all went well: that of a process, if the options name one, else 0.
+/// Runs images to their end. What the terminal shows, or all do, is printed as it is shown. Then `err` gets a line about each
+/// process. Then the disk is kept, if it is to be, also where `err` took no line; the file of a durable run holds it already.
+/// DiskFailed where a write of the disk has failed: it comes after all this, and the disk is kept as a crash would leave it that
+/// keeps nothing of what was in flight. Gives the exit status where all went well: that of a process, if the options name one, else
+/// 0.
 pub fn run_images<
     R: Files<File = File> + AllocGlobal + Threads + Wait + Sync,
     I: Read,

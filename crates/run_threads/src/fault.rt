@@ -12,7 +12,7 @@ pub enum RunFault {
     /// A write of the disk has failed, so that no change is committed any more.
     #[error("disk failed")]
     DiskFailed,
-    /// What the terminal shows could not be written out.
+    /// What terminals show could not be written out.
     #[error("output failed")]
     Output,
 }

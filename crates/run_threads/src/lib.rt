@@ -1,4 +1,4 @@
-//! Two threads of a run beside its workers: one commits what output waits for, and one writes out what a terminal shows. Read
+//! Two threads of a run beside its workers: one commits what output waits for, and one writes out what terminals show. Read
 //! `CommitThread` and `Screen`. A `Watch` tells them when the work is over, and keeps the first fault. Of `LockedCore` it is proved
 //! that it gives the writes in flight at the core under its lock. Of the others only safety is proved.
 #![tactic(auto)]
@@ -9,6 +9,7 @@ mod fault;
 mod locked_core;
 mod rest;
 mod screen;
+mod transcript;
 mod watch;
 
 pub use board_reader::BoardReader;

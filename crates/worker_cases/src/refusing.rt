@@ -122,7 +122,7 @@ fn play_one<R: Threads + Wait + Sync>(
     let settings = Settings {
         workers: 2,
         quantum: QUANTUM,
-        terminal: 0,
+        terminal: Some(0),
         fail: None,
     };
     let mut held = zeros(alloc)?;

@@ -114,7 +114,7 @@ fn time_of<R: AllocGlobal + Clock + Threads + Wait + Sync>(
     let settings = Settings {
         workers,
         quantum: QUANTUM,
-        terminal: 0,
+        terminal: Some(0),
         fail: None,
     };
     let core = boot(rt.alloc(), load)?;

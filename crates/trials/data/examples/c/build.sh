@@ -81,5 +81,8 @@ while [ $rest -gt 0 ]; do
 done
 $CC -march=rv32im -mabi=ilp32 -mstrict-align -O2 -ftls-model=local-exec -ffunction-sections -fdata-sections -fno-pic $before \
     -static -nostdlib $linker -Wl,--gc-sections -Wl,--orphan-handling=error -T "$here/image.ld" -I "$here" \
-    "$here/start.s" "$@" "$library" $after -o "$linked"
+    "$here/start.s" "$@" "$library" $after -o "$linked" || {
+    [ $libc = yes ] || ! grep -qs -e '^ *# *include *<' -- "$@" || echo "build.sh: a C library, as stdio.h has, comes by --picolibc as the first word" >&2
+    exit 1
+}
 $OBJCOPY -O binary "$linked" "$image"

@@ -1,0 +1,130 @@
+//! What of the terminals is to be written out, and how far it was.
+ghost use Rattle.std.specs.Prelude.{◌<◌, IfSome};
+ghost use Rattle.kernel_model.specs.World.{terminal_count};
+
+use kernel::Core;
+use kernel_model::TERMINALS;
+use std::alloc::{AllocError, Global};
+
+/// One terminal, and how many of its bytes were taken.
+#[derive(Clone, Copy)]
+pub struct OneTerminal {
+    terminal: u32,
+    taken: usize,
+    ghost there: { terminal < terminal_count },
+}
+
+/// All terminals, and how many bytes of each were taken.
+#[derive(Clone, Copy)]
+pub struct AllTerminals {
+    taken: [usize; TERMINALS],
+    /// The terminal whose bytes were taken last, if any were.
+    last: Option<u32>,
+    /// Whether the byte taken last ends its line; true where none was taken.
+    is_line_ended: bool,
+}
+
+/// What is written out of a run: the bytes of one terminal, or of all. Of all, each part of one terminal comes after a line that names
+/// the terminal. A part ends where bytes of another terminal come next. Each terminal's bytes keep their order.
+#[derive(Clone, Copy)]
+pub enum Transcript {
+    One(OneTerminal),
+    All(AllTerminals),
+}
+
+/// A copy of the bytes after the first so many.
+fn copy_after(alloc: Global, shown: &[u8], taken: usize) -> Result<Vec<u8>, AllocError> {
+    match shown.get(taken..) {
+        Some(bytes) => Vec::from_slice(alloc, bytes),
+        None => Ok(Vec::new(alloc)),
+    }
+}
+
+impl OneTerminal {
+    /// The bytes that the terminal shows and that were not taken.
+    fn more(&mut self, alloc: Global, core: &Core) -> Result<Vec<u8>, AllocError> {
+        let bytes = copy_after(alloc, core.shown(self.terminal), self.taken)?;
+        self.taken = self.taken.saturating_add(bytes.len());
+        Ok(bytes)
+    }
+}
+
+impl AllTerminals {
+    /// Nothing was taken.
+    fn new() -> AllTerminals {
+        AllTerminals {
+            taken: [0; TERMINALS],
+            last: None,
+            is_line_ended: true,
+        }
+    }
+
+    /// Adds the line that names a terminal, where other bytes came last. It stands on a line of its own.
+    fn turn_to(
+        &mut self,
+        alloc: Global,
+        terminal: u32,
+        text: &mut Vec<u8>,
+    ) -> Result<(), AllocError> {
+        if self.last == Some(terminal) {
+            return Ok(());
+        }
+        if !self.is_line_ended {
+            text.push(b'\n')?;
+        }
+        self.last = Some(terminal);
+        let line = format!(in alloc; "== terminal {terminal} ==\n")?;
+        text.extend_from_slice(line.as_bytes())
+    }
+
+    /// Adds the bytes that a terminal shows, but for those that were taken.
+    fn add(
+        &mut self,
+        alloc: Global,
+        terminal: u32,
+        shown: &[u8],
+        text: &mut Vec<u8>,
+    ) -> Result<(), AllocError> {
+        let Some(taken) = self.taken.get_mut(terminal as usize) else {
+            return Ok(());
+        };
+        let bytes = shown.get(*taken..).unwrap_or_default();
+        *taken = shown.len();
+        let Some(&last) = bytes.last() else {
+            return Ok(());
+        };
+        self.turn_to(alloc, terminal, text)?;
+        self.is_line_ended = last == b'\n';
+        text.extend_from_slice(bytes)
+    }
+
+    /// What the terminals show and was not taken, by rising number.
+    fn more(&mut self, alloc: Global, core: &Core) -> Result<Vec<u8>, AllocError> {
+        let mut text = Vec::new(alloc);
+        for terminal in 0..TERMINALS as u32 {
+            self.add(alloc, terminal, core.shown(terminal), &mut text)?;
+        }
+        Ok(text)
+    }
+}
+
+impl Transcript {
+    /// Of this terminal, or of all where none is given. Nothing was taken.
+    pub fn of(terminal: Option<u32>) -> Transcript
+        requires { IfSome terminal (λ t. t < terminal_count) }
+    {
+        match terminal {
+            Some(terminal) => Transcript::One(OneTerminal { terminal, taken: 0 }),
+            None => Transcript::All(AllTerminals::new()),
+        }
+    }
+
+    /// What is to be written out next: what is shown and was not taken. It is taken now. Where memory is wanting, no more is to be asked
+    /// for.
+    pub fn more(&mut self, alloc: Global, core: &Core) -> Result<Vec<u8>, AllocError> {
+        match self {
+            Transcript::One(one) => one.more(alloc, core),
+            Transcript::All(all) => all.more(alloc, core),
+        }
+    }
+}
