@@ -4,7 +4,7 @@
     check-pages [--comments] [FILE..]
 
 A page is README.md, CHANGES.md or a file docs/*.md. Of each it finds links to files that are not there, links to anchors that no
-heading has, and sentences of more than 35 words. With --comments it also finds such sentences in the comments `//!` and `///` of
+heading has, and sentences of more than 35 words. Of docs/TEACHING.md it also finds blocks of text that no case has. With --comments it also finds such sentences in the comments `//!` and `///` of
 crates/*/src. With file names, it checks these alone: pages, and comments of files `.rt`.
 
 It prints a line for each finding, `FILE:LINE: what`, and ends with status 1 where it found something.
@@ -20,6 +20,8 @@ import sys
 import urllib.parse
 
 MOST_WORDS = 35
+# The pages whose blocks of text stand in cases, each with the file of these.
+CASES_OF = {"docs/TEACHING.md": "crates/trials/data/teaching.sessions"}
 
 FENCE = re.compile(r"\s*(```+|~~~+)")
 HEADING = re.compile(r" {0,3}#{1,6}\s+(.*?)(?:\s+#+)?\s*$")
@@ -136,6 +138,31 @@ def anchors(blocks):
     return found
 
 
+def texts_of(lines):
+    """Yields the blocks that are marked as text, each as the line where it begins and its own lines."""
+    text = None
+    for number, line in lines:
+        if text is None:
+            text = (number, []) if line == "```text" else None
+        elif line == "```":
+            yield text
+            text = None
+        else:
+            text[1].append(line)
+
+
+def is_in_cases(text, cases):
+    """Whether a text stands in cases, as what is printed, said or kept in a file. Its lines that begin with `>` are input."""
+    typed = [line[2:] for line in text if line.startswith("> ")]
+    shown = [line for line in text if not line.startswith("> ")]
+    forms = (
+        "".join(f"> {line}\n" for line in shown),
+        "".join(f"| {line}".rstrip() + "\n" for line in shown),
+        "! 0 " + "\n!! ".join(shown) + "\n",
+    )
+    return any(form in cases for form in forms) and all(f"< {line}\n" in cases for line in typed)
+
+
 def numbered_lines(path):
     with open(path, encoding="utf-8") as file:
         return list(enumerate(file.read().split("\n"), 1))
@@ -177,6 +204,12 @@ class Pages:
             fault = self.fault_of(page, target)
             if fault:
                 yield line, fault
+        if page in CASES_OF:
+            with open(CASES_OF[page], encoding="utf-8") as file:
+                cases = file.read()
+            for line, text in texts_of(numbered_lines(page)):
+                if not is_in_cases(text, cases):
+                    yield line, "a text that no case has"
 
 
 def findings_of_comments(path):
