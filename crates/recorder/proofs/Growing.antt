@@ -1,5 +1,5 @@
 -- Cores that events make another one of.
-use Rattle.std.proofs.Common.{◌≡◌, ℕ, List, [], ◌∷◌, ◌++◌, Option, Some, None, Result, Ok, Err, refl, sym, ap, subst, ◌∙◌, append_assoc}
+use Rattle.std.proofs.Common.{◌≡◌, ℕ, ◌<◌, ◌≤◌, List, [], ◌∷◌, ◌++◌, length, length-append, Option, Some, None, Result, Ok, Err, refl, sym, ap, subst, ◌∙◌, append_assoc, arith}
 use Rattle.std.proofs.lemmas.List.{append-nil}
 use Rattle.kernel_model.specs.Answers.{Kernel, with_event, with_events}
 use Rattle.kernel_model.specs.Drains.{Drains, IsDrained}
@@ -26,7 +26,7 @@ grows-then i j k g h = record {
   history = h.history ∙ ap (λ (es : List Event). es ++ h.more) g.history ∙ append_assoc i.history g.more h.more;
 }
 
-boot-with_events : (k : Kernel) (es : List Event) → (with_events k es).boot ≡ k.boot
+pub boot-with_events : (k : Kernel) (es : List Event) → (with_events k es).boot ≡ k.boot
 boot-with_events k [] = refl
 boot-with_events k (e ∷ es) = boot-with_events (with_event k e) es
 
@@ -39,6 +39,11 @@ grows-lent old new n (Ok None) h = grows-same old new h.1.1
 grows-lent old new n (Ok (Some loan)) h =
     subst (λ (k : Kernel). Grows old k) (sym h.1.noted) (record { boot = refl; more = []; history = sym (append-nil old.history) })
 grows-lent old new n (Err why) h = grows-same old new h.2
+
+lent-history : (old new : Kernel) (n : ℕ) (given : Result (Option LoanOut) Refused) → Lends old n new given → new.history ≡ old.history
+lent-history old new n (Ok None) h = ap (λ (k : Kernel). k.history) h.1.1
+lent-history old new n (Ok (Some loan)) h = ap (λ (k : Kernel). k.history) h.1.noted
+lent-history old new n (Err why) h = ap (λ (k : Kernel). k.history) h.2
 
 -- by a loan's result
 pub grows-settled : (old new : Kernel) (r : LoanResult) → new ≡ settled old r → Grows old new
@@ -58,3 +63,27 @@ drains-events (e ∷ es) k new h = drains-events es (with_event k e) new h.4
 -- by a drain
 pub grows-drained : (old new : Kernel) (result : Result (Unit {0}) Refused) → IsDrained old new result → Grows old new
 grows-drained old new result h = subst (λ (k : Kernel). Grows old k) (sym (drains-events h.events old new h.drains)) (grows-events old h.events)
+
+-- ---- how long the history is
+pub grows-longer : (old new : Kernel) → Grows old new → length old.history ≤ length new.history
+grows-longer old new g =
+    let all : length new.history ≡ length (old.history ++ g.more) = ap (λ (es : List Event). length es) g.history in
+    let parts = length-append old.history g.more in
+    omega (arith, all, parts)
+
+-- a loan adds nothing to it
+pub lent-length : (old new : Kernel) (n : ℕ) (given : Result (Option LoanOut) Refused) → Lends old n new given → length new.history ≡ length old.history
+lent-length old new n given h = ap (λ (es : List Event). length es) (lent-history old new n given h)
+
+-- a loan's result is an event at least
+pub settled-longer : (old new : Kernel) (r : LoanResult) → new ≡ settled old r → length old.history < length new.history
+settled-longer old new r e =
+    let history = history-with_events (returned old r.process) (events_of r) in
+    let all : length new.history ≡ length (old.history ++ events_of r) = ap (λ (k : Kernel). length k.history) e ∙ ap (λ (es : List Event). length es) history in
+    let parts = length-append old.history (events_of r) in
+    omega (arith, all, parts)
+
+pub settles-longer : (old new : Kernel) (done : Done) (result : Result Answer Rejected) (a : Answer) → Settles old done new result → result ≡ Ok a
+    → length old.history < length new.history
+settles-longer old new done (Ok b) a h is = settled-longer old new (loan_result done) h.events
+settles-longer old new done (Err r) a h is = absurd (let no : ⊥ = cc in no)

@@ -1,2 +1,3 @@
 -- Lemmas.
 pub mod Growing
+pub mod Lengthening

@@ -1,10 +1,10 @@
 -- What a recorder is to its callers, and what it finds.
-use Rattle.std.specs.Prelude.{◌≡◌, ◌≢◌, ℕ, ◌^◌, true, List, [], ◌++◌, length, drop, Some, None, is_some, refl}
+use Rattle.std.specs.Prelude.{◌≡◌, ◌≢◌, ℕ, ◌^◌, true, false, List, [], ◌++◌, length, drop, Some, None, is_some, refl}
 use Rattle.std.specs.Coded.{Coded, code_by, coded×, coded_ℕ}
 use Rattle.machine_model.specs.declared.reply.Reply.{Reply}
 use Rattle.kernel_model.specs.Answers.{Kernel, now, process_of}
 use Rattle.kernel_model.specs.Codes.{kernel_code}
-use Rattle.kernel_model.specs.Loans.{is_over, standing_of}
+use Rattle.kernel_model.specs.Loans.{is_over, pick, standing_of}
 use Rattle.kernel_model.specs.Shown.{handed, replies_in, end_in}
 use Rattle.kernel_model.specs.declared.event.Event.{Event}
 use Rattle.kernel_model.specs.declared.standing.Standing.TheVariants as standing
@@ -25,9 +25,13 @@ recording_code = code_by (Kernel × (ℕ × ℕ)) (coded× kernel_code (coded× 
 abbrev pub quantum : ℕ
 quantum = 2 ^ 16
 
--- the trace of the process: the replies that it was handed
+-- the trace of a process: the replies that it was handed
+abbrev pub trace_of : Kernel → ℕ → List Reply
+trace_of k process = replies_in (handed (now k) process)
+
+-- the trace of the process that is recorded
 abbrev pub trace : Recording → List Reply
-trace r = replies_in (handed (now r.kernel) r.process)
+trace r = trace_of r.kernel r.process
 
 -- those of its trace that were not taken
 abbrev pub untaken : Recording → List Reply
@@ -42,6 +46,15 @@ pub record Grows (old new : Kernel) : Type 0 where
 -- no process runs on: none is lendable, and none is out on loan
 abbrev pub Rests : Kernel → Type 0
 Rests k = is_over k quantum ≡ true
+
+-- The trace of a process that is there begins in the other core with what it is in this one.
+abbrev pub Lengthens : Kernel → Kernel → ℕ → Type 0
+Lengthens old new process =
+    is_some (process_of old process) ≡ true → (more : List Reply) × (trace_of new process ≡ trace_of old process ++ more)
+
+-- no process is lendable, and one is out on loan: else the core would rest
+abbrev pub StandsStill : Kernel → Type 0
+StandsStill k = (pick k quantum ≡ None) × (is_over k quantum ≡ false)
 
 -- What a recorder finds that was one and is now another, by how many replies were taken before. The replies are exactly those of the
 -- trace that were not taken, and at least one. An end or a wait is found only where each reply was taken.

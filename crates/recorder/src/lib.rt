@@ -6,6 +6,8 @@ mod copies;
 mod recorded;
 mod recorder;
 mod running;
+mod traces;
 
 pub use recorded::Recorded;
 pub use recorder::Recorder;
+pub use traces::traces_only_grow;

@@ -10,6 +10,6 @@ pub enum Recorded {
     Ended(u32),
     /// It waits for what nobody will do: no process runs on. Each reply was taken.
     Waits,
-    /// As many loans were done as were asked for.
+    /// As many loans were done as were asked for, each with an event at least.
     Going,
 }

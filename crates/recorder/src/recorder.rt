@@ -1,14 +1,16 @@
 //! Recorders.
-ghost use Rattle.std.specs.Prelude.{◌≡◌, ◌≢◌, None, IfOk, IfErr, OnOk, OnErr, MatchOption};
+ghost use Rattle.std.specs.Prelude.{◌≡◌, ◌≢◌, ◌+◌, ◌<◌, ◌≤◌, true, false, None, IfOk, IfErr, IfSome, OnOk, OnErr, MatchOption, length};
 ghost use Rattle.kernel_model.specs.Answers.{Kernel, now, process_of};
 ghost use Rattle.kernel_model.specs.Drains.{IsAllCommitted};
-ghost use Rattle.kernel_model.specs.Loans.{is_over};
-ghost use Rattle.kernel_model.specs.declared.answer.Refused.TheVariants.{NoProcess};
-ghost use Rattle.recorder.specs.Recording.{Finds, Grows, HasNone, Rests, quantum};
+ghost use Rattle.kernel_model.specs.Loans.{is_over, pick};
+ghost use Rattle.kernel_model.specs.declared.answer.Refused.TheVariants.{Lent, NoProcess};
+ghost use Rattle.recorder.specs.Recording.{Finds, Grows, HasNone, Lengthens, Rests, StandsStill, quantum};
+ghost use Rattle.recorder.specs.declared.recorded.Recorded.TheVariants.{Going};
 
 use crate::copies::copies_of;
 use crate::recorded::Recorded;
 use crate::running::{QUANTUM, run_next};
+use crate::traces::traces_only_grow;
 use kernel::{Core, Refused, Standing};
 use std::alloc::Global;
 use std::marker::Model;
@@ -65,15 +67,34 @@ impl Recorder {
     }
 
     /// Runs the core on until the process has replies that were not taken, and takes them; at most so many loans of 65,536
-    /// instructions each. The trace of a process that a fork made begins with its parent's up to then, and a 0.
+    /// instructions each. The trace of a process that a fork made begins with its parent's up to then, and a 0. A trace only grows at
+    /// its end. So a debugger that has the replies so far goes on with those that are taken, and what it reached before stays.
     ///
-    /// Refused: NoProcess, where there is no such process and none runs on; Budget, where the process has no room for as many
-    /// instructions, or the history for events; DiskFailed, where a write of the disk had failed before; OutOfMemory. What ran
-    /// stays, and no reply is taken.
+    /// Refused: NoProcess, where there is no such process and none runs on; Lent, where no process is lendable while one is out on
+    /// loan elsewhere; Budget, where the process has no room for as many instructions, or the history for events; DiskFailed, where a
+    /// write of the disk had failed before; OutOfMemory. What ran stays, and no reply is taken.
     pub fn more(&mut self, loans: u32) -> Result<Recorded, Refused>
         ensures finds { IfOk result (λ recorded. Finds self.old.taken self.new recorded) }
+        ensures going { IfOk result (λ recorded. recorded ≡ Going → length self.old.kernel.history + loans ≤ length self.new.kernel.history) }
         ensures committed { OnOk result (IsAllCommitted (now self.new.kernel)) }
         ensures none { IfErr result (λ why. why ≡ NoProcess → (process_of self.new.kernel self.new.process ≡ None) × Rests self.new.kernel) }
+        ensures lent { IfErr result (λ why. why ≡ Lent → StandsStill self.new.kernel) }
+        ensures taken { OnErr result (self.new.taken ≡ self.old.taken) }
+        ensures grows { Grows self.old.kernel self.new.kernel }
+        ensures trace { Lengthens self.old.kernel self.new.kernel self.new.process }
+        ensures process { self.new.process ≡ self.old.process }
+    {
+        traces_only_grow();
+        self.run_on(loans)
+    }
+
+    /// Does what `more` does.
+    fn run_on(&mut self, loans: u32) -> Result<Recorded, Refused>
+        ensures finds { IfOk result (λ recorded. Finds self.old.taken self.new recorded) }
+        ensures going { IfOk result (λ recorded. recorded ≡ Going → length self.old.kernel.history + loans ≤ length self.new.kernel.history) }
+        ensures committed { OnOk result (IsAllCommitted (now self.new.kernel)) }
+        ensures none { IfErr result (λ why. why ≡ NoProcess → (process_of self.new.kernel self.new.process ≡ None) × Rests self.new.kernel) }
+        ensures lent { IfErr result (λ why. why ≡ Lent → StandsStill self.new.kernel) }
         ensures taken { OnErr result (self.new.taken ≡ self.old.taken) }
         ensures grows { Grows self.old.kernel self.new.kernel }
         ensures process { self.new.process ≡ self.old.process }
@@ -86,7 +107,9 @@ impl Recorder {
             if self.is_over() {
                 return self.rest();
             }
-            self.run_next()?;
+            if !self.run_next()? {
+                return Err(Refused::Lent);
+            }
         }
         Ok(Recorded::Going)
     }
@@ -95,6 +118,7 @@ impl Recorder {
     fn commit(&mut self) -> Result<(), Refused>
         ensures committed { OnOk result (IsAllCommitted (now self.new.kernel)) }
         ensures refused { IfErr result (λ why. why ≢ NoProcess) }
+        ensures home { IfErr result (λ why. why ≢ Lent) }
         ensures grows { Grows self.old.kernel self.new.kernel }
         ensures process { self.new.process ≡ self.old.process }
         ensures taken { self.new.taken ≡ self.old.taken }
@@ -110,10 +134,13 @@ impl Recorder {
         self.core.over(QUANTUM)
     }
 
-    /// Runs the next process on loan, if there is one, and commits what it changed.
-    fn run_next(&mut self) -> Result<(), Refused>
+    /// Runs the next process on loan, and commits what it changed. False where no process is lendable.
+    fn run_next(&mut self) -> Result<bool, Refused>
+        ensures ran { IfOk result (λ ran. ran ≡ true → length self.old.kernel.history < length self.new.kernel.history) }
+        ensures idle { IfOk result (λ ran. ran ≡ false → (pick self.old.kernel quantum ≡ None) × (self.new.kernel ≡ self.old.kernel)) }
         ensures committed { OnOk result (IsAllCommitted (now self.old.kernel) → IsAllCommitted (now self.new.kernel)) }
         ensures refused { IfErr result (λ why. why ≢ NoProcess) }
+        ensures home { IfErr result (λ why. why ≢ Lent) }
         ensures grows { (first : Kernel) → Grows first self.old.kernel → Grows first self.new.kernel }
         ensures process { self.new.process ≡ self.old.process }
         ensures taken { self.new.taken ≡ self.old.taken }
@@ -124,7 +151,9 @@ impl Recorder {
     /// The replies that were not taken, which are taken now, or the process's end; None where there is neither.
     fn found(&mut self) -> Result<Option<Recorded>, Refused>
         ensures finds { IfOk result (λ found. MatchOption found (HasNone self.new × (self.new.taken ≡ self.old.taken)) (λ recorded. Finds self.old.taken self.new recorded)) }
+        ensures ends { IfOk result (λ found. IfSome found (λ recorded. recorded ≢ Going)) }
         ensures refused { IfErr result (λ why. why ≢ NoProcess) }
+        ensures home { IfErr result (λ why. why ≢ Lent) }
         ensures taken { OnErr result (self.new.taken ≡ self.old.taken) }
         ensures kernel { self.new.kernel ≡ self.old.kernel }
         ensures process { self.new.process ≡ self.old.process }
@@ -152,7 +181,9 @@ impl Recorder {
         requires none { HasNone self.now }
         requires over { Rests self.now.kernel }
         ensures finds { IfOk result (λ recorded. Finds self.now.taken self.now recorded) }
+        ensures ends { IfOk result (λ recorded. recorded ≢ Going) }
         ensures none { IfErr result (λ why. why ≡ NoProcess → process_of self.now.kernel self.now.process ≡ None) }
+        ensures home { IfErr result (λ why. why ≢ Lent) }
     {
         match self.core.standing(self.process)? {
             Standing::Waits => Ok(Recorded::Waits),

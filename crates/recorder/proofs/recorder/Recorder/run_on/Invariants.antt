@@ -1,12 +1,13 @@
--- The core so far.
-use Rattle.std.proofs.Common.{◌≡◌}
+-- The core so far: each loan that was done left an event at least.
+use Rattle.std.proofs.Common.{◌≡◌, ◌+◌, ◌≤◌, length}
 use Rattle.kernel_model.specs.Answers.{now}
 use Rattle.kernel_model.specs.Drains.{IsAllCommitted}
 use Rattle.recorder.specs.Recording.{Grows}
-use Rattle.recorder.proofs.recorder.Recorder.more.Given as goal
+use Rattle.recorder.proofs.recorder.Recorder.run_on.Given as goal
 
 abbrev pub invariant-loop : goal.invariant-loop
 invariant-loop l = record {
+  ran : length l.initial.self.kernel.history + l.counter ≤ length l.self.kernel.history;
   committed : IsAllCommitted (now l.self.kernel);
   grows : Grows l.initial.self.kernel l.self.kernel;
   process : l.self.process ≡ l.initial.self.process;
