@@ -39,6 +39,7 @@ advances_not a = (
     entered = refl;
     enters = refl;
     share = grown_not a.share;
+    refused = tt;
     rest = rest_of a a refl refl refl refl;
   },
   refl,
@@ -55,6 +56,7 @@ advances_settled a b s d rest = record {
   entered = d.entered;
   enters = d.enters;
   share = d.share;
+  refused = d.refused;
   rest = rest;
 }
 
@@ -72,6 +74,7 @@ advances_put a b c x s d is =
         entered = e.entered;
         enters = e.enters;
         share = ap (λ (u : Seated). u.share) is ∙ e.share;
+        refused = e.refused;
         rest = rest_twice a b c e.rest (rest_of b c (ap (λ (u : Seated). u.own) is) (ap (λ (u : Seated). u.others) is) (ap (λ (u : Seated). u.spare) is) (ap (λ (u : Seated). u.told) is));
       },
       d.1,
@@ -95,6 +98,7 @@ advances_then a b c xs s t ds e =
       entered = let more = entered_append d.done e.done in let m = d.entered in let n = e.entered in omega (arith, more, m, n);
       enters = enters_append d.done e.done ∙ (λ i. d.enters i + e.enters i);
       share = e.share ∙ ap (λ (h : Holding). grown h (totals_in t)) d.share ∙ grown_twice a.share (totals_in s) (totals_in t);
+      refused = e.refused;
       rest = rest_twice a b c d.rest e.rest;
     }
 

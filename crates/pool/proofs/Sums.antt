@@ -81,6 +81,7 @@ settles_one v w x h k j s c number quantum entered d none took_one grows events 
       entered = let more = entered_append d.done (one ∷ []) in let so_far = d.entered in omega (arith, more, so_far, events);
       enters = let more = enters_append d.done (one ∷ []) in let so_far = d.enters in omega (arith, more, so_far, enters);
       share = grows ∙ ap (λ (u : Holding). grown u c) d.share ∙ grown_twice h (totals_in s) c;
+      refused = d.refused;
     }
 
 plus_none : (n : ℕ) → n ≡ n + 0

@@ -1,5 +1,8 @@
 -- What a settling says.
-use Rattle.std.specs.Prelude.{◌≡◌, ◌⊎◌, ℕ, ◌+◌, ◌≤◌, List, [], ◌∷◌, ◌++◌, length, map, Bool, if◌then◌else◌, Option, Some, None}
+use Rattle.std.specs.Prelude.{◌≡◌, ◌⊎◌, ℕ, ◌+◌, ◌≤◌, List, [], ◌∷◌, ◌++◌, length, map, Bool, if◌then◌else◌, Option, Some, None, Err, IfSome}
+use Rattle.kernel_model.specs.Answers.{Kernel}
+use Rattle.kernel_step.specs.Loaned.{Settles}
+use Rattle.kernel_step.specs.declared.loan.Done.{Done}
 use Rattle.kernel_step.specs.declared.loan.Rejected.{Rejected}
 use Rattle.bursts.specs.Holdings.{Holding, grown}
 use Rattle.bursts.specs.LoanIds.{id_of_result}
@@ -17,6 +20,13 @@ totals_in s = record { events = s.events; ran = s.ran; turns = s.turns; enters =
 abbrev pub rejected_in : Option Rejected → List LoanId
 rejected_in None = []
 rejected_in (Some r) = id_of_result r.done ∷ []
+
+-- some core does not take a result back, and gives it back with this reason
+pub record SomeCoreRejects (r : Rejected) : Type 0 where
+  pub old : Kernel
+  pub new : Kernel
+  pub done : Done
+  pub rejects : Settles old done new (Err r)
 
 -- the process numbers, added up
 abbrev pub sum_of_processes : List LoanId → ℕ
@@ -46,7 +56,8 @@ abbrev pub IsOfOne : Totals → Type 0
 IsOfOne c = ((c.events ≡ 1) × (c.enters ≡ 0)) ⊎ ((c.events ≡ 2) × (c.enters ≡ c.turns))
 
 -- The pass took as many results as were settled, of these process numbers, and beside them the one rejected, if there was one. The
--- events are a Turn of each and the Enters that came after them, and no others. The share grew by what the settling says.
+-- events are a Turn of each and the Enters that came after them, and no others. The share grew by what the settling says. Some core
+-- rejects the one rejected so.
 pub record Settled (v : Hand) (h : Holding) (s : Settling) (w : Hand) (k : Holding) : Type 0 where
   pub done : List Settlement
   pub taken : w ≡ hand v.put (v.taken ++ (loans_in done ++ rejected_in s.rejected))
@@ -56,6 +67,7 @@ pub record Settled (v : Hand) (h : Holding) (s : Settling) (w : Hand) (k : Holdi
   pub entered : s.settled + count_entered done ≡ s.events
   pub enters : sum_of_entered done ≡ s.enters
   pub share : k ≡ grown h (totals_in s)
+  pub refused : IfSome s.rejected SomeCoreRejects
 
 -- nothing was settled
 abbrev pub no_settling : Settling

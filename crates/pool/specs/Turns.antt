@@ -1,5 +1,5 @@
 -- What a turn at a seat comes to.
-use Rattle.std.specs.Prelude.{◌≡◌, ◌⊎◌, ◌≤◌, ℕ, ◌+◌, List, [], ◌∷◌, ◌++◌, length, Bool, None, Some, Ok, Err, Result, MatchResult}
+use Rattle.std.specs.Prelude.{◌≡◌, ◌⊎◌, ◌≤◌, ℕ, ◌+◌, List, [], ◌∷◌, ◌++◌, length, Bool, None, Some, Ok, Err, Result, IfSome, MatchResult}
 use Rattle.kernel_step.specs.declared.loan.Rejected.{Rejected}
 use Rattle.bursts.specs.Holdings.{grown}
 use Rattle.bursts.specs.declared.fault.WorkFault.{WorkFault}
@@ -10,12 +10,12 @@ use Rattle.pool.specs.declared.turning.Pooled.{Pooled}
 use Rattle.pool.specs.declared.turning.Pooled.TheVariants as pooled
 use Rattle.pool.specs.Lending.{IsLoanRefusal, IsNothingLendable}
 use Rattle.pool.specs.Fetching.{Fetched, FindsNothing}
-use Rattle.pool.specs.Settled.{Settlement, loans_in, count_entered, sum_of_entered, totals_in, rejected_in, sum_of_processes}
+use Rattle.pool.specs.Settled.{SomeCoreRejects, Settlement, loans_in, count_entered, sum_of_entered, totals_in, rejected_in, sum_of_processes}
 use Rattle.pool.specs.Seats.{Seated, with_settled, told_so}
 
 -- These results were put into the queue, and as many as were settled were taken from it, of these process numbers, with the one
 -- rejected, if there was one. The events are a Turn of each and the Enters that came after them. The share grew by what was
--- settled. Nothing else changed at the seat.
+-- settled. Nothing else changed at the seat. Some core rejects the one rejected so.
 pub record Advances (old new : Seated) (xs : List LoanId) (s : Settling) : Type 0 where
   pub done : List Settlement
   pub put : new.results.put ≡ old.results.put ++ xs
@@ -26,6 +26,7 @@ pub record Advances (old new : Seated) (xs : List LoanId) (s : Settling) : Type 
   pub entered : s.settled + count_entered done ≡ s.events
   pub enters : sum_of_entered done ≡ s.enters
   pub share : new.share ≡ grown old.share (totals_in s)
+  pub refused : IfSome s.rejected SomeCoreRejects
   pub rest : new ≡ with_settled old new.results new.share
 
 -- the same, and none was rejected

@@ -9,7 +9,7 @@ ghost use Rattle.bursts.specs.Totals.{plus, settled_totals, Fit};
 ghost use Rattle.bursts.specs.Holdings.{grown};
 ghost use Rattle.pool.specs.Hands.{took};
 ghost use Rattle.bursts.specs.LoanIds.{loan_id, id_of_result};
-ghost use Rattle.pool.specs.Settled.{Settled, IsOfOne, totals_in, rejected_in, more, after, no_settling};
+ghost use Rattle.pool.specs.Settled.{Settled, SomeCoreRejects, IsOfOne, totals_in, rejected_in, more, after, no_settling};
 
 use crate::results::{ResultPass, Results, take_result};
 use bursts::{Bench, Naming, Rejected, Share, Totals};
@@ -140,7 +140,7 @@ fn settle_one<N: Naming, R: Wait>(
     ensures none { IfNone result ((view pass.new ≡ view pass.old) × (share.new ≡ share.old)) }
     ensures some { IfSome result (λ r. MatchResult r
         (λ c. ((number : ℕ) × (quantum : ℕ) × (view pass.new ≡ took (view pass.old) (loan_id c.turns number quantum))) × (share.new ≡ grown share.old c) × (c.turns < 2 ^ 32) × (c.ran < 2 ^ 32) × (c.enters < 2 ^ 32) × IsOfOne c × (c.events ≤ 2))
-        (λ j. (view pass.new ≡ took (view pass.old) (id_of_result j.done)) × (share.new ≡ share.old))) }
+        (λ j. (view pass.new ≡ took (view pass.old) (id_of_result j.done)) × (share.new ≡ share.old) × SomeCoreRejects j)) }
 {
     let done = take_result(rt, results, pass)?;
     let pid = done.pid;

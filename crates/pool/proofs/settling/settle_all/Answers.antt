@@ -10,7 +10,7 @@ use Rattle.pool.specs.declared.hand.Hand.{Hand}
 use Rattle.pool.specs.declared.settling.Settling.{Settling}
 use Rattle.pool.specs.Hands.{hand, took}
 use Rattle.bursts.specs.LoanIds.{loan_id, id_of_result}
-use Rattle.pool.specs.Settled.{Settled, IsOfOne, loans_in, rejected_in, more, no_settling}
+use Rattle.pool.specs.Settled.{Settled, SomeCoreRejects, IsOfOne, loans_in, rejected_in, more, no_settling}
 use Rattle.pool.proofs.Sums.{grown_not, settles_more}
 use Rattle.pool.proofs.settling.settle_all.Goals as goal
 
@@ -54,10 +54,11 @@ settled_none v h s is = subst (λ (u : Settling). Settled v h u v h) (sym is) re
   entered = refl;
   enters = refl;
   share = grown_not h;
+  refused = tt;
 }
 
 settled_still : (v w x : Hand) (h k j : Holding) (s : Settling) → Settled v h s w k → x ≡ w → j ≡ k → Settled v h s x j
-settled_still v w x h k j s d same kept = record { done = d.done; taken = same ∙ d.taken; settled = d.settled; turns = d.turns; events = d.events; entered = d.entered; enters = d.enters; share = kept ∙ d.share }
+settled_still v w x h k j s d same kept = record { done = d.done; taken = same ∙ d.taken; settled = d.settled; turns = d.turns; events = d.events; entered = d.entered; enters = d.enters; share = kept ∙ d.share; refused = d.refused }
 
 -- so much was settled after so many results, and Q; and one result adds so much
 abbrev SoFar : Type 0 → Hand → Holding → Settling → Hand → Holding → ℕ → Type 0
@@ -80,7 +81,7 @@ settled_more Q R v w x h k j s t b n i q a is = (
   omega (arith, ap (λ (u : Settling). u.enters) is, i.7, a.4),
 )
 
-settled_but : (v w x : Hand) (h k j : Holding) (s t : Settling) (r : Rejected) → Settled v h s w k → s.rejected ≡ None → (x ≡ took w (id_of_result r.done)) × (j ≡ k)
+settled_but : (v w x : Hand) (h k j : Holding) (s t : Settling) (r : Rejected) → Settled v h s w k → s.rejected ≡ None → (x ≡ took w (id_of_result r.done)) × (j ≡ k) × SomeCoreRejects r
     → t ≡ record { settled = s.settled; events = s.events; ran = s.ran; turns = s.turns; enters = s.enters; rejected = Some r } → Settled v h t x j
 settled_but v w x h k j s t r d none one is =
     let before : w ≡ hand v.put (v.taken ++ loans_in d.done) =
@@ -95,6 +96,7 @@ settled_but v w x h k j s t r d none one is =
       entered = d.entered;
       enters = d.enters;
       share = one.1 ∙ d.share;
+      refused = one.2;
     }
 
 -- at most 1,024 results were taken
