@@ -1,0 +1,173 @@
+//! What gdb asks for.
+use crate::motion::Motion;
+use crate::numbers::{bytes_of, little_endian, number, range};
+use crate::watching::{Watch, WatchKind};
+use std::alloc::{AllocError, Global};
+
+/// What is read in parts.
+#[derive(Clone, Copy)]
+pub enum Document {
+    /// The registers of the machine.
+    Target,
+    /// The path of the file of symbols.
+    Symbols,
+}
+
+/// What stops the machine.
+#[derive(Clone, Copy)]
+pub enum Point {
+    /// A breakpoint at an address.
+    Break(u32),
+    Watch(Watch),
+}
+
+/// What gdb asks for.
+#[derive(Drop)]
+pub enum Request {
+    /// What is supported.
+    Supported,
+    /// That no packet is acknowledged.
+    NoAcks,
+    /// A part of a document.
+    Part {
+        document: Document,
+        offset: u32,
+        length: u32,
+    },
+    /// Why the machine stands still.
+    Why,
+    Registers,
+    Memory {
+        at: u32,
+        length: u32,
+    },
+    /// That the machine goes to a count.
+    Travel(u64),
+    /// A change of what the program does.
+    Change,
+    Set(Point),
+    Clear(Point),
+    Go(Motion),
+    /// A command that a person gave.
+    Monitor(Vec<u8>),
+    /// That the session ends, with an answer.
+    Detach,
+    /// That the session ends.
+    Kill,
+    /// What is not supported.
+    Other,
+}
+
+/// What is asked for, if it has a form.
+fn known(request: Option<Request>) -> Request {
+    request.unwrap_or(Request::Other)
+}
+
+fn part_request(document: Document, words: &str) -> Option<Request> {
+    let (offset, length) = range(words)?;
+    Some(Request::Part {
+        document,
+        offset,
+        length,
+    })
+}
+
+fn memory_request(words: &str) -> Option<Request> {
+    let (at, length) = range(words)?;
+    Some(Request::Memory { at, length })
+}
+
+/// The breakpoint or the watch of `KIND,AT,N`, where more may follow after a `;`.
+fn point_of(words: &str) -> Option<Point> {
+    let words = match words.split_once(';') {
+        Some((words, _)) => words,
+        None => words,
+    };
+    let (kind, words) = words.split_once(',')?;
+    let (at, length) = range(words)?;
+    let watch = |kind| Some(Point::Watch(Watch { kind, at, length }));
+    match kind {
+        "0" | "1" => Some(Point::Break(at)),
+        "2" => watch(WatchKind::Stores),
+        "3" => watch(WatchKind::Loads),
+        "4" => watch(WatchKind::Both),
+        _ => None,
+    }
+}
+
+/// A write of the register `count`; one of any other is a change.
+fn written(alloc: Global, words: &str) -> Result<Request, AllocError> {
+    let Some(("21", value)) = words.split_once('=') else {
+        return Ok(Request::Change);
+    };
+    match little_endian(alloc, value)? {
+        Some(count) => Ok(Request::Travel(count)),
+        None => Ok(Request::Change),
+    }
+}
+
+fn monitor_request(alloc: Global, digits: &str) -> Result<Request, AllocError> {
+    match bytes_of(alloc, digits.as_bytes())? {
+        Some(line) => Ok(Request::Monitor(line)),
+        None => Ok(Request::Other),
+    }
+}
+
+/// A request of more than one word.
+fn query(alloc: Global, text: &str) -> Result<Request, AllocError> {
+    if let Some(words) = text.strip_prefix("qXfer:features:read:target.xml:") {
+        return Ok(known(part_request(Document::Target, words)));
+    }
+    if let Some((_, words)) = text
+        .strip_prefix("qXfer:exec-file:read:")
+        .and_then(|words| words.split_once(':'))
+    {
+        return Ok(known(part_request(Document::Symbols, words)));
+    }
+    match text.strip_prefix("qRcmd,") {
+        Some(digits) => monitor_request(alloc, digits),
+        None if text.starts_with("qSupported") => Ok(Request::Supported),
+        None => Ok(Request::Other),
+    }
+}
+
+/// A request by its first letter, and what comes after it.
+fn lettered(alloc: Global, letter: char, words: &str) -> Result<Request, AllocError> {
+    match letter {
+        'm' => Ok(known(memory_request(words))),
+        'P' => written(alloc, words),
+        'Z' => Ok(known(point_of(words).map(|point| Request::Set(point)))),
+        'z' => Ok(known(point_of(words).map(|point| Request::Clear(point)))),
+        'c' | 'C' => Ok(Request::Go(Motion::Continue)),
+        's' | 'S' => Ok(Request::Go(Motion::Step)),
+        'D' => Ok(Request::Detach),
+        'k' => Ok(Request::Kill),
+        _ => Ok(Request::Other),
+    }
+}
+
+fn request_of_text(alloc: Global, text: &str) -> Result<Request, AllocError> {
+    match text {
+        "?" => Ok(Request::Why),
+        "g" => Ok(Request::Registers),
+        "bs" => Ok(Request::Go(Motion::StepBack)),
+        "bc" => Ok(Request::Go(Motion::ContinueBack)),
+        "QStartNoAckMode" => Ok(Request::NoAcks),
+        _ if text.starts_with('q') => query(alloc, text),
+        _ => match text.chars().next() {
+            Some(letter) => lettered(alloc, letter, text.get(1..).unwrap_or_default()),
+            None => Ok(Request::Other),
+        },
+    }
+}
+
+/// What a packet of this payload asks for.
+pub fn request_of(alloc: Global, payload: &[u8]) -> Result<Request, AllocError> {
+    if let Some(b'G' | b'M' | b'X') = payload.first() {
+        return Ok(Request::Change);
+    }
+    match str::from_utf8(payload) {
+        Ok(text) => request_of_text(alloc, text),
+        Err(_) => Ok(Request::Other),
+    }
+}

@@ -1,0 +1,171 @@
+//! System calls that were done.
+use crate::accesses::{Access, AccessKind};
+use debugger::{Machine, Reply};
+use formats::Reg;
+use std::alloc::{AllocError, Global};
+use std::io;
+use std::io::Write;
+
+/// The most calls that are printed at once.
+const MOST_PRINTED: usize = 1000;
+
+/// A call, and its reply.
+#[derive(Clone, Copy)]
+struct Call {
+    /// How many instructions were done before it.
+    count: u64,
+    number: u32,
+    arguments: [u32; 3],
+    reply: u32,
+    /// The bytes that its reply stores, if it does.
+    stores: Option<Access>,
+}
+
+/// The bytes that a reply stores: all of the memory, where it brings another program.
+fn stores_of(reply: &Reply) -> Option<Access> {
+    let kind = AccessKind::Store;
+    if reply.image.is_some() {
+        return Some(Access {
+            at: 0,
+            length: 1 << 32,
+            kind,
+        });
+    }
+    match reply.bytes.as_slice() {
+        [] => None,
+        bytes => Some(Access {
+            at: reply.at,
+            length: bytes.len() as u64,
+            kind,
+        }),
+    }
+}
+
+/// An argument that is a number.
+const NUMBER: bool = false;
+
+/// An argument that is an address.
+const ADDRESS: bool = true;
+
+/// The name of a call of this number, and whether each of its arguments is an address.
+fn form_of(number: u32) -> (&'static str, &'static [bool]) {
+    match number {
+        1 => ("exit", &[NUMBER]),
+        2 => ("write", &[NUMBER, ADDRESS, NUMBER]),
+        3 => ("read", &[NUMBER, ADDRESS, NUMBER]),
+        4 => ("open", &[ADDRESS, NUMBER, NUMBER]),
+        5 => ("close", &[NUMBER]),
+        6 => ("pipe", &[ADDRESS]),
+        7 => ("fork", &[]),
+        8 => ("wait", &[ADDRESS]),
+        9 => ("getpid", &[]),
+        10 => ("seek", &[NUMBER, NUMBER]),
+        11 => ("sync", &[]),
+        12 => ("unlink", &[ADDRESS, NUMBER]),
+        13 => ("rename", &[ADDRESS, NUMBER, NUMBER]),
+        14 => ("exec", &[ADDRESS, NUMBER]),
+        _ => ("unknown", &[NUMBER, NUMBER, NUMBER]),
+    }
+}
+
+/// Prints an argument.
+fn print_argument<O: Write>(value: u32, is_address: bool, out: &mut O) -> io::Result<()> {
+    if is_address {
+        return write!(out, "0x{value:x}");
+    }
+    let value = value.cast_signed();
+    write!(out, "{value}")
+}
+
+impl Call {
+    /// Prints so many arguments as these are, with commas between.
+    fn print_arguments<O: Write>(&self, form: &[bool], out: &mut O) -> io::Result<()> {
+        for (place, is_address) in form.iter().enumerate() {
+            if place > 0 {
+                out.write_all(b", ")?;
+            }
+            let value = self.arguments.get(place).copied().unwrap_or(0);
+            print_argument(value, *is_address, out)?;
+        }
+        Ok(())
+    }
+
+    /// Prints it, with a star where it lies before a count.
+    fn print<O: Write>(&self, now: u64, out: &mut O) -> io::Result<()> {
+        let mark = if self.count < now { '*' } else { ' ' };
+        let count = self.count;
+        let (name, form) = form_of(self.number);
+        write!(out, "{mark} {count}: {name}(")?;
+        self.print_arguments(form, out)?;
+        let reply = self.reply.cast_signed();
+        writeln!(out, ") = {reply}")
+    }
+}
+
+/// The calls that took a reply, in order.
+pub struct Calls {
+    calls: Vec<Call>,
+}
+
+impl Drop for Calls {
+    fn drop(self) {
+        let Calls { calls: _calls } = self;
+    }
+}
+
+impl Calls {
+    /// None.
+    pub fn new(alloc: Global) -> Calls {
+        Calls {
+            calls: Vec::new(alloc),
+        }
+    }
+
+    /// How many there are.
+    pub fn count(&self) -> usize {
+        self.calls.len()
+    }
+
+    /// Whether the last one is after so many instructions.
+    pub fn ends_at(&self, count: u64) -> bool {
+        self.calls.last().is_some_and(|call| call.count == count)
+    }
+
+    /// The bytes that the reply of the call after so many instructions stores, if there is one that does.
+    pub fn stores_at(&self, count: u64) -> Option<Access> {
+        match self.calls.binary_search_by_key(&count, |call| call.count) {
+            Ok(place) => self.calls.get(place)?.stores,
+            Err(_) => None,
+        }
+    }
+
+    /// Adds the call at which a machine stands.
+    pub fn push(&mut self, machine: &Machine, reply: &Reply) -> Result<(), AllocError> {
+        let arguments = [
+            machine.reg(Reg::new(10)),
+            machine.reg(Reg::new(11)),
+            machine.reg(Reg::new(12)),
+        ];
+        Ok(
+            self.calls.push(Call {
+                count: machine.count(),
+                number: machine.reg(Reg::new(17)),
+                arguments,
+                reply: reply.a0,
+                stores: stores_of(reply),
+            })?,
+        )
+    }
+
+    /// Prints the last of them, a line each, with a star at those that lie before a count.
+    pub fn print<O: Write>(&self, now: u64, out: &mut O) -> io::Result<()> {
+        let before = self.calls.len().saturating_sub(MOST_PRINTED);
+        if before > 0 {
+            writeln!(out, "{before} before these")?;
+        }
+        for call in self.calls.iter().skip(before) {
+            call.print(now, out)?;
+        }
+        Ok(())
+    }
+}

@@ -1,0 +1,309 @@
+//! A session: what answers each packet.
+use crate::asking::{Document, Point, Request, request_of};
+use crate::fault::OutOfMemory;
+use crate::monitor::{Command, command_of};
+use crate::motion::{Going, Motion};
+use crate::packets::Packets;
+use crate::points::SetPoint;
+use crate::registers::{memory_at, registers_of};
+use crate::stops::{Stop, stop_text};
+use crate::target::{description, part_of};
+use crate::timeline::Timeline;
+use simdisk::SimDisk;
+use std::alloc::{AllocError, Global};
+
+/// What is supported.
+const SUPPORTED: &str =
+    "PacketSize=4000;QStartNoAckMode+;qXfer:features:read+;ReverseStep+;ReverseContinue+;swbreak+";
+
+/// That the path of a file of symbols can be read.
+const TELLS_SYMBOLS: &str = ";qXfer:exec-file:read+";
+
+/// A change of what the program does.
+const NO_CHANGE: &str = "E01";
+/// Too many breakpoints or watches.
+const FULL: &str = "E02";
+/// A count that is too far on.
+const TOO_FAR: &str = "E03";
+/// Memory that is not there.
+const NO_MEMORY: &str = "E0e";
+
+/// What comes after a packet was answered.
+#[derive(Clone, Copy, Debug, PartialEq, Eq)]
+pub enum Next {
+    /// The next packet is awaited.
+    Await,
+    /// From now on no packet is acknowledged.
+    NoAcks,
+    /// The machine goes: `Session::go_on` is called until it says that the machine stopped.
+    Go,
+    /// The disk is to be kept in its file; `Session::tell_kept` says what came of that.
+    Keep,
+    /// The session is over.
+    End,
+}
+
+/// A session: a program's run, and what gdb asked for.
+pub struct Session {
+    alloc: Global,
+    timeline: Timeline,
+    /// The path of the file of symbols.
+    symbols: Option<Vec<u8>>,
+    going: Option<Going>,
+}
+
+impl Drop for Session {
+    fn drop(self) {
+        let Session {
+            alloc: _,
+            timeline: _timeline,
+            symbols: _symbols,
+            going: _,
+        } = self;
+    }
+}
+
+/// What is said of a breakpoint or a watch that was to be set.
+fn answer_of(set: SetPoint) -> &'static str {
+    match set {
+        SetPoint::Set => "OK",
+        SetPoint::Full => FULL,
+        SetPoint::NoMemory => NO_MEMORY,
+    }
+}
+
+impl Session {
+    /// A session with a program at its first state. gdb is told the path of the file of symbols, if there is one.
+    pub fn new(alloc: Global, timeline: Timeline, symbols: Option<Vec<u8>>) -> Session {
+        Session {
+            alloc,
+            timeline,
+            symbols,
+            going: None,
+        }
+    }
+
+    /// The disk as the kernel leaves it now. None where no kernel runs.
+    pub fn disk(&self) -> Result<Option<SimDisk>, AllocError> {
+        match &self.timeline.live {
+            Some(live) => Ok(Some(live.disk()?)),
+            None => Ok(None),
+        }
+    }
+
+    fn answer_supported(&self, out: &mut Packets) -> Result<(), AllocError> {
+        let more = if self.symbols.is_some() {
+            TELLS_SYMBOLS
+        } else {
+            ""
+        };
+        let text = format!(in self.alloc; "{SUPPORTED}{more}")?;
+        out.push_text(text.as_str())
+    }
+
+    fn answer_part(
+        &self,
+        document: Document,
+        offset: u32,
+        length: u32,
+        out: &mut Packets,
+    ) -> Result<(), AllocError> {
+        match (document, &self.symbols) {
+            (Document::Target, _) => {
+                let text = description(self.alloc)?;
+                out.push(part_of(self.alloc, text.as_bytes(), offset, length)?)
+            }
+            (Document::Symbols, Some(path)) => {
+                out.push(part_of(self.alloc, path.as_slice(), offset, length)?)
+            }
+            (Document::Symbols, None) => out.push_text(""),
+        }
+    }
+
+    fn answer_registers(&self, out: &mut Packets) -> Result<(), AllocError> {
+        out.push(registers_of(self.alloc, self.timeline.machine())?)
+    }
+
+    fn answer_memory(&self, at: u32, length: u32, out: &mut Packets) -> Result<(), AllocError> {
+        match memory_at(self.alloc, self.timeline.machine().space(), at, length)? {
+            Some(payload) => out.push(payload),
+            None => out.push_text(NO_MEMORY),
+        }
+    }
+
+    fn answer_travel(&mut self, count: u64, out: &mut Packets) -> Result<(), OutOfMemory> {
+        let went = self.timeline.travel(count)?;
+        Ok(out.push_text(if went { "OK" } else { TOO_FAR })?)
+    }
+
+    fn answer_set(&mut self, point: Point, out: &mut Packets) -> Result<(), AllocError> {
+        let Timeline {
+            points,
+            debugger,
+            ..
+        } = &mut self.timeline;
+        let set = match point {
+            Point::Break(at) => points.set_break(debugger, at)?,
+            Point::Watch(watch) => points.set_watch(debugger, watch)?,
+        };
+        out.push_text(answer_of(set))
+    }
+
+    fn answer_clear(&mut self, point: Point, out: &mut Packets) -> Result<(), AllocError> {
+        let Timeline {
+            points,
+            debugger,
+            ..
+        } = &mut self.timeline;
+        match point {
+            Point::Break(at) => points.clear_break(debugger, at),
+            Point::Watch(watch) => points.clear_watch(watch),
+        }
+        out.push_text("OK")
+    }
+
+    /// Has the machine go; `go_on` does it.
+    fn begin(&mut self, motion: Motion) -> Next {
+        let going = match motion {
+            Motion::Step => Going::Ahead {
+                limit: self.timeline.count().saturating_add(1),
+                is_step: true,
+            },
+            Motion::Continue => Going::Ahead {
+                limit: self.limit(),
+                is_step: false,
+            },
+            Motion::StepBack => Going::StepBack,
+            Motion::ContinueBack => Going::Back,
+        };
+        self.going = Some(going);
+        Next::Go
+    }
+
+    /// The count at which the next run on stops, which is asked for once.
+    fn limit(&mut self) -> u64 {
+        let count = self.timeline.count();
+        match self.timeline.until.take() {
+            Some(until) if until > count => until,
+            _ => u64::MAX,
+        }
+    }
+
+    /// Answers a command that a person gave.
+    fn answer_monitor(&mut self, line: &[u8], out: &mut Packets) -> Result<Next, OutOfMemory> {
+        let command = command_of(line);
+        if matches!(command, Command::Keep) && self.timeline.live.is_some() {
+            return Ok(Next::Keep);
+        }
+        let mut text = Vec::new(self.alloc);
+        self.timeline.monitor(self.alloc, command, &mut text)?;
+        out.push_print(text.as_slice())?;
+        out.push_text("OK")?;
+        Ok(Next::Await)
+    }
+
+    /// Answers `monitor keep`, by a line that says what came of it.
+    pub fn tell_kept(&self, line: &str, out: &mut Packets) -> Result<(), OutOfMemory> {
+        let text = format!(in self.alloc; "{line}\n")?;
+        out.push_print(text.as_bytes())?;
+        Ok(out.push_text("OK")?)
+    }
+
+    /// Answers what only looks.
+    fn answer_look(&self, request: &Request, out: &mut Packets) -> Result<(), AllocError> {
+        match request {
+            Request::Supported => self.answer_supported(out),
+            Request::Part {
+                document,
+                offset,
+                length,
+            } => self.answer_part(*document, *offset, *length, out),
+            Request::Why => out.push_text("T05"),
+            Request::Registers => self.answer_registers(out),
+            Request::Memory { at, length } => self.answer_memory(*at, *length, out),
+            Request::Change => out.push_text(NO_CHANGE),
+            Request::NoAcks | Request::Detach => out.push_text("OK"),
+            _ => out.push_text(""),
+        }
+    }
+
+    /// Answers a packet of this payload. What goes out is added. Says what comes next.
+    pub fn answer(&mut self, payload: &[u8], out: &mut Packets) -> Result<Next, OutOfMemory> {
+        match request_of(self.alloc, payload)? {
+            Request::Go(motion) => return Ok(self.begin(motion)),
+            Request::Monitor(line) => return self.answer_monitor(line.as_slice(), out),
+            Request::Kill => return Ok(Next::End),
+            Request::Travel(count) => self.answer_travel(count, out)?,
+            Request::Set(point) => self.answer_set(point, out)?,
+            Request::Clear(point) => self.answer_clear(point, out)?,
+            request => {
+                self.answer_look(&request, out)?;
+                return Ok(next_after(&request));
+            }
+        }
+        Ok(Next::Await)
+    }
+
+    /// A slice of a way.
+    fn slice(&mut self, going: Going) -> Result<Option<Stop>, OutOfMemory> {
+        match going {
+            Going::Ahead { limit, is_step } => {
+                let stop = self.timeline.ahead(limit)?;
+                Ok(if is_step { stop_of_step(stop) } else { stop })
+            }
+            Going::Back => self.timeline.back(),
+            Going::StepBack => Ok(Some(self.timeline.step_back()?)),
+        }
+    }
+
+    /// Adds what terminals showed, and lines that say why the machine stopped.
+    fn tell_notes(&mut self, out: &mut Packets) -> Result<(), AllocError> {
+        out.push_print(self.timeline.notes())?;
+        self.timeline.forget_notes();
+        Ok(())
+    }
+
+    fn tell_stop(&mut self, stop: Stop, out: &mut Packets) -> Result<(), AllocError> {
+        self.going = None;
+        let text = stop_text(self.alloc, stop)?;
+        out.push_text(text.as_str())
+    }
+
+    /// Goes on by a slice. Says whether the machine goes on after that; where it does not, gdb is told why.
+    pub fn go_on(&mut self, out: &mut Packets) -> Result<bool, OutOfMemory> {
+        let Some(going) = self.going else {
+            return Ok(false);
+        };
+        let stop = self.slice(going)?;
+        self.tell_notes(out)?;
+        match stop {
+            Some(stop) => {
+                self.tell_stop(stop, out)?;
+                Ok(false)
+            }
+            None => Ok(true),
+        }
+    }
+
+    /// Stops the machine between two slices, since gdb asked for it.
+    pub fn interrupt(&mut self, out: &mut Packets) -> Result<(), OutOfMemory> {
+        Ok(self.tell_stop(Stop::Interrupted, out)?)
+    }
+}
+
+/// What comes after a packet that only looks was answered.
+fn next_after(request: &Request) -> Next {
+    match request {
+        Request::NoAcks => Next::NoAcks,
+        Request::Detach => Next::End,
+        _ => Next::Await,
+    }
+}
+
+/// The stop of a step, of which gdb wants to know no breakpoint.
+fn stop_of_step(stop: Option<Stop>) -> Option<Stop> {
+    match stop {
+        Some(Stop::Break) => Some(Stop::Done),
+        stop => stop,
+    }
+}
