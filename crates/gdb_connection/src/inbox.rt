@@ -1,0 +1,114 @@
+//! What came in, for the thread that answers.
+use remote_packets::{Arrival, Reader};
+use std::alloc::{AllocError, Global};
+use std::io::Read;
+use std::sync::atomic::{AtomicBool, Ordering};
+use std::sync::{Mutex, Wait};
+
+/// The most bytes that wait. gdb awaits the answer to each packet, so that never as many wait.
+const MOST_WAITING: usize = 1 << 20;
+
+/// The bytes that came in and were not taken, and whether more will come.
+#[derive(Drop)]
+pub struct Inbox {
+    bytes: Mutex<Vec<u8>>,
+    some: AtomicBool,
+    over: AtomicBool,
+    /// Whether it is over since memory ran out.
+    lost: AtomicBool,
+}
+
+/// Whether gdb leaves by one of the packets that these bytes complete. It sends nothing after such a packet.
+fn leaves(reader: &mut Reader, alloc: Global, bytes: &[u8]) -> Result<bool, AllocError> {
+    let arrivals = reader.read(alloc, bytes)?;
+    Ok(arrivals.iter().any(|arrival| is_last(arrival)))
+}
+
+fn is_last(arrival: &Arrival) -> bool {
+    match arrival {
+        Arrival::Packet(payload) => matches!(payload.as_slice().first(), Some(b'k' | b'D')),
+        _ => false,
+    }
+}
+
+impl Inbox {
+    /// Nothing came in.
+    pub fn new(alloc: Global) -> Inbox {
+        Inbox {
+            bytes: Mutex::new(Vec::new(alloc)),
+            some: AtomicBool::new(false),
+            over: AtomicBool::new(false),
+            lost: AtomicBool::new(false),
+        }
+    }
+
+    /// Whether something came in that was not taken. Takes no lock.
+    pub fn is_some(&self) -> bool {
+        self.some.load(Ordering::SeqCst)
+    }
+
+    /// Whether nothing more will come in. Takes no lock.
+    pub fn is_over(&self) -> bool {
+        self.over.load(Ordering::SeqCst)
+    }
+
+    /// How the input ended, where it is over: refused for want of memory, if that ended it.
+    pub fn end(&self) -> Result<(), AllocError> {
+        if self.lost.load(Ordering::SeqCst) {
+            Err(AllocError)
+        } else {
+            Ok(())
+        }
+    }
+
+    /// What came in.
+    pub fn take<R: Wait>(&self, rt: &R, alloc: Global) -> Vec<u8> {
+        let mut bytes = self.bytes.lock(rt);
+        self.some.store(false, Ordering::SeqCst);
+        std::mem::replace(&mut *bytes, Vec::new(alloc))
+    }
+
+    /// Adds bytes, and says whether there was room for them.
+    fn add<R: Wait>(&self, rt: &R, new: &[u8]) -> Result<bool, AllocError> {
+        let mut bytes = self.bytes.lock(rt);
+        if new.len() > MOST_WAITING.saturating_sub(bytes.len()) {
+            return Ok(false);
+        }
+        bytes.extend_from_slice(new)?;
+        self.some.store(true, Ordering::SeqCst);
+        Ok(true)
+    }
+
+    /// Reads a part of the input, and says whether there is more.
+    fn fill_once<R: Wait, I: Read>(
+        &self,
+        rt: &R,
+        alloc: Global,
+        reader: &mut Reader,
+        input: &mut I,
+    ) -> Result<bool, AllocError> {
+        let mut buffer = [0u8; 4096];
+        match input.read(&mut buffer) {
+            Ok(n) if n > 0 => {
+                let bytes = &buffer[..n];
+                Ok(self.add(rt, bytes)? && !leaves(reader, alloc, bytes)?)
+            }
+            _ => Ok(false),
+        }
+    }
+
+    /// Reads until gdb leaves, the input ends, or too much waits.
+    pub fn fill<R: Wait, I: Read>(&self, rt: &R, alloc: Global, input: &mut I) {
+        let mut reader = Reader::new(alloc);
+        for _ in rt.forever() {
+            let filled = self.fill_once(rt, alloc, &mut reader, input);
+            if filled.is_err() {
+                self.lost.store(true, Ordering::SeqCst);
+            }
+            if !filled.unwrap_or(false) {
+                self.over.store(true, Ordering::SeqCst);
+                return;
+            }
+        }
+    }
+}

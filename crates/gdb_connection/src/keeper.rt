@@ -1,0 +1,8 @@
+//! Where a disk is kept.
+use simdisk::SimDisk;
+
+/// Whoever keeps a disk where gdb's user asks for it.
+pub trait Keeper {
+    /// Keeps a disk, and gives the line that says what came of it.
+    fn keep(&mut self, disk: &SimDisk) -> &'static str;
+}
