@@ -14,10 +14,10 @@ import tempfile
 
 TOP = os.path.realpath(f"{os.path.dirname(os.path.realpath(__file__))}/..")
 # How many of the words of a command name files, aside from its options.
-MOST_FILES = {"replay": 1, "picture": 1, "crashes": 1, "asm": 2, "check": 1, "image": 2, "list": 1, "debug": 8, "disk": 1, "run": 8}
+MOST_FILES = {"replay": 1, "picture": 1, "crashes": 1, "asm": 2, "check": 1, "image": 2, "list": 1, "debug": 8, "gdb": 8, "disk": 1, "run": 8}
 # The commands whose file is a script.
 SCRIPT_COMMANDS = ("replay", "picture", "crashes")
-FILE_OPTIONS = ("--trace", "--disk", "--tape", "--tape-of", "--expect", "--source")
+FILE_OPTIONS = ("--trace", "--disk", "--tape", "--tape-of", "--expect", "--source", "--symbols")
 NUMBER_OPTIONS = ("--workers", "--quantum", "--term", "--fail", "--status", "--cone", "--process")
 IMAGE_LINE = re.compile(rb"^(image [0-9]+ )(?=[^/\s])", re.MULTILINE)
 # The longest that the program may run, in seconds.

@@ -1,5 +1,6 @@
 //! The commands, as rows.
 use crate::debug_options::DEBUG;
+use crate::gdb_options::GDB;
 use crate::rows::{ArgumentRow, CommandRow, Form, NumberRow};
 use crate::run_options::RUN;
 
@@ -156,7 +157,7 @@ const DISK: CommandRow = CommandRow {
 
 /// The commands, in the order of the help.
 pub const COMMANDS: &[CommandRow] = &[
-    REPLAY, PICTURE, CRASHES, ASSEMBLE, CHECK, IMAGE, SYMBOLS, LIST, DEBUG, DISK, RUN,
+    REPLAY, PICTURE, CRASHES, ASSEMBLE, CHECK, IMAGE, SYMBOLS, LIST, DEBUG, GDB, DISK, RUN,
 ];
 
 /// The row of the command of this name, if there is one.

@@ -20,6 +20,10 @@ const EXAMPLES: &[(&str, &str)] = &[
     ),
     ("list", "Example: bench list /tmp/first.image"),
     ("debug", "Example: echo step | bench debug /tmp/first.image"),
+    (
+        "gdb",
+        "Example: gdb-multiarch -ex 'target remote | bench gdb /tmp/first.image'",
+    ),
     ("disk", "Example: bench disk /tmp/disk"),
     (
         "run",

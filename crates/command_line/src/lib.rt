@@ -4,6 +4,7 @@
 mod command;
 mod debug_options;
 mod examples;
+mod gdb_options;
 mod numbers;
 mod parsing;
 mod refusing;
@@ -13,6 +14,7 @@ mod tapes;
 mod task;
 
 pub use debug_options::LiveOptions;
+pub use gdb_options::GdbOptions;
 pub use parsing::{Asked, parse};
 pub use run_options::{ImagePaths, RunNumbers, RunOptions};
 pub use tapes::TapePaths;

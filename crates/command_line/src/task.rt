@@ -1,6 +1,7 @@
 //! What the command line asks for.
 use crate::command::{ASSEMBLE, IMAGE, SYMBOLS};
 use crate::debug_options::{DEBUG, LiveOptions, debug_conflict, live_options};
+use crate::gdb_options::{GDB, GdbOptions, gdb_conflict, gdb_options};
 use crate::numbers::number_of;
 use crate::refusing::refusal;
 use crate::rows::CommandRow;
@@ -59,6 +60,8 @@ pub enum Task<'a> {
     },
     /// Debug a process while a kernel answers its calls.
     DebugLive(LiveOptions<'a>),
+    /// Answer gdb, which debugs an image.
+    Gdb(GdbOptions<'a>),
     /// List the files on the disk in a file.
     Disk(&'a str),
     /// Run images.
@@ -203,6 +206,17 @@ fn debug_task<'a>(alloc: Global, matches: &ArgMatches<'a>) -> Result<Option<Task
     }
 }
 
+/// What the arguments of the command `gdb` ask for. Options that do not go together are refused.
+fn gdb_task<'a>(alloc: Global, matches: &ArgMatches<'a>) -> Result<Option<Task<'a>>, Error> {
+    if let Some(message) = gdb_conflict(matches) {
+        return Err(refusal(alloc, &GDB, ErrorKind::ArgumentConflict, message)?);
+    }
+    match gdb_options(alloc, matches)? {
+        Some(options) => Ok(Some(Task::Gdb(options))),
+        None => Err(too_many_images(alloc, &GDB)?),
+    }
+}
+
 /// What a command that takes files and its arguments ask for. None for a name that is not handled here.
 fn file_task<'a>(name: &str, matches: &ArgMatches<'a>) -> Option<Task<'a>> {
     match name {
@@ -226,6 +240,7 @@ pub fn task_of<'a>(
         "run" => run_task(alloc, matches),
         "asm" => assemble_task(alloc, matches),
         "debug" => debug_task(alloc, matches),
+        "gdb" => gdb_task(alloc, matches),
         "image" => image_task(alloc, matches),
         "symbols" => symbols_task(alloc, matches),
         name => Ok(file_task(name, matches)),

@@ -99,6 +99,10 @@ pub fn files_of<'a>(alloc: Global, task: &'a Task<'a>) -> Result<Vec<TaskFile<'a
             push(&mut files, Role::Source, *source)?;
         }
         Task::DebugLive(options) => push_live(&mut files, options)?,
+        Task::Gdb(options) => {
+            push_live(&mut files, &options.live)?;
+            push(&mut files, Role::Trace, options.trace)?;
+        }
         Task::Disk(path) => push(&mut files, Role::Disk, Some(*path))?,
         Task::Run(options) => push_run(&mut files, options)?,
     }

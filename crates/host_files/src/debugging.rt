@@ -15,7 +15,10 @@ fn trace_in<R: Files + AllocGlobal>(rt: &R, path: &str) -> Result<Vec<Reply>, Fi
 }
 
 /// The replies of the trace in a file, and none where no file is given.
-fn replies_in<R: Files + AllocGlobal>(rt: &R, path: Option<&str>) -> Result<Vec<Reply>, FileFault> {
+pub fn replies_in<R: Files + AllocGlobal>(
+    rt: &R,
+    path: Option<&str>,
+) -> Result<Vec<Reply>, FileFault> {
     match path {
         Some(path) => trace_in(rt, path),
         None => Ok(Vec::new(rt.alloc())),

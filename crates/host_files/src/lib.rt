@@ -15,7 +15,7 @@ mod reading;
 mod source;
 
 pub use checking::{check_file, source_reason};
-pub use debugging::{debug_file, source_lines_in};
+pub use debugging::{debug_file, replies_in, source_lines_in};
 pub use disk_file::{disk_in, disk_or_zeros, keep, test_place, zeros};
 pub use disk_lock::DiskLock;
 pub use durable_file::open_durable;

@@ -95,14 +95,11 @@ fn await_process(
     Err(Fault::Process { process })
 }
 
-/// Debugs a process of a run of images, by the commands on the input. A kernel answers its calls, and nothing is written to the
-/// disk's file. Refused is a process that does not come to be.
-pub fn debug_live<R: Files + AllocGlobal, I: Read, O: Write>(
+/// A kernel with a process that has come to be, and the image of which that comes. Refused is a process that does not come to be.
+pub fn process_in<R: Files + AllocGlobal>(
     rt: &R,
     options: &LiveOptions<'_>,
-    input: &mut I,
-    out: &mut O,
-) -> Result<(), Fault> {
+) -> Result<(Recorder, Image), Fault> {
     let alloc = rt.alloc();
     let process = options.process;
     let (core, mut images) = boot_live(rt, options)?;
@@ -112,6 +109,18 @@ pub fn debug_live<R: Files + AllocGlobal, I: Read, O: Write>(
         return Err(Fault::Process { process });
     }
     let image = images.swap_remove(place);
+    Ok((recorder, image))
+}
+
+/// Debugs a process of a run of images, by the commands on the input. A kernel answers its calls, and nothing is written to the
+/// disk's file. Refused is a process that does not come to be.
+pub fn debug_live<R: Files + AllocGlobal, I: Read, O: Write>(
+    rt: &R,
+    options: &LiveOptions<'_>,
+    input: &mut I,
+    out: &mut O,
+) -> Result<(), Fault> {
+    let (recorder, image) = process_in(rt, options)?;
     debug_image(rt, image, recorder, options, input, out)
 }
 

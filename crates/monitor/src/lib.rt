@@ -3,6 +3,7 @@
 #![tactic(auto)]
 
 mod debugging;
+mod gdb;
 mod program;
 mod running;
 mod script_files;

@@ -1,5 +1,6 @@
 //! The whole program.
 use crate::debugging::debug_live;
+use crate::gdb::answer_gdb;
 use crate::running::run_images;
 use crate::script_files::{
     explore_file, picture_file, replay_cone_file, replay_file, replay_input,
@@ -20,7 +21,7 @@ use std::thread::Threads;
 /// Does what is asked for, and gives the exit status where all went well.
 fn perform<
     R: Files<File = File> + AllocGlobal + Threads + Wait + Sync,
-    I: Read,
+    I: Read + Send,
     O: Write,
     E: Write,
 >(rt: &R, asked: &Asked<'_>, input: &mut I, out: &mut O, err: &mut E) -> Result<u8, Fault> {
@@ -41,6 +42,7 @@ fn perform<
             source,
         } => debug_file(rt, image, *trace, *source, input, out)?,
         Task::DebugLive(options) => debug_live(rt, options, input, out)?,
+        Task::Gdb(options) => answer_gdb(rt, options, input, out)?,
         Task::Disk(path) => list_files(rt, path, out)?,
         Task::Run(options) => return run_images(rt, options, asked.explain, input, out, err),
     }
@@ -48,13 +50,12 @@ fn perform<
 }
 
 /// Does what is asked for. What it printed goes out, also where a fault ends it early.
-fn run<R: Files<File = File> + AllocGlobal + Threads + Wait + Sync, I: Read, O: Write, E: Write>(
-    rt: &R,
-    asked: &Asked<'_>,
-    input: &mut I,
-    out: &mut O,
-    err: &mut E,
-) -> Result<u8, Fault> {
+fn run<
+    R: Files<File = File> + AllocGlobal + Threads + Wait + Sync,
+    I: Read + Send,
+    O: Write,
+    E: Write,
+>(rt: &R, asked: &Asked<'_>, input: &mut I, out: &mut O, err: &mut E) -> Result<u8, Fault> {
     let done = perform(rt, asked, input, out, err);
     let flushed = out.flush();
     let status = done?;
@@ -120,13 +121,12 @@ pub fn end_without_arguments<E: Write>(error: &io::Error, err: &mut E) -> u8 {
 }
 
 /// Does what the words ask for, and gives the exit status.
-fn obey<R: Files<File = File> + AllocGlobal + Threads + Wait + Sync, I: Read, O: Write, E: Write>(
-    rt: &R,
-    words: &[String],
-    input: &mut I,
-    out: &mut O,
-    err: &mut E,
-) -> u8 {
+fn obey<
+    R: Files<File = File> + AllocGlobal + Threads + Wait + Sync,
+    I: Read + Send,
+    O: Write,
+    E: Write,
+>(rt: &R, words: &[String], input: &mut I, out: &mut O, err: &mut E) -> u8 {
     match parse(rt.alloc(), words) {
         Err(error) => end_usage(&error, out, err),
         Ok(asked) => {
@@ -141,7 +141,7 @@ fn obey<R: Files<File = File> + AllocGlobal + Threads + Wait + Sync, I: Read, O:
 /// `err` and before the status is given. One line on `err` says why it ended early.
 pub fn bench<
     R: Files<File = File> + AllocGlobal + Threads + Wait + Sync,
-    I: Read,
+    I: Read + Send,
     O: Write,
     E: Write,
 >(rt: &R, words: &[String], input: &mut I, out: &mut O, err: &mut E) -> u8 {

@@ -1,0 +1,95 @@
+//! The command `gdb`, and its options.
+use crate::debug_options::{LiveOptions, live_options};
+use crate::rows::{ArgumentRow, CommandRow, Form, NumberRow};
+use clap::ArgMatches;
+use std::alloc::{AllocError, Global};
+
+/// What gdb debugs.
+#[derive(Drop)]
+pub struct GdbOptions<'a> {
+    /// The images, and how a kernel answers their calls. With a trace the first image alone counts.
+    pub live: LiveOptions<'a>,
+    /// The path of the trace that answers the calls, if no kernel does.
+    pub trace: Option<&'a str>,
+    /// The path of the file of symbols that gdb is told, if there is one.
+    pub symbols: Option<&'a str>,
+}
+
+/// The command `gdb`.
+pub const GDB: CommandRow = CommandRow {
+    name: "gdb",
+    whole: "bench gdb",
+    about: "Answer gdb, which debugs an image: its remote protocol on standard input and output",
+    arguments: &[
+        ArgumentRow {
+            name: "IMAGE",
+            help: "the files of 1 to 8 images, for the terminals 0, 1, ..; with --trace one image",
+            form: Form::Images,
+        },
+        ArgumentRow {
+            name: "process",
+            help: "the process that is debugged, 1 to 1024; 1 if it is not given",
+            form: Form::Number(NumberRow {
+                value: "P",
+                least: 1,
+                most: 1024,
+                default: None,
+            }),
+        },
+        ArgumentRow {
+            name: "tape",
+            help: "what the first image's program may read",
+            form: Form::Option("FILE"),
+        },
+        ArgumentRow {
+            name: "disk",
+            help: "the disk's file, zeros if there is none; it is written by 'monitor keep' alone",
+            form: Form::Option("FILE"),
+        },
+        ArgumentRow {
+            name: "trace",
+            help: "the replies that its calls take, in place of a kernel's",
+            form: Form::Option("FILE"),
+        },
+        ArgumentRow {
+            name: "symbols",
+            help: "the file of symbols that gdb is told: an ELF file with DWARF",
+            form: Form::Option("ELF"),
+        },
+    ],
+};
+
+/// Why the options of the command do not go together, if they do not.
+pub fn gdb_conflict(matches: &ArgMatches<'_>) -> Option<&'static str> {
+    matches.get_str("trace")?;
+    if matches.get_str("process").is_some() {
+        return Some("the argument '--trace <FILE>' cannot be used with '--process <P>'");
+    }
+    if matches.get_str("tape").is_some() {
+        return Some("the argument '--trace <FILE>' cannot be used with '--tape <FILE>'");
+    }
+    if matches.get_str("disk").is_some() {
+        return Some("the argument '--trace <FILE>' cannot be used with '--disk <FILE>'");
+    }
+    match matches.get_strs("IMAGE") {
+        Some(images) if images.len() > 1 => {
+            Some("the argument '--trace <FILE>' cannot be used with more than one image")
+        }
+        _ => None,
+    }
+}
+
+/// The options of the command. None where there are more than 8 images, or an argument is missing.
+pub fn gdb_options<'a>(
+    alloc: Global,
+    matches: &ArgMatches<'a>,
+) -> Result<Option<GdbOptions<'a>>, AllocError> {
+    let Some(live) = live_options(alloc, matches)? else {
+        return Ok(None);
+    };
+    Ok(Some(GdbOptions {
+        live,
+        trace: matches.get_str("trace"),
+        symbols: matches.get_str("symbols"),
+    }))
+}
