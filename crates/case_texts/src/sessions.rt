@@ -3,7 +3,8 @@
 //! A line begins with its mark:
 //! - `$ WORDS`: the program is run with these words; lines after it say more of the run:
 //!   - `< TEXT`: a line of its input; `<< N TEXT`: this text N times, without a line's end;
-//!   - `> TEXT`: a line that it prints; `>*`: whatever it prints;
+//!   - `> TEXT`: a line that it prints; `>> TEXT`: a text, without a line's end; `>*`: whatever it prints;
+//!   - `<$ TEXT` and `>$ TEXT`: a packet of gdb's with this text, on its input, or printed; neither has a line's end;
 //!   - `! STATUS TEXT`: its status, and its line on standard error, with `!! TEXT` for each line after it;
 //!   - `! STATUS`: its status, and something on standard error;
 //!   - without `!` it ends with status 0 and says nothing on standard error;
@@ -12,8 +13,8 @@
 //! - `remove NAME`: the file is removed;
 //! - `holds NAME PARTS`: the file has these bytes; `missing NAME`: there is no such file.
 //!
-//! In input `\t`, `\r`, `\s` and `\xff` stand for a tab, a carriage return, a blank and the byte ff. Empty lines and lines that
-//! begin with `#` are skipped.
+//! In input `\t`, `\r`, `\s`, `\x03` and `\xff` stand for a tab, a carriage return, a blank and the bytes 03 and ff. Empty lines and
+//! lines that begin with `#` are skipped.
 use crate::comparing::{compare, compare_status};
 use crate::hex_parts::push_parts;
 use crate::lines::{after_title, push_line, refused, two_parts, words_of};
@@ -22,7 +23,13 @@ use anyhow::{Error, bail};
 use std::alloc::{AllocError, Global};
 
 /// What stands after a backslash, with the byte for which it does.
-const ESCAPES: &[(&str, u8)] = &[("t", b'\t'), ("r", b'\r'), ("s", b' '), ("xff", 0xFF)];
+const ESCAPES: &[(&str, u8)] = &[
+    ("t", b'\t'),
+    ("r", b'\r'),
+    ("s", b' '),
+    ("x03", 3),
+    ("xff", 0xFF),
+];
 
 /// Adds what stands after a backslash: a byte that a line does not show, and a text.
 fn push_escaped(input: &mut Vec<u8>, text: &str) -> Result<(), Error> {
@@ -49,6 +56,27 @@ fn push_text(input: &mut Vec<u8>, text: &str) -> Result<(), Error> {
 fn push_input(input: &mut Vec<u8>, text: &str) -> Result<(), Error> {
     push_text(input, text)?;
     Ok(input.extend_from_slice(b"\n")?)
+}
+
+/// The packet of gdb's that has this text, none of whose bytes are escaped.
+fn packet_of(alloc: Global, text: &str) -> Result<String, AllocError> {
+    let mut sum = 0u8;
+    for byte in text.as_bytes() {
+        sum = sum.wrapping_add(*byte);
+    }
+    format!(in alloc; "${text}#{sum:02x}")
+}
+
+/// Adds a packet of gdb's with this text.
+fn push_packet(alloc: Global, input: &mut Vec<u8>, text: &str) -> Result<(), Error> {
+    let packet = packet_of(alloc, text)?;
+    Ok(input.extend_from_slice(packet.as_bytes())?)
+}
+
+/// Adds a packet of gdb's with this text that is to be printed.
+fn push_printed_packet(alloc: Global, out: &mut String, text: &str) -> Result<(), Error> {
+    let packet = packet_of(alloc, text)?;
+    Ok(out.push_str(packet.as_str())?)
 }
 
 /// Adds a text so many times, as `N TEXT` says.
@@ -128,11 +156,14 @@ impl Run {
     }
 
     /// Reads a line that says more of the run, by its mark. False where it says nothing of it.
-    fn read(&mut self, mark: &str, text: &str) -> Result<bool, Error> {
+    fn read(&mut self, alloc: Global, mark: &str, text: &str) -> Result<bool, Error> {
         let read = match mark {
             "<" => push_input(&mut self.input, text),
             "<<" => push_times(&mut self.input, text),
+            "<$" => push_packet(alloc, &mut self.input, text),
+            ">$" => push_printed_packet(alloc, &mut self.out, text),
             ">" => push_line(&mut self.out, text),
+            ">>" => Ok(self.out.push_str(text)?),
             ">*" => {
                 self.prints_something = true;
                 Ok(())
@@ -246,9 +277,9 @@ pub enum Step {
 
 impl Step {
     /// Reads a line that says more of the step, by its mark. False where it says nothing of it.
-    fn goes_on(&mut self, mark: &str, text: &str) -> Result<bool, Error> {
+    fn goes_on(&mut self, alloc: Global, mark: &str, text: &str) -> Result<bool, Error> {
         match self {
-            Step::Run(run) => run.read(mark, text),
+            Step::Run(run) => run.read(alloc, mark, text),
             Step::Lines(file) if mark == "|" => {
                 file.push_line(text)?;
                 Ok(true)
@@ -314,16 +345,16 @@ fn parted(line: &str) -> (&str, &str) {
 }
 
 /// Whether a line goes on with the last step, which then has read it.
-fn goes_on(steps: &mut [Step], line: &str) -> Result<bool, Error> {
+fn goes_on(alloc: Global, steps: &mut [Step], line: &str) -> Result<bool, Error> {
     let (mark, text) = parted(line);
     match steps.last_mut() {
-        Some(step) => step.goes_on(mark, text),
+        Some(step) => step.goes_on(alloc, mark, text),
         None => Ok(false),
     }
 }
 
 fn read_line(alloc: Global, steps: &mut Vec<Step>, line: &str) -> Result<(), Error> {
-    if !goes_on(steps.as_mut_slice(), line)? {
+    if !goes_on(alloc, steps.as_mut_slice(), line)? {
         steps.push(begin(alloc, line)?)?;
     }
     Ok(())
