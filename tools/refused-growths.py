@@ -51,7 +51,7 @@ FILES = {
     "space.s": b"_start: ecall\n.data\n.space 4294967295\n",
     "allowed.files": b"files -\n",
 }
-SOURCES = ["first.s", "printer.s", "reader.s", "waiter.s", "three_files.s", "linked/gnu.elf"]
+SOURCES = ["first.s", "printer.s", "reader.s", "waiter.s", "three_files.s", "linkers/gnu.elf"]
 IMAGES = {"first": "first.s", "printer": "printer.s", "reader": "reader.s", "waiter": "waiter.s", "primes": "primes.s", "init": "init.s"}
 COMMANDS_OF_DEBUG = b"step 3\nstate\nbreak 00010018\nrun\nrewind 2\nrun\nclear 0\nrun\nstep 1\nrewind 0\nrun\nquit\n"
 LONG_DEBUG = b"step 3000\nrewind 1500\nbreak 00010010\nrun\nstate\nrun\nquit\n"
@@ -65,8 +65,8 @@ COMMANDS = [
     ("asm of no text", 6, "asm no-text.s primes", b""),
     ("check", 0, "check primes.s", b""),
     ("check refused", 2, "check bad.s", b""),
-    ("image", 0, "image linked/gnu.elf out", b""),
-    ("image over a file", 0, "image linked/gnu.elf primes", b""),
+    ("image", 0, "image linkers/gnu.elf out", b""),
+    ("image over a file", 0, "image linkers/gnu.elf primes", b""),
     ("image refused", 2, "image short out", b""),
     ("list", 0, "list primes", b""),
     ("list refused", 2, "list short", b""),
