@@ -8,6 +8,7 @@ ghost use Rattle.disk_model.specs.Files.{IsFormed, IsMade, MayCome, changed};
 mod plain;
 
 use crate::commits::plain::PlainDisk;
+use crate::ratios::thousandths;
 use anyhow::{Error, ensure};
 use byte_list::Bytes;
 use disk_model::{Change, made_files_change};
@@ -171,7 +172,7 @@ impl Times {
 
     /// The first in thousandths of the second.
     fn ratio(&self) -> u128 {
-        self.measured.as_nanos().saturating_mul(1000) / self.plain.as_nanos().max(1)
+        thousandths(self.measured, self.plain)
     }
 }
 

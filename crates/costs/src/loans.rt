@@ -1,6 +1,7 @@
 //! What a loan costs: the time to lend a machine and to take its result back, as a ratio to the time of its run.
 ghost use Rattle.std.specs.Prelude.{◌≤◌};
 
+use crate::ratios::thousandths;
 use anyhow::Error;
 use bursts::run_loan;
 use kernel::{Core, Program, SimDisk};
@@ -88,7 +89,7 @@ struct Times {
 impl Times {
     /// What lending and taking back took of the time of the run, in thousandths.
     fn ratio(&self) -> u128 {
-        self.loans.as_nanos().saturating_mul(1000) / self.runs.as_nanos().max(1)
+        thousandths(self.loans, self.runs)
     }
 }
 

@@ -1,7 +1,10 @@
 //! What is measured, in lines, and the words that name it.
+use crate::workers::{LOADS, ratios_of};
 use crate::{commits, loans, writes};
 use anyhow::Error;
 use std::alloc::{AllocError, Global};
+use std::sync::Wait;
+use std::thread::Threads;
 use std::time::Clock;
 
 /// Adds a line after those before it.
@@ -58,6 +61,29 @@ pub fn commit_lines<R: AllocGlobal + Clock>(rt: &R) -> Result<String, Error> {
     Ok(lines)
 }
 
+/// What many workers gain with each load.
+pub fn worker_lines<R: AllocGlobal + Clock + Threads + Wait + Sync>(
+    rt: &R,
+) -> Result<String, Error> {
+    let mut lines = String::new(rt.alloc());
+    for load in &LOADS {
+        let ratios = ratios_of(rt, load)?;
+        let line = format!(in rt.alloc();
+            "8 programs that {}, in thousandths:
+  one worker takes {} of the time of machines alone
+  two workers take {} of the time of one
+  four workers take {} of the time of one",
+            load.does, ratios.one, ratios.two, ratios.four
+        )?;
+        add(&mut lines, line.as_str())?;
+    }
+    Ok(lines)
+}
+
+/// What the measurement of workers is.
+const WORKERS: &str =
+    "costs-workers: what two and four workers gain over one, and one costs beside machines alone";
+
 /// The words, and what each of them measures.
 pub fn usage(alloc: Global) -> Result<String, AllocError> {
     let mut lines = format!(in alloc;
@@ -72,8 +98,8 @@ pub fn usage(alloc: Global) -> Result<String, AllocError> {
         "costs-commits: what {} groups cost beside the same in plain code, and a recovery beside one reading",
         commits::GROUPS
     )?;
-    for line in [writes, commits] {
-        add(&mut lines, line.as_str())?;
+    for line in [writes.as_str(), commits.as_str(), WORKERS] {
+        add(&mut lines, line)?;
     }
     Ok(lines)
 }

@@ -1,5 +1,6 @@
 //! What a call costs the kernel: the time of its Enter after a short history and after a long one. The calls are a write to a
 //! terminal, to a file and to a pipe, and the removal of a file.
+use crate::ratios::thousandths;
 use anyhow::Error;
 use assembler::assemble;
 use kernel::{Core, Event, Program, SimDisk};
@@ -202,9 +203,9 @@ impl Run {
 
     /// What they take after many events, in thousandths of what they take after few.
     fn ratio<R: Clock>(&mut self, rt: &R) -> Result<u128, Error> {
-        let short = self.time_after(rt, SHORT)?.as_nanos();
-        let long = self.time_after(rt, self.long)?.as_nanos();
-        Ok(long.saturating_mul(1000) / short.max(1))
+        let short = self.time_after(rt, SHORT)?;
+        let long = self.time_after(rt, self.long)?;
+        Ok(thousandths(long, short))
     }
 }
 

@@ -1,10 +1,23 @@
-//! Runs of the program `bench` on cases that stand in files, each compared with what stands there beside it; `case_format` reads the
-//! cases. `check_file` gives a line that says how many cases there are. At the first case that comes out otherwise it refuses, with
-//! a text that says which.
+//! Runs of the program `bench`, each compared with what is wanted.
+//!
+//! Read `check_file` first: it runs the cases of a file of `.calls` or `.sessions`, which `case_format` reads. What no case can say
+//! is a function each: outputs that fail (`faulty_output`), a disk and arguments that cannot be read (`damaged_disk`,
+//! `lost_arguments`), the links and rights of a disk's file (`kept_disk`), and standard error, write by write (`whole_lines`).
+//! Each gives a line that says what was tried. What comes out otherwise is refused, with a text that says how.
 #![tactic(auto)]
 
 mod case_files;
+mod damaged_disk;
+mod faulty_output;
+mod kept_disk;
+mod lost_arguments;
 mod playing;
 mod running;
+mod whole_lines;
 
 pub use case_files::check_file;
+pub use damaged_disk::check_damaged_disk;
+pub use faulty_output::{check_endless_run, check_faulty_output};
+pub use kept_disk::check_kept_disk;
+pub use lost_arguments::check_lost_arguments;
+pub use whole_lines::check_whole_lines;

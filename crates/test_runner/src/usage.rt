@@ -24,10 +24,5 @@ help: these lines";
 
 /// A line for each word.
 pub fn lines(alloc: Global) -> Result<String, Error> {
-    let lines = format!(in alloc;
-        "{COMPARED}\n{}\n{}",
-        costs::usage(alloc)?,
-        worker_costs::USAGE
-    )?;
-    Ok(lines)
+    Ok(format!(in alloc; "{COMPARED}\n{}", costs::usage(alloc)?)?)
 }

@@ -13,12 +13,12 @@ fn named<R: AllocGlobal + Clock + Eprint + Files<File = File> + Threads + Wait +
     word: &str,
 ) -> Result<String, Error> {
     match word {
-        "faulty-output" => fault_cases::check_faulty_output(rt),
-        "endless-run" => fault_cases::check_endless_run(rt),
-        "damaged-disk" => fault_cases::check_damaged_disk(rt.alloc()),
-        "lost-arguments" => fault_cases::check_lost_arguments(rt.alloc()),
-        "kept-disk" => fault_cases::check_kept_disk(rt),
-        "whole-lines" => fault_cases::check_whole_lines(rt),
+        "faulty-output" => program_cases::check_faulty_output(rt),
+        "endless-run" => program_cases::check_endless_run(rt),
+        "damaged-disk" => program_cases::check_damaged_disk(rt.alloc()),
+        "lost-arguments" => program_cases::check_lost_arguments(rt.alloc()),
+        "kept-disk" => program_cases::check_kept_disk(rt),
+        "whole-lines" => program_cases::check_whole_lines(rt),
         "writer-crashes" => core_cases::crash_writer(rt),
         "renamer-crashes" => core_cases::crash_renamer(rt),
         "writer-failures" => core_cases::fail_talker(rt),
@@ -29,7 +29,7 @@ fn named<R: AllocGlobal + Clock + Eprint + Files<File = File> + Threads + Wait +
         "costs-loans" => costs::loan_lines(rt),
         "costs-writes" => costs::write_lines(rt),
         "costs-commits" => costs::commit_lines(rt),
-        "costs-workers" => worker_costs::lines(rt),
+        "costs-workers" => costs::worker_lines(rt),
         "help" => usage::lines(rt.alloc()),
         _ => bail!("no such trial: {word}; the word help prints all"),
     }

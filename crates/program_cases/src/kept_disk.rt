@@ -1,30 +1,12 @@
 //! The file in which a run keeps its disk: what it is beside, which rights it has, what no link leads to, and
 //! which run has it.
+use crate::running::{ENDS, check_status};
 use anyhow::{Error, ensure};
-use case_format::arguments;
 use std::fs::{self, File, OpenOptions, Permissions};
 use std::os::unix::fs::{PermissionsExt, symlink};
 use std::rt::Files;
 use std::sync::Wait;
 use std::thread::Threads;
-
-/// A program that ends.
-const ENDS: &str = "_start: li a7, 1\necall\n";
-
-/// Runs the program with these words, parted by blanks; it has to end with this status.
-fn run<R: Files<File = File> + AllocGlobal + Threads + Wait + Sync>(
-    rt: &R,
-    line: &str,
-    status: u8,
-) -> Result<(), Error> {
-    let words = arguments(rt.alloc(), line)?;
-    let mut input: &[u8] = b"";
-    let mut out = Vec::new(rt.alloc());
-    let mut err = Vec::new(rt.alloc());
-    let ended = monitor::bench(rt, &words, &mut input, &mut out, &mut err);
-    ensure!(ended == status, "{line}: status {ended}");
-    Ok(())
-}
 
 /// The file with `.new` after its name is made anew: what a link of that name leads to stays as it was.
 fn check_link<R: Files<File = File> + AllocGlobal + Threads + Wait + Sync>(
@@ -32,7 +14,7 @@ fn check_link<R: Files<File = File> + AllocGlobal + Threads + Wait + Sync>(
 ) -> Result<(), Error> {
     fs::write(rt, "precious", "text")?;
     symlink(rt, "precious", "kept.new")?;
-    run(rt, "run --disk kept ends", 0)?;
+    check_status(rt, "run --disk kept ends", 0)?;
     let text = fs::read_to_string(rt, "precious")?;
     ensure!(text.as_str() == "text", "what the link led to was written");
     ensure!(
@@ -52,7 +34,7 @@ fn check_rights<R: Files<File = File> + AllocGlobal + Threads + Wait + Sync>(
     rights: u32,
 ) -> Result<(), Error> {
     fs::set_permissions(rt, "kept", Permissions::from_mode(rights))?;
-    run(rt, "run --disk kept ends", 0)?;
+    check_status(rt, "run --disk kept ends", 0)?;
     let mode = fs::metadata(rt, "kept")?.permissions().mode() & 0o777;
     ensure!(mode == rights, "the rights {rights:o} became {mode:o}");
     Ok(())
@@ -63,7 +45,7 @@ fn check_folder<R: Files<File = File> + AllocGlobal + Threads + Wait + Sync>(
     rt: &R,
 ) -> Result<(), Error> {
     fs::create_dir(rt, "kept.new")?;
-    run(rt, "run --disk kept ends", 6)?;
+    check_status(rt, "run --disk kept ends", 6)?;
     Ok(fs::remove_dir(rt, "kept.new")?)
 }
 
@@ -72,7 +54,7 @@ fn check_linked_disk<R: Files<File = File> + AllocGlobal + Threads + Wait + Sync
     rt: &R,
 ) -> Result<(), Error> {
     symlink(rt, "kept", "linked")?;
-    run(rt, "run --disk linked ends", 0)?;
+    check_status(rt, "run --disk linked ends", 0)?;
     ensure!(
         fs::symlink_metadata(rt, "linked")?.is_file(),
         "the disk's file is still a link"
@@ -90,23 +72,23 @@ fn check_lock<R: Files<File = File> + AllocGlobal + Threads + Wait + Sync>(
         .create(true)
         .open(rt, "kept.lck")?;
     ensure!(lock.try_lock().is_ok(), "the lock is had");
-    run(rt, "run --disk kept ends", 6)?;
-    run(rt, "run --durable --disk kept ends", 6)?;
-    run(rt, "run --disk missing ends", 0)?;
+    check_status(rt, "run --disk kept ends", 6)?;
+    check_status(rt, "run --durable --disk kept ends", 6)?;
+    check_status(rt, "run --disk missing ends", 0)?;
     lock.unlock()?;
-    run(rt, "run --durable --disk kept ends", 0)?;
+    check_status(rt, "run --durable --disk kept ends", 0)?;
     ensure!(
         fs::symlink_metadata(rt, "kept.lck").is_err(),
         "the lock is still there"
     );
     let file = fs::open(rt, "missing")?;
     ensure!(file.try_lock().is_ok(), "the disk's file is locked");
-    run(rt, "run --durable --disk missing ends", 6)?;
+    check_status(rt, "run --durable --disk missing ends", 6)?;
     file.unlock()?;
-    run(rt, "run --durable --disk missing ends", 0)?;
+    check_status(rt, "run --durable --disk missing ends", 0)?;
     fs::create_dir(rt, "kept.lck")?;
-    run(rt, "run --disk kept ends", 6)?;
-    run(rt, "run --durable --disk kept ends", 6)?;
+    check_status(rt, "run --disk kept ends", 6)?;
+    check_status(rt, "run --durable --disk kept ends", 6)?;
     fs::remove_dir(rt, "kept.lck")?;
     Ok(fs::remove_file(rt, "missing")?)
 }
@@ -116,7 +98,7 @@ fn check_durable_link<R: Files<File = File> + AllocGlobal + Threads + Wait + Syn
     rt: &R,
 ) -> Result<(), Error> {
     symlink(rt, "kept", "linked")?;
-    run(rt, "run --durable --disk linked ends", 0)?;
+    check_status(rt, "run --durable --disk linked ends", 0)?;
     ensure!(
         fs::symlink_metadata(rt, "linked")?.is_symlink(),
         "the disk's path is no link any more"
@@ -129,7 +111,7 @@ pub fn check_kept_disk<R: Files<File = File> + AllocGlobal + Threads + Wait + Sy
     rt: &R,
 ) -> Result<String, Error> {
     fs::write(rt, "ends.s", ENDS)?;
-    run(rt, "asm ends.s ends", 0)?;
+    check_status(rt, "asm ends.s ends", 0)?;
     check_link(rt)?;
     check_rights(rt, 0o600)?;
     check_rights(rt, 0o444)?;

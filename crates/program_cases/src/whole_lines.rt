@@ -1,4 +1,5 @@
 //! Standard error: each line goes out whole, by one write.
+use crate::running::ENDS;
 use anyhow::{Error, ensure};
 use case_format::arguments;
 use std::fs::{self, File};
@@ -6,9 +7,6 @@ use std::io::{self, Write};
 use std::rt::Files;
 use std::sync::Wait;
 use std::thread::Threads;
-
-/// A program that ends.
-const ENDS: &str = "_start: li a7, 1\necall\n";
 
 /// A standard error that counts its writes, and among them those that do not end with a line's end.
 #[derive(Drop)]

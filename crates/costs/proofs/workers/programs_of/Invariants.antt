@@ -1,7 +1,7 @@
 -- A program for each of the terminals so far.
 use Rattle.std.proofs.Common.{◌≡◌, ◌<◌, length}
 use Rattle.std.specs.List.{AllByRecursion}
-use Rattle.worker_costs.proofs.workers.programs_of.Given as goal
+use Rattle.costs.proofs.workers.programs_of.Given as goal
 use Rattle.kernel_model.specs.World.{terminal_count}
 
 abbrev pub invariant-loop-terminal : goal.invariant-loop-terminal

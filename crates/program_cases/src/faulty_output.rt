@@ -1,5 +1,6 @@
 //! Outputs that take few writes, and inputs that cannot be read: what the program printed goes out at once, and its status says
 //! where it could not, and whether memory ran out there.
+use crate::running::check_status;
 use anyhow::{Error, ensure};
 use case_format::arguments;
 use std::fs::{self, File};
@@ -128,24 +129,12 @@ pub fn check_faulty_output<R: Files<File = File> + AllocGlobal + Threads + Wait 
     Ok(String::from_str(rt.alloc(), "outputs that take one write or none")?)
 }
 
-fn assemble_endless<R: Files<File = File> + AllocGlobal + Threads + Wait + Sync>(
-    rt: &R,
-) -> Result<(), Error> {
-    let words = arguments(rt.alloc(), "asm endless.s endless")?;
-    let mut input: &[u8] = b"";
-    let mut out = Vec::new(rt.alloc());
-    let mut err = Vec::new(rt.alloc());
-    let status = monitor::bench(rt, &words, &mut input, &mut out, &mut err);
-    ensure!(status == 0, "endless.s: status {status}");
-    Ok(())
-}
-
 /// A program that writes a byte which rests on a change, and then never ends. Its run ends only since that byte goes out while the
 /// program runs, and cannot be written. It reads the source `endless.s`.
 pub fn check_endless_run<R: Files<File = File> + AllocGlobal + Threads + Wait + Sync>(
     rt: &R,
 ) -> Result<String, Error> {
-    assemble_endless(rt)?;
+    check_status(rt, "asm endless.s endless", 0)?;
     let out = Output::new(0, ErrorKind::BrokenPipe);
     check_output(rt, "run endless", out, (6, FAILED))?;
     fs::remove_file(rt, "endless")?;

@@ -4,6 +4,7 @@ ghost use Rattle.std.specs.Prelude.{◌≡◌, ◌≤◌, ◌<◌, length, vec_l
 ghost use Rattle.std.specs.List.{AllByRecursion};
 ghost use Rattle.kernel_model.specs.World.{terminal_count};
 
+use crate::ratios::thousandths;
 use anyhow::{Error, bail};
 use assembler::assemble;
 use byte_list::Bytes;
@@ -185,11 +186,6 @@ fn least_time_alone<R: AllocGlobal + Clock>(rt: &R, load: &Load) -> Result<Durat
     Ok(least)
 }
 
-/// A time beside another, in thousandths.
-fn ratio(time: Duration, other: Duration) -> u128 {
-    time.as_nanos().saturating_mul(1000) / other.as_nanos().max(1)
-}
-
 /// What a load takes of the time of another run, in thousandths.
 #[derive(Clone, Copy)]
 pub struct Ratios {
@@ -211,8 +207,8 @@ pub fn ratios_of<R: AllocGlobal + Clock + Threads + Wait + Sync>(
     let two = least_time_of(rt, load, 2)?;
     let four = least_time_of(rt, load, 4)?;
     Ok(Ratios {
-        one: ratio(one, alone),
-        two: ratio(two, one),
-        four: ratio(four, one),
+        one: thousandths(one, alone),
+        two: thousandths(two, one),
+        four: thousandths(four, one),
     })
 }
