@@ -1,16 +1,24 @@
 //! Cases of programs that call the kernel, in a notation that has beside each call what it replies.
 //!
-//! A case has a line `== TITLE` before it. It sets up tapes as a script does, their bytes as below, and programs: after a line
-//! `program T` come the lines of a source. They come after `image T` too, but that program stands in a file, with three more pages.
-//! 0x00020000 may be read alone, 0x00030000 written alone, 0x00040000 executed alone.
+//! A case has a line `== TITLE` before it (`case_files`). It sets up tapes as a script does, their bytes as below, and programs:
+//! after a line `program T` come the lines of a source. They come after `image T` too, but that program stands in a file, with three
+//! more pages. 0x00020000 may be read alone, 0x00030000 written alone, 0x00040000 executed alone.
 //!
 //! A line that begins with the name or the number of a call stands for the instructions that load its arguments and call. An
 //! argument is a number, a label after `&`, or a register; one that is left out stays what it was. After ` = ` stands the reply:
 //! its number in decimal, and, where it has bytes, `at`, their place in eight hexadecimal digits, and the bytes, as `41+00*3`. The
 //! reply of an exec that entered a program is `image` and the bytes of the file that a trace prints, or `tool` or `probe`, a
 //! built-in program. Calls of a loop, or of a program that was entered, have no replies beside them. After them stands
-//! `each N = R; R`, the same replies N times, or `numbers N M`, the replies from N to M. After its text each program has the places
-//! of `notation`.
+//! `each N = R; R`, the same replies N times, or `numbers N M`, the replies from N to M.
+//!
+//! After its text each program has built-in places, labels that an argument names after `&`. They may be read and executed, and not
+//! written (`PLACES` of `notation` has their words):
+//! - `f`, `g`, `h`, `ff`, `fg`, `fh`, `gf`: these names of files, of one byte and of two;
+//! - `A`, `B`, `C`, `D`, `P`, `X`, `Y`: these letters, one byte each, and `letters`: `ABCD`;
+//! - `long`: 36 times the letter `a`, of which a name has 32 at most; `zeros`: 1,028 zeros;
+//! - `tool`, `probe`: the files of two programs for exec, of 124 and 164 bytes. `tool` writes C to its terminal and exits with
+//!   status 5. `probe` asks for its number, reads two bytes from descriptor 3 to 0x7FFFFFFC and waits for a child. Then it goes on
+//!   as `tool`.
 //!
 //! Then come lines with ` => `, what is done and what is wanted of it:
 //! - `P => entered waits entered*3 ended`: process P runs up to a call or a trap and enters the kernel, once for each;
@@ -23,7 +31,7 @@
 //! What a turn prints is left out; what stands after `#` is a comment.
 use crate::comparing::{compare, compare_status};
 use crate::hex_parts::{push_parts_line, repeated};
-use crate::lines::{after_title, push_line, push_texts, refused, words_of};
+use crate::lines::{push_line, push_texts, refused, words_of};
 use crate::notation::{Form, Program, Replies, fill_image, push_listed_trace, push_program};
 use crate::ran::Ran;
 use anyhow::Error;
@@ -54,10 +62,10 @@ impl Drop for CallsCase {
 }
 
 impl CallsCase {
-    /// Reads a case, whose first line is its title.
-    pub fn read(alloc: Global, text: &str) -> Result<CallsCase, Error> {
+    /// Reads the lines of a case.
+    pub fn read(alloc: Global, lines: &str) -> Result<CallsCase, Error> {
         let mut case = CallsCase::new(alloc);
-        for line in after_title(text).lines() {
+        for line in lines.lines() {
             case.read_line(alloc, bare(line))?;
         }
         Ok(case)

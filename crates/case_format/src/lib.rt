@@ -1,8 +1,11 @@
-//! Cases of the program `bench`, as they stand in files: what a case sets up and runs, as values, and what came of a run beside
-//! what is wanted. Read the notation `kernel_calls` first, for programs that call the kernel, then `sessions`, for runs by the
-//! command line. `arguments` and `compare` serve those who have no case in a file.
+//! Cases as they stand in files: what a case sets up and runs, as values, and what came of a run beside what is wanted.
+//!
+//! Read `case_files` first: it says how a file is parted into cases, and reads all of it or refuses it. Then come the notations:
+//! `kernel_calls` of programs that call the kernel, and `sessions` of runs by the command line. `arguments` and `compare` serve
+//! those who have no case in a file.
 #![tactic(auto)]
 
+mod case_files;
 mod command_lines;
 mod comparing;
 mod hex_parts;
@@ -12,6 +15,7 @@ mod notation;
 mod ran;
 mod sessions;
 
+pub use case_files::{Case, Choice};
 pub use command_lines::arguments;
 pub use comparing::compare;
 pub use kernel_calls::{CallsCase, IMAGE_NAME};

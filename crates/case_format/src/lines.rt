@@ -20,14 +20,6 @@ pub fn push_line(out: &mut String, line: &str) -> Result<(), Error> {
     push_texts(out, &[line, "\n"])
 }
 
-/// The lines of a case after its first, which is its title.
-pub fn after_title(case: &str) -> &str {
-    match case.split_once('\n') {
-        Some((_title, lines)) => lines,
-        None => "",
-    }
-}
-
 /// The words of a line.
 pub fn words_of<'a>(alloc: Global, line: &'a str) -> Result<Vec<&'a str>, AllocError> {
     line.split_whitespace().collect(alloc)

@@ -6,10 +6,8 @@ use assembler::{Row, assemble};
 use std::alloc::{AllocError, Global};
 use std::str::SplitWhitespace;
 
-/// What stands after each program's text, in pages that may be read and executed, and not written. First come the names `f`, `g`
-/// and `h`, pairs of them, letters, a name of 36 letters, and zeros. Then come the files of two programs for `exec`, whose text
-/// stands from 0x00010054 on. `tool`, of 124 bytes, writes C to its terminal and exits with status 5. `probe`, of 164 bytes, asks
-/// for its number, reads two bytes from descriptor 3 to 0x7FFFFFFC, and waits for a child; then it does as `tool` does.
+/// The built-in places, which the head of `kernel_calls` lists for those who write cases. They stand after each program's text, in
+/// its pages. The text of `tool` and of `probe` stands from 0x00010054 on.
 const PLACES: &str = "
 f: .word 0x66
 g: .word 0x67

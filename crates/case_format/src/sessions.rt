@@ -17,7 +17,7 @@
 //! lines that begin with `#` are skipped.
 use crate::comparing::{compare, compare_status};
 use crate::hex_parts::push_parts;
-use crate::lines::{after_title, push_line, refused, two_parts, words_of};
+use crate::lines::{push_line, refused, two_parts, words_of};
 use crate::ran::Ran;
 use anyhow::{Error, bail};
 use std::alloc::{AllocError, Global};
@@ -360,10 +360,10 @@ fn read_line(alloc: Global, steps: &mut Vec<Step>, line: &str) -> Result<(), Err
     Ok(())
 }
 
-/// The steps of a case, whose first line is its title.
-pub fn session_steps(alloc: Global, case: &str) -> Result<Vec<Step>, Error> {
+/// The steps that the lines of a case say.
+pub fn session_steps(alloc: Global, lines: &str) -> Result<Vec<Step>, Error> {
     let mut steps = Vec::new(alloc);
-    for line in after_title(case).lines() {
+    for line in lines.lines() {
         if !line.trim().is_empty() && !line.starts_with('#') {
             read_line(alloc, &mut steps, line)?;
         }

@@ -1,6 +1,6 @@
 //! Cases of cores, in a notation that has beside each line what it comes to.
 //!
-//! A file begins with a comment, and each case with a line `== TITLE`. Its lines are run one after the other. Each is a command
+//! Each case begins with a line `== TITLE` (`case_files` of `case_format`). Its lines are run one after the other. Each is a command
 //! and, after ` => `, what it has to come to, as `{:?}` prints it; without that it has to come to `Ok(())`. What stands after `#`
 //! is a comment. Numbers are decimal, and one that is missing or no number is 0. HEX is pairs of digits, `-` for no bytes where a
 //! line comes to them.
@@ -52,6 +52,7 @@ use crate::cores::{Source, TestCore, recover};
 use crate::plain_files::has;
 use anyhow::{Error, bail};
 use bursts::{Done, Rejected};
+use case_format::Choice;
 use files::part_of;
 use formats::Reg;
 use kernel::{Event, Refused, SimDisk};
@@ -60,7 +61,7 @@ use simdisk::DiskRefusal;
 use std::alloc::Global;
 use std::fmt::Debug;
 use std::rt::Files;
-use std::{fs, io, mem};
+use std::{fs, mem};
 
 /// The word at this place of a command, an empty one where there is none.
 fn word(command: &str, place: usize) -> &str {
@@ -482,27 +483,22 @@ impl Case {
     }
 
     /// Runs a line. Refused where it comes to something else than what is wanted.
-    fn check<R: Files + AllocGlobal + Eprint>(&mut self, rt: &R, line: &str) -> Result<(), Error> {
+    fn check<R: Files + AllocGlobal>(&mut self, rt: &R, line: &str) -> Result<(), Error> {
         let (command, wanted) = parts_of(line);
         if command.is_empty() {
             return Ok(());
         }
         let answer = self.answer(rt, command)?;
-        compare(rt, command, wanted, answer.as_str())
+        compare(command, wanted, answer.as_str())
     }
-}
-
-fn tell<R: Eprint>(rt: &R, command: &str, wanted: &str, answer: &str) -> io::Result<()> {
-    eprintln!(rt; "{command} => {wanted}\nit comes to: {answer}")
 }
 
 /// Refuses an answer that is not the one that is wanted, and says what it is.
-fn compare<R: Eprint>(rt: &R, command: &str, wanted: &str, answer: &str) -> Result<(), Error> {
+fn compare(command: &str, wanted: &str, answer: &str) -> Result<(), Error> {
     if answer == wanted {
         return Ok(());
     }
-    tell(rt, command, wanted, answer)?;
-    bail!("a line comes to something else")
+    bail!("{command} => {wanted}\nit comes to: {answer}")
 }
 
 /// A line without its comment and the blanks round it.
@@ -520,7 +516,7 @@ fn parts_of(line: &str) -> (&str, &str) {
 }
 
 /// Runs the lines of a case, up to the first that comes to something else than what is wanted.
-fn run_case<R: Files + AllocGlobal + Eprint>(rt: &R, lines: &str) -> Result<(), Error> {
+fn run_case<R: Files + AllocGlobal>(rt: &R, lines: &str) -> Result<(), Error> {
     let mut case = Case::new(rt.alloc())?;
     for line in lines.lines() {
         case.check(rt, line)?;
@@ -528,40 +524,21 @@ fn run_case<R: Files + AllocGlobal + Eprint>(rt: &R, lines: &str) -> Result<(), 
     Ok(())
 }
 
-/// Runs a case of this file. Where it is refused, the names of the file and of the case come before the reason.
-fn check_case<R: Files + AllocGlobal + Eprint>(
+/// Runs the chosen cases of a file, each of them whatever came of those before, and gives the line that is printed where all pass.
+/// For each that fails standard error has a line: the word that names it, and why, with what its line comes to.
+pub fn check_file<R: Files + AllocGlobal + Eprint>(
     rt: &R,
-    name: &str,
-    case: &str,
-) -> Result<(), Error> {
-    let (title, lines) = case.split_once('\n').unwrap_or((case, ""));
-    match run_case(rt, lines) {
-        Ok(()) => Ok(()),
-        Err(error) => bail!("{name}: {title}: {error}"),
+    choice: Choice<'_>,
+) -> Result<String, Error> {
+    let file = choice.file;
+    let text = fs::read_to_string(rt, file)?;
+    let mut failed = 0usize;
+    for case in choice.cases(rt.alloc(), text.as_str())? {
+        if let Err(error) = run_case(rt, case.lines) {
+            let title = case.title;
+            eprintln!(rt; "{file}:{title}: {error}")?;
+            failed = failed.saturating_add(1);
+        }
     }
-}
-
-/// Runs the cases of this file, whose text this is, and gives their number.
-fn check_cases<R: Files + AllocGlobal + Eprint>(
-    rt: &R,
-    name: &str,
-    text: &str,
-) -> Result<usize, Error> {
-    let Some((_comment, cases)) = text.split_once("\n== ") else {
-        return Ok(0);
-    };
-    let mut count = 0usize;
-    for case in cases.split("\n== ") {
-        check_case(rt, name, case)?;
-        count = count.saturating_add(1);
-    }
-    Ok(count)
-}
-
-/// Runs the cases of a file, and gives a line that says how many they are. Where one comes out otherwise, standard error has what
-/// its line comes to.
-pub fn check_file<R: Files + AllocGlobal + Eprint>(rt: &R, name: &str) -> Result<String, Error> {
-    let text = fs::read_to_string(rt, name)?;
-    let count = check_cases(rt, name, text.as_str())?;
-    Ok(format!(in rt.alloc(); "{name}: {count} cases")?)
+    choice.outcome(rt.alloc(), failed)
 }

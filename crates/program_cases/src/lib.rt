@@ -1,9 +1,9 @@
 //! Runs of the program `bench`, each compared with what is wanted.
 //!
 //! Read `check_file` first: it runs the cases of a file of `.calls` or `.sessions`, which `case_format` reads. What no case can say
-//! is a function each: outputs that fail (`faulty_output`), a disk and arguments that cannot be read (`damaged_disk`,
-//! `lost_arguments`), the links and rights of a disk's file (`kept_disk`), and standard error, write by write (`whole_lines`).
-//! Each gives a line that says what was tried. What comes out otherwise is refused, with a text that says how.
+//! is a function each. Outputs fail (`faulty_output`), and a disk and arguments cannot be read (`damaged_disk`, `lost_arguments`). A
+//! disk's file has links and rights (`kept_disk`), and standard error is looked at write by write (`whole_lines`). Each gives a line
+//! that says what was tried. What comes out otherwise is refused, with a text that says how.
 #![tactic(auto)]
 
 mod case_files;

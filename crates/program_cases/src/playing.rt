@@ -35,9 +35,9 @@ fn run_calls<R: Files<File = File> + AllocGlobal + Threads + Wait + Sync>(
 /// Runs a case of programs that call the kernel.
 pub fn play_calls<R: Files<File = File> + AllocGlobal + Threads + Wait + Sync>(
     rt: &R,
-    text: &str,
+    lines: &str,
 ) -> Result<(), Error> {
-    let case = CallsCase::read(rt.alloc(), text)?;
+    let case = CallsCase::read(rt.alloc(), lines)?;
     let ran = run_calls(rt, &case)?;
     case.compare(rt.alloc(), &ran)
 }
@@ -60,9 +60,9 @@ fn play_step<R: Files<File = File> + AllocGlobal + Threads + Wait + Sync>(
 /// Does the steps of a case by the command line.
 pub fn play_session<R: Files<File = File> + AllocGlobal + Threads + Wait + Sync>(
     rt: &R,
-    text: &str,
+    lines: &str,
 ) -> Result<(), Error> {
-    let steps = session_steps(rt.alloc(), text)?;
+    let steps = session_steps(rt.alloc(), lines)?;
     for step in &steps {
         play_step(rt, step)?;
     }

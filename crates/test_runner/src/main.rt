@@ -1,12 +1,13 @@
-//! Runs the trials that its words name, one after the other, and prints what each comes to. Cases and computations are compared
-//! with what is wanted, measurements are not. Read `words` first. At the first case that comes out otherwise, and at a word that
-//! names nothing, the program ends with status 1, and says which.
+//! Runs the trials that its words name, one after the other, and prints what each comes to. Read `words` first.
+//!
+//! Cases and computations are compared with what is wanted, measurements are not. A trial that fails, and a word that names
+//! nothing, stop no other. Standard error says which they are, and the program ends with status 1.
 #![tactic(auto)]
 
 mod usage;
 mod words;
 
-use anyhow::Error;
+use anyhow::{Error, ensure};
 use std::env;
 use std::fs::File;
 use std::rt::Files;
@@ -22,9 +23,17 @@ fn run<R: AllocGlobal + Clock + Eprint + Files<File = File> + Print + Threads + 
     if words.len() < 2 {
         println!(rt; "{}", usage::lines(rt.alloc())?)?;
     }
+    let mut failed = 0usize;
     for word in words.iter().skip(1) {
-        println!(rt; "{}", words::report(rt, word.as_str())?)?;
+        match words::report(rt, word.as_str()) {
+            Ok(lines) => println!(rt; "{lines}")?,
+            Err(error) => {
+                eprintln!(rt; "{word}: {error}")?;
+                failed = failed.saturating_add(1);
+            }
+        }
     }
+    ensure!(failed == 0, "{failed} failed");
     Ok(())
 }
 

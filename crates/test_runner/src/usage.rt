@@ -6,6 +6,7 @@ use std::alloc::Global;
 const COMPARED: &str = "NAME.calls: the cases of this file, of programs that call the kernel
 NAME.sessions: the cases of this file, of the whole program by its command line
 NAME.cores: the cases of this file, of cores
+NAME.calls:TITLE, NAME.sessions:TITLE, NAME.cores:TITLE: the case of this title alone
 NAME.image: this image at many limits
 faulty-output: outputs that take one write or none
 endless-run: a run without end whose output fails

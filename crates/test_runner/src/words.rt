@@ -1,6 +1,7 @@
 //! What each word names.
 use crate::usage;
 use anyhow::{Error, bail};
+use case_format::Choice;
 use std::fs::File;
 use std::rt::Files;
 use std::sync::Wait;
@@ -35,16 +36,17 @@ fn named<R: AllocGlobal + Clock + Eprint + Files<File = File> + Threads + Wait +
     }
 }
 
-/// What a word comes to, in lines, the last without a line feed. A word is the name of a file, by what it ends with, or names a
-/// computation or a measurement.
+/// What a word comes to, in lines, the last without a line feed. A word is the name of a file, by what it ends with, or such a name
+/// and a case's title, or it names a computation or a measurement.
 pub fn report<R: AllocGlobal + Clock + Eprint + Files<File = File> + Threads + Wait + Sync>(
     rt: &R,
     word: &str,
 ) -> Result<String, Error> {
-    if word.ends_with(".calls") || word.ends_with(".sessions") {
-        program_cases::check_file(rt, word)
-    } else if word.ends_with(".cores") {
-        core_cases::check_file(rt, word)
+    let choice = Choice::of(word);
+    if choice.file.ends_with(".calls") || choice.file.ends_with(".sessions") {
+        program_cases::check_file(rt, choice)
+    } else if choice.file.ends_with(".cores") {
+        core_cases::check_file(rt, choice)
     } else if word.ends_with(".image") {
         machine_cases::check_image(rt, word)
     } else {
