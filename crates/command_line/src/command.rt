@@ -1,16 +1,8 @@
-//! The commands, as rows.
+//! The commands, as rows. Those with options of their own stand with these.
 use crate::debug_options::DEBUG;
 use crate::gdb_options::GDB;
-use crate::rows::{ArgumentRow, CommandRow, Form, NumberRow};
+use crate::rows::{ArgumentRow, CommandKind, CommandRow, Form, NumberRow};
 use crate::run_options::RUN;
-
-/// The program. Its usage begins with its name, so that it can be pasted.
-pub const BENCH: CommandRow = CommandRow {
-    name: "bench",
-    whole: "bench",
-    about: "A RISC-V bench on an externally synchronous kernel; without a command, the script on standard input is replayed",
-    arguments: &[],
-};
 
 const SCRIPT: ArgumentRow = ArgumentRow {
     name: "SCRIPT",
@@ -27,9 +19,11 @@ const EVENT: NumberRow = NumberRow {
 };
 
 const REPLAY: CommandRow = CommandRow {
+    kind: CommandKind::Replay,
     name: "replay",
     whole: "bench replay",
     about: "Run a script, and print what each of its lines gives",
+    example: "Example: bench replay examples/first-run.script",
     arguments: &[
         SCRIPT,
         ArgumentRow {
@@ -41,9 +35,11 @@ const REPLAY: CommandRow = CommandRow {
 };
 
 const PICTURE: CommandRow = CommandRow {
+    kind: CommandKind::Picture,
     name: "picture",
     whole: "bench picture",
     about: "Draw the run of a script as an SVG: what it shows, and when",
+    example: "Example: bench picture examples/first-run.script > /tmp/run.svg",
     arguments: &[
         SCRIPT,
         ArgumentRow {
@@ -55,9 +51,11 @@ const PICTURE: CommandRow = CommandRow {
 };
 
 const CRASHES: CommandRow = CommandRow {
+    kind: CommandKind::Crashes,
     name: "crashes",
     whole: "bench crashes",
     about: "Try a crash after each event of a script, and print what each leaves on the disk",
+    example: "Example: bench crashes examples/saves.script",
     arguments: &[
         SCRIPT,
         ArgumentRow {
@@ -69,9 +67,11 @@ const CRASHES: CommandRow = CommandRow {
 };
 
 pub const ASSEMBLE: CommandRow = CommandRow {
+    kind: CommandKind::Assemble,
     name: "asm",
     whole: "bench asm",
     about: "Assemble a source, and write its image",
+    example: "Example: bench asm examples/first.s /tmp/first.image",
     arguments: &[
         ArgumentRow {
             name: "SOURCE",
@@ -87,9 +87,11 @@ pub const ASSEMBLE: CommandRow = CommandRow {
 };
 
 const CHECK: CommandRow = CommandRow {
+    kind: CommandKind::Check,
     name: "check",
     whole: "bench check",
     about: "Say what is wrong with a source, where, and what would cure it",
+    example: "Example: bench check examples/first.s",
     arguments: &[ArgumentRow {
         name: "SOURCE",
         help: "the source's file",
@@ -98,9 +100,11 @@ const CHECK: CommandRow = CommandRow {
 };
 
 pub const IMAGE: CommandRow = CommandRow {
+    kind: CommandKind::Image,
     name: "image",
     whole: "bench image",
     about: "Make an image of an executable that a stock linker wrote",
+    example: "Example: bench image a.out /tmp/a.image",
     arguments: &[
         ArgumentRow {
             name: "ELF",
@@ -116,9 +120,11 @@ pub const IMAGE: CommandRow = CommandRow {
 };
 
 pub const SYMBOLS: CommandRow = CommandRow {
+    kind: CommandKind::Symbols,
     name: "symbols",
     whole: "bench symbols",
     about: "Write what gdb is told of a source: its labels, lines and data",
+    example: "Example: bench symbols examples/first.s /tmp/first.elf",
     arguments: &[
         ArgumentRow {
             name: "SOURCE",
@@ -134,9 +140,11 @@ pub const SYMBOLS: CommandRow = CommandRow {
 };
 
 const LIST: CommandRow = CommandRow {
+    kind: CommandKind::List,
     name: "list",
     whole: "bench list",
     about: "Print the words of an image that may be executed",
+    example: "Example: bench list /tmp/first.image",
     arguments: &[ArgumentRow {
         name: "IMAGE",
         help: "the image's file",
@@ -145,9 +153,11 @@ const LIST: CommandRow = CommandRow {
 };
 
 const DISK: CommandRow = CommandRow {
+    kind: CommandKind::Disk,
     name: "disk",
     whole: "bench disk",
     about: "Print the files on a disk, and their lengths",
+    example: "Example: bench disk /tmp/disk",
     arguments: &[ArgumentRow {
         name: "FILE",
         help: "the disk's file",

@@ -1,5 +1,5 @@
 //! The command `debug`, and its options.
-use crate::rows::{ArgumentRow, CommandRow, Form, NumberRow};
+use crate::rows::{ArgumentRow, CommandKind, CommandRow, Form, NumberRow};
 use crate::run_options::{ImagePaths, images_of, small_number};
 use clap::ArgMatches;
 use std::alloc::{AllocError, Global};
@@ -18,11 +18,21 @@ pub struct LiveOptions<'a> {
     pub images: ImagePaths<'a>,
 }
 
+/// The number of the process that is debugged.
+pub const PROCESS: NumberRow = NumberRow {
+    value: "P",
+    least: 1,
+    most: 1024,
+    default: None,
+};
+
 /// The command `debug`.
 pub const DEBUG: CommandRow = CommandRow {
+    kind: CommandKind::Debug,
     name: "debug",
     whole: "bench debug",
     about: "Debug an image, by commands on standard input",
+    example: "Example: echo step | bench debug /tmp/first.image",
     arguments: &[
         ArgumentRow {
             name: "IMAGE",
@@ -42,12 +52,7 @@ pub const DEBUG: CommandRow = CommandRow {
         ArgumentRow {
             name: "process",
             help: "with --live, the process that is debugged, 1 to 1024; 1 if it is not given",
-            form: Form::Number(NumberRow {
-                value: "P",
-                least: 1,
-                most: 1024,
-                default: None,
-            }),
+            form: Form::Number(PROCESS),
         },
         ArgumentRow {
             name: "tape",

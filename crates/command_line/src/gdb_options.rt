@@ -1,6 +1,6 @@
 //! The command `gdb`, and its options.
-use crate::debug_options::{LiveOptions, live_options};
-use crate::rows::{ArgumentRow, CommandRow, Form, NumberRow};
+use crate::debug_options::{LiveOptions, PROCESS, live_options};
+use crate::rows::{ArgumentRow, CommandKind, CommandRow, Form};
 use clap::ArgMatches;
 use std::alloc::{AllocError, Global};
 
@@ -17,9 +17,11 @@ pub struct GdbOptions<'a> {
 
 /// The command `gdb`.
 pub const GDB: CommandRow = CommandRow {
+    kind: CommandKind::Gdb,
     name: "gdb",
     whole: "bench gdb",
     about: "Answer gdb, which debugs an image: its remote protocol on standard input and output",
+    example: "Example: gdb-multiarch -ex 'target remote | bench gdb /tmp/first.image'",
     arguments: &[
         ArgumentRow {
             name: "IMAGE",
@@ -29,12 +31,7 @@ pub const GDB: CommandRow = CommandRow {
         ArgumentRow {
             name: "process",
             help: "the process that is debugged, 1 to 1024; 1 if it is not given",
-            form: Form::Number(NumberRow {
-                value: "P",
-                least: 1,
-                most: 1024,
-                default: None,
-            }),
+            form: Form::Number(PROCESS),
         },
         ArgumentRow {
             name: "tape",

@@ -1,9 +1,10 @@
-//! The command line of the program `bench`: its words as a `Task`, and whether reasons are told. Read `parse` first. Its types keep the limits of a run.
+//! The command line of the program `bench`: its words as a `Task`, and whether reasons are told.
+//!
+//! Read `parse` first, and the rows of `command`. Its types keep the limits of a run; else only safety is proved.
 #![tactic(auto)]
 
 mod command;
 mod debug_options;
-mod examples;
 mod gdb_options;
 mod numbers;
 mod parsing;

@@ -1,11 +1,15 @@
 //! The words of the command line, read.
-use crate::command::{BENCH, COMMANDS};
+use crate::command::{COMMANDS, row_named};
 use crate::refusing::{test_numbers, with_usage};
-use crate::rows::{commands_of, named};
+use crate::rows::commands_of;
 use crate::task::{Task, task_of};
 use clap::error::ErrorKind;
-use clap::{Arg, ArgAction, Command, Error};
+use clap::{Arg, ArgAction, ArgMatches, Command, Error};
 use std::alloc::{AllocError, Global};
+
+/// What the program is.
+const ABOUT: &str =
+    "A RISC-V bench on an externally synchronous kernel; without a command, the script on standard input is replayed";
 
 /// The option of every command that has reasons told.
 const EXPLAIN: &str = "explain";
@@ -31,9 +35,12 @@ fn explain<'a>(alloc: Global) -> Arg<'a> {
         .display_order(BEFORE_HELP)
 }
 
+/// The program, without its commands. Its usage begins with its name, so that it can be pasted.
 fn program<'a>(alloc: Global) -> Result<Command<'a>, AllocError> {
     Ok(
-        named(alloc, &BENCH)?
+        Command::new(alloc, "bench")
+            .bin_name("bench")?
+            .about(ABOUT)
             .override_usage("bench < SCRIPT\n       bench <COMMAND>")
             .no_binary_name(true)
             .subcommand_required(true)
@@ -46,7 +53,24 @@ fn commands<'a>(alloc: Global) -> Result<Command<'a>, AllocError> {
     program(alloc)?.subcommands(commands)
 }
 
-/// What the words ask for, if a command that is handled here is among them.
+/// What the command of this name asks for with its arguments. None where there is no such command, or an argument is missing.
+fn asked_of<'a>(
+    alloc: Global,
+    name: &str,
+    matches: &ArgMatches<'a>,
+) -> Result<Option<Asked<'a>>, Error> {
+    let Some(row) = row_named(name) else {
+        return Ok(None);
+    };
+    test_numbers(alloc, row, matches)?;
+    let explain = matches.get_flag(EXPLAIN);
+    match task_of(alloc, row.kind, matches)? {
+        Some(task) => Ok(Some(Asked { task, explain })),
+        None => Ok(None),
+    }
+}
+
+/// What the words ask for, if a command is among them.
 fn asked_for<'a>(
     alloc: Global,
     commands: &mut Command<'a>,
@@ -54,14 +78,7 @@ fn asked_for<'a>(
 ) -> Result<Option<Asked<'a>>, Error> {
     let matches = commands.try_get_matches_from_mut(words)?;
     match matches.subcommand() {
-        Some((name, matches)) => {
-            test_numbers(alloc, name, matches)?;
-            let explain = matches.get_flag(EXPLAIN);
-            match task_of(alloc, name, matches)? {
-                Some(task) => Ok(Some(Asked { task, explain })),
-                None => Ok(None),
-            }
-        }
+        Some((name, matches)) => asked_of(alloc, name, matches),
         None => Ok(None),
     }
 }

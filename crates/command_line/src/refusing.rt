@@ -17,10 +17,11 @@ pub fn refusal(
 }
 
 /// Refuses the first faulty number that a command is given.
-pub fn test_numbers(alloc: Global, name: &str, matches: &ArgMatches<'_>) -> Result<(), Error> {
-    let Some(row) = row_named(name) else {
-        return Ok(());
-    };
+pub fn test_numbers(
+    alloc: Global,
+    row: &CommandRow,
+    matches: &ArgMatches<'_>,
+) -> Result<(), Error> {
     match faulty_number(matches, row.arguments) {
         None => Ok(()),
         Some(fault) => {

@@ -1,5 +1,4 @@
 //! Commands as rows of a table: what is said of each, and the arguments that it takes.
-use crate::examples::example_of;
 use clap::{Arg, ArgAction, Command};
 use kernel_model::MOST_PROGRAMS;
 use std::alloc::{AllocError, Global};
@@ -39,12 +38,32 @@ pub struct ArgumentRow {
     pub form: Form,
 }
 
+/// Which command a row is.
+#[derive(Clone, Copy)]
+pub enum CommandKind {
+    Replay,
+    Picture,
+    Crashes,
+    Assemble,
+    Check,
+    Image,
+    Symbols,
+    List,
+    Debug,
+    Gdb,
+    Disk,
+    Run,
+}
+
 /// A command.
 pub struct CommandRow {
+    pub kind: CommandKind,
     pub name: &'static str,
     /// The name as its usage gives it.
     pub whole: &'static str,
     pub about: &'static str,
+    /// How it is used, as its help says at its end.
+    pub example: &'static str,
     pub arguments: &'static [ArgumentRow],
 }
 
@@ -95,23 +114,16 @@ fn arguments_of<'a>(alloc: Global, rows: &[ArgumentRow]) -> Result<Vec<Arg<'a>>,
     Ok(arguments)
 }
 
-/// The command of a row, without its arguments.
-pub fn named<'a>(alloc: Global, row: &CommandRow) -> Result<Command<'a>, AllocError> {
-    Ok(
-        Command::new(alloc, row.name)
-            .bin_name(row.whole)?
-            .about(row.about),
-    )
-}
-
 /// The command of a row, with its arguments.
 pub fn command_of<'a>(alloc: Global, row: &CommandRow) -> Result<Command<'a>, AllocError> {
     let arguments = arguments_of(alloc, row.arguments)?;
-    let command = named(alloc, row)?.args(arguments)?;
-    match example_of(row.name) {
-        Some(example) => Ok(command.after_help(example)),
-        None => Ok(command),
-    }
+    Ok(
+        Command::new(alloc, row.name)
+            .bin_name(row.whole)?
+            .about(row.about)
+            .args(arguments)?
+            .after_help(row.example),
+    )
 }
 
 /// The commands of rows, with their arguments.

@@ -4,7 +4,7 @@ ghost use Rattle.std.proofs.Props.{props};
 ghost use Rattle.kernel_model.specs.World.{most_programs, terminal_count};
 
 use crate::numbers::number_of;
-use crate::rows::{ArgumentRow, CommandRow, Form, NumberRow};
+use crate::rows::{ArgumentRow, CommandKind, CommandRow, Form, NumberRow};
 use crate::tapes::TapePaths;
 use clap::ArgMatches;
 use clap::parser::ValueSource;
@@ -62,9 +62,11 @@ pub struct RunOptions<'a> {
 
 /// The command `run`.
 pub const RUN: CommandRow = CommandRow {
+    kind: CommandKind::Run,
     name: "run",
     whole: "bench run",
     about: "Run images by worker threads, and print what a terminal shows",
+    example: "Example: echo 1 2 3 | bench run --tape - --disk /tmp/disk /tmp/first.image",
     arguments: &[
         ArgumentRow {
             name: "workers",

@@ -4,7 +4,7 @@ use crate::debug_options::{DEBUG, LiveOptions, debug_conflict, live_options};
 use crate::gdb_options::{GDB, GdbOptions, gdb_conflict, gdb_options};
 use crate::numbers::number_of;
 use crate::refusing::refusal;
-use crate::rows::CommandRow;
+use crate::rows::{CommandKind, CommandRow};
 use crate::run_options::{RUN, RunOptions, asks_one_and_all, run_options};
 use crate::tapes::faulty_tape;
 use clap::error::ErrorKind;
@@ -217,32 +217,24 @@ fn gdb_task<'a>(alloc: Global, matches: &ArgMatches<'a>) -> Result<Option<Task<'
     }
 }
 
-/// What a command that takes files and its arguments ask for. None for a name that is not handled here.
-fn file_task<'a>(name: &str, matches: &ArgMatches<'a>) -> Option<Task<'a>> {
-    match name {
-        "replay" => replay_task(matches),
-        "picture" => picture_task(matches),
-        "crashes" => crashes_task(matches),
-        "check" => Some(Task::Check(matches.get_str("SOURCE")?)),
-        "list" => Some(Task::List(matches.get_str("IMAGE")?)),
-        "disk" => Some(Task::Disk(matches.get_str("FILE")?)),
-        _ => None,
-    }
-}
-
-/// What a command and its arguments ask for. None for a name that is not handled here.
+/// What a command and its arguments ask for. None where an argument is missing.
 pub fn task_of<'a>(
     alloc: Global,
-    name: &str,
+    kind: CommandKind,
     matches: &ArgMatches<'a>,
 ) -> Result<Option<Task<'a>>, Error> {
-    match name {
-        "run" => run_task(alloc, matches),
-        "asm" => assemble_task(alloc, matches),
-        "debug" => debug_task(alloc, matches),
-        "gdb" => gdb_task(alloc, matches),
-        "image" => image_task(alloc, matches),
-        "symbols" => symbols_task(alloc, matches),
-        name => Ok(file_task(name, matches)),
+    match kind {
+        CommandKind::Replay => Ok(replay_task(matches)),
+        CommandKind::Picture => Ok(picture_task(matches)),
+        CommandKind::Crashes => Ok(crashes_task(matches)),
+        CommandKind::Assemble => assemble_task(alloc, matches),
+        CommandKind::Check => Ok(matches.get_str("SOURCE").map(Task::Check)),
+        CommandKind::Image => image_task(alloc, matches),
+        CommandKind::Symbols => symbols_task(alloc, matches),
+        CommandKind::List => Ok(matches.get_str("IMAGE").map(Task::List)),
+        CommandKind::Debug => debug_task(alloc, matches),
+        CommandKind::Gdb => gdb_task(alloc, matches),
+        CommandKind::Disk => Ok(matches.get_str("FILE").map(Task::Disk)),
+        CommandKind::Run => run_task(alloc, matches),
     }
 }
