@@ -1,109 +1,213 @@
-//! The boot of what a script sets up, and each further one, on the disk that a crash leaves.
-ghost use Rattle.std.specs.Prelude.{◌≡◌, ◌<◌, true, length, IfOk, IfSome};
-ghost use Rattle.std.specs.List.{AllByRecursion};
-ghost use Rattle.disk_model.specs.Storage.{is_quiet};
-ghost use Rattle.kernel_model.specs.World.{terminal_count, tape_count};
+//! What a script sets up, and its set-up lines.
+ghost use Rattle.std.specs.Prelude.{◌≡◌, ◌<◌, ◌≤◌, true, length, vec_len};
+ghost use Rattle.kernel_model.specs.World.{tape_count};
 
-use crate::fault::ScriptFault;
-use crate::script::{ScriptProgram, ScriptTape, Setup, Source, tape_numbered};
+use crate::words::{Terminal, decimal, numbers_of, only_bytes_of, terminal_of};
 use byte_list::Bytes;
-use file_reading::image_file_in;
-use kernel::{Core, Program, SimDisk};
 use kernel_model::{MOST_PROGRAMS, TAPES};
-use machine_model::Image;
-use simdisk::DiskRefusal;
 use std::alloc::{AllocError, Global};
-use std::rt::Files;
 
-impl Source {
-    /// The image. Where it is in a file, that is read at the first boot, and never again.
-    fn image<R: Files + AllocGlobal>(&mut self, rt: &R) -> Result<Image, ScriptFault> {
-        match self {
-            Source::Words(words) => Ok(Image::from_text(rt.alloc(), words.as_slice())?),
-            Source::Path(path) => {
-                let file = image_file_in(rt, path.as_str())?;
-                let image = elf32::parse(rt.alloc(), file.as_slice())?;
-                *self = Source::File(file);
-                Ok(image)
-            }
-            Source::File(file) => Ok(elf32::parse(rt.alloc(), file.as_slice())?),
+/// The most words of a program: 60 pages.
+const MOST_WORDS: usize = 61440;
+
+/// The most bytes of a tape.
+pub const MOST_TAPE_BYTES: usize = 65536;
+
+/// The words of a program, 1 to 61,440, for the addresses from 0x00010000 on.
+pub struct Words {
+    words: Vec<u32>,
+    ghost some: { 0 < vec_len words },
+    ghost few: { vec_len words ≤ 61440 },
+}
+
+impl Drop for Words {
+    fn drop(self) {
+        let Words { words: _words } = self;
+    }
+}
+
+impl Words {
+    /// The words in order.
+    pub fn as_slice(&self) -> &[u32]
+        ensures some { 0 < length result.now }
+        ensures few { length result.now ≤ 61440 }
+    {
+        self.words.as_slice()
+    }
+}
+
+/// Where a program comes from.
+#[derive(Drop)]
+pub enum Source {
+    /// The script itself.
+    Words(Words),
+    /// The image in a file of the host, at this path, which is not read yet.
+    Path(String),
+    /// The bytes of an image's file, as they were when it was read.
+    File(Vec<u8>),
+}
+
+/// A program that a script sets up.
+pub struct ScriptProgram {
+    pub terminal: Terminal,
+    pub source: Source,
+}
+
+impl Drop for ScriptProgram {
+    fn drop(self) {
+        let ScriptProgram {
+            terminal: _,
+            source: _source,
+        } = self;
+    }
+}
+
+/// A tape that a script sets up.
+pub struct ScriptTape {
+    /// 0 to 7.
+    pub number: u32,
+    /// At most 65,536.
+    pub bytes: Bytes,
+    ghost there: { number < tape_count },
+    ghost short: { length bytes ≤ 65536 },
+}
+
+impl Drop for ScriptTape {
+    fn drop(self) {
+        let ScriptTape {
+            number: _,
+            bytes: _bytes,
+        } = self;
+    }
+}
+
+/// What a script sets up: its programs in order, and the tapes that it gives, at most one of each number.
+pub struct Setup {
+    pub programs: Vec<ScriptProgram>,
+    pub tapes: Vec<ScriptTape>,
+}
+
+impl Drop for Setup {
+    fn drop(self) {
+        let Setup {
+            programs: _programs,
+            tapes: _tapes,
+        } = self;
+    }
+}
+
+/// What a line sets up, as its first word says.
+#[derive(Clone, Copy)]
+pub enum SetupLine {
+    Program,
+    Image,
+    Tape,
+}
+
+impl SetupLine {
+    /// The set-up line that begins with this word, if one does.
+    pub fn named(word: &str) -> Option<SetupLine> {
+        match word {
+            "program" => Some(SetupLine::Program),
+            "image" => Some(SetupLine::Image),
+            "tape" => Some(SetupLine::Tape),
+            _ => None,
         }
     }
 }
 
-impl ScriptProgram {
-    /// The program, to be booted once.
-    fn program<R: Files + AllocGlobal>(&mut self, rt: &R) -> Result<Program, ScriptFault>
-        ensures { IfOk result (λ program. program.terminal < terminal_count) }
-    {
-        Ok(Program {
-            image: self.source.image(rt)?,
-            terminal: self.terminal.number,
-        })
+/// The words of a program line. None where one has no form, or where there are none or too many.
+fn words_of(alloc: Global, texts: &[&str]) -> Result<Option<Source>, AllocError> {
+    if texts.is_empty() || texts.len() > MOST_WORDS {
+        return Ok(None);
+    }
+    match numbers_of(alloc, texts)? {
+        Some(words) => Ok(Some(Source::Words(Words { words }))),
+        None => Ok(None),
     }
 }
 
-/// Programs, to be booted once. The files of images are read at the first boot, one after the other, each with its checks before
-/// the next.
-fn programs_of<R: Files + AllocGlobal>(
-    rt: &R,
-    programs: &mut [ScriptProgram],
-) -> Result<Vec<Program>, ScriptFault>
-    ensures { IfOk result (λ booted. AllByRecursion (λ p. p.terminal < terminal_count) booted.items) }
-{
-    let mut booted = Vec::new(rt.alloc());
-    for program in programs {
-        booted.push(program.program(rt)?)?;
-    }
-    Ok(booted)
+/// Whether a word is a path: it is not empty, and has no tab and no carriage return.
+fn is_path(word: &str) -> bool {
+    !word.is_empty() && word.bytes().all(|byte| byte != b'\t' && byte != b'\r')
 }
 
-/// The tape of this number that a script gives, or an empty one.
-fn tape_of(alloc: Global, tapes: &[ScriptTape], number: u32) -> Result<Bytes, AllocError> {
-    match tape_numbered(tapes, number) {
-        Some(tape) => tape.bytes.try_clone(alloc),
-        None => Ok(Bytes::empty(alloc)),
+/// The path of an image line. None where there is none, or more than one.
+fn path_of(alloc: Global, texts: &[&str]) -> Result<Option<Source>, AllocError> {
+    match texts {
+        [path] if is_path(path) => Ok(Some(Source::Path(String::from_str(alloc, path)?))),
+        _ => Ok(None),
     }
 }
 
-/// The eight tapes of a boot, by their numbers: those that a script gives, the others empty.
-fn tapes_of(alloc: Global, tapes: &[ScriptTape]) -> Result<Vec<Bytes>, AllocError>
-    ensures { IfOk result (λ booted. length booted.items ≡ tape_count) }
-{
-    let mut booted = Vec::new(alloc);
-    for number in 0..TAPES as u32 {
-        booted.push(tape_of(alloc, tapes, number)?)?;
-    }
-    Ok(booted)
-}
-
-/// The disk that a crash left, or else one of zeros.
-fn disk_of(alloc: Global, left: Option<SimDisk>) -> Result<SimDisk, DiskRefusal>
-    requires { IfSome left (λ device. is_quiet device ≡ true) }
-    ensures { IfOk result (λ device. is_quiet device ≡ true) }
-{
-    match left {
-        Some(device) => Ok(device),
-        None => SimDisk::zero(alloc),
-    }
+/// The tape of this number, if there is one.
+pub fn tape_numbered(tapes: &[ScriptTape], number: u32) -> Option<&ScriptTape> {
+    tapes.iter().find(|tape| tape.number == number)
 }
 
 impl Setup {
-    /// Boots what a script sets up, on the disk that a crash left, or on one of zeros. A script that sets up no program is refused
-    /// at line 1; one that was read sets up no more than eight.
-    pub fn boot<R: Files + AllocGlobal>(
+    /// Adds a program, if it has a terminal and a source, and is not a ninth one.
+    fn push_program(
         &mut self,
-        rt: &R,
-        left: Option<SimDisk>,
-    ) -> Result<Core, ScriptFault>
-        requires { IfSome left (λ device. is_quiet device ≡ true) }
-    {
-        let programs = programs_of(rt, self.programs.as_mut_slice())?;
-        if programs.is_empty() || programs.len() > MOST_PROGRAMS {
-            return Err(ScriptFault::Refused { line: 1 });
+        terminal: Option<Terminal>,
+        source: Option<Source>,
+    ) -> Result<bool, AllocError> {
+        match (terminal, source) {
+            (Some(terminal), Some(source)) if self.programs.len() < MOST_PROGRAMS => {
+                self.programs.push(ScriptProgram { terminal, source })?;
+                Ok(true)
+            }
+            _ => Ok(false),
         }
-        let device = disk_of(rt.alloc(), left)?;
-        let tapes = tapes_of(rt.alloc(), self.tapes.as_slice())?;
-        Ok(Core::boot(rt.alloc(), device, programs, tapes)?)
+    }
+
+    /// Whether a tape of this number may have these bytes: there is such a number, no tape has it yet, and they are not too many.
+    fn takes_tape(&self, number: u32, bytes: &[u8]) -> bool
+        ensures { result ≡ true → (number < tape_count) × (length bytes.now ≤ 65536) }
+    {
+        number < TAPES as u32
+            && bytes.len() <= MOST_TAPE_BYTES
+            && tape_numbered(self.tapes.as_slice(), number).is_none()
+    }
+
+    /// Adds a tape, if it has a number and bytes that it may have.
+    fn push_tape(&mut self, number: Option<u32>, bytes: Option<Bytes>) -> Result<bool, AllocError> {
+        match (number, bytes) {
+            (Some(number), Some(bytes)) if self.takes_tape(number, bytes.as_slice()) => {
+                self.tapes.push(ScriptTape { number, bytes })?;
+                Ok(true)
+            }
+            _ => Ok(false),
+        }
+    }
+
+    /// Before the first line.
+    pub fn new(alloc: Global) -> Setup {
+        Setup {
+            programs: Vec::new(alloc),
+            tapes: Vec::new(alloc),
+        }
+    }
+
+    /// Adds what a set-up line sets up, if the words after its first have a form.
+    pub fn read(
+        &mut self,
+        alloc: Global,
+        line: SetupLine,
+        words: &[&str],
+    ) -> Result<bool, AllocError> {
+        let [first, rest @ ..] = words else {
+            return Ok(false);
+        };
+        let number = decimal(first);
+        match line {
+            SetupLine::Program => {
+                self.push_program(number.and_then(terminal_of), words_of(alloc, rest)?)
+            }
+            SetupLine::Image => {
+                self.push_program(number.and_then(terminal_of), path_of(alloc, rest)?)
+            }
+            SetupLine::Tape => self.push_tape(number, only_bytes_of(alloc, rest)?),
+        }
     }
 }

@@ -3,7 +3,7 @@ use Rattle.std.proofs.Common.{◌<◌}
 use Rattle.std.specs.List.{AllByRecursion}
 use Rattle.kernel_model.specs.World.{terminal_count}
 use Rattle.kernel_step.specs.declared.booting.Program.{Program}
-use Rattle.scripts.proofs.setup.programs_of.Given as goal
+use Rattle.scripts.proofs.booting.programs_of.Given as goal
 
 abbrev pub invariant-loop-program : goal.invariant-loop-program
 invariant-loop-program g l = AllByRecursion (λ (p : Program). p.terminal < terminal_count) l.booted.items

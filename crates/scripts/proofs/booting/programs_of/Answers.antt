@@ -4,7 +4,7 @@ use Rattle.std.specs.List.{AllByRecursion}
 use Rattle.std.proofs.ByRecursion.{All-push}
 use Rattle.kernel_model.specs.World.{terminal_count}
 use Rattle.kernel_step.specs.declared.booting.Program.{Program}
-use Rattle.scripts.proofs.setup.programs_of.Goals as goal
+use Rattle.scripts.proofs.booting.programs_of.Goals as goal
 
 abbrev HaveTerminals : List Program → Type 0
 HaveTerminals = AllByRecursion (λ (p : Program). p.terminal < terminal_count)

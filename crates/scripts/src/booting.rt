@@ -1,0 +1,109 @@
+//! The boot of what a script sets up, and each further one, on the disk that a crash leaves.
+ghost use Rattle.std.specs.Prelude.{◌≡◌, ◌<◌, true, length, IfOk, IfSome};
+ghost use Rattle.std.specs.List.{AllByRecursion};
+ghost use Rattle.disk_model.specs.Storage.{is_quiet};
+ghost use Rattle.kernel_model.specs.World.{terminal_count, tape_count};
+
+use crate::fault::ScriptFault;
+use crate::setup::{ScriptProgram, ScriptTape, Setup, Source, tape_numbered};
+use byte_list::Bytes;
+use file_reading::image_file_in;
+use kernel::{Core, Program, SimDisk};
+use kernel_model::{MOST_PROGRAMS, TAPES};
+use machine_model::Image;
+use simdisk::DiskRefusal;
+use std::alloc::{AllocError, Global};
+use std::rt::Files;
+
+impl Source {
+    /// The image. Where it is in a file, that is read at the first boot, and never again.
+    fn image<R: Files + AllocGlobal>(&mut self, rt: &R) -> Result<Image, ScriptFault> {
+        match self {
+            Source::Words(words) => Ok(Image::from_text(rt.alloc(), words.as_slice())?),
+            Source::Path(path) => {
+                let file = image_file_in(rt, path.as_str())?;
+                let image = elf32::parse(rt.alloc(), file.as_slice())?;
+                *self = Source::File(file);
+                Ok(image)
+            }
+            Source::File(file) => Ok(elf32::parse(rt.alloc(), file.as_slice())?),
+        }
+    }
+}
+
+impl ScriptProgram {
+    /// The program, to be booted once.
+    fn program<R: Files + AllocGlobal>(&mut self, rt: &R) -> Result<Program, ScriptFault>
+        ensures { IfOk result (λ program. program.terminal < terminal_count) }
+    {
+        Ok(Program {
+            image: self.source.image(rt)?,
+            terminal: self.terminal.number,
+        })
+    }
+}
+
+/// Programs, to be booted once. The files of images are read at the first boot, one after the other, each with its checks before
+/// the next.
+fn programs_of<R: Files + AllocGlobal>(
+    rt: &R,
+    programs: &mut [ScriptProgram],
+) -> Result<Vec<Program>, ScriptFault>
+    ensures { IfOk result (λ booted. AllByRecursion (λ p. p.terminal < terminal_count) booted.items) }
+{
+    let mut booted = Vec::new(rt.alloc());
+    for program in programs {
+        booted.push(program.program(rt)?)?;
+    }
+    Ok(booted)
+}
+
+/// The tape of this number that a script gives, or an empty one.
+fn tape_of(alloc: Global, tapes: &[ScriptTape], number: u32) -> Result<Bytes, AllocError> {
+    match tape_numbered(tapes, number) {
+        Some(tape) => tape.bytes.try_clone(alloc),
+        None => Ok(Bytes::empty(alloc)),
+    }
+}
+
+/// The eight tapes of a boot, by their numbers: those that a script gives, the others empty.
+fn tapes_of(alloc: Global, tapes: &[ScriptTape]) -> Result<Vec<Bytes>, AllocError>
+    ensures { IfOk result (λ booted. length booted.items ≡ tape_count) }
+{
+    let mut booted = Vec::new(alloc);
+    for number in 0..TAPES as u32 {
+        booted.push(tape_of(alloc, tapes, number)?)?;
+    }
+    Ok(booted)
+}
+
+/// The disk that a crash left, or else one of zeros.
+fn disk_of(alloc: Global, left: Option<SimDisk>) -> Result<SimDisk, DiskRefusal>
+    requires { IfSome left (λ device. is_quiet device ≡ true) }
+    ensures { IfOk result (λ device. is_quiet device ≡ true) }
+{
+    match left {
+        Some(device) => Ok(device),
+        None => SimDisk::zero(alloc),
+    }
+}
+
+impl Setup {
+    /// Boots what a script sets up, on the disk that a crash left, or on one of zeros. A script that sets up no program is refused
+    /// at line 1; one that was read sets up no more than eight.
+    pub fn boot<R: Files + AllocGlobal>(
+        &mut self,
+        rt: &R,
+        left: Option<SimDisk>,
+    ) -> Result<Core, ScriptFault>
+        requires { IfSome left (λ device. is_quiet device ≡ true) }
+    {
+        let programs = programs_of(rt, self.programs.as_mut_slice())?;
+        if programs.is_empty() || programs.len() > MOST_PROGRAMS {
+            return Err(ScriptFault::Refused { line: 1 });
+        }
+        let device = disk_of(rt.alloc(), left)?;
+        let tapes = tapes_of(rt.alloc(), self.tapes.as_slice())?;
+        Ok(Core::boot(rt.alloc(), device, programs, tapes)?)
+    }
+}

@@ -1,0 +1,72 @@
+//! The steps of a script: what its lines after the set-up lines do.
+use crate::words::{Terminal, decimal, only_bytes_of, terminal_of};
+use byte_list::Bytes;
+use kernel::Event;
+use std::alloc::{AllocError, Global};
+
+/// A step that the core outlives.
+#[derive(Clone, Copy)]
+pub enum Action {
+    /// An event is applied, and its answer printed.
+    Apply(Event),
+    /// All changes are committed.
+    Drain,
+    /// What a terminal, 0 to 7, shows is printed.
+    Shown(Terminal),
+    /// The replies to a process's calls that are handed out are printed.
+    Trace(u32),
+    /// The files that the disk held at this boot are printed.
+    Files,
+}
+
+/// A line of a script that is no set-up line.
+#[derive(Drop)]
+pub enum Step {
+    Act(Action),
+    /// The run is cut short, and all programs are booted again on the disk that is left, where the ranges of writes in
+    /// flight or failed take these bytes.
+    Crash(Bytes),
+}
+
+/// What a line of this word alone does with the core, if it has the form of that.
+fn plain_action(name: &str) -> Option<Action> {
+    match name {
+        "cut" => Some(Action::Apply(Event::Cut)),
+        "drain" => Some(Action::Drain),
+        "files" => Some(Action::Files),
+        _ => None,
+    }
+}
+
+/// What a line of this word and a number does with the core, if it has the form of that.
+fn numbered_action(name: &str, number: u32) -> Option<Action> {
+    match name {
+        "enter" => Some(Action::Apply(Event::Enter { pid: number })),
+        "complete" => Some(Action::Apply(Event::Complete { at: number })),
+        "fail" => Some(Action::Apply(Event::Fail { at: number })),
+        "shown" => Some(Action::Shown(terminal_of(number)?)),
+        "trace" => Some(Action::Trace(number)),
+        _ => None,
+    }
+}
+
+/// What a line does with the core, if it has the form of that: its first word, and those after it.
+fn action_of(name: &str, words: &[&str]) -> Option<Action> {
+    match words {
+        [] => plain_action(name),
+        [number] => numbered_action(name, decimal(number)?),
+        [pid, n] if name == "turn" => Some(Action::Apply(Event::Turn {
+            pid: decimal(pid)?,
+            n: decimal(n)?,
+        })),
+        _ => None,
+    }
+}
+
+/// The step of a line that is no set-up line, if it has a form: its first word, and those after it.
+pub fn step_of(alloc: Global, name: &str, words: &[&str]) -> Result<Option<Step>, AllocError> {
+    match name {
+        "crash" => Ok(only_bytes_of(alloc, words)?.map(Step::Crash)),
+        _ => Ok(action_of(name, words).map(Step::Act)),
+    }
+}

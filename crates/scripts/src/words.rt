@@ -1,0 +1,51 @@
+//! The words of a script's lines: numbers, terminals and bytes. A word of another form gives None.
+ghost use Rattle.std.specs.Prelude.{◌≡◌, ◌<◌, IfOk, IfSome, length, vec_len};
+ghost use Rattle.kernel_model.specs.World.{terminal_count};
+
+use byte_list::Bytes;
+use kernel_model::TERMINALS;
+use line_words::{bytes_of, hexadecimal};
+use std::alloc::{AllocError, Global};
+
+/// A terminal's number, 0 to 7.
+#[derive(Clone, Copy)]
+pub struct Terminal {
+    pub number: u32,
+    ghost there: { number < terminal_count },
+}
+
+/// A decimal number below 2^32. Leading zeros are allowed, a sign is not.
+pub fn decimal(word: &str) -> Option<u32> {
+    u32::try_from(line_words::decimal(word)?).ok()
+}
+
+/// The terminal of this number, if there is one.
+pub fn terminal_of(number: u32) -> Option<Terminal> {
+    if number < TERMINALS as u32 {
+        Some(Terminal { number })
+    } else {
+        None
+    }
+}
+
+/// The numbers of words of eight hexadecimal digits. None where one has no such form.
+pub fn numbers_of(alloc: Global, texts: &[&str]) -> Result<Option<Vec<u32>>, AllocError>
+    ensures { IfOk result (λ numbers. IfSome numbers (λ list. vec_len list ≡ length texts.now)) }
+{
+    let mut numbers = Vec::new(alloc);
+    for text in texts {
+        match hexadecimal(text) {
+            Some(number) => numbers.push(number)?,
+            None => return Ok(None),
+        }
+    }
+    Ok(Some(numbers))
+}
+
+/// The bytes of a tape line or a crash line. None where they have no form.
+pub fn only_bytes_of(alloc: Global, texts: &[&str]) -> Result<Option<Bytes>, AllocError> {
+    match texts {
+        [text] => bytes_of(alloc, text),
+        _ => Ok(None),
+    }
+}
