@@ -23,7 +23,6 @@ mod wait;
 mod write;
 
 pub use ends::plan_end;
-pub use errno::Errno;
 pub use kernel_model::{Descriptor, Output, PipeStep, Request, Slot, TapeRead, Verdict};
 pub use plan::{Plan, plan_call};
 pub use tables::KernelTables;

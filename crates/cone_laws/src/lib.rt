@@ -1,5 +1,7 @@
-//! Laws of cones: an event does in the run of its cone alone what it does in the whole run, and the run of the visible events gives
-//! what may be seen. The cone of an event is its causal past: the events on which it rests by what they wrote and later ones read.
+//! Laws of cones. The cone of an event is its causal past: the events on which it rests by what they wrote and later ones read.
+//!
+//! Read `cones`, the whole promise: an event does in the run of its cone alone what it does in the whole run, and the run of the
+//! visible events gives what may be seen.
 #![tactic(auto)]
 
 ghost use Rattle.std.specs.Prelude.{List, [], ◌∷◌, ◌++◌};

@@ -1,5 +1,5 @@
 //! The commands of a debugger, read from a person and answered in text. Read `debug` first, a whole session. `read_trace` reads the
-//! replies that the program's calls take in it.
+//! replies that the program's calls take in it. Only safety is proved.
 #![tactic(auto)]
 
 mod aids;

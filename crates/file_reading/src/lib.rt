@@ -1,5 +1,5 @@
-//! Files of the host, each read no further than what is asked of it needs. So also a file without an end is refused. Only safety is
-//! proved.
+//! Files of the host, each read no further than what is asked of it needs. So also a file without an end is refused. Read
+//! `image_file_in` first. Only safety is proved.
 #![tactic(auto)]
 
 mod image_file;

@@ -1,4 +1,5 @@
-//! Ghost lists: `Notes`, a list that exists in proofs alone, for records of what was done.
+//! Ghost lists: `Notes`, a list that exists in proofs alone, for records of what was done. It takes no memory, and clauses alone
+//! read it.
 #![tactic(auto)]
 
 mod notes;

@@ -1,5 +1,5 @@
 //! The picture of a script's run. Read `picture` first. `record_event` applies an event, and notes what it did; `pictures` draws what
-//! was noted. A `Follower` tells what each event wrote to terminals.
+//! was noted. A `Follower` tells what each event wrote to terminals. Only safety is proved.
 #![tactic(auto)]
 
 mod boots;

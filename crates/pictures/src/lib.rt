@@ -1,4 +1,6 @@
 //! Pictures of runs, as SVG text: when what may be seen. Read `Picture` first, then `draw`. Nothing here knows of a kernel.
+//!
+//! Texts are escaped, and read back as they were. Where lanes and rows stand, and how many are left out, is the definitions'.
 #![tactic(auto)]
 
 mod arrows;

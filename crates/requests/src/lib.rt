@@ -1,5 +1,7 @@
-//! Which system call a machine asks for that stands at one. `request_of` reads its registers, and copies the bytes that it names.
-//! Only those bytes take memory.
+//! Which system call a machine asks for that stands at one.
+//!
+//! Read `request_of`: it reads the registers, and copies the bytes that they name. The request is the definitions', and only those
+//! bytes take memory.
 #![tactic(auto)]
 
 ghost use Rattle.std.specs.Prelude.{◌≡◌, ◌+◌, ◌==◌, ◌||◌, None, IfOk, IsOk};

@@ -20,7 +20,7 @@ pub use cone::replay_cone;
 pub use fault::ScriptFault;
 pub use file_lines::print_files;
 pub use playing::replay;
-pub use printing::{bytes_text, print_refusal, print_reply};
+pub use printing::{bytes_text, print_reply};
 pub use script::Script;
 pub use setup::{MOST_TAPE_BYTES, Setup};
 pub use steps::{Action, Step};

@@ -1,4 +1,6 @@
 //! A law of sources: what becomes of one that assembles, from its text to the machine that is loaded from its file.
+//!
+//! Read `sources_are_loaded`: the machine fetches the very words that the source's listing has.
 #![tactic(auto)]
 
 ghost use Rattle.std.specs.Prelude.{List, ℕ};
