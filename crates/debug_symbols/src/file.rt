@@ -109,8 +109,9 @@ fn put_lines(
 }
 
 /// The file of symbols of a source, which gdb is to find by a path. It has the sections of text and data as the image has them, all
-/// labels, a line for each statement of text, and for each label of data a variable: an int or an array of them where `.word` stands
-/// there, and an array of char elsewhere, up to the next label. Fails where the source does not assemble, with its first fault.
+/// labels, and a line for each statement of text. For each label of data it has a variable, up to the next label: an int or an array
+/// of them where `.word` stands there, and an array of char elsewhere. Fails where the source does not assemble, with its first
+/// fault.
 pub fn symbol_file(alloc: Global, source: &str, path: &str) -> Result<SymbolFile, AsmFault> {
     let (image, listing) = assemble(alloc, source)?;
     let lines = lines(alloc, source)?;

@@ -70,9 +70,12 @@ impl Recorder {
     /// instructions each. The trace of a process that a fork made begins with its parent's up to then, and a 0. A trace only grows at
     /// its end. So a debugger that has the replies so far goes on with those that are taken, and what it reached before stays.
     ///
-    /// Refused: NoProcess, where there is no such process and none runs on; Lent, where no process is lendable while one is out on
-    /// loan elsewhere; Budget, where the process has no room for as many instructions, or the history for events; DiskFailed, where a
-    /// write of the disk had failed before; OutOfMemory. What ran stays, and no reply is taken.
+    /// Refused, where what ran stays, and no reply is taken:
+    /// - NoProcess: there is no such process, and none runs on;
+    /// - Lent: no process is lendable while one is out on loan elsewhere;
+    /// - Budget: the process has no room for as many instructions, or the history for events;
+    /// - DiskFailed: a write of the disk had failed before;
+    /// - OutOfMemory.
     pub fn more(&mut self, loans: u32) -> Result<Recorded, Refused>
         ensures finds { IfOk result (λ recorded. Finds self.old.taken self.new recorded) }
         ensures going { IfOk result (λ recorded. recorded ≡ Going → length self.old.kernel.history + loans ≤ length self.new.kernel.history) }
