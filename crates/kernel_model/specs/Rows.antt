@@ -324,6 +324,8 @@ seek_to files None fd offset = failure bad_descriptor
 abbrev pub row_seek : Numbered → Option Descriptor → ℕ → ℕ → Effect
 row_seek files d fd offset = looking_at d (seek_to files d fd offset)
 
+-- ---- open, and the names of files
+
 -- the least free descriptor
 abbrev pub free_descriptor : List (Option Descriptor) → Option ℕ
 free_descriptor ds = position is_none ds
@@ -337,8 +339,6 @@ pub record Directory : Type 0 where
 -- the names of the files
 abbrev pub names_of : List NamedFile → List (List ℕ)
 names_of files = map (λ f. f.name) files
-
--- ---- open, and the names of files
 
 -- what the names of these files tell
 abbrev pub directory : Numbered → Directory
