@@ -7,9 +7,10 @@
 //! - a file without a case, and a case without lines;
 //! - another line than a comment before the first case;
 //! - a line that begins with `==` and has no title after one blank, and a title that stands twice.
-use crate::lines::{push_line, refused};
-use anyhow::{Error, anyhow, bail};
+use crate::lines::refused;
+use anyhow::{Error, bail};
 use std::alloc::{AllocError, Global};
+use std::io;
 
 /// A case: its title, and the lines after it.
 #[derive(Clone, Copy)]
@@ -85,25 +86,25 @@ fn cases_of(alloc: Global, text: &str) -> Result<Vec<Case<'_>>, Error> {
     Ok(cases)
 }
 
-/// Adds a line for each title in which this text stands.
-fn push_titles(out: &mut String, cases: &[Case<'_>], text: &str) -> Result<(), Error> {
+/// Whether this text stands in the title of a case.
+fn is_near(cases: &[Case<'_>], text: &str) -> bool {
     for case in cases {
         if case.title.contains(text) {
-            push_line(out, case.title)?;
+            return true;
+        }
+    }
+    false
+}
+
+/// Lists the cases of a file on standard error, by the words that name them.
+fn list_cases<R: Eprint>(rt: &R, file: &str, cases: &[Case<'_>], text: &str) -> io::Result<()> {
+    for case in cases {
+        let title = case.title;
+        if title.contains(text) {
+            eprintln!(rt; "{file}:{title}")?;
         }
     }
     Ok(())
-}
-
-/// Why no case is chosen by a title: those in which it stands, or all where there is none.
-fn no_case(alloc: Global, cases: &[Case<'_>], title: &str) -> Result<Error, Error> {
-    let mut titles = String::new(alloc);
-    push_titles(&mut titles, cases, title)?;
-    if titles.is_empty() {
-        push_titles(&mut titles, cases, "")?;
-    }
-    let titles = titles.as_str();
-    Ok(anyhow!("no case has the title '{title}'; titles are\n{titles}"))
 }
 
 /// What a word names: a file of cases, and one of its cases by its title, or all.
@@ -128,16 +129,27 @@ impl<'a> Choice<'a> {
         }
     }
 
-    /// The chosen cases, of which there is one at least; the text is the file's.
-    pub fn cases<'t>(&self, alloc: Global, text: &'t str) -> Result<Vec<Case<'t>>, Error> {
-        let cases = cases_of(alloc, text)?;
+    /// The chosen cases, of which there is one at least; the text is the file's. Where no case has the title, standard error lists
+    /// those in whose titles it stands, or all.
+    pub fn cases<'t, R: AllocGlobal + Eprint>(
+        &self,
+        rt: &R,
+        text: &'t str,
+    ) -> Result<Vec<Case<'t>>, Error> {
+        let cases = cases_of(rt.alloc(), text)?;
         let Some(title) = self.title else {
             return Ok(cases);
         };
-        match find(cases.as_slice(), title) {
-            Some(case) => Ok(vec![in alloc; case]?),
-            None => Err(no_case(alloc, cases.as_slice(), title)?),
+        if let Some(case) = find(cases.as_slice(), title) {
+            return Ok(vec![in rt.alloc(); case]?);
         }
+        let near = if is_near(cases.as_slice(), title) {
+            title
+        } else {
+            ""
+        };
+        list_cases(rt, self.file, cases.as_slice(), near)?;
+        bail!("no case has this title; those above have others")
     }
 
     /// The line that is printed where no chosen case failed. Refused where some did.

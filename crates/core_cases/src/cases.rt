@@ -61,7 +61,7 @@ use simdisk::DiskRefusal;
 use std::alloc::Global;
 use std::fmt::Debug;
 use std::rt::Files;
-use std::{fs, mem};
+use std::{fs, io, mem};
 
 /// The word at this place of a command, an empty one where there is none.
 fn word(command: &str, place: usize) -> &str {
@@ -483,22 +483,28 @@ impl Case {
     }
 
     /// Runs a line. Refused where it comes to something else than what is wanted.
-    fn check<R: Files + AllocGlobal>(&mut self, rt: &R, line: &str) -> Result<(), Error> {
+    fn check<R: Files + AllocGlobal + Eprint>(&mut self, rt: &R, line: &str) -> Result<(), Error> {
         let (command, wanted) = parts_of(line);
         if command.is_empty() {
             return Ok(());
         }
         let answer = self.answer(rt, command)?;
-        compare(command, wanted, answer.as_str())
+        compare(rt, command, wanted, answer.as_str())
     }
 }
 
+/// An answer may be longer than the text of an error.
+fn tell<R: Eprint>(rt: &R, command: &str, wanted: &str, answer: &str) -> io::Result<()> {
+    eprintln!(rt; "{command} => {wanted}\nit comes to: {answer}")
+}
+
 /// Refuses an answer that is not the one that is wanted, and says what it is.
-fn compare(command: &str, wanted: &str, answer: &str) -> Result<(), Error> {
+fn compare<R: Eprint>(rt: &R, command: &str, wanted: &str, answer: &str) -> Result<(), Error> {
     if answer == wanted {
         return Ok(());
     }
-    bail!("{command} => {wanted}\nit comes to: {answer}")
+    tell(rt, command, wanted, answer)?;
+    bail!("a line comes to something else")
 }
 
 /// A line without its comment and the blanks round it.
@@ -516,7 +522,7 @@ fn parts_of(line: &str) -> (&str, &str) {
 }
 
 /// Runs the lines of a case, up to the first that comes to something else than what is wanted.
-fn run_case<R: Files + AllocGlobal>(rt: &R, lines: &str) -> Result<(), Error> {
+fn run_case<R: Files + AllocGlobal + Eprint>(rt: &R, lines: &str) -> Result<(), Error> {
     let mut case = Case::new(rt.alloc())?;
     for line in lines.lines() {
         case.check(rt, line)?;
@@ -533,7 +539,7 @@ pub fn check_file<R: Files + AllocGlobal + Eprint>(
     let file = choice.file;
     let text = fs::read_to_string(rt, file)?;
     let mut failed = 0usize;
-    for case in choice.cases(rt.alloc(), text.as_str())? {
+    for case in choice.cases(rt, text.as_str())? {
         if let Err(error) = run_case(rt, case.lines) {
             let title = case.title;
             eprintln!(rt; "{file}:{title}: {error}")?;

@@ -30,7 +30,7 @@ pub fn check_file<R: Files<File = File> + AllocGlobal + Eprint + Threads + Wait 
     let file = choice.file;
     let text = fs::read_to_string(rt, file)?;
     let mut failed = 0usize;
-    for case in choice.cases(rt.alloc(), text.as_str())? {
+    for case in choice.cases(rt, text.as_str())? {
         if let Err(error) = check_case(rt, file, case.lines) {
             let title = case.title;
             eprintln!(rt; "{file}:{title}: {error}")?;
