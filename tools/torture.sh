@@ -63,7 +63,7 @@ build() {
     at=$1 test=$2 level=$3
     source=$tests/$test.c
     mkdir -p "$at"
-    flags=$(sed -n 's/.*{ *dg-options *"\([^"]*\)" *}.*/\1/p; s/.*{ *dg-additional-options *"\([^"]*\)" *}.*/\1/p' "$source" | tr '\n' ' ')
+    flags=$(sed -n 's/.*{ *dg-options *{\{0,1\} *"\([^"]*\)" *}.*/\1/p; s/.*{ *dg-additional-options *"\([^"]*\)" *}.*/\1/p' "$source" | tr '\n' ' ')
     # shellcheck disable=SC2086
     if link_stock "$at/linux" "$source" $level $flags -DCALL_EXIT=93 -DCALL_WRITE=64 -DCALL_READ=63 2>"$at/linux.why"; then
         status=0
@@ -159,7 +159,7 @@ tests=${TESTS:-}
 if [ -z "$tests" ]; then
     archive=$(ls /usr/src/gcc-12/gcc-12*.tar.xz 2>/dev/null | head -n 1)
     [ -n "$archive" ] || { echo 'torture.sh: the package gcc-12-source is not there' >&2; exit 1; }
-    tar -xf "$archive" -C "$room" --wildcards '*/gcc.c-torture/execute/*.c'
+    tar -xf "$archive" -C "$room" --wildcards '*/gcc.c-torture/execute/*.[ch]'
     tests=$(echo "$room"/*/gcc/testsuite/gcc.c-torture/execute)
 fi
 # Room for the data of the one thread, which the linker's own script does not give.

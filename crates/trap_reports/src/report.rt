@@ -13,6 +13,12 @@ use machine::Machine;
 use machine_model::{Cause, Stop};
 use std::fmt;
 
+/// Below the stack no segment may stand, from here on.
+const BELOW_STACK: u32 = 0x7FFF_0000;
+
+/// The lowest address of the stack.
+const STACK: u32 = 0x7FFF_C000;
+
 /// A trap: its cause, where the machine stands, and what it is about. It prints as one line.
 #[derive(Clone, Copy, Debug)]
 pub struct TrapReport {
@@ -78,10 +84,19 @@ pub fn trap_report(machine: &Machine) -> Option<TrapReport>
     }
 }
 
+/// Writes what is at the address of a load or a store. Directly below the stack that is where a stack without room goes on.
+fn write_place<W: fmt::Write>(at: u32, there: There, f: &mut fmt::Formatter<W>) -> fmt::Result {
+    write!(f, ", address {at:08x}, {there}")?;
+    if at >= BELOW_STACK && at < STACK {
+        f.write_str("; the stack of 16384 bytes is used up")?;
+    }
+    Ok(())
+}
+
 /// Writes what a trap is about, after its pc.
 fn write_about<W: fmt::Write>(report: &TrapReport, f: &mut fmt::Formatter<W>) -> fmt::Result {
     match (report.cause, report.named, report.word) {
-        (Cause::PageFault, Some((at, there)), _) => write!(f, ", address {at:08x}, {there}"),
+        (Cause::PageFault, Some((at, there)), _) => write_place(at, there, f),
         (Cause::MisalignedData, Some((at, _)), _) => {
             write!(
                 f,
