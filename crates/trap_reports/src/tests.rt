@@ -48,11 +48,11 @@ fn traps_are_reported(rt: HostRuntime) -> Result<(), Fail> {
         let came = line(rt.alloc(), &[word])?;
         assert_eq!(rt; came.as_str(), wanted);
     }
-    // lui a0,0x7fffc and sw a0,-4(a0)
-    let came = line(rt.alloc(), &[0x7fff_c537, 0xfea5_2e23])?;
+    // lui sp,0x7fffb and sw sp,12(sp)
+    let came = line(rt.alloc(), &[0x7fff_b137, 0x0021_2623])?;
     assert_eq!(rt;
         came.as_str(),
-        "trap 4 PageFault at pc 00010004, address 7fffbffc, where no page is; the stack of 16384 bytes is used up"
+        "trap 4 PageFault at pc 00010004, address 7fffb00c, where no page is; sp is 7fffb000, below the stack of 16384 bytes"
     );
     // auipc a0,0 and sw a0,0(a0)
     let came = line(rt.alloc(), &[0x0000_0517, 0x00a5_2023])?;
