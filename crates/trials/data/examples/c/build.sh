@@ -22,17 +22,13 @@ refuse() {
 }
 
 here=$(dirname "$0")
-libc=no
-if [ "${1-}" = --picolibc ]; then
-    libc=yes
-    shift
-fi
 [ $# -ge 2 ] || usage
 for image; do :; done
-sources=0
+sources=0 libc=no
 for word; do
     case $word in
         --help | -h) usage ;;
+        --picolibc) libc=yes ;;
         -o) refuse "-o is not taken: the last word is the image" ;;
         -c | -S | -E) refuse "$word is not taken: it makes no program" ;;
     esac
@@ -85,7 +81,7 @@ while [ $rest -gt 0 ]; do
     word=$1
     shift
     rest=$((rest - 1))
-    [ $rest -eq 0 ] || set -- "$@" "$word"
+    [ $rest -eq 0 ] || [ "$word" = --picolibc ] || set -- "$@" "$word"
 done
 $CC -march=rv32im -mabi=ilp32 -mstrict-align -O2 -ftls-model=local-exec -ffunction-sections -fdata-sections -fno-pic $before \
     -static -nostdlib $linker -Wl,--gc-sections -Wl,--orphan-handling=error -T "$here/image.ld" -I "$here" \
@@ -94,7 +90,7 @@ $CC -march=rv32im -mabi=ilp32 -mstrict-align -O2 -ftls-model=local-exec -ffuncti
         # What only a C library has: a header, but those that each compiler brings, or -lm.
         case " $* " in *' -l'*) wants=yes ;; *) wants=no ;; esac
         ! grep -hs -e '^ *# *include *<' -- "$@" | grep -qv -e '<std\(int\|def\|arg\|bool\)\.h>' -e '<limits\.h>' || wants=yes
-        [ $wants = no ] || echo "build.sh: a C library, as stdio.h and -lm have it, comes by --picolibc as the first word" >&2
+        [ $wants = no ] || echo "build.sh: a C library, as stdio.h and -lm have it, comes by --picolibc" >&2
     fi
     exit 1
 }
