@@ -4,8 +4,10 @@
     check-pages [--comments] [FILE..]
 
 A page is README.md, CHANGES.md or a file docs/*.md. Of each it finds links to files that are not there, links to anchors that no
-heading has, and sentences of more than 35 words. Of docs/TEACHING.md it also finds blocks of text that no case has. With --comments it also finds such sentences in the comments `//!` and `///` of
-crates/*/src. With file names, it checks these alone: pages, and comments of files `.rt`.
+heading has, and sentences of more than 35 words. Of the pages that show the commands it also finds blocks ```text that no case of
+crates/test_runner/data/*.sessions has, and no example: what is shown there is what the merge gate compares. A form, with words that stand
+for others, is in a plain block. With --comments it also finds such sentences in the comments `//!` and `///` of crates/*/src. With
+file names, it checks these alone: pages, and comments of files `.rt`.
 
 It prints a line for each finding, `FILE:LINE: what`, and ends with status 1 where it found something.
 
@@ -20,8 +22,10 @@ import sys
 import urllib.parse
 
 MOST_WORDS = 35
-# The pages whose blocks of text stand in cases, each with the file of these.
-CASES_OF = {"docs/TEACHING.md": "crates/test_runner/data/teaching.sessions"}
+# The pages whose blocks of text stand in cases or examples.
+SHOWING = ("README.md", *(f"docs/{it}.md" for it in ("ABI", "CALLS", "CRASHES", "DEBUGGER", "IMAGES", "SCRIPTS", "SOURCES", "TEACHING")))
+CASES = "crates/test_runner/data/*.sessions"
+EXAMPLES = "crates/test_runner/data/examples/*.[sf]*"
 
 FENCE = re.compile(r"\s*(```+|~~~+)")
 HEADING = re.compile(r" {0,3}#{1,6}\s+(.*?)(?:\s+#+)?\s*$")
@@ -152,15 +156,26 @@ def texts_of(lines):
 
 
 def is_in_cases(text, cases):
-    """Whether a text stands in cases, as what is printed, said or kept in a file. Its lines that begin with `>` are input."""
+    """Whether a text stands in cases, as what is read, printed, said or kept in a file. Its lines that begin with `>` are input."""
     typed = [line[2:] for line in text if line.startswith("> ")]
     shown = [line for line in text if not line.startswith("> ")]
-    forms = (
+    forms = [
         "".join(f"> {line}\n" for line in shown),
+        "".join(f"< {line}\n" for line in shown),
         "".join(f"| {line}".rstrip() + "\n" for line in shown),
-        "! 0 " + "\n!! ".join(shown) + "\n",
-    )
+        "".join(f"!! {line}\n" for line in shown),
+    ]
+    forms += [f"! {status} " + "\n!! ".join(shown) + "\n" for status in range(8)]
     return any(form in cases for form in forms) and all(f"< {line}\n" in cases for line in typed)
+
+
+def content_of(pattern):
+    """Returns what the files of a pattern hold, one after another."""
+    content = ""
+    for path in sorted(glob.glob(pattern)):
+        with open(path, encoding="utf-8") as file:
+            content += file.read()
+    return content
 
 
 def numbered_lines(path):
@@ -204,11 +219,10 @@ class Pages:
             fault = self.fault_of(page, target)
             if fault:
                 yield line, fault
-        if page in CASES_OF:
-            with open(CASES_OF[page], encoding="utf-8") as file:
-                cases = file.read()
+        if page in SHOWING:
+            cases, examples = content_of(CASES), content_of(EXAMPLES)
             for line, text in texts_of(numbered_lines(page)):
-                if not is_in_cases(text, cases):
+                if not is_in_cases(text, cases) and "\n".join(text) not in examples:
                     yield line, "a text that no case has"
 
 

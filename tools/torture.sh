@@ -8,26 +8,32 @@
 set -eu
 usage() {
     cat >&2 <<'END'
-usage: tools/torture.sh [--bench PROGRAM] [--sample N] [--seed S] [--levels WORDS] [--jobs J] [TEST..]
+usage: tools/torture.sh [--bench PROGRAM] [--sample N] [--seed S] [--levels WORDS] [--jobs J] [--keep FOLDER] [TEST..]
   --bench PROGRAM  the program, crates/bench/out/bench if it is not given
   --sample N       so many tests, picked by the seed; all if it is not given
   --seed S         which ones, 1 if it is not given
   --levels WORDS   the compiler's levels, '-O0 -O2' if they are not given
   --jobs J         how many run at a time, 2 if it is not given
-  TEST             only these tests, by name, as 20000112-1
+  --keep FOLDER    what is built, and what qemu-riscv32 gave, stands in FOLDER; what is there already is not built again
+  TEST             only these tests, by name, as 20000112-1 or ieee/pr30704
 
 example: tools/torture.sh --sample 300 --seed 7
 END
     exit 2
 }
 
-# Why a test may end otherwise on bench: a limit of bench's, and no fault.
+# Why a test may end otherwise on bench by this verdict: a limit of bench's, and no fault.
 reason_for() {
-    if grep -q 'trampolines' "$tests/$1.c"; then
-        echo 'code on the stack, for a nested function'
-        return
-    fi
-    case $1 in
+    case "$1: $2" in
+        # Each has a frame of 24,704 to 524,560 bytes, as -fstack-usage says; the three in the second line at -O2 too.
+        20040805-1:*': trap, '* | 920410-1:*': trap, '* | 921113-1:*': trap, '* | 921202-1:*': trap, '* | 921208-2:*': trap, '* | \
+            memcpy-1:*': trap, '* | multi-ix:*': trap, '* | pr28982b:*': trap, '* | \
+            930106-1:*': trap, '* | 980605-1:*': trap, '* | pr20621-1:*': trap, '* | pr23135:*': trap, '*)
+            echo 'a frame of over 16,384 bytes, which is the whole stack'
+            ;;
+        pr60822:*pages*) echo 'over 60 pages of data' ;;
+        return-addr:*) echo 'it prints an address of its stack' ;;
+        *': trap, '*) grep -q 'trampolines' "$tests/$1.c" && echo 'code on the stack, for a nested function' ;;
         *) return 1 ;;
     esac
 }
@@ -56,62 +62,85 @@ run_image() {
     sed -n 's/^process 1 ended /ended /p; /^process 1 [^e]/p' "$2.said" >>"$2"
 }
 
+# Builds a test with a level in a folder: by build.sh as `script`, by the linker's own script as `stock`. What it printed under
+# qemu-riscv32, and its status, is `wanted`; where a build fails its name with `.why` says why. The last file is `built`.
+build() {
+    at=$1 test=$2 level=$3
+    source=$tests/$test.c
+    mkdir -p "$at"
+    flags=$(sed -n 's/.*{ *dg-options *{\{0,1\} *"\([^"]*\)" *}.*/\1/p; s/.*{ *dg-additional-options *"\([^"]*\)" *}.*/\1/p' "$source" | tr '\n' ' ')
+    # shellcheck disable=SC2086
+    if link_stock "$at/linux" "$source" $level $flags -DCALL_EXIT=93 -DCALL_WRITE=64 -DCALL_READ=63 2>"$at/linux.why"; then
+        status=0
+        timeout 120 qemu-riscv32 "$at/linux" >"$at/wanted" 2>/dev/null || status=$?
+        # A signal is a trap; 124 is the end of patience.
+        if [ $status -ge 128 ] && [ $status -ne 134 ]; then
+            echo trap >>"$at/wanted"
+        else
+            echo "ended $status" >>"$at/wanted"
+        fi
+        CC=$CC "$examples/build.sh" --picolibc -w $level $flags "$source" -lm "$at/script" >"$at/script.why" 2>&1 || rm -f "$at/script"
+        link_stock "$at/stock" "$source" $level $flags >"$at/stock.why" 2>&1 || rm -f "$at/stock"
+    fi
+    rm -f "$at/linux"
+    : >"$at/built"
+}
+
+# Why a build failed.
+why_not() {
+    grep -m1 -E 'error|undefined|pages' "$1" || head -n1 "$1"
+}
+
+# Runs what was built by a way, and prints why that is otherwise than under qemu-riscv32.
+judge() {
+    at=$1 way=$2 image=$1/script
+    if [ ! -f "$at/$way" ]; then
+        echo "$way not built: $(why_not "$at/$way.why")"
+        return
+    fi
+    if [ "$way" = stock ]; then
+        image=$room_of_run/image
+        if ! "$bench" image "$at/stock" "$image" >"$room_of_run/why" 2>&1; then
+            echo "stock refused: $(head -n1 "$room_of_run/why")"
+            return
+        fi
+    fi
+    came=$room_of_run/came
+    run_image "$image" "$came"
+    sed -i 's/^ended 2[5-9][0-9]$/trap/' "$came"
+    cmp -s "$came" "$at/wanted" || echo "$way differs: $(tail -n1 "$came" | cut -c1-60), wanted $(tail -n1 "$at/wanted" | cut -c1-60)"
+}
+
 # What a test with a level comes to, as one line: its verdict, its name, its level.
 one() {
     test=$1 level=$2
-    source=$tests/$test.c
-    flags=$(sed -n 's/.*{ *dg-options *"\([^"]*\)" *}.*/\1/p; s/.*{ *dg-additional-options *"\([^"]*\)" *}.*/\1/p' "$source" | tr '\n' ' ')
-    at=$(mktemp -d "$room/run.XXXXXX")
-    # shellcheck disable=SC2086
-    if ! link_stock "$at/linux" "$source" $level $flags -DCALL_EXIT=93 -DCALL_WRITE=64 -DCALL_READ=63 2>"$at/why"; then
-        echo "unbuilt $test $level: $(grep -m1 -E 'error|undefined' "$at/why" || head -n1 "$at/why")"
-        rm -rf "$at"
+    at=$keep/$test$level
+    [ -f "$at/built" ] || build "$at" "$test" "$level"
+    if [ ! -f "$at/wanted" ]; then
+        echo "unbuilt $test $level: $(why_not "$at/linux.why")"
         return
     fi
-    status=0
-    timeout 120 qemu-riscv32 "$at/linux" >"$at/wanted" 2>/dev/null || status=$?
-    # A signal is a trap; 124 is the end of patience.
-    if [ $status -ge 128 ] && [ $status -ne 134 ]; then
-        echo trap >>"$at/wanted"
-    else
-        echo "ended $status" >>"$at/wanted"
-    fi
-    verdict=same
-    for way in script stock; do
-        # shellcheck disable=SC2086
-        case $way in
-            script) CC=$CC "$examples/build.sh" --picolibc -w $level $flags "$source" -lm "$at/image" >"$at/why" 2>&1 || verdict="$way not built" ;;
-            stock)
-                link_stock "$at/stock" "$source" $level $flags >"$at/why" 2>&1 || verdict="$way not built"
-                "$bench" image "$at/stock" "$at/image" >"$at/why" 2>&1 || verdict="$way refused: $(head -n1 "$at/why")"
-                ;;
-        esac
-        if [ "$verdict" = same ]; then
-            run_image "$at/image" "$at/came"
-            sed -i 's/^ended 2[5-9][0-9]$/trap/' "$at/came"
-            cmp -s "$at/came" "$at/wanted" || verdict="$way differs: $(tail -n1 "$at/came" | cut -c1-60), wanted $(tail -n1 "$at/wanted" | cut -c1-60)"
-        elif [ "$way" = script ]; then
-            verdict="$verdict: $(grep -m1 -E 'error|undefined|pages' "$at/why" || head -n1 "$at/why")"
-        fi
-        [ "$verdict" = same ] || break
-    done
-    if [ "$verdict" = same ]; then
+    room_of_run=$(mktemp -d "$room/run.XXXXXX")
+    verdict=$(judge "$at" script)
+    [ -n "$verdict" ] || verdict=$(judge "$at" stock)
+    if [ -z "$verdict" ]; then
         echo "same $test $level"
-    elif why=$(reason_for "$test"); then
+    elif why=$(reason_for "$test" "$verdict"); then
         echo "excepted $test $level: $verdict ($why)"
     else
         echo "OTHERWISE $test $level: $verdict"
     fi
-    rm -rf "$at"
+    rm -rf "$room_of_run"
+    [ "$keep" != "$room/built" ] || rm -rf "$at"
 }
 
 if [ "${1-}" = --one ]; then
-    tests=$2 room=$3 bench=$4
-    one "$5" "$6"
+    tests=$2 room=$3 bench=$4 keep=$5
+    one "$6" "$7"
     exit
 fi
 
-bench=$here/../crates/bench/out/bench sample=0 seed=1 levels='-O0 -O2' jobs=2 names=
+bench=$here/../crates/bench/out/bench sample=0 seed=1 levels='-O0 -O2' jobs=2 keep= names=
 while [ $# -gt 0 ]; do
     case $1 in
         --bench) bench=${2:?} && shift 2 ;;
@@ -119,6 +148,7 @@ while [ $# -gt 0 ]; do
         --seed) seed=${2:?} && shift 2 ;;
         --levels) levels=${2:?} && shift 2 ;;
         --jobs) jobs=${2:?} && shift 2 ;;
+        --keep) keep=${2:?} && shift 2 ;;
         -*) usage ;;
         *) names="$names $1" && shift ;;
     esac
@@ -127,11 +157,14 @@ bench=$(readlink -f "$bench")
 [ -x "$bench" ] || { echo "torture.sh: no program at $bench: build it by ./bench, or give --bench" >&2; exit 1; }
 room=$(mktemp -d)
 trap 'rm -rf "$room"' EXIT
+keep=${keep:-$room/built}
+mkdir -p "$keep"
+keep=$(readlink -f "$keep")
 tests=${TESTS:-}
 if [ -z "$tests" ]; then
     archive=$(ls /usr/src/gcc-12/gcc-12*.tar.xz 2>/dev/null | head -n 1)
     [ -n "$archive" ] || { echo 'torture.sh: the package gcc-12-source is not there' >&2; exit 1; }
-    tar -xf "$archive" -C "$room" --wildcards '*/gcc.c-torture/execute/*.c'
+    tar -xf "$archive" -C "$room" --wildcards '*/gcc.c-torture/execute/*.[ch]'
     tests=$(echo "$room"/*/gcc/testsuite/gcc.c-torture/execute)
 fi
 # Room for the data of the one thread, which the linker's own script does not give.
@@ -140,14 +173,14 @@ if [ -n "$names" ]; then
     printf '%s\n' $names
 else
     # Of all tests in an order that the seed gives the first ones.
-    (cd "$tests" && ls -- *.c) | sed 's/\.c$//' | awk -v seed="$seed" 'BEGIN { srand(seed) } { print rand() "\t" $0 }' | sort -g | cut -f 2
+    (cd "$tests" && ls -- *.c ieee/*.c) | sed 's/\.c$//' | awk -v seed="$seed" 'BEGIN { srand(seed) } { print rand() "\t" $0 }' | sort -g | cut -f 2
 fi | if [ "$sample" -gt 0 ]; then head -n "$sample"; else cat; fi >"$room/names"
 while read -r name; do
     for level in $levels; do
         printf '%s\n%s\n' "$name" "$level"
     done
 done <"$room/names" >"$room/pairs"
-xargs -d '\n' -n 2 -P "$jobs" "$here/torture.sh" --one "$tests" "$room" "$bench" <"$room/pairs" >"$room/lines"
+xargs -d '\n' -n 2 -P "$jobs" "$here/torture.sh" --one "$tests" "$room" "$bench" "$keep" <"$room/pairs" >"$room/lines"
 grep -E '^(excepted|OTHERWISE)' "$room/lines" | sort || true
 grep '^unbuilt' "$room/lines" | sort || true
 awk '{ n[$1]++ } END {

@@ -53,6 +53,25 @@ fn too_large_advice(alloc: Global) -> Result<String, AllocError> {
     )
 }
 
+/// Whether a line ends with a brace, outside comments and strings, as no line of assembly language does.
+fn ends_with_brace(line: &str) -> bool {
+    let code = line.split('#').next().unwrap_or("").trim_ascii_end();
+    !code.contains('"') && (code.ends_with('{') || code.ends_with('}'))
+}
+
+/// Whether a source is one of C.
+fn is_c(source: &str) -> bool {
+    source.lines().any(ends_with_brace)
+}
+
+/// What is said of a source that is C.
+fn c_advice(alloc: Global) -> Result<String, AllocError> {
+    String::from_str(
+        alloc,
+        "this is C; a compiler makes an image of it, as examples/c/build.sh does",
+    )
+}
+
 /// What is said of a fault at a place.
 fn advice_at(
     alloc: Global,
@@ -62,6 +81,7 @@ fn advice_at(
 ) -> Result<String, AllocError> {
     let labels = Labels::of(alloc, source)?;
     match why {
+        Cause::Syntax if is_c(source) => c_advice(alloc),
         Cause::Syntax => syntax_advice(alloc, &labels, place),
         Cause::UnknownName => unknown_advice(alloc, &labels, place.found),
         Cause::DoubleLabel => double_advice(alloc, &labels, place.found),

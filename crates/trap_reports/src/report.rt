@@ -8,10 +8,16 @@ ghost use Rattle.trap_reports.specs.Traps.{cause_in};
 
 use crate::address::named_by;
 use crate::there::There;
-use formats::decode;
+use formats::{Reg, decode};
 use machine::Machine;
 use machine_model::{Cause, Stop};
 use std::fmt;
+
+/// The number of the register sp.
+const SP: u8 = 2;
+
+/// The lowest address of the stack.
+const STACK: u32 = 0x7FFF_C000;
 
 /// A trap: its cause, where the machine stands, and what it is about. It prints as one line.
 #[derive(Clone, Copy, Debug)]
@@ -24,6 +30,8 @@ pub struct TrapReport {
     pub named: Option<(u32, There)>,
     /// What is at the pc.
     pub there: There,
+    /// The stack pointer, where it stands below the stack and no page is there.
+    pub below_stack: Option<u32>,
 }
 
 /// The four bytes at an address as a word, whatever the rights of their page.
@@ -47,6 +55,16 @@ fn named_at(machine: &Machine, word: Option<u32>) -> Option<(u32, There)>
     Some((at, There::at(machine.space(), at)))
 }
 
+/// The stack pointer, where it stands below the stack and no page is there.
+fn below_stack(machine: &Machine) -> Option<u32> {
+    let at = machine.reg(Reg::new(SP));
+    if at < STACK && machine.space().byte(at).is_none() {
+        Some(at)
+    } else {
+        None
+    }
+}
+
 /// The report of a machine that stands at a trap of this cause.
 fn report(machine: &Machine, cause: Cause) -> TrapReport
     ensures cause { result.cause ≡ cause }
@@ -62,6 +80,7 @@ fn report(machine: &Machine, cause: Cause) -> TrapReport
         word,
         named: named_at(machine, word),
         there: There::at(machine.space(), pc),
+        below_stack: below_stack(machine),
     }
 }
 
@@ -78,10 +97,26 @@ pub fn trap_report(machine: &Machine) -> Option<TrapReport>
     }
 }
 
+/// Writes what is at the address of a load or a store, and whether the stack pointer has left the stack.
+fn write_place<W: fmt::Write>(
+    at: u32,
+    there: There,
+    below_stack: Option<u32>,
+    f: &mut fmt::Formatter<W>,
+) -> fmt::Result {
+    write!(f, ", address {at:08x}, {there}")?;
+    match below_stack {
+        Some(sp) if there == There::NoPage => {
+            write!(f, "; sp is {sp:08x}, below the stack of 16384 bytes")
+        }
+        _ => Ok(()),
+    }
+}
+
 /// Writes what a trap is about, after its pc.
 fn write_about<W: fmt::Write>(report: &TrapReport, f: &mut fmt::Formatter<W>) -> fmt::Result {
     match (report.cause, report.named, report.word) {
-        (Cause::PageFault, Some((at, there)), _) => write!(f, ", address {at:08x}, {there}"),
+        (Cause::PageFault, Some((at, there)), _) => write_place(at, there, report.below_stack, f),
         (Cause::MisalignedData, Some((at, _)), _) => {
             write!(
                 f,

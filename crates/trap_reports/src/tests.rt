@@ -48,6 +48,12 @@ fn traps_are_reported(rt: HostRuntime) -> Result<(), Fail> {
         let came = line(rt.alloc(), &[word])?;
         assert_eq!(rt; came.as_str(), wanted);
     }
+    // lui sp,0x7fffb and sw sp,12(sp)
+    let came = line(rt.alloc(), &[0x7fff_b137, 0x0021_2623])?;
+    assert_eq!(rt;
+        came.as_str(),
+        "trap 4 PageFault at pc 00010004, address 7fffb00c, where no page is; sp is 7fffb000, below the stack of 16384 bytes"
+    );
     // auipc a0,0 and sw a0,0(a0)
     let came = line(rt.alloc(), &[0x0000_0517, 0x00a5_2023])?;
     assert_eq!(rt;

@@ -22,23 +22,23 @@ refuse() {
 }
 
 here=$(dirname "$0")
-libc=no
-if [ "${1-}" = --picolibc ]; then
-    libc=yes
-    shift
-fi
 [ $# -ge 2 ] || usage
 for image; do :; done
-sources=0
+sources=0 libc=no
 for word; do
     case $word in
         --help | -h) usage ;;
+        --picolibc) libc=yes ;;
+        -o) refuse "-o is not taken: the last word is the image" ;;
+        -c | -S | -E) refuse "$word is not taken: it makes no program" ;;
     esac
 done
 case $image in
     -* | '') refuse "the last word names no image" ;;
     *.c | *.s | *.S | *.h | *.o | *.a | *.ld | *.sh) refuse "$image has the name of a source: the last word is the image" ;;
 esac
+[ ! -d "$image" ] || refuse "$image is a folder"
+[ -d "$(dirname "$image")" ] || refuse "the folder of $image is not there"
 count=$#
 for word; do
     count=$((count - 1))
@@ -46,6 +46,7 @@ for word; do
     case $word in
         -*) ;;
         *)
+            [ ! -d "$word" ] || refuse "$word is a folder"
             [ -f "$word" ] || refuse "$word is not there"
             [ ! "$word" -ef "$image" ] || refuse "$image is a source"
             sources=$((sources + 1))
@@ -59,6 +60,9 @@ case $CC in
     *clang*) OBJCOPY=${OBJCOPY:-llvm-objcopy} linker=-fuse-ld=lld ;;
     *) OBJCOPY=${OBJCOPY:-riscv64-unknown-elf-objcopy} linker=-Wl,--no-warn-rwx-segments ;;
 esac
+for program in "${CC%% *}" "$OBJCOPY"; do
+    command -v "$program" >/dev/null || refuse "$program is not there: Debian has gcc-riscv64-unknown-elf, clang, lld and llvm"
+done
 # Helpers of the compiler, as a division of 64 bits: GCC's, also for clang.
 helpers=$(riscv64-unknown-elf-gcc -march=rv32im -mabi=ilp32 -print-libgcc-file-name 2>/dev/null || true)
 pico=${PICOLIBC:-/usr/lib/picolibc/riscv64-unknown-elf}
@@ -77,12 +81,17 @@ while [ $rest -gt 0 ]; do
     word=$1
     shift
     rest=$((rest - 1))
-    [ $rest -eq 0 ] || set -- "$@" "$word"
+    [ $rest -eq 0 ] || [ "$word" = --picolibc ] || set -- "$@" "$word"
 done
 $CC -march=rv32im -mabi=ilp32 -mstrict-align -O2 -ftls-model=local-exec -ffunction-sections -fdata-sections -fno-pic $before \
     -static -nostdlib $linker -Wl,--gc-sections -Wl,--orphan-handling=error -T "$here/image.ld" -I "$here" \
     "$here/start.s" "$@" "$library" $after -o "$linked" || {
-    [ $libc = yes ] || ! grep -qs -e '^ *# *include *<' -- "$@" || echo "build.sh: a C library, as stdio.h has, comes by --picolibc as the first word" >&2
+    if [ $libc = no ]; then
+        # What only a C library has: a header, but those that each compiler brings, or -lm.
+        case " $* " in *' -l'*) wants=yes ;; *) wants=no ;; esac
+        ! grep -hs -e '^ *# *include *<' -- "$@" | grep -qv -e '<std\(int\|def\|arg\|bool\)\.h>' -e '<limits\.h>' || wants=yes
+        [ $wants = no ] || echo "build.sh: a C library, as stdio.h and -lm have it, comes by --picolibc" >&2
+    fi
     exit 1
 }
 $OBJCOPY -O binary "$linked" "$image"

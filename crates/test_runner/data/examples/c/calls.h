@@ -11,7 +11,7 @@ enum { CALL_EXIT = 1, CALL_WRITE = 2, CALL_READ = 3 };
 #endif
 
 /* A call: the number in a7, the arguments in a0 to a2, the reply in a0. */
-static inline int call(int number, int first, int second, int third)
+static __inline__ int call(int number, int first, int second, int third)
 {
     register int a0 __asm__("a0") = first;
     register int a1 __asm__("a1") = second;
@@ -22,7 +22,7 @@ static inline int call(int number, int first, int second, int third)
 }
 
 /* How many bytes stand before the first 0. */
-static inline int length_of(const char *text)
+static __inline__ int length_of(const char *text)
 {
     int n = 0;
     while (text[n])
@@ -31,76 +31,76 @@ static inline int length_of(const char *text)
 }
 
 /* Ends the process with a status, modulo 256. */
-static inline __attribute__((noreturn)) void sys_exit(int status)
+static __inline__ __attribute__((noreturn)) void sys_exit(int status)
 {
     for (;;)
         call(CALL_EXIT, status, 0, 0);
 }
 
 /* Writes n bytes, at most 1,024; answers how many were written. */
-static inline int sys_write(int descriptor, const void *bytes, int n)
+static __inline__ int sys_write(int descriptor, const void *bytes, int n)
 {
     return call(CALL_WRITE, descriptor, (int)bytes, n);
 }
 
 /* Reads up to n bytes, at most 1,024; answers how many, and 0 at the end. */
-static inline int sys_read(int descriptor, void *bytes, int n)
+static __inline__ int sys_read(int descriptor, void *bytes, int n)
 {
     return call(CALL_READ, descriptor, (int)bytes, n);
 }
 
 /* Opens a file; answers its descriptor. */
-static inline int sys_open(const char *name, int mode)
+static __inline__ int sys_open(const char *name, int mode)
 {
     return call(4, (int)name, length_of(name), mode);
 }
 
-static inline int sys_close(int descriptor)
+static __inline__ int sys_close(int descriptor)
 {
     return call(5, descriptor, 0, 0);
 }
 
 /* Makes a pipe: ends[0] is to be read, ends[1] to be written. */
-static inline int sys_pipe(int ends[2])
+static __inline__ int sys_pipe(int ends[2])
 {
     return call(6, (int)ends, 0, 0);
 }
 
 /* Answers the child's number, and 0 in the child. */
-static inline int sys_fork(void)
+static __inline__ int sys_fork(void)
 {
     return call(7, 0, 0, 0);
 }
 
 /* Waits for a child that has ended; answers its number. The status may be left out, by 0. */
-static inline int sys_wait(int *status)
+static __inline__ int sys_wait(int *status)
 {
     return call(8, (int)status, 0, 0);
 }
 
-static inline int sys_getpid(void)
+static __inline__ int sys_getpid(void)
 {
     return call(9, 0, 0, 0);
 }
 
 /* Sets the place at which a file is read or written next. */
-static inline int sys_seek(int descriptor, int offset)
+static __inline__ int sys_seek(int descriptor, int offset)
 {
     return call(10, descriptor, offset, 0);
 }
 
-static inline int sys_sync(void)
+static __inline__ int sys_sync(void)
 {
     return call(11, 0, 0, 0);
 }
 
-static inline int sys_unlink(const char *name)
+static __inline__ int sys_unlink(const char *name)
 {
     return call(12, (int)name, length_of(name), 0);
 }
 
 /* Gives the file of the first name the second one, whose file loses it. */
-static inline int sys_rename(const char *from, const char *to)
+static __inline__ int sys_rename(const char *from, const char *to)
 {
     char names[2 * LONGEST_NAME];
     int n = length_of(from), m = length_of(to), i;
@@ -114,7 +114,7 @@ static inline int sys_rename(const char *from, const char *to)
 }
 
 /* Goes on in the program of a file; comes back only with an error. */
-static inline int sys_exec(const char *name)
+static __inline__ int sys_exec(const char *name)
 {
     return call(14, (int)name, length_of(name), 0);
 }

@@ -6,7 +6,7 @@
 
 typedef __SIZE_TYPE__ size;
 
-WEAK void *memcpy(void *restrict to, const void *restrict from, size n)
+WEAK void *memcpy(void *__restrict__ to, const void *__restrict__ from, size n)
 {
     char *t = to;
     const char *f = from;
