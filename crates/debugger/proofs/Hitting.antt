@@ -22,7 +22,7 @@ pub last_hit-zero : (breaks : List (Option ℕ)) (t : Traced) (from : ℕ) → l
 unfolding last_hit
 last_hit-zero breaks t from = refl
 
-last_hit-suc : (breaks : List (Option ℕ)) (t : Traced) (from n : ℕ) → last_hit breaks t from (suc n) ≡ option_or (hit_with (from + n) (least_from 0 breaks (along n t).state.hart.pc)) (last_hit breaks t from n)
+pub last_hit-suc : (breaks : List (Option ℕ)) (t : Traced) (from n : ℕ) → last_hit breaks t from (suc n) ≡ option_or (hit_with (from + n) (least_from 0 breaks (along n t).state.hart.pc)) (last_hit breaks t from n)
 unfolding last_hit
 last_hit-suc breaks t from n = refl
 

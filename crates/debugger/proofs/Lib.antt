@@ -1,6 +1,7 @@
 -- The proofs.
 pub mod Along
 pub mod Arriving
+pub mod Unbroken
 pub mod Hitting
 pub mod Holding
 pub mod Least

@@ -10,3 +10,4 @@ pub mod Keeping
 pub mod Backward
 pub mod Hits
 pub mod Accesses
+pub mod Coasts

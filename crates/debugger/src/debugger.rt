@@ -1,7 +1,8 @@
 //! The debugger.
-ghost use Rattle.std.specs.Prelude.{◌≡◌, ◌≢◌, ℕ, [], ◌∷◌, ◌++◌, ◌+◌, ◌-◌, ◌*◌, ◌/◌, ◌%◌, ◌^◌, ◌<◌, ◌≤◌, Ok, None, Some, IfOk, IfErr, OnOk, OnErr, IsTrue, ◌↔◌};
+ghost use Rattle.std.specs.Prelude.{◌≡◌, ◌≢◌, ℕ, [], ◌∷◌, ◌++◌, ◌+◌, ◌-◌, ◌*◌, ◌/◌, ◌%◌, ◌^◌, ◌<◌, ◌≤◌, Ok, None, Some, IfSome, IfOk, IfErr, OnOk, OnErr, IsTrue, ◌↔◌};
 ghost use Rattle.std.specs.Option.{option_or};
 ghost use Rattle.debugger.specs.Accesses.{LeavesOutside, next_access_of};
+ghost use Rattle.debugger.specs.Coasts.{Coasts, HasAll};
 ghost use Rattle.debugger.specs.Edits.{Changes};
 ghost use Rattle.debugger.specs.Hits.{last_below};
 ghost use Rattle.debugger.specs.Keeping.{Advances};
@@ -11,7 +12,7 @@ ghost use Rattle.debugger.specs.declared.fault.DebugFault.TheVariants.{BreakTabl
 ghost use Rattle.debugger.specs.declared.stops.Stepped.TheVariants.{Went};
 
 use crate::access::Access;
-use crate::breakpoints::least_at;
+use crate::breakpoints::{addresses_of, least_at};
 use crate::fault::DebugFault;
 use crate::halt::Halt;
 use crate::hits::Hit;
@@ -233,18 +234,25 @@ impl Debugger {
         self.breaks.is_empty()
     }
 
-    /// How many instructions may be done before the breakpoints are looked at, up to a count: one where some are set.
-    pub(crate) fn stretch(&self, limit: u64) -> u64
-        requires { self.now.count < limit }
-        ensures some { 0 < result }
-        ensures within { self.now.count + result ≤ limit }
-        ensures unbroken { result ≢ 1 → (address : ℕ) → least_from 0 self.now.breaks address ≡ None }
+    /// The addresses of the breakpoints. None where memory is short.
+    pub(crate) fn stops(&self) -> Option<Vec<u32>>
+        ensures { IfSome result (λ stops. HasAll self.now.breaks stops.items) }
     {
-        if self.breaks.is_empty() {
-            limit - self.place.machine.count()
-        } else {
-            1
-        }
+        addresses_of(self.alloc, &self.breaks).ok()
+    }
+
+    /// Goes on by the machine alone, up to a count at most, and up to one of these addresses. It does not go to a count at which a
+    /// state is kept: that is left to `go`, as calls are.
+    pub(crate) fn coast(&mut self, stops: &[u32], limit: u64)
+        requires all { HasAll self.old.breaks stops.now }
+        requires ahead { self.old.count ≤ limit }
+        requires budget { limit ≤ 2 ^ 40 }
+        ensures { Coasts self.old limit self.new }
+    {
+        let count = self.place.machine.count();
+        let room = SPAN * self.kept.len() as u64 - 1 - count;
+        let few = (limit - count).min(room).min(u64::from(u32::MAX)) as u32;
+        self.place.coast(self.alloc, stops, few);
     }
 
     /// Goes on by at most `max` instructions, and at least one where nothing keeps the machine from going on. Refused, with nothing

@@ -5,7 +5,7 @@ ghost use Rattle.debugger.specs.Stops.{least_from};
 ghost use Rattle.debugger.specs.Traces.{along, halt_of, next_of};
 ghost use Rattle.debugger.specs.Ways.{traced_at};
 
-use crate::breakpoints::least_at;
+use crate::breakpoints::{addresses_of, least_at};
 use crate::place::Place;
 use machine::Reply;
 use slab::Slab;
@@ -45,10 +45,13 @@ impl Place {
         requires onward { (n : ℕ) → self.old.machine.count + n < end → halt_of (next_of (along n (traced_at replies.now self.old))) ≡ None }
         ensures { IfOk result (λ hit. hit ≡ last_hit_of breaks.now.slots (traced_at replies.now self.old) self.old.machine.count (end - self.old.machine.count)) }
     {
+        let stops = addresses_of(alloc, breaks)?;
         let mut last = None;
         while self.machine.count() < end {
             last = self.hit(breaks).or(last);
             let _ = self.advance(alloc, replies, 1)?;
+            let rest = end.saturating_sub(self.machine.count()).min(1023) as u32;
+            self.coast(alloc, stops.as_slice(), rest);
         }
         Ok(last)
     }

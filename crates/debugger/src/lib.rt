@@ -5,6 +5,7 @@
 mod access;
 mod backward;
 mod breakpoints;
+mod coasting;
 mod debugger;
 mod fault;
 mod halt;

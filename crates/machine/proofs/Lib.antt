@@ -2,3 +2,4 @@
 pub mod Limits
 pub mod Pages
 pub mod Loaded
+pub mod Readying

@@ -6,6 +6,7 @@ mod kept;
 mod laws;
 mod loading;
 mod machine;
+mod stopping;
 
 pub use kept::KeptMachine;
 pub use laws::segments_are_loaded;

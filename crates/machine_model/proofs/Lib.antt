@@ -1,5 +1,6 @@
 pub mod Lists
 pub mod Running
+pub mod Stopping
 pub mod Halting
 pub mod Stepping
 pub mod Words

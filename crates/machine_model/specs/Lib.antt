@@ -1,6 +1,7 @@
 pub mod Arithmetic
 pub mod Effects
 pub mod States
+pub mod Stopping
 pub mod Images
 pub mod First
 pub mod Replies
