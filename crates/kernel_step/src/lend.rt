@@ -13,7 +13,7 @@ use crate::running::Running;
 use crate::task::{LIMIT, Task};
 use crate::whereabouts::Whereabouts;
 use kernel_model::Refused;
-use std::alloc::{AllocError, Global};
+use std::alloc::Global;
 use std::mem;
 use std::sync::Arc;
 
@@ -59,8 +59,8 @@ fn next_lendable(tasks: &[Task], from: usize, served: u64, quantum: u32) -> Opti
     }
 }
 
-/// Lends a process: its machine leaves. A copy stays, which the loan shares, and which tells from which state it ran. Where memory
-/// runs out nothing has changed.
+/// Lends a process: its machine leaves, to be copied by whoever runs it. The state from which it runs stays, which the loan shares.
+/// Where memory runs out nothing has changed.
 fn lend_task(alloc: Global, task: &mut Task, quantum: u32) -> Result<Loan, Refused>
     requires here { out_of task.old ≡ None }
     requires room { (machine_of task.old).count + quantum < 2 ^ 40 }
@@ -71,8 +71,10 @@ fn lend_task(alloc: Global, task: &mut Task, quantum: u32) -> Result<Loan, Refus
     ensures same { OnErr result (task.new ≡ task.old) }
 {
     let number = task.loans + 1;
-    let copy = task.machine().still(alloc)?;
-    let began = Arc::new(alloc, copy).map_err(AllocError::from)?;
+    let Whereabouts::Here(machine) = &mut task.whereabouts else {
+        unreachable!()
+    };
+    let began = machine.stand(alloc)?;
     let out = Whereabouts::Out {
         began: Arc::try_clone(&began)?,
         quantum,

@@ -3,19 +3,19 @@ ghost use Rattle.std.specs.Prelude.{◌≡◌, ◌+◌, ◌<◌, ◌^◌};
 ghost use Rattle.machine_model.specs.States.{run, reached_at, stands_at};
 
 use kernel_model::Refused;
-use machine::Machine;
+use machine::{Machine, SharedMachine};
 use machine_model::Stop;
 use std::sync::Arc;
 
 /// A machine that is lent out (dispatched), to run at most `quantum` instructions. `number` is the loan's number among those of the
-/// process, from 1. `began` is the state from which it runs, shared with the kernel.
+/// process, from 1. `began` is the state from which it runs, shared with the kernel. The machine is copied from that once it runs.
 #[derive(Drop)]
 pub struct Loan {
     pub pid: u32,
     pub number: u64,
     pub quantum: u32,
     pub began: Arc<Machine>,
-    pub machine: Machine,
+    pub machine: SharedMachine,
     ghost same: { machine ≡ began.value },
     ghost budget: { began.value.count + quantum < 2 ^ 40 },
 }
@@ -28,7 +28,7 @@ pub struct Done {
     pub number: u64,
     pub quantum: u32,
     pub began: Arc<Machine>,
-    pub machine: Machine,
+    pub machine: SharedMachine,
     pub count: u32,
     pub stop: Stop,
     ghost ran: { run quantum began.value ≡ reached_at count machine stop },

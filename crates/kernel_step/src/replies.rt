@@ -15,20 +15,20 @@ use calls::Verdict;
 use commit_deps::Mark;
 use held_output::zero_reply;
 use kernel_model::Outcome;
-use machine::Machine;
+use machine::{Machine, SharedMachine};
 use machine_model::Reply;
 use std::alloc::Global;
 
 /// A machine goes on after the reply to its call. If the reply has an image, it goes on as `next`, which was entered from its
 /// state.
-fn go_on(machine: &mut Machine, reply: &Reply, next: Option<Machine>)
+fn go_on(machine: &mut SharedMachine, reply: &Reply, next: Option<Machine>)
     requires told { MayBeTold machine.old (Told reply.now) }
     requires budget { machine.old.count < 2 ^ 40 }
     requires next { next ≡ in_image_by machine.old (Told reply.now) }
     ensures { machine.new ≡ replied machine.old reply.now }
 {
     match next {
-        Some(next) => *machine = next,
+        Some(next) => *machine = SharedMachine::new(next),
         None => machine.reply(reply),
     }
 }

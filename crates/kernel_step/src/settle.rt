@@ -4,14 +4,16 @@ ghost use Rattle.machine_model.specs.States.{stands_at};
 ghost use Rattle.kernel_model.specs.World.{Boot};
 ghost use Rattle.kernel_step.specs.Stands.{Stands, TakesBack};
 ghost use Rattle.kernel_model.specs.declared.answer.Outcome.{Outcome};
-ghost use Rattle.kernel_step.specs.Ready.{MayEnter};
+ghost use Rattle.held_output.specs.Withheld.{IsSame};
+ghost use Rattle.kernel_step.specs.Entering.{IsSameSystem};
+ghost use Rattle.kernel_step.specs.Ready.{MayEnter, HasRoomForEnter, IsPrepared};
 ghost use Rattle.kernel_step.specs.Settling.{IsLoanOf, IsBack, MaySettleTurn, IsTurnSettled, IsTurnEntered, MaySettleCall, IsCallSettled, IsNotSettled, LackedMemory};
 ghost use Rattle.kernel_step.specs.Unchanged.{AreUnchanged};
 
 use crate::enter::join;
 use crate::finishing::carry_out;
 use crate::loan::{Done, Rejected};
-use crate::plan::Caller;
+use crate::plan::{Caller, Entering};
 use crate::room::prepare;
 use crate::running::Running;
 use crate::system::System;
@@ -21,10 +23,14 @@ use crate::turn::{note_own, reserve};
 use crate::whereabouts::Whereabouts;
 use disk_model::{checkpoints_fit, made_files_change};
 use footprints::footprints_grow;
+use held_output::Trace;
 use kernel_model::{Answer, Event, Refused, tables_keep_their_limits};
-use machine::Machine;
+use machine::{Machine, SharedMachine};
 use machine_model::Stop;
 use pipes::{ends_grow_by_one, steps_are_shown};
+use std::alloc::AllocError;
+use std::mem;
+use std::sync::Arc;
 
 fn is_of_loan(task: &Task, done: &Done) -> bool
     ensures { IsTrue result ↔ IsLoanOf task.now done.now }
@@ -37,11 +43,42 @@ fn is_of_loan(task: &Task, done: &Done) -> bool
     }
 }
 
-fn come_back(task: &mut Task, machine: Machine)
+/// The process is back with this machine. The pages of the state with which it was lent become room for its next loan; `began` is
+/// the loan's share of that state.
+fn come_back(task: &mut Task, machine: SharedMachine, began: Arc<Machine>)
     ensures back { IsBack machine task.old task.new }
     ensures trace { task.new.trace ≡ task.old.trace }
 {
-    task.whereabouts = Whereabouts::Here(machine);
+    drop(began);
+    let left = mem::replace(&mut task.whereabouts, Whereabouts::Here(machine));
+    if let Whereabouts::Out { began, .. } = left {
+        task.whereabouts.reuse(began);
+    }
+}
+
+/// As `prepare`, of a result whose machine stands at this call or trap.
+fn prepare_done(
+    history: &mut Vec<Event>,
+    system: &mut System,
+    done: &Done,
+    standing: Stop,
+    trace: &mut Trace,
+) -> Result<Entering, AllocError>
+    requires fine { MayEnter system.old done.now.pid done.now.machine trace.old }
+    requires stands { stands_at done.now.machine ≡ Some standing }
+    ensures history { history.new.items ≡ history.old.items }
+    ensures trace { IsSame trace.old trace.new }
+    ensures prepared { IfOk result (λ e. IsPrepared done.now.pid done.now.machine trace.old system.old system.new e) }
+    ensures holds { IfOk result (λ e. HasRoomForEnter history.new trace.new system.new e) }
+    ensures err { OnErr result (IsSameSystem system.old system.new) }
+{
+    let machine = done.machine.machine();
+    let caller = Caller {
+        pid: done.pid,
+        machine,
+        stop: standing,
+    };
+    prepare(history, system, &caller, trace)
 }
 
 /// Takes a result back of a task whose machine stands at this call or trap: it becomes a Turn and an Enter. Gives what the Enter
@@ -62,18 +99,14 @@ fn settle_enter(
     ensures back { IfErr result (LackedMemory done) }
 {
     let pid = done.pid;
-    let caller = Caller {
-        pid,
-        machine: &done.machine,
-        stop: standing,
-    };
-    let Ok(entering) = prepare(history, system, &caller, &mut task.trace) else {
+    let Ok(entering) = prepare_done(history, system, &done, standing, &mut task.trace) else {
         return Err(Rejected {
             why: Refused::OutOfMemory,
             done,
         });
     };
     let Done {
+        began,
         machine,
         count,
         stop,
@@ -81,7 +114,7 @@ fn settle_enter(
     } = done;
     note_own(&mut system.dependencies, pid);
     history.push(Event::Turn { pid, n: count }).unwrap();
-    come_back(task, machine);
+    come_back(task, machine, began);
     let (outcome, child) = carry_out(history, system, task, entering);
     let answer = Answer::Settled {
         count,
@@ -138,13 +171,14 @@ impl Running {
         }
         let Done {
             pid,
+            began,
             machine,
             count,
             stop,
             ..
         } = done;
         note_own(&mut self.system.dependencies, pid);
-        come_back(&mut self.tasks[place], machine);
+        come_back(&mut self.tasks[place], machine, began);
         self.out -= 1;
         self.history.push(Event::Turn { pid, n: count }).unwrap();
         self.ran += u64::from(count);

@@ -7,7 +7,7 @@ ghost use Rattle.kernel_model.specs.Answers.{turn_refusal, enter_refusal};
 use crate::whereabouts::Whereabouts;
 use held_output::Trace;
 use kernel_model::{Refused, Standing};
-use machine::Machine;
+use machine::{Machine, SharedMachine};
 use machine_model::Stop;
 use std::alloc::Global;
 
@@ -67,7 +67,7 @@ impl Task {
     {
         Task {
             pid,
-            whereabouts: Whereabouts::Here(machine),
+            whereabouts: Whereabouts::Here(SharedMachine::new(machine)),
             trace,
             waited: None,
             loans: 0,

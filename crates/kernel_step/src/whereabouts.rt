@@ -1,14 +1,14 @@
 //! Where a process's machine is.
 ghost use Rattle.std.specs.Prelude.{◌≡◌, is_some};
 
-use machine::Machine;
+use machine::{Machine, SharedMachine};
 use std::sync::Arc;
 
 /// Where a process's machine is: in the kernel, or with its borrower.
 #[derive(Drop)]
 pub enum Whereabouts {
     /// In the kernel.
-    Here(Machine),
+    Here(SharedMachine),
     /// Out on loan, to run at most `quantum` instructions. `began` is the state with which it was lent; the loan shares it.
     Out { began: Arc<Machine>, quantum: u32 },
 }
@@ -21,8 +21,17 @@ impl Whereabouts {
         ensures { result.now ≡ state_in self.now }
     {
         match self {
-            Whereabouts::Here(machine) => machine,
+            Whereabouts::Here(machine) => machine.machine(),
             Whereabouts::Out { began, .. } => began,
+        }
+    }
+
+    /// Keeps the pages of the state with which the machine was lent as room for its next loan, where it is here.
+    pub fn reuse(&mut self, began: Arc<Machine>)
+        ensures { self.new ≡ self.old }
+    {
+        if let Whereabouts::Here(machine) = self {
+            machine.reuse(began);
         }
     }
 

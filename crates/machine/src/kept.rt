@@ -79,6 +79,7 @@ impl KeptMachine {
             tables: Arc::try_clone(&self.tables)?,
             runs: Arc::try_clone(&self.runs)?,
             own,
+            spare: None,
         })
     }
 

@@ -6,9 +6,12 @@ mod kept;
 mod laws;
 mod loading;
 mod machine;
+mod shared;
+mod standing;
 mod stopping;
 
 pub use kept::KeptMachine;
 pub use laws::segments_are_loaded;
 pub use machine::Machine;
 pub use machine_model::{Cause, Image, Reply, Segment, Stop};
+pub use shared::SharedMachine;

@@ -27,6 +27,8 @@ pub struct Machine {
     pub(crate) tables: Arc<Vec<Table>>,
     pub(crate) runs: Arc<Vec<Run>>,
     pub(crate) own: Vec<Table>,
+    /// Pages of an earlier state, as room for a copy.
+    pub(crate) spare: Option<Space>,
 }
 
 impl Drop for Machine {
@@ -37,6 +39,7 @@ impl Drop for Machine {
             tables: _tables,
             runs: _runs,
             own: _own,
+            spare: _spare,
         } = self;
     }
 }
@@ -74,6 +77,7 @@ impl Machine {
             tables: Arc::new(alloc, tables)?,
             runs: Arc::new(alloc, runs)?,
             own,
+            spare: None,
         })
     }
 
@@ -92,6 +96,7 @@ impl Machine {
             tables: Arc::new(alloc, Vec::new(alloc))?,
             runs: Arc::new(alloc, Vec::new(alloc))?,
             own: Vec::new(alloc),
+            spare: None,
         })
     }
 
@@ -190,6 +195,19 @@ impl Machine {
         &self.hart.space
     }
 
+    /// Its memory, and nothing else of it.
+    pub(crate) fn into_space(self) -> Space {
+        let Machine {
+            hart,
+            count: _,
+            tables: _tables,
+            runs: _runs,
+            own: _own,
+            spare: _spare,
+        } = self;
+        hart.into_space()
+    }
+
     /// Whether two machines are in the same state: registers, memory with rights, and count.
     pub fn is_same(&self, other: &Machine) -> bool
         ensures { IsTrue result ↔ (self.now ≡ other.now) }
@@ -222,6 +240,7 @@ impl Machine {
             tables: Arc::try_clone(&self.tables)?,
             runs: Arc::try_clone(&self.runs)?,
             own: Vec::new(alloc),
+            spare: None,
         })
     }
 }

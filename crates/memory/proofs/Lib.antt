@@ -11,3 +11,4 @@ pub mod Putting
 pub mod SameWords
 pub mod Standing
 pub mod Copies
+pub mod Rooms

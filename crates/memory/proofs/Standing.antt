@@ -63,6 +63,16 @@ module _ (Q : Type 0) where
       none : get (memory_of_words (words_of own shared)) a ≡ None → ⊥
       none e = let f : is_some {T = Cell} None ≡ true = sym (ap is_some e) ∙ some in cc
 
+-- what follows from the two runs at hand and from each of the others follows from each run
+pub each : (near next : Pages) (more own : List Pages) (Q : Type 0) (n : ℕ) → near ∷ next ∷ more ≡ own → (has_word near n ≡ true → Q) → (has_word next n ≡ true → Q)
+    → ((i : ℕ) (d : Pages) → i < length more → has_word (slice_index_or more i d) n ≡ true → Q) → (i : ℕ) (d : Pages) → i < length own → has_word (slice_index_or own i d) n ≡ true → Q
+each near next more own Q n e f g r i d h has = by i (omega (arith, ap length e)) (ap (λ (ps : List Pages). has_word (slice_index_or ps i d) n) e ∙ has)
+  where
+    by : (i : ℕ) → i < length (near ∷ next ∷ more) → has_word (slice_index_or (near ∷ next ∷ more) i d) n ≡ true → Q
+    by zero l its = f its
+    by (suc zero) l its = g its
+    by (suc (suc i)) l its = r i d (omega arith) its
+
 -- two that agree where one of them is something agree
 pub both_ways : {X : Type 0} (x y : Option X) → (is_some x ≡ true → x ≡ y) → (is_some y ≡ true → y ≡ x) → x ≡ y
 both_ways (Some x) y f g = f refl

@@ -2,3 +2,4 @@ pub mod Words
 pub mod Pages
 pub mod Access
 pub mod CopyFault
+pub mod Rooms

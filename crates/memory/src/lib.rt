@@ -15,6 +15,7 @@ mod near;
 mod own;
 mod part;
 mod place;
+mod room;
 mod space;
 mod stretch;
 

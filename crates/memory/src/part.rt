@@ -4,6 +4,7 @@ ghost use Rattle.memory_model.specs.Access.{size, low_bytes, to_read, to_execute
 ghost use Rattle.memory_model.specs.Bytes.{value_in, put_in};
 ghost use Rattle.memory.specs.Words.{word_taken};
 ghost use Rattle.memory.specs.Pages.{has_word, bytes_of, no_pages, word_in, with_bytes, with_words, pages_of};
+ghost use Rattle.memory.specs.Rooms.{IsAlike};
 
 use memory_model::{BusFault, Rights, Width};
 use std::alloc::{AllocError, Global};
@@ -148,6 +149,16 @@ impl Part {
             && self.read == other.read
             && self.execute == other.execute
             && are_same_words(self.words.as_slice(), other.words.as_slice())
+    }
+
+    /// Whether the other run has the same place, rights and number of words.
+    pub fn is_alike(&self, other: &Part) -> bool
+        ensures { IsTrue result → IsAlike self.now other.now }
+    {
+        self.first == other.first
+            && self.read == other.read
+            && self.execute == other.execute
+            && self.words.len() == other.words.len()
     }
 
     /// Word n, to be executed. NoRight is the only fault.

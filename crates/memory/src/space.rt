@@ -52,6 +52,15 @@ impl Space {
         }
     }
 
+    /// Its runs that may be written, whatever their bytes.
+    pub(crate) fn into_own(self) -> OwnParts {
+        let Space {
+            own,
+            shared: _shared,
+        } = self;
+        own
+    }
+
     /// Adds pages with one set of rights, from page `first_page` on, which the bytes fill. Without memory no page is added.
     pub fn map(
         &mut self,

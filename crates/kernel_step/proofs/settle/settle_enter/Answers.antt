@@ -15,8 +15,8 @@ use Rattle.kernel_step.proofs.settle.settle_enter.Goals as goal
 pub carry_out-outcome-requires-clause-ready : goal.carry_out-outcome-requires-clause-ready
 carry_out-outcome-requires-clause-ready c =
     let back = c.come_back.ensures.back in
-    is-ready c.come_back.new.task c.args.done.machine c.args.task.now.trace c.prepare.new.trace c.args.system.now c.prepare.new.system c.note_own.new.dependencies
-    c.args.done.pid c.prepare.new.history c.in-Ok.entering
+    is-ready c.come_back.new.task c.args.done.machine c.args.task.now.trace c.prepare_done.new.trace c.args.system.now c.prepare_done.new.system c.note_own.new.dependencies
+    c.args.done.pid c.prepare_done.new.history c.in-Ok.entering
     c.requires.fine c.in-Ok.ensures.prepared c.in-Ok.ensures.holds c.in-Ok.ensures.trace
     back.out back.machine c.come_back.ensures.trace
 
@@ -24,14 +24,14 @@ pub carry_out-outcome-requires-clause-noting : goal.carry_out-outcome-requires-c
 carry_out-outcome-requires-clause-noting c =
     let room = c.in-Ok.ensures.holds.writes in
     let left = c.note_own.ensures.room in
-    may-note c.args.done.machine c.args.task.now.trace c.prepare.new.trace c.args.system.now c.prepare.new.system c.note_own.new.dependencies c.args.done.pid
-    c.prepare.new.history c.in-Ok.entering c.in-Ok.ensures.prepared c.in-Ok.ensures.holds (omega (arith, room, left))
+    may-note c.args.done.machine c.args.task.now.trace c.prepare_done.new.trace c.args.system.now c.prepare_done.new.system c.note_own.new.dependencies c.args.done.pid
+    c.prepare_done.new.history c.in-Ok.entering c.in-Ok.ensures.prepared c.in-Ok.ensures.holds (omega (arith, room, left))
 
 pub returns-clause-done : goal.returns-clause-done
 returns-clause-done c =
     let t : Task = c.args.task.now in
     let s = c.args.system.now in
-    let s1 = c.prepare.new.system in
+    let s1 = c.prepare_done.new.system in
     let turned = c.note_own.new.dependencies in
     let m = c.args.done.machine in
     let middle : Task = record t { whereabouts = Here m } in
@@ -64,7 +64,7 @@ returns-clause-done c =
 pub returns-clause-history : goal.returns-clause-history
 returns-clause-history c =
     let turn : Event = Turn c.args.done.pid c.args.done.count in
-    let pushed : c.push.new.self.items ≡ c.prepare.new.history.items ++ turn ∷ [] = search rules in
+    let pushed : c.push.new.self.items ≡ c.prepare_done.new.history.items ++ turn ∷ [] = search rules in
     c.carry_out-outcome.ensures.history
     ∙ ap (λ (es : List Event). es ++ Enter c.in-Ok.entering.pid ∷ []) (pushed ∙ ap (λ (es : List Event). es ++ turn ∷ []) c.in-Ok.ensures.history)
     ∙ append_assoc c.args.history.now.items (turn ∷ []) (Enter c.in-Ok.entering.pid ∷ [])

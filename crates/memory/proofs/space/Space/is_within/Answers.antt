@@ -7,19 +7,9 @@ use Rattle.std.proofs.lemmas.Bool.{cases_lt}
 use Rattle.std.proofs.Math.ListN.{get_or-map}
 use Rattle.memory_model.specs.Memory.{Memory}
 use Rattle.memory.specs.Pages.{Pages, has_word}
-use Rattle.memory.proofs.Standing.{byte_in-own, byte_in-shared, by_run}
+use Rattle.memory.proofs.Standing.{byte_in-own, byte_in-shared, by_run, each}
 use Rattle.memory.proofs.space.Space.is_within.Goals as goal
 use Rattle.memory.proofs.space.Space.is_within.Goals.{then-not-agrees_at-via-then-not-agrees_at, then-not-agrees_at-via-else-not-agrees_at+then-not-agrees_at-2}
-
--- what follows from the two runs at hand and from each of the others follows from each run
-each : (near next : Pages) (more own : List Pages) (Q : Type 0) (n : ℕ) → near ∷ next ∷ more ≡ own → (has_word near n ≡ true → Q) → (has_word next n ≡ true → Q)
-    → ((i : ℕ) (d : Pages) → i < length more → has_word (slice_index_or more i d) n ≡ true → Q) → (i : ℕ) (d : Pages) → i < length own → has_word (slice_index_or own i d) n ≡ true → Q
-each near next more own Q n e f g r i d h has = by i (omega (arith, ap length e)) (ap (λ (ps : List Pages). has_word (slice_index_or ps i d) n) e ∙ has)
-  where
-    by : (i : ℕ) → i < length (near ∷ next ∷ more) → has_word (slice_index_or (near ∷ next ∷ more) i d) n ≡ true → Q
-    by zero l its = f its
-    by (suc zero) l its = g its
-    by (suc (suc i)) l its = r i d (omega arith) its
 
 pub returns-then-not-agrees_at : goal.returns-then-not-agrees_at
 returns-then-not-agrees_at c =
