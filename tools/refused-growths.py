@@ -56,6 +56,27 @@ IMAGES = {"first": "first.s", "printer": "printer.s", "reader": "reader.s", "wai
 COMMANDS_OF_DEBUG = b"step 3\nstate\nbreak 00010018\nrun\nrewind 2\nrun\nclear 0\nrun\nstep 1\nrewind 0\nrun\nquit\n"
 LONG_DEBUG = b"step 3000\nrewind 1500\nbreak 00010010\nrun\nstate\nrun\nquit\n"
 
+
+
+def packets(*texts):
+    """Returns packets of gdb's protocol with these texts."""
+    return b"".join(b"$%s#%02x" % (text, sum(text) % 256) for text in texts)
+
+
+def monitor(line):
+    """Returns the text of a packet for a command that a person gives."""
+    return b"qRcmd," + line.hex().encode()
+
+
+PACKETS = packets(
+    *[b"qSupported", b"QStartNoAckMode", b"qXfer:features:read:target.xml:0,fff", b"qXfer:exec-file:read::0,fff", b"?", b"g", b"m10000,40"],
+    *[b"Z0,10014,4", b"c", b"g", b"Z2,7ffffff0,10", b"c", b"s", b"c", b"z0,10014,4", b"z2,7ffffff0,10", b"c"],
+    *[monitor(line) for line in (b"calls", b"trace", b"files", b"count", b"until 9")],
+    *[b"Z3,7ffffff0,10", b"bc", b"bs", b"P21=0000000000000000", b"Z0,10010,4", b"c", b"bc", b"P21=0300000000000000", b"M10000,1:00", b"D"],
+)
+PACKETS_OF_A_LONG_RUN = packets(b"QStartNoAckMode", b"c", b"Z0,10014,4", b"bc", b"bc", b"Z2,11000,4", b"bc", monitor(b"calls"), b"k")
+PACKETS_THAT_KEEP = packets(b"c", monitor(b"keep"), monitor(b"files"), b"k")
+
 # A name, the status without a refusal, the words, and the input.
 COMMANDS = [
     ("asm", 0, "asm primes.s out", b""),
@@ -84,6 +105,13 @@ COMMANDS = [
     ("debug", 0, "debug first --trace trace", COMMANDS_OF_DEBUG),
     ("debug far", 0, "debug primes", LONG_DEBUG),
     ("debug refused", 2, "debug first --trace bad.trace", b""),
+    ("gdb", 0, "gdb --symbols first.elf first", PACKETS),
+    ("gdb with a trace", 0, "gdb --trace trace first", PACKETS),
+    ("gdb with a tape", 0, "gdb --tape tape reader first", PACKETS),
+    ("gdb far", 0, "gdb primes", PACKETS_OF_A_LONG_RUN),
+    ("gdb that keeps a disk", 0, "gdb --disk kept printer", PACKETS_THAT_KEEP),
+    ("gdb with little room", 0, "gdb --history 1 primes", PACKETS_OF_A_LONG_RUN),
+    ("gdb refused", 2, "gdb first short", b""),
     ("disk", 0, "disk kept", b""),
     ("disk of another length", 3, "disk short", b""),
     ("disk damaged", 3, "disk damaged", b""),

@@ -18,7 +18,7 @@ MOST_FILES = {"replay": 1, "picture": 1, "crashes": 1, "asm": 2, "check": 1, "im
 # The commands whose file is a script.
 SCRIPT_COMMANDS = ("replay", "picture", "crashes")
 FILE_OPTIONS = ("--trace", "--disk", "--tape", "--tape-of", "--expect", "--source", "--symbols")
-NUMBER_OPTIONS = ("--workers", "--quantum", "--term", "--fail", "--status", "--cone", "--process")
+NUMBER_OPTIONS = ("--workers", "--quantum", "--term", "--fail", "--status", "--cone", "--process", "--history")
 IMAGE_LINE = re.compile(rb"^(image [0-9]+ )(?=[^/\s])", re.MULTILINE)
 # The longest that the program may run, in seconds.
 LONGEST_RUN = 600
@@ -94,7 +94,7 @@ class Room:
     def input_of(self, words):
         """Returns the place of what the program reads from standard input."""
         is_tape = words and words[0] == "run" and any(word in ("-", "--tape=-") or word.endswith("=-") for word in words)
-        if words and words[0] != "debug" and not is_tape:
+        if words and words[0] not in ("debug", "gdb") and not is_tape:
             return os.devnull
         with open(0, "rb", closefd=False) as file:
             content = file.read()

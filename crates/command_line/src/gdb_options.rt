@@ -1,6 +1,7 @@
 //! The command `gdb`, and its options.
 use crate::debug_options::{LiveOptions, PROCESS, live_options};
-use crate::rows::{ArgumentRow, CommandKind, CommandRow, Form};
+use crate::rows::{ArgumentRow, CommandKind, CommandRow, Form, NumberRow};
+use crate::run_options::small_number;
 use clap::ArgMatches;
 use std::alloc::{AllocError, Global};
 
@@ -13,6 +14,8 @@ pub struct GdbOptions<'a> {
     pub trace: Option<&'a str>,
     /// The path of the file of symbols that gdb is told, if there is one.
     pub symbols: Option<&'a str>,
+    /// How much memory the program's history may take, in MiB.
+    pub history: u32,
 }
 
 /// The command `gdb`.
@@ -53,6 +56,16 @@ pub const GDB: CommandRow = CommandRow {
             help: "the file of symbols that gdb is told: an ELF file with DWARF",
             form: Form::Option("ELF"),
         },
+        ArgumentRow {
+            name: "history",
+            help: "the most memory that the program's history may take, in MiB, 1 to 1048576",
+            form: Form::Number(NumberRow {
+                value: "MIB",
+                least: 1,
+                most: 1 << 20,
+                default: Some("1024"),
+            }),
+        },
     ],
 };
 
@@ -84,9 +97,13 @@ pub fn gdb_options<'a>(
     let Some(live) = live_options(alloc, matches)? else {
         return Ok(None);
     };
+    let Some(history) = small_number(matches, "history") else {
+        return Ok(None);
+    };
     Ok(Some(GdbOptions {
         live,
         trace: matches.get_str("trace"),
         symbols: matches.get_str("symbols"),
+        history,
     }))
 }

@@ -76,7 +76,7 @@ impl Arrivals {
         rt: &R,
         inbox: &Inbox,
     ) -> Result<bool, ConnectionFault> {
-        if inbox.is_some() {
+        if self.waiting.is_empty() && inbox.is_some() {
             self.fetch(rt, inbox)?;
         }
         if !matches!(self.waiting.front(), Some(Arrival::Interrupt)) {

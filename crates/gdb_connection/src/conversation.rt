@@ -3,14 +3,16 @@ use crate::arrivals::Arrivals;
 use crate::fault::ConnectionFault;
 use crate::inbox::Inbox;
 use crate::keeper::Keeper;
-use gdb_session::{Next, Packets, Session};
+use gdb_packets::Packets;
+use gdb_session::{Next, Session};
 use remote_packets::{Arrival, framed};
-use std::alloc::Global;
+use std::alloc::{AllocError, Global};
 use std::io::Write;
 use std::sync::Wait;
 
-/// How many slices a run goes on after gdb has gone: so the packets that came before are answered, and the program ends all the same.
-const LAST_SLICES: u32 = 4;
+/// How many slices the machine goes on at most after the input has ended. So each packet is answered that came before, and the program
+/// ends all the same where gdb has gone.
+const LAST_SLICES: u32 = 1024;
 
 /// A session, and gdb at its other end.
 pub struct Conversation<'x, K, O> {
@@ -22,6 +24,8 @@ pub struct Conversation<'x, K, O> {
     packets: Packets,
     /// Whether packets are acknowledged.
     acks: bool,
+    /// How many slices the machine went on since the input ended.
+    last: u32,
 }
 
 impl<K, O> Drop for Conversation<'_, K, O> {
@@ -34,6 +38,7 @@ impl<K, O> Drop for Conversation<'_, K, O> {
             arrivals: _arrivals,
             packets: _packets,
             acks: _,
+            last: _,
         } = self;
     }
 }
@@ -54,6 +59,7 @@ impl<'x, K: Keeper, O: Write> Conversation<'x, K, O> {
             arrivals: Arrivals::new(alloc),
             packets: Packets::new(alloc),
             acks: true,
+            last: 0,
         }
     }
 
@@ -76,26 +82,38 @@ impl<'x, K: Keeper, O: Write> Conversation<'x, K, O> {
         Ok(())
     }
 
-    /// Runs the machine until it stops, or gdb interrupts it. Says whether gdb is still there.
-    fn run<R: Wait>(&mut self, rt: &R, inbox: &Inbox) -> Result<bool, ConnectionFault> {
-        let mut last = 0u32;
+    /// Whether the machine goes on no longer, since the input ended so long ago. Counts a slice.
+    fn is_late(&mut self, inbox: &Inbox) -> Result<bool, AllocError> {
+        if inbox.is_over() {
+            inbox.end()?;
+            self.last = self.last.saturating_add(1);
+        }
+        Ok(self.last > LAST_SLICES)
+    }
+
+    /// A slice of a run, unless gdb interrupts it, or has gone for long. Says whether the machine goes on.
+    fn slice<R: Wait>(&mut self, rt: &R, inbox: &Inbox) -> Result<bool, ConnectionFault> {
+        if self.arrivals.is_interrupted(rt, inbox)? {
+            self.session.interrupt(&mut self.packets)?;
+            return Ok(false);
+        }
+        if !self.session.go_on(&mut self.packets)? {
+            return Ok(false);
+        }
+        if self.is_late(inbox)? {
+            self.session.cut(&mut self.packets)?;
+            return Ok(false);
+        }
+        Ok(true)
+    }
+
+    /// Runs the machine until it stops.
+    fn run<R: Wait>(&mut self, rt: &R, inbox: &Inbox) -> Result<(), ConnectionFault> {
         for _ in rt.forever() {
-            if self.arrivals.is_interrupted(rt, inbox)? {
-                self.session.interrupt(&mut self.packets)?;
-                self.send()?;
-                return Ok(true);
-            }
-            let goes_on = self.session.go_on(&mut self.packets)?;
+            let goes_on = self.slice(rt, inbox)?;
             self.send()?;
             if !goes_on {
-                return Ok(true);
-            }
-            if inbox.is_over() {
-                last = last.saturating_add(1);
-            }
-            if last > LAST_SLICES {
-                inbox.end()?;
-                return Ok(false);
+                return Ok(());
             }
         }
         unreachable!()
@@ -126,7 +144,10 @@ impl<'x, K: Keeper, O: Write> Conversation<'x, K, O> {
                 self.acks = false;
                 Ok(true)
             }
-            Next::Go => self.run(rt, inbox),
+            Next::Go => {
+                self.run(rt, inbox)?;
+                Ok(true)
+            }
             Next::Keep => {
                 self.keep()?;
                 Ok(true)

@@ -1,5 +1,5 @@
 //! Why a conversation ends early.
-use gdb_session::OutOfMemory;
+use gdb_timeline::OutOfMemory;
 use std::alloc::{AllocError, AllocFailed};
 use std::io;
 

@@ -1,11 +1,12 @@
 //! What came in, for the thread that answers.
+use idle::Rest;
 use remote_packets::{Arrival, Reader};
 use std::alloc::{AllocError, Global};
 use std::io::Read;
 use std::sync::atomic::{AtomicBool, Ordering};
 use std::sync::{Mutex, Wait};
 
-/// The most bytes that wait. gdb awaits the answer to each packet, so that never as many wait.
+/// The most bytes that wait. Where more come in, the thread that reads waits too.
 const MOST_WAITING: usize = 1 << 20;
 
 /// The bytes that came in and were not taken, and whether more will come.
@@ -16,6 +17,8 @@ pub struct Inbox {
     over: AtomicBool,
     /// Whether it is over since memory ran out.
     lost: AtomicBool,
+    /// Whether no more is taken.
+    closed: AtomicBool,
 }
 
 /// Whether gdb leaves by one of the packets that these bytes complete. It sends nothing after such a packet.
@@ -39,6 +42,7 @@ impl Inbox {
             some: AtomicBool::new(false),
             over: AtomicBool::new(false),
             lost: AtomicBool::new(false),
+            closed: AtomicBool::new(false),
         }
     }
 
@@ -68,7 +72,12 @@ impl Inbox {
         std::mem::replace(&mut *bytes, Vec::new(alloc))
     }
 
-    /// Adds bytes, and says whether there was room for them.
+    /// Says that no more is taken.
+    pub fn close(&self) {
+        self.closed.store(true, Ordering::SeqCst);
+    }
+
+    /// Adds bytes, if there is room for them. Says whether there was.
     fn add<R: Wait>(&self, rt: &R, new: &[u8]) -> Result<bool, AllocError> {
         let mut bytes = self.bytes.lock(rt);
         if new.len() > MOST_WAITING.saturating_sub(bytes.len()) {
@@ -77,6 +86,21 @@ impl Inbox {
         bytes.extend_from_slice(new)?;
         self.some.store(true, Ordering::SeqCst);
         Ok(true)
+    }
+
+    /// Adds bytes, once there is room for them. Says whether they are taken.
+    fn add_in_time<R: Wait>(&self, rt: &R, new: &[u8]) -> Result<bool, AllocError> {
+        let mut rest = Rest::new();
+        for _ in rt.forever() {
+            if self.closed.load(Ordering::SeqCst) {
+                return Ok(false);
+            }
+            if self.add(rt, new)? {
+                return Ok(true);
+            }
+            rest.take(rt);
+        }
+        unreachable!()
     }
 
     /// Reads a part of the input, and says whether there is more.
@@ -91,13 +115,13 @@ impl Inbox {
         match input.read(&mut buffer) {
             Ok(n) if n > 0 => {
                 let bytes = &buffer[..n];
-                Ok(self.add(rt, bytes)? && !leaves(reader, alloc, bytes)?)
+                Ok(self.add_in_time(rt, bytes)? && !leaves(reader, alloc, bytes)?)
             }
             _ => Ok(false),
         }
     }
 
-    /// Reads until gdb leaves, the input ends, or too much waits.
+    /// Reads until gdb leaves, the input ends, or no more is taken.
     pub fn fill<R: Wait, I: Read>(&self, rt: &R, alloc: Global, input: &mut I) {
         let mut reader = Reader::new(alloc);
         for _ in rt.forever() {

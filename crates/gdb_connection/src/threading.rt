@@ -33,6 +33,7 @@ fn read<R: Wait, I: Read>(rt: &R, alloc: Global, inbox: &Inbox, source: &Mutex<S
 fn compute<R: Wait, K: Keeper, O: Write>(rt: &R, inbox: &Inbox, desk: &Mutex<Desk<'_, K, O>>) {
     let mut desk = desk.lock(rt);
     let ended = desk.conversation.answer_all(rt, inbox);
+    inbox.close();
     desk.ended = ended;
 }
 
@@ -52,8 +53,8 @@ fn run_both<R: Threads + Wait + Sync, I: Read + Send, K: Keeper, O: Write>(
 }
 
 /// Answers gdb, whose packets are read from `input`, and what answers them is written to `out`. A thread reads, so that a run is
-/// interrupted where gdb asks for it. It ends where gdb leaves, or the input ends: the packets before that are answered, and a run
-/// then goes on for no more than some four million instructions.
+/// interrupted where gdb asks for it. It ends where gdb leaves, or the input ends: the packets before that are answered, for which the
+/// machine goes on for no more than 1,024 slices.
 pub fn converse<R: Threads + Wait + Sync, I: Read + Send, K: Keeper, O: Write>(
     rt: &R,
     alloc: Global,

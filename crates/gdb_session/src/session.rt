@@ -1,14 +1,11 @@
 //! A session: what answers each packet.
-use crate::asking::{Document, Point, Request, request_of};
-use crate::fault::OutOfMemory;
-use crate::monitor::{Command, command_of};
-use crate::motion::{Going, Motion};
-use crate::packets::Packets;
-use crate::points::SetPoint;
-use crate::registers::{memory_at, registers_of};
-use crate::stops::{Stop, stop_text};
-use crate::target::{description, part_of};
-use crate::timeline::Timeline;
+use crate::going::Going;
+use crate::monitor::print_answer;
+use gdb_packets::{
+    Command, Document, Motion, Packets, Point, Request, Stop, command_of, description, memory_at,
+    part_of, registers_of, request_of, stop_text,
+};
+use gdb_timeline::{OutOfMemory, SetPoint, Timeline};
 use simdisk::SimDisk;
 use std::alloc::{AllocError, Global};
 
@@ -85,7 +82,7 @@ impl Session {
 
     /// The disk as the kernel leaves it now. None where no kernel runs.
     pub fn disk(&self) -> Result<Option<SimDisk>, AllocError> {
-        match &self.timeline.live {
+        match self.timeline.live() {
             Some(live) => Ok(Some(live.disk()?)),
             None => Ok(None),
         }
@@ -137,28 +134,11 @@ impl Session {
     }
 
     fn answer_set(&mut self, point: Point, out: &mut Packets) -> Result<(), AllocError> {
-        let Timeline {
-            points,
-            debugger,
-            ..
-        } = &mut self.timeline;
-        let set = match point {
-            Point::Break(at) => points.set_break(debugger, at)?,
-            Point::Watch(watch) => points.set_watch(debugger, watch)?,
-        };
-        out.push_text(answer_of(set))
+        out.push_text(answer_of(self.timeline.set(point)?))
     }
 
     fn answer_clear(&mut self, point: Point, out: &mut Packets) -> Result<(), AllocError> {
-        let Timeline {
-            points,
-            debugger,
-            ..
-        } = &mut self.timeline;
-        match point {
-            Point::Break(at) => points.clear_break(debugger, at),
-            Point::Watch(watch) => points.clear_watch(watch),
-        }
+        self.timeline.clear(point);
         out.push_text("OK")
     }
 
@@ -170,7 +150,7 @@ impl Session {
                 is_step: true,
             },
             Motion::Continue => Going::Ahead {
-                limit: self.limit(),
+                limit: self.timeline.take_limit(),
                 is_step: false,
             },
             Motion::StepBack => Going::StepBack,
@@ -180,23 +160,14 @@ impl Session {
         Next::Go
     }
 
-    /// The count at which the next run on stops, which is asked for once.
-    fn limit(&mut self) -> u64 {
-        let count = self.timeline.count();
-        match self.timeline.until.take() {
-            Some(until) if until > count => until,
-            _ => u64::MAX,
-        }
-    }
-
     /// Answers a command that a person gave.
     fn answer_monitor(&mut self, line: &[u8], out: &mut Packets) -> Result<Next, OutOfMemory> {
         let command = command_of(line);
-        if matches!(command, Command::Keep) && self.timeline.live.is_some() {
+        if matches!(command, Command::Keep) && self.timeline.live().is_some() {
             return Ok(Next::Keep);
         }
         let mut text = Vec::new(self.alloc);
-        self.timeline.monitor(self.alloc, command, &mut text)?;
+        print_answer(&mut self.timeline, self.alloc, command, &mut text)?;
         out.push_print(text.as_slice())?;
         out.push_text("OK")?;
         Ok(Next::Await)
@@ -265,8 +236,7 @@ impl Session {
 
     fn tell_stop(&mut self, stop: Stop, out: &mut Packets) -> Result<(), AllocError> {
         self.going = None;
-        let text = stop_text(self.alloc, stop)?;
-        out.push_text(text.as_str())
+        out.push(stop_text(self.alloc, stop)?)
     }
 
     /// Goes on by a slice. Says whether the machine goes on after that; where it does not, gdb is told why.
@@ -288,6 +258,14 @@ impl Session {
     /// Stops the machine between two slices, since gdb asked for it.
     pub fn interrupt(&mut self, out: &mut Packets) -> Result<(), OutOfMemory> {
         Ok(self.tell_stop(Stop::Interrupted, out)?)
+    }
+
+    /// Stops the machine between two slices, since gdb has gone, and says so.
+    pub fn cut(&mut self, out: &mut Packets) -> Result<(), OutOfMemory> {
+        self.timeline
+            .note("the input has ended, and the run goes on no longer")?;
+        self.tell_notes(out)?;
+        self.interrupt(out)
     }
 }
 

@@ -2,7 +2,8 @@
 use crate::debugging::process_in;
 use command_line::GdbOptions;
 use gdb_connection::{ConnectionFault, Keeper, converse};
-use gdb_session::{Origin, OutOfMemory, Session, Timeline};
+use gdb_session::Session;
+use gdb_timeline::{Origin, OutOfMemory, Timeline};
 use host_files::{DiskLock, FileFault, image_in, keep, replies_in};
 use machine_model::Image;
 use run_files::Fault;
@@ -76,13 +77,13 @@ fn session_of(
     alloc: Global,
     image: Image,
     origin: Origin,
-    symbols: Option<&str>,
+    options: &GdbOptions<'_>,
 ) -> Result<Session, Fault> {
-    let symbols = match symbols {
+    let symbols = match options.symbols {
         Some(path) => Some(Vec::from_slice(alloc, path.as_bytes())?),
         None => None,
     };
-    match Timeline::new(alloc, image, origin) {
+    match Timeline::new(alloc, image, origin, u64::from(options.history) << 20) {
         Ok(timeline) => Ok(Session::new(alloc, timeline, symbols)),
         Err(OutOfMemory) => Err(Fault::OutOfMemory),
     }
@@ -96,7 +97,7 @@ pub fn answer_gdb<
     O: Write,
 >(rt: &R, options: &GdbOptions<'_>, input: &mut I, out: &mut O) -> Result<(), Fault> {
     let (image, origin) = origin_in(rt, options)?;
-    let session = session_of(rt.alloc(), image, origin, options.symbols)?;
+    let session = session_of(rt.alloc(), image, origin, options)?;
     let mut file = DiskFile {
         rt,
         path: options.live.disk,

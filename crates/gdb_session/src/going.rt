@@ -1,17 +1,4 @@
-//! How a machine is to go.
-
-/// How a machine is to go.
-#[derive(Clone, Copy)]
-pub enum Motion {
-    /// An instruction on.
-    Step,
-    /// On.
-    Continue,
-    /// An instruction back.
-    StepBack,
-    /// Back.
-    ContinueBack,
-}
+//! How a machine goes on.
 
 /// How a machine goes on, between two slices.
 #[derive(Clone, Copy)]

@@ -1,13 +1,15 @@
 //! Numbers and bytes as hexadecimal digits.
+ghost use Rattle.std.specs.Prelude.{◌≡◌, ◌++◌, ◌<◌, OnOk};
+ghost use Rattle.gdb_packets.specs.Digits.{digit, digits_of, hex_of};
+
 use std::alloc::{AllocError, Global};
 
-const DIGITS: &[u8; 16] = b"0123456789abcdef";
-
-fn digit_of(byte: u8) -> Option<u8> {
-    match byte {
-        b'0'..=b'9' => Some(byte - b'0'),
-        b'a'..=b'f' => Some(byte - b'a' + 10),
-        b'A'..=b'F' => Some(byte - b'A' + 10),
+/// The number of a digit.
+fn value_of(digit: u8) -> Option<u8> {
+    match digit {
+        b'0'..=b'9' => Some(digit - b'0'),
+        b'a'..=b'f' => Some(digit - b'a' + 10),
+        b'A'..=b'F' => Some(digit - b'A' + 10),
         _ => None,
     }
 }
@@ -19,7 +21,7 @@ pub fn number(word: &str) -> Option<u64> {
     }
     let mut number = 0u64;
     for byte in word.as_bytes() {
-        let digit = digit_of(*byte)?;
+        let digit = value_of(*byte)?;
         number = number.checked_mul(16)?.checked_add(u64::from(digit))?;
     }
     Some(number)
@@ -42,7 +44,7 @@ pub fn bytes_of(alloc: Global, word: &[u8]) -> Result<Option<Vec<u8>>, AllocErro
         let &[first, last] = pair else {
             return Ok(None);
         };
-        let (Some(first), Some(last)) = (digit_of(first), digit_of(last)) else {
+        let (Some(first), Some(last)) = (value_of(first), value_of(last)) else {
             return Ok(None);
         };
         bytes.push(first.wrapping_mul(16).wrapping_add(last))?;
@@ -65,14 +67,29 @@ pub fn little_endian(alloc: Global, word: &str) -> Result<Option<u64>, AllocErro
     Ok(Some(number))
 }
 
+/// The digit of a number below 16.
+fn digit_of(number: u8) -> u8
+    requires { number < 16 }
+    ensures { result ≡ digit number }
+{
+    if number < 10 {
+        b'0' + number
+    } else {
+        b'a' + (number - 10)
+    }
+}
+
 /// Adds the two digits of a byte.
-pub fn push_byte(out: &mut Vec<u8>, byte: u8) -> Result<(), AllocError> {
-    out.push(DIGITS[(byte / 16) as usize])?;
-    Ok(out.push(DIGITS[(byte % 16) as usize])?)
+fn push_byte(out: &mut Vec<u8>, byte: u8) -> Result<(), AllocError>
+    ensures { OnOk result (out.new.items ≡ out.old.items ++ digits_of byte) }
+{
+    out.extend_from_slice(&[digit_of(byte / 16), digit_of(byte % 16)])
 }
 
 /// Adds the digits of bytes.
-pub fn push_bytes(out: &mut Vec<u8>, bytes: &[u8]) -> Result<(), AllocError> {
+pub fn push_bytes(out: &mut Vec<u8>, bytes: &[u8]) -> Result<(), AllocError>
+    ensures { OnOk result (out.new.items ≡ out.old.items ++ hex_of bytes.now) }
+{
     for byte in bytes {
         push_byte(out, *byte)?;
     }

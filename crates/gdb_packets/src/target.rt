@@ -1,4 +1,7 @@
 //! What a session tells of itself and of its machine, in parts.
+ghost use Rattle.std.specs.Prelude.{◌≡◌, min, drop, IfOk};
+ghost use Rattle.gdb_packets.specs.Answers.{part};
+
 use formats::Reg;
 use std::alloc::{AllocError, Global};
 use std::fmt::Write;
@@ -48,8 +51,10 @@ pub fn part_of(
     document: &[u8],
     offset: u32,
     length: u32,
-) -> Result<Vec<u8>, AllocError> {
-    let rest = document.get(offset as usize..).unwrap_or_default();
+) -> Result<Vec<u8>, AllocError>
+    ensures { IfOk result (λ payload. payload.items ≡ part (min length 4096) (drop offset document.now)) }
+{
+    let rest = &document[(offset as usize).min(document.len())..];
     let size = (length as usize).min(MOST_BYTES).min(rest.len());
     let mut payload = Vec::new(alloc);
     payload.push(if size == rest.len() { b'l' } else { b'm' })?;

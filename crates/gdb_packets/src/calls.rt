@@ -1,13 +1,15 @@
-//! System calls that were done.
-use crate::accesses::{Access, AccessKind};
-use debugger::{Machine, Reply};
+//! System calls that were done, as a text.
 use formats::Reg;
+use machine::{Machine, Reply};
 use std::alloc::{AllocError, Global};
 use std::io;
 use std::io::Write;
 
 /// The most calls that are printed at once.
 const MOST_PRINTED: usize = 1000;
+
+/// The number of the call `write`.
+const WRITE: u32 = 2;
 
 /// A call, and its reply.
 #[derive(Clone, Copy)]
@@ -17,28 +19,6 @@ struct Call {
     number: u32,
     arguments: [u32; 3],
     reply: u32,
-    /// The bytes that its reply stores, if it does.
-    stores: Option<Access>,
-}
-
-/// The bytes that a reply stores: all of the memory, where it brings another program.
-fn stores_of(reply: &Reply) -> Option<Access> {
-    let kind = AccessKind::Store;
-    if reply.image.is_some() {
-        return Some(Access {
-            at: 0,
-            length: 1 << 32,
-            kind,
-        });
-    }
-    match reply.bytes.as_slice() {
-        [] => None,
-        bytes => Some(Access {
-            at: reply.at,
-            length: bytes.len() as u64,
-            kind,
-        }),
-    }
 }
 
 /// An argument that is a number.
@@ -78,6 +58,14 @@ fn print_argument<O: Write>(value: u32, is_address: bool, out: &mut O) -> io::Re
 }
 
 impl Call {
+    /// How many bytes it wrote.
+    fn written(&self) -> u64 {
+        match (self.number, self.reply.cast_signed()) {
+            (WRITE, 0..) => u64::from(self.reply),
+            _ => 0,
+        }
+    }
+
     /// Prints so many arguments as these are, with commas between.
     fn print_arguments<O: Write>(&self, form: &[bool], out: &mut O) -> io::Result<()> {
         for (place, is_address) in form.iter().enumerate() {
@@ -105,11 +93,16 @@ impl Call {
 /// The calls that took a reply, in order.
 pub struct Calls {
     calls: Vec<Call>,
+    /// How many bytes they moved.
+    moved: u64,
 }
 
 impl Drop for Calls {
     fn drop(self) {
-        let Calls { calls: _calls } = self;
+        let Calls {
+            calls: _calls,
+            moved: _,
+        } = self;
     }
 }
 
@@ -118,6 +111,7 @@ impl Calls {
     pub fn new(alloc: Global) -> Calls {
         Calls {
             calls: Vec::new(alloc),
+            moved: 0,
         }
     }
 
@@ -126,17 +120,14 @@ impl Calls {
         self.calls.len()
     }
 
+    /// How many bytes they moved: what replies stored, and what was written.
+    pub fn moved(&self) -> u64 {
+        self.moved
+    }
+
     /// Whether the last one is after so many instructions.
     pub fn ends_at(&self, count: u64) -> bool {
         self.calls.last().is_some_and(|call| call.count == count)
-    }
-
-    /// The bytes that the reply of the call after so many instructions stores, if there is one that does.
-    pub fn stores_at(&self, count: u64) -> Option<Access> {
-        match self.calls.binary_search_by_key(&count, |call| call.count) {
-            Ok(place) => self.calls.get(place)?.stores,
-            Err(_) => None,
-        }
     }
 
     /// Adds the call at which a machine stands.
@@ -146,15 +137,19 @@ impl Calls {
             machine.reg(Reg::new(11)),
             machine.reg(Reg::new(12)),
         ];
-        Ok(
-            self.calls.push(Call {
-                count: machine.count(),
-                number: machine.reg(Reg::new(17)),
-                arguments,
-                reply: reply.a0,
-                stores: stores_of(reply),
-            })?,
-        )
+        let call = Call {
+            count: machine.count(),
+            number: machine.reg(Reg::new(17)),
+            arguments,
+            reply: reply.a0,
+        };
+        self.calls.push(call)?;
+        let stored = reply.bytes.as_slice().len() as u64;
+        self.moved = self
+            .moved
+            .saturating_add(stored)
+            .saturating_add(call.written());
+        Ok(())
     }
 
     /// Prints the last of them, a line each, with a star at those that lie before a count.

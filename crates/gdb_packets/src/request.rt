@@ -1,6 +1,5 @@
 //! What gdb asks for.
-use crate::motion::Motion;
-use crate::numbers::{bytes_of, little_endian, number, range};
+use crate::numbers::{bytes_of, little_endian, range};
 use crate::watching::{Watch, WatchKind};
 use std::alloc::{AllocError, Global};
 
@@ -19,6 +18,19 @@ pub enum Point {
     /// A breakpoint at an address.
     Break(u32),
     Watch(Watch),
+}
+
+/// How a machine is to go.
+#[derive(Clone, Copy)]
+pub enum Motion {
+    /// An instruction on.
+    Step,
+    /// On.
+    Continue,
+    /// An instruction back.
+    StepBack,
+    /// Back.
+    ContinueBack,
 }
 
 /// What gdb asks for.

@@ -12,7 +12,7 @@ impl Timeline {
     /// Goes on to a count, or as far as the program goes.
     fn go_to(&mut self, count: u64) -> Result<(), OutOfMemory> {
         for _ in 0..SLICES {
-            if self.on_to(count)? {
+            if self.ahead(count)?.is_some() {
                 return Ok(());
             }
         }
@@ -21,7 +21,7 @@ impl Timeline {
 
     /// Goes to the state after so many instructions, back, or on as far as the program goes. Says whether it went: it does not go on
     /// farther than gdb waits.
-    pub(crate) fn travel(&mut self, count: u64) -> Result<bool, OutOfMemory> {
+    pub fn travel(&mut self, count: u64) -> Result<bool, OutOfMemory> {
         let now = self.count();
         if count <= now {
             self.debugger.rewind(count)?;

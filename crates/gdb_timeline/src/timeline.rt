@@ -1,10 +1,10 @@
 //! A program's run, forwards and back.
-use crate::done_calls::Calls;
+use crate::ahead::After;
 use crate::fault::OutOfMemory;
 use crate::live::Live;
-use crate::points::Points;
-use crate::stops::Stop;
+use crate::points::{Points, SetPoint};
 use debugger::{Debugger, Image, Machine, Reply};
+use gdb_packets::{Calls, Point};
 use kernel_model::Refused;
 use recorder::{Recorded, Recorder};
 use std::alloc::{AllocError, Global};
@@ -38,7 +38,9 @@ pub struct Timeline {
     /// The greatest count that was reached.
     top: u64,
     /// The count at which the next run on stops, if it is above that of the machine.
-    pub(crate) until: Option<u64>,
+    until: Option<u64>,
+    /// How many bytes the history may take.
+    pub(crate) room: u64,
 }
 
 impl Drop for Timeline {
@@ -53,6 +55,7 @@ impl Drop for Timeline {
             is_line_open: _,
             top: _,
             until: _,
+            room: _,
         } = self;
     }
 }
@@ -88,8 +91,13 @@ fn queue_of(alloc: Global, replies: Vec<Reply>) -> Result<VecDeque<Reply>, Alloc
 }
 
 impl Timeline {
-    /// A program at its first state.
-    pub fn new(alloc: Global, image: Image, origin: Origin) -> Result<Timeline, OutOfMemory> {
+    /// A program at its first state, whose history may take so many bytes.
+    pub fn new(
+        alloc: Global,
+        image: Image,
+        origin: Origin,
+        room: u64,
+    ) -> Result<Timeline, OutOfMemory> {
         let (replies, live) = match origin {
             Origin::Trace(replies) => (queue_of(alloc, replies)?, None),
             Origin::Kernel(recorder, process) => {
@@ -106,22 +114,63 @@ impl Timeline {
             is_line_open: false,
             top: 0,
             until: None,
+            room,
         })
     }
 
     /// The machine as it stands.
-    pub(crate) fn machine(&self) -> &Machine {
+    pub fn machine(&self) -> &Machine {
         self.debugger.state()
     }
 
     /// How many instructions the machine did.
-    pub(crate) fn count(&self) -> u64 {
+    pub fn count(&self) -> u64 {
         self.debugger.state().count()
     }
 
     /// The greatest count that was reached.
-    pub(crate) fn top(&self) -> u64 {
+    pub fn top(&self) -> u64 {
         self.top
+    }
+
+    /// The calls that took a reply.
+    pub fn calls(&self) -> &Calls {
+        &self.calls
+    }
+
+    /// The kernel that answers, if one does.
+    pub fn live(&self) -> Option<&Live> {
+        self.live.as_ref()
+    }
+
+    /// Has the next run on stop at a count, if it is above that of the machine.
+    pub fn stop_at(&mut self, count: u64) {
+        self.until = Some(count);
+    }
+
+    /// The count at which the next run on stops, which is asked for once.
+    pub fn take_limit(&mut self) -> u64 {
+        let count = self.count();
+        match self.until.take() {
+            Some(until) if until > count => until,
+            _ => u64::MAX,
+        }
+    }
+
+    /// Sets a breakpoint or a watch, unless it is set.
+    pub fn set(&mut self, point: Point) -> Result<SetPoint, AllocError> {
+        match point {
+            Point::Break(at) => self.points.set_break(&mut self.debugger, at),
+            Point::Watch(watch) => self.points.set_watch(&self.debugger, watch),
+        }
+    }
+
+    /// Removes a breakpoint or a watch, if it is set.
+    pub fn clear(&mut self, point: Point) {
+        match point {
+            Point::Break(at) => self.points.clear_break(&mut self.debugger, at),
+            Point::Watch(watch) => self.points.clear_watch(watch),
+        }
     }
 
     /// Notes how far the machine came.
@@ -130,12 +179,12 @@ impl Timeline {
     }
 
     /// What gdb is to print.
-    pub(crate) fn notes(&self) -> &[u8] {
+    pub fn notes(&self) -> &[u8] {
         self.notes.as_slice()
     }
 
     /// Forgets what gdb is to print, since it was told.
-    pub(crate) fn forget_notes(&mut self) {
+    pub fn forget_notes(&mut self) {
         self.is_line_open = self.is_line_open();
         self.notes.clear();
     }
@@ -149,7 +198,7 @@ impl Timeline {
     }
 
     /// Adds a line that gdb is to print.
-    pub(crate) fn note<T: Display + Drop>(&mut self, line: T) -> Result<(), OutOfMemory> {
+    pub fn note<T: Display + Drop>(&mut self, line: T) -> Result<(), OutOfMemory> {
         if self.is_line_open() {
             self.notes.push(b'\n')?;
         }
@@ -162,11 +211,10 @@ impl Timeline {
         Ok(self.debugger.extend(reply)?)
     }
 
-    /// What the kernel has for the call at which the machine stands. None where it goes on.
-    fn ask(&mut self) -> Result<Option<Stop>, OutOfMemory> {
+    /// What the kernel has for the call at which the machine stands.
+    fn ask(&mut self) -> Result<After, OutOfMemory> {
         let Some(live) = &mut self.live else {
-            self.note("end of trace")?;
-            return Ok(Some(Stop::End));
+            return self.end("end of trace");
         };
         let pid = live.process();
         let found = live.more();
@@ -176,27 +224,23 @@ impl Timeline {
                 for reply in replies {
                     self.replies.push_back(reply)?;
                 }
-                Ok(None)
+                Ok(After::Part)
             }
-            Ok(Recorded::Going) => Ok(None),
+            Ok(Recorded::Going) => Ok(After::Look),
             Err(Refused::OutOfMemory) => Err(OutOfMemory),
-            found => {
-                self.note(Rest { pid, found })?;
-                Ok(Some(Stop::End))
-            }
+            found => self.end(Rest { pid, found }),
         }
     }
 
-    /// What stands at the call that has no reply: it takes the next one, or the kernel is asked. None where it goes on.
-    pub(crate) fn answer_call(&mut self) -> Result<Option<Stop>, OutOfMemory> {
+    /// What stands at the call that has no reply: it takes the next one, or the kernel is asked.
+    pub(crate) fn answer_call(&mut self) -> Result<After, OutOfMemory> {
         if self.calls.ends_at(self.count()) {
-            self.note("end of trace: the bytes of its reply may not be written")?;
-            return Ok(Some(Stop::End));
+            return self.end("end of trace: the bytes of its reply may not be written");
         }
         match self.replies.pop_front() {
             Some(reply) => {
                 self.give(reply)?;
-                Ok(None)
+                Ok(After::Part)
             }
             None => self.ask(),
         }

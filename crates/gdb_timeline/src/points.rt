@@ -1,7 +1,6 @@
 //! Breakpoints and watches that gdb set.
-use crate::accesses::Access;
-use crate::watching::Watch;
-use debugger::{DebugFault, Debugger};
+use debugger::{Access, AccessKind, DebugFault, Debugger};
+use gdb_packets::Watch;
 use std::alloc::{AllocError, Global};
 
 /// The most watches at a time.
@@ -28,6 +27,8 @@ pub enum SetPoint {
 pub struct Points {
     breaks: Vec<Breakpoint>,
     watches: Vec<Watch>,
+    /// Whether nothing stops the machine until `put`.
+    is_lifted: bool,
 }
 
 impl Drop for Points {
@@ -35,7 +36,16 @@ impl Drop for Points {
         let Points {
             breaks: _breaks,
             watches: _watches,
+            is_lifted: _,
         } = self;
+    }
+}
+
+/// Whether an access meets a watch.
+fn is_met(watch: &Watch, access: &Access) -> bool {
+    match access.kind {
+        AccessKind::Load => watch.meets_load(access.at, access.length),
+        AccessKind::Store => watch.meets_store(access.at, access.length),
     }
 }
 
@@ -45,6 +55,7 @@ impl Points {
         Points {
             breaks: Vec::new(alloc),
             watches: Vec::new(alloc),
+            is_lifted: false,
         }
     }
 
@@ -57,16 +68,21 @@ impl Points {
         self.place_of(at).is_some()
     }
 
-    /// Whether a watch is set.
+    /// Whether a breakpoint stops the machine.
+    pub fn breaks(&self) -> bool {
+        !self.is_lifted && !self.breaks.is_empty()
+    }
+
+    /// Whether a watch stops the machine.
     pub fn watches(&self) -> bool {
-        !self.watches.is_empty()
+        !self.is_lifted && !self.watches.is_empty()
     }
 
     /// The first watch that an access meets.
     pub fn met_by(&self, access: &Access) -> Option<Watch> {
         self.watches
             .iter()
-            .find(|watch| watch.meets(access))
+            .find(|watch| is_met(watch, access))
             .copied()
     }
 
@@ -119,16 +135,18 @@ impl Points {
         }
     }
 
-    /// Takes all breakpoints out of the debugger, until `put`.
-    pub fn lift(&self, debugger: &mut Debugger) {
+    /// Has nothing stop the machine, until `put`.
+    pub fn lift(&mut self, debugger: &mut Debugger) {
+        self.is_lifted = true;
         for point in self.breaks.iter() {
             // The debugger has it, since it was set there.
             let _ = debugger.clear(point.number);
         }
     }
 
-    /// Sets all breakpoints in the debugger, after `lift`.
+    /// Has all breakpoints and watches stop the machine again, after `lift`.
     pub fn put(&mut self, debugger: &mut Debugger) -> Result<(), DebugFault> {
+        self.is_lifted = false;
         for point in self.breaks.iter_mut() {
             point.number = debugger.break_at(point.at)?;
         }
