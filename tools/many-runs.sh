@@ -2,7 +2,7 @@
 # many-runs.sh [RUNS]: runs each example, and eight of them side by side, again and again (200 times where no number is given), by
 # 1 to 16 workers and with quanta of 1, 7 and 10000 instructions, and compares each run with the first. The last line says how many
 # were compared; at the first difference, or a run that fails, the script ends with status 1. Before that it sees that there are as
-# many worker threads as --workers says, and that --quantum says how long a loan is. It needs Linux's /proc.
+# many worker threads as --workers says, that all of them work, and that --quantum says how long a loan is. It needs Linux's /proc.
 #
 # Eight programs side by side fix what each terminal shows, how many processes there are and how each ends, but not which
 # number a process gets: so the numbers are left out there.
@@ -84,6 +84,24 @@ for workers in 2 5 16; do
         exit 1
     fi
 done
+
+# How many threads of the program have worked, after two seconds of as many endless programs as these words are.
+at_work() {
+    workers=$1
+    shift
+    "$bench" run --workers "$workers" "$@" >printed 2>said &
+    running=$!
+    sleep 2
+    awk '{ sub(/^.*[)] /, ""); if ($12 >= 10) n++ } END { print n + 0 }' /proc/"$running"/task/*/stat
+    kill "$running"
+    wait "$running" 2>killed || true
+}
+
+# As many of them work as there are workers, where there are as many programs: each has had a tenth of a second at least.
+if [ "$(at_work 1 endless endless endless)" -ne 1 ] || [ "$(at_work 3 endless endless endless)" -ne 3 ]; then
+    echo "not as many threads work as --workers says" >&2
+    exit 1
+fi
 
 # By one worker a loan's length shows in what is written first: the child, which counts first, is lent first.
 "$bench" asm "$here/crates/test_runner/data/forked.s" forked >said

@@ -1,4 +1,5 @@
 -- Lemmas.
+pub mod Tickets
 pub mod Adding
 pub mod Publishing
 pub mod Sharing

@@ -2,4 +2,5 @@
 pub mod Totals
 pub mod LoanIds
 pub mod Holdings
+pub mod Tickets
 pub mod Benches

@@ -9,8 +9,10 @@ ghost use Rattle.board.specs.Pairs.{publisher, pair_of};
 ghost use Rattle.bursts.specs.Totals.{none, history_totals, settled_totals, one_event as one_event_more, is_of_disk};
 ghost use Rattle.bursts.specs.Holdings.{parts_in, sum_of, GrowsByLend, GrowsBySettle, GrowsByOne};
 
+use crate::lender::Lender;
 use crate::naming::Naming;
 use crate::share::{Blanks, Books, Share};
+use crate::ticket::{TicketedDone, TicketedLoan};
 use crate::totals::{Totals, totals_of};
 use board::{Board, Writer};
 use kernel::{Answer, Core, Done, Event, Loan, Refused, Rejected, counts_never_fall};
@@ -18,11 +20,11 @@ use std::marker::Model;
 use std::sync::Wait;
 
 /// A core to be put under a lock, the pass that publishes on its board, and the books of what all shares add up to. Contracts see
-/// the core, and whether `stop` was called. The type keeps two facts. The pair published last is the core's, and the books are the
-/// totals of the core's history.
+/// the core, and whether `stop` was called. The type keeps three facts. The pair published last is the core's, the books are the
+/// totals of the core's history, and by its ticket a loan is known that this bench gave.
 #[derive(Drop)]
 pub struct Bench<'a, N: Naming> {
-    core: Core,
+    lender: Lender<N>,
     board: &'a Board<N>,
     writer: Writer,
     books: Books<N>,
@@ -42,17 +44,17 @@ impl<'a, N: Naming> Model for Bench<'a, N> {
     ghost use Rattle.board.specs.Pairs.{pair_of};
     ghost use Rattle.bursts.specs.Totals.{history_totals};
 
-    ghost view = { λ b. record { core = b.core; stopped = b.stopped } };
+    ghost view = { λ b. record { core = b.lender; stopped = b.stopped } };
 
     ghost invariant = { λ b. (b.writer.pass.table_id ≡ b.board.now.cell.table.shared.table_id)
         × ((cell_view b.writer.pass).publishes ≡ true)
-        × (pair_of (cell_view b.writer.pass) ≡ (committed (now b.core), changes (now b.core)))
-        × (b.books ≡ history_totals b.core) };
+        × (pair_of (cell_view b.writer.pass) ≡ (committed (now b.lender), changes (now b.lender)))
+        × (b.books ≡ history_totals b.lender) };
 }
 
 impl<'a, N: Naming> Bench<'a, N> {
     /// A bench of this core, and the one share, which has all 64 parts and stands at the totals of the core's history. The board
-    /// and the publishing pass were made from the core as it now stands; no run has the four ledgers yet.
+    /// and the publishing pass were made from the core as it now stands; no run has the four ledgers and the log yet.
     pub fn new(
         core: Core,
         board: &'a Board<N>,
@@ -65,13 +67,21 @@ impl<'a, N: Naming> Bench<'a, N> {
         requires ran { (blanks.ran.name ≡ N.ran) × (blanks.ran.parts ≡ 64) }
         requires turns { (blanks.turns.name ≡ N.turns) × (blanks.turns.parts ≡ 64) }
         requires enters { (blanks.enters.name ≡ N.enters) × (blanks.enters.parts ≡ 64) }
+        requires loans { blanks.loans.seen.book ≡ N.book }
         ensures bench { result.0 ≡ record { core = core; stopped = false } }
         ensures share { (result.1.parts ≡ 64) × (result.1.totals ≡ history_totals core) × (result.1.lent ≡ []) }
     {
         let totals = totals_of(&core);
-        let (books, share) = Books::open(blanks, totals);
+        let Blanks {
+            events,
+            ran,
+            turns,
+            enters,
+            loans,
+        } = blanks;
+        let (books, share) = Books::open(events, ran, turns, enters, totals);
         let bench = Bench {
-            core,
+            lender: Lender::new(core, loans),
             board,
             writer,
             books,
@@ -84,7 +94,7 @@ impl<'a, N: Naming> Bench<'a, N> {
     pub fn core(&self) -> &Core
         ensures { result.now ≡ self.now.core }
     {
-        &self.core
+        self.lender.core()
     }
 
     /// Lends, as `Core::lend` does. A loan that is given is noted in the share. Neither the board nor the books change, so nothing
@@ -94,9 +104,25 @@ impl<'a, N: Naming> Bench<'a, N> {
         ensures share { GrowsByLend share.old share.new result }
         ensures stopped { self.new.stopped ≡ self.old.stopped }
     {
-        let given = self.core.lend(quantum)?;
+        match self.lend_ticketed(quantum, share)? {
+            Some(given) => Ok(Some(given.into_loan())),
+            None => Ok(None),
+        }
+    }
+
+    /// As `lend`. The loan has a ticket, by which this bench knows its result again.
+    pub fn lend_ticketed(
+        &mut self,
+        quantum: u32,
+        share: &mut Share<N>,
+    ) -> Result<Option<TicketedLoan<N>>, Refused>
+        ensures lends { Lends self.old.core quantum self.new.core (lent_out result) }
+        ensures share { GrowsByLend share.old share.new result }
+        ensures stopped { self.new.stopped ≡ self.old.stopped }
+    {
+        let given = self.lender.lend(quantum)?;
         if let Some(loan) = &given {
-            share.note(loan);
+            share.note(loan.loan());
         }
         Ok(given)
     }
@@ -113,12 +139,27 @@ impl<'a, N: Naming> Bench<'a, N> {
         ensures stopped { self.new.stopped ≡ self.old.stopped }
         ensures share { GrowsBySettle done.pid share.old share.new result }
     {
+        self.settle_ticketed(rt, TicketedDone::plain(done), share)
+    }
+
+    /// As `settle`. Of a result with a ticket that this bench gave it does not compare the state from which it began: it is the one
+    /// that the core keeps.
+    pub fn settle_ticketed<R: Wait>(
+        &mut self,
+        rt: &R,
+        done: TicketedDone<N>,
+        share: &mut Share<N>,
+    ) -> Result<Answer, Rejected>
+        ensures settles { Settles self.old.core done self.new.core result }
+        ensures stopped { self.new.stopped ≡ self.old.stopped }
+        ensures share { GrowsBySettle done.pid share.old share.new result }
+    {
         counts_never_fall();
-        let pid = done.pid;
-        let answer = self.core.settle(done)?;
+        let pid = done.pid();
+        let answer = self.lender.settle(done)?;
         self.books
-            .enter(share, totals_of_answer(pid, &answer), &self.core);
-        publish(rt, self.board, &mut self.writer, &self.core);
+            .enter(share, totals_of_answer(pid, &answer), self.lender.core());
+        publish(rt, self.board, &mut self.writer, self.lender.core());
         Ok(answer)
     }
 
@@ -175,9 +216,9 @@ impl<'a, N: Naming> Bench<'a, N> {
         ensures share { GrowsByOne share.old share.new result }
     {
         counts_never_fall();
-        let answer = self.core.apply(event)?;
-        self.books.enter(share, one_event(), &self.core);
-        publish(rt, self.board, &mut self.writer, &self.core);
+        let answer = self.lender.apply(event)?;
+        self.books.enter(share, one_event(), self.lender.core());
+        publish(rt, self.board, &mut self.writer, self.lender.core());
         Ok(answer)
     }
 }
@@ -187,7 +228,7 @@ impl<'a, N: Naming> Bench<'a, N> {
     pub fn over(&self, quantum: u32) -> bool
         ensures { result ≡ (self.now.stopped || is_over self.now.core quantum) }
     {
-        self.stopped || self.core.over(quantum)
+        self.stopped || self.lender.core().over(quantum)
     }
 
     /// From now on `over` answers true.
@@ -211,9 +252,9 @@ pub fn gather<'a, N: Naming>(bench: Bench<'a, N>, shares: Vec<Share<N>>) -> Core
     ensures core { result ≡ bench.entry.core }
     ensures shares { parts_in shares.items ≡ 64 → sum_of shares.items ≡ history_totals result }
 {
-    let Bench { core, books, .. } = bench;
+    let Bench { lender, books, .. } = bench;
     books.close(shares);
-    core
+    lender.into_core()
 }
 
 /// What the result of process `pid` adds that was taken back with this answer.

@@ -8,9 +8,11 @@ mod burst;
 mod core_board;
 mod fault;
 mod gate;
+mod lender;
 mod loan_id;
 mod naming;
 mod share;
+mod ticket;
 mod totals;
 
 pub use bench::{Bench, gather};
@@ -23,4 +25,5 @@ pub use kernel::{Done, Loan, Rejected};
 pub use loan_id::LoanId;
 pub use naming::Naming;
 pub use share::{Blanks, Share};
+pub use ticket::{LentLoan, Ticket, TicketedDone, TicketedLoan};
 pub use totals::{Totals, totals_of};

@@ -1,13 +1,14 @@
-//! The names of a run's ledgers and its board.
+//! The names of a run's ledgers, its board and its log of loans.
 ghost use Rattle.std.specs.Prelude.{ℕ};
 
 use board::Opening;
+use ghost_log::LogName;
 use std::marker::{Brand, PhantomData};
 use std::sync::ledger::Ledger;
 
-/// The names of a run's four ledgers, beside the pair with which its board opens. They exist in proofs alone. The caller of the one
+/// The names of a run's four ledgers, beside that of its log of loans and the pair with which its board opens. They exist in proofs alone. The caller of the one
 /// function that makes a run's board and bench picks them.
-pub trait Naming: Opening {
+pub trait Naming: Opening + LogName {
     ghost events: { ℕ };
 
     ghost ran: { ℕ };

@@ -6,19 +6,23 @@ ghost use Rattle.bursts.specs.Holdings.{with_share, with_shares, parts_in, sum_o
 
 use crate::loan_id::LoanId;
 use crate::naming::{Enters, Events, Naming, Ran, Turns};
+use crate::ticket::LentLoan;
 use crate::totals::Totals;
+use ghost_log::Blank as EmptyLog;
 use kernel::{Core, Loan};
 use notes::Notes;
 use std::marker::Model;
 use std::sync::ledger::{Blank, Book, Ledger, Share as Mark};
 
-/// Four ledgers (ghost accounts) that no run has yet. They have no bytes.
+/// Four ledgers (ghost accounts) that no run has yet, which have no bytes, and a log of loans.
 #[derive(Drop)]
 pub struct Blanks {
     pub events: Blank,
     pub ran: Blank,
     pub turns: Blank,
     pub enters: Blank,
+    /// A log of loans that no run has yet.
+    pub loans: EmptyLog<LentLoan>,
 }
 
 impl Blanks {
@@ -30,6 +34,7 @@ impl Blanks {
             ran: Blank::new(64),
             turns: Blank::new(64),
             enters: Blank::new(64),
+            loans: EmptyLog::new(),
         }
     }
 }
@@ -180,20 +185,20 @@ impl<N: Naming> Model for Books<N> {
 
 impl<N: Naming> Books<N> {
     /// Books that stand at these totals, and the one share, which has all parts and stands there too.
-    pub(crate) fn open(blanks: Blanks, totals: Totals) -> (Books<N>, Share<N>)
-        requires events { (blanks.events.name ≡ N.events) × (blanks.events.parts ≡ 64) }
-        requires ran { (blanks.ran.name ≡ N.ran) × (blanks.ran.parts ≡ 64) }
-        requires turns { (blanks.turns.name ≡ N.turns) × (blanks.turns.parts ≡ 64) }
-        requires enters { (blanks.enters.name ≡ N.enters) × (blanks.enters.parts ≡ 64) }
+    pub(crate) fn open(
+        events: Blank,
+        ran: Blank,
+        turns: Blank,
+        enters: Blank,
+        totals: Totals,
+    ) -> (Books<N>, Share<N>)
+        requires events { (events.name ≡ N.events) × (events.parts ≡ 64) }
+        requires ran { (ran.name ≡ N.ran) × (ran.parts ≡ 64) }
+        requires turns { (turns.name ≡ N.turns) × (turns.parts ≡ 64) }
+        requires enters { (enters.name ≡ N.enters) × (enters.parts ≡ 64) }
         ensures books { result.0 ≡ totals }
         ensures share { result.1 ≡ record { parts = 64; totals = totals; lent = [] } }
     {
-        let Blanks {
-            events,
-            ran,
-            turns,
-            enters,
-        } = blanks;
         let (event_book, event_mark, no_events) = opened::<Events<N>>(events, totals.events);
         let (ran_book, ran_mark, no_ran) = opened::<Ran<N>>(ran, totals.ran);
         let (turn_book, turn_mark, no_turns) = opened::<Turns<N>>(turns, totals.turns);

@@ -122,6 +122,7 @@ fn run_named<
     requires ran { (blanks.ran.name ≡ N.ran) × (blanks.ran.parts ≡ 64) }
     requires turns { (blanks.turns.name ≡ N.turns) × (blanks.turns.parts ≡ 64) }
     requires enters { (blanks.enters.name ≡ N.enters) × (blanks.enters.parts ≡ 64) }
+    requires loans { blanks.loans.seen.book ≡ N.book }
 {
     let (board, writer, pass) = board_of::<N>(alloc, &core)?;
     let board = &board;

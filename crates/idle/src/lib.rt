@@ -15,11 +15,16 @@ const PAUSE: u64 = 100;
 /// The longest sleep, in these pauses.
 const MOST_PAUSES: u32 = 50;
 
+/// After so many turns without work a sleep gets no longer.
+const MOST_TURNS: u32 = YIELDS + MOST_PAUSES - 1;
+
 /// A thread's turns without work. At first it yields its processor; after a while it sleeps, longer and longer, up to five
 /// milliseconds. So a wait that lasts costs next to no processor, and new work waits for five milliseconds at most.
 #[derive(Drop)]
 pub struct Rest {
     turns: u32,
+    /// By how many turns the next work found makes it shorter.
+    relief: u32,
     parker: Parker,
 }
 
@@ -28,6 +33,7 @@ impl Rest {
     pub fn new() -> Rest {
         Rest {
             turns: 0,
+            relief: 1,
             parker: Parker::new(),
         }
     }
@@ -37,15 +43,29 @@ impl Rest {
         self.turns = 0;
     }
 
+    /// There was something to do, which another thread would have done too. The next rest is shorter by one turn, and by twice as
+    /// many for each further time without a rest between. So a thread that comes by work only now and then sleeps on, and one that
+    /// finds work seven times in a row is awake.
+    pub fn shorten(&mut self) {
+        self.turns = self.turns.saturating_sub(self.relief);
+        self.relief = self.relief.saturating_mul(2);
+    }
+
+    /// Whether its next turn without work is a sleep.
+    pub fn is_asleep(&self) -> bool {
+        self.turns >= YIELDS
+    }
+
     /// One more turn without work, after which the thread yields or sleeps.
     pub fn take<R: Wait>(&mut self, rt: &R) {
+        self.relief = 1;
         if self.turns < YIELDS {
             thread::yield_now();
         } else {
-            let pauses = (self.turns - YIELDS + 1).min(MOST_PAUSES);
+            let pauses = self.turns - YIELDS + 1;
             self.parker
                 .park_timeout(rt, Duration::from_micros(PAUSE * u64::from(pauses)));
         }
-        self.turns = self.turns.saturating_add(1);
+        self.turns = self.turns.saturating_add(1).min(MOST_TURNS);
     }
 }

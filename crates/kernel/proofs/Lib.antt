@@ -1,5 +1,6 @@
 -- Lemmas.
 pub mod Accepting
+pub mod KnownLoans
 pub mod Applying
 pub mod Draining
 pub mod Parts

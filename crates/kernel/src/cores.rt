@@ -4,6 +4,7 @@ ghost use Rattle.kernel_model.specs.Answers.{Applies};
 ghost use Rattle.kernel_model.specs.Ran.{ran_by_turns, ran_in};
 ghost use Rattle.kernel_model.specs.Loans.{Lends};
 ghost use Rattle.kernel_model.specs.World.{Boot};
+ghost use Rattle.kernel_step.specs.Known.{IsKnownResult};
 ghost use Rattle.kernel_step.specs.Loaned.{lent_out, Settles};
 ghost use Rattle.kernel_step.specs.Stands.{Stands, kernel_in};
 
@@ -118,6 +119,17 @@ impl Core {
     {
         let pid = done.pid;
         let result = self.running.settle(done);
+        self.sums.add_loan(pid, &result);
+        result
+    }
+
+    /// As `settle`, of a result of which it is known from which state its loan began. So no states are compared.
+    pub fn settle_known(&mut self, done: Done) -> Result<Answer, Rejected>
+        requires { IsKnownResult self.old done }
+        ensures { Settles self.old done self.new result }
+    {
+        let pid = done.pid;
+        let result = self.running.settle_known(done);
         self.sums.add_loan(pid, &result);
         result
     }

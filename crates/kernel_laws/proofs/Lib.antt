@@ -3,6 +3,7 @@ pub mod Machines
 pub mod Prefixes
 pub mod Processes
 pub mod Others
+pub mod Lent
 pub mod Children
 pub mod Replies
 pub mod Descent

@@ -2,13 +2,14 @@
 //! promises. The others say what becomes of crashes, of interleavings and of drains.
 #![tactic(auto)]
 
-ghost use Rattle.std.specs.Prelude.{List, [], ℕ, ◌≡◌, ◌≤◌, ◌<◌, ◌+◌, ◌==◌, ◌&&◌, if◌then◌else◌, true, false, is_some};
+ghost use Rattle.std.specs.Prelude.{List, [], ℕ, ◌≡◌, ◌≤◌, ◌<◌, ◌+◌, ◌==◌, ◌&&◌, if◌then◌else◌, true, false, None, Some, is_some};
 ghost use Rattle.disk_model.specs.declared.change.Change.{Change};
 ghost use Rattle.disk_model.specs.declared.change.NamedFile.{NamedFile};
 ghost use Rattle.disk_model.specs.Files.{files_after};
 ghost use Rattle.disk_model.specs.Held.{IsHeld, joined};
 ghost use Rattle.disk_model.specs.Storage.{Storage, completed, is_empty, is_quiet, piece_at};
-ghost use Rattle.kernel_model.specs.Answers.{Kernel, changes, committed, now, with_events, writes_to_come};
+ghost use Rattle.kernel_model.specs.Answers.{Kernel, changes, committed, is_lent, now, process_of, refusal, with_event, with_events, writes_to_come};
+ghost use Rattle.kernel_model.specs.State.{Process};
 ghost use Rattle.kernel_model.specs.Drains.{Drains};
 ghost use Rattle.kernel_model.specs.Shown.{handed, printed, shown, told};
 ghost use Rattle.kernel_model.specs.declared.event.Event.{Event};
@@ -157,6 +158,12 @@ pub fn counts_never_fall()
 {
     runs_are_orderly();
 }
+
+/// A law: an event that is accepted leaves each process that is lent as it was.
+pub fn lent_processes_stay()
+    ensures { (k : Kernel) (e : Event) (p : ℕ) (x : Process) → refusal k e ≡ None → is_lent k p ≡ true → process_of k p ≡ Some x
+        → process_of (with_event k e) p ≡ Some x }
+{}
 
 /// A law: a drain is its events, applied one after the other.
 pub fn drains_are_events()

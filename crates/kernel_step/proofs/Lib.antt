@@ -27,6 +27,7 @@ pub mod Releasing
 pub mod Replying
 pub mod SettleAccepted
 pub mod SettleCore
+pub mod KnownLoans
 pub mod SettleWorld
 pub mod Settled
 pub mod Standings

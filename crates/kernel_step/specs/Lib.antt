@@ -7,6 +7,7 @@ pub mod Entering
 pub mod First
 pub mod Lending
 pub mod Loaned
+pub mod Known
 pub mod Mirrors
 pub mod Parts
 pub mod Ready

@@ -1,8 +1,9 @@
 //! Loans' results taken back.
-ghost use Rattle.std.specs.Prelude.{◌≡◌, ◌++◌, ◌∷◌, [], ◌↔◌, IsTrue, Some, IfOk, IfErr, OnOk, OnErr};
+ghost use Rattle.std.specs.Prelude.{◌≡◌, ◌++◌, ◌∷◌, [], ◌↔◌, IsTrue, true, Some, IfOk, IfErr, OnOk, OnErr};
 ghost use Rattle.machine_model.specs.States.{stands_at};
 ghost use Rattle.kernel_model.specs.World.{Boot};
-ghost use Rattle.kernel_step.specs.Stands.{Stands, TakesBack};
+ghost use Rattle.kernel_step.specs.Known.{IsKnownResult, MayBeLoanOf};
+ghost use Rattle.kernel_step.specs.Stands.{Stands, TakesBack, kernel_in};
 ghost use Rattle.kernel_model.specs.declared.answer.Outcome.{Outcome};
 ghost use Rattle.held_output.specs.Withheld.{IsSame};
 ghost use Rattle.kernel_step.specs.Entering.{IsSameSystem};
@@ -32,13 +33,18 @@ use std::alloc::AllocError;
 use std::mem;
 use std::sync::Arc;
 
-fn is_of_loan(task: &Task, done: &Done) -> bool
+/// Whether a result is of the loan that a task is out on. Where it is known that it began from the state which the task keeps, if
+/// the numbers agree, the two states are not compared.
+fn is_of_loan(task: &Task, done: &Done, is_known: bool) -> bool
+    requires { is_known ≡ true → MayBeLoanOf task.now done.now }
     ensures { IsTrue result ↔ IsLoanOf task.now done.now }
 {
     match &task.whereabouts {
         Whereabouts::Here(_) => false,
         Whereabouts::Out { began, quantum } => {
-            *quantum == done.quantum && task.loans == done.number && began.is_same(&done.began)
+            *quantum == done.quantum
+                && task.loans == done.number
+                && (is_known || began.is_same(&done.began))
         }
     }
 }
@@ -130,6 +136,22 @@ impl Running {
         requires { (b : Boot) × Stands b self.old }
         ensures { (b : Boot) → Stands b self.old → TakesBack b done self.old self.new result }
     {
+        self.take_back(done, false)
+    }
+
+    /// As `Core::settle_known`. The clause speaks of every boot of which these are the parts.
+    pub fn settle_known(&mut self, done: Done) -> Result<Answer, Rejected>
+        requires { (b : Boot) × Stands b self.old × IsKnownResult (kernel_in b self.old) done }
+        ensures { (b : Boot) → Stands b self.old → TakesBack b done self.old self.new result }
+    {
+        self.take_back(done, true)
+    }
+
+    /// As `settle`, and where it is known from which state the result began, as `settle_known`.
+    fn take_back(&mut self, done: Done, is_known: bool) -> Result<Answer, Rejected>
+        requires { (b : Boot) × Stands b self.old × (is_known ≡ true → IsKnownResult (kernel_in b self.old) done) }
+        ensures { (b : Boot) → Stands b self.old → TakesBack b done self.old self.new result }
+    {
         checkpoints_fit();
         made_files_change();
         steps_are_shown();
@@ -143,7 +165,7 @@ impl Running {
             });
         };
         let task = &self.tasks[place];
-        if !is_of_loan(task, &done) {
+        if !is_of_loan(task, &done, is_known) {
             return Err(Rejected {
                 why: Refused::Stranger,
                 done,

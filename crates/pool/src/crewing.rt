@@ -184,7 +184,8 @@ fn take_turn<N: Naming, G: Gate, R: Wait>(
     }
 }
 
-/// Takes turns until the bench answers that the work is over, or a turn fails, and gives that turn's fault.
+/// Takes turns until the bench answers that the work is over, or a turn fails, and gives that turn's fault. A worker that has slept
+/// for want of work, and finds the lock taken, sleeps on: whoever has it is at work on what there is.
 fn work_on<N: Naming, G: Gate, R: Wait>(
     rt: &R,
     seat: &mut Seat<'_, '_, N>,
@@ -195,8 +196,12 @@ fn work_on<N: Naming, G: Gate, R: Wait>(
 {
     let mut rest = Rest::new();
     for _ in rt.forever() {
+        if rest.is_asleep() && !seat.is_lock_free() {
+            rest.take(rt);
+            continue;
+        }
         match take_turn(rt, seat, gate, quantum) {
-            Next::Ask => rest.end(),
+            Next::Ask => rest.shorten(),
             Next::Rest => rest.take(rt),
             Next::End(fault) => return fault,
         }

@@ -10,12 +10,12 @@ ghost use Rattle.pool.specs.Fetching.{Fetches};
 use crate::loans::{Other, Own};
 use crate::locking::lock_soon;
 use crate::seats::Seat;
-use bursts::{Bench, Loan, Naming, Share};
+use bursts::{Bench, Loan, Naming, Share, TicketedLoan};
 use kernel::Refused;
 use std::sync::{Mutex, Wait};
 
 /// A loan stolen from the first of these deques that has one.
-fn steal_round<R: Wait>(rt: &R, others: &mut Vec<Other>) -> Option<Loan>
+fn steal_round<N: Naming, R: Wait>(rt: &R, others: &mut Vec<Other<N>>) -> Option<TicketedLoan<N>>
     ensures { MatchOption result (others.new.items ≡ map missed_at others.old.items) (λ l. Stolen others.old.items others.new.items (id_of_loan l)) }
 {
     for place in 0..others.len() {
@@ -31,15 +31,15 @@ fn steal_round<R: Wait>(rt: &R, others: &mut Vec<Other>) -> Option<Loan>
 /// refusal only ends it.
 fn lend_more<N: Naming>(
     bench: &mut Bench<'_, N>,
-    own: &mut Own,
+    own: &mut Own<N>,
     share: &mut Share<N>,
     quantum: u32,
-) -> Option<Loan>
+) -> Option<TicketedLoan<N>>
     ensures bench { LendsNoted bench.old quantum bench.new share.old share.new }
     ensures lent { Lent [] quantum own.old own.new (option_map id_of_loan result) share.old share.new }
 {
     for _ in 0..7u32 {
-        match bench.lend(quantum, share) {
+        match bench.lend_ticketed(quantum, share) {
             Ok(Some(loan)) => {
                 if let Err(back) = own.keep(loan) {
                     return Some(back);
@@ -56,11 +56,11 @@ fn lend_more<N: Naming>(
 /// is to stop.
 fn lend_some<N: Naming>(
     bench: &mut Bench<'_, N>,
-    own: &mut Own,
-    spare: &mut Option<Loan>,
+    own: &mut Own<N>,
+    spare: &mut Option<TicketedLoan<N>>,
     share: &mut Share<N>,
     quantum: u32,
-) -> Result<Option<Loan>, Refused>
+) -> Result<Option<TicketedLoan<N>>, Refused>
     ensures bench { LendsNoted bench.old quantum bench.new share.old share.new }
     ensures lent { MatchResult result (λ given. MatchOption given ((own.new ≡ own.old) × (spare.new ≡ spare.old) × (share.new ≡ share.old))
         (λ l. Lent (id_of_loan l ∷ []) quantum own.old own.new (option_map id_of_loan spare.new) share.old share.new))
@@ -72,7 +72,7 @@ fn lend_some<N: Naming>(
     if bench.is_stopped() {
         return Ok(None);
     }
-    let first = match bench.lend(quantum, share) {
+    let first = match bench.lend_ticketed(quantum, share) {
         Ok(Some(first)) => first,
         Ok(None) => return Ok(None),
         Err(why) => return Err(why),
@@ -85,11 +85,11 @@ fn lend_some<N: Naming>(
 fn lend_under_lock<N: Naming, R: Wait>(
     rt: &R,
     lock: &Mutex<Bench<'_, N>>,
-    own: &mut Own,
-    spare: &mut Option<Loan>,
+    own: &mut Own<N>,
+    spare: &mut Option<TicketedLoan<N>>,
     share: &mut Share<N>,
     quantum: u32,
-) -> Result<Option<Loan>, Refused>
+) -> Result<Option<TicketedLoan<N>>, Refused>
     ensures { MatchResult result (λ given. MatchOption given ((own.new ≡ own.old) × (spare.new ≡ spare.old) × (share.new ≡ share.old) × IsNothingLendable quantum)
         (λ l. Lent (id_of_loan l ∷ []) quantum own.old own.new (option_map id_of_loan spare.new) share.old share.new))
         (λ why. (own.new ≡ own.old) × (spare.new ≡ spare.old) × (share.new ≡ share.old) × IsLoanRefusal why) }
@@ -104,6 +104,20 @@ impl<'p, 'b, N: Naming> Seat<'p, 'b, N> {
     /// deque. One that finds no room there becomes the one to spare, and no more are lent. None where nothing is lendable, and once
     /// the work is to stop. Refused where the first lending is; the seat is then as it was.
     pub fn fetch<R: Wait>(&mut self, rt: &R, quantum: u32) -> Result<Option<Loan>, Refused>
+        ensures { Fetches self.old quantum self.new result }
+    {
+        match self.fetch_ticketed(rt, quantum)? {
+            Some(given) => Ok(Some(given.into_loan())),
+            None => Ok(None),
+        }
+    }
+
+    /// As `fetch`. A loan of the core has its ticket.
+    pub(crate) fn fetch_ticketed<R: Wait>(
+        &mut self,
+        rt: &R,
+        quantum: u32,
+    ) -> Result<Option<TicketedLoan<N>>, Refused>
         ensures { Fetches self.old quantum self.new result }
     {
         if let Some(loan) = self.spare.take() {

@@ -4,7 +4,7 @@ ghost use Rattle.bursts.specs.LoanIds.{id_of_loan};
 ghost use Rattle.pool.specs.Deques.{new_at, put_in, took_from, missed_at};
 
 use crate::deques::{LoanPass, Owner, Thief, empty_deque, from_other, from_own, guest, keep};
-use bursts::Loan;
+use bursts::{Naming, TicketedLoan};
 use notes::Notes;
 use std::alloc::{AllocError, Global};
 use std::marker::Model;
@@ -12,12 +12,12 @@ use std::sync::Wait;
 
 /// The worker's own deque. Contracts see which it is, what its pass put in and took, and how often nothing was found there.
 #[derive(Drop)]
-pub(crate) struct Own {
-    owner: Owner,
+pub(crate) struct Own<N: Naming> {
+    owner: Owner<N>,
     missed: Notes<()>,
 }
 
-impl Model for Own {
+impl<N: Naming> Model for Own<N> {
     ghost use Rattle.pool.specs.Deques.{AtDeque};
 
     ghost Value = { AtDeque };
@@ -30,9 +30,9 @@ impl Model for Own {
     ghost invariant = { λ o. worker_flavor o.owner ≡ 0 };
 }
 
-impl Own {
+impl<N: Naming> Own<N> {
     /// An empty deque, with room for 8 loans at first.
-    pub(crate) fn new(alloc: Global) -> Result<Own, AllocError>
+    pub(crate) fn new(alloc: Global) -> Result<Own<N>, AllocError>
         ensures { IfOk result (λ o. o ≡ new_at o.deque) }
     {
         let owner = empty_deque(alloc)?;
@@ -43,7 +43,7 @@ impl Own {
     }
 
     /// The same deque as another worker has it, which has taken nothing.
-    pub(crate) fn other(&self) -> Result<Other, AllocError>
+    pub(crate) fn other(&self) -> Result<Other<N>, AllocError>
         ensures { IfOk result (λ o. o ≡ new_at self.now.deque) }
     {
         let thief = self.owner.stealer()?;
@@ -55,7 +55,7 @@ impl Own {
         })
     }
 
-    pub(crate) fn next_loan(&mut self) -> Option<Loan>
+    pub(crate) fn next_loan(&mut self) -> Option<TicketedLoan<N>>
         ensures { MatchOption result (self.new ≡ missed_at self.old) (λ l. self.new ≡ took_from self.old (id_of_loan l)) }
     {
         let found = from_own(&mut self.owner);
@@ -66,7 +66,7 @@ impl Own {
     }
 
     /// Keeps a loan. It comes back where there is no room.
-    pub(crate) fn keep(&mut self, loan: Loan) -> Result<(), Loan>
+    pub(crate) fn keep(&mut self, loan: TicketedLoan<N>) -> Result<(), TicketedLoan<N>>
         ensures { MatchResult result (λ _. self.new ≡ put_in self.old (id_of_loan loan ∷ [])) (λ l. (l ≡ loan) × (self.new ≡ self.old)) }
     {
         keep(&mut self.owner, loan)
@@ -76,13 +76,13 @@ impl Own {
 /// Another worker's deque. Contracts see which it is, what this worker's pass took from it, and how often this worker found nothing
 /// there.
 #[derive(Drop)]
-pub(crate) struct Other {
-    thief: Thief,
-    pass: LoanPass,
+pub(crate) struct Other<N: Naming> {
+    thief: Thief<N>,
+    pass: LoanPass<N>,
     missed: Notes<()>,
 }
 
-impl Model for Other {
+impl<N: Naming> Model for Other<N> {
     ghost use Rattle.pool.specs.Deques.{AtDeque};
 
     ghost Value = { AtDeque };
@@ -95,8 +95,8 @@ impl Model for Other {
     ghost invariant = { λ o. IsPassOf (stealer_deque o.thief) o.pass };
 }
 
-impl Other {
-    pub(crate) fn steal<R: Wait>(&mut self, rt: &R) -> Option<Loan>
+impl<N: Naming> Other<N> {
+    pub(crate) fn steal<R: Wait>(&mut self, rt: &R) -> Option<TicketedLoan<N>>
         ensures { MatchOption result (self.new ≡ missed_at self.old) (λ l. self.new ≡ took_from self.old (id_of_loan l)) }
     {
         let found = from_other(rt, &self.thief, &mut self.pass);

@@ -1,4 +1,5 @@
 //! How a worker comes to the lock.
+use crate::seats::Seat;
 use bursts::{Bench, Naming};
 use std::hint::spin_loop;
 use std::sync::{Mutex, MutexGuard, Wait};
@@ -19,4 +20,11 @@ pub(crate) fn lock_soon<'m, 'b, N: Naming, R: Wait>(
         spin_loop();
     }
     lock.lock(rt)
+}
+
+impl<'p, 'b, N: Naming> Seat<'p, 'b, N> {
+    /// Whether nobody has the lock just now.
+    pub(crate) fn is_lock_free(&self) -> bool {
+        self.pool.bench.try_lock().is_some()
+    }
 }

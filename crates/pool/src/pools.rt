@@ -13,7 +13,7 @@ pub struct Pool<'b, N: Naming> {
     /// How many workers it is for, 1 to 16.
     pub workers: u32,
     pub(crate) bench: Mutex<Bench<'b, N>>,
-    pub(crate) results: Results,
+    pub(crate) results: Results<N>,
     ghost few: { (1 ≤ workers) × (workers ≤ 16) },
     ghost room: { ruled_capacity results ≡ 1024 },
 }

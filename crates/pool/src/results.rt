@@ -5,7 +5,7 @@ ghost use Rattle.pool.specs.Hands.{no_hand, gave, took};
 ghost use Rattle.bursts.specs.LoanIds.{id_of_result};
 
 use crate::hand::Hand;
-use bursts::Done;
+use bursts::{Naming, TicketedDone};
 use crossbeam_queue::protocol::{Lesson, Outcome, Protocol};
 use crossbeam_queue::{Pass, RuledArrayQueue};
 use std::alloc::{AllocError, Global};
@@ -17,7 +17,7 @@ const ROOM: usize = 1024;
 /// The rule of the queue: what went in has come out once, or is still there.
 pub(crate) struct FairResults;
 
-impl Protocol<Done, Hand> for FairResults {
+impl<N: Naming> Protocol<TicketedDone<N>, Hand> for FairResults {
     ghost use Rattle.bursts.specs.LoanIds.{id_of_result};
     ghost use Rattle.pool.specs.Hands.{no_hand, Balanced};
 
@@ -29,7 +29,7 @@ impl Protocol<Done, Hand> for FairResults {
 /// A result is put in.
 struct Puts;
 
-impl Outcome<Done, Hand> for Puts {
+impl<N: Naming> Outcome<TicketedDone<N>, Hand> for Puts {
     ghost use Rattle.std.specs.Prelude.{◌≡◌};
     ghost use Rattle.bursts.specs.LoanIds.{id_of_result};
     ghost use Rattle.pool.specs.Hands.{gave};
@@ -37,14 +37,14 @@ impl Outcome<Done, Hand> for Puts {
     ghost then = { λ v x w. w ≡ gave v (id_of_result x) };
 }
 
-impl Lesson<Done, Hand> for Puts {
+impl<N: Naming> Lesson<TicketedDone<N>, Hand> for Puts {
     ghost fact = { λ v items. Unit {0} };
 }
 
 /// A result is taken.
 struct Takes;
 
-impl Outcome<Done, Hand> for Takes {
+impl<N: Naming> Outcome<TicketedDone<N>, Hand> for Takes {
     ghost use Rattle.std.specs.Prelude.{◌≡◌};
     ghost use Rattle.bursts.specs.LoanIds.{id_of_result};
     ghost use Rattle.pool.specs.Hands.{took};
@@ -52,37 +52,37 @@ impl Outcome<Done, Hand> for Takes {
     ghost then = { λ v x w. w ≡ took v (id_of_result x) };
 }
 
-impl Lesson<Done, Hand> for Takes {
+impl<N: Naming> Lesson<TicketedDone<N>, Hand> for Takes {
     ghost fact = { λ v items. Unit {0} };
 }
 
 /// The queue of results.
-pub(crate) type Results = RuledArrayQueue<Done, Hand, FairResults>;
+pub(crate) type Results<N> = RuledArrayQueue<TicketedDone<N>, Hand, FairResults>;
 
 /// What one worker put into the queue and took from it: a ghost token, without bytes.
-pub(crate) type ResultPass = Pass<Done, Hand>;
+pub(crate) type ResultPass<N> = Pass<TicketedDone<N>, Hand>;
 
-pub(crate) fn empty_queue(alloc: Global) -> Result<Results, AllocError>
+pub(crate) fn empty_queue<N: Naming>(alloc: Global) -> Result<Results<N>, AllocError>
     ensures { IfOk result (λ q. ruled_capacity q ≡ 1024) }
 {
-    let (results, _pass) = Results::ruled(alloc, ROOM)?;
+    let (results, _pass) = Results::<N>::ruled(alloc, ROOM)?;
     Ok(results)
 }
 
 /// A pass that has put in and taken nothing.
-pub(crate) fn new_pass(results: &Results) -> ResultPass
+pub(crate) fn new_pass<N: Naming>(results: &Results<N>) -> ResultPass<N>
     ensures { IsPassOf results.now result × (view result ≡ no_hand) }
 {
     results.pass()
 }
 
 /// Puts a result in. It comes back only where the queue was full.
-pub(crate) fn put_result<R: Wait>(
+pub(crate) fn put_result<N: Naming, R: Wait>(
     rt: &R,
-    results: &Results,
-    pass: &mut ResultPass,
-    done: Done,
-) -> Result<(), Done>
+    results: &Results<N>,
+    pass: &mut ResultPass<N>,
+    done: TicketedDone<N>,
+) -> Result<(), TicketedDone<N>>
     requires { IsPassOf results.now pass.old }
     ensures queue { IsPassOf results.now pass.new }
     ensures put { MatchResult result (λ _. view pass.new ≡ gave (view pass.old) (id_of_result done)) (λ d. (d ≡ done) × (view pass.new ≡ view pass.old)) }
@@ -90,7 +90,11 @@ pub(crate) fn put_result<R: Wait>(
     results.push_as::<Puts, R>(rt, pass, done)
 }
 
-pub(crate) fn take_result<R: Wait>(rt: &R, results: &Results, pass: &mut ResultPass) -> Option<Done>
+pub(crate) fn take_result<N: Naming, R: Wait>(
+    rt: &R,
+    results: &Results<N>,
+    pass: &mut ResultPass<N>,
+) -> Option<TicketedDone<N>>
     requires { IsPassOf results.now pass.old }
     ensures queue { IsPassOf results.now pass.new }
     ensures taken { MatchOption result (view pass.new ≡ view pass.old) (λ d. view pass.new ≡ took (view pass.old) (id_of_result d)) }

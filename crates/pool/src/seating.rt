@@ -14,7 +14,7 @@ use notes::Notes;
 use std::alloc::{AllocError, Global};
 
 /// An empty deque for each worker. The last is the first worker's, the one before it the next worker's, and so on.
-fn deques_for(alloc: Global, workers: u32) -> Result<Vec<Own>, AllocError>
+fn deques_for<N: Naming>(alloc: Global, workers: u32) -> Result<Vec<Own<N>>, AllocError>
     ensures len { IfOk result (λ deques. vec_len deques ≡ workers) }
     ensures unused { IfOk result (λ deques. AllByRecursion IsUnused deques.items) }
 {
@@ -26,7 +26,11 @@ fn deques_for(alloc: Global, workers: u32) -> Result<Vec<Own>, AllocError>
 }
 
 /// The deques of the others as this deque's worker has them: from the next worker on, and round again.
-fn others_of(alloc: Global, deques: &[Own], place: usize) -> Result<Vec<Other>, AllocError>
+fn others_of<N: Naming>(
+    alloc: Global,
+    deques: &[Own<N>],
+    place: usize,
+) -> Result<Vec<Other<N>>, AllocError>
     requires { place < length deques.now }
     ensures { IfOk result (λ others. AreOthers deques.now place others.items) }
 {
@@ -41,7 +45,7 @@ fn others_of(alloc: Global, deques: &[Own], place: usize) -> Result<Vec<Other>, 
 }
 
 /// The deques of the others, for the worker of each of these deques.
-fn all_others(alloc: Global, deques: &[Own]) -> Result<Vec<Vec<Other>>, AllocError>
+fn all_others<N: Naming>(alloc: Global, deques: &[Own<N>]) -> Result<Vec<Vec<Other<N>>>, AllocError>
     ensures len { IfOk result (λ all. vec_len all ≡ length deques.now) }
     ensures others { IfOk result (λ all. AtEach (λ place others. AreOthers deques.now place others.items) all.items) }
 {
@@ -101,8 +105,8 @@ fn part_of<N: Naming>(share: &mut Share<N>) -> Share<N>
 /// A seat at which nothing was done yet.
 fn seat_at<'p, 'b, N: Naming>(
     pool: &'p Pool<'b, N>,
-    own: Own,
-    others: Vec<Other>,
+    own: Own<N>,
+    others: Vec<Other<N>>,
     share: Share<N>,
 ) -> Seat<'p, 'b, N>
     ensures { result ≡ seat_with own others.items share }

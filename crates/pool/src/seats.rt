@@ -11,7 +11,7 @@ use crate::locking::lock_soon;
 use crate::pools::Pool;
 use crate::results::{ResultPass, put_result};
 use crate::settling::{Settling, settle_all};
-use bursts::{Done, Loan, Naming, Share};
+use bursts::{Done, Naming, Share, TicketedDone, TicketedLoan};
 use notes::Notes;
 use std::marker::Model;
 use std::sync::Wait;
@@ -22,10 +22,10 @@ use std::sync::Wait;
 #[derive(Drop)]
 pub struct Seat<'p, 'b, N: Naming> {
     pub(crate) pool: &'p Pool<'b, N>,
-    pub(crate) own: Own,
-    pub(crate) others: Vec<Other>,
-    pub(crate) spare: Option<Loan>,
-    pub(crate) pass: ResultPass,
+    pub(crate) own: Own<N>,
+    pub(crate) others: Vec<Other<N>>,
+    pub(crate) spare: Option<TicketedLoan<N>>,
+    pub(crate) pass: ResultPass<N>,
     pub(crate) share: Share<N>,
     pub(crate) told: Notes<bool>,
 }
@@ -47,6 +47,20 @@ impl<'p, 'b, N: Naming> Model for Seat<'p, 'b, N> {
 impl<'p, 'b, N: Naming> Seat<'p, 'b, N> {
     /// Hands a result in. It comes back only where the queue was full. Takes no memory.
     pub fn hand_in<R: Wait>(&mut self, rt: &R, done: Done) -> Result<(), Done>
+        ensures { MatchResult result (λ _. self.new ≡ with_results self.old (gave self.old.results (id_of_result done))) (λ d. (d ≡ done) × (self.new ≡ self.old)) }
+    {
+        match self.hand_in_ticketed(rt, TicketedDone::plain(done)) {
+            Ok(()) => Ok(()),
+            Err(back) => Err(back.into_done()),
+        }
+    }
+
+    /// As `hand_in`, of a result that may have a ticket.
+    pub(crate) fn hand_in_ticketed<R: Wait>(
+        &mut self,
+        rt: &R,
+        done: TicketedDone<N>,
+    ) -> Result<(), TicketedDone<N>>
         ensures { MatchResult result (λ _. self.new ≡ with_results self.old (gave self.old.results (id_of_result done))) (λ d. (d ≡ done) × (self.new ≡ self.old)) }
     {
         let pool = self.pool;

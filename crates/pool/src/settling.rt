@@ -131,8 +131,8 @@ fn totals_of_result(pid: u32, count: u32, answer: &Answer) -> Totals
 fn settle_one<N: Naming, R: Wait>(
     rt: &R,
     bench: &mut Bench<'_, N>,
-    results: &Results,
-    pass: &mut ResultPass,
+    results: &Results<N>,
+    pass: &mut ResultPass<N>,
     share: &mut Share<N>,
 ) -> Option<Result<Totals, Rejected>>
     requires { IsPassOf results.now pass.old }
@@ -143,9 +143,9 @@ fn settle_one<N: Naming, R: Wait>(
         (λ j. (view pass.new ≡ took (view pass.old) (id_of_result j.done)) × (share.new ≡ share.old) × SomeCoreRejects j)) }
 {
     let done = take_result(rt, results, pass)?;
-    let pid = done.pid;
-    let count = done.count;
-    match bench.settle(rt, done, share) {
+    let pid = done.pid();
+    let count = done.count();
+    match bench.settle_ticketed(rt, done, share) {
         Ok(answer) => Some(Ok(totals_of_result(pid, count, &answer))),
         Err(rejected) => Some(Err(rejected)),
     }
@@ -155,8 +155,8 @@ fn settle_one<N: Naming, R: Wait>(
 pub(crate) fn settle_all<N: Naming, R: Wait>(
     rt: &R,
     bench: &mut Bench<'_, N>,
-    results: &Results,
-    pass: &mut ResultPass,
+    results: &Results<N>,
+    pass: &mut ResultPass<N>,
     share: &mut Share<N>,
 ) -> Settling
     requires { IsPassOf results.now pass.old }

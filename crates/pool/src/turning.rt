@@ -12,7 +12,7 @@ ghost use Rattle.pool.specs.Turns.{AllAccepted, Rejects, RejectsSoon, TurnsOut, 
 
 use crate::seats::Seat;
 use crate::settling::Settling;
-use bursts::{Done, Gate, Naming, Rejected, WorkFault, run_loan};
+use bursts::{Gate, Naming, Rejected, TicketedDone, TicketedLoan, WorkFault};
 use std::sync::Wait;
 
 /// What a turn at a seat came to.
@@ -22,6 +22,13 @@ pub enum Pooled {
     Idle,
     /// A loan was run and its result handed in, and these results were settled.
     Worked(Settling),
+}
+
+/// Holds the gate with a loan's process.
+fn hold_for<N: Naming, G: Gate>(gate: &mut G, loan: &TicketedLoan<N>)
+    ensures { G.holds gate.old loan.now.pid gate.new }
+{
+    gate.hold(loan.pid());
 }
 
 /// The settling, or the result that was not taken back.
@@ -71,13 +78,17 @@ impl<'p, 'b, N: Naming> Seat<'p, 'b, N> {
     }
 
     /// Hands a result in. As often as the queue is full what is in it is settled first; the answer adds that up.
-    fn hand_in_at_last<R: Wait>(&mut self, rt: &R, done: Done) -> Result<Settling, Rejected>
+    fn hand_in_at_last<R: Wait>(
+        &mut self,
+        rt: &R,
+        done: TicketedDone<N>,
+    ) -> Result<Settling, Rejected>
         ensures { MatchResult result (AllAccepted self.old self.new (id_of_result done ∷ [])) (RejectsSoon self.old self.new (id_of_result done)) }
     {
         let mut left = done;
         let mut settling = Settling::none();
         for _ in rt.forever() {
-            match self.hand_in(rt, left) {
+            match self.hand_in_ticketed(rt, left) {
                 Ok(()) => return Ok(settling),
                 Err(back) => {
                     left = back;
@@ -89,7 +100,11 @@ impl<'p, 'b, N: Naming> Seat<'p, 'b, N> {
     }
 
     /// Hands a result in, and settles what is in the queue.
-    fn hand_in_and_settle<R: Wait>(&mut self, rt: &R, done: Done) -> Result<Settling, Rejected>
+    fn hand_in_and_settle<R: Wait>(
+        &mut self,
+        rt: &R,
+        done: TicketedDone<N>,
+    ) -> Result<Settling, Rejected>
         ensures { MatchResult result (AllAccepted self.old self.new (id_of_result done ∷ [])) (RejectsSoon self.old self.new (id_of_result done)) }
     {
         let settling = self.hand_in_at_last(rt, done)?;
@@ -108,13 +123,13 @@ impl<'p, 'b, N: Naming> Seat<'p, 'b, N> {
         ensures turn { TurnsOut self.old quantum (λ pid. G.holds gate.old pid gate.new) self.new result }
         ensures gate { HadNoLoan result → gate.new ≡ gate.old }
     {
-        let loan = match self.fetch(rt, quantum) {
+        let loan = match self.fetch_ticketed(rt, quantum) {
             Ok(Some(loan)) => loan,
             Ok(None) => return Ok(Pooled::Idle),
             Err(why) => return Err(WorkFault::Lend(why)),
         };
-        gate.hold(loan.pid);
-        let done = run_loan(loan);
+        hold_for(gate, &loan);
+        let done = loan.run();
         match self.hand_in_and_settle(rt, done) {
             Ok(settling) => Ok(Pooled::Worked(settling)),
             Err(rejected) => Err(WorkFault::Settle(rejected)),

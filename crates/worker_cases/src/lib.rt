@@ -17,6 +17,7 @@ mod lines;
 mod looks;
 mod nine;
 mod programs;
+mod quanta;
 mod refusing;
 mod stealing;
 mod stranger;

@@ -1,6 +1,6 @@
 //! The cases, one after the other, each in a line.
 use crate::case::{Case, play};
-use crate::{failing, refusing};
+use crate::{failing, quanta, refusing};
 use anyhow::{Error, bail};
 use std::sync::Wait;
 use std::thread::Threads;
@@ -30,6 +30,10 @@ pub fn play_cases<R: AllocGlobal + Threads + Wait + Sync>(rt: &R) -> Result<Stri
         if let Err(fault) = play(rt, alloc, case, &mut lines) {
             bail!("{name}: {fault}");
         }
+    }
+    lines.push_str("\n")?;
+    if let Err(fault) = quanta::play(rt, alloc, &mut lines) {
+        bail!("a quantum: {fault}");
     }
     lines.push_str("\n")?;
     if let Err(fault) = failing::play(rt, alloc, &mut lines) {

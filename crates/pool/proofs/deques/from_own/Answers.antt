@@ -3,4 +3,4 @@ use Rattle.pool.proofs.Balance.{takes_one}
 use Rattle.pool.proofs.deques.from_own.Goals as goal
 
 pub pop_as-requires-clause-fifo : goal.pop_as-requires-clause-fifo
-pop_as-requires-clause-fifo c fifo = takes_one id_of_loan _ _
+pop_as-requires-clause-fifo g c fifo = takes_one id_of_loan _ _

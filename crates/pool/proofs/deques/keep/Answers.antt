@@ -4,4 +4,4 @@ use Rattle.pool.proofs.Balance.{pushes}
 use Rattle.pool.proofs.deques.keep.Goals as goal
 
 pub push_as-requires-clause-pushes : goal.push_as-requires-clause-pushes
-push_as-requires-clause-pushes c = pushes id_of_loan _ _ (c.args.loan ∷ [])
+push_as-requires-clause-pushes g c = pushes id_of_loan _ _ (c.args.loan ∷ [])

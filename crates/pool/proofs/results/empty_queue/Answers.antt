@@ -3,4 +3,4 @@ use Rattle.pool.proofs.results.empty_queue.Goals as goal
 
 -- Without an answer this would be proved too; with one, an edit that breaks it is refused sooner.
 pub returns : goal.returns
-returns c = search rules
+returns g c = search rules

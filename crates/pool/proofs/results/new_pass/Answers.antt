@@ -3,4 +3,4 @@ use Rattle.pool.proofs.Balance.{admits}
 use Rattle.pool.proofs.results.new_pass.Goals as goal
 
 pub pass-requires : goal.pass-requires
-pass-requires c = admits id_of_result
+pass-requires g c = admits id_of_result

@@ -6,4 +6,4 @@ use Rattle.pool.specs.Seating.{AreOthers}
 use Rattle.pool.proofs.seating.all_others.Given as goal
 
 abbrev pub invariant-loop-place : goal.invariant-loop-place
-invariant-loop-place l = (vec_len l.all ≡ l.place) × AtEach (λ place others. AreOthers l.deques place others.items) l.all.items
+invariant-loop-place g l = (vec_len l.all ≡ l.place) × AtEach (λ place others. AreOthers l.deques place others.items) l.all.items

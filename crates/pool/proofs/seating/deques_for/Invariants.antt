@@ -6,4 +6,4 @@ use Rattle.pool.specs.Seating.{IsUnused}
 use Rattle.pool.proofs.seating.deques_for.Given as goal
 
 abbrev pub invariant-loop : goal.invariant-loop
-invariant-loop l = (vec_len l.deques ≡ l.counter) × AllByRecursion IsUnused l.deques.items
+invariant-loop g l = (vec_len l.deques ≡ l.counter) × AllByRecursion IsUnused l.deques.items

@@ -7,7 +7,7 @@ pub returns-in-Err-clause-some : goal.returns-in-Err-clause-some
 returns-in-Err-clause-some g c =
     let rejects : SomeCoreRejects c.in-Err.rejected = record {
       old = c.args.bench.now.core;
-      new = c.settle.new.self.core;
+      new = c.settle_ticketed.new.self.core;
       done = c.in_ok-done.done;
       rejects = c.in-Err.ensures.settles;
     }

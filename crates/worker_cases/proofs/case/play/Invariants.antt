@@ -12,3 +12,6 @@ ghosts-play_named-N-Naming g a = record {
 
 abbrev pub ghosts-play_named-N-Opening : goal.ghosts-play_named-N-Opening
 ghosts-play_named-N-Opening g a = record { committed = committed (now a.core); changes = changes (now a.core) }
+
+abbrev pub ghosts-play_named-N-LogName : goal.ghosts-play_named-N-LogName
+ghosts-play_named-N-LogName g a = record { book = a.blanks.loans.seen.book }

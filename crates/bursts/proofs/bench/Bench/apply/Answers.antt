@@ -7,7 +7,7 @@ use Rattle.bursts.proofs.bench.Bench.apply.Goals as goal
 pub enter-requires : goal.enter-requires
 enter-requires g c =
     let e = c.in_ok-answer.ensures in
-    disk_event_adds c.self.inside.core _ c.args.event _ _ _ c.requires c.self.invariant.3 e.applies.1 e.applies.2 e.ran c.one_event.ensures
+    rw c.core.ensures (disk_event_adds c.self.inside.lender _ c.args.event _ _ _ c.requires c.self.invariant.3 e.applies.1 e.applies.2 e.ran c.one_event.ensures)
 
 pub publish-requires : goal.publish-requires
 publish-requires g c =
@@ -16,5 +16,5 @@ publish-requires g c =
     record {
       board = c.self.invariant.0;
       publishes = c.self.invariant.1;
-      rises = event_rises law.committed law.changes (cell_view c.self.inside.writer.pass) c.self.inside.core _ c.args.event c.self.invariant.2 e.applies.2;
+      rises = rw c.core-2.ensures (event_rises law.committed law.changes (cell_view c.self.inside.writer.pass) c.self.inside.lender _ c.args.event c.self.invariant.2 e.applies.2);
     }

@@ -14,9 +14,9 @@ settle_more-requires-clause-share g c = (c.args.self.now.share, ap (λ (u : Seat
 
 pub returns-in_err-settling-in-Err : goal.returns-in_err-settling-in-Err
 returns-in_err-settling-in-Err g c =
-    let later = rejects_from c.loop.self c.hand_in.new.self c.settle_more.new.self [] _ c.in-Err.ensures.1 c.in_err-settling-in-Err.ensures in
+    let later = rejects_from c.loop.self c.hand_in_ticketed.new.self c.settle_more.new.self [] _ c.in-Err.ensures.1 c.in_err-settling-in-Err.ensures in
     let p = err_from_is_err_and c.from_residual.result c.from_residual.ensures.1 in
     rw (p.1, p.2) (inl (rejects_then c.args.self.now c.loop.self c.settle_more.new.self [] c.loop.settling _ c.loop.invariant.0 later))
 
 pub loop-preserved : goal.loop-preserved
-loop-preserved g c = (accepted_then c.args.self.now c.loop.self c.hand_in.new.self c.settle_more.new.self c.loop.settling _ c.in-Err.ensures.1 c.loop.invariant.0 c.in_ok-settling-in-Err.ensures, c.in-Err.ensures.0 ∙ c.loop.invariant.1)
+loop-preserved g c = (accepted_then c.args.self.now c.loop.self c.hand_in_ticketed.new.self c.settle_more.new.self c.loop.settling _ c.in-Err.ensures.1 c.loop.invariant.0 c.in_ok-settling-in-Err.ensures, c.in-Err.ensures.0 ∙ c.loop.invariant.1)

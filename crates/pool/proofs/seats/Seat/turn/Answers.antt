@@ -5,9 +5,9 @@ use Rattle.pool.proofs.Advance.{after_fetch}
 use Rattle.pool.proofs.seats.Seat.turn.Goals as goal
 
 pub returns-in-Ok-clause-turn : goal.returns-in-Ok-clause-turn
-returns-in-Ok-clause-turn g c = after_fetch c.args.self.now c.fetch.new.self c.args.quantum (id_of_loan c.in-Ok-Some.loan) (id_of_result c.run_loan-done.result) _ (λ x m. AllAccepted m c.hand_in_and_settle.new.self (x ∷ []) c.in-Ok.settling) (search rules) c.hold.ensures (search rules)
-    (λ i. record { pid = c.run_loan-done.ensures.pid i; number = c.run_loan-done.ensures.number i; quantum = c.run_loan-done.ensures.quantum i })
+returns-in-Ok-clause-turn g c = after_fetch c.args.self.now c.fetch_ticketed.new.self c.args.quantum (id_of_loan c.in-Ok-Some.loan) (id_of_result c.run-done.result) _ (λ x m. AllAccepted m c.hand_in_and_settle.new.self (x ∷ []) c.in-Ok.settling) (search rules) c.hold_for.ensures (search rules)
+    (λ i. record { pid = c.run-done.ensures.pid i; number = c.run-done.ensures.number i; quantum = c.run-done.ensures.quantum i })
 
 pub returns-in-Err-hand_in_and_settle-clause-turn : goal.returns-in-Err-hand_in_and_settle-clause-turn
-returns-in-Err-hand_in_and_settle-clause-turn g c = after_fetch c.args.self.now c.fetch.new.self c.args.quantum (id_of_loan c.in-Ok-Some.loan) (id_of_result c.run_loan-done.result) _ (λ x m. RejectsSoon m c.hand_in_and_settle.new.self x c.in-Err-hand_in_and_settle.rejected) (search rules) c.hold.ensures (search rules)
-    (λ i. record { pid = c.run_loan-done.ensures.pid i; number = c.run_loan-done.ensures.number i; quantum = c.run_loan-done.ensures.quantum i })
+returns-in-Err-hand_in_and_settle-clause-turn g c = after_fetch c.args.self.now c.fetch_ticketed.new.self c.args.quantum (id_of_loan c.in-Ok-Some.loan) (id_of_result c.run-done.result) _ (λ x m. RejectsSoon m c.hand_in_and_settle.new.self x c.in-Err-hand_in_and_settle.rejected) (search rules) c.hold_for.ensures (search rules)
+    (λ i. record { pid = c.run-done.ensures.pid i; number = c.run-done.ensures.number i; quantum = c.run-done.ensures.quantum i })

@@ -17,8 +17,9 @@ use Rattle.kernel_step.proofs.SettleAccepted.{returned_task}
 use Rattle.kernel_step.proofs.SettleCore.{count-back, loan-own, not-there, get-one}
 use Rattle.kernel_step.proofs.Settled.{stranger-back, turn-settles, call-settles}
 use Rattle.kernel_step.proofs.SettleWorld.{out-running}
-use Rattle.kernel_step.proofs.running.Running.settle.Goals as goal
-use Rattle.kernel_step.proofs.running.Running.settle.Goals.{After-index-task}
+use Rattle.kernel_step.proofs.KnownLoans.{known-loan}
+use Rattle.kernel_step.proofs.running.Running.take_back.Goals as goal
+use Rattle.kernel_step.proofs.running.Running.take_back.Goals.{After-index-task}
 
 -- ---- the task
 placed : (c : After-index-task) → IsPlaceOf c.args.self.now.tasks.items c.args.done.pid c.in-Some.place
@@ -46,6 +47,12 @@ pub returns-in_default : goal.returns-in_default
 returns-in_default c = λ b h. stranger-back b c.args.self.now c.args.done h
     (not-there b c.args.self.now.history.items c.args.self.now.tasks.items c.args.self.now.last_lent c.args.done
     (subst (λ (ts : List Task). process_at (map process_of ts) c.args.done.pid ≡ None) c.deref.ensures.value c.in_default.ensures))
+
+pub is_of_loan-requires : goal.is_of_loan-requires
+is_of_loan-requires c known out number =
+    let at = (goal.at.is_of_loan-requires c).After-index-task in
+    known-loan c.requires.0 c.args.self.now.history.items c.args.self.now.tasks.items c.args.self.now.system c.args.self.now.last_lent c.in-Some.place c.index-task.result.now c.args.done
+    c.requires.1.parts (placed at).number (there at) (c.requires.2 known) out number
 
 pub returns-then-not-is_of_loan : goal.returns-then-not-is_of_loan
 returns-then-not-is_of_loan c = λ b h.

@@ -5,7 +5,7 @@ use Rattle.bursts.specs.LoanIds.{id_of_loan}
 use Rattle.pool.specs.Seats.{Seated}
 use Rattle.pool.specs.Fetching.{Fetches}
 use Rattle.pool.proofs.Comes.{from_spare, from_own, from_others, from_core}
-use Rattle.pool.proofs.seats.Seat.fetch.Goals as goal
+use Rattle.pool.proofs.seats.Seat.fetch_ticketed.Goals as goal
 
 pub returns-in-Some : goal.returns-in-Some
 returns-in-Some g c =

@@ -1,0 +1,3 @@
+-- Lemmas.
+pub mod Prefixes
+pub mod Adding

@@ -1,0 +1,14 @@
+-- A log's book, and what its step tells.
+use Rattle.std.specs.Prelude.{ℕ, ◌≡◌, ◌==◌, true, List, [], ◌∷◌, ◌++◌, length, MatchBool}
+use Rattle.logbook.specs.Pages.{Cell, Step, View, Book, Named}
+
+-- The first word is the length of the log. A book has two words, of which this one leaves the second at 0.
+abbrev pub IsCounted : {E : Type 0} → List Cell → List E → Type 0
+IsCounted cells log = cells ≡ (length log, true) ∷ (0, true) ∷ []
+
+abbrev pub head_of : Book → Named
+head_of b = record { tracked = true; key = 0; book = b }
+
+-- the entry was added to all that was seen; or the log was longer than what was seen
+abbrev pub Adds : {E : Type 0} → Step E → View E ℕ → ℕ → View E ℕ → Type 0
+Adds s v found w = MatchBool (found == s.old) (w.0 ≡ v.0 ++ s.ask ∷ []) (length w.0 ≡ found)

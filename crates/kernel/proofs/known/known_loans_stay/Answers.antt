@@ -1,0 +1,11 @@
+-- By the lemmas.
+use Rattle.kernel.proofs.KnownLoans.{given-known, lends-stay, applies-stay, settles-stay}
+use Rattle.kernel.proofs.known.known_loans_stay.Goals as goal
+
+pub returns : goal.returns
+returns c = record {
+  given = given-known;
+  lends = lends-stay;
+  applies = applies-stay c.lent_processes_stay.ensures;
+  settles = settles-stay c.lent_processes_stay.ensures;
+}
