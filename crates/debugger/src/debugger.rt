@@ -44,6 +44,8 @@ pub struct Debugger {
     /// The places at the counts that are multiples of 1,024, in order: all up to the present one, and those beyond that were
     /// reached before a rewind. Each shares with the one before it the pages that did not change.
     kept: Vec<KeptPlace>,
+    /// How many pages were copied for them.
+    kept_pages: u64,
     breaks: Slab<u32>,
     reran: u64,
 }
@@ -56,6 +58,7 @@ impl Drop for Debugger {
             replies: _replies,
             place: _place,
             kept: _kept,
+            kept_pages: _,
             breaks: _breaks,
             reran: _,
         } = self;
@@ -86,7 +89,9 @@ impl Debugger {
             machine: Machine::load(alloc, &image)?,
             taken: 0,
         };
-        let kept = vec![in alloc; place.keep(alloc, None)?]?;
+        let first = place.keep(alloc, None)?;
+        let kept_pages = first.own_pages();
+        let kept = vec![in alloc; first]?;
         let breaks = Slab::with_capacity(alloc, MOST_BREAKS)?;
         Ok(Debugger {
             alloc,
@@ -94,6 +99,7 @@ impl Debugger {
             replies,
             place,
             kept,
+            kept_pages,
             breaks,
             reran: 0,
         })
@@ -200,6 +206,16 @@ impl Debugger {
         self.place.next_access(self.replies.as_slice())
     }
 
+    /// How many bytes the kept states hold, for whoever is to end a run before it fills the host: 1,024 for each state, and 4,096
+    /// for each page that was copied for it, since it was not the same in the state kept before. It is counted as states are kept,
+    /// and only grows. The clause says how much it is at least; no clause says what is shared.
+    pub fn kept_bytes(&self) -> u64
+        ensures { 1024 * (self.now.count / 1024 + 1) ≤ result }
+    {
+        let states = 1024 * self.kept.len() as u64;
+        states.saturating_add(self.kept_pages.saturating_mul(4096))
+    }
+
     pub(crate) fn count(&self) -> u64
         ensures value { result ≡ self.now.count }
         ensures within { result ≤ 2 ^ 40 }
@@ -273,7 +289,9 @@ impl Debugger {
             }
             let next = self.place.next(self.alloc, self.replies.as_slice())?;
             let kept = next.keep(self.alloc, self.kept.last())?;
+            let pages = kept.own_pages();
             self.kept.push(kept)?;
+            self.kept_pages = self.kept_pages.saturating_add(pages);
             self.place = next;
             return Ok(None);
         }

@@ -54,4 +54,9 @@ impl KeptPlace {
             taken: self.taken,
         })
     }
+
+    /// How many pages it holds that nothing else does: right after it was kept, those that were copied for it.
+    pub fn own_pages(&self) -> u64 {
+        self.machine.own_pages() as u64
+    }
 }

@@ -2,7 +2,6 @@
 use crate::ahead::After;
 use crate::fault::OutOfMemory;
 use crate::timeline::Timeline;
-use debugger::Debugger;
 use gdb_packets::Stop;
 use std::fmt;
 use std::fmt::Display;
@@ -37,12 +36,6 @@ impl Display for Full {
     }
 }
 
-/// How many bytes the kept states of a debugger take.
-fn kept_bytes(debugger: &Debugger) -> u64 {
-    // A stub: until the debugger tells.
-    (debugger.state().count() / SPAN).saturating_mul(4096)
-}
-
 /// So many times a number of bytes.
 fn times(count: usize, bytes: u64) -> u64 {
     (count as u64).saturating_mul(bytes)
@@ -57,7 +50,8 @@ impl Timeline {
         };
         let calls = times(self.calls.count(), BYTES_OF_CALL);
         let moved = self.calls.moved().saturating_mul(TIMES_MOVED);
-        kept_bytes(&self.debugger)
+        self.debugger
+            .kept_bytes()
             .saturating_add(kernel)
             .saturating_add(calls)
             .saturating_add(moved)

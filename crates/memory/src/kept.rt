@@ -61,4 +61,10 @@ impl KeptSpace {
             shared: shares_of(alloc, self.shared.as_slice())?,
         })
     }
+
+    /// How many of its pages nothing else holds. Right after it was kept these are the pages that were copied for it; the others it
+    /// shares. A measure of memory, of which no clause says anything.
+    pub fn own_pages(&self) -> usize {
+        self.own.own_pages()
+    }
 }

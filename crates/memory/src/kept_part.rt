@@ -73,6 +73,19 @@ impl KeptPart {
     }
 }
 
+impl KeptPart {
+    /// How many of its pages nothing else holds. Right after it was kept these are the pages that were copied for it.
+    pub fn own_pages(&self) -> usize {
+        let mut count: usize = 0;
+        for page in &self.pages {
+            if Arc::strong_count(page) == 1 {
+                count = count.saturating_add(1);
+            }
+        }
+        count
+    }
+}
+
 fn kept_pages(
     alloc: Global,
     words: &[[u8; 4]],

@@ -65,6 +65,17 @@ impl KeptParts {
     }
 }
 
+impl KeptParts {
+    /// How many of their pages nothing else holds.
+    pub fn own_pages(&self) -> usize {
+        let mut count = self.near.own_pages().saturating_add(self.next.own_pages());
+        for part in &self.more {
+            count = count.saturating_add(part.own_pages());
+        }
+        count
+    }
+}
+
 fn kept_parts(
     alloc: Global,
     parts: &[Part],
