@@ -206,9 +206,9 @@ impl Debugger {
         self.place.next_access(self.replies.as_slice())
     }
 
-    /// How many bytes the kept states hold, for whoever is to end a run before it fills the host: 1,024 for each state, and 4,096
-    /// for each page that was copied for it, since it was not the same in the state kept before. It is counted as states are kept,
-    /// and only grows. The clause says how much it is at least; no clause says what is shared.
+    /// How many bytes the kept states hold, for whoever is to end a run before it fills the host. It counts 1,024 for each state. It
+    /// counts 4,096 for each page that was copied for one, since it was not the same in the state kept before. That is counted as
+    /// states are kept, and only grows. The clause says how much it is at least; no clause says what is shared.
     pub fn kept_bytes(&self) -> u64
         ensures { 1024 * (self.now.count / 1024 + 1) ≤ result }
     {
