@@ -25,10 +25,9 @@ END
 # Why a test may end otherwise on bench by this verdict: a limit of bench's, and no fault.
 reason_for() {
     case "$1: $2" in
-        # Each has a frame of 24,704 to 524,560 bytes, as -fstack-usage says; the three in the second line at -O2 too.
-        20040805-1:*': trap, '* | 920410-1:*': trap, '* | 921113-1:*': trap, '* | 921202-1:*': trap, '* | 921208-2:*': trap, '* | \
-            memcpy-1:*': trap, '* | multi-ix:*': trap, '* | pr28982b:*': trap, '* | \
-            930106-1:*': trap, '* | 980605-1:*': trap, '* | pr20621-1:*': trap, '* | pr23135:*': trap, '*)
+        # Each has a frame of 16,544 to 524,560 bytes, as -fstack-usage says, most at -O0 alone.
+        20040805-1:*': trap, '* | 920410-1:*': trap, '* | 921113-1:*': trap, '* | 921208-2:*': trap, '* | \
+            pr20621-1:*': trap, '* | pr23135:*': trap, '* | pr28982b:*': trap, '*)
             echo 'a frame of over 16,384 bytes, which is the whole stack'
             ;;
         pr60822:*pages*) echo 'over 60 pages of data' ;;
@@ -69,6 +68,8 @@ build() {
     source=$tests/$test.c
     mkdir -p "$at"
     flags=$(sed -n 's/.*{ *dg-options *{\{0,1\} *"\([^"]*\)" *}.*/\1/p; s/.*{ *dg-additional-options *"\([^"]*\)" *}.*/\1/p' "$source" | tr '\n' ' ')
+    # Some tests take less where they are told how large the stack is.
+    ! grep -q 'dg-add-options *stack_size' "$source" || flags="$flags -DSTACK_SIZE=16384"
     # shellcheck disable=SC2086
     if link_stock "$at/linux" "$source" $level $flags -DCALL_EXIT=93 -DCALL_WRITE=64 -DCALL_READ=63 2>"$at/linux.why"; then
         status=0
