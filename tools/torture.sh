@@ -22,13 +22,17 @@ END
     exit 2
 }
 
-# Why a test may end otherwise on bench: a limit of bench's, and no fault.
+# Why a test may end otherwise on bench by this verdict: a limit of bench's, and no fault.
 reason_for() {
-    if grep -q 'trampolines' "$tests/$1.c"; then
-        echo 'code on the stack, for a nested function'
-        return
-    fi
-    case $1 in
+    case "$1: $2" in
+        # Each has a frame of 16,544 to 524,560 bytes, as -fstack-usage says, most at -O0 alone.
+        20040805-1:*': trap, '* | 920410-1:*': trap, '* | 921113-1:*': trap, '* | 921208-2:*': trap, '* | \
+            pr20621-1:*': trap, '* | pr23135:*': trap, '* | pr28982b:*': trap, '*)
+            echo 'a frame of over 16,384 bytes, which is the whole stack'
+            ;;
+        pr60822:*pages*) echo 'over 60 pages of data' ;;
+        return-addr:*) echo 'it prints an address of its stack' ;;
+        *': trap, '*) grep -q 'trampolines' "$tests/$1.c" && echo 'code on the stack, for a nested function' ;;
         *) return 1 ;;
     esac
 }
@@ -64,6 +68,8 @@ build() {
     source=$tests/$test.c
     mkdir -p "$at"
     flags=$(sed -n 's/.*{ *dg-options *{\{0,1\} *"\([^"]*\)" *}.*/\1/p; s/.*{ *dg-additional-options *"\([^"]*\)" *}.*/\1/p' "$source" | tr '\n' ' ')
+    # Some tests take less where they are told how large the stack is.
+    ! grep -q 'dg-add-options *stack_size' "$source" || flags="$flags -DSTACK_SIZE=16384"
     # shellcheck disable=SC2086
     if link_stock "$at/linux" "$source" $level $flags -DCALL_EXIT=93 -DCALL_WRITE=64 -DCALL_READ=63 2>"$at/linux.why"; then
         status=0
@@ -120,7 +126,7 @@ one() {
     [ -n "$verdict" ] || verdict=$(judge "$at" stock)
     if [ -z "$verdict" ]; then
         echo "same $test $level"
-    elif why=$(reason_for "$test"); then
+    elif why=$(reason_for "$test" "$verdict"); then
         echo "excepted $test $level: $verdict ($why)"
     else
         echo "OTHERWISE $test $level: $verdict"
