@@ -49,7 +49,7 @@ fn image_at<R: Files + AllocGlobal>(rt: &R, path: &str) -> Result<Option<Reason>
         Err(ElfFault::OutOfMemory) => return Err(Fault::OutOfMemory),
         Err(fault) => fault,
     };
-    match image_reason(rt.alloc(), &file, fault)? {
+    match image_reason(rt.alloc(), path, &file, fault)? {
         Some(why) => about(rt, path, why.as_str()),
         None => Ok(None),
     }
@@ -117,7 +117,9 @@ fn source_at<R: Files + AllocGlobal>(
 
 /// The path of the disk of a task, if it has one.
 fn disk_path<'a>(files: &[TaskFile<'a>]) -> Option<&'a str> {
-    path_of(files, Role::Disk).or(path_of(files, Role::KeptDisk))
+    path_of(files, Role::Disk)
+        .or(path_of(files, Role::KeptDisk))
+        .or(path_of(files, Role::DurableDisk))
 }
 
 fn disk_length<R: Files + AllocGlobal>(
@@ -148,7 +150,7 @@ fn first_unusable<R: Files + AllocGlobal>(
     about(
         rt,
         "",
-        "standard input could not be read as text, or standard output not be written",
+        "standard input could not be read as text, standard output not be written, or a file system is full",
     )
 }
 
@@ -168,7 +170,12 @@ fn file_fault<R: Files + AllocGlobal>(
         FileFault::SameFile => said_of(
             rt,
             path_of(files, Role::Written),
-            "the image would be written over the executable",
+            "this path leads to the executable itself",
+        ),
+        FileFault::OwnSource => said_of(
+            rt,
+            path_of(files, Role::Written),
+            "this path leads to the source itself",
         ),
         FileFault::OtherImage => said_of(
             rt,

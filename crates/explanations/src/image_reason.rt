@@ -16,6 +16,9 @@ const LOWEST: u32 = 0x0001_0000;
 
 const HIGHEST: u64 = 0x7fff_0000;
 
+/// `e_type` and `e_machine` of an executable for RISC-V.
+const EXECUTABLE_FOR_RISC_V: u32 = 0x00F3_0002;
+
 /// How many bytes of a file are looked at for whether it is text.
 const LOOKED_AT: usize = 64;
 
@@ -91,13 +94,20 @@ fn is_text(file: &[u8]) -> bool {
         && start.iter().all(|byte| matches!(*byte, b'\t' | b'\n' | b'\r' | b' '..=b'~'))
 }
 
+/// What makes an image of the text in a file, by its name.
+fn of_text(alloc: Global, path: &str) -> Result<String, AllocError> {
+    let said = if path.ends_with(".c") {
+        "it begins as text; of C a compiler makes an image first, as examples/c/build.sh does"
+    } else {
+        "it begins as text; of a source bench asm makes an image first"
+    };
+    String::from_str(alloc, said)
+}
+
 /// What is said of a file that does not begin as an image does.
-fn beginning(alloc: Global, file: &[u8]) -> Result<String, AllocError> {
+fn beginning(alloc: Global, path: &str, file: &[u8]) -> Result<String, AllocError> {
     if is_text(file) {
-        return String::from_str(
-            alloc,
-            "it begins as text; of a source bench asm makes an image first",
-        );
+        return of_text(alloc, path);
     }
     let count = file.len();
     if count < FILE_HEADER_SIZE {
@@ -111,8 +121,19 @@ fn beginning(alloc: Global, file: &[u8]) -> Result<String, AllocError> {
     Ok(text)
 }
 
+/// Whether a file is an executable of 32 bits for RISC-V that has sections, as linkers write it.
+fn is_linked(file: &[u8]) -> bool {
+    let kind_and_machine = value_at(file, 16, 4).unwrap_or(0);
+    value_at(file, 4, 1) == Some(1)
+        && kind_and_machine == EXECUTABLE_FOR_RISC_V
+        && value_at(file, 32, 4) != Some(0)
+}
+
 fn file_header(alloc: Global, file: &[u8]) -> Result<String, AllocError> {
     match faulty_field(&FILE_HEADER, file) {
+        Some(fault) if is_linked(file) => format!(in alloc;
+            "{fault}; of what a linker wrote bench image makes an image first"
+        ),
         Some(fault) => format!(in alloc; "{fault}"),
         None => String::from_str(alloc, "its header is another than it was"),
     }
@@ -245,14 +266,15 @@ fn table(alloc: Global, file: &[u8], fault: ElfFault) -> Result<Option<String>, 
     }
 }
 
-/// Why a file of these bytes is no image, by the first check that it fails.
+/// Why a file of this name and these bytes is no image, by the first check that it fails.
 pub fn image_reason(
     alloc: Global,
+    path: &str,
     file: &[u8],
     fault: ElfFault,
 ) -> Result<Option<String>, AllocError> {
     let said = match fault {
-        ElfFault::Short | ElfFault::BadMagic => beginning(alloc, file)?,
+        ElfFault::Short | ElfFault::BadMagic => beginning(alloc, path, file)?,
         ElfFault::BadIdent | ElfFault::BadKind | ElfFault::BadHeader => file_header(alloc, file)?,
         ElfFault::ShortTable => short_table(alloc, file)?,
         ElfFault::BadEntry => entry(alloc, file)?,

@@ -1,7 +1,7 @@
 //! Why a file could not be read or written.
 use crate::task_files::{Role, TaskFile};
 use file_reading::{bytes_in, image_file_in};
-use host_files::test_place;
+use host_files::{MOST_SOURCE_BYTES, test_place};
 use scripts::MOST_TAPE_BYTES;
 use simdisk::SIZE;
 use std::alloc::{AllocError, Global};
@@ -10,17 +10,28 @@ use std::io::ErrorKind;
 use std::rt::Files;
 use std::{fs, io};
 
+/// The first bytes of an ELF file.
+const ELF_BEGIN: &[u8] = b"\x7fELF";
+
 /// The reason that the system gives.
 fn system_reason(alloc: Global, error: &io::Error) -> Result<String, AllocError> {
     format!(in alloc; "{error}")
 }
 
-/// Why a file that has to be text cannot be read, if it cannot.
-fn text_reason<R: Files + AllocGlobal>(rt: &R, path: &str) -> Result<Option<String>, AllocError> {
-    match fs::read(rt, path) {
+/// Why a file that has to be text cannot be read, if it cannot. No more than `most` + 1 of its bytes are read, since it may have no end.
+fn text_reason<R: Files + AllocGlobal>(
+    rt: &R,
+    path: &str,
+    most: usize,
+) -> Result<Option<String>, AllocError> {
+    match bytes_in(rt, path, most) {
         Err(error) => Ok(Some(system_reason(rt.alloc(), &error)?)),
         Ok(bytes) => match str::from_utf8(bytes.as_slice()) {
             Ok(_) => Ok(None),
+            Err(_) if bytes.get(..4) == Some(ELF_BEGIN) => Ok(Some(String::from_str(
+                rt.alloc(),
+                "it is an ELF file, as an image or an executable, and no text",
+            )?)),
             Err(error) => Ok(Some(format!(in rt.alloc();
                 "it is no text: after {} bytes comes one that is not UTF-8",
                 error.valid_up_to()
@@ -47,25 +58,6 @@ fn read_reason<T: Drop>(alloc: Global, read: io::Result<T>) -> Result<Option<Str
     }
 }
 
-/// Why a disk cannot be kept in a file, if it cannot.
-fn kept_disk_reason<R: Files + AllocGlobal>(
-    rt: &R,
-    path: &str,
-) -> Result<Option<String>, AllocError> {
-    match fs::metadata(rt, path) {
-        Err(error) if error.kind() != ErrorKind::NotFound => {
-            return Ok(Some(system_reason(rt.alloc(), &error)?));
-        }
-        _ => {}
-    }
-    match test_place(rt, path) {
-        Ok(()) => Ok(None),
-        Err(_) => Ok(Some(format!(in rt.alloc();
-            "the file {path}.new beside it cannot be made and removed"
-        )?)),
-    }
-}
-
 /// Why a file cannot be made, if it cannot. One that can is removed again.
 fn made_reason<R: Files + AllocGlobal>(rt: &R, path: &str) -> Result<Option<String>, AllocError> {
     let made = OpenOptions::new()
@@ -78,6 +70,49 @@ fn made_reason<R: Files + AllocGlobal>(rt: &R, path: &str) -> Result<Option<Stri
         let _ = fs::remove_file(rt, path);
     }
     reason
+}
+
+/// Why the file beside a disk's cannot be made and removed.
+fn beside_reason<R: Files + AllocGlobal>(rt: &R, path: &str) -> Result<String, AllocError> {
+    if path.is_empty() {
+        return String::from_str(rt.alloc(), "an empty path names no file");
+    }
+    let beside = format!(in rt.alloc(); "{path}.new")?;
+    match made_reason(rt, beside.as_str())? {
+        Some(why) => {
+            let why = why.as_str();
+            format!(in rt.alloc(); "the file {path}.new beside it cannot be made: {why}")
+        }
+        None => format!(in rt.alloc(); "the file {path}.new beside it cannot be made and removed"),
+    }
+}
+
+/// Why a disk cannot be read and kept in a file, if it cannot.
+fn kept_disk_reason<R: Files + AllocGlobal>(
+    rt: &R,
+    path: &str,
+) -> Result<Option<String>, AllocError> {
+    match bytes_in(rt, path, SIZE) {
+        Err(error) if error.kind() != ErrorKind::NotFound => {
+            return Ok(Some(system_reason(rt.alloc(), &error)?));
+        }
+        _ => {}
+    }
+    match test_place(rt, path) {
+        Ok(()) => Ok(None),
+        Err(_) => Ok(Some(beside_reason(rt, path)?)),
+    }
+}
+
+/// Why a disk cannot be kept in a file while a run goes on, if it cannot.
+fn durable_disk_reason<R: Files + AllocGlobal>(
+    rt: &R,
+    path: &str,
+) -> Result<Option<String>, AllocError> {
+    match kept_disk_reason(rt, path)? {
+        Some(why) => Ok(Some(why)),
+        None => written_reason(rt, path),
+    }
 }
 
 /// Why a file cannot be written, if it cannot. One that is there keeps its bytes.
@@ -98,12 +133,15 @@ pub fn file_reason<R: Files + AllocGlobal>(
 ) -> Result<Option<String>, AllocError> {
     let path = file.path;
     match file.role {
-        Role::Script | Role::Source | Role::Trace | Role::Expectations => text_reason(rt, path),
+        Role::Source => text_reason(rt, path, MOST_SOURCE_BYTES),
+        // These were read to their end before.
+        Role::Script | Role::Trace | Role::Expectations => text_reason(rt, path, usize::MAX),
         Role::Image => read_reason(rt.alloc(), image_file_in(rt, path)),
         Role::Linked => read_reason(rt.alloc(), bytes_in(rt, path, SIZE)),
         Role::Tape => tape_reason(rt, path),
         Role::Disk => read_reason(rt.alloc(), bytes_in(rt, path, SIZE)),
         Role::KeptDisk => kept_disk_reason(rt, path),
+        Role::DurableDisk => durable_disk_reason(rt, path),
         Role::Written => written_reason(rt, path),
     }
 }

@@ -17,6 +17,8 @@ pub enum Role {
     Disk,
     /// A disk that is kept, also where it is not there yet.
     KeptDisk,
+    /// A disk that is kept while its run goes on.
+    DurableDisk,
     /// A file that is written anew.
     Written,
 }
@@ -49,7 +51,12 @@ fn push_run<'a>(
     for path in options.images.as_slice() {
         push(files, Role::Image, Some(*path))?;
     }
-    push(files, Role::KeptDisk, options.disk)
+    let role = if options.is_durable {
+        Role::DurableDisk
+    } else {
+        Role::KeptDisk
+    };
+    push(files, role, options.disk)
 }
 
 fn push_live<'a>(

@@ -14,6 +14,9 @@ pub enum FileFault {
     /// The first fault of a source.
     #[error("source refused: {number} {fault}")]
     Source { number: u8, fault: AsmFault },
+    /// A source that would be written over by what is made of it.
+    #[error("source refused: SameFile: the output would be written over it")]
+    OwnSource,
     /// A source that assembles to another image than the one beside which it is given.
     #[error("source refused: OtherImage: it assembles to another image than the one given")]
     OtherImage,

@@ -12,6 +12,7 @@ mod fault;
 mod linked;
 mod list;
 mod reading;
+mod same_file;
 mod source;
 
 pub use checking::{check_file, source_reason};
@@ -23,4 +24,4 @@ pub use fault::FileFault;
 pub use linked::image_file;
 pub use list::list_file;
 pub use reading::image_in;
-pub use source::{assemble_file, symbols_file};
+pub use source::{MOST_SOURCE_BYTES, assemble_file, symbols_file};

@@ -1,34 +1,16 @@
 //! Executables of stock linkers made to images.
 use crate::disk_file::write_whole;
 use crate::fault::FileFault;
+use crate::same_file::{is_same_file, metadata_of};
 use file_reading::bytes_in;
 use linked_elf::{MOST_BYTES, image_of};
 use machine_model::{Image, Segment};
-use std::fs::Metadata;
-use std::io::{ErrorKind, Write};
-use std::os::unix::fs::MetadataExt;
+use std::fs;
+use std::io::Write;
 use std::rt::Files;
-use std::{fs, io};
 
 /// The bytes of a page.
 const PAGE: u64 = 4096;
-
-/// What has a path, if anything has. Links are followed.
-fn metadata_of<R: Files>(rt: &R, path: &str) -> io::Result<Option<Metadata>> {
-    match fs::metadata(rt, path) {
-        Ok(metadata) => Ok(Some(metadata)),
-        Err(error) if error.kind() == ErrorKind::NotFound => Ok(None),
-        Err(error) => Err(error),
-    }
-}
-
-/// Whether two paths lead to one file.
-fn is_same_file<R: Files>(rt: &R, one: &str, other: &str) -> io::Result<bool> {
-    match (metadata_of(rt, one)?, metadata_of(rt, other)?) {
-        (Some(one), Some(other)) => Ok(one.dev() == other.dev() && one.ino() == other.ino()),
-        _ => Ok(false),
-    }
-}
 
 /// How many pages a segment has; it lies below 2^32.
 fn page_count(segment: &Segment) -> u64 {
@@ -49,6 +31,14 @@ fn print_size<O: Write>(image: &Image, out: &mut O) -> Result<(), FileFault> {
     Ok(())
 }
 
+/// Writes an image to a file, whole. What is there and is no file, as a device, is written to, and stays.
+fn write_image<R: Files + AllocGlobal>(rt: &R, path: &str, bytes: &[u8]) -> Result<(), FileFault> {
+    match metadata_of(rt, path)? {
+        Some(metadata) if !metadata.is_file() => Ok(fs::write(rt, path, bytes)?),
+        _ => write_whole(rt, path, bytes),
+    }
+}
+
 /// Makes an image of the executable in a file, writes it to another, and prints how many segments and pages it has, and its entry.
 /// Nothing is written where the executable is refused, or where both paths lead to one file, which is SameFile.
 pub fn image_file<R: Files + AllocGlobal, O: Write>(
@@ -63,6 +53,6 @@ pub fn image_file<R: Files + AllocGlobal, O: Write>(
         return Err(FileFault::SameFile);
     }
     let file = elf32::write(rt.alloc(), &program)?;
-    write_whole(rt, image, &file)?;
+    write_image(rt, image, &file)?;
     print_size(&program, out)
 }

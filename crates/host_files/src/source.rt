@@ -1,5 +1,6 @@
 //! Sources assembled to files of images, and of symbols for gdb.
 use crate::fault::FileFault;
+use crate::same_file::is_same_file;
 use assembler::{AsmFault, Cause, assemble};
 use debug_symbols::{SymbolFile, symbol_file};
 use file_reading::bytes_in;
@@ -67,13 +68,17 @@ pub fn source_text<R: Files + AllocGlobal>(rt: &R, path: &str) -> Result<String,
     Ok(String::from_str(rt.alloc(), text_of(&bytes)?)?)
 }
 
-/// Writes what came of a source to a file, and prints the line.
+/// Writes what came of the source in a file to another, and prints the line. Where both paths lead to one file nothing is written.
 fn write_assembled<R: Files, O: Write>(
     rt: &R,
     assembled: &Assembled,
+    source: &str,
     path: &str,
     out: &mut O,
 ) -> Result<(), FileFault> {
+    if is_same_file(rt, source, path)? {
+        return Err(FileFault::OwnSource);
+    }
     fs::write(rt, path, assembled.file.as_slice())?;
     let line = assembled.line.as_str();
     writeln!(out, "{line}")?;
@@ -90,7 +95,7 @@ pub fn assemble_file<R: Files + AllocGlobal, O: Write>(
 ) -> Result<(), FileFault> {
     let bytes = bytes_in(rt, source, MOST_SOURCE_BYTES)?;
     let assembled = assemble_source(rt.alloc(), text_of(&bytes)?)?;
-    write_assembled(rt, &assembled, image, out)
+    write_assembled(rt, &assembled, source, image, out)
 }
 
 fn symbols_of(alloc: Global, source: &str, path: &str) -> Result<Assembled, FileFault> {
@@ -117,5 +122,5 @@ pub fn symbols_file<R: Files + AllocGlobal, O: Write>(
 ) -> Result<(), FileFault> {
     let bytes = bytes_in(rt, source, MOST_SOURCE_BYTES)?;
     let written = symbols_of(rt.alloc(), text_of(&bytes)?, source)?;
-    write_assembled(rt, &written, symbols, out)
+    write_assembled(rt, &written, source, symbols, out)
 }

@@ -46,6 +46,7 @@ fn file_status(fault: &FileFault) -> u8 {
     match fault {
         FileFault::Source { .. }
         | FileFault::OtherImage
+        | FileFault::OwnSource
         | FileFault::Image { .. }
         | FileFault::Linked(_)
         | FileFault::SameFile
