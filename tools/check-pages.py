@@ -5,7 +5,7 @@
 
 A page is README.md, CHANGES.md or a file docs/*.md. Of each it finds links to files that are not there, links to anchors that no
 heading has, and sentences of more than 35 words. Of the pages that show the commands it also finds blocks ```text that no case of
-crates/trials/data/*.sessions has, and no example: what is shown there is what the merge gate compares. A form, with words that stand
+crates/test_runner/data/*.sessions has, and no example: what is shown there is what the merge gate compares. A form, with words that stand
 for others, is in a plain block. With --comments it also finds such sentences in the comments `//!` and `///` of crates/*/src. With
 file names, it checks these alone: pages, and comments of files `.rt`.
 
@@ -24,8 +24,8 @@ import urllib.parse
 MOST_WORDS = 35
 # The pages whose blocks of text stand in cases or examples.
 SHOWING = ("README.md", *(f"docs/{it}.md" for it in ("ABI", "CALLS", "CRASHES", "DEBUGGER", "IMAGES", "SCRIPTS", "SOURCES", "TEACHING")))
-CASES = "crates/trials/data/*.sessions"
-EXAMPLES = "crates/trials/data/examples/*.[sf]*"
+CASES = "crates/test_runner/data/*.sessions"
+EXAMPLES = "crates/test_runner/data/examples/*.[sf]*"
 
 FENCE = re.compile(r"\s*(```+|~~~+)")
 HEADING = re.compile(r" {0,3}#{1,6}\s+(.*?)(?:\s+#+)?\s*$")
