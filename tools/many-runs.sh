@@ -104,7 +104,7 @@ if [ "$(at_work 1 endless endless endless)" -ne 1 ] || [ "$(at_work 3 endless en
 fi
 
 # By one worker a loan's length shows in what is written first: the child, which counts first, is lent first.
-"$bench" asm "$here/crates/trials/data/forked.s" forked >said
+"$bench" asm "$here/crates/test_runner/data/forked.s" forked >said
 for row in 1000000:CP 10:PC; do
     ran --workers 1 --quantum "${row%:*}" forked
     if [ "$(tr -d "\n" <printed)" != "${row#*:}" ]; then
