@@ -21,7 +21,7 @@ import urllib.parse
 
 MOST_WORDS = 35
 # The pages whose blocks of text stand in cases, each with the file of these.
-CASES_OF = {"docs/TEACHING.md": "crates/trials/data/teaching.sessions"}
+CASES_OF = {"docs/TEACHING.md": "crates/test_runner/data/teaching.sessions"}
 
 FENCE = re.compile(r"\s*(```+|~~~+)")
 HEADING = re.compile(r" {0,3}#{1,6}\s+(.*?)(?:\s+#+)?\s*$")

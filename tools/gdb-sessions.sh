@@ -17,7 +17,7 @@ END
 }
 
 here=$(CDPATH='' cd "$(dirname "$0")" && pwd)
-examples=$here/../crates/trials/data/examples
+examples=$here/../crates/test_runner/data/examples
 bench=$here/../crates/bench/out/bench
 streams=0 seed=1 write=no
 while [ $# -gt 0 ]; do

@@ -86,7 +86,7 @@ for workers in 2 5 16; do
 done
 
 # By one worker a loan's length shows in what is written first: the child, which counts first, is lent first.
-"$bench" asm "$here/crates/trials/data/forked.s" forked >said
+"$bench" asm "$here/crates/test_runner/data/forked.s" forked >said
 for row in 1000000:CP 10:PC; do
     ran --workers 1 --quantum "${row%:*}" forked
     if [ "$(tr -d "\n" <printed)" != "${row#*:}" ]; then

@@ -1,5 +1,5 @@
 #!/usr/bin/env python3
-"""refused-growths.py [--bench FILE] [--trials FILE] [--refuse WHAT] [NAME..]: runs the proved program over every command, and the rows
+"""refused-growths.py [--bench FILE] [--test-runner FILE] [--refuse WHAT] [NAME..]: runs the proved program over every command, and the rows
 of `growths.cores`, each run with another growth of memory refused. WHAT may be another call to the host. With names only these rows.
 
 A run has to come out as the one in which nothing is refused, or to end for the refusal: status 5 and `bench: out of memory`, or 6 and
@@ -19,7 +19,7 @@ import tempfile
 import threading
 
 TOP = os.path.realpath(f"{os.path.dirname(os.path.realpath(__file__))}/..")
-DATA = f"{TOP}/crates/trials/data"
+DATA = f"{TOP}/crates/test_runner/data"
 DISK = 2 * 1024 * 1024
 
 # What may be refused: the variable of `refuse.c` with its other variables, the place of its count, and the end that stands for it.
@@ -35,7 +35,7 @@ REFUSALS = {
     "thread": ("REFUSE_THREAD", {}, 3, MEMORY),
 }
 
-# Files beside the sources and scripts of `crates/trials/data`.
+# Files beside the sources and scripts of `crates/test_runner/data`.
 FILES = {
     "trace": b"00000002 -\n00000003 -\n00000001 -\n",
     "bad.trace": b"00000002 -\n0003 -\n",
@@ -116,7 +116,7 @@ MOST = {"asm of a large space": 65536}
 
 # In a file of cases only what stands after such a line is swept.
 MARK = "# FROM HERE ON"
-# How the program `trials` says that a growth of its own was refused; what it says where a line of a case comes out otherwise.
+# How the program `test_runner` says that a growth of its own was refused; what it says where a line of a case comes out otherwise.
 OWN = re.compile(rb"memory|OutOfMemory")
 OTHERWISE = b"comes to"
 
@@ -240,7 +240,7 @@ class Sweep:
         return "refused" if self.is_refused(found, wanted, is_run) else "wrong"
 
     def kind_of_row(self, found, wanted, _):
-        """The kind of a run of `trials`, which itself may want memory: then it ends, and says so."""
+        """The kind of a run of `test_runner`, which itself may want memory: then it ends, and says so."""
         if found[:2] == wanted[:2]:
             return "undisturbed"
         (status, out, err), (changed, gone) = found[:2]
@@ -323,7 +323,7 @@ def rows_of(text):
     return [(case.splitlines()[0], f"{head}\n== {case}", f"{head}\n== {case.split(MARK)[0]}" if MARK in case else None) for case in cases]
 
 
-def sweep_rows(trials, library, names, processes):
+def sweep_rows(test_runner, library, names, processes):
     files = {}
     for where, _, found in os.walk(DATA):
         for name in found:
@@ -335,7 +335,7 @@ def sweep_rows(trials, library, names, processes):
         files[f"{place}.cores"] = whole.encode()
         if before is not None:
             files[f"{place}.before.cores"] = before.encode()
-    sweep = Sweep(trials, library, "growth", files, processes)
+    sweep = Sweep(test_runner, library, "growth", files, processes)
     for place, (title, _, before) in enumerate(rows):
         if not names or title in names:
             first = 1
@@ -352,7 +352,7 @@ def sweep_rows(trials, library, names, processes):
 def main():
     parser = argparse.ArgumentParser(description=__doc__, formatter_class=argparse.RawDescriptionHelpFormatter)
     parser.add_argument("--bench", help="the proved program; without it no command is run")
-    parser.add_argument("--trials", help="the proved program `trials`; without it no row is run")
+    parser.add_argument("--test-runner", help="the proved program `test_runner`; without it no row is run")
     parser.add_argument("--refuse", choices=REFUSALS, default="growth", help="what is refused: one growth, all from one on, a call of the host, one for want of room or interrupted, all bytes but one, or a thread")
     parser.add_argument("--processes", type=int, default=os.cpu_count())
     parser.add_argument("names", nargs="*", help="the commands and rows that are run; all without them")
@@ -361,8 +361,8 @@ def main():
     with tempfile.TemporaryDirectory() as folder:
         library = f"{folder}/refuse.so"
         subprocess.run(["cc", "-O1", "-shared", "-fPIC", "-o", library, f"{TOP}/tools/refuse.c", "-ldl"], check=True)
-        if given.trials and given.refuse == "growth":
-            kinds += sweep_rows(os.path.abspath(given.trials), library, given.names, given.processes)
+        if given.test_runner and given.refuse == "growth":
+            kinds += sweep_rows(os.path.abspath(given.test_runner), library, given.names, given.processes)
         if given.bench:
             kinds += sweep_commands(os.path.abspath(given.bench), library, given.refuse, given.names, given.processes)
     runs = kinds["refused"] + kinds["undisturbed"] + kinds["wrong"]

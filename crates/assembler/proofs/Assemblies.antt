@@ -3,7 +3,7 @@ use Rattle.std.proofs.Common.{◌≡◌, ◌≢◌, ℕ, ◌+◌, ◌*◌, ◌�
 use Rattle.machine_model.specs.Images.{Program, bytes_of_words}
 use Rattle.asm_text.specs.Text.{IsText}
 use Rattle.asm_text.specs.declared.token.Line.{Line}
-use Rattle.statements.specs.Steps.{and_then}
+use Rattle.asm_statements.specs.Steps.{and_then}
 use Rattle.assembler.specs.Faults.{out_of_memory}
 use Rattle.assembler.specs.Layout.{counted, start_layout, all_placed}
 use Rattle.assembler.specs.Filling.{Contents, Filling, Scope, start_filling, all_filled, contents_filled}
@@ -14,7 +14,7 @@ use Rattle.assembler.specs.declared.filling.Cell.{Cell}
 use Rattle.assembler.specs.declared.listing.Row.{Row}
 use Rattle.assembler.specs.declared.layout.Position.{Position}
 use Rattle.assembler.specs.declared.layout.Layout.{Layout}
-use Rattle.statements.proofs.Stepping.{and_then-ok}
+use Rattle.asm_statements.proofs.Stepping.{and_then-ok}
 use Rattle.assembler.proofs.Sizes.{IsMeasured, measured-all, same_contents}
 
 fitting : (w len : ℕ) → w ≡ counted len → w ≤ 245760 → len ≡ w

@@ -9,9 +9,9 @@ use Rattle.asm_text.specs.Tokens.{Leads}
 use Rattle.asm_text.specs.Text.{IsText}
 use Rattle.asm_text.specs.declared.token.Token.{Token}
 use Rattle.asm_text.specs.declared.token.Line.{Line}
-use Rattle.statements.specs.Steps.{and_then}
-use Rattle.statements.specs.Tokens.{text_at}
-use Rattle.statements.specs.Statements.{label_read, statement_read}
+use Rattle.asm_statements.specs.Steps.{and_then}
+use Rattle.asm_statements.specs.Tokens.{text_at}
+use Rattle.asm_statements.specs.Statements.{label_read, statement_read}
 use Rattle.assembler.specs.Labels.{SpotsByName}
 use Rattle.assembler.specs.Layout.{counted, start_layout, placed, all_placed, after, spot_of, advanced, with_words, with_bytes, space_checked}
 use Rattle.assembler.specs.Filling.{Contents, Filling, Scope, start_filling, address_of, address_named, filled, all_filled, contents_filled}
@@ -21,13 +21,13 @@ use Rattle.assembler.specs.declared.fault.AsmFault.{AsmFault}
 use Rattle.assembler.specs.declared.layout.Position.{Position}
 use Rattle.assembler.specs.declared.layout.Layout.{Layout}
 use Rattle.assembler.specs.declared.labels.Spot.{Spot}
-use Rattle.statements.specs.declared.statement.Label.{Label}
-use Rattle.statements.specs.declared.statement.Statement.{Statement}
-use Rattle.statements.specs.declared.statement.Statement.TheVariants as statement
+use Rattle.asm_statements.specs.declared.statement.Label.{Label}
+use Rattle.asm_statements.specs.declared.statement.Statement.{Statement}
+use Rattle.asm_statements.specs.declared.statement.Statement.TheVariants as statement
 use Rattle.assembler.specs.declared.listing.Row.{Row}
-use Rattle.statements.proofs.Stepping.{and_then-ok}
+use Rattle.asm_statements.proofs.Stepping.{and_then-ok}
 use Rattle.assembler.proofs.Profiles.{text_length}
-use Rattle.statements.proofs.Registers.{statement-known}
+use Rattle.asm_statements.proofs.Registers.{statement-known}
 use Rattle.assembler.proofs.StatementBytes.{text_bytes, IsPut, IsHolding, statement-holding}
 use Rattle.assembler.proofs.LabelPlaces.{all-stay, label-found}
 use Rattle.assembler.proofs.Sizes.{IsMeasured, IsPlaced, placed-is, IsFilled, filled-is, same_split, same_statement, same_position, same_filling, measured-filled, same_contents}

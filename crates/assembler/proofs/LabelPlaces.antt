@@ -6,7 +6,7 @@ use Rattle.std.specs.Ordering.{is_eq, nat_cmp, eq_by_cmp}
 use Rattle.std.specs.FinMap.{get, insert, get-insert, slice_cmp-IsAntisymmetric, nat_cmp-IsAntisymmetric}
 use Rattle.std.proofs.lemmas.Cmp.{nat_list_cmp_total, eq_by_cmp_equiv}
 use Rattle.asm_text.specs.declared.token.Line.{Line}
-use Rattle.statements.specs.Tokens.{text_at}
+use Rattle.asm_statements.specs.Tokens.{text_at}
 use Rattle.assembler.specs.Labels.{SpotsByName}
 use Rattle.assembler.specs.Faults.{fault_at}
 use Rattle.assembler.specs.Layout.{spot_of, label_declared, labelled, placed, all_placed}
@@ -15,8 +15,8 @@ use Rattle.assembler.specs.declared.fault.Cause.TheVariants.{DoubleLabel}
 use Rattle.assembler.specs.declared.labels.Spot.{Spot}
 use Rattle.assembler.specs.declared.layout.Position.{Position}
 use Rattle.assembler.specs.declared.layout.Layout.{Layout}
-use Rattle.statements.specs.declared.statement.Label.{Label}
-use Rattle.statements.proofs.Stepping.{and_then-ok}
+use Rattle.asm_statements.specs.declared.statement.Label.{Label}
+use Rattle.asm_statements.proofs.Stepping.{and_then-ok}
 use Rattle.assembler.proofs.Sizes.{IsPlaced, placed-is, same_layout}
 
 same_labels : (a b : SpotsByName) → ◌≡◌ {A = Result SpotsByName AsmFault} (Ok a) (Ok b) → a ≡ b

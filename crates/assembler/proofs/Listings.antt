@@ -10,10 +10,10 @@ use Rattle.asm_text.specs.Tokens.{Leads}
 use Rattle.asm_text.specs.Text.{LineStart, source_start, IsNextLine, IsText}
 use Rattle.asm_text.specs.declared.token.Token.{Token}
 use Rattle.asm_text.specs.declared.token.Line.{Line}
-use Rattle.statements.specs.Steps.{and_then}
-use Rattle.statements.specs.Statements.{statement_read}
-use Rattle.statements.specs.Encoding.{word_of}
-use Rattle.statements.specs.Expansion.{expansion_of, modulo_word}
+use Rattle.asm_statements.specs.Steps.{and_then}
+use Rattle.asm_statements.specs.Statements.{statement_read}
+use Rattle.asm_statements.specs.Encoding.{word_of}
+use Rattle.asm_statements.specs.Expansion.{expansion_of, modulo_word}
 use Rattle.assembler.specs.Faults.{at_line}
 use Rattle.assembler.specs.Layout.{counted, start_layout, placed, all_placed, numbers_in, string_in, space_bytes, spot_of}
 use Rattle.assembler.specs.Filling.{Contents, Filling, Scope, start_filling, put_word, put_numbers, put_bytes, put_space, put_expansion, address_of, distance_of, instruction_of, instruction_filled, bytes_filled, statement_filled, filled, all_filled, contents_filled}
@@ -23,19 +23,19 @@ use Rattle.assembler.specs.declared.fault.AsmFault.{AsmFault}
 use Rattle.assembler.specs.declared.fault.Cause.TheVariants.{Range}
 use Rattle.assembler.specs.declared.layout.Position.{Position}
 use Rattle.assembler.specs.declared.layout.Layout.{Layout}
-use Rattle.statements.specs.declared.mnemonic.Mnemonic.{Mnemonic}
-use Rattle.statements.specs.declared.operands.Operands.{Operands}
-use Rattle.statements.specs.declared.expansion.Expansion.{Expansion}
-use Rattle.statements.specs.declared.expansion.Expansion.TheVariants.{One, Two}
-use Rattle.statements.specs.declared.statement.Label.{Label}
-use Rattle.statements.specs.declared.statement.Statement.{Statement}
-use Rattle.statements.specs.declared.statement.Statement.TheVariants as statement
+use Rattle.asm_statements.specs.declared.mnemonic.Mnemonic.{Mnemonic}
+use Rattle.asm_statements.specs.declared.operands.Operands.{Operands}
+use Rattle.asm_statements.specs.declared.expansion.Expansion.{Expansion}
+use Rattle.asm_statements.specs.declared.expansion.Expansion.TheVariants.{One, Two}
+use Rattle.asm_statements.specs.declared.statement.Label.{Label}
+use Rattle.asm_statements.specs.declared.statement.Statement.{Statement}
+use Rattle.asm_statements.specs.declared.statement.Statement.TheVariants as statement
 use Rattle.assembler.specs.declared.filling.Cell.{Cell}
 use Rattle.assembler.specs.declared.listing.Row.{Row}
-use Rattle.statements.proofs.Stepping.{and_then-ok, and_then-each, ok_or-ok}
+use Rattle.asm_statements.proofs.Stepping.{and_then-ok, and_then-each, ok_or-ok}
 use Rattle.assembler.proofs.Stepping.{at_line-ok}
-use Rattle.statements.proofs.Registers.{HasRegisters, statement-known}
-use Rattle.statements.proofs.Expansions.{AreMeant, expansion-meant}
+use Rattle.asm_statements.proofs.Registers.{HasRegisters, statement-known}
+use Rattle.asm_statements.proofs.Expansions.{AreMeant, expansion-meant}
 use Rattle.assembler.proofs.Sizes.{IsMeasured, IsFilled, filled-is, same_split, same_statement, same_position, same_filling, same_layout, measured-all, same_contents}
 use Rattle.assembler.proofs.Assemblies.{assembly_from, assembly_after, made_of, contents_shown, same_assembled, sized}
 

@@ -14,7 +14,7 @@ use Rattle.assembler.specs.declared.fault.Cause.TheVariants.{NoStart, TooLarge}
 use Rattle.assembler.specs.declared.labels.Spot.{Spot}
 use Rattle.assembler.specs.declared.listing.Row.{Row}
 use Rattle.assembler.specs.declared.layout.Layout.{Layout}
-use Rattle.statements.proofs.Stepping.{and_then-ok}
+use Rattle.asm_statements.proofs.Stepping.{and_then-ok}
 use Rattle.assembler.proofs.Profiles.{profile-image}
 use Rattle.assembler.proofs.Assemblies.{assembly_from, assembly_after, made_of, same_assembled, sized}
 use Rattle.assembler.proofs.Listings.{entry-fits}

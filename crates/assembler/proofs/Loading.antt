@@ -9,13 +9,13 @@ use Rattle.formats.specs.Fields.{signed}
 use Rattle.formats.specs.declared.instr.Instr.TheVariants as instr
 use Rattle.machine_model.specs.Effects.{Hart, reg, put, effect}
 use Rattle.machine_model.specs.Arithmetic.{as_word, sum}
-use Rattle.statements.specs.Expansion.{immediate_of, modulo_word, low_part, high_part, li_expansion, la_expansion, fitting_expansion, long_expansion, word_count}
+use Rattle.asm_statements.specs.Expansion.{immediate_of, modulo_word, low_part, high_part, li_expansion, la_expansion, fitting_expansion, long_expansion, word_count}
 use Rattle.assembler.specs.Instructions.{instructions_of}
 use Rattle.assembler.specs.Loads.{carried_out, with_value}
-use Rattle.statements.specs.declared.expansion.Expansion.TheVariants.{One, Two}
-use Rattle.statements.proofs.Meanings.{IsHeld}
-use Rattle.statements.proofs.Expansions.{low_held, high-below}
-use Rattle.statements.proofs.Parts.{parts-add-up, modulo_pos, modulo_shifted}
+use Rattle.asm_statements.specs.declared.expansion.Expansion.TheVariants.{One, Two}
+use Rattle.asm_statements.proofs.Meanings.{IsHeld}
+use Rattle.asm_statements.proofs.Expansions.{low_held, high-below}
+use Rattle.asm_statements.proofs.Parts.{parts-add-up, modulo_pos, modulo_shifted}
 
 -- a number that fits is the one that was tested
 immediate-same : (v imm : ℤ) → immediate_of v ≡ Some imm → imm ≡ v

@@ -3,15 +3,15 @@ use Rattle.std.proofs.Common.{ℕ, suc, ◌≡◌, ◌<◌, List, ◌∷◌, len
 use Rattle.asm_text.specs.declared.token.Token.{Token}
 use Rattle.asm_text.specs.declared.token.Line.{Line}
 use Rattle.assembler.specs.Faults.{at_line}
-use Rattle.statements.specs.Statements.{label_read, statement_read}
+use Rattle.asm_statements.specs.Statements.{label_read, statement_read}
 use Rattle.assembler.specs.Layout.{placed, all_placed}
 use Rattle.assembler.specs.Filling.{Scope, Filling, statement_filled, filled, all_filled, start_filling, contents_filled}
 use Rattle.assembler.specs.declared.fault.AsmFault.{AsmFault}
 use Rattle.assembler.specs.declared.fault.Cause.TheVariants.{Syntax}
 use Rattle.assembler.specs.declared.layout.Layout.{Layout}
-use Rattle.statements.specs.declared.statement.Label.{Label}
-use Rattle.statements.specs.declared.statement.Statement.{Statement}
-use Rattle.statements.proofs.Stepping.{and_then-at, and_then-err}
+use Rattle.asm_statements.specs.declared.statement.Label.{Label}
+use Rattle.asm_statements.specs.declared.statement.Statement.{Statement}
+use Rattle.asm_statements.proofs.Stepping.{and_then-at, and_then-err}
 use Rattle.assembler.proofs.Sizes.{filled_stated, filled_put, filled_made}
 use Rattle.assembler.proofs.Assemblies.{contents_shown}
 

@@ -7,9 +7,9 @@ use Rattle.formats.specs.declared.instr.Instr.{Instr}
 use Rattle.asm_text.specs.declared.token.Token.{Token}
 use Rattle.asm_text.specs.declared.token.Line.{Line}
 use Rattle.machine_model.proofs.Words.{length-low_bytes}
-use Rattle.statements.specs.Steps.{and_then}
-use Rattle.statements.specs.Statements.{label_read, statement_read}
-use Rattle.statements.specs.Expansion.{expansion_of, word_count, words_taken, modulo_word}
+use Rattle.asm_statements.specs.Steps.{and_then}
+use Rattle.asm_statements.specs.Statements.{label_read, statement_read}
+use Rattle.asm_statements.specs.Expansion.{expansion_of, word_count, words_taken, modulo_word}
 use Rattle.assembler.specs.Faults.{at_line}
 use Rattle.assembler.specs.Labels.{SpotsByName}
 use Rattle.assembler.specs.Layout.{counted, with_bytes, advanced, within, after, units_of, space_units, numbers_in, string_in, space_bytes, labelled, space_checked, placed, all_placed, spot_of}
@@ -18,16 +18,16 @@ use Rattle.assembler.specs.declared.fault.AsmFault.{AsmFault}
 use Rattle.assembler.specs.declared.fault.Cause.TheVariants.{Syntax, Range}
 use Rattle.assembler.specs.declared.layout.Position.{Position}
 use Rattle.assembler.specs.declared.layout.Layout.{Layout}
-use Rattle.statements.specs.declared.mnemonic.Mnemonic.{Mnemonic}
-use Rattle.statements.specs.declared.mnemonic.Mnemonic.TheVariants as form
-use Rattle.statements.specs.declared.operands.Operands.{Operands}
-use Rattle.statements.specs.declared.expansion.Expansion.{Expansion}
-use Rattle.statements.specs.declared.expansion.Expansion.TheVariants.{One, Two}
-use Rattle.statements.specs.declared.statement.Label.{Label}
-use Rattle.statements.specs.declared.statement.Statement.{Statement}
-use Rattle.statements.specs.declared.statement.Statement.TheVariants as statement
+use Rattle.asm_statements.specs.declared.mnemonic.Mnemonic.{Mnemonic}
+use Rattle.asm_statements.specs.declared.mnemonic.Mnemonic.TheVariants as form
+use Rattle.asm_statements.specs.declared.operands.Operands.{Operands}
+use Rattle.asm_statements.specs.declared.expansion.Expansion.{Expansion}
+use Rattle.asm_statements.specs.declared.expansion.Expansion.TheVariants.{One, Two}
+use Rattle.asm_statements.specs.declared.statement.Label.{Label}
+use Rattle.asm_statements.specs.declared.statement.Statement.{Statement}
+use Rattle.asm_statements.specs.declared.statement.Statement.TheVariants as statement
 use Rattle.assembler.specs.declared.filling.Cell.{Cell}
-use Rattle.statements.proofs.Stepping.{and_then-ok, ok_or-ok}
+use Rattle.asm_statements.proofs.Stepping.{and_then-ok, ok_or-ok}
 use Rattle.assembler.proofs.Stepping.{at_line-ok}
 
 -- a position counts what the sections hold

@@ -7,9 +7,9 @@ use Rattle.std.proofs.lemmas.List.{append-nil}
 use Rattle.memory_model.specs.Access.{low_bytes}
 use Rattle.machine_model.specs.Images.{bytes_of_words}
 use Rattle.asm_text.specs.declared.token.Line.{Line}
-use Rattle.statements.specs.Steps.{and_then}
-use Rattle.statements.specs.Encoding.{word_of}
-use Rattle.statements.specs.Expansion.{expansion_of, modulo_word}
+use Rattle.asm_statements.specs.Steps.{and_then}
+use Rattle.asm_statements.specs.Encoding.{word_of}
+use Rattle.asm_statements.specs.Expansion.{expansion_of, modulo_word}
 use Rattle.assembler.specs.Faults.{at_line, fault_at}
 use Rattle.assembler.specs.Layout.{numbers_in, string_in, space_bytes, spot_of, is_space, space_checked}
 use Rattle.assembler.specs.Filling.{Contents, Scope, put_word, put_numbers, put_bytes, put_space, put_expansion, byte_of, address_of, distance_of, instruction_of, bytes_filled, statement_filled}
@@ -19,16 +19,16 @@ use Rattle.assembler.specs.Sections.{HoldsBytes}
 use Rattle.assembler.specs.declared.fault.AsmFault.{AsmFault}
 use Rattle.assembler.specs.declared.fault.Cause.TheVariants.{Range}
 use Rattle.assembler.specs.declared.layout.Position.{Position}
-use Rattle.statements.specs.declared.mnemonic.Mnemonic.{Mnemonic}
-use Rattle.statements.specs.declared.operands.Operands.{Operands}
-use Rattle.statements.specs.declared.expansion.Expansion.{Expansion}
-use Rattle.statements.specs.declared.expansion.Expansion.TheVariants.{One, Two}
-use Rattle.statements.specs.declared.statement.Statement.{Statement}
-use Rattle.statements.specs.declared.statement.Statement.TheVariants as statement
+use Rattle.asm_statements.specs.declared.mnemonic.Mnemonic.{Mnemonic}
+use Rattle.asm_statements.specs.declared.operands.Operands.{Operands}
+use Rattle.asm_statements.specs.declared.expansion.Expansion.{Expansion}
+use Rattle.asm_statements.specs.declared.expansion.Expansion.TheVariants.{One, Two}
+use Rattle.asm_statements.specs.declared.statement.Statement.{Statement}
+use Rattle.asm_statements.specs.declared.statement.Statement.TheVariants as statement
 use Rattle.assembler.specs.declared.filling.Cell.{Cell}
-use Rattle.statements.proofs.Stepping.{and_then-ok, ok_or-ok}
+use Rattle.asm_statements.proofs.Stepping.{and_then-ok, ok_or-ok}
 use Rattle.assembler.proofs.Stepping.{at_line-ok}
-use Rattle.statements.proofs.Registers.{IsKnown}
+use Rattle.asm_statements.proofs.Registers.{IsKnown}
 use Rattle.assembler.proofs.Sizes.{same_contents}
 
 -- the bytes of the words of text

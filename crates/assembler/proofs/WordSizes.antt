@@ -9,8 +9,8 @@ use Rattle.formats.specs.declared.instr.Instr.{Instr}
 use Rattle.formats.specs.declared.instr.Instr.TheVariants as instr
 use Rattle.machine_model.specs.Images.{Program}
 use Rattle.asm_text.specs.declared.token.Line.{Line}
-use Rattle.statements.specs.Encoding.{fields_word, complement, r_word, shift_word, i_word, s_word, b_word, u_word, j_word, word_of}
-use Rattle.statements.specs.Expansion.{expansion_of, modulo_word}
+use Rattle.asm_statements.specs.Encoding.{fields_word, complement, r_word, shift_word, i_word, s_word, b_word, u_word, j_word, word_of}
+use Rattle.asm_statements.specs.Expansion.{expansion_of, modulo_word}
 use Rattle.assembler.specs.Faults.{at_line}
 use Rattle.assembler.specs.Layout.{start_layout, all_placed, numbers_in, string_in, space_bytes, spot_of}
 use Rattle.assembler.specs.Filling.{Contents, Filling, Scope, start_filling, put_word, put_numbers, put_bytes, put_space, put_expansion, address_of, distance_of, instruction_of, instruction_filled, bytes_filled, statement_filled, filled, all_filled, contents_filled}
@@ -18,19 +18,19 @@ use Rattle.assembler.specs.Assembly.{scope_of, entry_of, Assembled, assembled, a
 use Rattle.assembler.specs.declared.fault.AsmFault.{AsmFault}
 use Rattle.assembler.specs.declared.fault.Cause.TheVariants.{Range}
 use Rattle.assembler.specs.declared.layout.Position.{Position}
-use Rattle.statements.specs.declared.mnemonic.Mnemonic.{Mnemonic}
-use Rattle.statements.specs.declared.operands.Operands.{Operands}
-use Rattle.statements.specs.declared.expansion.Expansion.{Expansion}
-use Rattle.statements.specs.declared.expansion.Expansion.TheVariants.{One, Two}
-use Rattle.statements.specs.declared.statement.Statement.{Statement}
-use Rattle.statements.specs.declared.statement.Statement.TheVariants as statement
+use Rattle.asm_statements.specs.declared.mnemonic.Mnemonic.{Mnemonic}
+use Rattle.asm_statements.specs.declared.operands.Operands.{Operands}
+use Rattle.asm_statements.specs.declared.expansion.Expansion.{Expansion}
+use Rattle.asm_statements.specs.declared.expansion.Expansion.TheVariants.{One, Two}
+use Rattle.asm_statements.specs.declared.statement.Statement.{Statement}
+use Rattle.asm_statements.specs.declared.statement.Statement.TheVariants as statement
 use Rattle.assembler.specs.declared.filling.Cell.{Cell}
 use Rattle.assembler.specs.declared.listing.Row.{Row}
-use Rattle.statements.proofs.Encodings.{complement-signed}
-use Rattle.statements.proofs.Stepping.{and_then-ok, ok_or-ok}
+use Rattle.asm_statements.proofs.Encodings.{complement-signed}
+use Rattle.asm_statements.proofs.Stepping.{and_then-ok, ok_or-ok}
 use Rattle.assembler.proofs.Stepping.{at_line-ok}
-use Rattle.statements.proofs.Registers.{HasRegisters, IsKnown, statement-known}
-use Rattle.statements.proofs.Expansions.{AreMeant, expansion-meant, modulo-below}
+use Rattle.asm_statements.proofs.Registers.{HasRegisters, IsKnown, statement-known}
+use Rattle.asm_statements.proofs.Expansions.{AreMeant, expansion-meant, modulo-below}
 use Rattle.assembler.proofs.Sizes.{IsFilled, filled-is, same_filling, same_contents}
 use Rattle.assembler.proofs.Assemblies.{assembly_from, assembly_after, made_of, contents_shown, same_assembled}
 

@@ -5,7 +5,7 @@ use Rattle.machine_model.specs.Images.{Program, bytes_of_words}
 use Rattle.machine_model.specs.declared.image.Segment.{Segment}
 use Rattle.asm_text.specs.Text.{IsText, FirstFault}
 use Rattle.asm_text.specs.declared.token.Line.{Line}
-use Rattle.statements.specs.Steps.{and_then}
+use Rattle.asm_statements.specs.Steps.{and_then}
 use Rattle.assembler.specs.Faults.{whole}
 use Rattle.assembler.specs.Layout.{start_layout, all_placed}
 use Rattle.assembler.specs.Filling.{Scope, Contents, contents_filled}

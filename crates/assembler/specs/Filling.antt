@@ -5,11 +5,11 @@ use Rattle.std.specs.FinMap.{get}
 use Rattle.memory_model.specs.Access.{low_bytes}
 use Rattle.asm_text.specs.declared.token.Token.{Token}
 use Rattle.asm_text.specs.declared.token.Line.{Line}
-use Rattle.statements.specs.Steps.{and_then}
-use Rattle.statements.specs.Tokens.{text_at}
-use Rattle.statements.specs.Statements.{label_read, statement_read}
-use Rattle.statements.specs.Encoding.{word_of}
-use Rattle.statements.specs.Expansion.{expansion_of, modulo_word}
+use Rattle.asm_statements.specs.Steps.{and_then}
+use Rattle.asm_statements.specs.Tokens.{text_at}
+use Rattle.asm_statements.specs.Statements.{label_read, statement_read}
+use Rattle.asm_statements.specs.Encoding.{word_of}
+use Rattle.asm_statements.specs.Expansion.{expansion_of, modulo_word}
 use Rattle.assembler.specs.Faults.{fault_at, at_line}
 use Rattle.assembler.specs.Labels.{SpotsByName}
 use Rattle.assembler.specs.Layout.{start, spot_of, after, numbers_in, string_in, space_bytes}
@@ -17,14 +17,14 @@ use Rattle.assembler.specs.declared.fault.AsmFault.{AsmFault}
 use Rattle.assembler.specs.declared.fault.Cause.TheVariants.{Syntax, UnknownName, Range}
 use Rattle.assembler.specs.declared.labels.Spot.{Spot}
 use Rattle.assembler.specs.declared.layout.Position.{Position}
-use Rattle.statements.specs.declared.mnemonic.Mnemonic.{Mnemonic}
-use Rattle.statements.specs.declared.operands.Value.{Value}
-use Rattle.statements.specs.declared.operands.Value.TheVariants as operand
-use Rattle.statements.specs.declared.operands.Operands.{Operands}
-use Rattle.statements.specs.declared.expansion.Expansion.{Expansion}
-use Rattle.statements.specs.declared.expansion.Expansion.TheVariants.{One, Two}
-use Rattle.statements.specs.declared.statement.Statement.{Statement}
-use Rattle.statements.specs.declared.statement.Statement.TheVariants as statement
+use Rattle.asm_statements.specs.declared.mnemonic.Mnemonic.{Mnemonic}
+use Rattle.asm_statements.specs.declared.operands.Value.{Value}
+use Rattle.asm_statements.specs.declared.operands.Value.TheVariants as operand
+use Rattle.asm_statements.specs.declared.operands.Operands.{Operands}
+use Rattle.asm_statements.specs.declared.expansion.Expansion.{Expansion}
+use Rattle.asm_statements.specs.declared.expansion.Expansion.TheVariants.{One, Two}
+use Rattle.asm_statements.specs.declared.statement.Statement.{Statement}
+use Rattle.asm_statements.specs.declared.statement.Statement.TheVariants as statement
 use Rattle.assembler.specs.declared.filling.Cell.{Cell}
 use Rattle.assembler.specs.declared.filling.Output.{Output}
 

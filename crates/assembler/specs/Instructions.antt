@@ -5,17 +5,17 @@ use Rattle.formats.specs.declared.instr.Instr.{Instr}
 use Rattle.asm_text.specs.Text.{IsText}
 use Rattle.asm_text.specs.declared.token.Token.{Token}
 use Rattle.asm_text.specs.declared.token.Line.{Line}
-use Rattle.statements.specs.Statements.{label_read, statement_read}
-use Rattle.statements.specs.Expansion.{expansion_of}
+use Rattle.asm_statements.specs.Statements.{label_read, statement_read}
+use Rattle.asm_statements.specs.Expansion.{expansion_of}
 use Rattle.assembler.specs.Layout.{start_layout, all_placed}
 use Rattle.assembler.specs.Filling.{distance_of}
 use Rattle.assembler.specs.Assembly.{scope_of}
-use Rattle.statements.specs.declared.mnemonic.Mnemonic.{Mnemonic}
-use Rattle.statements.specs.declared.operands.Operands.{Operands}
-use Rattle.statements.specs.declared.expansion.Expansion.{Expansion}
-use Rattle.statements.specs.declared.expansion.Expansion.TheVariants.{One, Two}
-use Rattle.statements.specs.declared.statement.Label.{Label}
-use Rattle.statements.specs.declared.statement.Statement.TheVariants.{Instruction}
+use Rattle.asm_statements.specs.declared.mnemonic.Mnemonic.{Mnemonic}
+use Rattle.asm_statements.specs.declared.operands.Operands.{Operands}
+use Rattle.asm_statements.specs.declared.expansion.Expansion.{Expansion}
+use Rattle.asm_statements.specs.declared.expansion.Expansion.TheVariants.{One, Two}
+use Rattle.asm_statements.specs.declared.statement.Label.{Label}
+use Rattle.asm_statements.specs.declared.statement.Statement.TheVariants.{Instruction}
 use Rattle.assembler.specs.declared.layout.Layout.{Layout}
 use Rattle.assembler.specs.declared.listing.Row.{Row}
 

@@ -4,8 +4,8 @@ use Rattle.formats.specs.Meaning.{Means}
 use Rattle.formats.specs.declared.instr.Instr.{Instr}
 use Rattle.formats.specs.declared.instr.Instr.TheVariants.{Fence, FenceI}
 use Rattle.machine_model.specs.Images.{Program}
-use Rattle.statements.specs.Encoding.{word_of}
-use Rattle.statements.specs.Expansion.{modulo_word, low_part, high_part}
+use Rattle.asm_statements.specs.Encoding.{word_of}
+use Rattle.asm_statements.specs.Expansion.{modulo_word, low_part, high_part}
 use Rattle.assembler.specs.Assembly.{Assembles, FaultOf}
 use Rattle.assembler.specs.Sections.{IsByLines}
 use Rattle.assembler.specs.declared.fault.AsmFault.{AsmFault}

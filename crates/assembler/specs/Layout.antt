@@ -6,18 +6,18 @@ use Rattle.asm_text.specs.declared.token.Token.{Token}
 use Rattle.asm_text.specs.declared.token.TokenKind.{TokenKind}
 use Rattle.asm_text.specs.declared.token.TokenKind.TheVariants as kind
 use Rattle.asm_text.specs.declared.token.Line.{Line}
-use Rattle.statements.specs.Steps.{and_then}
-use Rattle.statements.specs.Tokens.{text_at, number_of}
-use Rattle.statements.specs.Statements.{label_read, statement_read}
-use Rattle.statements.specs.Expansion.{words_taken}
+use Rattle.asm_statements.specs.Steps.{and_then}
+use Rattle.asm_statements.specs.Tokens.{text_at, number_of}
+use Rattle.asm_statements.specs.Statements.{label_read, statement_read}
+use Rattle.asm_statements.specs.Expansion.{words_taken}
 use Rattle.assembler.specs.Faults.{fault_at, at_line}
 use Rattle.assembler.specs.Labels.{SpotsByName}
 use Rattle.assembler.specs.declared.fault.AsmFault.{AsmFault}
 use Rattle.assembler.specs.declared.fault.Cause.TheVariants.{Syntax, DoubleLabel, Range}
 use Rattle.assembler.specs.declared.labels.Spot.{Spot}
-use Rattle.statements.specs.declared.statement.Label.{Label}
-use Rattle.statements.specs.declared.statement.Statement.{Statement}
-use Rattle.statements.specs.declared.statement.Statement.TheVariants as statement
+use Rattle.asm_statements.specs.declared.statement.Label.{Label}
+use Rattle.asm_statements.specs.declared.statement.Statement.{Statement}
+use Rattle.asm_statements.specs.declared.statement.Statement.TheVariants as statement
 use Rattle.assembler.specs.declared.layout.Position.{Position}
 use Rattle.assembler.specs.declared.layout.Layout.{Layout}
 

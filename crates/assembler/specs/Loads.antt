@@ -3,7 +3,7 @@ use Rattle.std.specs.Prelude.{◌≡◌, ℕ, pos, ◌-ℤ◌, ◌+◌, ◌*◌,
 use Rattle.std.specs.Option.{option_and_then}
 use Rattle.formats.specs.declared.instr.Instr.{Instr}
 use Rattle.machine_model.specs.Effects.{Hart, Effect, Becomes, Stands, reg, put, effect}
-use Rattle.statements.specs.Expansion.{modulo_word, li_expansion, la_expansion, word_count}
+use Rattle.asm_statements.specs.Expansion.{modulo_word, li_expansion, la_expansion, word_count}
 use Rattle.assembler.specs.Instructions.{instructions_of}
 
 -- the hart that an instruction makes, if it stands at no call and no trap

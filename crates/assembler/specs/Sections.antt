@@ -4,17 +4,17 @@ use Rattle.machine_model.specs.Images.{Program, bytes_of_words}
 use Rattle.asm_text.specs.Text.{IsText}
 use Rattle.asm_text.specs.declared.token.Token.{Token}
 use Rattle.asm_text.specs.declared.token.Line.{Line}
-use Rattle.statements.specs.Statements.{label_read, statement_read}
-use Rattle.statements.specs.Encoding.{word_of}
-use Rattle.statements.specs.Expansion.{expansion_of, modulo_word}
+use Rattle.asm_statements.specs.Statements.{label_read, statement_read}
+use Rattle.asm_statements.specs.Encoding.{word_of}
+use Rattle.asm_statements.specs.Expansion.{expansion_of, modulo_word}
 use Rattle.assembler.specs.Layout.{start_layout, all_placed, numbers_in, string_in, space_bytes}
 use Rattle.assembler.specs.Filling.{Scope, address_named, distance_of, byte_of}
 use Rattle.assembler.specs.Assembly.{pages, scope_of, text_segment, data_segments}
 use Rattle.assembler.specs.Instructions.{instructions_of}
-use Rattle.statements.specs.declared.expansion.Expansion.{Expansion}
-use Rattle.statements.specs.declared.statement.Label.{Label}
-use Rattle.statements.specs.declared.statement.Statement.{Statement}
-use Rattle.statements.specs.declared.statement.Statement.TheVariants as statement
+use Rattle.asm_statements.specs.declared.expansion.Expansion.{Expansion}
+use Rattle.asm_statements.specs.declared.statement.Label.{Label}
+use Rattle.asm_statements.specs.declared.statement.Statement.{Statement}
+use Rattle.asm_statements.specs.declared.statement.Statement.TheVariants as statement
 use Rattle.assembler.specs.declared.layout.Layout.{Layout}
 
 -- A line as it is read: the section that its statement goes to, its label, its statement, and the bytes that this holds.

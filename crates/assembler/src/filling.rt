@@ -7,11 +7,11 @@ ghost use Rattle.assembler.specs.Filling.{shown, address_of, distance_of, byte_o
 use crate::fault::{AsmFault, Cause, fault_at};
 use crate::labels::{Labels, Spot};
 use crate::layout::{Position, space_bytes, string_in};
-use asm_text::{Line, Token};
-use statements::{
+use asm_statements::{
     Expansion, Literal, Mnemonic, Operands, Statement, Value, expanded, modulo_word, number_of,
     read_statement, split_label, text_at, word,
 };
+use asm_text::{Line, Token};
 use std::alloc::Global;
 
 /// A word of text, and the line of its statement.

@@ -5,10 +5,10 @@ ghost use Rattle.assembler.specs.Layout.{start, start_layout, spot_of, counted, 
 
 use crate::fault::{AsmFault, Cause, fault_at};
 use crate::labels::{Labels, Spot};
-use asm_text::{Line, Token, TokenKind};
-use statements::{
+use asm_statements::{
     Label, Literal, Statement, number_of, read_statement, split_label, text_at, words_taken,
 };
+use asm_text::{Line, Token, TokenKind};
 use std::alloc::Global;
 
 /// How far the sections have come: the section that statements go to, the words of text and the bytes of data. A number stays at

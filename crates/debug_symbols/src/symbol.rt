@@ -1,7 +1,7 @@
 //! The labels of a source.
+use asm_statements::{Label, Statement, read_statement, split_label, text_at};
 use asm_text::Line;
 use assembler::Position;
-use statements::{Label, Statement, read_statement, split_label, text_at};
 use std::alloc::{AllocError, Global};
 
 /// What stands after a label.

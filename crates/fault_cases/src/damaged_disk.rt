@@ -1,6 +1,6 @@
 //! The line of a disk that cannot be read.
 use anyhow::{Error, ensure};
-use case_texts::compare;
+use case_format::compare;
 use kernel::{BootFault, DiskFault};
 use monitor::Fault;
 use std::alloc::Global;

@@ -1,7 +1,7 @@
 //! Outputs that take few writes, and inputs that cannot be read: what the program printed goes out at once, and its status says
 //! where it could not, and whether memory ran out there.
 use anyhow::{Error, ensure};
-use case_texts::arguments;
+use case_format::arguments;
 use std::fs::{self, File};
 use std::io::{self, ErrorKind, Read, Write};
 use std::rt::Files;

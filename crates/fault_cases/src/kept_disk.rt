@@ -1,7 +1,7 @@
 //! The file in which a run keeps its disk: what it is beside, which rights it has, what no link leads to, and
 //! which run has it.
 use anyhow::{Error, ensure};
-use case_texts::arguments;
+use case_format::arguments;
 use std::fs::{self, File, OpenOptions, Permissions};
 use std::os::unix::fs::{PermissionsExt, symlink};
 use std::rt::Files;

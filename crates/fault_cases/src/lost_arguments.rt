@@ -1,6 +1,6 @@
 //! The ends where the host does not give the arguments, to which no case comes.
 use anyhow::{Error, ensure};
-use case_texts::compare;
+use case_format::compare;
 use std::alloc::Global;
 use std::io::{self, ErrorKind};
 

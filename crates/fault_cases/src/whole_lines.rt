@@ -1,6 +1,6 @@
 //! Standard error: each line goes out whole, by one write.
 use anyhow::{Error, ensure};
-use case_texts::arguments;
+use case_format::arguments;
 use std::fs::{self, File};
 use std::io::{self, Write};
 use std::rt::Files;

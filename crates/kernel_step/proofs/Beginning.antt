@@ -12,7 +12,7 @@ use Rattle.kernel_model.specs.Answers.{Lending}
 use Rattle.footprints.specs.Footprints.{AreFootprints}
 use Rattle.kernel_model.specs.Entries.{Entry, Item}
 use Rattle.kernel_model.specs.Shown.{end_in}
-use Rattle.withheld.specs.Withheld.{Withheld, whats, nothing}
+use Rattle.held_output.specs.Withheld.{Withheld, whats, nothing}
 use Rattle.kernel_model.specs.State.{Process}
 use Rattle.kernel_model.specs.World.{BootProgram, Boot, first_world, first_process, processes_from, tapes_of, tape_count}
 use Rattle.memory_model.specs.Access.{HoldsBytes}

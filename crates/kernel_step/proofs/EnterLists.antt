@@ -5,7 +5,7 @@ use Rattle.commit_deps.specs.Marks.{IsMarkOf}
 use Rattle.kernel_model.specs.Entries.{Entry}
 use Rattle.kernel_model.specs.Shown.{Given, given_by, bytes_for, items_for}
 use Rattle.kernel_model.specs.declared.effect.Output.{Output}
-use Rattle.withheld.specs.Withheld.{Withheld, Held, all_held}
+use Rattle.held_output.specs.Withheld.{Withheld, Held, all_held}
 use Rattle.kernel_step.specs.Seen.{AreMarked, Withholds}
 
 -- ---- marks beside what is given

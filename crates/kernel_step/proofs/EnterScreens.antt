@@ -7,7 +7,7 @@ use Rattle.kernel_model.specs.Entries.{Entry}
 use Rattle.kernel_model.specs.Shown.{given_by, printed, bytes_for}
 use Rattle.kernel_model.specs.declared.effect.Output.{Output}
 use Rattle.kernel_model.proofs.Runs.{printed-entry}
-use Rattle.withheld.specs.Withheld.{Withheld, IsSame, all_held}
+use Rattle.held_output.specs.Withheld.{Withheld, IsSame, all_held}
 use Rattle.kernel_step.specs.Seen.{Withholds, AreScreens}
 use Rattle.kernel_step.proofs.EnterLists.{withholds-more, withholds-same, withholds-moved, bytes-here, bytes-elsewhere}
 use Rattle.kernel_step.proofs.Lists.{get-set}

@@ -20,7 +20,7 @@ use Rattle.kernel_model.specs.declared.request.Verdict.{Verdict}
 use Rattle.kernel_model.specs.declared.request.Verdict.TheVariants.{Waits, Replies, Ends}
 use Rattle.kernel_step.specs.Entering.{item_of, machine_after, status_after, writes_of, entry_of, process_after, planned, IsTold, IsForked, MakesTask}
 use Rattle.kernel_step.specs.Mirrors.{IsTask, AreTasks}
-use Rattle.withheld.specs.Withheld.{Withheld, Held, whats, all_held}
+use Rattle.held_output.specs.Withheld.{Withheld, Held, whats, all_held}
 use Rattle.kernel_step.specs.Seen.{Withholds}
 use Rattle.kernel_step.specs.Tasks.{machine_of, out_of, process_of, bare, needed, status_of}
 use Rattle.kernel_step.specs.Waiting.{is_asleep, served_after, waited_after}

@@ -39,7 +39,7 @@ use Rattle.kernel_model.specs.declared.request.Verdict.{Verdict}
 use Rattle.kernel_model.specs.declared.request.Verdict.TheVariants.{Waits, Replies, Ends}
 use Rattle.calls.specs.Sights.{Sight}
 use Rattle.kernel_step.specs.Entering.{IsSightOf, item_of, sight_in, MayPlan, entry_of, footprint_of, parts_after, planned, PlansEnter, IsChild, MakesTask, IsNoted, IsFinished, IsCarriedOut, IsEntered, IsDone, IsTold, IsSameTask, IsSystemWith, IsSameSystem}
-use Rattle.withheld.specs.Withheld.{Withheld, Held, whats}
+use Rattle.held_output.specs.Withheld.{Withheld, Held, whats}
 use Rattle.kernel_step.specs.Coning.{IsFootprintNoted}
 use Rattle.kernel_step.specs.Mirrors.{IsTask, AreTasks, AreChanges, ArePipes, Mirrors}
 use Rattle.kernel_step.specs.Ready.{IsPrepared}

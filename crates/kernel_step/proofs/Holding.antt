@@ -4,7 +4,7 @@ use Rattle.std.specs.List.{list_any}
 use Rattle.kernel_model.specs.Answers.{is_held_back, terminals}
 use Rattle.kernel_model.specs.Shown.{printed, shown}
 use Rattle.kernel_model.specs.World.{World}
-use Rattle.withheld.specs.Withheld.{Withheld, holds_back}
+use Rattle.held_output.specs.Withheld.{Withheld, holds_back}
 use Rattle.kernel_step.specs.Seen.{Withholds, AreScreens}
 use Rattle.kernel_step.proofs.Releasing.{released-is, marked-length}
 

@@ -25,7 +25,7 @@ use Rattle.kernel_step.specs.Tasks.{machine_of, out_of, status_of, process_of, b
 use Rattle.kernel_step.specs.Waiting.{is_asleep}
 use Rattle.kernel_step.specs.declared.loan.Loan.{Loan}
 use Rattle.kernel_step.specs.declared.system.System.{System}
-use Rattle.withheld.specs.Withheld.{Withheld, whats}
+use Rattle.held_output.specs.Withheld.{Withheld, whats}
 use Rattle.kernel_model.specs.Shown.{told, end_in}
 use Rattle.kernel_model.specs.Entries.{Item}
 use Rattle.kernel_step.specs.declared.task.Task.{Task}

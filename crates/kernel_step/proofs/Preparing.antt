@@ -10,7 +10,7 @@ use Rattle.kernel_model.specs.declared.event.Event.{Event}
 use Rattle.machine_model.specs.States.{State}
 use Rattle.pipes.specs.Seen.{Seen}
 use Rattle.processes.specs.Parts.{Part}
-use Rattle.withheld.specs.Withheld.{Withheld, Held, IsSame, whats}
+use Rattle.held_output.specs.Withheld.{Withheld, Held, IsSame, whats}
 use Rattle.kernel_step.specs.Entering.{entry_of, in_image_by, MayBeTold, IsChild}
 use Rattle.kernel_step.specs.Ready.{MayEnter, HasRoomForEnter, IsPrepared, IsReady, MayBeNoted}
 use Rattle.kernel_step.specs.Tasks.{machine_of, out_of, status_of}

@@ -13,7 +13,7 @@ use Rattle.kernel_model.specs.Steps.{own_entry, disk_entry, zero_reply}
 use Rattle.kernel_model.specs.World.{World}
 use Rattle.kernel_model.proofs.Runs.{each_from-append, append-nil, told-entry}
 use Rattle.kernel_model.specs.declared.effect.Output.{Output}
-use Rattle.withheld.specs.Withheld.{Withheld}
+use Rattle.held_output.specs.Withheld.{Withheld}
 use Rattle.kernel_step.specs.Seen.{Withholds, AreScreens}
 use Rattle.kernel_step.specs.Mirrors.{AreChanges}
 use Rattle.kernel_step.specs.declared.system.System.{System}

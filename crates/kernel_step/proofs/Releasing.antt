@@ -5,7 +5,7 @@ use Rattle.kernel_model.specs.Paths.{is_durable}
 use Rattle.kernel_model.specs.Shown.{Given, prefix, released, told, handed}
 use Rattle.kernel_model.specs.State.{Process, process_at}
 use Rattle.kernel_model.specs.World.{Boot, World, run_of}
-use Rattle.withheld.specs.Withheld.{Withheld, Held, whats, released as released_of}
+use Rattle.held_output.specs.Withheld.{Withheld, Held, whats, released as released_of}
 use Rattle.kernel_step.specs.Stands.{Stands}
 use Rattle.kernel_step.specs.Seen.{AreMarked, Withholds}
 use Rattle.kernel_step.specs.Tasks.{machine_of}

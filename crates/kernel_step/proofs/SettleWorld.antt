@@ -13,7 +13,7 @@ use Rattle.kernel_step.specs.Mirrors.{IsTask, AreTasks, Mirrors}
 use Rattle.kernel_step.specs.Seen.{AreScreens}
 use Rattle.kernel_step.specs.Settling.{IsBack, IsTurnNoted, IsTurnEntered, marked_with}
 use Rattle.kernel_step.specs.Tasks.{machine_of, out_of, process_of, bare, status_of}
-use Rattle.withheld.specs.Withheld.{Withheld, Held, whats}
+use Rattle.held_output.specs.Withheld.{Withheld, Held, whats}
 use Rattle.kernel_model.specs.Entries.{Item}
 use Rattle.kernel_model.specs.Shown.{end_in}
 use Rattle.kernel_step.specs.declared.system.System.{System}

@@ -3,7 +3,7 @@ use Rattle.std.proofs.Common.{◌∙◌, ◌++◌, ℕ, List, Option, option_to_
 use Rattle.machine_model.specs.States.{State}
 use Rattle.kernel_model.specs.Entries.{Item}
 use Rattle.kernel_model.specs.declared.request.Verdict.{Verdict}
-use Rattle.withheld.specs.Withheld.{Held, all_held}
+use Rattle.held_output.specs.Withheld.{Held, all_held}
 use Rattle.kernel_step.specs.Entering.{item_of, machine_after, IsTold, IsSameTask}
 use Rattle.kernel_step.specs.Waiting.{waited_after}
 use Rattle.kernel_step.specs.declared.task.Task.{Task}

@@ -1,6 +1,6 @@
 -- What a commit does to screens and traces.
 use Rattle.std.specs.Prelude.{◌≡◌, ℕ, List, length, slice_get, Some}
-use Rattle.withheld.specs.Withheld.{Withheld}
+use Rattle.held_output.specs.Withheld.{Withheld}
 use Rattle.kernel_step.specs.Tasks.{machine_of, out_of}
 use Rattle.kernel_step.specs.declared.task.Task.{Task}
 

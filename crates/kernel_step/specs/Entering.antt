@@ -33,7 +33,7 @@ use Rattle.kernel_model.specs.declared.request.Verdict.{Verdict}
 use Rattle.kernel_model.specs.declared.request.Verdict.TheVariants.{Waits, Replies, Ends}
 use Rattle.pipes.specs.Seen.{Seen, Shows, seen_of as seen_pipe}
 use Rattle.pipes.specs.Stepping.{HasAtMost}
-use Rattle.withheld.specs.Withheld.{Withheld, all_held, IsSame}
+use Rattle.held_output.specs.Withheld.{Withheld, all_held, IsSame}
 use Rattle.processes.specs.Parts.{Part, part_of, part_at, with_part, child_part}
 use Rattle.kernel_step.specs.Seen.{AreScreens}
 use Rattle.kernel_step.specs.Tasks.{machine_of, out_of}

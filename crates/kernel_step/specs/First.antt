@@ -3,7 +3,7 @@ use Rattle.std.specs.Prelude.{◌≡◌, ℕ, ◌+◌, List, [], ◌∷◌, leng
 use Rattle.memory_model.specs.Access.{HoldsBytes}
 use Rattle.machine_model.specs.First.{first_state}
 use Rattle.processes.specs.Parts.{Part, boot_part}
-use Rattle.withheld.specs.Withheld.{Withheld, nothing}
+use Rattle.held_output.specs.Withheld.{Withheld, nothing}
 use Rattle.kernel_step.specs.Tasks.{machine_of, out_of}
 use Rattle.kernel_step.specs.declared.booting.Program.{Program}
 use Rattle.kernel_step.specs.declared.task.Task.{Task}

@@ -11,7 +11,7 @@ use Rattle.kernel_model.specs.declared.request.Verdict.{Verdict}
 use Rattle.machine_model.specs.States.{State, stands_at}
 use Rattle.pipes.specs.Seen.{Seen}
 use Rattle.processes.specs.Table.{Table, HasRoom as HasChildRoom}
-use Rattle.withheld.specs.Withheld.{Withheld, whats}
+use Rattle.held_output.specs.Withheld.{Withheld, whats}
 use Rattle.kernel_step.specs.Entering.{sight_in, entry_of, in_image_by, MayBeTold, MayPlan, HasSpaceFor, IsSpare, IsEntering, IsSystemWith}
 use Rattle.kernel_step.specs.Tasks.{machine_of, out_of, status_of}
 use Rattle.kernel_step.specs.declared.plan.Entering.{Entering}

@@ -4,7 +4,7 @@ use Rattle.commit_deps.specs.Marks.{IsMarkOf}
 use Rattle.kernel_model.specs.Entries.{Entry}
 use Rattle.kernel_model.specs.Shown.{Given, printed}
 use Rattle.kernel_model.specs.World.{terminal_count}
-use Rattle.withheld.specs.Withheld.{Withheld, Held}
+use Rattle.held_output.specs.Withheld.{Withheld, Held}
 
 -- each item is what the event at its place gave, with the mark of that event
 abbrev pub AreMarked : {A : Type 0} → List (Given A) → List (Held A) → Type 0

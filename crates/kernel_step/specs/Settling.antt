@@ -7,7 +7,7 @@ use Rattle.kernel_model.specs.declared.answer.Answer.TheVariants as answer_of
 use Rattle.kernel_model.specs.declared.answer.Outcome.{Outcome}
 use Rattle.kernel_model.specs.declared.answer.Refused.TheVariants.{OutOfMemory}
 use Rattle.kernel_model.specs.declared.event.Event.TheVariants.{Turn, Enter}
-use Rattle.withheld.specs.Withheld.{IsSame}
+use Rattle.held_output.specs.Withheld.{IsSame}
 use Rattle.kernel_step.specs.Entering.{IsSameTask, IsSameSystem, IsDone}
 use Rattle.kernel_step.specs.Parts.{IsOwnNoted}
 use Rattle.kernel_step.specs.Ready.{MayEnter}

@@ -5,7 +5,7 @@ use Rattle.machine_model.specs.declared.stop.Stop.{Stop}
 use Rattle.kernel_model.specs.Shown.{end_in}
 use Rattle.kernel_model.specs.State.{Process}
 use Rattle.kernel_model.specs.Answers.{Lending}
-use Rattle.withheld.specs.Withheld.{whats}
+use Rattle.held_output.specs.Withheld.{whats}
 use Rattle.kernel_step.specs.Whereabouts.{state_in, quantum_in}
 use Rattle.kernel_step.specs.declared.task.Task.{Task}
 use Rattle.kernel_step.specs.declared.whereabouts.Whereabouts.TheVariants.{Here}

@@ -19,13 +19,13 @@ use commit_deps::Dependencies;
 use files::FileTable;
 use footprints::Footprints;
 use group_commit::Committer;
+use held_output::Withheld;
 use kernel_model::TERMINALS;
 use machine::{Image, Machine};
 use pipes::PipeTable;
 use processes::ProcTable;
 use std::alloc::{AllocError, Global};
 use std::sync::Arc;
-use withheld::Withheld;
 
 /// A program to be booted, and the terminal, 0 to 7, for which its descriptor 1 stands.
 pub struct Program {

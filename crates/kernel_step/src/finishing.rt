@@ -8,7 +8,7 @@ ghost use Rattle.processes.specs.Parts.{part_at, with_part, with_slots};
 ghost use Rattle.kernel_model.specs.Answers.{outcome_of};
 ghost use Rattle.kernel_model.specs.Entries.{Item};
 ghost use Rattle.kernel_model.specs.State.{read_by};
-ghost use Rattle.withheld.specs.Withheld.{Withheld};
+ghost use Rattle.held_output.specs.Withheld.{Withheld};
 ghost use Rattle.kernel_step.specs.Entering.{entry_of, item_of, parts_after, with_children, IsSpare, IsTold, HasSpaceFor, ArePrinted, IsChild, MakesTask, IsNoted, IsFinished, IsCarriedOut};
 ghost use Rattle.kernel_step.specs.Ready.{MayChangeParts, MayChangeSystem, IsReady, MayBeNoted};
 ghost use Rattle.kernel_step.specs.Waiting.{served_after};
@@ -20,10 +20,10 @@ use crate::task::Task;
 use calls::{PipeStep, Plan, Slot, Verdict};
 use commit_deps::{Dependencies, Mark};
 use disk_model::Change;
+use held_output::Withheld;
 use kernel_model::{Event, Outcome, Output};
 use pipes::{Pipe, PipeTable};
 use processes::ProcTable;
-use withheld::Withheld;
 
 /// The number of a plan's change, if it makes one; they are counted from 0.
 fn change_number(change: &Option<Change>, changes: usize) -> Option<u64>

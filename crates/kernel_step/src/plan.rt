@@ -6,7 +6,7 @@ ghost use Rattle.machine_model.specs.Replies.{replied};
 ghost use Rattle.processes.specs.Parts.{descriptors_in, part_at};
 ghost use Rattle.kernel_model.specs.Shown.{end_in};
 ghost use Rattle.kernel_model.specs.Steps.{zero_reply};
-ghost use Rattle.withheld.specs.Withheld.{whats};
+ghost use Rattle.held_output.specs.Withheld.{whats};
 ghost use Rattle.kernel_model.specs.declared.carrier.Carrier.TheVariants.{Proc};
 ghost use Rattle.kernel_step.specs.Entering.{sight_in, writes_of, in_image_by, MayBeTold, MayPlan, AreSteps, IsSpare, PlansEnter, IsEntering, IsChild};
 ghost use Rattle.kernel_step.specs.Ready.{MayEnter};
@@ -15,13 +15,13 @@ use crate::system::System;
 use crate::task::Task;
 use calls::{PipeStep, Plan, Verdict, plan_call, plan_end};
 use commit_deps::Carrier;
+use held_output::{Trace, zero_reply};
 use machine::Machine;
 use machine_model::{Cause, Stop};
 use pipes::Pipe;
 use processes::{Descriptors, ProcTable};
 use requests::request_of;
 use std::alloc::{AllocError, Global};
-use withheld::{Trace, zero_reply};
 
 /// A process that enters the kernel: its number, its machine, and the call or the trap at which that stands, which was asked for once.
 #[derive(Clone, Copy)]

@@ -4,7 +4,7 @@ ghost use Rattle.machine_model.specs.Replies.{replied};
 ghost use Rattle.machine_model.specs.States.{State};
 ghost use Rattle.kernel_model.specs.Answers.{outcome_of};
 ghost use Rattle.kernel_model.specs.Entries.{Item};
-ghost use Rattle.withheld.specs.Withheld.{Withheld};
+ghost use Rattle.held_output.specs.Withheld.{Withheld};
 ghost use Rattle.kernel_model.specs.declared.request.Verdict.TheVariants.{Replies as Told};
 ghost use Rattle.kernel_step.specs.Entering.{item_of, in_image_by, MayBeTold, IsTold, IsChild, MakesTask};
 ghost use Rattle.kernel_step.specs.Ready.{TaskMayBeTold, ChildMayBeTold};
@@ -13,11 +13,11 @@ use crate::task::Task;
 use crate::whereabouts::Whereabouts;
 use calls::Verdict;
 use commit_deps::Mark;
+use held_output::zero_reply;
 use kernel_model::Outcome;
 use machine::{Machine, SharedMachine};
 use machine_model::Reply;
 use std::alloc::Global;
-use withheld::zero_reply;
 
 /// A machine goes on after the reply to its call. If the reply has an image, it goes on as `next`, which was entered from its
 /// state.

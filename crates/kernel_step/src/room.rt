@@ -2,7 +2,7 @@
 ghost use Rattle.std.specs.Prelude.{◌≡◌, ◌+◌, ◌^◌, ◌<◌, ◌≤◌, Some, length, IfOk, OnOk, OnErr};
 ghost use Rattle.machine_model.specs.States.{stands_at};
 ghost use Rattle.kernel_model.specs.State.{changed_by};
-ghost use Rattle.withheld.specs.Withheld.{IsSame};
+ghost use Rattle.held_output.specs.Withheld.{IsSame};
 ghost use Rattle.kernel_step.specs.Entering.{HasSpaceFor, StayScreens, IsSameSystem, IsSystemWith};
 ghost use Rattle.kernel_step.specs.Ready.{MayEnter, HasRoomForPlan, HasRoomForEnter, IsPrepared};
 
@@ -12,9 +12,9 @@ use crate::turn::reserve;
 use calls::Plan;
 use disk_model::Change;
 use files::FileTable;
+use held_output::{Trace, Withheld};
 use kernel_model::{Event, Output};
 use std::alloc::AllocError;
-use withheld::{Trace, Withheld};
 
 /// Makes room for an event's output on its terminal, if there is one of its number.
 fn reserve_output(

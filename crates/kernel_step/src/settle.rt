@@ -4,7 +4,7 @@ ghost use Rattle.machine_model.specs.States.{stands_at};
 ghost use Rattle.kernel_model.specs.World.{Boot};
 ghost use Rattle.kernel_step.specs.Stands.{Stands, TakesBack};
 ghost use Rattle.kernel_model.specs.declared.answer.Outcome.{Outcome};
-ghost use Rattle.withheld.specs.Withheld.{IsSame};
+ghost use Rattle.held_output.specs.Withheld.{IsSame};
 ghost use Rattle.kernel_step.specs.Entering.{IsSameSystem};
 ghost use Rattle.kernel_step.specs.Ready.{MayEnter, HasRoomForEnter, IsPrepared};
 ghost use Rattle.kernel_step.specs.Settling.{IsLoanOf, IsBack, MaySettleTurn, IsTurnSettled, IsTurnEntered, MaySettleCall, IsCallSettled, IsNotSettled, LackedMemory};
@@ -23,6 +23,7 @@ use crate::turn::{note_own, reserve};
 use crate::whereabouts::Whereabouts;
 use disk_model::{checkpoints_fit, made_files_change};
 use footprints::footprints_grow;
+use held_output::Trace;
 use kernel_model::{Answer, Event, Refused, tables_keep_their_limits};
 use machine::{Machine, SharedMachine};
 use machine_model::Stop;
@@ -30,7 +31,6 @@ use pipes::{ends_grow_by_one, steps_are_shown};
 use std::alloc::AllocError;
 use std::mem;
 use std::sync::Arc;
-use withheld::Trace;
 
 fn is_of_loan(task: &Task, done: &Done) -> bool
     ensures { IsTrue result ↔ IsLoanOf task.now done.now }

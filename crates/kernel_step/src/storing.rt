@@ -11,8 +11,8 @@ use crate::task::Task;
 use crate::tasks::hand_all;
 use disk_model::Change;
 use group_commit::{CommitRefusal, Committer};
+use held_output::Withheld;
 use kernel_model::{Answer, Event, Refused};
-use withheld::Withheld;
 
 fn uncommitted(changes: &[Change], committed: u64) -> &[Change]
     ensures { result.now ≡ drop committed changes.now }

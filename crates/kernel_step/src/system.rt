@@ -9,10 +9,10 @@ use disk_model::Change;
 use files::FileTable;
 use footprints::Footprints;
 use group_commit::Committer;
+use held_output::Withheld;
 use pipes::PipeTable;
 use processes::ProcTable;
 use std::alloc::Global;
-use withheld::Withheld;
 
 /// What all processes share.
 pub struct System {

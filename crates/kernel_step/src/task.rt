@@ -1,15 +1,15 @@
 //! Processes.
 ghost use Rattle.std.specs.Prelude.{◌≡◌, Some, None, is_some, IfOk, IfErr, OnOk};
 ghost use Rattle.machine_model.specs.States.{stands_at};
-ghost use Rattle.withheld.specs.Withheld.{nothing};
+ghost use Rattle.held_output.specs.Withheld.{nothing};
 ghost use Rattle.kernel_model.specs.Answers.{turn_refusal, enter_refusal};
 
 use crate::whereabouts::Whereabouts;
+use held_output::Trace;
 use kernel_model::{Refused, Standing};
 use machine::{Machine, SharedMachine};
 use machine_model::Stop;
 use std::alloc::Global;
-use withheld::Trace;
 
 /// The most instructions that a process does, and the most events of a run: 2^40.
 pub const LIMIT: u64 = 1 << 40;

@@ -9,18 +9,18 @@ ghost use Rattle.kernel_model.specs.Ran.{ran_by_turns};
 ghost use Rattle.kernel_model.specs.Shown.{shown as shown_of, handed, replies_in, end_in};
 ghost use Rattle.kernel_model.specs.World.{Boot, terminal_count};
 ghost use Rattle.kernel_model.specs.declared.answer.Refused.TheVariants.{NoProcess};
-ghost use Rattle.withheld.specs.Withheld.{holds_back};
+ghost use Rattle.held_output.specs.Withheld.{holds_back};
 ghost use Rattle.kernel_step.specs.Stands.{Stands, kernel_in};
 
 use crate::running::Running;
 use crate::tasks::task_of;
 use disk_model::Piece;
+use held_output::Withheld;
 use kernel_model::{Event, Refused};
 use machine::Machine;
 use machine_model::Reply;
 use simdisk::SimDisk;
 use std::alloc::AllocError;
-use withheld::Withheld;
 
 fn is_any_held_back(screens: &[Withheld<u8>]) -> bool
     ensures { result ≡ list_any holds_back screens.now }

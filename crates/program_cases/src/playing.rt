@@ -1,7 +1,7 @@
 //! Cases done step by step, each beside what is wanted of it.
 use crate::running::run;
 use anyhow::Error;
-use case_texts::{CallsCase, IMAGE_NAME, Ran, Step, check_missing, session_steps};
+use case_format::{CallsCase, IMAGE_NAME, Ran, Step, check_missing, session_steps};
 use cone_cases::check_cones;
 use std::fs::{self, File};
 use std::rt::Files;

@@ -1,5 +1,5 @@
 //! Runs of the whole program, over text in memory.
-use case_texts::{Ran, arguments};
+use case_format::{Ran, arguments};
 use std::alloc::AllocError;
 use std::fs::File;
 use std::rt::Files;

@@ -1,11 +1,11 @@
 //! What hardly does what is meant, though it assembles.
 use crate::doubt::Doubt;
-use asm_text::{Line, TokenKind, Tokens, lines};
-use machine_model::Image;
-use statements::{
+use asm_statements::{
     ImmediateOp, Link, LoadOp, Mnemonic, Operands, PlainOp, Statement, Value, number_of,
     read_statement, split_label, words_taken,
 };
+use asm_text::{Line, TokenKind, Tokens, lines};
+use machine_model::Image;
 use std::alloc::{AllocError, Global};
 
 /// The number of the register sp.

@@ -15,8 +15,8 @@ use Rattle.asm_text.specs.declared.token.Line.{Line}
 use Rattle.assembler.specs.Assembly.{text_segment}
 use Rattle.assembler.specs.Listed.{AreListed, IsListedFirst}
 use Rattle.assembler.specs.Instructions.{AreInstructions, IsListedInstruction, ListsInstructions, instructions_of}
-use Rattle.statements.specs.declared.mnemonic.Mnemonic.{Mnemonic}
-use Rattle.statements.specs.declared.operands.Operands.{Operands}
+use Rattle.asm_statements.specs.declared.mnemonic.Mnemonic.{Mnemonic}
+use Rattle.asm_statements.specs.declared.operands.Operands.{Operands}
 use Rattle.assembler.specs.declared.listing.Row.{Row}
 use Rattle.source_laws.specs.Loaded.{IsFetched, AreFetched, FetchesInstructions}
 

@@ -12,8 +12,8 @@ use Rattle.image_model.specs.declared.fault.ElfFault.TheVariants.{OutOfMemory}
 use Rattle.asm_text.specs.Text.{IsText}
 use Rattle.asm_text.specs.declared.token.Line.{Line}
 use Rattle.assembler.specs.Instructions.{IsInstruction, IsListedInstruction, instructions_of}
-use Rattle.statements.specs.declared.mnemonic.Mnemonic.{Mnemonic}
-use Rattle.statements.specs.declared.operands.Operands.{Operands}
+use Rattle.asm_statements.specs.declared.mnemonic.Mnemonic.{Mnemonic}
+use Rattle.asm_statements.specs.declared.operands.Operands.{Operands}
 use Rattle.assembler.specs.declared.listing.Row.{Row}
 use Rattle.machine_model.specs.First.{first_state}
 

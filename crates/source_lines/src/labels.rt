@@ -1,6 +1,6 @@
 //! Labels of a source's text.
+use asm_statements::{split_label, text_at};
 use asm_text::{Line, Token};
-use statements::{split_label, text_at};
 
 /// Whether a line's statement, after its label, is this directive.
 fn is_directive(source: &[u8], tokens: &[Token], directive: &[u8]) -> bool {

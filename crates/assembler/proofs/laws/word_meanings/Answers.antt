@@ -1,4 +1,4 @@
-use Rattle.statements.proofs.Encodings.{word_is}
+use Rattle.asm_statements.proofs.Encodings.{word_is}
 use Rattle.assembler.proofs.laws.word_meanings.Goals as goal
 
 pub returns : goal.returns

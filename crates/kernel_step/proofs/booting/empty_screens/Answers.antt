@@ -1,6 +1,6 @@
 -- One screen more.
 use Rattle.std.proofs.Common.{ℕ, subst, sym, List}
-use Rattle.withheld.specs.Withheld.{Withheld}
+use Rattle.held_output.specs.Withheld.{Withheld}
 use Rattle.kernel_step.specs.First.{AreEmpty}
 use Rattle.kernel_step.proofs.Beginning.{empty-none, empty-more}
 use Rattle.kernel_step.proofs.booting.empty_screens.Goals as goal

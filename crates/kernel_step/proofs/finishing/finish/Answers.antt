@@ -2,7 +2,7 @@
 use Rattle.std.proofs.Common.{◌++◌, ◌∙◌, ℕ, List, Option, option_to_list, ap, sym, subst}
 use Rattle.disk_model.specs.declared.change.Change.{Change}
 use Rattle.kernel_model.specs.declared.request.Verdict.{Verdict}
-use Rattle.withheld.specs.Withheld.{Withheld}
+use Rattle.held_output.specs.Withheld.{Withheld}
 use Rattle.kernel_step.specs.Entering.{ArePrinted}
 use Rattle.kernel_step.specs.Ready.{TaskMayBeTold}
 use Rattle.kernel_step.specs.declared.system.System.{System}

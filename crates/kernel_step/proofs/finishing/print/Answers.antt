@@ -2,7 +2,7 @@
 use Rattle.std.proofs.Common.{◌≡◌, ◌≤◌, ◌∙◌, ◌++◌, ◌<◌, ℕ, List, Option, length, slice_get, vec_len, sym, ap, subst, rules, arith}
 use Rattle.std.specs.Option.{ForSome}
 use Rattle.kernel_model.specs.declared.effect.Output.{Output}
-use Rattle.withheld.specs.Withheld.{Withheld, all_held}
+use Rattle.held_output.specs.Withheld.{Withheld, all_held}
 use Rattle.kernel_step.specs.Entering.{HasSpaceFor}
 use Rattle.kernel_step.proofs.EnterScreens.{screens-stay, screens-elsewhere, screens-printed}
 use Rattle.kernel_step.proofs.Lists.{get-there}

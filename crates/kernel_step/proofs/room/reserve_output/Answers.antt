@@ -1,6 +1,6 @@
 -- A screen with more room is the same.
 use Rattle.std.proofs.Common.{◌≡◌, ◌<◌, ℕ, length, vec_len, rules, arith}
-use Rattle.withheld.specs.Withheld.{Withheld}
+use Rattle.held_output.specs.Withheld.{Withheld}
 use Rattle.kernel_step.proofs.EnterScreens.{screens-same}
 use Rattle.kernel_step.proofs.Lists.{get-there}
 use Rattle.kernel_step.proofs.room.reserve_output.Goals as goal

@@ -2,7 +2,7 @@
 use Rattle.std.proofs.Common.{◌≡◌, ℕ, subst, sym, ◌∙◌, List, length}
 use Rattle.std.proofs.lemmas.List.{with_items_is}
 use Rattle.kernel_step.specs.Advanced.{AreMoved, AreAdvanced}
-use Rattle.withheld.specs.Withheld.{Withheld}
+use Rattle.held_output.specs.Withheld.{Withheld}
 use Rattle.kernel_step.specs.declared.task.Task.{Task}
 use Rattle.kernel_step.proofs.storing.release.Goals as goal
 

@@ -2,7 +2,7 @@
 use Rattle.std.proofs.Common.{◌<◌, ℕ, arith, length, get_or}
 use Rattle.std.proofs.lemmas.Option.{slice_get-get_or}
 use Rattle.kernel_step.specs.Advanced.{IsAdvanced}
-use Rattle.withheld.specs.Withheld.{Withheld}
+use Rattle.held_output.specs.Withheld.{Withheld}
 use Rattle.kernel_step.proofs.Moving.{moved-none, moved-one, moved-all}
 use Rattle.kernel_step.proofs.storing.show_all.Goals as goal
 

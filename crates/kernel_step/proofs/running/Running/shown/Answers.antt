@@ -2,7 +2,7 @@
 use Rattle.std.proofs.Common.{◌≡◌, ◌<◌, ℕ, ◌∙◌, arith, length, slice_get, Some}
 use Rattle.kernel_model.specs.Shown.{printed}
 use Rattle.kernel_model.specs.World.{run_of}
-use Rattle.withheld.specs.Withheld.{Withheld}
+use Rattle.held_output.specs.Withheld.{Withheld}
 use Rattle.kernel_step.proofs.Lists.{get-there}
 use Rattle.kernel_step.proofs.Releasing.{released-is}
 use Rattle.kernel_step.proofs.running.Running.shown.Goals as goal

@@ -4,7 +4,7 @@ use Rattle.std.specs.List.{list_any}
 use Rattle.disk_model.specs.Storage.{Storage, is_quiet}
 use Rattle.kernel_model.specs.Answers.{is_held_back, terminals}
 use Rattle.kernel_model.specs.World.{run_of}
-use Rattle.withheld.specs.Withheld.{Withheld, holds_back}
+use Rattle.held_output.specs.Withheld.{Withheld, holds_back}
 use Rattle.kernel_step.proofs.Holding.{held-back}
 use Rattle.kernel_step.proofs.running.Running.wants_cut.Goals as goal
 

@@ -1,0 +1,299 @@
+//! Pseudo-instructions and others: what a mnemonic with its operands stands for.
+ghost use Rattle.std.specs.Prelude.{◌≡◌};
+ghost use Rattle.std.specs.Option.{option_map};
+ghost use Rattle.formats.specs.declared.instr.Instr.TheVariants as instr;
+ghost use Rattle.asm_statements.specs.declared.expansion.Expansion.TheVariants.{One};
+ghost use Rattle.asm_statements.specs.Expansion.{immediate_of, branch_offset_of, jump_offset_of, upper_of, amount_of, expansion_of, register_instr, immediate_instr, shift_instr, load_instr, store_instr, branch_instr, upper_instr, unary_instr, plain_instr, link_register, li_expansion, la_expansion, written, words_taken};
+
+use crate::fields::{
+    amount, branch_offset, high_part, immediate, jump_offset, low_part, modulo_word, upper,
+};
+use crate::mnemonic::{
+    BranchOp, ImmediateOp, Link, LoadOp, Mnemonic, PlainOp, RegisterOp, ShiftOp, StoreOp, UnaryOp,
+    UpperOp,
+};
+use crate::operands::{Operands, Value};
+use formats::{Immediate, Instr, Reg};
+
+/// The instructions that one statement stands for.
+#[derive(Clone, Copy)]
+pub enum Expansion {
+    One(Instr),
+    Two(Instr, Instr),
+}
+
+/// The expansion of a mnemonic with its operands and their number. For a target or a label the number is its distance from the
+/// instruction, in bytes. None where the number does not fit its field.
+pub fn expanded(mnemonic: Mnemonic, operands: &Operands, number: i64) -> Option<Expansion>
+    ensures { result ≡ expansion_of mnemonic operands.now number }
+{
+    let first = operands.first;
+    let second = operands.second;
+    match mnemonic {
+        Mnemonic::Registers(op) => {
+            let instr = register_instr(op, first, second, operands.third);
+            Some(Expansion::One(instr))
+        }
+        Mnemonic::Immediate(op) => immediate_instr(op, first, second, number),
+        Mnemonic::Shift(op) => shift_instr(op, first, second, number),
+        Mnemonic::Load(op) => load_instr(op, first, second, number),
+        Mnemonic::Store(op) => store_instr(op, second, first, number),
+        Mnemonic::Branch(op) => branch_instr(op, first, second, number),
+        Mnemonic::Swapped(op) => branch_instr(op, second, first, number),
+        Mnemonic::WithZero(op) => branch_instr(op, first, Reg::new(0), number),
+        Mnemonic::FromZero(op) => branch_instr(op, Reg::new(0), first, number),
+        Mnemonic::Upper(op) => upper_instr(op, first, number),
+        Mnemonic::Jal => jump_instr(first, number),
+        Mnemonic::Jump(link) => jump_instr(link_register(link), number),
+        Mnemonic::JumpRegister(link) => Some(Expansion::One(Instr::Jalr {
+            rd: link_register(link),
+            rs1: first,
+            imm: Immediate::new(0),
+        })),
+        Mnemonic::Unary(op) => Some(Expansion::One(unary_instr(op, first, second))),
+        Mnemonic::Plain(op) => Some(Expansion::One(plain_instr(op))),
+        Mnemonic::Li => Some(load_word(first, modulo_word(written(operands.value)))),
+        Mnemonic::La => Some(load_address(first, modulo_word(number))),
+    }
+}
+
+/// How many words a mnemonic with its operands takes. `la` takes two, and `li` as many as its number needs.
+pub fn words_taken(mnemonic: Mnemonic, operands: &Operands) -> u32
+    ensures { result ≡ words_taken mnemonic operands.now }
+{
+    match mnemonic {
+        Mnemonic::Li => {
+            let word = modulo_word(written(operands.value));
+            match load_word(operands.first, word) {
+                Expansion::One(_) => 1,
+                Expansion::Two(..) => 2,
+            }
+        }
+        Mnemonic::La => 2,
+        _ => 1,
+    }
+}
+
+/// The number that a value is, where it is no label.
+fn written(value: Value) -> i64
+    ensures { result ≡ written value }
+{
+    match value {
+        Value::Number(number) => number.value(),
+        _ => 0,
+    }
+}
+
+fn load_word(rd: Reg, word: u32) -> Expansion
+    ensures { result ≡ li_expansion rd word }
+{
+    if let Some(imm) = immediate(i64::from(word.cast_signed())) {
+        let rs1 = Reg::new(0);
+        return Expansion::One(Instr::Addi { rd, rs1, imm });
+    }
+    let imm = high_part(word);
+    let high = Instr::Lui { rd, imm };
+    if word % 4096 == 0 {
+        return Expansion::One(high);
+    }
+    let imm = low_part(word);
+    Expansion::Two(high, Instr::Addi { rd, rs1: rd, imm })
+}
+
+/// `la` of a distance from the instruction, modulo 2^32.
+fn load_address(rd: Reg, distance: u32) -> Expansion
+    ensures { result ≡ la_expansion rd distance }
+{
+    let imm = high_part(distance);
+    let high = Instr::Auipc { rd, imm };
+    let imm = low_part(distance);
+    Expansion::Two(high, Instr::Addi { rd, rs1: rd, imm })
+}
+
+fn register_instr(op: RegisterOp, rd: Reg, rs1: Reg, rs2: Reg) -> Instr
+    ensures { result ≡ register_instr op rd rs1 rs2 }
+{
+    match op {
+        RegisterOp::Add => Instr::Add { rd, rs1, rs2 },
+        RegisterOp::Sub => Instr::Sub { rd, rs1, rs2 },
+        RegisterOp::Sll => Instr::Sll { rd, rs1, rs2 },
+        RegisterOp::Slt => Instr::Slt { rd, rs1, rs2 },
+        RegisterOp::Sltu => Instr::Sltu { rd, rs1, rs2 },
+        RegisterOp::Xor => Instr::Xor { rd, rs1, rs2 },
+        RegisterOp::Srl => Instr::Srl { rd, rs1, rs2 },
+        RegisterOp::Sra => Instr::Sra { rd, rs1, rs2 },
+        RegisterOp::Or => Instr::Or { rd, rs1, rs2 },
+        RegisterOp::And => Instr::And { rd, rs1, rs2 },
+        RegisterOp::Mul => Instr::Mul { rd, rs1, rs2 },
+        RegisterOp::Mulh => Instr::Mulh { rd, rs1, rs2 },
+        RegisterOp::Mulhsu => Instr::Mulhsu { rd, rs1, rs2 },
+        RegisterOp::Mulhu => Instr::Mulhu { rd, rs1, rs2 },
+        RegisterOp::Div => Instr::Div { rd, rs1, rs2 },
+        RegisterOp::Divu => Instr::Divu { rd, rs1, rs2 },
+        RegisterOp::Rem => Instr::Rem { rd, rs1, rs2 },
+        RegisterOp::Remu => Instr::Remu { rd, rs1, rs2 },
+    }
+}
+
+fn immediate_instr(op: ImmediateOp, rd: Reg, rs1: Reg, number: i64) -> Option<Expansion>
+    ensures { result ≡ option_map (λ imm. One (immediate_instr op rd rs1 imm)) (immediate_of number) }
+{
+    let imm = immediate(number)?;
+    let instr = match op {
+        ImmediateOp::Addi => Instr::Addi { rd, rs1, imm },
+        ImmediateOp::Slti => Instr::Slti { rd, rs1, imm },
+        ImmediateOp::Sltiu => Instr::Sltiu { rd, rs1, imm },
+        ImmediateOp::Xori => Instr::Xori { rd, rs1, imm },
+        ImmediateOp::Ori => Instr::Ori { rd, rs1, imm },
+        ImmediateOp::Andi => Instr::Andi { rd, rs1, imm },
+    };
+    Some(Expansion::One(instr))
+}
+
+fn shift_instr(op: ShiftOp, rd: Reg, rs1: Reg, number: i64) -> Option<Expansion>
+    ensures { result ≡ option_map (λ amount. One (shift_instr op rd rs1 amount)) (amount_of number) }
+{
+    let amount = amount(number)?;
+    let instr = match op {
+        ShiftOp::Slli => Instr::Slli { rd, rs1, amount },
+        ShiftOp::Srli => Instr::Srli { rd, rs1, amount },
+        ShiftOp::Srai => Instr::Srai { rd, rs1, amount },
+    };
+    Some(Expansion::One(instr))
+}
+
+fn load_instr(op: LoadOp, rd: Reg, rs1: Reg, number: i64) -> Option<Expansion>
+    ensures { result ≡ option_map (λ imm. One (load_instr op rd rs1 imm)) (immediate_of number) }
+{
+    let imm = immediate(number)?;
+    let instr = match op {
+        LoadOp::Jalr => Instr::Jalr { rd, rs1, imm },
+        LoadOp::Lb => Instr::Lb { rd, rs1, imm },
+        LoadOp::Lh => Instr::Lh { rd, rs1, imm },
+        LoadOp::Lw => Instr::Lw { rd, rs1, imm },
+        LoadOp::Lbu => Instr::Lbu { rd, rs1, imm },
+        LoadOp::Lhu => Instr::Lhu { rd, rs1, imm },
+    };
+    Some(Expansion::One(instr))
+}
+
+fn store_instr(op: StoreOp, rs1: Reg, rs2: Reg, number: i64) -> Option<Expansion>
+    ensures { result ≡ option_map (λ imm. One (store_instr op rs1 rs2 imm)) (immediate_of number) }
+{
+    let imm = immediate(number)?;
+    let instr = match op {
+        StoreOp::Sb => Instr::Sb { rs1, rs2, imm },
+        StoreOp::Sh => Instr::Sh { rs1, rs2, imm },
+        StoreOp::Sw => Instr::Sw { rs1, rs2, imm },
+    };
+    Some(Expansion::One(instr))
+}
+
+fn branch_instr(op: BranchOp, rs1: Reg, rs2: Reg, number: i64) -> Option<Expansion>
+    ensures { result ≡ option_map (λ offset. One (branch_instr op rs1 rs2 offset)) (branch_offset_of number) }
+{
+    let offset = branch_offset(number)?;
+    let instr = match op {
+        BranchOp::Beq => Instr::Beq { rs1, rs2, offset },
+        BranchOp::Bne => Instr::Bne { rs1, rs2, offset },
+        BranchOp::Blt => Instr::Blt { rs1, rs2, offset },
+        BranchOp::Bge => Instr::Bge { rs1, rs2, offset },
+        BranchOp::Bltu => Instr::Bltu { rs1, rs2, offset },
+        BranchOp::Bgeu => Instr::Bgeu { rs1, rs2, offset },
+    };
+    Some(Expansion::One(instr))
+}
+
+fn upper_instr(op: UpperOp, rd: Reg, number: i64) -> Option<Expansion>
+    ensures { result ≡ option_map (λ imm. One (upper_instr op rd imm)) (upper_of number) }
+{
+    let imm = upper(number)?;
+    let instr = match op {
+        UpperOp::Lui => Instr::Lui { rd, imm },
+        UpperOp::Auipc => Instr::Auipc { rd, imm },
+    };
+    Some(Expansion::One(instr))
+}
+
+/// A JAL to a distance, where it fits.
+fn jump_instr(rd: Reg, number: i64) -> Option<Expansion>
+    ensures { result ≡ option_map (λ offset. One (instr.Jal rd offset)) (jump_offset_of number) }
+{
+    let offset = jump_offset(number)?;
+    Some(Expansion::One(Instr::Jal { rd, offset }))
+}
+
+fn unary_instr(op: UnaryOp, rd: Reg, rs: Reg) -> Instr
+    ensures { result ≡ unary_instr op rd rs }
+{
+    let zero = Reg::new(0);
+    match op {
+        UnaryOp::Mv => Instr::Addi {
+            rd,
+            rs1: rs,
+            imm: Immediate::new(0),
+        },
+        UnaryOp::Not => Instr::Xori {
+            rd,
+            rs1: rs,
+            imm: Immediate::new(-1),
+        },
+        UnaryOp::Neg => Instr::Sub {
+            rd,
+            rs1: zero,
+            rs2: rs,
+        },
+        UnaryOp::Seqz => Instr::Sltiu {
+            rd,
+            rs1: rs,
+            imm: Immediate::new(1),
+        },
+        UnaryOp::Snez => Instr::Sltu {
+            rd,
+            rs1: zero,
+            rs2: rs,
+        },
+        UnaryOp::Sltz => Instr::Slt {
+            rd,
+            rs1: rs,
+            rs2: zero,
+        },
+        UnaryOp::Sgtz => Instr::Slt {
+            rd,
+            rs1: zero,
+            rs2: rs,
+        },
+    }
+}
+
+fn plain_instr(op: PlainOp) -> Instr
+    ensures { result ≡ plain_instr op }
+{
+    let zero = Reg::new(0);
+    let imm = Immediate::new(0);
+    match op {
+        PlainOp::Nop => Instr::Addi {
+            rd: zero,
+            rs1: zero,
+            imm,
+        },
+        PlainOp::Ret => Instr::Jalr {
+            rd: zero,
+            rs1: Reg::new(1),
+            imm,
+        },
+        PlainOp::Fence => Instr::Fence,
+        PlainOp::FenceI => Instr::FenceI,
+        PlainOp::Ecall => Instr::Ecall,
+        PlainOp::Ebreak => Instr::Ebreak,
+    }
+}
+
+fn link_register(link: Link) -> Reg
+    ensures { result ≡ link_register link }
+{
+    match link {
+        Link::Zero => Reg::new(0),
+        Link::Ra => Reg::new(1),
+    }
+}

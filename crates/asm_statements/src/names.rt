@@ -1,0 +1,201 @@
+//! The names of mnemonics, directives and registers.
+ghost use Rattle.std.specs.Prelude.{◌≡◌};
+ghost use Rattle.asm_statements.specs.Names.{named, mnemonics, directives, registers, value_named};
+
+use crate::mnemonic::{
+    BranchOp, Directive, ImmediateOp, Link, LoadOp, Mnemonic, PlainOp, RegisterOp, ShiftOp,
+    StoreOp, UnaryOp, UpperOp,
+};
+use formats::Reg;
+
+/// Every mnemonic by its name. Of `jal` and `jalr` it has the forms with a register to link.
+static MNEMONICS: [(&str, Mnemonic); 73] = [
+    ("add", Mnemonic::Registers(RegisterOp::Add)),
+    ("sub", Mnemonic::Registers(RegisterOp::Sub)),
+    ("sll", Mnemonic::Registers(RegisterOp::Sll)),
+    ("slt", Mnemonic::Registers(RegisterOp::Slt)),
+    ("sltu", Mnemonic::Registers(RegisterOp::Sltu)),
+    ("xor", Mnemonic::Registers(RegisterOp::Xor)),
+    ("srl", Mnemonic::Registers(RegisterOp::Srl)),
+    ("sra", Mnemonic::Registers(RegisterOp::Sra)),
+    ("or", Mnemonic::Registers(RegisterOp::Or)),
+    ("and", Mnemonic::Registers(RegisterOp::And)),
+    ("mul", Mnemonic::Registers(RegisterOp::Mul)),
+    ("mulh", Mnemonic::Registers(RegisterOp::Mulh)),
+    ("mulhsu", Mnemonic::Registers(RegisterOp::Mulhsu)),
+    ("mulhu", Mnemonic::Registers(RegisterOp::Mulhu)),
+    ("div", Mnemonic::Registers(RegisterOp::Div)),
+    ("divu", Mnemonic::Registers(RegisterOp::Divu)),
+    ("rem", Mnemonic::Registers(RegisterOp::Rem)),
+    ("remu", Mnemonic::Registers(RegisterOp::Remu)),
+    ("addi", Mnemonic::Immediate(ImmediateOp::Addi)),
+    ("slti", Mnemonic::Immediate(ImmediateOp::Slti)),
+    ("sltiu", Mnemonic::Immediate(ImmediateOp::Sltiu)),
+    ("xori", Mnemonic::Immediate(ImmediateOp::Xori)),
+    ("ori", Mnemonic::Immediate(ImmediateOp::Ori)),
+    ("andi", Mnemonic::Immediate(ImmediateOp::Andi)),
+    ("slli", Mnemonic::Shift(ShiftOp::Slli)),
+    ("srli", Mnemonic::Shift(ShiftOp::Srli)),
+    ("srai", Mnemonic::Shift(ShiftOp::Srai)),
+    ("jalr", Mnemonic::Load(LoadOp::Jalr)),
+    ("lb", Mnemonic::Load(LoadOp::Lb)),
+    ("lh", Mnemonic::Load(LoadOp::Lh)),
+    ("lw", Mnemonic::Load(LoadOp::Lw)),
+    ("lbu", Mnemonic::Load(LoadOp::Lbu)),
+    ("lhu", Mnemonic::Load(LoadOp::Lhu)),
+    ("sb", Mnemonic::Store(StoreOp::Sb)),
+    ("sh", Mnemonic::Store(StoreOp::Sh)),
+    ("sw", Mnemonic::Store(StoreOp::Sw)),
+    ("beq", Mnemonic::Branch(BranchOp::Beq)),
+    ("bne", Mnemonic::Branch(BranchOp::Bne)),
+    ("blt", Mnemonic::Branch(BranchOp::Blt)),
+    ("bge", Mnemonic::Branch(BranchOp::Bge)),
+    ("bltu", Mnemonic::Branch(BranchOp::Bltu)),
+    ("bgeu", Mnemonic::Branch(BranchOp::Bgeu)),
+    ("bgt", Mnemonic::Swapped(BranchOp::Blt)),
+    ("ble", Mnemonic::Swapped(BranchOp::Bge)),
+    ("bgtu", Mnemonic::Swapped(BranchOp::Bltu)),
+    ("bleu", Mnemonic::Swapped(BranchOp::Bgeu)),
+    ("beqz", Mnemonic::WithZero(BranchOp::Beq)),
+    ("bnez", Mnemonic::WithZero(BranchOp::Bne)),
+    ("bgez", Mnemonic::WithZero(BranchOp::Bge)),
+    ("bltz", Mnemonic::WithZero(BranchOp::Blt)),
+    ("blez", Mnemonic::FromZero(BranchOp::Bge)),
+    ("bgtz", Mnemonic::FromZero(BranchOp::Blt)),
+    ("lui", Mnemonic::Upper(UpperOp::Lui)),
+    ("auipc", Mnemonic::Upper(UpperOp::Auipc)),
+    ("jal", Mnemonic::Jal),
+    ("j", Mnemonic::Jump(Link::Zero)),
+    ("call", Mnemonic::Jump(Link::Ra)),
+    ("jr", Mnemonic::JumpRegister(Link::Zero)),
+    ("mv", Mnemonic::Unary(UnaryOp::Mv)),
+    ("not", Mnemonic::Unary(UnaryOp::Not)),
+    ("neg", Mnemonic::Unary(UnaryOp::Neg)),
+    ("seqz", Mnemonic::Unary(UnaryOp::Seqz)),
+    ("snez", Mnemonic::Unary(UnaryOp::Snez)),
+    ("sltz", Mnemonic::Unary(UnaryOp::Sltz)),
+    ("sgtz", Mnemonic::Unary(UnaryOp::Sgtz)),
+    ("nop", Mnemonic::Plain(PlainOp::Nop)),
+    ("ret", Mnemonic::Plain(PlainOp::Ret)),
+    ("fence", Mnemonic::Plain(PlainOp::Fence)),
+    ("fence.i", Mnemonic::Plain(PlainOp::FenceI)),
+    ("ecall", Mnemonic::Plain(PlainOp::Ecall)),
+    ("ebreak", Mnemonic::Plain(PlainOp::Ebreak)),
+    ("li", Mnemonic::Li),
+    ("la", Mnemonic::La),
+];
+
+/// Every directive by its name.
+static DIRECTIVES: [(&str, Directive); 6] = [
+    (".text", Directive::Text),
+    (".data", Directive::Data),
+    (".word", Directive::Word),
+    (".byte", Directive::Byte),
+    (".ascii", Directive::Ascii),
+    (".space", Directive::Space),
+];
+
+/// Every name of a register, with the register's number: the ABI names, `fp` for x8, and the numbered ones.
+static REGISTERS: [(&str, u8); 65] = [
+    ("zero", 0),
+    ("ra", 1),
+    ("sp", 2),
+    ("gp", 3),
+    ("tp", 4),
+    ("t0", 5),
+    ("t1", 6),
+    ("t2", 7),
+    ("s0", 8),
+    ("s1", 9),
+    ("a0", 10),
+    ("a1", 11),
+    ("a2", 12),
+    ("a3", 13),
+    ("a4", 14),
+    ("a5", 15),
+    ("a6", 16),
+    ("a7", 17),
+    ("s2", 18),
+    ("s3", 19),
+    ("s4", 20),
+    ("s5", 21),
+    ("s6", 22),
+    ("s7", 23),
+    ("s8", 24),
+    ("s9", 25),
+    ("s10", 26),
+    ("s11", 27),
+    ("t3", 28),
+    ("t4", 29),
+    ("t5", 30),
+    ("t6", 31),
+    ("fp", 8),
+    ("x0", 0),
+    ("x1", 1),
+    ("x2", 2),
+    ("x3", 3),
+    ("x4", 4),
+    ("x5", 5),
+    ("x6", 6),
+    ("x7", 7),
+    ("x8", 8),
+    ("x9", 9),
+    ("x10", 10),
+    ("x11", 11),
+    ("x12", 12),
+    ("x13", 13),
+    ("x14", 14),
+    ("x15", 15),
+    ("x16", 16),
+    ("x17", 17),
+    ("x18", 18),
+    ("x19", 19),
+    ("x20", 20),
+    ("x21", 21),
+    ("x22", 22),
+    ("x23", 23),
+    ("x24", 24),
+    ("x25", 25),
+    ("x26", 26),
+    ("x27", 27),
+    ("x28", 28),
+    ("x29", 29),
+    ("x30", 30),
+    ("x31", 31),
+];
+
+pub fn mnemonic_named(word: &[u8]) -> Option<Mnemonic>
+    ensures { result ≡ named mnemonics word.now }
+{
+    value_named(&MNEMONICS, word)
+}
+
+pub fn directive_named(word: &[u8]) -> Option<Directive>
+    ensures { result ≡ named directives word.now }
+{
+    value_named(&DIRECTIVES, word)
+}
+
+/// The register of this name: an ABI name, `fp` for x8, or `x` and its number.
+pub fn register_named(word: &[u8]) -> Option<Reg>
+    ensures { result ≡ named registers word.now }
+{
+    let number = value_named(&REGISTERS, word)?;
+    Some(Reg::new(number))
+}
+
+/// What a word names among rows of names and values.
+fn value_named<T: Copy>(rows: &[(&str, T)], word: &[u8]) -> Option<T>
+    ensures { result ≡ value_named rows.now word.now }
+{
+    match rows {
+        [] => None,
+        [(name, value), rest @ ..] => {
+            if name.as_bytes() == word {
+                Some(*value)
+            } else {
+                value_named(rest, word)
+            }
+        }
+    }
+}

@@ -1,0 +1,134 @@
+//! Items that are held back until they may be seen.
+ghost use Rattle.std.specs.Prelude.{◌≡◌, ◌+◌, ◌≤◌, ◌++◌, ◌∷◌, [], OnOk, length, replicate, vec_len, vec_capacity};
+ghost use Rattle.held_output.specs.Withheld.{released, holds_back, all_held, nothing, IsSame};
+
+use crate::prefix::prefix_from;
+use commit_deps::Mark;
+use std::alloc::{AllocError, Global};
+use std::marker::Model;
+
+/// Items in order, each with the mark of the event that gave it. Released is the longest prefix of those that rest on committed
+/// changes alone.
+pub struct Withheld<T> {
+    pub(crate) items: Vec<T>,
+    pub(crate) marks: Vec<Mark>,
+    /// How many are released.
+    pub(crate) count: usize,
+    /// How many changes are committed.
+    pub(crate) committed: u64,
+}
+
+impl<T: Drop> Drop for Withheld<T> {
+    fn drop(self) {
+        let Withheld {
+            items: _items,
+            marks: _marks,
+            count: _,
+            committed: _,
+        } = self;
+    }
+}
+
+impl<T> Model for Withheld<T> {
+    ghost use Rattle.std.specs.Prelude.{◌≡◌, ◌-◌, min, vec_capacity, vec_len};
+    ghost use Rattle.held_output.specs.Withheld.{Withheld as Items, withheld_code, held_with, prefix_of};
+
+    ghost Value = { Items T };
+
+    ghost coded = { withheld_code T.code };
+
+    ghost view = { λ w. record {
+      items = held_with w.items.items w.marks.items;
+      committed = w.committed;
+      room = min (vec_capacity w.items - vec_len w.items) (vec_capacity w.marks - vec_len w.marks);
+    } };
+
+    ghost invariant = { λ w. (vec_len w.marks ≡ vec_len w.items) × (w.count ≡ prefix_of w.committed w.marks.items) };
+}
+
+fn push_times(marks: &mut Vec<Mark>, mark: Mark, times: usize)
+    requires { vec_len marks.old + times ≤ vec_capacity marks.old }
+    ensures { marks.new.items ≡ marks.old.items ++ replicate times mark }
+{
+    for _done in 0..times {
+        marks.push(mark).unwrap();
+    }
+}
+
+impl<T> Withheld<T> {
+    /// No items, where no change is committed. Takes no memory.
+    pub fn new(alloc: Global) -> Withheld<T>
+        ensures { result ≡ nothing }
+    {
+        Withheld {
+            items: Vec::new(alloc),
+            marks: Vec::new(alloc),
+            count: 0,
+            committed: 0,
+        }
+    }
+
+    /// The items that are released, which may be seen. Takes no memory.
+    pub fn released(&self) -> &[T]
+        ensures { result.now ≡ released self.now }
+    {
+        &self.items[..self.count]
+    }
+
+    /// Whether some item is not released yet.
+    pub fn holds_back(&self) -> bool
+        ensures { result ≡ holds_back self.now }
+    {
+        self.count < self.items.len()
+    }
+
+    /// How many changes are committed, as `advance` said last; 0 before.
+    pub fn committed(&self) -> u64
+        ensures { result ≡ self.now.committed }
+    {
+        self.committed
+    }
+
+    /// Makes room for so many items more. Where memory runs out the items stay as they were.
+    pub fn reserve(&mut self, count: usize) -> Result<(), AllocError>
+        ensures room { OnOk result (count ≤ self.new.room) }
+        ensures same { IsSame self.old self.new }
+    {
+        self.items.reserve(count)?;
+        self.marks.reserve(count)
+    }
+
+    /// Appends an item of an event of this mark. Takes no memory.
+    pub fn push(&mut self, item: T, mark: Mark)
+        requires { 1 ≤ self.old.room }
+        ensures items { self.new.items ≡ self.old.items ++ all_held mark (item ∷ []) }
+        ensures committed { self.new.committed ≡ self.old.committed }
+    {
+        self.items.push(item).unwrap();
+        self.marks.push(mark).unwrap();
+        self.count = prefix_from(&self.marks, self.count, self.committed, self.committed);
+    }
+
+    /// Says how many changes are committed now: what rests on these alone is released. Looks at the items that were held back
+    /// alone, unless the number fell. Takes no memory.
+    pub fn advance(&mut self, committed: u64)
+        ensures items { self.new.items ≡ self.old.items }
+        ensures committed { self.new.committed ≡ committed }
+    {
+        self.count = prefix_from(&self.marks, self.count, self.committed, committed);
+        self.committed = committed;
+    }
+}
+
+impl<T: Copy> Withheld<T> {
+    /// Appends the items of an event of this mark. Takes no memory.
+    pub fn extend(&mut self, items: &[T], mark: Mark)
+        requires { length items.now ≤ self.old.room }
+        ensures items { self.new.items ≡ self.old.items ++ all_held mark items.now }
+        ensures committed { self.new.committed ≡ self.old.committed }
+    {
+        self.items.extend_from_slice(items).unwrap();
+        push_times(&mut self.marks, mark, items.len());
+        self.count = prefix_from(&self.marks, self.count, self.committed, self.committed);
+    }
+}

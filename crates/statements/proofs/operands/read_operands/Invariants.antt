@@ -1,9 +1,0 @@
-use Rattle.std.proofs.Common.{◌≡◌, drop}
-use Rattle.statements.specs.Operands.{operands_read, slots_of, no_operands}
-use Rattle.statements.proofs.operands.read_operands.Given as goal
-
-abbrev pub invariant-loop-slot : goal.invariant-loop-slot
-invariant-loop-slot l = record {
-  wanted : l.slot-items ≡ slots_of l.fn.mnemonic;
-  read : operands_read l.source l.end (drop l.slot-index l.slot-items) l.rest l.operands ≡ operands_read l.source l.end (slots_of l.fn.mnemonic) l.fn.tokens no_operands;
-}

@@ -1,6 +1,0 @@
-use Rattle.std.proofs.Common.{◌≡◌, true, drop}
-use Rattle.statements.specs.Statements.{numbers_read}
-use Rattle.statements.proofs.statement.numbers.Given as goal
-
-abbrev pub invariant-loop-token : goal.invariant-loop-token
-invariant-loop-token l = numbers_read l.wanted l.end (drop l.token-index l.tokens) l.statement ≡ numbers_read true l.end l.tokens l.statement
