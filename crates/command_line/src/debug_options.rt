@@ -32,7 +32,7 @@ pub const DEBUG: CommandRow = CommandRow {
     name: "debug",
     whole: "bench debug",
     about: "Debug an image, by commands on standard input",
-    example: "Example: echo step | bench debug /tmp/first.image",
+    example: "Example: echo step 1 | bench debug /tmp/first.image",
     arguments: &[
         ArgumentRow {
             name: "IMAGE",
