@@ -110,7 +110,7 @@ impl<'a, N: Naming> Bench<'a, N> {
         }
     }
 
-    /// As `lend`. The loan has a ticket, by which this bench knows its result again.
+    /// As `lend`. The loan may have a ticket, by which this bench knows its result again.
     pub fn lend_ticketed(
         &mut self,
         quantum: u32,

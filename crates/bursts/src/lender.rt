@@ -70,7 +70,7 @@ impl<N: Naming> Lender<N> {
         core
     }
 
-    /// As `Core::lend`. The loan has a ticket.
+    /// As `Core::lend`. The loan has a ticket, unless it could not be noted.
     pub(crate) fn lend(&mut self, quantum: u32) -> Result<Option<TicketedLoan<N>>, Refused>
         ensures { Lends self.old quantum self.new (lent_out result) }
     {

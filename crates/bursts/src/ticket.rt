@@ -80,7 +80,7 @@ impl<N: Naming> TicketedLoan<N> {
         loan
     }
 
-    /// As `run_loan`. The result has the loan's ticket.
+    /// As `run_loan`. The result has the loan's ticket; no clause says so.
     pub fn run(self) -> TicketedDone<N>
         ensures pid { result.pid ≡ self.pid }
         ensures number { result.number ≡ self.number }

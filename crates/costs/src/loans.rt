@@ -1,10 +1,11 @@
-//! What a loan costs: the time to lend a machine and to take its result back, as a ratio to the time of its run.
+//! What a loan costs: the time to lend a machine, to copy it and to take its result back, as a ratio to the time of its run.
 ghost use Rattle.std.specs.Prelude.{◌≤◌};
 
 use crate::ratios::thousandths;
 use anyhow::Error;
 use bursts::run_loan;
 use kernel::{Core, Program, SimDisk};
+use machine::Machine;
 use std::alloc::{AllocError, Global};
 use std::time::{Clock, Duration, Instant};
 
@@ -13,6 +14,9 @@ pub const QUANTUM: u32 = 10_000;
 
 /// How many loans are measured for each size.
 const LOANS: u32 = 500;
+
+/// A machine that has run so many instructions is not measured any more.
+const MOST_INSTRUCTIONS: u64 = 1_000_000_000;
 
 /// The file header of an image with two segments, whose entry is 0x00010000.
 const FILE_HEADER: [u32; 13] = [
@@ -79,7 +83,7 @@ fn boot(alloc: Global, pages: u32) -> Result<Core, Error>
     Ok(Core::boot(alloc, device, vec![in alloc; program]?, Vec::new(alloc))?)
 }
 
-/// Times that were measured: of lends and settles, and of runs.
+/// Times that were measured: of loans with their runs, and of the same runs without a loan.
 #[derive(Clone, Copy)]
 struct Times {
     loans: Duration,
@@ -87,43 +91,64 @@ struct Times {
 }
 
 impl Times {
-    /// What lending and taking back took of the time of the run, in thousandths.
+    /// What the loans took beside their runs, in thousandths of these.
     fn ratio(&self) -> u128 {
-        thousandths(self.loans, self.runs)
+        thousandths(self.loans.saturating_sub(self.runs), self.runs)
     }
 }
 
-/// Lends the process, runs it and takes it back, so many times.
-fn measure<R: Clock>(rt: &R, core: &mut Core, loans: u32) -> Result<Times, Error> {
+/// Lends the process, runs it and takes it back. None where it is not lent or not taken back.
+fn loan_time<R: Clock>(rt: &R, core: &mut Core) -> Result<Option<Duration>, Error> {
+    let start = Instant::now(rt)?;
+    let Some(loan) = core.lend(QUANTUM)? else {
+        return Ok(None);
+    };
+    if core.settle(run_loan(loan)).is_err() {
+        return Ok(None);
+    }
+    Ok(Some(Instant::now(rt)?.duration_since(start)))
+}
+
+/// Runs a machine as long as a loan. None where it has run very long.
+fn run_time<R: Clock>(rt: &R, machine: &mut Machine) -> Result<Option<Duration>, Error> {
+    if machine.count() > MOST_INSTRUCTIONS {
+        return Ok(None);
+    }
+    let start = Instant::now(rt)?;
+    let _ = machine.run(QUANTUM);
+    Ok(Some(Instant::now(rt)?.duration_since(start)))
+}
+
+/// Lends the process so many times, and runs a machine of its own beside it.
+fn measure<R: Clock>(
+    rt: &R,
+    core: &mut Core,
+    machine: &mut Machine,
+    loans: u32,
+) -> Result<Times, Error> {
     let mut times = Times {
         loans: Duration::ZERO,
         runs: Duration::ZERO,
     };
     for _ in 0..loans {
-        let start = Instant::now(rt)?;
-        let Some(loan) = core.lend(QUANTUM)? else {
+        let Some(loan) = loan_time(rt, core)? else {
             break;
         };
-        let lent = Instant::now(rt)?;
-        let done = run_loan(loan);
-        let ran = Instant::now(rt)?;
-        if core.settle(done).is_err() {
+        let Some(run) = run_time(rt, machine)? else {
             break;
-        }
-        let settled = Instant::now(rt)?;
-        let loan = lent
-            .duration_since(start)
-            .saturating_add(settled.duration_since(ran));
+        };
         times.loans = times.loans.saturating_add(loan);
-        times.runs = times.runs.saturating_add(ran.duration_since(lent));
+        times.runs = times.runs.saturating_add(run);
     }
     Ok(times)
 }
 
-/// What lending and taking back take of the time of the run, in thousandths, with so many pages of data.
+/// What a loan takes beside its run, the copy and the comparison of what the process may write among it, in thousandths of the run:
+/// with so many pages of data, and without a ticket.
 pub fn ratio_with<R: AllocGlobal + Clock>(rt: &R, pages: u32) -> Result<u128, Error>
     requires { pages ≤ 51 }
 {
     let mut core = boot(rt.alloc(), pages)?;
-    measure(rt, &mut core, LOANS).map(|times| times.ratio())
+    let mut machine = core.machine(1)?.try_clone(rt.alloc())?;
+    measure(rt, &mut core, &mut machine, LOANS).map(|times| times.ratio())
 }

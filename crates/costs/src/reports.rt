@@ -21,7 +21,7 @@ pub fn loan_lines<R: AllocGlobal + Clock>(rt: &R) -> Result<String, Error> {
     for pages in [1, 16, 51] {
         let ratio = loans::ratio_with(rt, pages)?;
         let line = format!(in rt.alloc();
-            "{pages} pages of data: lend and settle take {ratio} thousandths of the run"
+            "{pages} pages of data: a loan takes {ratio} thousandths of its run beside it"
         )?;
         add(&mut lines, line.as_str())?;
     }

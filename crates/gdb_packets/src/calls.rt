@@ -1,6 +1,6 @@
 //! System calls that were done, as a text.
 use formats::Reg;
-use machine::{Machine, Reply};
+use machine::{Image, Machine, Reply};
 use std::alloc::{AllocError, Global};
 use std::io;
 use std::io::Write;
@@ -106,6 +106,22 @@ impl Drop for Calls {
     }
 }
 
+/// How many bytes of memory the program takes that a reply enters.
+fn entered(reply: &Reply) -> u64 {
+    match &reply.image {
+        Some(image) => bytes_of(image),
+        None => 0,
+    }
+}
+
+fn bytes_of(image: &Image) -> u64 {
+    let mut bytes = 0u64;
+    for segment in image.segments() {
+        bytes = bytes.saturating_add(u64::from(segment.memsz));
+    }
+    bytes
+}
+
 impl Calls {
     /// None.
     pub fn new(alloc: Global) -> Calls {
@@ -120,7 +136,7 @@ impl Calls {
         self.calls.len()
     }
 
-    /// How many bytes they moved: what replies stored, and what was written.
+    /// How many bytes they moved: what replies stored, what was written, and the memory of the programs that were entered.
     pub fn moved(&self) -> u64 {
         self.moved
     }
@@ -148,7 +164,8 @@ impl Calls {
         self.moved = self
             .moved
             .saturating_add(stored)
-            .saturating_add(call.written());
+            .saturating_add(call.written())
+            .saturating_add(entered(reply));
         Ok(())
     }
 

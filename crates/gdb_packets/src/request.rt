@@ -152,8 +152,6 @@ fn lettered(alloc: Global, letter: char, words: &str) -> Result<Request, AllocEr
         'z' => Ok(known(point_of(words).map(|point| Request::Clear(point)))),
         'c' | 'C' => Ok(Request::Go(Motion::Continue)),
         's' | 'S' => Ok(Request::Go(Motion::Step)),
-        'D' => Ok(Request::Detach),
-        'k' => Ok(Request::Kill),
         _ => Ok(Request::Other),
     }
 }
@@ -175,8 +173,11 @@ fn request_of_text(alloc: Global, text: &str) -> Result<Request, AllocError> {
 
 /// What a packet of this payload asks for.
 pub fn request_of(alloc: Global, payload: &[u8]) -> Result<Request, AllocError> {
-    if let Some(b'G' | b'M' | b'X') = payload.first() {
-        return Ok(Request::Change);
+    match payload.first() {
+        Some(b'G' | b'M' | b'X') => return Ok(Request::Change),
+        Some(b'D') => return Ok(Request::Detach),
+        Some(b'k') => return Ok(Request::Kill),
+        _ => {}
     }
     match str::from_utf8(payload) {
         Ok(text) => request_of_text(alloc, text),

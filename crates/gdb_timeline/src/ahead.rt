@@ -5,12 +5,15 @@ use debugger::{Cause, MOST_INSTRUCTIONS, Stopped};
 use gdb_packets::{Stop, Watch};
 use trap_reports::trap_report;
 
-/// Of how many parts a slice of the way on has at most, after which gdb's interrupts are looked at. A part is some instructions up to a
+/// How many parts a slice of the way on has at most. After a slice gdb's interrupts are looked at. A part is some instructions up to a
 /// kept state, or a call that is answered.
 const PARTS: u32 = 1 << 10;
 
 /// The same where watches are looked at: a part is an instruction then.
 const WATCHED_PARTS: u32 = 1 << 16;
+
+/// After so many events of the kernel a slice ends, since other processes may have run long between them.
+const EVENTS: usize = 64;
 
 /// What comes after a part of the way on.
 #[derive(Clone, Copy)]
@@ -80,7 +83,11 @@ impl Timeline {
         } else {
             PARTS
         };
+        let last = self.events().saturating_add(EVENTS);
         for _ in 0..parts {
+            if self.events() >= last {
+                return Ok(None);
+            }
             match self.part(limit)? {
                 After::Stop(stop) => return Ok(Some(stop)),
                 After::Part => {}

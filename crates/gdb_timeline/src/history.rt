@@ -42,12 +42,17 @@ fn times(count: usize, bytes: u64) -> u64 {
 }
 
 impl Timeline {
+    /// How many events the kernel has had.
+    pub(crate) fn events(&self) -> usize {
+        match &self.live {
+            Some(live) => live.core().history().len(),
+            None => 0,
+        }
+    }
+
     /// As how many bytes the history counts.
     fn held(&self) -> u64 {
-        let kernel = match &self.live {
-            Some(live) => times(live.core().history().len(), BYTES_OF_EVENT),
-            None => 0,
-        };
+        let kernel = times(self.events(), BYTES_OF_EVENT);
         let calls = times(self.calls.count(), BYTES_OF_CALL);
         let moved = self.calls.moved().saturating_mul(TIMES_MOVED);
         self.debugger

@@ -112,7 +112,7 @@ impl<E, N: LogName> Log<E, N> {
         })
     }
 
-    /// Whether the log begins with what the receipt shows. So it is of each receipt that this log gave.
+    /// Whether the log begins with what the receipt shows. It does for each receipt that this log gave; no clause says so.
     pub fn has(&self, receipt: &Receipt<E, N>) -> bool
         ensures { result ≡ true → IsPrefix receipt.now self.now }
     {

@@ -19,7 +19,7 @@ const MOST_PAUSES: u32 = 50;
 const MOST_TURNS: u32 = YIELDS + MOST_PAUSES - 1;
 
 /// A thread's turns without work. At first it yields its processor; after a while it sleeps, longer and longer, up to five
-/// milliseconds. So a wait that lasts costs next to no processor, and new work waits for five milliseconds at most.
+/// milliseconds. So a wait that lasts costs next to no processor, and whoever sleeps looks again within five milliseconds.
 #[derive(Drop)]
 pub struct Rest {
     turns: u32,
@@ -43,17 +43,17 @@ impl Rest {
         self.turns = 0;
     }
 
-    /// There was something to do, which another thread would have done too. The next rest is shorter by one turn, and by twice as
+    /// There was something to do, which another thread might have done too. The next rest is shorter by one turn, and by twice as
     /// many for each further time without a rest between. So a thread that comes by work only now and then sleeps on, and one that
-    /// finds work seven times in a row is awake.
+    /// finds work six times in a row is awake.
     pub fn shorten(&mut self) {
         self.turns = self.turns.saturating_sub(self.relief);
         self.relief = self.relief.saturating_mul(2);
     }
 
-    /// Whether its next turn without work is a sleep.
+    /// Whether the turn before was without work, and the next one without work is a sleep.
     pub fn is_asleep(&self) -> bool {
-        self.turns >= YIELDS
+        self.turns >= YIELDS && self.relief == 1
     }
 
     /// One more turn without work, after which the thread yields or sleeps.

@@ -184,8 +184,8 @@ fn take_turn<N: Naming, G: Gate, R: Wait>(
     }
 }
 
-/// Takes turns until the bench answers that the work is over, or a turn fails, and gives that turn's fault. A worker that has slept
-/// for want of work, and finds the lock taken, sleeps on: whoever has it is at work on what there is.
+/// Takes turns until the bench answers that the work is over, or a turn fails, and gives that turn's fault. A worker that wakes and
+/// finds the lock taken sleeps on, since others are awake. One that found work since it slept asks in any case.
 fn work_on<N: Naming, G: Gate, R: Wait>(
     rt: &R,
     seat: &mut Seat<'_, '_, N>,

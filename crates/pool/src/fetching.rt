@@ -112,7 +112,7 @@ impl<'p, 'b, N: Naming> Seat<'p, 'b, N> {
         }
     }
 
-    /// As `fetch`. A loan of the core has its ticket.
+    /// As `fetch`. A loan has the ticket with which it was lent, if it has one.
     pub(crate) fn fetch_ticketed<R: Wait>(
         &mut self,
         rt: &R,

@@ -46,14 +46,13 @@ fn file_status(fault: &FileFault) -> u8 {
     match fault {
         FileFault::Source { .. }
         | FileFault::OtherImage
-        | FileFault::OwnSource
         | FileFault::Image { .. }
         | FileFault::Linked(_)
         | FileFault::SameFile
         | FileFault::Trace { .. } => 2,
         FileFault::DiskLength => 3,
         FileFault::OutOfMemory => 5,
-        FileFault::DiskInUse | FileFault::InputOutput => 6,
+        FileFault::OwnSource | FileFault::DiskInUse | FileFault::InputOutput => 6,
     }
 }
 
