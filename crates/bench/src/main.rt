@@ -1,4 +1,5 @@
-//! The program `bench`: `monitor::bench` on the host's arguments, input, output and standard error.
+//! The program `bench`: `monitor::bench` on the host's arguments, input, output and standard error. Read `main` first. Only safety is
+//! proved.
 #![tactic(auto)]
 
 use std::process::ExitCode;

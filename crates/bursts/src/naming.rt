@@ -6,8 +6,8 @@ use ghost_log::LogName;
 use std::marker::{Brand, PhantomData};
 use std::sync::ledger::Ledger;
 
-/// The names of a run's four ledgers, beside that of its log of loans and the pair with which its board opens. They exist in proofs alone. The caller of the one
-/// function that makes a run's board and bench picks them.
+/// The names of a run's four ledgers, beside that of its log of loans and the pair with which its board opens. They exist in proofs
+/// alone. The caller of the one function that makes a run's board and bench picks them.
 pub trait Naming: Opening + LogName {
     ghost events: { ℕ };
 

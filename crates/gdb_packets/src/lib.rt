@@ -1,5 +1,5 @@
 //! What gdb's packets say, and the packets that answer them. Read `request_of` first. Packets are texts here, without their frames, and
-//! no machine moves.
+//! no machine moves. What is told of registers, of memory and of a stop is the definitions'; of most else only safety is proved.
 #![tactic(auto)]
 
 mod calls;

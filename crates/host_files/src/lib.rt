@@ -1,6 +1,6 @@
 //! Files of the host, by their paths: sources are assembled and checked, images made of executables, listed and debugged, disks
-//! read and kept. `FileFault` says why
-//! one is refused. Only safety is proved, and that the disk with which a run begins is quiet.
+//! read and kept. Read `FileFault` first, which says why one is refused. Only safety is proved, and that the disk with which a run
+//! begins is quiet.
 #![tactic(auto)]
 
 mod checking;

@@ -1,4 +1,4 @@
-//! What a thread does that finds nothing to do.
+//! What a thread does that finds nothing to do: it yields its processor, and later it sleeps. Read `Rest`. Only safety is proved.
 #![tactic(auto)]
 
 use std::sync::Wait;

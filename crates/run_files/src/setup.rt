@@ -157,8 +157,8 @@ fn setup_at<R: Files<File = File> + AllocGlobal>(
     }
 }
 
-/// Boots the core of a run. The tapes are read first, in order, then the images in order, then the disk, which no other run may have. At last it
-/// is tested whether the disk can be kept. The first fault ends it.
+/// Boots the core of a run. The tapes are read first, in order, then the images in order, then the disk, which no other run may have.
+/// At last it is tested whether the disk can be kept. The first fault ends it.
 pub fn boot<R: Files<File = File> + AllocGlobal, I: Read>(
     rt: &R,
     options: &RunOptions<'_>,
