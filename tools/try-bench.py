@@ -14,7 +14,9 @@ import tempfile
 
 TOP = os.path.realpath(f"{os.path.dirname(os.path.realpath(__file__))}/..")
 # How many of the words of a command name files, aside from its options.
-MOST_FILES = {"replay": 1, "picture": 1, "crashes": 1, "asm": 2, "check": 1, "image": 2, "list": 1, "debug": 8, "gdb": 8, "disk": 1, "run": 8}
+MOST_FILES = {
+    "replay": 1, "picture": 1, "crashes": 1, "asm": 2, "check": 1, "image": 2, "symbols": 2, "list": 1, "debug": 8, "gdb": 8, "disk": 1, "run": 8,
+}
 # The commands whose file is a script.
 SCRIPT_COMMANDS = ("replay", "picture", "crashes")
 FILE_OPTIONS = ("--trace", "--disk", "--tape", "--tape-of", "--expect", "--source", "--symbols")
@@ -86,7 +88,11 @@ class Room:
                 word = self.value_of(option, word) if option in FILE_OPTIONS else word
                 option = None
             elif files > 0:
-                word = self.script_of(word) if command in SCRIPT_COMMANDS else self.place_of(word)
+                if command == "symbols" and word:
+                    # gdb looks for the source by this path, also when this run's folder is gone.
+                    word = os.path.abspath(word)
+                else:
+                    word = self.script_of(word) if command in SCRIPT_COMMANDS else self.place_of(word)
                 files -= 1
             found.append(word)
         return found
