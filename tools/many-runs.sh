@@ -85,14 +85,22 @@ for workers in 2 5 16; do
     fi
 done
 
-# How many threads of the program have worked, after two seconds of as many endless programs as these words are.
+# How many threads of the program have worked, in a run of as many endless programs as these words are: two seconds after as many
+# have as there are workers, or after a minute, since a thread may wait long for a processor that others have.
 at_work() {
     workers=$1
     shift
     "$bench" run --workers "$workers" "$@" >printed 2>said &
     running=$!
-    sleep 2
-    awk '{ sub(/^.*[)] /, ""); if ($12 >= 10) n++ } END { print n + 0 }' /proc/"$running"/task/*/stat
+    left=60
+    since=0
+    while [ "$left" -gt 0 ] && [ "$since" -lt 3 ]; do
+        sleep 1
+        left=$((left - 1))
+        now=$(awk '{ sub(/^.*[)] /, ""); if ($12 >= 10) n++ } END { print n + 0 }' /proc/"$running"/task/*/stat)
+        [ "$now" -lt "$workers" ] || since=$((since + 1))
+    done
+    echo "$now"
     kill "$running"
     wait "$running" 2>killed || true
 }

@@ -57,7 +57,6 @@ COMMANDS_OF_DEBUG = b"step 3\nstate\nbreak 00010018\nrun\nrewind 2\nrun\nclear 0
 LONG_DEBUG = b"step 3000\nrewind 1500\nbreak 00010010\nrun\nstate\nrun\nquit\n"
 
 
-
 def packets(*texts):
     """Returns packets of gdb's protocol with these texts."""
     return b"".join(b"$%s#%02x" % (text, sum(text) % 256) for text in texts)

@@ -60,7 +60,7 @@ case $CC in
     *clang*) OBJCOPY=${OBJCOPY:-llvm-objcopy} linker=-fuse-ld=lld ;;
     *) OBJCOPY=${OBJCOPY:-riscv64-unknown-elf-objcopy} linker=-Wl,--no-warn-rwx-segments ;;
 esac
-for program in "${CC%% *}" "$OBJCOPY"; do
+for program in "${CC%% *}" "${OBJCOPY%% *}"; do
     command -v "$program" >/dev/null || refuse "$program is not there: Debian has gcc-riscv64-unknown-elf, clang, lld and llvm"
 done
 # Helpers of the compiler, as a division of 64 bits: GCC's, also for clang.
