@@ -6,8 +6,9 @@
 A page is README.md, CHANGES.md or a file docs/*.md. Of each it finds links to files that are not there, links to anchors that no
 heading has, and sentences of more than 35 words. Of the pages that show the commands it also finds blocks ```text that no case of
 crates/test_runner/data/*.sessions has, and no example: what is shown there is what the merge gate compares. A form, with words that stand
-for others, is in a plain block. With --comments it also finds such sentences in the comments `//!` and `///` of crates/*/src. With
-file names, it checks these alone: pages, and comments of files `.rt`.
+for others, is in a plain block. Of the map in docs/ARCHITECTURE.md it finds rows that are not by crates.txt: another group, or another
+list of direct dependencies. With --comments it also finds such sentences in the comments `//!` and `///` of crates/*/src. With file
+names, it checks these alone: pages, and comments of files `.rt`.
 
 It prints a line for each finding, `FILE:LINE: what`, and ends with status 1 where it found something.
 
@@ -26,6 +27,10 @@ MOST_WORDS = 35
 SHOWING = ("README.md", *(f"docs/{it}.md" for it in ("ABI", "CALLS", "CRASHES", "DEBUGGER", "IMAGES", "SCRIPTS", "SOURCES", "TEACHING")))
 CASES = "crates/test_runner/data/*.sessions"
 EXAMPLES = "crates/test_runner/data/examples/*.[sf]*"
+# The page with the map of the crates, the file that lists them, and the crate that no row of the map names.
+MAP = "docs/ARCHITECTURE.md"
+CRATES = "crates.txt"
+LEFT_OUT = "byte_list"
 
 FENCE = re.compile(r"\s*(```+|~~~+)")
 HEADING = re.compile(r" {0,3}#{1,6}\s+(.*?)(?:\s+#+)?\s*$")
@@ -39,6 +44,9 @@ LINK_BY_NAME = re.compile(r" {0,3}\[[^\[\]]+\]:\s+(\S+)")
 NAMED_PLACE = re.compile(r"<a\s+(?:id|name)=\"([^\"]+)\"")
 SENTENCE_END = re.compile(r"(?<![.!?])[.!?][)\]\"'*_]*(?=\s|$)")
 SHORT_FORMS = ("e.g.", "i.e.", "cf.", "vs.")
+GROUP = re.compile(r"# ([^:]+): ")
+CRATE = re.compile(r"([a-z0-9_]+)[^:]*:(.*)")
+MAP_ROW = re.compile(r"\| `([a-z0-9_]+)` \| ([^|]*)\|")
 DOC_COMMENT = re.compile(r"\s*//(?:!|/(?!/)) ?(.*)")
 
 
@@ -166,7 +174,7 @@ def is_in_cases(text, cases):
         "".join(f"!! {line}\n" for line in shown),
     ]
     forms += [f"! {status} " + "\n!! ".join(shown) + "\n" for status in range(8)]
-    return any(form in cases for form in forms) and all(f"< {line}\n" in cases for line in typed)
+    return any(f"\n{form}" in cases for form in forms) and all(f"\n< {line}\n" in cases for line in typed)
 
 
 def content_of(pattern):
@@ -181,6 +189,43 @@ def content_of(pattern):
 def numbered_lines(path):
     with open(path, encoding="utf-8") as file:
         return list(enumerate(file.read().split("\n"), 1))
+
+
+class Crates:
+    """The crates of crates.txt: the group of each, and which others it names."""
+
+    def __init__(self, path):
+        self.groups, self.named, group = {}, {}, None
+        for _, line in numbered_lines(path):
+            head, crate = GROUP.match(line), CRATE.match(line)
+            if head:
+                group = head[1]
+            elif crate:
+                self.groups[crate[1]], self.named[crate[1]] = group, crate[2].split()
+        self.named = {crate: [it for it in named if it in self.groups] for crate, named in self.named.items()}
+
+    def below(self, crate):
+        """Returns the crates on which a crate stands."""
+        return set(self.named[crate]).union(*map(self.below, self.named[crate]))
+
+    def used(self, crate):
+        """Returns the crates that a crate names, without those that another one implies."""
+        implied = set().union(*map(self.below, self.named[crate]))
+        return {it for it in self.named[crate] if it != LEFT_OUT and it not in implied}
+
+    def findings(self, page):
+        """Yields the rows of the map that say otherwise."""
+        group = None
+        for number, line in numbered_lines(page):
+            heading, row = HEADING.match(line), MAP_ROW.match(line)
+            if heading:
+                group = heading[1]
+            elif row and row[1] in self.groups:
+                used = self.used(row[1])
+                if set(re.findall(r"`([^`]+)`", row[2])) != used:
+                    yield number, f"`{row[1]}` uses {' '.join(sorted(used)) or 'no crate'}, by {CRATES}"
+                if group != self.groups[row[1]]:
+                    yield number, f"`{row[1]}` is of the group {self.groups[row[1]]}, by {CRATES}"
 
 
 class Pages:
@@ -222,8 +267,10 @@ class Pages:
         if page in SHOWING:
             cases, examples = content_of(CASES), content_of(EXAMPLES)
             for line, text in texts_of(numbered_lines(page)):
-                if not is_in_cases(text, cases) and "\n".join(text) not in examples:
+                if not is_in_cases(text, cases) and "\n" + "\n".join(text) + "\n" not in f"\n{examples}":
                     yield line, "a text that no case has"
+        if page == MAP and os.path.isfile(CRATES):
+            yield from Crates(CRATES).findings(page)
 
 
 def findings_of_comments(path):
