@@ -1,7 +1,7 @@
 //! Executables of stock linkers made to images.
 use crate::disk_file::write_whole;
 use crate::fault::FileFault;
-use crate::same_file::{is_same_file, metadata_of};
+use crate::same_file::is_same_file;
 use file_reading::bytes_in;
 use linked_elf::{MOST_BYTES, image_of};
 use machine_model::{Image, Segment};
@@ -31,10 +31,10 @@ fn print_size<O: Write>(image: &Image, out: &mut O) -> Result<(), FileFault> {
     Ok(())
 }
 
-/// Writes an image to a file, whole. What is there and is no file, as a device, is written to, and stays.
+/// Writes an image to a file, whole. What is there and is no file, as a device or a link, is written to, and stays.
 fn write_image<R: Files + AllocGlobal>(rt: &R, path: &str, bytes: &[u8]) -> Result<(), FileFault> {
-    match metadata_of(rt, path)? {
-        Some(metadata) if !metadata.is_file() => Ok(fs::write(rt, path, bytes)?),
+    match fs::symlink_metadata(rt, path) {
+        Ok(there) if !there.is_file() => Ok(fs::write(rt, path, bytes)?),
         _ => write_whole(rt, path, bytes),
     }
 }

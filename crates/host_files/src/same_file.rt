@@ -6,7 +6,7 @@ use std::rt::Files;
 use std::{fs, io};
 
 /// What has a path, if anything has. Links are followed.
-pub fn metadata_of<R: Files>(rt: &R, path: &str) -> io::Result<Option<Metadata>> {
+fn metadata_of<R: Files>(rt: &R, path: &str) -> io::Result<Option<Metadata>> {
     match fs::metadata(rt, path) {
         Ok(metadata) => Ok(Some(metadata)),
         Err(error) if error.kind() == ErrorKind::NotFound => Ok(None),
