@@ -1,6 +1,6 @@
 //! Which file a refusal is about, and the reason.
 use crate::image_reason::image_reason;
-use crate::input_output::file_reason;
+use crate::input_output::{file_reason, may_open_again};
 use crate::lines::line_reason;
 use crate::task_files::{Role, TaskFile, files_of};
 use command_line::Task;
@@ -10,7 +10,7 @@ use file_reading::{bytes_in, image_file_in};
 use host_files::{FileFault, source_reason};
 use run_files::{Fault, write_line};
 use simdisk::SIZE;
-use std::fs;
+use std::fs::{self, File};
 use std::io::Write;
 use std::rt::Files;
 
@@ -43,6 +43,9 @@ fn image_path(line: &str) -> Option<&str> {
 
 /// Why the file of this path is no image, if it is none.
 fn image_at<R: Files + AllocGlobal>(rt: &R, path: &str) -> Result<Option<Reason>, Fault> {
+    if !may_open_again(rt, path) {
+        return Ok(None);
+    }
     let file = image_file_in(rt, path)?;
     let fault = match elf32::parse(rt.alloc(), &file) {
         Ok(_image) => return Ok(None),
@@ -57,6 +60,9 @@ fn image_at<R: Files + AllocGlobal>(rt: &R, path: &str) -> Result<Option<Reason>
 
 /// The first image of a script that is none.
 fn script_image<R: Files + AllocGlobal>(rt: &R, script: &str) -> Result<Option<Reason>, Fault> {
+    if !may_open_again(rt, script) {
+        return Ok(None);
+    }
     let text = fs::read_to_string(rt, script)?;
     for line in text.as_str().lines() {
         if let Some(path) = image_path(line)
@@ -94,8 +100,9 @@ fn line_at<R: Files + AllocGlobal>(
     line: usize,
     why: &str,
 ) -> Result<Option<Reason>, Fault> {
-    let Some(path) = path_of(files, role) else {
-        return Ok(None);
+    let path = match path_of(files, role) {
+        Some(path) if may_open_again(rt, path) => path,
+        _ => return Ok(None),
     };
     let text = fs::read_to_string(rt, path)?;
     let said = line_reason(rt.alloc(), text.as_str(), line, why)?;
@@ -106,8 +113,9 @@ fn source_at<R: Files + AllocGlobal>(
     rt: &R,
     files: &[TaskFile<'_>],
 ) -> Result<Option<Reason>, Fault> {
-    let Some(path) = path_of(files, Role::Source) else {
-        return Ok(None);
+    let path = match path_of(files, Role::Source) {
+        Some(path) if may_open_again(rt, path) => path,
+        _ => return Ok(None),
     };
     match source_reason(rt, path)? {
         Some(why) => about(rt, path, why.as_str()),
@@ -118,6 +126,7 @@ fn source_at<R: Files + AllocGlobal>(
 /// The path of the disk of a task, if it has one.
 fn disk_path<'a>(files: &[TaskFile<'a>]) -> Option<&'a str> {
     path_of(files, Role::Disk)
+        .or(path_of(files, Role::LiveDisk))
         .or(path_of(files, Role::KeptDisk))
         .or(path_of(files, Role::DurableDisk))
 }
@@ -126,8 +135,9 @@ fn disk_length<R: Files + AllocGlobal>(
     rt: &R,
     files: &[TaskFile<'_>],
 ) -> Result<Option<Reason>, Fault> {
-    let Some(path) = disk_path(files) else {
-        return Ok(None);
+    let path = match disk_path(files) {
+        Some(path) if may_open_again(rt, path) => path,
+        _ => return Ok(None),
     };
     let count = bytes_in(rt, path, SIZE)?.len();
     if count > SIZE {
@@ -138,7 +148,7 @@ fn disk_length<R: Files + AllocGlobal>(
 }
 
 /// The first file that cannot be read or written.
-fn first_unusable<R: Files + AllocGlobal>(
+fn first_unusable<R: Files<File = File> + AllocGlobal>(
     rt: &R,
     files: &[TaskFile<'_>],
 ) -> Result<Option<Reason>, Fault> {
@@ -154,7 +164,7 @@ fn first_unusable<R: Files + AllocGlobal>(
     )
 }
 
-fn file_fault<R: Files + AllocGlobal>(
+fn file_fault<R: Files<File = File> + AllocGlobal>(
     rt: &R,
     files: &[TaskFile<'_>],
     fault: FileFault,
@@ -209,7 +219,7 @@ fn said_of<R: AllocGlobal>(rt: &R, path: Option<&str>, why: &str) -> Result<Opti
     }
 }
 
-fn reason_of<R: Files + AllocGlobal>(
+fn reason_of<R: Files<File = File> + AllocGlobal>(
     rt: &R,
     files: &[TaskFile<'_>],
     fault: Fault,
@@ -257,8 +267,8 @@ fn reason_of<R: Files + AllocGlobal>(
 }
 
 /// Writes a line that names the file of a task that a fault is about, and the reason. No line is written where none is found, as for
-/// a file that is another by then.
-pub fn explain<R: Files + AllocGlobal, E: Write>(
+/// a file that is another by then, or a pipe.
+pub fn explain<R: Files<File = File> + AllocGlobal, E: Write>(
     rt: &R,
     task: &Task<'_>,
     fault: Fault,

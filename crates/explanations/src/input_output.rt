@@ -1,11 +1,11 @@
 //! Why a file could not be read or written.
 use crate::task_files::{Role, TaskFile};
 use file_reading::{bytes_in, image_file_in};
-use host_files::{MOST_SOURCE_BYTES, test_place};
+use host_files::{DiskLock, FileFault, MOST_SOURCE_BYTES, test_place};
 use scripts::MOST_TAPE_BYTES;
 use simdisk::SIZE;
 use std::alloc::{AllocError, Global};
-use std::fs::OpenOptions;
+use std::fs::{File, OpenOptions};
 use std::io::ErrorKind;
 use std::rt::Files;
 use std::{fs, io};
@@ -18,7 +18,17 @@ fn system_reason(alloc: Global, error: &io::Error) -> Result<String, AllocError>
     format!(in alloc; "{error}")
 }
 
-/// Why a file that has to be text cannot be read, if it cannot. No more than `most` + 1 of its bytes are read, since it may have no end.
+/// Whether what a path leads to can be opened and read again without waiting: a file, a folder, or nothing. A named pipe would wait
+/// for another writer, and a terminal for another line.
+pub fn may_open_again<R: Files>(rt: &R, path: &str) -> bool {
+    match fs::metadata(rt, path) {
+        Ok(there) => there.is_file() || there.is_dir(),
+        Err(_) => true,
+    }
+}
+
+/// Why a file that has to be text cannot be read, if it cannot. No more than `most` + 1 of its bytes are read, since it may have no
+/// end. Where it has more, its last character may be cut short.
 fn text_reason<R: Files + AllocGlobal>(
     rt: &R,
     path: &str,
@@ -28,6 +38,7 @@ fn text_reason<R: Files + AllocGlobal>(
         Err(error) => Ok(Some(system_reason(rt.alloc(), &error)?)),
         Ok(bytes) => match str::from_utf8(bytes.as_slice()) {
             Ok(_) => Ok(None),
+            Err(error) if bytes.len() > most && error.error_len().is_none() => Ok(None),
             Err(_) if bytes.get(..4) == Some(ELF_BEGIN) => Ok(Some(String::from_str(
                 rt.alloc(),
                 "it is an ELF file, as an image or an executable, and no text",
@@ -74,9 +85,6 @@ fn made_reason<R: Files + AllocGlobal>(rt: &R, path: &str) -> Result<Option<Stri
 
 /// Why the file beside a disk's cannot be made and removed.
 fn beside_reason<R: Files + AllocGlobal>(rt: &R, path: &str) -> Result<String, AllocError> {
-    if path.is_empty() {
-        return String::from_str(rt.alloc(), "an empty path names no file");
-    }
     let beside = format!(in rt.alloc(); "{path}.new")?;
     match made_reason(rt, beside.as_str())? {
         Some(why) => {
@@ -87,25 +95,65 @@ fn beside_reason<R: Files + AllocGlobal>(rt: &R, path: &str) -> Result<String, A
     }
 }
 
-/// Why a disk cannot be read and kept in a file, if it cannot.
-fn kept_disk_reason<R: Files + AllocGlobal>(
+/// Why a disk that need not be there cannot be read, if it cannot.
+fn live_disk_reason<R: Files + AllocGlobal>(
     rt: &R,
     path: &str,
 ) -> Result<Option<String>, AllocError> {
     match bytes_in(rt, path, SIZE) {
         Err(error) if error.kind() != ErrorKind::NotFound => {
-            return Ok(Some(system_reason(rt.alloc(), &error)?));
+            Ok(Some(system_reason(rt.alloc(), &error)?))
         }
-        _ => {}
+        _ => Ok(None),
     }
+}
+
+/// Why the file beside a disk's cannot be made and locked by which one run at a time has the disk.
+fn lock_reason<R: Files + AllocGlobal>(rt: &R, path: &str) -> Result<String, AllocError> {
+    let lock = format!(in rt.alloc(); "{path}.lck")?;
+    match written_reason(rt, lock.as_str())? {
+        Some(why) => {
+            let why = why.as_str();
+            format!(in rt.alloc(); "the file {path}.lck beside it cannot be made and locked: {why}")
+        }
+        None => format!(in rt.alloc(); "the file {path}.lck beside it cannot be made and locked"),
+    }
+}
+
+/// Why the file beside a disk's cannot be made and removed, if it cannot. To be asked under the disk's lock: what has this file's path
+/// is removed, and may else be what another run has written, which would then lose its disk.
+fn place_reason<R: Files + AllocGlobal>(rt: &R, path: &str) -> Result<Option<String>, AllocError> {
     match test_place(rt, path) {
         Ok(()) => Ok(None),
         Err(_) => Ok(Some(beside_reason(rt, path)?)),
     }
 }
 
+/// Why a disk cannot be read and kept in a file, if it cannot. Where a run has it, that run could keep it.
+fn kept_disk_reason<R: Files<File = File> + AllocGlobal>(
+    rt: &R,
+    path: &str,
+) -> Result<Option<String>, AllocError> {
+    if path.is_empty() {
+        let said = String::from_str(rt.alloc(), "an empty path names no file")?;
+        return Ok(Some(said));
+    }
+    if let Some(why) = live_disk_reason(rt, path)? {
+        return Ok(Some(why));
+    }
+    match DiskLock::take(rt, path) {
+        Ok(lock) => {
+            let reason = place_reason(rt, path);
+            lock.release(rt);
+            reason
+        }
+        Err(FileFault::DiskInUse) => Ok(None),
+        Err(_) => Ok(Some(lock_reason(rt, path)?)),
+    }
+}
+
 /// Why a disk cannot be kept in a file while a run goes on, if it cannot.
-fn durable_disk_reason<R: Files + AllocGlobal>(
+fn durable_disk_reason<R: Files<File = File> + AllocGlobal>(
     rt: &R,
     path: &str,
 ) -> Result<Option<String>, AllocError> {
@@ -126,12 +174,15 @@ fn written_reason<R: Files + AllocGlobal>(
     }
 }
 
-/// Why a file of a task cannot be read or written, if it cannot.
-pub fn file_reason<R: Files + AllocGlobal>(
+/// Why a file of a task cannot be read or written, if it cannot. Nothing is said of what is not opened again.
+pub fn file_reason<R: Files<File = File> + AllocGlobal>(
     rt: &R,
     file: TaskFile<'_>,
 ) -> Result<Option<String>, AllocError> {
     let path = file.path;
+    if !may_open_again(rt, path) {
+        return Ok(None);
+    }
     match file.role {
         Role::Source => text_reason(rt, path, MOST_SOURCE_BYTES),
         // These were read to their end before.
@@ -140,6 +191,7 @@ pub fn file_reason<R: Files + AllocGlobal>(
         Role::Linked => read_reason(rt.alloc(), bytes_in(rt, path, SIZE)),
         Role::Tape => tape_reason(rt, path),
         Role::Disk => read_reason(rt.alloc(), bytes_in(rt, path, SIZE)),
+        Role::LiveDisk => live_disk_reason(rt, path),
         Role::KeptDisk => kept_disk_reason(rt, path),
         Role::DurableDisk => durable_disk_reason(rt, path),
         Role::Written => written_reason(rt, path),

@@ -15,6 +15,8 @@ pub enum Role {
     Expectations,
     /// A disk that is read.
     Disk,
+    /// A disk that is read, also where it is not there yet, and not kept.
+    LiveDisk,
     /// A disk that is kept, also where it is not there yet.
     KeptDisk,
     /// A disk that is kept while its run goes on.
@@ -67,8 +69,8 @@ fn push_live<'a>(
     for path in options.images.as_slice() {
         push(files, Role::Image, Some(*path))?;
     }
-    push(files, Role::Source, options.source)?;
-    push(files, Role::KeptDisk, options.disk)
+    push(files, Role::LiveDisk, options.disk)?;
+    push(files, Role::Source, options.source)
 }
 
 /// The files of a task, in the order in which they are read, and then those that are written.

@@ -64,7 +64,7 @@ fn run<
 }
 
 /// The end of what was asked for: a fault's line, and where it is to be explained a line more that says why.
-fn end_asked<R: Files + AllocGlobal, E: Write>(
+fn end_asked<R: Files<File = File> + AllocGlobal, E: Write>(
     rt: &R,
     asked: &Asked<'_>,
     done: Result<u8, Fault>,
