@@ -11,7 +11,7 @@ use std::thread::Threads;
 
 /// An output that takes so many writes, and then fails for this reason.
 #[derive(Drop)]
-struct Output {
+pub struct Output {
     writes: usize,
     room: usize,
     failure: ErrorKind,
@@ -20,7 +20,8 @@ struct Output {
 }
 
 impl Output {
-    fn new(room: usize, failure: ErrorKind) -> Output {
+    /// An output with room for so many writes.
+    pub fn new(room: usize, failure: ErrorKind) -> Output {
         Output {
             writes: 0,
             room,
@@ -68,7 +69,7 @@ const FAILED: &str = "bench: input or output failed\n";
 const OUT_OF_MEMORY: &str = "bench: out of memory\n";
 
 /// How a run ended, and what it said.
-type End<'a> = (u8, &'a str);
+pub type End<'a> = (u8, &'a str);
 
 /// Compares how a run ended with what is wanted. Its output is full, and what it took is flushed.
 fn compare_end(ended: u8, out: &Output, err: &[u8], (status, said): End<'_>) -> Result<(), Error> {
@@ -84,7 +85,7 @@ fn compare_end(ended: u8, out: &Output, err: &[u8], (status, said): End<'_>) -> 
 }
 
 /// Runs the program with these words, parted by blanks, on the script. It has to fill the output, and to end so.
-fn check_output<R: Files<File = File> + AllocGlobal + Threads + Wait + Sync>(
+pub fn check_output<R: Files<File = File> + AllocGlobal + Threads + Wait + Sync>(
     rt: &R,
     line: &str,
     mut out: Output,

@@ -1,8 +1,10 @@
-//! The file in which a run keeps its disk: what it is beside, which rights it has, what no link leads to, and
-//! which run has it.
+//! The file in which a run keeps its disk: what it is beside, which rights it has, what no link leads to, and which run has it. And an
+//! image that is written through a link.
+use crate::faulty_output::{Output, check_output};
 use crate::running::{ENDS, check_status};
 use anyhow::{Error, ensure};
 use std::fs::{self, File, OpenOptions, Permissions};
+use std::io::ErrorKind;
 use std::os::unix::fs::{PermissionsExt, symlink};
 use std::rt::Files;
 use std::sync::Wait;
@@ -106,7 +108,51 @@ fn check_durable_link<R: Files<File = File> + AllocGlobal + Threads + Wait + Syn
     Ok(fs::remove_file(rt, "linked")?)
 }
 
-/// The file of a kept disk is no link's, and has the rights that it had.
+/// What is said where no file is to blame.
+const NO_FILE: &str = "bench: input or output failed
+bench: standard input could not be read as text, standard output not be written, or a file system is full
+";
+
+/// A session writes no disk. So where its output fails, and the reason is looked for, the file beside the disk stays as it is: another
+/// run may be writing it.
+fn check_session<R: Files<File = File> + AllocGlobal + Threads + Wait + Sync>(
+    rt: &R,
+) -> Result<(), Error> {
+    fs::write(rt, "kept.new", "text")?;
+    let out = Output::new(0, ErrorKind::BrokenPipe);
+    let words = "debug --live --explain --disk kept ends";
+    check_output(rt, words, out, (6, NO_FILE))?;
+    let text = fs::read_to_string(rt, "kept.new")?;
+    ensure!(
+        text.as_str() == "text",
+        "the file beside the disk was written"
+    );
+    Ok(fs::remove_file(rt, "kept.new")?)
+}
+
+/// An image is written to what a link leads to, and the link stays.
+fn check_image_link<R: Files<File = File> + AllocGlobal + Threads + Wait + Sync>(
+    rt: &R,
+) -> Result<(), Error> {
+    symlink(rt, "made", "linked")?;
+    check_status(rt, "image linkers/gnu.elf linked", 0)?;
+    check_status(rt, "image linkers/gnu.elf whole", 0)?;
+    ensure!(
+        fs::symlink_metadata(rt, "linked")?.is_symlink(),
+        "the image's path is no link any more"
+    );
+    let (made, whole) = (fs::read(rt, "made")?, fs::read(rt, "whole")?);
+    ensure!(
+        made.as_slice() == whole.as_slice(),
+        "the link leads to another image"
+    );
+    for name in ["linked", "made", "whole"] {
+        fs::remove_file(rt, name)?;
+    }
+    Ok(())
+}
+
+/// The file of a kept disk is no link's, and has the rights that it had. An image's link leads to the image.
 pub fn check_kept_disk<R: Files<File = File> + AllocGlobal + Threads + Wait + Sync>(
     rt: &R,
 ) -> Result<String, Error> {
@@ -120,11 +166,13 @@ pub fn check_kept_disk<R: Files<File = File> + AllocGlobal + Threads + Wait + Sy
     check_linked_disk(rt)?;
     check_lock(rt)?;
     check_durable_link(rt)?;
+    check_session(rt)?;
+    check_image_link(rt)?;
     for name in ["ends.s", "ends", "kept"] {
         fs::remove_file(rt, name)?;
     }
     Ok(String::from_str(
         rt.alloc(),
-        "a disk's file: no link is followed, its rights stay, and one run has it",
+        "a disk's file: no link is followed, its rights stay, and one run has it; an image is written through a link",
     )?)
 }
