@@ -15,7 +15,7 @@ pub enum FileFault {
     #[error("source refused: {number} {fault}")]
     Source { number: u8, fault: AsmFault },
     /// A source that would be written over by what is made of it.
-    #[error("output refused: it would be written over the source")]
+    #[error("input or output failed")]
     OwnSource,
     /// A source that assembles to another image than the one beside which it is given.
     #[error("source refused: OtherImage: it assembles to another image than the one given")]
