@@ -12,28 +12,33 @@ const YIELDS: u32 = 64;
 /// How many microseconds it sleeps at first. Each further sleep is longer by as much.
 const PAUSE: u64 = 100;
 
-/// The longest sleep, in these pauses.
+/// The longest sleep, in these pauses, where nothing else is said.
 const MOST_PAUSES: u32 = 50;
 
-/// After so many turns without work a sleep gets no longer.
-const MOST_TURNS: u32 = YIELDS + MOST_PAUSES - 1;
-
 /// A thread's turns without work. At first it yields its processor; after a while it sleeps, longer and longer, up to five
-/// milliseconds. So a wait that lasts costs next to no processor, and whoever sleeps looks again within five milliseconds.
+/// milliseconds or what else is said. So a wait that lasts costs next to no processor, and whoever sleeps looks again soon.
 #[derive(Drop)]
 pub struct Rest {
     turns: u32,
     /// By how many turns the next work found makes it shorter.
     relief: u32,
+    /// After so many turns without work a sleep gets no longer.
+    most: u32,
     parker: Parker,
 }
 
 impl Rest {
     /// No turn yet.
     pub fn new() -> Rest {
+        Rest::up_to(MOST_PAUSES)
+    }
+
+    /// No turn yet. The longest sleep is of so many times 100 microseconds, and of one at least.
+    pub fn up_to(pauses: u32) -> Rest {
         Rest {
             turns: 0,
             relief: 1,
+            most: YIELDS.saturating_add(pauses.max(1) - 1),
             parker: Parker::new(),
         }
     }
@@ -45,7 +50,7 @@ impl Rest {
 
     /// There was something to do, which another thread might have done too. The next rest is shorter by one turn, and by twice as
     /// many for each further time without a rest between. So a thread that comes by work only now and then sleeps on, and one that
-    /// finds work six times in a row is awake.
+    /// finds work some seven times in a row is awake.
     pub fn shorten(&mut self) {
         self.turns = self.turns.saturating_sub(self.relief);
         self.relief = self.relief.saturating_mul(2);
@@ -66,6 +71,6 @@ impl Rest {
             self.parker
                 .park_timeout(rt, Duration::from_micros(PAUSE * u64::from(pauses)));
         }
-        self.turns = self.turns.saturating_add(1).min(MOST_TURNS);
+        self.turns = self.turns.saturating_add(1).min(self.most);
     }
 }

@@ -112,7 +112,7 @@ fn first_tasks(alloc: Global, programs: &[Program]) -> Result<Vec<Task>, AllocEr
     let mut tasks = Vec::new(alloc);
     for (place, program) in programs.iter().enumerate() {
         let machine = Machine::load(alloc, &program.image)?;
-        let task = Task::new(alloc, place as u32 + 1, machine);
+        let task = Task::new(alloc, place as u32 + 1, machine)?;
         tasks.push(task)?;
     }
     Ok(tasks)

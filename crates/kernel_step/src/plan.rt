@@ -140,7 +140,8 @@ fn prepare_child(
     };
     let machine = forked_machine(alloc, machine)?;
     let trace = trace.forked(alloc)?;
-    Ok(Some(Task::made(pid, machine, trace)))
+    let child = Task::made(alloc, pid, machine, trace)?;
+    Ok(Some(child))
 }
 
 /// The machine with which a process goes on that is told this, if its reply has an image.

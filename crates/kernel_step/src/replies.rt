@@ -28,7 +28,7 @@ fn go_on(machine: &mut SharedMachine, reply: &Reply, next: Option<Machine>)
     ensures { machine.new ≡ replied machine.old reply.now }
 {
     match next {
-        Some(next) => *machine = SharedMachine::new(next),
+        Some(next) => machine.put(next),
         None => machine.reply(reply),
     }
 }

@@ -9,7 +9,7 @@ use held_output::Trace;
 use kernel_model::{Refused, Standing};
 use machine::{Machine, SharedMachine};
 use machine_model::Stop;
-use std::alloc::Global;
+use std::alloc::{AllocError, Global};
 
 /// The most instructions that a process does, and the most events of a run: 2^40.
 pub const LIMIT: u64 = 1 << 40;
@@ -45,33 +45,34 @@ impl Task {
     ghost use Rattle.kernel_step.specs.Lending.{standing_in};
 
     /// A process as it is booted.
-    pub fn new(alloc: Global, pid: u32, machine: Machine) -> Task
-        ensures pid { result.pid ≡ pid }
-        ensures machine { machine_of result ≡ machine }
-        ensures trace { result.trace ≡ nothing }
-        ensures waited { result.waited ≡ None }
-        ensures loans { result.loans ≡ 0 }
-        ensures out { out_of result ≡ None }
+    pub fn new(alloc: Global, pid: u32, machine: Machine) -> Result<Task, AllocError>
+        ensures pid { IfOk result (λ t. t.pid ≡ pid) }
+        ensures machine { IfOk result (λ t. machine_of t ≡ machine) }
+        ensures trace { IfOk result (λ t. t.trace ≡ nothing) }
+        ensures waited { IfOk result (λ t. t.waited ≡ None) }
+        ensures loans { IfOk result (λ t. t.loans ≡ 0) }
+        ensures out { IfOk result (λ t. out_of t ≡ None) }
     {
-        Task::made(pid, machine, Trace::new(alloc))
+        Task::made(alloc, pid, machine, Trace::new(alloc))
     }
 
     /// A process with this machine and this trace, which was never lent.
-    pub fn made(pid: u32, machine: Machine, trace: Trace) -> Task
-        ensures pid { result.pid ≡ pid }
-        ensures machine { machine_of result ≡ machine }
-        ensures trace { result.trace ≡ trace }
-        ensures waited { result.waited ≡ None }
-        ensures loans { result.loans ≡ 0 }
-        ensures out { out_of result ≡ None }
+    pub fn made(alloc: Global, pid: u32, machine: Machine, trace: Trace) -> Result<Task, AllocError>
+        ensures pid { IfOk result (λ t. t.pid ≡ pid) }
+        ensures machine { IfOk result (λ t. machine_of t ≡ machine) }
+        ensures trace { IfOk result (λ t. t.trace ≡ trace) }
+        ensures waited { IfOk result (λ t. t.waited ≡ None) }
+        ensures loans { IfOk result (λ t. t.loans ≡ 0) }
+        ensures out { IfOk result (λ t. out_of t ≡ None) }
     {
-        Task {
+        let machine = SharedMachine::new(alloc, machine)?;
+        Ok(Task {
             pid,
-            whereabouts: Whereabouts::Here(SharedMachine::new(machine)),
+            whereabouts: Whereabouts::Here(machine),
             trace,
             waited: None,
             loans: 0,
-        }
+        })
     }
 
     /// Its machine, or where that is out on loan, the state with which it was lent.

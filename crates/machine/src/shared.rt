@@ -25,6 +25,12 @@ pub enum Form {
 }
 
 impl Form {
+    fn is_still(&self) -> bool
+        ensures { result ≡ is_still self.now }
+    {
+        matches!(self, Form::Still(_))
+    }
+
     fn machine(&self) -> &Machine
         requires { is_there self.now ≡ true }
         ensures { result.now ≡ state_of self.now }
@@ -78,9 +84,9 @@ impl Form {
 }
 
 /// A machine that others may look at while it stands still. Before it goes on it is copied, if others still look. The copy takes no
-/// memory: `stand` takes the room for it.
+/// memory: `stand` takes the room for it. It stands in a box, since it goes from hand to hand with each loan.
 pub struct SharedMachine {
-    form: Form,
+    form: Box<Form>,
 }
 
 impl Drop for SharedMachine {
@@ -99,19 +105,25 @@ impl Model for SharedMachine {
 
     ghost use Rattle.machine.specs.Shared.{state_of, is_there};
 
-    ghost view = { λ m. state_of m.form };
+    ghost view = { λ m. state_of m.form.value };
 
-    ghost invariant = { λ m. is_there m.form ≡ true };
+    ghost invariant = { λ m. is_there m.form.value ≡ true };
 }
 
 impl SharedMachine {
-    /// A machine that nobody else looks at. Takes no memory.
-    pub fn new(machine: Machine) -> SharedMachine
-        ensures { result ≡ machine }
+    /// A machine that nobody else looks at.
+    pub fn new(alloc: Global, machine: Machine) -> Result<SharedMachine, AllocError>
+        ensures { IfOk result (λ m. m ≡ machine) }
     {
-        SharedMachine {
-            form: Form::Whole(machine),
-        }
+        let form = Box::new(alloc, Form::Whole(machine))?;
+        Ok(SharedMachine { form })
+    }
+
+    /// Another machine, that nobody else looks at, takes this one's place. Takes no memory.
+    pub fn put(&mut self, machine: Machine)
+        ensures { self.new ≡ machine }
+    {
+        *self.form = Form::Whole(machine);
     }
 
     /// The machine, as long as this one stays as it is.
@@ -128,7 +140,7 @@ impl SharedMachine {
         ensures share { IfOk result (λ m. m.value ≡ self.old) }
     {
         self.form.make_still(alloc)?;
-        match &self.form {
+        match &*self.form {
             Form::Still(still) => still.share(),
             _ => unreachable!(),
         }
@@ -138,7 +150,7 @@ impl SharedMachine {
     pub fn reuse(&mut self, old: Arc<Machine>)
         ensures { self.new ≡ self.old }
     {
-        if let Form::Whole(machine) = &mut self.form {
+        if let Form::Whole(machine) = &mut *self.form {
             machine.put_spare(pages_of(old));
         }
     }
@@ -152,13 +164,13 @@ impl SharedMachine {
         ensures limit { (result.1 ≡ Stop.Limit) ↔ (result.0 ≡ max) }
         ensures standing { result.1 ≢ Stop.Limit → stands_at self.new ≡ Some result.1 }
     {
-        if max > 0 && matches!(self.form, Form::Still(_)) {
+        if max > 0 && self.form.is_still() {
             if let Some(stop) = self.stopped() {
                 return (0, stop);
             }
         }
         self.form.make_whole();
-        match &mut self.form {
+        match &mut *self.form {
             Form::Whole(machine) => machine.run(max),
             _ => unreachable!(),
         }
@@ -180,7 +192,7 @@ impl SharedMachine {
         ensures { self.new ≡ replied self.old reply.now }
     {
         self.form.make_whole();
-        match &mut self.form {
+        match &mut *self.form {
             Form::Whole(machine) => machine.reply(reply),
             _ => unreachable!(),
         }

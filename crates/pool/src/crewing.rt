@@ -13,6 +13,9 @@ use std::sync::{Mutex, Wait};
 use std::thread;
 use std::thread::Threads;
 
+/// The longest sleep of a worker that finds nothing to do, in times of 100 microseconds. Others may be awake meanwhile.
+const MOST_PAUSES: u32 = 100;
+
 /// The pairs that no thread has taken yet, and how many were taken.
 #[derive(Drop)]
 struct Team<'x, 'p, 'b, N: Naming, G> {
@@ -194,7 +197,7 @@ fn work_on<N: Naming, G: Gate, R: Wait>(
 ) -> Option<WorkFault>
     ensures { IfNone result (IsToldOver seat.new) }
 {
-    let mut rest = Rest::new();
+    let mut rest = Rest::up_to(MOST_PAUSES);
     for _ in rt.forever() {
         if rest.is_asleep() && !seat.is_lock_free() {
             rest.take(rt);

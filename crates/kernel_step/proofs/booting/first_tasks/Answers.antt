@@ -16,15 +16,15 @@ loop-place-preserved c =
     let p : Program = c.index-programs-place.result in
     let there : slice_get c.args.programs.now c.loop-place.place ≡ Some p =
     get-there c.args.programs.now c.loop-place.place p c.loop-place-test.true c.index-programs-place.is in
-    first-more c.args.programs.now c.loop-place.tasks.items c.push.new.self.items c.loop-place.place p c.new-task.result c.loop-place.invariant there
+    first-more c.args.programs.now c.loop-place.tasks.items c.push.new.self.items c.loop-place.place p c.in_ok-task.task c.loop-place.invariant there
     (record {
-      number = c.new-task.ensures.pid;
-      machine = c.new-task.ensures.machine ∙ c.in_ok-machine.ensures.first;
-      bytes = subst (λ (s : State). HoldsBytes s.hart.memory) (sym c.new-task.ensures.machine) c.in_ok-machine.ensures.bytes;
-      trace = c.new-task.ensures.trace;
-      waited = c.new-task.ensures.waited;
-      loans = c.new-task.ensures.loans;
-      out = c.new-task.ensures.out;
+      number = c.in_ok-task.ensures.pid;
+      machine = c.in_ok-task.ensures.machine ∙ c.in_ok-machine.ensures.first;
+      bytes = subst (λ (s : State). HoldsBytes s.hart.memory) (sym c.in_ok-task.ensures.machine) c.in_ok-machine.ensures.bytes;
+      trace = c.in_ok-task.ensures.trace;
+      waited = c.in_ok-task.ensures.waited;
+      loans = c.in_ok-task.ensures.loans;
+      out = c.in_ok-task.ensures.out;
     })
     c.in_ok-push.ensures.items
 
