@@ -4,17 +4,20 @@
 #   - by build.sh, whose image `bench run` runs;
 #   - by the linker's own script, whose executable `bench image` makes an image of, and `bench run` runs;
 #   - the same with the numbers of Linux's calls, which qemu-riscv32 runs.
-# TESTS may name a folder that has the tests already. It needs the packages gcc-12-source, gcc-riscv64-unknown-elf, picolibc-riscv64-unknown-elf and qemu-user.
+# A line names each that ends otherwise, or is not built, by `build.sh` or by `image`. A table at the end has the numbers. TESTS may
+# name a folder that has the tests already. It needs the packages gcc-12-source, gcc-riscv64-unknown-elf, picolibc-riscv64-unknown-elf
+# and qemu-user.
 set -eu
 usage() {
     cat >&2 <<'END'
-usage: tools/torture.sh [--bench PROGRAM] [--sample N] [--seed S] [--levels WORDS] [--jobs J] [--keep FOLDER] [TEST..]
+usage: tools/torture.sh [--bench PROGRAM] [--sample N] [--seed S] [--levels WORDS] [--jobs J] [--keep FOLDER] [--build] [TEST..]
   --bench PROGRAM  the program, crates/bench/out/bench if it is not given
   --sample N       so many tests, picked by the seed; all if it is not given
   --seed S         which ones, 1 if it is not given
   --levels WORDS   the compiler's levels, '-O0 -O2' if they are not given
   --jobs J         how many run at a time, 2 if it is not given
   --keep FOLDER    what is built, and what qemu-riscv32 gave, stands in FOLDER; what is there already is not built again
+  --build          only builds, into the FOLDER of --keep; needs no program
   TEST             only these tests, by name, as 20000112-1 or ieee/pr30704
 
 example: tools/torture.sh --sample 300 --seed 7
@@ -42,95 +45,117 @@ examples=$here/../examples/c
 CC=${CC:-riscv64-unknown-elf-gcc}
 pico=${PICOLIBC:-/usr/lib/picolibc/riscv64-unknown-elf}
 
-# Builds a test by the linker's own script, with more flags.
+# Compiles with flags, into the current folder.
+compile() {
+    $CC -march=rv32im -mabi=ilp32 -mstrict-align -ftls-model=local-exec -isystem "$pico/include" -I "$examples" -w \
+        -ffunction-sections -fdata-sections -c "$@"
+}
+
+# Links objects by the linker's own script.
 link_stock() {
-    linked=$1 source=$2
-    shift 2
-    $CC -march=rv32im -mabi=ilp32 -mstrict-align -ftls-model=local-exec -isystem "$pico/include" -I "$examples" -w "$@" \
-        -ffunction-sections -fdata-sections -static -nostdlib -Wl,--gc-sections -Wl,--defsym=__tls_base=room_of_thread \
-        -Wl,-z,noexecstack "$examples/start.s" "$source" "$examples/picolibc.c" "$room/thread.c" \
+    linked=$1
+    shift
+    $CC -march=rv32im -mabi=ilp32 -static -nostdlib -Wl,--gc-sections -Wl,--defsym=__tls_base=room_of_thread "$@" \
         -L"$pico/lib/rv32im/ilp32" -Wl,--start-group -lm -lc -lgcc -Wl,--end-group -o "$linked"
 }
 
 # Runs an image, and leaves its output and, as a line, its status.
 run_image() {
-    if ! timeout 300 "$bench" run "$1" >"$2" 2>"$2.said"; then
+    status=0
+    timeout 300 "$bench" run "$1" >"$2" 2>"$2.said" || status=$?
+    if [ $status -eq 124 ]; then
+        echo 'no end in 300 seconds' >>"$2"
+    elif [ $status -ne 0 ]; then
         cat "$2.said" >>"$2"
-        return
+    else
+        # A status above 255 is a trap. Under qemu-riscv32 those from 250 on are taken for one too.
+        sed -n 's/^process 1 ended 2[5-9][0-9]$/trap/p; s/^process 1 //p' "$2.said" >>"$2"
     fi
-    sed -n 's/^process 1 ended /ended /p; /^process 1 [^e]/p' "$2.said" >>"$2"
 }
 
 # Builds a test with a level in a folder: by build.sh as `script`, by the linker's own script as `stock`. What it printed under
-# qemu-riscv32, and its status, is `wanted`; where a build fails its name with `.why` says why. The last file is `built`.
+# qemu-riscv32, and its status, is `wanted`; where a build fails its name with `.why` says why.
+# The folder has its name once it is whole, so that a build may be interrupted, or be made twice at a time.
 build() {
-    at=$1 test=$2 level=$3
-    source=$tests/$test.c
-    mkdir -p "$at"
-    flags=$(sed -n 's/.*{ *dg-options *{\{0,1\} *"\([^"]*\)" *}.*/\1/p; s/.*{ *dg-additional-options *"\([^"]*\)" *}.*/\1/p' "$source" | tr '\n' ' ')
+    new=$1.$$ test=$2 level=$3
+    source=$tests/$test.c sources=$source flags=''
+    mkdir -p "$new"
+    case $test in
+        # Each has its main function, and the functions that it replaces, in files of their own.
+        builtins/*)
+            sources="$source $tests/$test-lib.c $tests/builtins/lib/main.c"
+            flags='-fno-tree-dse -fno-tree-loop-distribute-patterns -fno-tracer -fno-ipa-ra -fno-inline-functions'
+            flags="$flags -Wl,--allow-multiple-definition"
+            ;;
+    esac
+    flags="$flags $(sed -n 's/.*{ *dg-options *{\{0,1\} *"\([^"]*\)" *}.*/\1/p; s/.*{ *dg-additional-options *"\([^"]*\)" *}.*/\1/p' \
+        "$source" | tr '\n' ' ')"
+    [ ! -f "$tests/$test.x" ] ||
+        flags="$flags $(sed -n '/additional_flags "\{0,1\}-f/{s/.*additional_flags//; s/"//g; p}' "$tests/$test.x")"
     # Some tests take less where they are told how large the stack is.
     ! grep -q 'dg-add-options *stack_size' "$source" || flags="$flags -DSTACK_SIZE=16384"
     # shellcheck disable=SC2086
-    if link_stock "$at/linux" "$source" $level $flags -DCALL_EXIT=93 -DCALL_WRITE=64 -DCALL_READ=63 2>"$at/linux.why"; then
+    if (cd "$new" && compile $level $flags $sources &&
+        link_stock linux $flags -Wl,-z,execstack ./*.o "$room/linux$level"/*.o) 2>"$new/linux.why"; then
         status=0
-        timeout 120 qemu-riscv32 "$at/linux" >"$at/wanted" 2>/dev/null || status=$?
+        (cd "$new" && timeout 120 qemu-riscv32 ./linux >wanted 2>/dev/null) || status=$?
         # A signal is a trap; 124 is the end of patience.
         if [ $status -ge 128 ] && [ $status -ne 134 ]; then
-            echo trap >>"$at/wanted"
+            echo trap >>"$new/wanted"
         else
-            echo "ended $status" >>"$at/wanted"
+            echo "ended $status" >>"$new/wanted"
         fi
-        CC=$CC "$examples/build.sh" --picolibc -w $level $flags "$source" -lm "$at/script" >"$at/script.why" 2>&1 || rm -f "$at/script"
-        link_stock "$at/stock" "$source" $level $flags >"$at/stock.why" 2>&1 || rm -f "$at/stock"
+        CC=$CC "$examples/build.sh" --picolibc -w $level $flags $sources -lm "$new/script" >"$new/script.why" 2>&1 || rm -f "$new/script"
+        link_stock "$new/stock" $flags -Wl,-z,noexecstack "$new"/*.o "$room/stock$level"/*.o >"$new/stock.why" 2>&1 || rm -f "$new/stock"
     fi
-    rm -f "$at/linux"
-    : >"$at/built"
+    rm -f "$new/linux" "$new"/*.o
+    mv -T "$new" "$1" 2>/dev/null || rm -rf "$new"
 }
 
 # Why a build failed.
 why_not() {
-    grep -m1 -E 'error|undefined|pages' "$1" || head -n1 "$1"
+    # The first such line, without the path before the name of a file.
+    sed -n '/error\|undefined\|pages/ { s|^[^ ]*/||; p; q }' "$1" | grep . || head -n1 "$1"
 }
 
 # Runs what was built by a way, and prints why that is otherwise than under qemu-riscv32.
 judge() {
-    at=$1 way=$2 image=$1/script
-    if [ ! -f "$at/$way" ]; then
-        echo "$way not built: $(why_not "$at/$way.why")"
-        return
-    fi
+    way=$1 image=$at/script
     if [ "$way" = stock ]; then
         image=$room_of_run/image
         if ! "$bench" image "$at/stock" "$image" >"$room_of_run/why" 2>&1; then
-            echo "stock refused: $(head -n1 "$room_of_run/why")"
+            echo "refused: $(head -n1 "$room_of_run/why")"
             return
         fi
     fi
     came=$room_of_run/came
     run_image "$image" "$came"
-    sed -i 's/^ended 2[5-9][0-9]$/trap/' "$came"
-    cmp -s "$came" "$at/wanted" || echo "$way differs: $(tail -n1 "$came" | cut -c1-60), wanted $(tail -n1 "$at/wanted" | cut -c1-60)"
+    cmp -s "$came" "$at/wanted" || echo "differs: $(tail -n1 "$came" | cut -c1-60), wanted $(tail -n1 "$at/wanted" | cut -c1-60)"
 }
 
-# What a test with a level comes to, as one line: its verdict, its name, its level.
+# What a test with a level comes to, as a line for each way: its verdict, the level, the way, its name.
 one() {
     test=$1 level=$2
     at=$keep/$test$level
-    [ -f "$at/built" ] || build "$at" "$test" "$level"
-    if [ ! -f "$at/wanted" ]; then
-        echo "unbuilt $test $level: $(why_not "$at/linux.why")"
-        return
-    fi
+    [ -d "$at" ] || build "$at" "$test" "$level"
     room_of_run=$(mktemp -d "$room/run.XXXXXX")
-    verdict=$(judge "$at" script)
-    [ -n "$verdict" ] || verdict=$(judge "$at" stock)
-    if [ -z "$verdict" ]; then
-        echo "same $test $level"
-    elif why=$(reason_for "$test" "$verdict"); then
-        echo "excepted $test $level: $verdict ($why)"
-    else
-        echo "OTHERWISE $test $level: $verdict"
-    fi
+    for way in script stock; do
+        if [ ! -f "$at/wanted" ]; then
+            word=unbuilt verdict="not built for qemu either: $(why_not "$at/linux.why")"
+        elif [ ! -f "$at/$way" ]; then
+            word=unbuilt verdict="not built: $(why_not "$at/$way.why")"
+        elif [ -z "$bench" ]; then
+            word=built verdict=
+        else
+            word=OTHERWISE verdict=$(judge $way)
+            [ -n "$verdict" ] || word=same
+        fi
+        if [ -n "$verdict" ] && [ -f "$at/wanted" ] && why=$(reason_for "$test" "$verdict"); then
+            word=excepted verdict="$verdict ($why)"
+        fi
+        [ $way = script ] && by=build.sh || by=image
+        echo "$word $level $by $test${verdict:+: $verdict}"
+    done
     rm -rf "$room_of_run"
     [ "$keep" != "$room/built" ] || rm -rf "$at"
 }
@@ -141,7 +166,7 @@ if [ "${1-}" = --one ]; then
     exit
 fi
 
-bench=$here/../crates/bench/out/bench sample=0 seed=1 levels='-O0 -O2' jobs=2 keep= names=
+bench=$here/../crates/bench/out/bench sample=0 seed=1 levels='-O0 -O2' jobs=2 keep='' names=''
 while [ $# -gt 0 ]; do
     case $1 in
         --bench) bench=${2:?} && shift 2 ;;
@@ -150,12 +175,17 @@ while [ $# -gt 0 ]; do
         --levels) levels=${2:?} && shift 2 ;;
         --jobs) jobs=${2:?} && shift 2 ;;
         --keep) keep=${2:?} && shift 2 ;;
+        --build) bench='' && shift ;;
         -*) usage ;;
         *) names="$names $1" && shift ;;
     esac
 done
-bench=$(readlink -f "$bench")
-[ -x "$bench" ] || { echo "torture.sh: no program at $bench: build it by ./bench, or give --bench" >&2; exit 1; }
+if [ -n "$bench" ]; then
+    bench=$(readlink -f "$bench")
+    [ -x "$bench" ] || { echo "torture.sh: no program at $bench: build it by ./bench, or give --bench" >&2; exit 1; }
+elif [ -z "$keep" ]; then
+    usage
+fi
 room=$(mktemp -d)
 trap 'rm -rf "$room"' EXIT
 keep=${keep:-$room/built}
@@ -165,27 +195,67 @@ tests=${TESTS:-}
 if [ -z "$tests" ]; then
     archive=$(ls /usr/src/gcc-12/gcc-12*.tar.xz 2>/dev/null | head -n 1)
     [ -n "$archive" ] || { echo 'torture.sh: the package gcc-12-source is not there' >&2; exit 1; }
-    tar -xf "$archive" -C "$room" --wildcards '*/gcc.c-torture/execute/*.[ch]'
+    tar -xf "$archive" -C "$room" --wildcards '*/gcc.c-torture/execute/*.[chx]'
     tests=$(echo "$room"/*/gcc/testsuite/gcc.c-torture/execute)
 fi
+tests=$(readlink -f "$tests")
 # Room for the data of the one thread, which the linker's own script does not give.
 echo 'char room_of_thread[1024] __attribute__((aligned(16)));' >"$room/thread.c"
+# Files by the calls of Linux, for qemu-riscv32.
+cat >"$room/linux.c" <<'END'
+#include <errno.h>
+#include <fcntl.h>
+#include <unistd.h>
+#define WEAK __attribute__((weak))
+static int ask(int number, int first, int second, int third, int fourth, int fifth)
+{
+    register int a0 __asm__("a0") = first, a1 __asm__("a1") = second, a2 __asm__("a2") = third;
+    register int a3 __asm__("a3") = fourth, a4 __asm__("a4") = fifth, a7 __asm__("a7") = number;
+    __asm__ volatile("ecall" : "+r"(a0) : "r"(a1), "r"(a2), "r"(a3), "r"(a4), "r"(a7) : "memory");
+    return a0 < 0 ? (errno = -a0, -1) : a0;
+}
+WEAK int open(const char *name, int flags, ...) { return ask(56, -100, (int)name, flags, 0600, 0); }
+WEAK int close(int descriptor) { return ask(57, descriptor, 0, 0, 0, 0); }
+WEAK int unlink(const char *name) { return ask(35, -100, (int)name, 0, 0, 0); }
+WEAK off_t lseek(int descriptor, off_t offset, int whence)
+{
+    long long place;
+    return ask(62, descriptor, offset >> 31, offset, (int)&place, whence) < 0 ? -1 : place;
+}
+END
+for level in $levels; do
+    mkdir "$room/stock$level" "$room/linux$level"
+    (cd "$room/stock$level" && compile "$level" "$examples/start.s" "$examples/picolibc.c" "$room/thread.c")
+    (cd "$room/linux$level" && compile "$level" -DCALL_EXIT=93 -DCALL_WRITE=64 -DCALL_READ=63 \
+        "$examples/start.s" "$examples/picolibc.c" "$room/thread.c" "$room/linux.c")
+done
 if [ -n "$names" ]; then
+    # shellcheck disable=SC2086
     printf '%s\n' $names
 else
     # Of all tests in an order that the seed gives the first ones.
-    (cd "$tests" && ls -- *.c ieee/*.c) | sed 's/\.c$//' | awk -v seed="$seed" 'BEGIN { srand(seed) } { print rand() "\t" $0 }' | sort -g | cut -f 2
+    (cd "$tests" && ls -- *.c ieee/*.c builtins/*.c) | sed '/^builtins\/.*-lib\.c$/d; s/\.c$//' |
+        awk -v seed="$seed" 'BEGIN { srand(seed) } { print rand() "\t" $0 }' | sort -g | cut -f 2
 fi | if [ "$sample" -gt 0 ]; then head -n "$sample"; else cat; fi >"$room/names"
 while read -r name; do
     for level in $levels; do
         printf '%s\n%s\n' "$name" "$level"
     done
 done <"$room/names" >"$room/pairs"
-xargs -d '\n' -n 2 -P "$jobs" "$here/torture.sh" --one "$tests" "$room" "$bench" "$keep" <"$room/pairs" >"$room/lines"
-grep -E '^(excepted|OTHERWISE)' "$room/lines" | sort || true
-grep '^unbuilt' "$room/lines" | sort || true
-awk '{ n[$1]++ } END {
-    printf "%d runs as under qemu-riscv32, from a script and from the linker'\''s own; %d excepted, %d otherwise, %d not built for either\n",
-        n["same"], n["excepted"], n["OTHERWISE"], n["unbuilt"]
-    exit n["OTHERWISE"] > 0
+xargs -d '\n' -n 2 -P "$jobs" "$here/torture.sh" --one "$tests" "$room" "$bench" "$keep" <"$room/pairs" |
+    tee "$room/lines" | grep -v -E '^(same|built) ' || true
+# Of each pair two ways, and so a line for each line there.
+[ "$(wc -l <"$room/lines")" -eq "$(wc -l <"$room/pairs")" ] || { echo 'torture.sh: some tests came to no verdict' >&2; exit 1; }
+awk -v levels="$levels" -v first="$([ -n "$bench" ] && echo same || echo built)" '{ n[$2 " " $3 " " $1]++ } END {
+    printf "%-5s %-8s %6s %8s %9s %9s\n", "level", "by", first, "excepted", "otherwise", "not built"
+    of = split(levels, level, " ")
+    split("build.sh image", by, " ")
+    for (i = 1; i <= of; i++)
+        for (j = 1; j <= 2; j++) {
+            key = level[i] " " by[j] " "
+            printf "%-5s %-8s %6d %8d %9d %9d\n", level[i], by[j], n[key first], n[key "excepted"], n[key "OTHERWISE"],
+                n[key "unbuilt"]
+            otherwise += n[key "OTHERWISE"]
+        }
+    exit otherwise > 0
 }' "$room/lines"
