@@ -57,6 +57,7 @@ COMMANDS_OF_DEBUG = b"step 3\nstate\nbreak 00010018\nrun\nrewind 2\nrun\nclear 0
 LONG_DEBUG = b"step 3000\nrewind 1500\nbreak 00010010\nrun\nstate\nrun\nquit\n"
 
 
+
 def packets(*texts):
     """Returns packets of gdb's protocol with these texts."""
     return b"".join(b"$%s#%02x" % (text, sum(text) % 256) for text in texts)
@@ -75,6 +76,8 @@ PACKETS = packets(
 )
 PACKETS_OF_A_LONG_RUN = packets(b"QStartNoAckMode", b"c", b"Z0,10014,4", b"bc", b"bc", b"Z2,11000,4", b"bc", monitor(b"calls"), b"k")
 PACKETS_THAT_KEEP = packets(b"c", monitor(b"keep"), monitor(b"files"), b"k")
+# What gdb prints where the disk is kept, and where it cannot be: the session then goes on.
+KEPT, NOT_KEPT = (packets(b"O" + line.hex().encode()) for line in (b"the disk is kept\n", b"the disk cannot be kept in its file\n"))
 
 # A name, the status without a refusal, the words, and the input.
 COMMANDS = [
@@ -239,6 +242,9 @@ class Sweep:
         (status_wanted, out_wanted, err_wanted), (changed_wanted, gone_wanted) = wanted[:2]
         if is_run:
             err, err_wanted = sorted(err.splitlines()), sorted(err_wanted.splitlines())
+        if self.end == HOST:
+            # The file of a lock stays where it cannot be removed.
+            changed = {name: content for name, content in changed.items() if not name.endswith(".lck")}
         return (
             (status, out, err, gone) == (status_wanted, out_wanted, err_wanted, gone_wanted)
             and changed.keys() == changed_wanted.keys()
@@ -250,15 +256,18 @@ class Sweep:
         (status, out, err), (changed, gone) = found[:2]
         (status_wanted, out_wanted, err_wanted), (changed_wanted, _) = wanted[:2]
         status_of_end, line = self.end
-        if status not in (status_of_end, status_wanted) or gone or not out_wanted.startswith(out):
+        is_told = out != out_wanted and out == out_wanted.replace(KEPT, NOT_KEPT)
+        if status not in (status_of_end, status_wanted) or gone or not (is_told or out_wanted.startswith(out)):
             return False
         torn = [name for name in changed if name not in changed_wanted or self.list_of(changed_wanted[name]) != self.list_of(changed[name])]
+        if is_told:
+            return status == status_wanted and err == err_wanted and all(self.end == HOST and name.endswith((".new", ".lck")) for name in torn)
         if status == status_wanted:
             # A fault that came first keeps its status, where it cannot be told, or the output cannot go out.
             return self.end == HOST and status != 0 and not torn and set(err.splitlines()) <= set(err_wanted.splitlines())
         if self.end == HOST:
             # A host that fails may cut short what is said, the image of `asm`, and the new file beside a disk.
-            return not is_run or all(name.endswith(".new") for name in torn)
+            return not is_run or all(name.endswith((".new", ".lck")) for name in torn)
         return not torn and (err.endswith(line) if is_run else err == line)
 
     def kind_of_command(self, found, wanted, is_run):
@@ -321,6 +330,7 @@ def files_of_commands(bench):
             files[name] = read(f"{DATA}/examples/{name}")
     with tempfile.TemporaryDirectory() as folder:
         for name, content in files.items():
+            os.makedirs(os.path.dirname(f"{folder}/{name}"), exist_ok=True)
             with open(f"{folder}/{name}", "wb") as file:
                 file.write(content)
         made = [["asm", source, image] for image, source in IMAGES.items()] + [["run", "--disk", "kept", "first"]]
