@@ -99,7 +99,8 @@ impl Part {
     /// Whether word n is here.
     #[inline]
     pub fn has(&self, n: u32) -> bool
-        ensures { result ≡ has_word self.now n }
+        ensures answer { result ≡ has_word self.now n }
+        ensures low { IsTrue result → n < 2 ^ 30 }
     {
         (n.wrapping_sub(self.first) as usize) < self.words.len()
     }
@@ -109,6 +110,7 @@ impl Part {
     pub fn word(&self, n: u32) -> Option<&[u8; 4]>
         ensures here { IfSome result (λ w. has_word self.now n ≡ true) }
         ensures bytes { IfSome result (λ w. w.now ≡ bytes_of self.now n) }
+        ensures low { IfSome result (λ w. n < 2 ^ 30) }
         ensures missing { IfNone result (has_word self.now n ≡ false) }
     {
         let k = n.wrapping_sub(self.first) as usize;
@@ -174,15 +176,16 @@ impl Part {
         Ok(read_word(&self.words[k], 0, Width::Word))
     }
 
-    /// Puts the low bytes of a value at an address that is a multiple of the width.
+    /// Puts the low bytes of a value at an address that is a multiple of the width, in word n.
     #[inline]
-    pub fn store(&mut self, at: u32, width: Width, value: u32)
+    pub fn store(&mut self, n: u32, at: u32, width: Width, value: u32)
         requires aligned { at % size width ≡ 0 }
+        requires number { n ≡ at / 4 }
         requires here { has_word self.old (at / 4) ≡ true }
         ensures pages { self.new ≡ with_bytes self.old at (low_bytes (size width) value) }
         ensures four { length (bytes_of self.old (at / 4)) ≡ 4 }
     {
-        let k = (at / 4 - self.first) as usize;
+        let k = (n - self.first) as usize;
         write_word(&mut self.words[k], at % 4, width, value);
     }
 
@@ -260,6 +263,20 @@ pub fn is_aligned(at: u32, width: Width) -> bool
         Width::Byte => true,
         Width::Half => at % 2 == 0,
         Width::Word => at % 4 == 0,
+    }
+}
+
+/// The number of the word at an address that is a multiple of the width. At any other address a number that no run has: the low
+/// bits of the address stand above the 30 bits of a word's number.
+#[inline]
+pub fn word_number(at: u32, width: Width) -> u32
+    ensures aligned { result < 2 ^ 30 → at % size width ≡ 0 }
+    ensures number { at % size width ≡ 0 → result ≡ at / 4 }
+{
+    match width {
+        Width::Byte => at / 4,
+        Width::Half => at / 4 + at % 2 * WORDS,
+        Width::Word => at / 4 + at % 4 * WORDS,
     }
 }
 

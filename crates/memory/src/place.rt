@@ -1,5 +1,5 @@
 //! Which run has a word; the first that has it decides.
-ghost use Rattle.std.specs.Prelude.{◌≡◌, ℕ, ◌<◌, ◌≤◌, Option, IfSome, Some, map, option_map, position, true};
+ghost use Rattle.std.specs.Prelude.{◌≡◌, ℕ, ◌^◌, ◌<◌, ◌≤◌, Option, IfSome, Some, map, option_map, position, true};
 ghost use Rattle.memory.specs.Words.{IsReadable};
 ghost use Rattle.memory.specs.Pages.{HaveBoth, has_word, word_in, words_of};
 
@@ -72,7 +72,8 @@ pub fn part_of<'a>(own: &'a OwnParts, shared: &'a [Arc<Part>], n: u32) -> Option
 /// runs, the first shared one.
 #[inline]
 pub fn word_near<'a>(own: &'a OwnParts, shared: &'a [Arc<Part>], n: u32) -> Option<&'a [u8; 4]>
-    ensures { IfSome result (λ w. IsReadable (words_of own.now (map (λ a. a.value) shared.now) n) w.now) }
+    ensures here { IfSome result (λ w. IsReadable (words_of own.now (map (λ a. a.value) shared.now) n) w.now) }
+    ensures low { IfSome result (λ w. n < 2 ^ 30) }
 {
     if let Some(word) = own.word_near(n) {
         return Some(word);

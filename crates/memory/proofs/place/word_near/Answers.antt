@@ -9,8 +9,8 @@ readable : (w : Option Word) (p : Pages) (n : ℕ) (r : Option (Bor (List ℕ)))
 readable w p n None may found here is = tt
 readable w p n (Some b) may found here is = subst (λ o. IsReadable o b.now) (sym (found here)) (may, sym is)
 
-pub returns-in-len1-up : goal.returns-in-len1-up
-returns-in-len1-up c =
+pub returns-in-len1-up-clause-here : goal.returns-in-len1-up-clause-here
+returns-in-len1-up-clause-here c =
     let p : Pages = c.deref-in-len1-up.result.now in
     let item : p ≡ c.part-item.result.value = c.deref-in-len1-up.ensures in
     let rest : Option Word = word_among false (map (λ a. a.value) c.args.shared.now) None c.args.n in
