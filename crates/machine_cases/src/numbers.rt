@@ -24,12 +24,25 @@ impl Numbers {
         state
     }
 
-    /// The word of one of these patterns with its free bits at random.
+    /// One of these.
+    pub fn choose<T: Copy>(&mut self, from: &[T]) -> T
+        requires { 0 < length from.now }
+    {
+        let chosen = self.next() as usize % from.len();
+        from[chosen]
+    }
+
+    /// The word of a pattern with its free bits at random.
+    pub fn filled(&mut self, pattern: (u32, u32)) -> u32 {
+        let (fixed, free) = pattern;
+        fixed ^ self.next() & free
+    }
+
+    /// The word of one of these patterns.
     pub fn word(&mut self, patterns: &[(u32, u32)]) -> u32
         requires { 0 < length patterns.now }
     {
-        let chosen = self.next() as usize % patterns.len();
-        let (fixed, free) = patterns[chosen];
-        fixed ^ self.next() & free
+        let pattern = self.choose(patterns);
+        self.filled(pattern)
     }
 }

@@ -1,5 +1,5 @@
-//! Random programs, rich in words that make sequences (superinstructions). They jump to near words, also into the middle of a
-//! sequence. Their accesses pass the end of a page, are not aligned, or are forbidden.
+//! Random programs, half of them made of whole sequences (superinstructions). They jump to near words, also into the middle of a
+//! sequence and past the program's end. Their accesses pass the end of a page, are not aligned, or are forbidden.
 use crate::limits::check_each;
 use crate::numbers::Numbers;
 use crate::replies::Calls;
@@ -10,7 +10,7 @@ use std::alloc::{AllocError, Global};
 /// How many programs are tried.
 const PROGRAMS: u32 = 2_000;
 
-/// How many words a program has after its first ones.
+/// The most words, or sequences of words, that a program has after its first ones.
 const WORDS: u32 = 40;
 
 /// The most instructions that a program does here.
@@ -102,20 +102,130 @@ const PATTERNS: &[(u32, u32)] = &[
     (0x0000_0073, 0x0000_0000),
 ];
 
-fn program(alloc: Global, numbers: &mut Numbers) -> Result<Vec<u32>, AllocError> {
+/// Words in a row that the machine's loop does as one operation, by the numbers of their patterns. A number that no pattern has stands
+/// for no word.
+const SEQUENCES: &[[u8; 4]] = &[
+    [0, 0, 255, 255],
+    [38, 10, 10, 45],
+    [29, 0, 255, 255],
+    [7, 10, 255, 255],
+    [17, 10, 41, 255],
+    [0, 41, 255, 255],
+    [29, 29, 255, 255],
+    [0, 10, 255, 255],
+    [10, 0, 16, 2],
+    [7, 10, 29, 255],
+    [35, 35, 255, 255],
+    [31, 31, 0, 0],
+    [0, 39, 29, 46],
+    [10, 41, 255, 255],
+    [0, 13, 17, 41],
+    [32, 0, 0, 39],
+    [29, 29, 0, 0],
+    [32, 41, 0, 0],
+    [0, 2, 255, 255],
+    [0, 17, 9, 12],
+    [29, 0, 0, 0],
+    [7, 0, 10, 255],
+    [0, 0, 0, 255],
+    [7, 0, 42, 255],
+    [10, 10, 255, 255],
+    [12, 42, 255, 255],
+    [0, 29, 255, 255],
+    [35, 0, 255, 255],
+    [32, 39, 0, 0],
+    [38, 0, 41, 255],
+    [14, 41, 255, 255],
+    [10, 29, 0, 12],
+    [7, 8, 255, 255],
+    [0, 43, 255, 255],
+    [7, 10, 7, 7],
+    [18, 10, 18, 41],
+    [0, 35, 255, 255],
+    [7, 10, 29, 49],
+    [7, 10, 29, 41],
+    [29, 0, 42, 29],
+    [0, 18, 0, 41],
+    [35, 35, 42, 0],
+    [18, 0, 38, 41],
+    [32, 41, 255, 255],
+    [0, 13, 8, 39],
+    [0, 2, 39, 255],
+    [10, 29, 255, 255],
+    [35, 35, 35, 35],
+    [17, 0, 10, 8],
+    [29, 29, 29, 29],
+    [0, 39, 255, 255],
+    [10, 10, 29, 29],
+    [45, 35, 0, 42],
+    [7, 10, 0, 29],
+    [29, 39, 255, 255],
+    [35, 0, 0, 0],
+    [7, 8, 14, 255],
+    [7, 0, 10, 40],
+    [2, 7, 0, 10],
+    [29, 0, 49, 255],
+    [10, 35, 255, 255],
+    [39, 29, 0, 255],
+    [35, 35, 0, 0],
+    [10, 29, 29, 255],
+    [10, 41, 0, 41],
+    [32, 0, 0, 255],
+    [29, 0, 39, 255],
+    [0, 29, 0, 49],
+    [0, 7, 10, 255],
+    [0, 40, 255, 255],
+    [29, 0, 0, 255],
+    [0, 0, 41, 255],
+    [32, 39, 255, 255],
+    [10, 10, 41, 255],
+    [0, 0, 10, 255],
+    [29, 41, 255, 255],
+    [32, 41, 0, 255],
+    [0, 46, 255, 255],
+    [42, 0, 0, 0],
+    [7, 10, 29, 39],
+    [39, 0, 0, 255],
+    [10, 45, 255, 255],
+    [2, 10, 255, 255],
+    [0, 35, 35, 35],
+    [10, 0, 255, 255],
+    [10, 29, 41, 255],
+    [10, 7, 10, 255],
+    [29, 0, 17, 255],
+    [29, 29, 0, 10],
+    [38, 0, 255, 255],
+];
+
+/// The program of a seed. Every second one is made of whole sequences.
+fn program(alloc: Global, seed: u32) -> Result<Vec<u32>, AllocError> {
+    let mut numbers = Numbers::new(seed);
     let mut words = Vec::from_slice(alloc, &START)?;
-    for _ in 0..WORDS {
-        words.push(numbers.word(PATTERNS))?;
+    for _ in 0..1 + seed % WORDS {
+        if seed % 2 == 0 {
+            words.push(numbers.word(PATTERNS))?;
+        } else {
+            add_sequence(&mut words, &mut numbers)?;
+        }
     }
     Ok(words)
+}
+
+/// Adds the words of a sequence.
+fn add_sequence(words: &mut Vec<u32>, numbers: &mut Numbers) -> Result<(), AllocError> {
+    for number in numbers.choose(SEQUENCES) {
+        if let Some(pattern) = PATTERNS.get(usize::from(number)) {
+            words.push(numbers.filled(*pattern))?;
+        }
+    }
+    Ok(())
 }
 
 /// Runs each program to each limit. Says how many limits there were.
 fn check_programs(alloc: Global) -> Result<u64, Error> {
     let mut count = 0u64;
     for seed in 1..PROGRAMS + 1 {
-        let mut numbers = Numbers::new(seed);
-        let words = program(alloc, &mut numbers)?;
+        let words = program(alloc, seed)?;
         if words.is_empty() || words.len() > 61_440 {
             continue;
         }
