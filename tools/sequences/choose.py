@@ -3,7 +3,7 @@
 
     choose.py LONGEST HOW_MANY FILE..     each FILE holds what count.c printed of one program
 
-An operation costs the loop one turn, whether it does one word or three. So the sequence that saves the most turns is taken
+An operation costs the loop one turn, whether it does one word or four. So the sequence that saves the most turns is taken
 first, then the one that saves the most beside it, and so on. Every program counts the same, however long it runs.
 Prints for each sequence the turns that it saves, in thousandths of a program's instructions (the mean over the
 programs), and the turns that are left for one instruction; at the end those for each program.
