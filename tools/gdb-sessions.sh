@@ -37,11 +37,11 @@ trap 'rm -rf "$work"' EXIT
 cd "$work"
 
 # The sources, the files of symbols and the images. A source in C is linked by the linker's own script.
-cp "$examples/stars.s" "$examples/letters.s" "$examples/../endless.s" "$here/gdb_sessions/line.c" .
+cp "$examples/stars.s" "$examples/letters.s" "$here/gdb_sessions/line.c" .
 cp "$examples"/c/*.h "$examples/c/start.s" "$examples/c/library.c" .
 echo a >tape
 ln -s "$bench" bench
-for name in stars letters endless; do
+for name in stars letters; do
     ./bench symbols "$name.s" "$name.elf" >said
     ./bench asm "$name.s" "$name.image" >said
 done
@@ -73,6 +73,6 @@ for name in stars line letters; do
     fi
 done
 if [ "$streams" -gt 0 ]; then
-    python3 "$here/gdb-streams.py" --bench ./bench --streams "$streams" --seed "$seed" stars.image endless.image letters.image || failed=1
+    python3 "$here/gdb-streams.py" --bench ./bench --streams "$streams" --seed "$seed" || failed=1
 fi
 exit $failed

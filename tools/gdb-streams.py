@@ -15,6 +15,10 @@ import sys
 import tempfile
 import threading
 
+DATA = f"{os.path.dirname(os.path.realpath(__file__))}/../crates/test_runner/data"
+# The programs, by their images, of which the last makes a second process.
+SOURCES = {"stars": "examples/stars.s", "endless": "endless.s", "letters": "examples/letters.s"}
+IMAGES = tuple(SOURCES)
 SECONDS = 60
 PACKETS = [
     "qSupported:multiprocess+;swbreak+", "QStartNoAckMode", "qXfer:features:read:target.xml:0,ffb", "qXfer:exec-file:read::0,fff",
@@ -177,18 +181,17 @@ def main():
     words.add_argument("--seed", type=int, default=1)
     words.add_argument("--jobs", type=int, default=2)
     words.add_argument("--memory", type=int, default=128)
-    words.add_argument("images", nargs="+", help="the images of the programs, of which the last makes a second process")
     words = words.parse_args()
-    by_hand = [(more, sent, image) for more, sent in edges() for image in words.images]
+    by_hand = [(more, sent, image) for more, sent in edges() for image in IMAGES]
 
     def one(number, folder):
         """Runs one stream. Those by hand have the numbers below 0."""
         chance = random.Random(f"{words.seed} {number}")
-        more, sent, image = by_hand[number] if number < 0 else ((), stream(chance), chance.choice(words.images))
+        more, sent, image = by_hand[number] if number < 0 else ((), stream(chance), chance.choice(IMAGES))
         if "--process" in more:
-            image = words.images[-1]
+            image = IMAGES[-1]
         more = [f"{folder}/{number}" if word == "kept" else word for word in more]
-        gdb = [words.bench, "gdb", "--history", str(chance.randint(1, 4)), *more, image]
+        gdb = [words.bench, "gdb", "--history", str(chance.randint(1, 4)), *more, f"{folder}/{image}"]
         fault, peak = run(gdb, sent, chance, words.memory, f"{folder}/{number}.size")
         if fault:
             print(f"stream {number}, {' '.join(gdb)[:200]}, {len(sent)} bytes, {sent[:1000]!r}: {fault}", file=sys.stderr)
@@ -196,6 +199,8 @@ def main():
 
     numbers = range(-len(by_hand), words.streams)
     with tempfile.TemporaryDirectory() as folder, concurrent.futures.ThreadPoolExecutor(words.jobs) as pool:
+        for image, source in SOURCES.items():
+            subprocess.run([words.bench, "asm", f"{DATA}/{source}", f"{folder}/{image}"], stdout=subprocess.DEVNULL, check=True)
         found = list(pool.map(lambda number: one(number, folder), numbers))
     wrong = sum(is_wrong for is_wrong, _ in found)
     peaks = [peak for _, peak in found]

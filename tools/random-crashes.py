@@ -1,7 +1,7 @@
 #!/usr/bin/env python3
 """Compares `bench crashes` with `bench replay` on random scripts.
 
-    random-crashes.py [RUNS] [SEED]
+    random-crashes.py [RUNS] [SEED] [JOBS]
 
 A script (2,000 where no number is given) has one or two programs, which make, write, empty, rename and remove files, and lines that
 cut groups, complete writes or let them fail, drain, and crash. For each crash that `bench crashes` tries, `bench replay` runs the
@@ -378,8 +378,9 @@ def difference(seed):
 def main():
     runs = int(sys.argv[1]) if len(sys.argv) > 1 else 2000
     first = int(sys.argv[2]) if len(sys.argv) > 2 else 1
+    jobs = int(sys.argv[3]) if len(sys.argv) > 3 else os.cpu_count()
     crashes = 0
-    with concurrent.futures.ThreadPoolExecutor(os.cpu_count()) as pool:
+    with concurrent.futures.ThreadPoolExecutor(jobs) as pool:
         for seed, (count, lines, wanted, came) in zip(range(first, first + runs), pool.map(difference, range(first, first + runs))):
             if lines is not None:
                 print(f"script {seed}:", *lines, "wanted:", *wanted, "came:", *came, sep="\n")
