@@ -73,11 +73,15 @@ PARTS = {
         "the edits of the second tier, over the proofs that are kept", "python3 tools/mutants.py {lanes}", ("the toolchain's command rt",),
         says=r"in all +(\d+) +\d+ +(\d+) +(\d+) +(\d+) ",
     ),
-    "cones": Part("random histories, by --cone and by a model", "python3 tools/random-cones.py --first {seed} --lanes {jobs} {count}", (), 200),
+    "cones": Part(
+        "random histories, by --cone and by a model", "python3 tools/random-cones.py --first {seed} --lanes {jobs} {count}", (), 200
+    ),
     "crashes": Part("random scripts, by crashes, replay and a model", "python3 tools/random-crashes.py {count} {seed} {jobs}", (), 50),
     "many-runs": Part("each example again and again, by 1 to 16 workers", "tools/many-runs.sh {count}", (), 16),
     "killed-runs": Part("runs that are killed, and the disk after each", "tools/killed-runs.sh {count}", (), 20),
-    "killed-durable-runs": Part("the same with --durable, and a disk that fails", "python3 tools/killed-durable-runs.py {count} {seed}", (), 30),
+    "killed-durable-runs": Part(
+        "the same with --durable, and a disk that fails", "python3 tools/killed-durable-runs.py {count} {seed}", (), 30
+    ),
     "growths": Part(
         "every growth of memory refused, one in each run",
         "python3 tools/refused-growths.py --bench {bench} --test-runner {test_runner} --processes {jobs}", ("gcc",), says=REFUSED,
@@ -183,7 +187,8 @@ class Tests:
         wanted = [] if tools or name in ALONE else [it for it in self.programs if it == "bench" or f"{{{it}}}" in part.command]
         if wanted and "BENCH" not in os.environ and not self.is_built():
             return tools, ["a program that ./bench builds"]
-        return tools, [f"a program at {self.programs[it]}, where the merge gate leaves it" for it in wanted if not os.access(self.programs[it], os.X_OK)]
+        lacking = [self.programs[it] for it in wanted if not os.access(self.programs[it], os.X_OK)]
+        return tools, [f"a program at {it}, where the merge gate leaves it" for it in lacking]
 
     def round(self, result, count):
         """Runs a round of a part, and adds what came of it. Returns whether it was well."""
