@@ -40,10 +40,9 @@ class Differs(Exception):
 
 
 class Bench:
-    def __init__(self):
+    def __init__(self, room):
         self.program = os.environ["BENCH"]
-        self.folder = tempfile.mkdtemp(prefix="cones-", dir="/dev/shm" if os.path.isdir("/dev/shm") else None)
-        self.script = f"{self.folder}/script"
+        self.script = f"{tempfile.mkdtemp(dir=room)}/script"
 
     def run(self, lines, *words):
         """The lines that the program prints of a script, its status, and what it says."""
@@ -186,16 +185,14 @@ def compare_history(bench, seed, cones):
 
 
 def compare_histories(task):
-    first, count, cones = task
-    bench, counts = Bench(), Counter()
+    first, count, cones, room = task
+    bench, counts = Bench(room), Counter()
     for seed in range(first, first + count):
         try:
             counts += compare_history(bench, seed, cones)
         except Differs as why:
             history = History(seed)
             return counts, f"seed {seed}: {why}\n" + "\n".join(history.setup + history.lines)
-    os.remove(bench.script)
-    os.rmdir(bench.folder)
     return counts, None
 
 
@@ -207,15 +204,16 @@ def main():
     words.add_argument("--lanes", type=int, default=1, metavar="L", help="how many side by side, 1 without it")
     given = words.parse_args()
     step = 20
-    tasks = [(given.first + k, min(step, given.count - k), given.cones) for k in range(0, given.count, step)]
     counts = Counter()
-    with multiprocessing.Pool(given.lanes) as pool:
-        for some, fault in pool.imap_unordered(compare_histories, tasks):
-            counts += some
-            if fault:
-                pool.terminate()
-                print(fault)
-                sys.exit(1)
+    with tempfile.TemporaryDirectory(prefix="cones-", dir="/dev/shm" if os.path.isdir("/dev/shm") else None) as room:
+        tasks = [(given.first + k, min(step, given.count - k), given.cones, room) for k in range(0, given.count, step)]
+        with multiprocessing.Pool(given.lanes) as pool:
+            for some, fault in pool.imap_unordered(compare_histories, tasks):
+                counts += some
+                if fault:
+                    pool.terminate()
+                    print(fault)
+                    sys.exit(1)
     print("agree: " + ", ".join(f"{count} {what}" for what, count in counts.items()))
 
 
