@@ -11,6 +11,7 @@ import signal
 import subprocess
 import sys
 import tempfile
+import time
 
 TOP = os.path.realpath(f"{os.path.dirname(os.path.realpath(__file__))}/..")
 # How many of the words of a command name files, aside from its options.
@@ -22,8 +23,8 @@ SCRIPT_COMMANDS = ("replay", "picture", "crashes")
 FILE_OPTIONS = ("--trace", "--disk", "--tape", "--tape-of", "--expect", "--source", "--symbols")
 NUMBER_OPTIONS = ("--workers", "--quantum", "--term", "--fail", "--status", "--cone", "--process", "--history")
 IMAGE_LINE = re.compile(rb"^(image [0-9]+ )(?=[^/\s])", re.MULTILINE)
-# The longest that the program may run, in seconds.
-LONGEST_RUN = 600
+# The longest that the program may run, and how long nothing is said, in seconds.
+LONGEST_RUN, SILENCE = 1800, 30
 # The lines that `rt try` adds to what the program says.
 OF_THE_RUN = re.compile(r"(?:checked|races): .*|run=.*")
 ENDED = re.compile(r"run=ended status=(\d+) ")
@@ -120,6 +121,17 @@ def status_of(said):
     return int(ended[1])
 
 
+def said_by(run):
+    """Returns what the run says, once it has ended. Meanwhile it is told how long that takes."""
+    began = time.monotonic()
+    while True:
+        try:
+            return run.communicate(timeout=SILENCE)[1]
+        except subprocess.TimeoutExpired:
+            gone = int(time.monotonic() - began)
+            print(f"bench: compiling or running; {gone // 60} minutes {gone % 60} seconds gone", file=sys.stderr, flush=True)
+
+
 def attempt(room, words):
     """Compiles and runs the program, and returns its status."""
     with open(room.input_of(words), "rb") as its_input:
@@ -129,12 +141,11 @@ def attempt(room, words):
             stdin=its_input, stderr=subprocess.PIPE, text=True, errors="surrogateescape", start_new_session=True,
         )
         try:
-            said = run.communicate()[1]
+            return status_of(said_by(run))
         except KeyboardInterrupt:
             run.terminate()
             run.wait()
             raise
-    return status_of(said)
 
 
 def interrupt(*_):
