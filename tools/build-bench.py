@@ -32,8 +32,8 @@ NOTE = re.compile(r"rt: (note: .*)")
 SILENCE = 60
 # How many lines of a run are shown where it failed.
 SHOWN_LINES = 20
-# A disk with less than this left counts as full, in bytes.
-FULL = 1_000_000_000
+# What the copy and its proofs take of a disk, and with how much left it counts as full, in bytes.
+ROOM, FULL = 3_000_000_000, 1_000_000_000
 BEGINNING = (
     "bench: proving what is not proved yet; from nothing that takes about 30 minutes on four processors, or 55 on two, and 5 GB of disk\n"
     "bench: ./bench --unproved WORDS.. runs the program without proofs, in one to three minutes"
@@ -70,6 +70,14 @@ def what_is_kept():
     return f"NOTHING IS KEPT, since {at} cannot be written"
 
 
+def test_room():
+    """Refuses to begin where the disk of the copy is too small."""
+    at = tempfile.gettempdir()
+    free = shutil.disk_usage(at).free
+    if free < ROOM:
+        raise Failed(f"{at} has {free // 1_000_000} MB left, and the proofs want {ROOM // 1_000_000}; TMPDIR may name another folder")
+
+
 def full_disks():
     """Returns a line for each disk of this work that is full."""
     places = [it for it in (tempfile.gettempdir(), store(), TOP) if os.path.isdir(it)]
@@ -101,7 +109,8 @@ class Build:
     """A run of `rt ci` in a copy, and what it said of the last crate."""
 
     def __init__(self, room, environment):
-        self.room, self.environment, self.names = f"{room}/{PROGRAM}", environment, crates_below([PROGRAM])
+        self.copy, self.temporary, self.names = f"{room}/{PROGRAM}", f"{room}/tmp", crates_below([PROGRAM])
+        self.environment = {**environment, "TMPDIR": self.temporary}
         self.began, self.proved, self.said = time.monotonic(), 0, []
 
     def say(self, what):
@@ -125,9 +134,12 @@ class Build:
 
     def run(self):
         """Proves all crates, and returns where the program then is."""
-        copy_crates(self.names, self.room)
+        copy_crates(self.names, self.copy)
+        # As root, rt runs the program as nobody, who has to come through these folders.
+        os.chmod(os.path.dirname(self.copy), 0o711)
+        os.mkdir(self.temporary, 0o711)
         run = subprocess.Popen(
-            ["rt", "ci"], cwd=self.room, env=self.environment, stdin=subprocess.DEVNULL, stdout=subprocess.PIPE, stderr=subprocess.STDOUT,
+            ["rt", "ci"], cwd=self.copy, env=self.environment, stdin=subprocess.DEVNULL, stdout=subprocess.PIPE, stderr=subprocess.STDOUT,
             text=True, errors="replace", start_new_session=True,
         )
         try:
@@ -142,7 +154,7 @@ class Build:
             # All that it has started ends with it.
             run.terminate()
             run.wait()
-        return f"{self.room}/crates/{PROGRAM}/out/{PROGRAM}"
+        return f"{self.copy}/crates/{PROGRAM}/out/{PROGRAM}"
 
 
 def warn_of_the_kit():
@@ -176,6 +188,7 @@ def build():
         except BlockingIOError:
             print("bench: waiting for another build in this folder", file=sys.stderr, flush=True)
             fcntl.flock(lock, fcntl.LOCK_EX)
+        test_room()
         print(f"{BEGINNING}\nbench: {what_is_kept()}", file=sys.stderr, flush=True)
         start = time.time()
         with tempfile.TemporaryDirectory(prefix="bench-build-") as room:
