@@ -84,7 +84,7 @@ pub fn form_at(place: &Place<'_>) -> Option<Form> {
     let mut forms = INSTRUCTIONS
         .iter()
         .chain(DIRECTIVES.iter())
-        .filter(|form| form.name == place.name);
+        .filter(|form| form.0 == place.name);
     let first = forms.next()?;
     match forms.next() {
         Some(second) if is_short_jump(place) => Some(*second),
@@ -93,13 +93,14 @@ pub fn form_at(place: &Place<'_>) -> Option<Form> {
 }
 
 /// What a form wants at a place.
-pub fn wanted_at(form: &Form, place: &Place<'_>) -> Piece {
-    wanted_after(form.operands, count_of(place.operands.unwrap_or("")))
+pub fn wanted_at(form: Form, place: &Place<'_>) -> Piece {
+    let (_, operands) = form;
+    wanted_after(operands, count_of(place.operands.unwrap_or("")))
 }
 
 /// What a form has from a place on.
-pub fn missing_at(form: &Form, place: &Place<'_>) -> &'static str {
-    let operands: &'static str = form.operands;
+pub fn missing_at(form: Form, place: &Place<'_>) -> &'static str {
+    let (_, operands) = form;
     if operands == "number,.." {
         return "number";
     }

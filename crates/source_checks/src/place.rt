@@ -1,7 +1,8 @@
 //! The place of a fault, read as a person would read it.
 use crate::lines::line_of;
 
-fn begins_word(c: char) -> bool {
+/// Whether a word begins with this character.
+pub fn begins_word(c: char) -> bool {
     c.is_ascii_alphabetic() || c == '_' || c == '.'
 }
 
@@ -96,7 +97,7 @@ fn start_of(line: &str, part: &str) -> usize {
 }
 
 /// The name of a statement, if one begins a text, and what stands after it.
-fn name_of(text: &str) -> (&str, &str) {
+pub fn name_of(text: &str) -> (&str, &str) {
     if text.starts_with(begins_word) {
         first_of(text)
     } else {

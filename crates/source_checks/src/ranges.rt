@@ -25,6 +25,6 @@ fn room_of(name: &str, operands: &str) -> &'static str {
 
 /// What is said of a number that does not fit.
 pub fn range_advice(alloc: Global, place: &Place<'_>) -> Result<String, AllocError> {
-    let operands = form_at(place).map_or("", |form| form.operands);
+    let operands = form_at(place).map_or("", |form| form.1);
     format!(in alloc; "{}: {}", place.name, room_of(place.name, operands))
 }

@@ -4,7 +4,7 @@ use crate::forms::{DIRECTIVES, Form, INSTRUCTIONS};
 use crate::labels::Labels;
 use crate::nearest::near;
 use crate::pieces::{Piece, form_at, missing_at, wanted_at};
-use crate::place::Place;
+use crate::place::{Place, begins_word};
 use crate::pointing::push_char;
 use crate::registers::{REGISTERS, is_register};
 use std::alloc::{AllocError, Global};
@@ -16,6 +16,16 @@ const NUMBERS: &str =
 /// What a string is.
 const STRINGS: &str =
     "a string ends with \" on its line; it holds ASCII, and \\n \\t \\0 \\\\ \\\" for bytes";
+
+/// What a sum is.
+const SUMS: &str =
+    "a number is added to a label alone, directly after it, as label+8; any other sum is written as its number";
+
+/// What is said of a sum after `la`.
+const LABEL_ALONE: &str = "la takes a label alone; addi adds a number to the register then";
+
+/// What is said of a computation.
+const COMPUTED: &str = "nothing is computed here: write the number itself";
 
 /// The most bytes that a word has.
 const LONGEST_WORD: usize = 64;
@@ -51,6 +61,14 @@ fn begins_number(word: &str) -> bool {
     word.starts_with(|c: char| c.is_ascii_digit() || c == '-')
 }
 
+/// Whether it names a label that is a number, as `1b` and `1f` of other assemblers do.
+fn is_numbered_label(word: &str) -> bool {
+    match word.strip_suffix(|c: char| c == 'b' || c == 'f') {
+        Some(digits) => !digits.is_empty() && digits.bytes().all(|byte| byte.is_ascii_digit()),
+        None => false,
+    }
+}
+
 /// The number of the character that stands in single quotes, if one does.
 fn quoted_number(rest: &str) -> Option<(&str, u32)> {
     let inside = rest.strip_prefix('\'')?;
@@ -77,12 +95,15 @@ fn shape_advice(alloc: Global, place: &Place<'_>) -> Result<Option<String>, Allo
         Some('%') =>
             "%hi and %lo are not there; la rd,label puts the address of a label into a register",
         Some('/' | ';') => "a comment begins with #, and each statement has a line of its own",
-        Some('*' | '=' | '<' | '>' | '&' | '|' | '^' | '~' | '!') => {
-            "nothing is computed here: write the number itself"
-        }
-        Some('+') => "a number is added directly after a label, as in label+8",
+        Some('*' | '=' | '<' | '>' | '&' | '|' | '^' | '~' | '!') => COMPUTED,
+        Some('+') if place.name == "la" => LABEL_ALONE,
+        Some('+') => SUMS,
+        Some('$') => "a register is written without $, as a0",
         Some('"') if place.name == ".ascii" => STRINGS,
         Some(c) if !c.is_ascii() => "outside comments all is ASCII",
+        Some(_) if is_numbered_label(found) => {
+            return Ok(Some(numbered_advice(alloc, found)?));
+        }
         Some(_) if begins_number(found) && !is_number(found) => NUMBERS,
         Some(_) if found.len() > LONGEST_WORD => "a word has at most 64 letters",
         Some(c) if is_stray(c) => return Ok(Some(stray_advice(alloc, c)?)),
@@ -103,6 +124,12 @@ fn stray_advice(alloc: Global, c: char) -> Result<String, AllocError> {
     Ok(text)
 }
 
+fn numbered_advice(alloc: Global, found: &str) -> Result<String, AllocError> {
+    format!(in alloc;
+        "{found} goes to a label that is a number; labels are names, as in again: and j again"
+    )
+}
+
 fn character_advice(alloc: Global, rest: &str) -> Result<String, AllocError> {
     match quoted_number(rest) {
         Some((quoted, number)) => {
@@ -114,22 +141,23 @@ fn character_advice(alloc: Global, rest: &str) -> Result<String, AllocError> {
 
 fn names_of(alloc: Global, forms: &[Form]) -> Result<Vec<&'static str>, AllocError> {
     let mut names = Vec::new(alloc);
-    for form in forms {
-        names.push(form.name)?;
+    for (name, _) in forms {
+        names.push(*name)?;
     }
     Ok(names)
 }
 
-fn named(forms: &[Form], name: &str) -> Option<Form> {
-    forms.iter().find(|form| form.name == name).copied()
+fn is_named(forms: &[Form], name: &str) -> bool {
+    forms.iter().any(|form| form.0 == name)
 }
 
 /// How a form is written.
-fn push_form(text: &mut String, form: &Form) -> Result<(), AllocError> {
-    text.push_str(form.name)?;
-    if !form.operands.is_empty() {
+fn push_form(text: &mut String, form: Form) -> Result<(), AllocError> {
+    let (name, operands) = form;
+    text.push_str(name)?;
+    if !operands.is_empty() {
         text.push(' ')?;
-        text.push_str(form.operands)?;
+        text.push_str(operands)?;
     }
     Ok(())
 }
@@ -139,11 +167,11 @@ fn written(alloc: Global, name: &str) -> Result<String, AllocError> {
     let mut text = String::from_str(alloc, "written ")?;
     let mut count = 0u32;
     for form in INSTRUCTIONS.iter().chain(DIRECTIVES.iter()) {
-        if form.name == name {
+        if form.0 == name {
             if count > 0 {
                 text.push_str(" or ")?;
             }
-            push_form(&mut text, form)?;
+            push_form(&mut text, *form)?;
             count = count.saturating_add(1);
         }
     }
@@ -152,11 +180,8 @@ fn written(alloc: Global, name: &str) -> Result<String, AllocError> {
 
 /// What is said of a directive that is not there, or not there in text.
 fn directive_advice(alloc: Global, name: &str) -> Result<String, AllocError> {
-    if named(&DIRECTIVES, name).is_some() {
+    if is_named(&DIRECTIVES, name) {
         return format!(in alloc; "{name} stands in .data alone");
-    }
-    if name.ends_with(':') {
-        return String::from_str(alloc, "a label begins with a letter or _");
     }
     let names = names_of(alloc, &DIRECTIVES)?;
     match near(alloc, name, names.as_slice())? {
@@ -175,7 +200,7 @@ fn mnemonic_advice(
 ) -> Result<String, AllocError> {
     let name = place.name;
     let small = name.to_ascii_lowercase(alloc)?;
-    if named(&INSTRUCTIONS, small.as_str()).is_some() {
+    if is_named(&INSTRUCTIONS, small.as_str()) {
         return format!(in alloc; "{name} is no instruction; in small letters it is {small}");
     }
     if labels.has(name) {
@@ -214,9 +239,24 @@ fn name_advice(
 /// Whether there is an instruction whose name is this one with `i` after it.
 fn has_immediate(alloc: Global, name: &str) -> Result<Option<String>, AllocError> {
     let immediate = format!(in alloc; "{name}i")?;
-    match named(&INSTRUCTIONS, immediate.as_str()) {
-        Some(_) => Ok(Some(immediate)),
-        None => Ok(None),
+    if is_named(&INSTRUCTIONS, immediate.as_str()) {
+        Ok(Some(immediate))
+    } else {
+        Ok(None)
+    }
+}
+
+/// What is said of a number where a register is wanted.
+fn number_for_register(alloc: Global, name: &str, found: &str) -> Result<String, AllocError> {
+    if name == "sub" {
+        return format!(in alloc;
+            "{found} is no register; addi takes a number, negated to subtract it"
+        );
+    }
+    match has_immediate(alloc, name)? {
+        Some(name) => format!(in alloc; "{found} is no register; {name} takes a number"),
+        None if found == "0" => String::from_str(alloc, "0 is no register; the register zero is 0"),
+        None => format!(in alloc; "{found} is no register; li puts a number into one"),
     }
 }
 
@@ -224,10 +264,7 @@ fn has_immediate(alloc: Global, name: &str) -> Result<Option<String>, AllocError
 fn register_advice(alloc: Global, place: &Place<'_>) -> Result<String, AllocError> {
     let found = place.found;
     if begins_number(found) {
-        return match has_immediate(alloc, place.name)? {
-            Some(name) => format!(in alloc; "{found} is no register; {name} takes a number"),
-            None => format!(in alloc; "{found} is no register; li puts a number into one"),
-        };
+        return number_for_register(alloc, place.name, found);
     }
     match near(alloc, found, &REGISTERS)? {
         Some(near) => format!(in alloc; "{found} is no register; is it {near}?"),
@@ -235,37 +272,74 @@ fn register_advice(alloc: Global, place: &Place<'_>) -> Result<String, AllocErro
     }
 }
 
-/// What is said where a number is wanted.
-fn number_advice(
-    alloc: Global,
-    labels: &Labels<'_>,
-    form: &Form,
-    place: &Place<'_>,
-) -> Result<String, AllocError> {
-    let found = place.found;
-    let name = place.name;
-    if form.operands.ends_with("(rs1)") {
-        if found == "(" {
-            return String::from_str(alloc, "a number stands before (: 0(rs1)");
-        }
-        if labels.has(found) {
-            return format!(in alloc;
-                "for what stands at a label la rd,{found} first, then {name} with 0(rd)"
-            );
-        }
+/// What is said where the number of a load, a store or `jalr` is wanted, and no number stands.
+fn offset_advice(alloc: Global, name: &str, found: &str) -> Result<String, AllocError> {
+    if found == "(" {
+        return String::from_str(alloc, "a number stands before (: 0(rs1)");
     }
-    if is_register(found)
-        && let Some(plain) = name.strip_suffix('i')
-        && named(&INSTRUCTIONS, plain).is_some()
-    {
-        return format!(in alloc; "{found} is no number; {plain} takes a register");
+    if is_register(found) {
+        return format!(in alloc; "a number stands before the register: 0({found})");
     }
+    format!(in alloc; "for what stands at a label la rd,{found} first, then {name} with 0(rd)")
+}
+
+/// What is said of a register where a number is wanted.
+fn register_for_number(alloc: Global, name: &str, found: &str) -> Result<String, AllocError> {
+    if name == "li" {
+        return format!(in alloc; "{found} is no number; mv copies a register");
+    }
+    match name.strip_suffix('i') {
+        Some(plain) if is_named(&INSTRUCTIONS, plain) => {
+            format!(in alloc; "{found} is no number; {plain} takes a register")
+        }
+        _ => format!(in alloc; "{found} is no number"),
+    }
+}
+
+/// What is said of what is no register where a number is wanted.
+fn name_for_number(alloc: Global, labels: &Labels<'_>, found: &str) -> Result<String, AllocError> {
     if labels.has(found) {
         return format!(in alloc;
             "{found} is no number; la rd,{found} puts the address of a label into a register"
         );
     }
+    if found.starts_with(begins_word) {
+        return format!(in alloc; "{found} is no number; numbers have no names here");
+    }
     format!(in alloc; "{found} is no number")
+}
+
+/// What is said where a number is wanted.
+fn number_advice(
+    alloc: Global,
+    labels: &Labels<'_>,
+    form: Form,
+    place: &Place<'_>,
+) -> Result<String, AllocError> {
+    let (name, operands) = form;
+    let found = place.found;
+    if operands.ends_with("(rs1)") && (found == "(" || found.starts_with(begins_word)) {
+        return offset_advice(alloc, name, found);
+    }
+    if is_register(found) {
+        return register_for_number(alloc, name, found);
+    }
+    name_for_number(alloc, labels, found)
+}
+
+/// A name as a label may have it: with `_` for each dot inside.
+fn push_plain(text: &mut String, name: &str) -> Result<(), AllocError> {
+    for c in name.trim_start_matches('.').chars() {
+        text.push(if c == '.' { '_' } else { c })?;
+    }
+    Ok(())
+}
+
+/// What is said of a label with a dot in it.
+fn dotted_advice(alloc: Global, found: &str) -> Result<String, AllocError> {
+    let mut text = String::from_str(alloc, "a label has letters, digits and _ alone, as ")?;
+    push_plain(&mut text, found)?;
+    Ok(text)
 }
 
 /// What is said where a label or a target is wanted.
@@ -273,6 +347,9 @@ fn label_advice(alloc: Global, place: &Place<'_>) -> Result<String, AllocError> 
     let found = place.found;
     if place.name == "la" && begins_number(found) {
         return format!(in alloc; "{found} is no label; li puts a number into a register");
+    }
+    if found.contains('.') {
+        return dotted_advice(alloc, found);
     }
     format!(in alloc; "{found} is no label")
 }
@@ -296,6 +373,14 @@ fn end_advice(alloc: Global, place: &Place<'_>) -> Result<String, AllocError> {
     if matches!(place.name, "jal" | "jalr") && is_operand(found) {
         return format!(in alloc; "a comma is missing before {found}");
     }
+    if found.starts_with('-') {
+        let said = if place.name == "la" {
+            LABEL_ALONE
+        } else {
+            COMPUTED
+        };
+        return String::from_str(alloc, said);
+    }
     format!(in alloc; "nothing stands after it, and {found} does")
 }
 
@@ -303,7 +388,7 @@ fn end_advice(alloc: Global, place: &Place<'_>) -> Result<String, AllocError> {
 fn operand_advice(
     alloc: Global,
     labels: &Labels<'_>,
-    form: &Form,
+    form: Form,
     place: &Place<'_>,
 ) -> Result<String, AllocError> {
     if place.found.is_empty() {
@@ -322,8 +407,11 @@ fn operand_advice(
     }
 }
 
-/// What is said of a line that begins with no name.
+/// What is said of a line that begins with no name, or whose label is none.
 fn start_advice(alloc: Global, found: &str) -> Result<String, AllocError> {
+    if found.len() > 1 && found.contains('.') {
+        return dotted_advice(alloc, found);
+    }
     let mut text = String::from_str(
         alloc,
         "a line has a label and a statement, each by its name, and not ",
@@ -343,19 +431,20 @@ pub fn syntax_advice(
     labels: &Labels<'_>,
     place: &Place<'_>,
 ) -> Result<String, AllocError> {
-    if let Some(instead) = instead_of(place.found) {
-        let found = place.found;
-        return format!(in alloc; "{found} is not there; in its place: {instead}");
+    let is_before = place.operands.is_none() && place.found != place.name;
+    if !is_before && let Some(instead) = instead_of(place.name) {
+        let name = place.name;
+        return format!(in alloc; "{name} is not there; in its place: {instead}");
     }
     if let Some(text) = shape_advice(alloc, place)? {
         return Ok(text);
     }
-    if place.name.is_empty() {
+    if is_before || place.name.is_empty() {
         return start_advice(alloc, place.found);
     }
     match form_at(place) {
         Some(form) if place.operands.is_some() => {
-            let said = operand_advice(alloc, labels, &form, place)?;
+            let said = operand_advice(alloc, labels, form, place)?;
             format!(in alloc; "{}; {said}", written(alloc, place.name)?)
         }
         _ => name_advice(alloc, labels, place),

@@ -21,10 +21,11 @@ fn is_mark(c: char) -> bool {
 }
 
 /// An example of a form: its marks as they stand, and something for each of its words.
-fn example(alloc: Global, form: &Form) -> Result<String, AllocError> {
-    let mut text = format!(in alloc; "{} ", form.name)?;
-    let mut rest = form.operands;
-    for _ in 0..form.operands.len() {
+fn example(alloc: Global, form: Form) -> Result<String, AllocError> {
+    let (name, operands) = form;
+    let mut text = format!(in alloc; "{name} ")?;
+    let mut rest = operands;
+    for _ in 0..operands.len() {
         let (word, _) = rest.split_once(is_mark).unwrap_or((rest, ""));
         text.push_str(example_of(word))?;
         rest = rest.get(word.len()..).unwrap_or("");
@@ -54,10 +55,10 @@ fn test(rt: &(impl Abort + AllocGlobal), source: &str, wanted: &str) -> Result<(
 fn each_form_has_an_example_that_assembles(rt: HostRuntime) -> Result<(), Fail> {
     let alloc = rt.alloc();
     for form in INSTRUCTIONS.iter().chain(DIRECTIVES.iter()) {
-        let example = example(alloc, form)?;
+        let example = example(alloc, *form)?;
         let source = format!(in alloc; "_start: ret\n.data\n.text\n{example}\nret\n")?;
         let in_data = format!(in alloc; "_start: ret\n.data\n{example}\n")?;
-        let source = if form.name.starts_with('.') {
+        let source = if form.0.starts_with('.') {
             in_data
         } else {
             source
