@@ -1,6 +1,9 @@
 -- What a check of a source finds.
 use Rattle.std.specs.Prelude.{ℕ, List}
 use Rattle.assembler.specs.Assembly.{Assembles, FaultOf}
+use Rattle.assembler.specs.declared.fault.AsmFault.{AsmFault}
+use Rattle.assembler.specs.declared.fault.Cause.{Cause}
+use Rattle.assembler.specs.declared.fault.Cause.TheVariants.{NoStart, TooLarge, OutOfMemory}
 use Rattle.source_checks.specs.declared.checking.Checked.{Checked}
 use Rattle.source_checks.specs.declared.checking.Checked.TheVariants.{Refused, Passed}
 
@@ -8,3 +11,13 @@ use Rattle.source_checks.specs.declared.checking.Checked.TheVariants.{Refused, P
 abbrev pub IsChecked : List ℕ → Checked → Type 0
 IsChecked source (Refused fault) = FaultOf source fault
 IsChecked source (Passed image listing warnings) = Assembles source image listing
+
+-- where a fault comes among others: by its line, and one of the source as a whole after all lines
+abbrev pub place_by : Cause → ℕ → ℕ
+place_by NoStart line = 18446744073709551615
+place_by TooLarge line = 18446744073709551615
+place_by OutOfMemory line = 18446744073709551615
+place_by _ line = line
+
+abbrev pub place_among : AsmFault → ℕ
+place_among fault = place_by fault.why fault.line

@@ -1,13 +1,16 @@
-//! What is said of a source to whoever writes it: of its first fault the line, the place and what would cure it, and of one that
-//! assembles what hardly does what is meant. Read `check` first, then `print_checked`, and `advice` for the one line of a fault. The
-//! fault is the source's first one, or it assembles to the image and the listing that are given; what is said of it is tested.
+//! What is said of a source to whoever writes it: of each fault the line, the place and what would cure it, and of one that assembles
+//! what hardly does what is meant. Read `check` first, then `faults` and `print_checked`, and `advice` for the one line of a fault. The
+//! fault of a check is the source's first one, or it assembles to the image and the listing that are given. `faults` has all, in the
+//! order of lines; which there are beside the first, and what is said of them, is tested.
 #![tactic(auto)]
 
 mod checking;
 mod doubt;
 mod foreign;
 mod forms;
+mod gathering;
 mod labels;
+mod line_faults;
 mod lines;
 mod nearest;
 mod pieces;
@@ -18,11 +21,13 @@ mod ranges;
 mod registers;
 mod saying;
 mod syntax;
+mod telling;
 #[cfg(test)]
 mod tests;
 mod warnings;
 
 pub use checking::{Checked, check};
+pub use gathering::faults;
 pub use printing::print_checked;
 pub use saying::advice;
 pub use warnings::Warning;

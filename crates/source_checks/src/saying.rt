@@ -60,7 +60,7 @@ fn ends_with_brace(line: &str) -> bool {
 }
 
 /// Whether a source is one of C.
-fn is_c(source: &str) -> bool {
+pub fn is_c(source: &str) -> bool {
     source.lines().any(ends_with_brace)
 }
 
@@ -73,29 +73,31 @@ fn c_advice(alloc: Global) -> Result<String, AllocError> {
 }
 
 /// What is said of a fault at a place.
-fn advice_at(
+pub fn said_of(
     alloc: Global,
-    source: &str,
+    labels: &Labels<'_>,
     why: Cause,
     place: &Place<'_>,
 ) -> Result<String, AllocError> {
-    let labels = Labels::of(alloc, source)?;
     match why {
-        Cause::Syntax if is_c(source) => c_advice(alloc),
-        Cause::Syntax => syntax_advice(alloc, &labels, place),
-        Cause::UnknownName => unknown_advice(alloc, &labels, place.found),
-        Cause::DoubleLabel => double_advice(alloc, &labels, place.found),
+        Cause::Syntax => syntax_advice(alloc, labels, place),
+        Cause::UnknownName => unknown_advice(alloc, labels, place.found),
+        Cause::DoubleLabel => double_advice(alloc, labels, place.found),
         Cause::Range => range_advice(alloc, place),
-        Cause::NoStart => no_start_advice(alloc, &labels),
+        Cause::NoStart => no_start_advice(alloc, labels),
         Cause::TooLarge => too_large_advice(alloc),
         Cause::OutOfMemory => String::from_str(alloc, "memory ran out"),
     }
 }
 
-/// One line about the first fault of a source: its name, what is written there, and what would cure it.
+/// One line about a fault of a source: its name, what is written there, and what would cure it.
 pub fn advice(alloc: Global, source: &str, fault: AsmFault) -> Result<String, AllocError> {
     let place = place_in(text_of_line(source, fault.line), fault.column);
     let why = fault.why;
-    let said = advice_at(alloc, source, why, &place)?;
+    let said = if why == Cause::Syntax && is_c(source) {
+        c_advice(alloc)?
+    } else {
+        said_of(alloc, &Labels::of(alloc, source)?, why, &place)?
+    };
     format!(in alloc; "{why}: {said}")
 }
