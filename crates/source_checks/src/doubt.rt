@@ -1,4 +1,5 @@
 //! What hardly does what is meant.
+use crate::meanings::call_wanted;
 use std::fmt;
 
 /// Why something that assembles hardly does what is meant.
@@ -10,6 +11,8 @@ pub enum Doubt {
     StackPointer,
     /// There is no call of this number.
     Call { number: i64 },
+    /// The call of this number does something else in RARS, which is said here.
+    OtherCall { said: &'static str },
     /// The last instruction of text goes on to the next, and there is none.
     RunsOn,
 }
@@ -30,8 +33,10 @@ impl fmt::Display for Doubt {
                 )
             }
             Doubt::Call { number } => {
-                write!(f, "there is no call {number}; exit is 1, write 2, read 3")
+                let wanted = call_wanted(*number);
+                write!(f, "there is no call {number}; {wanted}")
             }
+            Doubt::OtherCall { said } => f.write_str(*said),
             Doubt::RunsOn => {
                 f.write_str(
                     "the program goes on past its last word, where nothing is; it ends by li a7,1 and ecall",

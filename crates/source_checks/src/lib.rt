@@ -12,6 +12,7 @@ mod gathering;
 mod labels;
 mod line_faults;
 mod lines;
+mod meanings;
 mod nearest;
 mod pieces;
 mod place;

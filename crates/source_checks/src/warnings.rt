@@ -1,10 +1,12 @@
 //! What hardly does what is meant, though it assembles.
 use crate::doubt::Doubt;
+use crate::meanings::{A0, A1, A2, When, meaning_of};
 use asm_statements::{
-    ImmediateOp, Link, LoadOp, Mnemonic, Operands, PlainOp, Statement, Value, number_of,
-    read_statement, split_label, words_taken,
+    ImmediateOp, Label, Link, LoadOp, Mnemonic, Operands, PlainOp, Statement, Value,
+    read_statement, split_label,
 };
-use asm_text::{Line, TokenKind, Tokens, lines};
+use asm_text::{Line, lines};
+use assembler::Position;
 use machine_model::Image;
 use std::alloc::{AllocError, Global};
 
@@ -16,6 +18,9 @@ const A7: u8 = 17;
 
 /// The number of the call that ends a process.
 const EXIT: i64 = 1;
+
+/// The number of the call that replies a descriptor.
+const OPEN: i64 = 4;
 
 /// The greatest number of a call.
 const LAST_CALL: i64 = 14;
@@ -38,50 +43,26 @@ fn warning_of(line: &Line, doubt: Doubt) -> Warning {
     }
 }
 
+/// Which registers of arguments were written since the last call, a bit each.
+#[derive(Clone, Copy)]
+struct Arguments {
+    /// Those that were written.
+    set: u8,
+    /// These, and those in which something may be left for a call.
+    possible: u8,
+}
+
 /// What is known where a statement begins.
 #[derive(Clone, Copy)]
 struct Known {
-    in_data: bool,
-    /// The address of the next byte of data.
-    data: u32,
+    position: Position,
     /// The number in a7, where it is known.
     call: Option<i64>,
+    arguments: Arguments,
+    /// The doubt about the last call, if it depends on what stands next.
+    waiting: Option<(When, Warning)>,
     /// The warning that text runs on, if its last statement would.
     last: Option<Warning>,
-}
-
-fn count_of_numbers(tokens: &Tokens) -> usize {
-    let mut count = 0usize;
-    for token in tokens.as_slice() {
-        if number_of(&token.kind).is_some() {
-            count = count.saturating_add(1);
-        }
-    }
-    count
-}
-
-fn length_of_string(tokens: &Tokens) -> usize {
-    for token in tokens.as_slice() {
-        if let TokenKind::Text(bytes) = &token.kind {
-            return bytes.as_slice().len();
-        }
-    }
-    0
-}
-
-/// How many bytes a statement takes.
-fn size_of(statement: &Statement, tokens: &Tokens) -> u32 {
-    let size = match statement {
-        Statement::Nothing | Statement::Text | Statement::Data => 0,
-        Statement::Words => count_of_numbers(tokens).saturating_mul(4),
-        Statement::Bytes => count_of_numbers(tokens),
-        Statement::Ascii => length_of_string(tokens),
-        Statement::Space(size, _) => usize::try_from(size.value()).unwrap_or(0),
-        Statement::Instruction(mnemonic, operands) => {
-            words_taken(*mnemonic, operands).saturating_mul(4) as usize
-        }
-    };
-    u32::try_from(size).unwrap_or(u32::MAX)
 }
 
 /// The number of an instruction, where it is written as one.
@@ -142,6 +123,53 @@ fn call_after(mnemonic: Mnemonic, operands: &Operands, call: Option<i64>) -> Opt
     call
 }
 
+/// The bit of the register of an argument, and none of another register.
+fn argument_bit(register: u8) -> u8 {
+    match register {
+        10 => A0,
+        11 => A1,
+        12 => A2,
+        _ => 0,
+    }
+}
+
+/// Whether it goes elsewhere and does not come back.
+fn is_left_for_good(mnemonic: Mnemonic) -> bool {
+    matches!(
+        mnemonic,
+        Mnemonic::Jump(Link::Zero)
+            | Mnemonic::JumpRegister(Link::Zero)
+            | Mnemonic::Plain(PlainOp::Ret)
+    )
+}
+
+/// Which arguments are set after a call, of which it is known whether there is a doubt about it. A descriptor that is replied may be
+/// one of the next call.
+fn arguments_after_call(call: Option<i64>, is_doubtful: bool) -> Arguments {
+    let possible = match call {
+        Some(number) if number != OPEN || is_doubtful => 0,
+        _ => A0,
+    };
+    Arguments { set: 0, possible }
+}
+
+/// Which arguments are set after an instruction that is no call of the kernel.
+fn arguments_after(mnemonic: Mnemonic, operands: &Operands, arguments: Arguments) -> Arguments {
+    if is_jump(mnemonic) {
+        let possible = if is_left_for_good(mnemonic) {
+            0
+        } else {
+            A0 | A1 | A2
+        };
+        return Arguments { set: 0, possible };
+    }
+    let bit = written_by(mnemonic, operands).map_or(0, argument_bit);
+    Arguments {
+        set: arguments.set | bit,
+        possible: arguments.possible | bit,
+    }
+}
+
 /// Whether control goes on to the next word after an instruction, as far as can be said.
 fn goes_on(mnemonic: Mnemonic, call: Option<i64>) -> bool {
     match mnemonic {
@@ -173,6 +201,22 @@ fn doubt_of(mnemonic: Mnemonic, operands: &Operands, call: Option<i64>) -> Optio
     }
 }
 
+/// The doubt that a call of this number is meant, where it is known.
+fn meaning(line: &Line, call: Option<i64>, arguments: Arguments) -> Option<(When, Warning)> {
+    let (when, said) = meaning_of(call?, arguments.set, arguments.possible)?;
+    Some((when, warning_of(line, Doubt::OtherCall { said })))
+}
+
+/// Whether a doubt about a call is one before this instruction, or before none.
+fn is_doubtful(when: When, next: Option<Mnemonic>) -> bool {
+    match when {
+        When::Always => true,
+        When::GoesOn => next.is_some(),
+        When::Ends => next.is_none(),
+        When::NoReturn => !next.is_some_and(is_left_for_good),
+    }
+}
+
 /// What is known after an instruction of text.
 fn after_instruction(line: &Line, mnemonic: Mnemonic, operands: &Operands, known: Known) -> Known {
     let last = if goes_on(mnemonic, known.call) {
@@ -180,77 +224,104 @@ fn after_instruction(line: &Line, mnemonic: Mnemonic, operands: &Operands, known
     } else {
         None
     };
+    let (waiting, arguments) = match mnemonic {
+        Mnemonic::Plain(PlainOp::Ecall) => {
+            let waiting = meaning(line, known.call, known.arguments);
+            (waiting, arguments_after_call(known.call, waiting.is_some()))
+        }
+        _ => (None, arguments_after(mnemonic, operands, known.arguments)),
+    };
     Known {
         call: call_after(mnemonic, operands, known.call),
+        arguments,
+        waiting,
         last,
         ..known
     }
 }
 
-/// What is known after a statement of text.
-fn after_text(line: &Line, statement: &Statement, size: u32, known: Known) -> Known {
+/// What is known after a statement of text, which takes words or does not.
+fn after_text(line: &Line, statement: &Statement, takes: bool, known: Known) -> Known {
     match statement {
-        Statement::Text => Known {
-            in_data: false,
-            ..known
-        },
-        Statement::Data => Known {
-            in_data: true,
-            ..known
-        },
         Statement::Instruction(mnemonic, operands) => {
             after_instruction(line, *mnemonic, operands, known)
         }
-        _ if size == 0 => known,
-        _ => Known {
+        _ if takes => Known {
             call: None,
             last: None,
             ..known
         },
+        _ => known,
     }
 }
 
 /// What is known after a statement.
 fn after(line: &Line, statement: &Statement, known: Known) -> Known {
-    let size = size_of(statement, &line.tokens);
-    if !known.in_data {
-        return after_text(line, statement, size, known);
+    let before = known.position;
+    let position = before.after(statement, line.tokens.as_slice());
+    let known = Known { position, ..known };
+    if before.in_data {
+        return known;
     }
-    match statement {
-        Statement::Text => Known {
-            in_data: false,
-            ..known
-        },
-        _ => Known {
-            data: known.data.saturating_add(size),
-            ..known
-        },
-    }
+    after_text(line, statement, position.words != before.words, known)
 }
 
-/// The doubt about a statement.
-fn doubt_about(statement: &Statement, known: Known) -> Option<Doubt> {
+/// The doubt about a statement, where data begins here.
+fn doubt_about(statement: &Statement, base: u32, known: Known) -> Option<Doubt> {
+    let position = known.position;
     match statement {
-        Statement::Words if known.in_data && known.data % 4 != 0 => {
-            Some(Doubt::Words { at: known.data })
+        Statement::Words if position.in_data && position.bytes % 4 != 0 => {
+            Some(Doubt::Words {
+                at: base.saturating_add(position.bytes),
+            })
         }
-        Statement::Instruction(mnemonic, operands) if !known.in_data => {
+        Statement::Instruction(mnemonic, operands) if !position.in_data => {
             doubt_of(*mnemonic, operands, known.call)
         }
         _ => None,
     }
 }
 
+/// Adds the doubt about the last call, if this statement lets it be one, and forgets it.
+fn settle(
+    label: Option<Label>,
+    statement: &Statement,
+    known: Known,
+    found: &mut Vec<Warning>,
+) -> Result<Known, AllocError> {
+    if label.is_none() && matches!(statement, Statement::Nothing) {
+        return Ok(known);
+    }
+    let next = match statement {
+        Statement::Instruction(mnemonic, _) if label.is_none() => Some(*mnemonic),
+        _ => None,
+    };
+    if let Some((when, warning)) = known.waiting
+        && is_doubtful(when, next)
+    {
+        found.push(warning)?;
+    }
+    Ok(Known {
+        waiting: None,
+        ..known
+    })
+}
+
 /// Goes over a line, and adds its warning, if it has one. A label forgets what is in a7, since control may come from elsewhere.
 fn warn_line(
     source: &[u8],
     line: &Line,
+    base: u32,
     known: Known,
     found: &mut Vec<Warning>,
 ) -> Result<Known, AllocError> {
     let Ok((label, rest)) = split_label(source, line.tokens.as_slice()) else {
         return Ok(known);
     };
+    let Ok(statement) = read_statement(source, known.position.in_data, line.end, rest) else {
+        return Ok(known);
+    };
+    let known = settle(label, &statement, known, found)?;
     let known = match label {
         Some(_) => Known {
             call: None,
@@ -258,10 +329,7 @@ fn warn_line(
         },
         None => known,
     };
-    let Ok(statement) = read_statement(source, known.in_data, line.end, rest) else {
-        return Ok(known);
-    };
-    if let Some(doubt) = doubt_about(&statement, known) {
+    if let Some(doubt) = doubt_about(&statement, base, known) {
         found.push(warning_of(line, doubt))?;
     }
     Ok(after(line, &statement, known))
@@ -275,6 +343,20 @@ fn base_of(image: &Image) -> u32 {
     }
 }
 
+/// Before the first line.
+fn start() -> Known {
+    Known {
+        position: Position::start(),
+        call: None,
+        arguments: Arguments {
+            set: 0,
+            possible: 0,
+        },
+        waiting: None,
+        last: None,
+    }
+}
+
 /// The warnings about the lines of a source whose data begins here.
 fn warn_lines(
     alloc: Global,
@@ -283,15 +365,11 @@ fn warn_lines(
     base: u32,
 ) -> Result<Vec<Warning>, AllocError> {
     let mut found = Vec::new(alloc);
-    let mut known = Known {
-        in_data: false,
-        data: base,
-        call: None,
-        last: None,
-    };
+    let mut known = start();
     for line in lines {
-        known = warn_line(source, line, known, &mut found)?;
+        known = warn_line(source, line, base, known, &mut found)?;
     }
+    known = settle(None, &Statement::Text, known, &mut found)?;
     if let Some(last) = known.last {
         found.push(last)?;
     }
