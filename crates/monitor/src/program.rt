@@ -1,5 +1,5 @@
 //! The whole program.
-use crate::debugging::debug_live;
+use crate::debugging::{debug_file, debug_live};
 use crate::gdb::answer_gdb;
 use crate::running::run_images;
 use crate::script_files::{
@@ -9,8 +9,9 @@ use clap::Error;
 use clap::error::ErrorKind;
 use command_line::{Asked, Task, parse};
 use explanations::explain;
-use host_files::{assemble_file, check_file, debug_file, image_file, list_file, symbols_file};
-use run_files::{Fault, list_files, write_line};
+use faults::{Fault, write_line};
+use host_files::{assemble_file, check_file, image_file, list_file, symbols_file};
+use run_files::list_files;
 use std::fs::File;
 use std::io;
 use std::io::{BufWriter, Read, Write};
