@@ -166,11 +166,16 @@ const DISK: CommandRow = CommandRow {
 };
 
 /// The commands, in the order of the help.
-pub const COMMANDS: &[CommandRow] = &[
+const COMMANDS: &[CommandRow] = &[
     REPLAY, PICTURE, CRASHES, ASSEMBLE, CHECK, IMAGE, SYMBOLS, LIST, DEBUG, GDB, DISK, RUN,
 ];
 
+/// These rows. All else calls this, since each function that names such a table is typed with all of it.
+pub fn command_rows() -> &'static [CommandRow] {
+    COMMANDS
+}
+
 /// The row of the command of this name, if there is one.
 pub fn row_named(name: &str) -> Option<&'static CommandRow> {
-    COMMANDS.iter().find(|row| row.name == name)
+    command_rows().iter().find(|row| row.name == name)
 }

@@ -1,5 +1,5 @@
 //! The words of the command line, read.
-use crate::command::{COMMANDS, row_named};
+use crate::command::{command_rows, row_named};
 use crate::refusing::{test_numbers, with_usage};
 use crate::rows::commands_of;
 use crate::task::{Task, task_of};
@@ -49,7 +49,7 @@ fn program<'a>(alloc: Global) -> Result<Command<'a>, AllocError> {
 }
 
 fn commands<'a>(alloc: Global) -> Result<Command<'a>, AllocError> {
-    let commands = commands_of(alloc, COMMANDS)?;
+    let commands = commands_of(alloc, command_rows())?;
     program(alloc)?.subcommands(commands)
 }
 

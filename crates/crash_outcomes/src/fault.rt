@@ -1,30 +1,8 @@
 //! Why an exploration ends early.
-use crate::crash::Crash;
+pub use faults::ExpectationFault;
 use scripts::ScriptFault;
 use std::alloc::{AllocError, AllocFailed};
 use std::io;
-use thiserror::Error;
-
-/// A line of the expectations that has no form, or an outcome that is not among them.
-#[derive(Clone, Copy, Debug, Error)]
-pub enum ExpectationFault {
-    /// The first line that has no form. Lines are counted from 1.
-    #[error("expectations refused at line {line}")]
-    Refused { line: usize },
-    /// The first crash whose outcome is not expected.
-    #[error("outcome not expected: {crash}")]
-    NotExpected { crash: Crash },
-}
-
-impl ExpectationFault {
-    /// The exit status: 2 for a line, 7 for a crash.
-    pub fn status(&self) -> u8 {
-        match self {
-            ExpectationFault::Refused { .. } => 2,
-            ExpectationFault::NotExpected { .. } => 7,
-        }
-    }
-}
 
 /// Why an exploration ends before its end.
 #[derive(Drop)]

@@ -3,11 +3,9 @@ use debugger::DebugFault;
 use std::alloc::{AllocError, AllocFailed};
 use std::io;
 
-/// Why a session with the debugger ends early, or does not begin.
+/// Why a session with the debugger ends early.
 #[derive(Clone, Copy)]
 pub enum SessionFault {
-    /// The first line of the trace that is no reply.
-    Trace { line: usize },
     /// Memory ran out.
     OutOfMemory,
     /// The commands could not be read, or what they give could not be written.

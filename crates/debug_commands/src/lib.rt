@@ -1,5 +1,4 @@
-//! The commands of a debugger, read from a person and answered in text. Read `debug` first, a whole session. `read_trace` reads the
-//! replies that the program's calls take in it. Only safety is proved.
+//! The commands of a debugger, read from a person and answered in text. Read `debug` first, a whole session. Only safety is proved.
 #![tactic(auto)]
 
 mod aids;
@@ -15,7 +14,6 @@ mod rights;
 mod session;
 mod showing;
 mod standing;
-mod trace;
 mod traps;
 mod writable;
 
@@ -23,4 +21,3 @@ pub use aids::Aids;
 pub use fault::SessionFault;
 pub use live::Live;
 pub use session::debug;
-pub use trace::read_trace;

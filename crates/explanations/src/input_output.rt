@@ -1,8 +1,7 @@
 //! Why a file could not be read or written.
 use crate::task_files::{Role, TaskFile};
-use file_reading::{bytes_in, image_file_in};
+use file_reading::{MOST_TAPE_BYTES, bytes_in, image_file_in};
 use host_files::{DiskLock, FileFault, MOST_SOURCE_BYTES, test_place};
-use scripts::MOST_TAPE_BYTES;
 use simdisk::SIZE;
 use std::alloc::{AllocError, Global};
 use std::fs::{File, OpenOptions};

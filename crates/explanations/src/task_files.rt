@@ -73,47 +73,67 @@ fn push_live<'a>(
     push(files, Role::Source, options.source)
 }
 
-/// The files of a task, in the order in which they are read, and then those that are written.
-pub fn files_of<'a>(alloc: Global, task: &'a Task<'a>) -> Result<Vec<TaskFile<'a>>, AllocError> {
-    let mut files = Vec::new(alloc);
+/// Adds the files of the options of a session or a run, if the task is one.
+fn push_options<'a>(files: &mut Vec<TaskFile<'a>>, task: &'a Task<'a>) -> Result<(), AllocError> {
     match task {
-        Task::ReplayInput => {}
+        Task::DebugLive(options) => push_live(files, options),
+        Task::Gdb(options) => push_live(files, &options.live),
+        Task::Run(options) => push_run(files, options),
+        _ => Ok(()),
+    }
+}
+
+/// At most three files, each with what it is for, if it is named.
+type Named<'a> = [(Role, Option<&'a str>); 3];
+
+fn two<'a>(role: Role, path: Option<&'a str>, next: Role, other: Option<&'a str>) -> Named<'a> {
+    [(role, path), (next, other), (next, None)]
+}
+
+fn one(role: Role, path: Option<&str>) -> Named<'_> {
+    two(role, path, role, None)
+}
+
+/// The files of a task beside those of `push_options`, in the same order.
+fn named<'a>(task: &'a Task<'a>) -> Named<'a> {
+    match task {
+        Task::ReplayInput | Task::DebugLive(_) | Task::Run(_) => one(Role::Script, None),
         Task::ReplayFile(script) | Task::ReplayCone { script, .. } | Task::Picture { script, .. } =>
-            push(&mut files, Role::Script, Some(*script))?,
+            one(Role::Script, Some(*script)),
         Task::Crashes { script, expect } => {
-            push(&mut files, Role::Script, Some(*script))?;
-            push(&mut files, Role::Expectations, *expect)?;
+            two(Role::Script, Some(*script), Role::Expectations, *expect)
         }
         Task::Assemble { source, image } => {
-            push(&mut files, Role::Source, Some(*source))?;
-            push(&mut files, Role::Written, Some(*image))?;
+            two(Role::Source, Some(*source), Role::Written, Some(*image))
         }
         Task::Image { linked, image } => {
-            push(&mut files, Role::Linked, Some(*linked))?;
-            push(&mut files, Role::Written, Some(*image))?;
+            two(Role::Linked, Some(*linked), Role::Written, Some(*image))
         }
         Task::Symbols { source, symbols } => {
-            push(&mut files, Role::Source, Some(*source))?;
-            push(&mut files, Role::Written, Some(*symbols))?;
+            two(Role::Source, Some(*source), Role::Written, Some(*symbols))
         }
-        Task::Check(source) => push(&mut files, Role::Source, Some(*source))?,
-        Task::List(image) => push(&mut files, Role::Image, Some(*image))?,
+        Task::Check(source) => one(Role::Source, Some(*source)),
+        Task::List(image) => one(Role::Image, Some(*image)),
         Task::Debug {
             image,
             trace,
             source,
-        } => {
-            push(&mut files, Role::Image, Some(*image))?;
-            push(&mut files, Role::Trace, *trace)?;
-            push(&mut files, Role::Source, *source)?;
-        }
-        Task::DebugLive(options) => push_live(&mut files, options)?,
-        Task::Gdb(options) => {
-            push_live(&mut files, &options.live)?;
-            push(&mut files, Role::Trace, options.trace)?;
-        }
-        Task::Disk(path) => push(&mut files, Role::Disk, Some(*path))?,
-        Task::Run(options) => push_run(&mut files, options)?,
+        } => [
+            (Role::Image, Some(*image)),
+            (Role::Trace, *trace),
+            (Role::Source, *source),
+        ],
+        Task::Gdb(options) => one(Role::Trace, options.trace),
+        Task::Disk(path) => one(Role::Disk, Some(*path)),
+    }
+}
+
+/// The files of a task, in the order in which they are read, and then those that are written.
+pub fn files_of<'a>(alloc: Global, task: &'a Task<'a>) -> Result<Vec<TaskFile<'a>>, AllocError> {
+    let mut files = Vec::new(alloc);
+    push_options(&mut files, task)?;
+    for (role, path) in named(task) {
+        push(&mut files, role, path)?;
     }
     Ok(files)
 }

@@ -6,4 +6,4 @@ mod image_file;
 mod limited;
 
 pub use image_file::image_file_in;
-pub use limited::bytes_in;
+pub use limited::{MOST_TAPE_BYTES, bytes_in};

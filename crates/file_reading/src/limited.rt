@@ -3,6 +3,9 @@ use std::fs;
 use std::io::{self, Read};
 use std::rt::Files;
 
+/// The most bytes of a tape.
+pub const MOST_TAPE_BYTES: usize = 65536;
+
 /// Reads on until there are so many bytes, or to the end of the file.
 pub fn read_up_to<F: Read>(file: &mut F, bytes: &mut Vec<u8>, most: u64) -> io::Result<()> {
     let missing = most.saturating_sub(bytes.len() as u64);

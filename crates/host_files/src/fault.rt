@@ -1,6 +1,5 @@
 //! Why a file is refused.
 use assembler::{AsmFault, Cause};
-use debug_commands::SessionFault;
 use elf32::ElfFault;
 use linked_elf::LinkFault;
 use simdisk::DiskRefusal;
@@ -96,16 +95,6 @@ impl From<DiskRefusal> for FileFault {
         match refusal {
             DiskRefusal::BadLength => FileFault::DiskLength,
             _ => FileFault::OutOfMemory,
-        }
-    }
-}
-
-impl From<SessionFault> for FileFault {
-    fn from(fault: SessionFault) -> FileFault {
-        match fault {
-            SessionFault::Trace { line } => FileFault::Trace { line },
-            SessionFault::OutOfMemory => FileFault::OutOfMemory,
-            SessionFault::InputOutput => FileFault::InputOutput,
         }
     }
 }

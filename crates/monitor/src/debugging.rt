@@ -1,11 +1,13 @@
-//! A process debugged while a kernel answers its calls.
+//! An image debugged with a trace, and a process while a kernel answers its calls.
+use crate::fault::of_session;
 use command_line::LiveOptions;
 use debug_commands::{Aids, Live, debug};
-use host_files::{FileFault, source_lines_in};
+use faults::Fault;
+use host_files::{image_in, replies_in, source_lines_in};
 use kernel::{Core, Event, Refused};
-use machine_model::Image;
+use machine_model::{Image, Reply};
 use recorder::Recorder;
-use run_files::{Fault, boot_live};
+use run_files::boot_live;
 use std::alloc::Global;
 use std::io::{Read, Write};
 use std::rt::Files;
@@ -112,6 +114,37 @@ pub fn process_in<R: Files + AllocGlobal>(
     Ok((recorder, image))
 }
 
+/// Debugs an image's program, whose calls take these replies, and then those of a kernel, if there is one. With the source in a file,
+/// if one is given, the lines of that are printed too.
+fn debug_image<R: Files + AllocGlobal, I: Read, O: Write>(
+    rt: &R,
+    image: Image,
+    replies: Vec<Reply>,
+    live: Option<Live>,
+    source: Option<&str>,
+    input: &mut I,
+    out: &mut O,
+) -> Result<(), Fault> {
+    let source = source_lines_in(rt, source, &image)?;
+    let aids = Aids { live, source };
+    debug(rt.alloc(), image, replies, aids, input, out).map_err(of_session)
+}
+
+/// Debugs the image in a file, by the commands on the input. Its calls take the replies of the trace in another file, or none. With
+/// its source the lines of that are printed too.
+pub fn debug_file<R: Files + AllocGlobal, I: Read, O: Write>(
+    rt: &R,
+    image: &str,
+    trace: Option<&str>,
+    source: Option<&str>,
+    input: &mut I,
+    out: &mut O,
+) -> Result<(), Fault> {
+    let image = image_in(rt, image)?;
+    let replies = replies_in(rt, trace)?;
+    debug_image(rt, image, replies, None, source, input, out)
+}
+
 /// Debugs a process of a run of images, by the commands on the input. A kernel answers its calls, and nothing is written to the
 /// disk's file. Refused is a process that does not come to be.
 pub fn debug_live<R: Files + AllocGlobal, I: Read, O: Write>(
@@ -121,26 +154,7 @@ pub fn debug_live<R: Files + AllocGlobal, I: Read, O: Write>(
     out: &mut O,
 ) -> Result<(), Fault> {
     let (recorder, image) = process_in(rt, options)?;
-    debug_image(rt, image, recorder, options, input, out)
-}
-
-/// Debugs an image's program as a process of a kernel.
-fn debug_image<R: Files + AllocGlobal, I: Read, O: Write>(
-    rt: &R,
-    image: Image,
-    recorder: Recorder,
-    options: &LiveOptions<'_>,
-    input: &mut I,
-    out: &mut O,
-) -> Result<(), Fault> {
-    let alloc = rt.alloc();
-    let source = source_lines_in(rt, options.source, &image)?;
-    let aids = Aids {
-        live: Some(Live::new(recorder, options.process)),
-        source,
-    };
-    let replies = Vec::new(alloc);
-    debug(alloc, image, replies, aids, input, out).map_err(|fault| Fault::from(FileFault::from(
-        fault,
-    )))
+    let live = Live::new(recorder, options.process);
+    let replies = Vec::new(rt.alloc());
+    debug_image(rt, image, replies, Some(live), options.source, input, out)
 }

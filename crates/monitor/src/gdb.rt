@@ -1,12 +1,13 @@
 //! A program debugged by gdb.
 use crate::debugging::process_in;
+use crate::fault::of_connection;
 use command_line::GdbOptions;
-use gdb_connection::{ConnectionFault, Keeper, converse};
+use faults::Fault;
+use gdb_connection::{Keeper, converse};
 use gdb_session::Session;
 use gdb_timeline::{Origin, OutOfMemory, Timeline};
 use host_files::{DiskLock, FileFault, image_in, keep, replies_in};
 use machine_model::Image;
-use run_files::Fault;
 use simdisk::SimDisk;
 use std::alloc::Global;
 use std::fs::File;
@@ -44,13 +45,6 @@ impl<R: Files<File = File> + AllocGlobal> Keeper for DiskFile<'_, R> {
             Err(FileFault::DiskInUse) => "another run has the disk's file",
             Err(_) => "the disk cannot be kept in its file",
         }
-    }
-}
-
-fn fault_of(fault: ConnectionFault) -> Fault {
-    match fault {
-        ConnectionFault::OutOfMemory => Fault::OutOfMemory,
-        ConnectionFault::InputOutput => Fault::InputOutput,
     }
 }
 
@@ -102,5 +96,5 @@ pub fn answer_gdb<
         rt,
         path: options.live.disk,
     };
-    converse(rt, rt.alloc(), session, &mut file, input, out).map_err(|fault| fault_of(fault))
+    converse(rt, rt.alloc(), session, &mut file, input, out).map_err(of_connection)
 }

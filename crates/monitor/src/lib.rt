@@ -3,10 +3,11 @@
 #![tactic(auto)]
 
 mod debugging;
+mod fault;
 mod gdb;
 mod program;
 mod running;
 mod script_files;
 
+pub use faults::Fault;
 pub use program::{bench, end_without_arguments};
-pub use run_files::Fault;

@@ -1,5 +1,5 @@
 //! The whole program.
-use crate::debugging::debug_live;
+use crate::debugging::{debug_file, debug_live};
 use crate::gdb::answer_gdb;
 use crate::running::run_images;
 use crate::script_files::{
@@ -9,8 +9,9 @@ use clap::Error;
 use clap::error::ErrorKind;
 use command_line::{Asked, Task, parse};
 use explanations::explain;
-use host_files::{assemble_file, check_file, debug_file, image_file, list_file, symbols_file};
-use run_files::{Fault, list_files, write_line};
+use faults::{Fault, write_line};
+use host_files::{assemble_file, check_file, image_file, list_file, symbols_file};
+use run_files::list_files;
 use std::fs::File;
 use std::io;
 use std::io::{BufWriter, Read, Write};
@@ -25,27 +26,32 @@ fn perform<
     O: Write,
     E: Write,
 >(rt: &R, asked: &Asked<'_>, input: &mut I, out: &mut O, err: &mut E) -> Result<u8, Fault> {
-    match &asked.task {
-        Task::ReplayInput => replay_input(rt, input, out)?,
-        Task::ReplayFile(path) => replay_file(rt, path, out)?,
-        Task::ReplayCone { script, event } => replay_cone_file(rt, script, *event, out)?,
-        Task::Picture { script, cone } => picture_file(rt, script, *cone, out)?,
-        Task::Crashes { script, expect } => explore_file(rt, script, *expect, out)?,
-        Task::Assemble { source, image } => assemble_file(rt, source, image, out)?,
-        Task::Check(path) => check_file(rt, path, out)?,
-        Task::Image { linked, image } => image_file(rt, linked, image, out)?,
-        Task::Symbols { source, symbols } => symbols_file(rt, source, symbols, out)?,
-        Task::List(path) => list_file(rt, path, out)?,
+    let done = match &asked.task {
+        Task::ReplayInput => replay_input(rt, input, out),
+        Task::ReplayFile(path) => replay_file(rt, path, out),
+        Task::ReplayCone { script, event } => replay_cone_file(rt, script, *event, out),
+        Task::Picture { script, cone } => picture_file(rt, script, *cone, out),
+        Task::Crashes { script, expect } => explore_file(rt, script, *expect, out),
+        Task::Assemble { source, image } => assemble_file(rt, source, image, out).map_err(
+            Fault::File,
+        ),
+        Task::Check(path) => check_file(rt, path, out).map_err(Fault::File),
+        Task::Image { linked, image } => image_file(rt, linked, image, out).map_err(Fault::File),
+        Task::Symbols { source, symbols } => symbols_file(rt, source, symbols, out).map_err(
+            Fault::File,
+        ),
+        Task::List(path) => list_file(rt, path, out).map_err(Fault::File),
         Task::Debug {
             image,
             trace,
             source,
-        } => debug_file(rt, image, *trace, *source, input, out)?,
-        Task::DebugLive(options) => debug_live(rt, options, input, out)?,
-        Task::Gdb(options) => answer_gdb(rt, options, input, out)?,
-        Task::Disk(path) => list_files(rt, path, out)?,
+        } => debug_file(rt, image, *trace, *source, input, out),
+        Task::DebugLive(options) => debug_live(rt, options, input, out),
+        Task::Gdb(options) => answer_gdb(rt, options, input, out),
+        Task::Disk(path) => list_files(rt, path, out),
         Task::Run(options) => return run_images(rt, options, asked.explain, input, out, err),
-    }
+    };
+    done?;
     Ok(0)
 }
 

@@ -1,9 +1,11 @@
 //! Runs of images by many workers.
+use crate::fault::of_run;
 use command_line::{RunNumbers, RunOptions};
 use durable_disk::HostFile;
 use executor::{RunFault, Settings, run, run_durable};
+use faults::Fault;
 use kernel::Core;
-use run_files::{Fault, boot, keep_disk, print_processes, status_of};
+use run_files::{boot, keep_disk, print_processes, status_of};
 use std::fs::File;
 use std::io::{Read, Write};
 use std::rt::Files;
@@ -48,7 +50,7 @@ fn run_to_end<R: Files<File = File> + AllocGlobal + Threads + Wait + Sync, O: Wr
     out: &mut O,
     err: &mut E,
 ) -> Result<u8, Fault> {
-    let core = run_core(rt, core, file, settings_of(options.numbers), out)?;
+    let core = run_core(rt, core, file, settings_of(options.numbers), out).map_err(of_run)?;
     out.flush()?;
     let told = print_processes(&core, explain, err);
     let has_failed = has_failed(&core);

@@ -1,7 +1,8 @@
 //! Scripts in files of the host, and on the input, each read whole before anything runs.
+use crate::fault::{of_exploration, of_script};
 use crash_outcomes::explore;
+use faults::Fault;
 use pictured_runs::picture;
-use run_files::Fault;
 use scripts::{Script, replay, replay_cone};
 use std::io::{Read, Write};
 use std::rt::Files;
@@ -14,7 +15,7 @@ pub fn replay_input<R: Files + AllocGlobal, I: Read, O: Write>(
     out: &mut O,
 ) -> Result<(), Fault> {
     let text = io::read_to_string(rt.alloc(), input)?;
-    Ok(replay(rt, text.as_str(), out)?)
+    replay(rt, text.as_str(), out).map_err(of_script)
 }
 
 /// Replays the script in a file.
@@ -24,7 +25,7 @@ pub fn replay_file<R: Files + AllocGlobal, O: Write>(
     out: &mut O,
 ) -> Result<(), Fault> {
     let text = fs::read_to_string(rt, path)?;
-    Ok(replay(rt, text.as_str(), out)?)
+    replay(rt, text.as_str(), out).map_err(of_script)
 }
 
 /// Replays the script in a file without printing, and prints the cone of the event of this number.
@@ -35,7 +36,7 @@ pub fn replay_cone_file<R: Files + AllocGlobal, O: Write>(
     out: &mut O,
 ) -> Result<(), Fault> {
     let text = fs::read_to_string(rt, path)?;
-    Ok(replay_cone(rt, text.as_str(), event, out)?)
+    replay_cone(rt, text.as_str(), event, out).map_err(of_script)
 }
 
 /// Draws the run of the script in a file, and in it the cone of an event, if a number is given.
@@ -46,7 +47,7 @@ pub fn picture_file<R: Files + AllocGlobal, O: Write>(
     out: &mut O,
 ) -> Result<(), Fault> {
     let text = fs::read_to_string(rt, path)?;
-    Ok(picture(rt, text.as_str(), cone, out)?)
+    picture(rt, text.as_str(), cone, out).map_err(of_script)
 }
 
 /// Tries the crashes of the script in a file. The whole script is read first, and then what is expected of them, if anything is.
@@ -57,10 +58,10 @@ pub fn explore_file<R: Files + AllocGlobal, O: Write>(
     out: &mut O,
 ) -> Result<(), Fault> {
     let text = fs::read_to_string(rt, path)?;
-    let script = Script::parse(rt.alloc(), text.as_str())?;
+    let script = Script::parse(rt.alloc(), text.as_str()).map_err(of_script)?;
     let Some(path) = expect else {
-        return Ok(explore(rt, script, None, out)?);
+        return explore(rt, script, None, out).map_err(of_exploration);
     };
     let expected = fs::read_to_string(rt, path)?;
-    Ok(explore(rt, script, Some(expected.as_str()), out)?)
+    explore(rt, script, Some(expected.as_str()), out).map_err(of_exploration)
 }

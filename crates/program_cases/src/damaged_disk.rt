@@ -1,13 +1,13 @@
 //! The line of a disk that cannot be read.
 use anyhow::{Error, ensure};
 use case_format::compare;
-use kernel::{BootFault, DiskFault};
+use kernel::DiskFault;
 use monitor::Fault;
 use std::alloc::Global;
 
 /// It names the first fault, and the status is 3.
 pub fn check_damaged_disk(alloc: Global) -> Result<String, Error> {
-    let fault = Fault::from(BootFault::Disk(DiskFault::PastHalf));
+    let fault = Fault::from(DiskFault::PastHalf);
     let status = fault.status();
     ensure!(status == 3, "the status was {status}");
     let line = format!(in alloc; "{fault}")?;

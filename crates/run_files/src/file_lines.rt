@@ -1,7 +1,7 @@
 //! A line for each file on a disk.
-use crate::fault::Fault;
+use faults::Fault;
 use host_files::disk_in;
-use scripts::print_files;
+use scripts::write_files;
 use std::io::Write;
 use std::rt::Files;
 
@@ -13,5 +13,5 @@ pub fn list_files<R: Files + AllocGlobal, O: Write>(
 ) -> Result<(), Fault> {
     let device = disk_in(rt, path)?;
     let files = journal::recover(rt.alloc(), &device)?;
-    Ok(print_files(files.list(), out)?)
+    Ok(write_files(files.list(), out)?)
 }

@@ -1,6 +1,5 @@
 //! How processes stand at the end of a run.
-use crate::fault::Fault;
-use crate::whole_line::write_line;
+use faults::{Fault, write_line};
 use kernel::{Core, Refused, Standing};
 use std::io::Write;
 use trap_reports::trap_report;

@@ -4,17 +4,16 @@ ghost use Rattle.std.specs.List.{AllByRecursion};
 ghost use Rattle.disk_model.specs.Storage.{is_quiet};
 ghost use Rattle.kernel_model.specs.World.{most_programs, tape_count, terminal_count};
 
-use crate::fault::Fault;
 use byte_list::Bytes;
 use command_line::{LiveOptions, RunOptions};
 use durable_disk::HostFile;
-use file_reading::bytes_in;
+use faults::Fault;
+use file_reading::{MOST_TAPE_BYTES, bytes_in};
 use host_files::{
     DiskLock, FileFault, disk_or_zeros, image_in, keep, open_durable, test_place, zeros,
 };
-use kernel::{Core, Program, SimDisk};
+use kernel::{BootFault, Core, Program, SimDisk};
 use machine_model::Image;
-use scripts::MOST_TAPE_BYTES;
 use std::alloc::Global;
 use std::fs::File;
 use std::io::{self, Read};
@@ -85,6 +84,14 @@ fn programs_in<R: Files + AllocGlobal>(rt: &R, paths: &[&str]) -> Result<Vec<Pro
     Ok(programs)
 }
 
+/// Why a boot ends the program.
+pub fn boot_fault(fault: BootFault) -> Fault {
+    match fault {
+        BootFault::Disk(fault) => Fault::from(fault),
+        BootFault::OutOfMemory => Fault::OutOfMemory,
+    }
+}
+
 /// What a run begins with: its core; the lock of its disk's file, if the disk is kept; and that file, of a durable run.
 pub type Setup = (Core, Option<DiskLock>, Option<HostFile>);
 
@@ -104,11 +111,11 @@ fn core_at<R: Files<File = File> + AllocGlobal>(
 {
     if is_durable {
         let (file, device) = open_durable(rt, path)?;
-        let core = Core::boot(rt.alloc(), device, programs, tapes)?;
+        let core = Core::boot(rt.alloc(), device, programs, tapes).map_err(boot_fault)?;
         return Ok((core, Some(file)));
     }
     let device = disk_or_zeros(rt, path)?;
-    let core = Core::boot(rt.alloc(), device, programs, tapes)?;
+    let core = Core::boot(rt.alloc(), device, programs, tapes).map_err(boot_fault)?;
     test_place(rt, path)?;
     Ok((core, None))
 }
@@ -170,7 +177,8 @@ pub fn boot<R: Files<File = File> + AllocGlobal, I: Read>(
         Some(path) => setup_at(rt, path, options.is_durable, programs, tapes),
         None => {
             let device = zeros(rt.alloc())?;
-            Ok((Core::boot(rt.alloc(), device, programs, tapes)?, None, None))
+            let core = Core::boot(rt.alloc(), device, programs, tapes).map_err(boot_fault)?;
+            Ok((core, None, None))
         }
     }
 }
@@ -217,7 +225,7 @@ pub fn boot_live<R: Files + AllocGlobal>(
     let programs = programs_in(rt, options.images.as_slice())?;
     let images = images_of(rt.alloc(), programs.as_slice())?;
     let device = device_in(rt, options.disk)?;
-    let core = Core::boot(rt.alloc(), device, programs, tapes)?;
+    let core = Core::boot(rt.alloc(), device, programs, tapes).map_err(boot_fault)?;
     Ok((core, images))
 }
 

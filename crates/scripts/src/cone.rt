@@ -196,6 +196,41 @@ fn drain(core: &mut Core) -> Result<(), ScriptFault> {
     }
 }
 
+/// Runs a cone alone, and prints how many events and changes it has, and each event with its answer. Gives the core after it.
+fn print_events<R: Files + AllocGlobal, O: Write>(
+    rt: &R,
+    setup: &mut Setup,
+    left: &Option<SimDisk>,
+    events: &[Event],
+    out: &mut O,
+) -> Result<Core, ScriptFault> {
+    let mut lines = Vec::new(rt.alloc());
+    let core = print_run(rt, setup, left, events, &mut lines)?;
+    let (count, changes) = (events.len(), core.changes());
+    writeln!(out, "cone {count} events {changes} changes")?;
+    out.write_all(lines.as_slice())?;
+    Ok(core)
+}
+
+/// The process of the last of some events, and the events before it. None where there is none, or it is one of the disk.
+fn last_of(events: &[Event]) -> Option<(u32, &[Event])> {
+    let (last, before) = events.split_last()?;
+    Some((process_of(*last)?, before))
+}
+
+/// Drains a run with a process's event and the same run without it, and prints what the event tells.
+fn drain_and_print<O: Write>(
+    alloc: Global,
+    with: &mut Core,
+    without: &mut Core,
+    pid: u32,
+    out: &mut O,
+) -> Result<(), ScriptFault> {
+    drain(with)?;
+    drain(without)?;
+    Ok(print_told(alloc, with, without, pid, out)?)
+}
+
 /// Prints a cone that is run alone: how many events and changes it has, each event with its answer, and what the last one tells.
 fn print_cone<R: Files + AllocGlobal, O: Write>(
     rt: &R,
@@ -204,21 +239,12 @@ fn print_cone<R: Files + AllocGlobal, O: Write>(
     events: &[Event],
     out: &mut O,
 ) -> Result<(), ScriptFault> {
-    let mut lines = Vec::new(rt.alloc());
-    let mut with = print_run(rt, setup, left, events, &mut lines)?;
-    let (count, changes) = (events.len(), with.changes());
-    writeln!(out, "cone {count} events {changes} changes")?;
-    out.write_all(lines.as_slice())?;
-    let Some((last, before)) = events.split_last() else {
-        return Ok(());
-    };
-    let Some(pid) = process_of(*last) else {
+    let mut with = print_events(rt, setup, left, events, out)?;
+    let Some((pid, before)) = last_of(events) else {
         return Ok(());
     };
     let mut without = print_run(rt, setup, left, before, &mut io::sink())?;
-    drain(&mut with)?;
-    drain(&mut without)?;
-    Ok(print_told(rt.alloc(), &with, &without, pid, out)?)
+    drain_and_print(rt.alloc(), &mut with, &mut without, pid, out)
 }
 
 /// Runs a script without printing, takes the events since its last boot, and prints the cone of the event of this number, counted

@@ -1,10 +1,9 @@
 //! Lists of files.
-use crate::fault::ScriptFault;
 use files::FileList;
 use std::io;
 use std::io::Write;
 
-/// Writes a line for each file.
+/// Writes a line for each file, in order of creation: its name, and its length.
 pub fn write_files<O: Write>(files: &FileList, out: &mut O) -> io::Result<()> {
     for place in 0..files.count() {
         let length = files.length(place);
@@ -12,9 +11,4 @@ pub fn write_files<O: Write>(files: &FileList, out: &mut O) -> io::Result<()> {
         writeln!(out, " {length}")?;
     }
     Ok(())
-}
-
-/// Prints a line for each file, in order of creation: its name, and its length.
-pub fn print_files<O: Write>(files: &FileList, out: &mut O) -> Result<(), ScriptFault> {
-    Ok(write_files(files, out)?)
 }

@@ -18,11 +18,11 @@ mod words;
 
 pub use cone::replay_cone;
 pub use fault::ScriptFault;
-pub use file_lines::print_files;
+pub use file_lines::write_files;
 pub use playing::replay;
 pub use printing::{bytes_text, print_reply};
 pub use script::Script;
-pub use setup::{MOST_TAPE_BYTES, Setup};
+pub use setup::Setup;
 pub use steps::{Action, Step};
 pub use texts::{AnswerText, EventText};
 pub use words::Terminal;

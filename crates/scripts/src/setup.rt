@@ -4,14 +4,12 @@ ghost use Rattle.kernel_model.specs.World.{tape_count};
 
 use crate::words::{Terminal, decimal, numbers_of, only_bytes_of, terminal_of};
 use byte_list::Bytes;
+use file_reading::MOST_TAPE_BYTES;
 use kernel_model::{MOST_PROGRAMS, TAPES};
 use std::alloc::{AllocError, Global};
 
 /// The most words of a program: 60 pages.
 const MOST_WORDS: usize = 61440;
-
-/// The most bytes of a tape.
-pub const MOST_TAPE_BYTES: usize = 65536;
 
 /// The words of a program, 1 to 61,440, for the addresses from 0x00010000 on.
 pub struct Words {

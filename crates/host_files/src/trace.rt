@@ -1,5 +1,5 @@
 //! Traces: the replies that a program's calls take.
-use crate::fault::SessionFault;
+use crate::fault::FileFault;
 use byte_list::Bytes;
 use elf32::{ElfFault, parse};
 use line_words::{bytes_of, hexadecimal};
@@ -65,10 +65,10 @@ fn push_reply(
     replies: &mut Vec<Reply>,
     line: &str,
     number: usize,
-) -> Result<(), SessionFault> {
+) -> Result<(), FileFault> {
     match reply_of(alloc, line)? {
         Some(reply) => Ok(replies.push(reply)?),
-        None => Err(SessionFault::Trace { line: number }),
+        None => Err(FileFault::Trace { line: number }),
     }
 }
 
@@ -76,7 +76,7 @@ fn push_reply(
 /// HEX` is that of a call which entered a program, with the bytes of its file. A0 and AT are eight hexadecimal digits; HEX is pairs
 /// of them, or `-` for none. Lines are counted from 1 and end at a line feed. Empty ones and those that begin with `#` are skipped.
 /// Refused is the first line that has no such form, or whose file is no image; or OutOfMemory.
-pub fn read_trace(alloc: Global, text: &str) -> Result<Vec<Reply>, SessionFault> {
+pub fn read_trace(alloc: Global, text: &str) -> Result<Vec<Reply>, FileFault> {
     let mut replies = Vec::new(alloc);
     let mut number = 0usize;
     for line in text.split('\n') {

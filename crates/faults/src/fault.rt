@@ -1,9 +1,7 @@
 //! Why the program ends early.
-use crash_outcomes::{ExpectationFault, ExploreFault};
+use crate::expectation::ExpectationFault;
 use host_files::FileFault;
-use kernel::{BootFault, DiskFault};
-use run_threads::RunFault;
-use scripts::ScriptFault;
+use journal::DiskFault;
 use std::alloc::{AllocError, AllocFailed};
 use std::io;
 use thiserror::Error;
@@ -96,52 +94,9 @@ impl From<DiskFault> for Fault {
     }
 }
 
-impl From<BootFault> for Fault {
-    fn from(fault: BootFault) -> Fault {
-        match fault {
-            BootFault::Disk(fault) => Fault::from(fault),
-            BootFault::OutOfMemory => Fault::OutOfMemory,
-        }
-    }
-}
-
 impl From<FileFault> for Fault {
     fn from(fault: FileFault) -> Fault {
         Fault::File(fault)
-    }
-}
-
-impl From<ScriptFault> for Fault {
-    fn from(fault: ScriptFault) -> Fault {
-        match fault {
-            ScriptFault::Refused { line } => Fault::Script { line },
-            ScriptFault::NoEvent { event } => Fault::Event { event },
-            ScriptFault::Image(fault) => Fault::File(FileFault::from(fault)),
-            ScriptFault::Boot(fault) => Fault::from(fault),
-            ScriptFault::OutOfMemory => Fault::OutOfMemory,
-            ScriptFault::InputOutput => Fault::InputOutput,
-        }
-    }
-}
-
-impl From<ExploreFault> for Fault {
-    fn from(fault: ExploreFault) -> Fault {
-        match fault {
-            ExploreFault::Script(fault) => Fault::from(fault),
-            ExploreFault::Expectation(fault) => Fault::Expectation(fault),
-            ExploreFault::OutOfMemory => Fault::OutOfMemory,
-            ExploreFault::InputOutput => Fault::InputOutput,
-        }
-    }
-}
-
-impl From<RunFault> for Fault {
-    fn from(fault: RunFault) -> Fault {
-        match fault {
-            RunFault::OutOfMemory => Fault::OutOfMemory,
-            RunFault::DiskFailed => Fault::DiskFailed,
-            RunFault::Output => Fault::InputOutput,
-        }
     }
 }
 
