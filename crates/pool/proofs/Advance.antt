@@ -1,7 +1,7 @@
 -- What is done at a seat, one thing after the other.
-use Rattle.std.proofs.Common.{◌≡◌, ℕ, ◌+◌, ◌∙◌, refl, sym, ap, List, [], ◌∷◌, ◌++◌, length-append, append_assoc, arith, subst, Bool, None, Some, Ok, Err, inr}
+use Rattle.std.proofs.Common.{◌≡◌, ◌⊎◌, ◌≤◌, ℕ, ◌+◌, ◌∙◌, refl, sym, ap, List, [], ◌∷◌, ◌++◌, length-append, append_assoc, arith, subst, Bool, None, Some, Ok, Err, inl, inr}
 use Rattle.std.proofs.lemmas.List.{append-nil}
-use Rattle.std.specs.Prelude.{Option, Result, MatchResult, IfOk, IfErr}
+use Rattle.std.specs.Prelude.{Option, Result, MatchOption, MatchResult}
 use Rattle.kernel_step.specs.declared.loan.Rejected.{Rejected}
 use Rattle.bursts.specs.Holdings.{Holding, grown}
 use Rattle.bursts.specs.Totals.{plus, Fit}
@@ -9,11 +9,13 @@ use Rattle.bursts.specs.declared.loan_id.LoanId.{LoanId}
 use Rattle.bursts.specs.declared.totals.Totals.{Totals}
 use Rattle.pool.specs.declared.hand.Hand.{Hand}
 use Rattle.pool.specs.declared.settling.Settling.{Settling}
-use Rattle.pool.specs.Hands.{gave}
-use Rattle.pool.specs.Settled.{Settled, Settlement, loans_in, totals_in, rejected_in, after, no_settling}
+use Rattle.pool.specs.declared.settling.Sums.{Sums}
+use Rattle.pool.specs.declared.told.Told.TheVariants as told_of
+use Rattle.pool.specs.Queues.{AtQueue, with_put, found_full}
+use Rattle.pool.specs.Settled.{Settled, Ends, Settlement, loans_in, totals_in, rejected_in, settling_of, after, no_settling}
 use Rattle.pool.specs.Seats.{Seated, with_results, with_settled, told_so}
 use Rattle.pool.specs.Fetching.{Fetched}
-use Rattle.pool.specs.Turns.{Advances, AllAccepted, Rejects, RejectsSoon, AfterFetch}
+use Rattle.pool.specs.Turns.{Advances, AllAccepted, IsCleared, Clears, Rejects, RejectsSoon, AfterFetch}
 use Rattle.pool.proofs.Sums.{grown_twice, grown_not, loans_append, turns_append, entered_append, enters_append}
 
 rest_of : (a c : Seated) → c.own ≡ a.own → c.others ≡ a.others → c.spare ≡ a.spare → c.told ≡ a.told → c ≡ with_settled a c.results c.share
@@ -31,8 +33,8 @@ pub advances_not : (a : Seated) → AllAccepted a a [] no_settling
 advances_not a = (
   record {
     done = [];
-    put = sym (append-nil a.results.put);
-    taken = sym (append-nil a.results.taken);
+    put = sym (append-nil a.results.hand.put);
+    taken = sym (append-nil a.results.hand.taken);
     settled = refl;
     turns = refl;
     events = omega arith;
@@ -40,15 +42,38 @@ advances_not a = (
     enters = refl;
     share = grown_not a.share;
     refused = tt;
+    looks = omega arith;
     rest = rest_of a a refl refl refl refl;
   },
   refl,
 )
 
-pub advances_settled : (a b : Seated) (s : Settling) → Settled a.results a.share s b.results b.share → b ≡ with_settled a b.results b.share → Advances a b [] s
-advances_settled a b s d rest = record {
+-- how often the queue was found empty, once a settling has ended
+not_fewer : (v w : AtQueue) (s : Settling) → Ends v s w → v.empty ≤ w.empty
+not_fewer v w s ends = by_case s.rejected ends.1
+  where
+    by_case : (o : Option Rejected) → MatchOption o ((w.empty ≡ v.empty + 1) ⊎ ((w.empty ≡ v.empty) × (s.settled ≡ 1024))) (λ r. w.empty ≡ v.empty) → v.empty ≤ w.empty
+    by_case None (inl once) = omega (arith, once)
+    by_case None (inr all) = omega (arith, all.0)
+    by_case (Some r) same = omega (arith, same)
+
+cleared : (a b : Seated) (s : Settling) → Ends a.results s b.results → s.rejected ≡ None → IsCleared a b s
+cleared a b s ends none = by_case s.rejected none ends.1
+  where
+    by_case : (o : Option Rejected) → o ≡ None
+        → MatchOption o ((b.results.empty ≡ a.results.empty + 1) ⊎ ((b.results.empty ≡ a.results.empty) × (s.settled ≡ 1024))) (λ r. b.results.empty ≡ a.results.empty) → IsCleared a b s
+    by_case None none (inl once) = inl (omega (arith, once))
+    by_case None none (inr all) = inr (omega (arith, all.1))
+    by_case (Some r) none same = cc
+
+cleared_then : (a b c : Seated) (s t : Settling) → a.results.empty ≤ b.results.empty → IsCleared b c t → IsCleared a c (after s t)
+cleared_then a b c s t up (inl more) = inl (omega (arith, up, more))
+cleared_then a b c s t up (inr all) = inr (omega (arith, all))
+
+pub advances_settled : (a b : Seated) (s : Settling) → Settled a.results.hand a.share s b.results.hand b.share → Ends a.results s b.results → b ≡ with_settled a b.results b.share → Advances a b [] s
+advances_settled a b s d ends rest = record {
   done = d.done;
-  put = ap (λ (v : Hand). v.put) d.taken ∙ sym (append-nil a.results.put);
+  put = ap (λ (v : Hand). v.put) d.taken ∙ sym (append-nil a.results.hand.put);
   taken = ap (λ (v : Hand). v.taken) d.taken;
   settled = d.settled;
   turns = d.turns;
@@ -57,17 +82,18 @@ advances_settled a b s d rest = record {
   enters = d.enters;
   share = d.share;
   refused = d.refused;
+  looks = not_fewer a.results b.results s ends;
   rest = rest;
 }
 
--- a result is put in after that
-pub advances_put : (a b c : Seated) (x : LoanId) (s : Settling) → AllAccepted a b [] s → c ≡ with_results b (gave b.results x) → AllAccepted a c (x ∷ []) s
-advances_put a b c x s d is =
+-- the queue was full after that
+pub advances_full : (a b c : Seated) (s : Settling) → AllAccepted a b [] s → c ≡ with_results b (found_full b.results) → AllAccepted a c [] s
+advances_full a b c s d is =
     let e = d.0 in (
       record {
         done = e.done;
-        put = ap (λ (u : Seated). u.results.put) is ∙ ap (λ l. l ++ x ∷ []) (e.put ∙ append-nil a.results.put);
-        taken = ap (λ (u : Seated). u.results.taken) is ∙ e.taken;
+        put = ap (λ (u : Seated). u.results.hand.put) is ∙ e.put;
+        taken = ap (λ (u : Seated). u.results.hand.taken) is ∙ e.taken;
         settled = e.settled;
         turns = e.turns;
         events = e.events;
@@ -75,6 +101,28 @@ advances_put a b c x s d is =
         enters = e.enters;
         share = ap (λ (u : Seated). u.share) is ∙ e.share;
         refused = e.refused;
+        looks = let up = e.looks in omega (arith, up, ap (λ (u : Seated). u.results.empty) is);
+        rest = rest_twice a b c e.rest (rest_of b c (ap (λ (u : Seated). u.own) is) (ap (λ (u : Seated). u.others) is) (ap (λ (u : Seated). u.spare) is) (ap (λ (u : Seated). u.told) is));
+      },
+      d.1,
+    )
+
+-- a result is put in after that
+pub advances_put : (a b c : Seated) (x : LoanId) (s : Settling) → AllAccepted a b [] s → c ≡ with_results b (with_put b.results x) → AllAccepted a c (x ∷ []) s
+advances_put a b c x s d is =
+    let e = d.0 in (
+      record {
+        done = e.done;
+        put = ap (λ (u : Seated). u.results.hand.put) is ∙ ap (λ l. l ++ x ∷ []) (e.put ∙ append-nil a.results.hand.put);
+        taken = ap (λ (u : Seated). u.results.hand.taken) is ∙ e.taken;
+        settled = e.settled;
+        turns = e.turns;
+        events = e.events;
+        entered = e.entered;
+        enters = e.enters;
+        share = ap (λ (u : Seated). u.share) is ∙ e.share;
+        refused = e.refused;
+        looks = let up = e.looks in omega (arith, up, ap (λ (u : Seated). u.results.empty) is);
         rest = rest_twice a b c e.rest (rest_of b c (ap (λ (u : Seated). u.own) is) (ap (λ (u : Seated). u.others) is) (ap (λ (u : Seated). u.spare) is) (ap (λ (u : Seated). u.told) is));
       },
       d.1,
@@ -90,8 +138,8 @@ pub advances_then : (a b c : Seated) (xs : List LoanId) (s t : Settling) → All
 advances_then a b c xs s t ds e =
     let d = ds.0 in record {
       done = d.done ++ e.done;
-      put = e.put ∙ append-nil b.results.put ∙ d.put;
-      taken = taken_twice a.results.taken b.results.taken c.results.taken d.done e.done (rejected_in t.rejected) s.rejected ds.1 d.taken e.taken;
+      put = e.put ∙ append-nil b.results.hand.put ∙ d.put;
+      taken = taken_twice a.results.hand.taken b.results.hand.taken c.results.hand.taken d.done e.done (rejected_in t.rejected) s.rejected ds.1 d.taken e.taken;
       settled = length-append d.done e.done ∙ (λ i. d.settled i + e.settled i);
       turns = turns_append d.done e.done ∙ (λ i. d.turns i + e.turns i);
       events = let m = d.events in let n = e.events in omega (arith, m, n);
@@ -99,20 +147,15 @@ advances_then a b c xs s t ds e =
       enters = enters_append d.done e.done ∙ (λ i. d.enters i + e.enters i);
       share = e.share ∙ ap (λ (h : Holding). grown h (totals_in t)) d.share ∙ grown_twice a.share (totals_in s) (totals_in t);
       refused = e.refused;
+      looks = let m = d.looks in let n = e.looks in omega (arith, m, n);
       rest = rest_twice a b c d.rest e.rest;
     }
 
-pub accepted_then : (a b c d : Seated) (s u : Settling) → c ≡ b → AllAccepted a b [] s → (t : Settling) × AllAccepted c d [] t × (u ≡ after s t) → AllAccepted a d [] u
-accepted_then a b c d s u is h e =
-    let later : AllAccepted b d [] e.0 = subst (λ (k : Seated). AllAccepted k d [] e.0) is e.1 in
-    subst (λ (r : Settling). AllAccepted a d [] r) (sym e.2) (advances_then a b d [] s e.0 h later.0, later.1)
+pub accepted_then : (a b c : Seated) (s u : Settling) → AllAccepted a b [] s → (t : Settling) × Clears b c [] t × (u ≡ after s t) → AllAccepted a c [] u
+accepted_then a b c s u d e = subst (λ (r : Settling). AllAccepted a c [] r) (sym e.2) (advances_then a b c [] s e.0 d e.1.0.0, e.1.0.1)
 
 pub rejects_then : (a b c : Seated) (xs : List LoanId) (s : Settling) (r : Rejected) → AllAccepted a b xs s → Rejects b c [] r → Rejects a c xs r
 rejects_then a b c xs s r d e = (after s e.0, advances_then a b c xs s e.0 d e.1, e.2)
-
--- the same from a seat that is equal
-pub rejects_from : (a b c : Seated) (xs : List LoanId) (r : Rejected) → b ≡ a → Rejects b c xs r → Rejects a c xs r
-rejects_from a b c xs r is d = subst (λ (u : Seated). Rejects u c xs r) is d
 
 -- a share that had room for both had room for their sum
 pub fits_both : (h k j : Holding) (a b : Totals) → k ≡ grown h a → j ≡ grown k b → Fit j.totals → Fit (plus a b)
@@ -124,26 +167,30 @@ fits_both h k j a b p q f =
     let enters : j.totals.enters ≡ (h.totals.enters + a.enters) + b.enters = ap (λ (x : Holding). x.totals.enters) e in
     (omega (arith, events, f.0), omega (arith, ran, f.1), omega (arith, turns, f.2), omega (arith, enters, f.3))
 
--- a settling after an earlier one
-pub settled_after : (a b : Seated) (e n both : Settling) (result : Result Settling Rejected) → Settled a.results a.share n b.results b.share → b ≡ with_settled a b.results b.share → both ≡ after e n
-    → IfOk result (λ s. (s ≡ both) × (s.rejected ≡ None)) → IfErr result (λ r. both.rejected ≡ Some r)
-    → MatchResult result (λ s. (t : Settling) × AllAccepted a b [] t × (s ≡ after e t)) (Rejects a b [])
-settled_after a b e n both (Ok s) d rest is ok err =
-    let same : s ≡ after e n = ok.0 ∙ is in
-    (n, (advances_settled a b n d rest, sym (ap (λ (x : Settling). x.rejected) same) ∙ ok.1), same)
-settled_after a b e n both (Err r) d rest is ok err = (n, advances_settled a b n d rest, sym (ap (λ (x : Settling). x.rejected) is) ∙ err)
+-- a settling after an earlier one: later is what it settled, and s both
+pub few_later : (later : Sums) (n : Settling) → settling_of later ≡ n → n.settled ≤ n.events → later.settled ≤ later.totals.events
+few_later later n is few = subst (λ (s : Settling). s.settled ≤ s.events) (sym is) few
 
-pub ends_settled : (a b c : Seated) (x : LoanId) (s : Settling) (result : Result Settling Rejected) → AllAccepted a b (x ∷ []) s
-    → MatchResult result (λ r. (t : Settling) × AllAccepted b c [] t × (r ≡ after s t)) (Rejects b c [])
-    → MatchResult result (AllAccepted a c (x ∷ [])) (RejectsSoon a c x)
-ends_settled a b c x s (Ok r) d e = subst (λ (r : Settling). AllAccepted a c (x ∷ []) r) (sym e.2) (advances_then a b c (x ∷ []) s e.0 d e.1.0, e.1.1)
-ends_settled a b c x s (Err r) d e = inr (rejects_then a b c (x ∷ []) s r d e)
+pub settled_after : (a b : Seated) (e later s : Sums) (n : Settling) → Settled a.results.hand a.share n b.results.hand b.share → Ends a.results n b.results → b ≡ with_settled a b.results b.share
+    → settling_of later ≡ n → settling_of s ≡ after (settling_of e) (settling_of later) → (t : Settling) × Clears a b [] t × (settling_of s ≡ after (settling_of e) t)
+settled_after a b e later s n d ends rest is both =
+    let none : n.rejected ≡ None = ap (λ (x : Settling). x.rejected) (sym is) in
+    (n, ((advances_settled a b n d ends rest, none), cleared a b n ends none), both ∙ ap (λ t. after (settling_of e) t) is)
+
+pub ends_settled : (a b c : Seated) (x : LoanId) (s : Sums) (result : Result Sums Rejected) → AllAccepted a b (x ∷ []) (settling_of s)
+    → MatchResult result (λ r. (t : Settling) × Clears b c [] t × (settling_of r ≡ after (settling_of s) t)) (Rejects b c [])
+    → MatchResult result (λ r. Clears a c (x ∷ []) (settling_of r)) (RejectsSoon a c x)
+ends_settled a b c x s (Ok r) d e =
+    subst (λ (r : Settling). Clears a c (x ∷ []) r) (sym e.2) ((advances_then a b c (x ∷ []) (settling_of s) e.0 d e.1.0.0, e.1.0.1), cleared_then a b c (settling_of s) e.0 d.0.looks e.1.1)
+ends_settled a b c x s (Err r) d e = inr (rejects_then a b c (x ∷ []) (settling_of s) r d e)
 
 -- a loan is fetched, and then its result is handed in
 pub after_fetch : (a m : Seated) (q : ℕ) (x y : LoanId) (H : ℕ → Type 0) (P : LoanId → Seated → Type 0) → Fetched a q m x → H x.pid → P y m → y ≡ x → AfterFetch a q (λ z n. H z.pid × P z n)
 after_fetch a m q x y H P f h p is = (x, m, f, (h, subst (λ (z : LoanId). P z m) is p))
 
 -- the bench answers after a settling
-pub asks : (a m b : Seated) (n s : Settling) (over : Bool) → Settled a.results a.share n m.results m.share → m ≡ with_settled a m.results m.share → s ≡ n → s.rejected ≡ None
-    → b ≡ told_so m over → (k : Seated) × (t : Settling) × AllAccepted a k [] t × (b ≡ told_so k over)
-asks a m b n s over d rest is none told = (m, n, (advances_settled a m n d rest, ap (λ (x : Settling). x.rejected) (sym is) ∙ none), told)
+pub asks : (a m b : Seated) (n : Settling) (s : Sums) (over : Bool) → Settled a.results.hand a.share n m.results.hand m.share → Ends a.results n m.results → m ≡ with_settled a m.results m.share → settling_of s ≡ n
+    → b ≡ told_so m (told_of.Over over) → (k : Seated) × (t : Settling) × Clears a k [] t × (b ≡ told_so k (told_of.Over over))
+asks a m b n s over d ends rest is told =
+    let accepted : n.rejected ≡ None = ap (λ (x : Settling). x.rejected) (sym is) in
+    (m, n, ((advances_settled a m n d ends rest, accepted), cleared a m n ends accepted), told)

@@ -1,7 +1,7 @@
 -- Loans that are lent one after the other, and where they go.
-use Rattle.std.proofs.Common.{◌≡◌, ℕ, ◌+◌, ◌≤◌, ◌<◌, ◌∙◌, refl, sym, ap, subst, true, ◌⊎◌, List, [], ◌∷◌, ◌++◌, length, length-append, append_assoc, arith, None, Some, Ok, Err}
+use Rattle.std.proofs.Common.{◌≡◌, ℕ, ◌+◌, ◌≤◌, ◌<◌, ◌∙◌, refl, sym, ap, subst, List, [], ◌∷◌, ◌++◌, length, length-append, append_assoc, arith, None, Some, Ok, Err}
 use Rattle.std.proofs.lemmas.List.{append-nil}
-use Rattle.std.specs.Prelude.{Option, Result, IfErr, MatchOption, MatchResult}
+use Rattle.std.specs.Prelude.{Option, Result}
 use Rattle.std.specs.List.{AllByRecursion}
 use Rattle.kernel_model.specs.Answers.{Kernel, Refuses}
 use Rattle.kernel_model.specs.Loans.{Lends, pick, loan_refusal, with_loan}
@@ -14,7 +14,7 @@ use Rattle.bursts.specs.LoanIds.{id_of_loan}
 use Rattle.bursts.specs.declared.loan_id.LoanId.{LoanId}
 use Rattle.pool.specs.Hands.{hand}
 use Rattle.pool.specs.Deques.{AtDeque, put_in}
-use Rattle.pool.specs.Lending.{IsNext, IsLoanRefusal, IsNothingLendable, LendsAll, LendsNoted, Lent, listed}
+use Rattle.pool.specs.Lending.{IsNext, LendsAll, LendsNoted, Lent, listed}
 
 lends-push : (k m : Kernel) (q : ℕ) (xs : List LoanId) (x : LoanId) → LendsAll k q xs m → IsNext m q x → LendsAll k q (xs ++ x ∷ []) (with_loan m x.pid q)
 lends-push k m q [] x h next = (subst (λ (j : Kernel). IsNext j q x) h next, ap (λ (j : Kernel). with_loan j x.pid q) h)
@@ -158,11 +158,3 @@ pick_none b c q r o was is lends = (subst (λ r. Lends b q c (lent_out r)) (was 
 
 pub refusal : (b c : Kernel) (q : ℕ) (r : Result (Option Loan) Refused) (why : Refused) → r ≡ Err why → Lends b q c (lent_out r) → Refuses (loan_refusal b) why
 refusal b c q r why is lends = (subst (λ r. Lends b q c (lent_out r)) is lends).0
-
--- the same, of whichever core
-pub refused_too : {X : Type 0} (r : Result (Option X) Refused) (q : ℕ) (P : X → Type 0) (B C D : Type 0) (b : OnBench) → MatchResult r (λ given. MatchOption given (B × C × D) P) (λ _. B × C × D)
-    → (r ≡ Ok None → (b.stopped ≡ true) ⊎ (pick b.core q ≡ None)) → IfErr r (λ why. Refuses (loan_refusal b.core) why)
-    → MatchResult r (λ given. MatchOption given (B × C × D × IsNothingLendable q) P) (λ why. B × C × D × IsLoanRefusal why)
-refused_too (Ok None) q P B C D b h none e = (h.0, h.1, h.2, (b, none refl))
-refused_too (Ok (Some x)) q P B C D b h none e = h
-refused_too (Err why) q P B C D b h none e = (h.0, h.1, h.2, (b.core, e))

@@ -4,4 +4,5 @@ pub mod Looks
 pub mod Comes
 pub mod Sums
 pub mod Advance
+pub mod Works
 pub mod Fresh

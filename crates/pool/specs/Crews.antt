@@ -1,22 +1,46 @@
--- What a crew keeps, and when its workers end.
-use Rattle.std.specs.Prelude.{◌≡◌, ℕ, nat_lt, if◌then◌else◌, List, [], ◌∷◌, ◌++◌, Bool, true, Option, Some, None}
+-- What a crew keeps, and what its workers do.
+use Rattle.std.specs.Prelude.{◌≡◌, ◌⊎◌, ℕ, zero, suc, nat_lt, if◌then◌else◌, Bool, true, false, Option, Some, None, Result, Ok, Err}
+use Rattle.kernel_step.specs.declared.loan.Rejected.{Rejected}
 use Rattle.bursts.specs.declared.fault.WorkFault.{WorkFault}
+use Rattle.bursts.specs.declared.fault.WorkFault.TheVariants as fault
 use Rattle.pool.specs.declared.crewing.Next.{Next}
 use Rattle.pool.specs.declared.crewing.Next.TheVariants as next
+use Rattle.pool.specs.declared.turning.Pooled.{Pooled}
+use Rattle.pool.specs.declared.turning.Pooled.TheVariants as pooled
 use Rattle.pool.specs.Seats.{Seated}
+use Rattle.pool.specs.Turns.{TurnsOut, Asks}
 
 -- of the fault that is kept, with its place, and one of this place: that of the earlier place
 abbrev pub earlier : Option (ℕ × WorkFault) → ℕ → WorkFault → Option (ℕ × WorkFault)
 earlier None place fault = Some (place, fault)
 earlier (Some kept) place fault = if nat_lt place kept.0 then Some (place, fault) else Some kept
 
--- the bench answered last that the work is over
-abbrev pub IsToldOver : Seated → Type 0
-IsToldOver s = (before : List Bool) × (s.told ≡ before ++ true ∷ [])
+-- what a worker does once it has asked whether the work is over: it ends where it is, or where a result was not taken back
+abbrev pub next_after : Result Bool Rejected → Next
+next_after (Ok true) = next.End None
+next_after (Ok false) = next.Rest
+next_after (Err rejected) = next.End (Some (fault.Settle rejected))
 
--- a worker that ends without a fault was told so
-abbrev pub EndsToldOver : Next → Seated → Type 0
-EndsToldOver next.Ask s = Unit {0}
-EndsToldOver next.Rest s = Unit {0}
-EndsToldOver (next.End None) s = IsToldOver s
-EndsToldOver (next.End (Some fault)) s = Unit {0}
+-- a worker asks whether the work is over, and does this next
+abbrev pub AsksThen : Seated → Seated → Next → Type 0
+AsksThen old new does = (over : Result Bool Rejected) × Asks old new over × (does ≡ next_after over)
+
+-- After a turn that worked it asks for a loan again. After an idle one it asks whether the work is over. After one that failed it
+-- ends with the fault.
+abbrev pub ThenDoes : Result Pooled WorkFault → Seated → Seated → Next → Type 0
+ThenDoes (Ok (pooled.Worked s)) old new does = (new ≡ old) × (does ≡ next.Ask)
+ThenDoes (Ok pooled.Idle) old new does = AsksThen old new does
+ThenDoes (Err failed) old new does = (new ≡ old) × (does ≡ next.End (Some failed))
+
+-- A worker takes a turn at its seat, and does this next.
+abbrev pub TakesTurn : ℕ → Seated → Seated → Next → Type 0
+TakesTurn q old new does = (turned : Result Pooled WorkFault) × (m : Seated) × TurnsOut old q (λ pid. Unit {0}) m turned × ThenDoes turned m new does
+
+-- it took so many turns, and went on after each
+abbrev pub WentOn : ℕ → Seated → Seated → ℕ → Type 0
+WentOn q old new zero = new ≡ old
+WentOn q old new (suc n) = (m : Seated) × WentOn q old m n × (TakesTurn q m new next.Ask ⊎ TakesTurn q m new next.Rest)
+
+-- It took turns until one, after which it ended so.
+abbrev pub WorksUntil : ℕ → Seated → Seated → Option WorkFault → Type 0
+WorksUntil q old new ended = (turns : ℕ) × (m : Seated) × WentOn q old m turns × TakesTurn q m new (next.End ended)

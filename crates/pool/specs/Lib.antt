@@ -1,5 +1,6 @@
 pub mod Hands
 pub mod Deques
+pub mod Queues
 pub mod Lending
 pub mod Seats
 pub mod Seating

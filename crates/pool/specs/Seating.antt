@@ -1,8 +1,8 @@
 -- What the seats of a pool are made of.
 use Rattle.std.specs.Prelude.{◌≡◌, ℕ, List, [], ◌∷◌, ◌++◌, length, map, reverse, None}
 use Rattle.bursts.specs.Holdings.{Holding}
-use Rattle.pool.specs.Hands.{no_hand}
 use Rattle.pool.specs.Deques.{DequeId, AtDeque, new_at}
+use Rattle.pool.specs.Queues.{new_at_queue}
 use Rattle.pool.specs.Seats.{Seated}
 
 -- nothing was done at a deque
@@ -25,4 +25,4 @@ pub record AreOthers (deques : List AtDeque) (place : ℕ) (others : List AtDequ
 
 -- a seat of these deques with this share, at which nothing was done yet
 abbrev pub seat_with : AtDeque → List AtDeque → Holding → Seated
-seat_with own others share = record { own = own; others = others; spare = None; results = no_hand; share = share; told = [] }
+seat_with own others share = record { own = own; others = others; spare = None; results = new_at_queue; share = share; told = [] }

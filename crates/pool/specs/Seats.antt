@@ -1,32 +1,32 @@
 -- What contracts see of a worker's seat.
-use Rattle.std.specs.Prelude.{◌≡◌, ℕ, List, [], ◌∷◌, ◌++◌, length, map, slice_get, Bool, Option, Some, None}
+use Rattle.std.specs.Prelude.{◌≡◌, ℕ, List, [], ◌∷◌, ◌++◌, length, map, slice_get, Option, Some, None}
 use Rattle.bursts.specs.Holdings.{Holding, new_part}
 use Rattle.bursts.specs.declared.loan_id.LoanId.{LoanId}
-use Rattle.pool.specs.declared.hand.Hand.{Hand}
-use Rattle.pool.specs.Hands.{no_hand}
+use Rattle.pool.specs.declared.told.Told.{Told}
 use Rattle.pool.specs.Deques.{DequeId, AtDeque, new_at}
+use Rattle.pool.specs.Queues.{AtQueue, new_at_queue}
 
--- its own deque and those of the others, the loan that it has to spare, what its pass of the queue of results shows, its share, and
--- each answer of the bench to whether the work is over
+-- its own deque and those of the others, the loan that it has to spare, the queue of results, its share, and each answer of the bench
+-- by which it had no loan, or to whether the work is over
 pub record Seated : Type 0 where
   pub own : AtDeque
   pub others : List AtDeque
   pub spare : Option LoanId
-  pub results : Hand
+  pub results : AtQueue
   pub share : Holding
-  pub told : List Bool
+  pub told : List Told
 
--- the same, but for what its pass of the queue shows
-abbrev pub with_results : Seated → Hand → Seated
+-- the same, but for the queue
+abbrev pub with_results : Seated → AtQueue → Seated
 with_results s v = record s { results = v }
 
 -- the same, but for that and its share
-abbrev pub with_settled : Seated → Hand → Holding → Seated
+abbrev pub with_settled : Seated → AtQueue → Holding → Seated
 with_settled s v h = record s { results = v; share = h }
 
 -- the same, once the bench has answered so
-abbrev pub told_so : Seated → Bool → Seated
-told_so s over = record s { told = s.told ++ over ∷ [] }
+abbrev pub told_so : Seated → Told → Seated
+told_so s answer = record s { told = s.told ++ answer ∷ [] }
 
 -- A seat at which nothing was done yet, of the worker at this place among workers with these deques. Its own deque is the one at
 -- its place, and the others are those after it and then those before it. It has one part of a share.
@@ -38,7 +38,7 @@ pub record IsNew (deques : List DequeId) (place : ℕ) (s : Seated) : Type 0 whe
   pub own : s.own ≡ new_at s.own.deque
   pub others : s.others ≡ map new_at (after ++ before)
   pub spare : s.spare ≡ None
-  pub results : s.results ≡ no_hand
+  pub results : s.results ≡ new_at_queue
   pub share : s.share ≡ new_part
   pub told : s.told ≡ []
 

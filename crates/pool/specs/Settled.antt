@@ -1,5 +1,5 @@
 -- What a settling says.
-use Rattle.std.specs.Prelude.{◌≡◌, ◌⊎◌, ℕ, ◌+◌, ◌≤◌, List, [], ◌∷◌, ◌++◌, length, map, Bool, if◌then◌else◌, Option, Some, None, Err, IfSome}
+use Rattle.std.specs.Prelude.{◌≡◌, ◌⊎◌, ℕ, ◌+◌, ◌≤◌, List, [], ◌∷◌, ◌++◌, length, map, Bool, if◌then◌else◌, Option, Some, None, Err, IfSome, MatchOption}
 use Rattle.kernel_model.specs.Answers.{Kernel}
 use Rattle.kernel_step.specs.Loaned.{Settles}
 use Rattle.kernel_step.specs.declared.loan.Done.{Done}
@@ -10,7 +10,9 @@ use Rattle.bursts.specs.declared.loan_id.LoanId.{LoanId}
 use Rattle.bursts.specs.declared.totals.Totals.{Totals}
 use Rattle.pool.specs.declared.hand.Hand.{Hand}
 use Rattle.pool.specs.declared.settling.Settling.{Settling}
+use Rattle.pool.specs.declared.settling.Sums.{Sums}
 use Rattle.pool.specs.Hands.{hand}
+use Rattle.pool.specs.Queues.{AtQueue}
 
 -- what a settling adds to a share
 abbrev pub totals_in : Settling → Totals
@@ -68,6 +70,20 @@ pub record Settled (v : Hand) (h : Holding) (s : Settling) (w : Hand) (k : Holdi
   pub enters : sum_of_entered done ≡ s.enters
   pub share : k ≡ grown h (totals_in s)
   pub refused : IfSome s.rejected SomeCoreRejects
+
+-- a settling ended with a result that was rejected, or with the queue, which was found empty, or with the 1,024th result
+abbrev pub Ends : AtQueue → Settling → AtQueue → Type 0
+Ends v s w =
+    (w.full ≡ v.full)
+    × MatchOption s.rejected ((w.empty ≡ v.empty + 1) ⊎ ((w.empty ≡ v.empty) × (s.settled ≡ 1024))) (λ r. w.empty ≡ v.empty)
+
+-- the settling that comes to these sums, and ended with this result, if there was one that was rejected
+abbrev pub ended_with : Sums → Option Rejected → Settling
+ended_with s rejected = record { settled = s.settled; events = s.totals.events; ran = s.totals.ran; turns = s.totals.turns; enters = s.totals.enters; rejected = rejected }
+
+-- of which none was rejected
+abbrev pub settling_of : Sums → Settling
+settling_of s = ended_with s None
 
 -- nothing was settled
 abbrev pub no_settling : Settling

@@ -1,11 +1,11 @@
 //! A crew: a thread for each seat and its gate.
-ghost use Rattle.std.specs.Prelude.{◌≡◌, IfNone};
-ghost use Rattle.pool.specs.Crews.{earlier, IsToldOver, EndsToldOver};
+ghost use Rattle.std.specs.Prelude.{◌≡◌};
+ghost use Rattle.pool.specs.Crews.{earlier, next_after as next_of, AsksThen, TakesTurn, WorksUntil};
 
 use crate::fault::CrewFault;
 use crate::seats::Seat;
 use crate::turning::Pooled;
-use bursts::{Gate, Naming, WorkFault};
+use bursts::{Gate, Naming, Rejected, WorkFault};
 use idle::Rest;
 use std::slice::IterMut;
 use std::sync::atomic::{AtomicBool, Ordering};
@@ -161,15 +161,22 @@ enum Next {
     End(Option<WorkFault>),
 }
 
-/// Settles what is in the queue, after which the work may be over.
-fn after_idle_turn<N: Naming, R: Wait>(rt: &R, seat: &mut Seat<'_, '_, N>, quantum: u32) -> Next
-    ensures { EndsToldOver result seat.new }
+/// What it does once it has asked whether the work is over.
+fn next_after(over: Result<bool, Rejected>) -> Next
+    ensures { result ≡ next_of over }
 {
-    match seat.is_over(rt, quantum) {
+    match over {
         Ok(true) => Next::End(None),
         Ok(false) => Next::Rest,
         Err(rejected) => Next::End(Some(WorkFault::Settle(rejected))),
     }
+}
+
+/// Settles what is in the queue, after which the work may be over.
+fn after_idle_turn<N: Naming, R: Wait>(rt: &R, seat: &mut Seat<'_, '_, N>, quantum: u32) -> Next
+    ensures { AsksThen seat.old seat.new result }
+{
+    next_after(seat.is_over(rt, quantum))
 }
 
 fn take_turn<N: Naming, G: Gate, R: Wait>(
@@ -178,7 +185,7 @@ fn take_turn<N: Naming, G: Gate, R: Wait>(
     gate: &mut G,
     quantum: u32,
 ) -> Next
-    ensures { EndsToldOver result seat.new }
+    ensures { TakesTurn quantum seat.old seat.new result }
 {
     match seat.turn(rt, gate, quantum) {
         Ok(Pooled::Worked(_)) => Next::Ask,
@@ -195,7 +202,7 @@ fn work_on<N: Naming, G: Gate, R: Wait>(
     gate: &mut G,
     quantum: u32,
 ) -> Option<WorkFault>
-    ensures { IfNone result (IsToldOver seat.new) }
+    ensures { WorksUntil quantum seat.old seat.new result }
 {
     let mut rest = Rest::up_to(MOST_PAUSES);
     for _ in rt.forever() {

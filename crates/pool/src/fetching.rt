@@ -5,14 +5,16 @@ ghost use Rattle.kernel_model.specs.Loans.{pick, loan_refusal};
 ghost use Rattle.bursts.specs.LoanIds.{id_of_loan};
 ghost use Rattle.pool.specs.Deques.{Stolen, missed_at};
 ghost use Rattle.pool.specs.Lending.{LendsNoted, Lent, IsLoanRefusal, IsNothingLendable};
-ghost use Rattle.pool.specs.Fetching.{Fetches};
+ghost use Rattle.pool.specs.Fetching.{AsksForLoan, Fetches, NotesLending};
 
 use crate::loans::{Other, Own};
 use crate::locking::lock_soon;
 use crate::seats::Seat;
+use crate::told::Told;
 use bursts::{Bench, Loan, Naming, Share, TicketedLoan};
 use kernel::Refused;
-use std::sync::{Mutex, Wait};
+use notes::Notes;
+use std::sync::Wait;
 
 /// A loan stolen from the first of these deques that has one.
 fn steal_round<N: Naming, R: Wait>(rt: &R, others: &mut Vec<Other<N>>) -> Option<TicketedLoan<N>>
@@ -81,21 +83,15 @@ fn lend_some<N: Naming>(
     Ok(Some(first))
 }
 
-/// As `lend_some`, under the lock.
-fn lend_under_lock<N: Naming, R: Wait>(
-    rt: &R,
-    lock: &Mutex<Bench<'_, N>>,
-    own: &mut Own<N>,
-    spare: &mut Option<TicketedLoan<N>>,
-    share: &mut Share<N>,
-    quantum: u32,
-) -> Result<Option<TicketedLoan<N>>, Refused>
-    ensures { MatchResult result (λ given. MatchOption given ((own.new ≡ own.old) × (spare.new ≡ spare.old) × (share.new ≡ share.old) × IsNothingLendable quantum)
-        (λ l. Lent (id_of_loan l ∷ []) quantum own.old own.new (option_map id_of_loan spare.new) share.old share.new))
-        (λ why. (own.new ≡ own.old) × (spare.new ≡ spare.old) × (share.new ≡ share.old) × IsLoanRefusal why) }
+/// Notes what the bench answered, where it lent nothing.
+fn note_lending<N: Naming>(told: &mut Notes<Told>, given: &Result<Option<TicketedLoan<N>>, Refused>)
+    ensures { NotesLending told.old.items given.now told.new.items }
 {
-    let mut guard = lock_soon(rt, lock);
-    lend_some(&mut *guard, own, spare, share, quantum)
+    match given {
+        Ok(Some(_)) => {}
+        Ok(None) => *told = told.and(&Told::Idle),
+        Err(why) => *told = told.and(&Told::Refused(*why)),
+    }
 }
 
 impl<'p, 'b, N: Naming> Seat<'p, 'b, N> {
@@ -129,14 +125,27 @@ impl<'p, 'b, N: Naming> Seat<'p, 'b, N> {
         if let Some(loan) = steal_round(rt, &mut self.others) {
             return Ok(Some(loan));
         }
+        self.ask_for_loan(rt, quantum)
+    }
+
+    /// As `lend_some`, under the lock. Notes where the bench lends nothing.
+    fn ask_for_loan<R: Wait>(
+        &mut self,
+        rt: &R,
+        quantum: u32,
+    ) -> Result<Option<TicketedLoan<N>>, Refused>
+        ensures { AsksForLoan self.old quantum self.new result }
+    {
         let pool = self.pool;
-        lend_under_lock(
-            rt,
-            &pool.bench,
+        let mut guard = lock_soon(rt, &pool.bench);
+        let given = lend_some(
+            &mut *guard,
             &mut self.own,
             &mut self.spare,
             &mut self.share,
             quantum,
-        )
+        );
+        note_lending(&mut self.told, &given);
+        given
     }
 }

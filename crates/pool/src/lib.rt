@@ -15,6 +15,7 @@ mod results;
 mod seating;
 mod seats;
 mod settling;
+mod told;
 mod turning;
 
 pub use crewing::pool_crew;
@@ -23,4 +24,5 @@ pub use hand::Hand;
 pub use pools::Pool;
 pub use seats::Seat;
 pub use settling::Settling;
+pub use told::Told;
 pub use turning::Pooled;

@@ -7,7 +7,7 @@ ghost use Rattle.pool.specs.Seats.{AtEach, AreNew};
 
 use crate::loans::{Other, Own};
 use crate::pools::Pool;
-use crate::results::new_pass;
+use crate::results::ResultQueue;
 use crate::seats::Seat;
 use bursts::{Naming, Share};
 use notes::Notes;
@@ -111,13 +111,12 @@ fn seat_at<'p, 'b, N: Naming>(
 ) -> Seat<'p, 'b, N>
     ensures { result ≡ seat_with own others.items share }
 {
-    let pass = new_pass(&pool.results);
     Seat {
         pool,
         own,
         others,
         spare: None,
-        pass,
+        results: ResultQueue::new(&pool.results),
         share,
         told: Notes::new(),
     }

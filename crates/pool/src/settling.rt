@@ -1,17 +1,16 @@
 //! Results that are settled together, under the lock.
-ghost use Rattle.std.specs.Prelude.{◌≡◌, ◌+◌, ◌≤◌, ◌<◌, ◌^◌, ℕ, length, IfNone, IfSome, MatchResult};
+ghost use Rattle.std.specs.Prelude.{◌≡◌, ◌+◌, ◌≤◌, ◌<◌, ◌^◌, ℕ, length, Some, IfOk, IfErr, IfNone, IfSome, MatchResult};
 ghost use Rattle.std.specs.declared.option.Option.{Option};
 ghost use Rattle.machine_model.specs.declared.stop.Stop.{Stop};
 ghost use Rattle.kernel_model.specs.declared.answer.Outcome.{Outcome};
 ghost use Rattle.kernel_model.specs.declared.answer.Answer.{Answer};
-ghost use Rattle.crossbeam_queue.specs.Passes.{view, IsPassOf};
 ghost use Rattle.bursts.specs.Totals.{plus, settled_totals, Fit};
 ghost use Rattle.bursts.specs.Holdings.{grown};
-ghost use Rattle.pool.specs.Hands.{took};
+ghost use Rattle.pool.specs.Queues.{with_taken, found_empty};
 ghost use Rattle.bursts.specs.LoanIds.{loan_id, id_of_result};
-ghost use Rattle.pool.specs.Settled.{Settled, SomeCoreRejects, IsOfOne, totals_in, rejected_in, more, after, no_settling};
+ghost use Rattle.pool.specs.Settled.{Settled, Ends, SomeCoreRejects, IsOfOne, rejected_in, settling_of, ended_with, more, after, no_settling};
 
-use crate::results::{ResultPass, Results, take_result};
+use crate::results::ResultQueue;
 use bursts::{Bench, Naming, Rejected, Share, Totals};
 use kernel::Answer;
 use std::sync::Wait;
@@ -33,74 +32,103 @@ pub struct Settling {
     pub rejected: Option<Rejected>,
 }
 
-impl Settling {
-    pub(crate) fn none() -> Settling
-        ensures { result ≡ no_settling }
+/// How many results were settled, and what they added to the worker's share, so far as none was rejected.
+#[derive(Clone, Copy)]
+pub(crate) struct Sums {
+    pub(crate) settled: u64,
+    pub(crate) totals: Totals,
+}
+
+impl Sums {
+    pub(crate) fn none() -> Sums
+        ensures { settling_of result ≡ no_settling }
     {
-        Settling {
+        Sums {
             settled: 0,
-            events: 0,
-            ran: 0,
-            turns: 0,
-            enters: 0,
-            rejected: None,
+            totals: Totals {
+                events: 0,
+                ran: 0,
+                turns: 0,
+                enters: 0,
+            },
         }
     }
 
     /// One result more, which added this.
-    fn with(self, by: Totals) -> Settling
-        requires few { (self.settled < 2 ^ 32) × (self.events < 2 ^ 32) × (by.events ≤ 2) }
-        requires ran { (self.ran < 2 ^ 48) × (by.ran < 2 ^ 32) }
-        requires turns { (self.turns < 2 ^ 48) × (by.turns < 2 ^ 32) }
-        requires enters { (self.enters < 2 ^ 48) × (by.enters < 2 ^ 32) }
-        ensures { result ≡ more self by }
+    fn with(self, by: Totals) -> Sums
+        requires few { (self.settled < 2 ^ 32) × (self.totals.events < 2 ^ 32) × (by.events ≤ 2) }
+        requires ran { (self.totals.ran < 2 ^ 48) × (by.ran < 2 ^ 32) }
+        requires turns { (self.totals.turns < 2 ^ 48) × (by.turns < 2 ^ 32) }
+        requires enters { (self.totals.enters < 2 ^ 48) × (by.enters < 2 ^ 32) }
+        ensures { settling_of result ≡ more (settling_of self) by }
     {
-        let Settling {
-            settled,
-            events,
-            ran,
-            turns,
-            enters,
-            rejected,
-        } = self;
-        Settling {
-            settled: settled + 1,
-            events: events + by.events,
-            ran: ran + by.ran,
-            turns: turns + by.turns,
-            enters: enters + by.enters,
-            rejected,
+        Sums {
+            settled: self.settled + 1,
+            totals: Totals {
+                events: self.totals.events + by.events,
+                ran: self.totals.ran + by.ran,
+                turns: self.totals.turns + by.turns,
+                enters: self.totals.enters + by.enters,
+            },
         }
     }
 
-    /// This settling and a later one.
-    pub(crate) fn then(self, next: Settling) -> Settling
-        requires settled { (self.settled ≤ self.events) × (next.settled ≤ next.events) }
-        requires fits { Fit (plus (totals_in self) (totals_in next)) }
-        ensures { result ≡ after self next }
+    /// These and later ones.
+    pub(crate) fn then(self, next: Sums) -> Sums
+        requires settled { (self.settled ≤ self.totals.events) × (next.settled ≤ next.totals.events) }
+        requires fits { Fit (plus self.totals next.totals) }
+        ensures { settling_of result ≡ after (settling_of self) (settling_of next) }
     {
-        Settling {
+        Sums {
             settled: self.settled + next.settled,
-            events: self.events + next.events,
-            ran: self.ran + next.ran,
-            turns: self.turns + next.turns,
-            enters: self.enters + next.enters,
-            rejected: next.rejected,
+            totals: Totals {
+                events: self.totals.events + next.totals.events,
+                ran: self.totals.ran + next.totals.ran,
+                turns: self.totals.turns + next.totals.turns,
+                enters: self.totals.enters + next.totals.enters,
+            },
         }
     }
 
-    /// The same, with the result that was not taken back.
-    fn ended_by(self, rejected: Rejected) -> Settling
-        ensures { result ≡ record { settled = self.settled; events = self.events; ran = self.ran; turns = self.turns; enters = self.enters; rejected = Some rejected } }
+    /// The settling that they come to. It ended with the result that was not taken back, if there was one.
+    pub(crate) fn ended(self, rejected: Option<Rejected>) -> Settling
+        ensures { result ≡ ended_with self rejected }
     {
         Settling {
             settled: self.settled,
-            events: self.events,
-            ran: self.ran,
-            turns: self.turns,
-            enters: self.enters,
-            rejected: Some(rejected),
+            events: self.totals.events,
+            ran: self.totals.ran,
+            turns: self.totals.turns,
+            enters: self.totals.enters,
+            rejected,
         }
+    }
+}
+
+/// What was settled, or the result that was not taken back.
+pub(crate) fn accepted(settling: Settling) -> Result<Sums, Rejected>
+    ensures ok { IfOk result (λ s. settling_of s ≡ settling) }
+    ensures err { IfErr result (λ r. settling.rejected ≡ Some r) }
+{
+    let Settling {
+        settled,
+        events,
+        ran,
+        turns,
+        enters,
+        rejected,
+    } = settling;
+    match rejected {
+        None => Ok(Sums {
+            settled,
+            totals: Totals {
+                events,
+                ran,
+                turns,
+                enters,
+            },
+        }),
+        Some(rejected) => Err(rejected),
     }
 }
 
@@ -131,18 +159,16 @@ fn totals_of_result(pid: u32, count: u32, answer: &Answer) -> Totals
 fn settle_one<N: Naming, R: Wait>(
     rt: &R,
     bench: &mut Bench<'_, N>,
-    results: &Results<N>,
-    pass: &mut ResultPass<N>,
+    results: &mut ResultQueue<'_, N>,
     share: &mut Share<N>,
 ) -> Option<Result<Totals, Rejected>>
-    requires { IsPassOf results.now pass.old }
-    ensures queue { IsPassOf results.now pass.new }
-    ensures none { IfNone result ((view pass.new ≡ view pass.old) × (share.new ≡ share.old)) }
+    ensures stopped { bench.new.stopped ≡ bench.old.stopped }
+    ensures none { IfNone result ((results.new ≡ found_empty results.old) × (share.new ≡ share.old)) }
     ensures some { IfSome result (λ r. MatchResult r
-        (λ c. ((number : ℕ) × (quantum : ℕ) × (view pass.new ≡ took (view pass.old) (loan_id c.turns number quantum))) × (share.new ≡ grown share.old c) × (c.turns < 2 ^ 32) × (c.ran < 2 ^ 32) × (c.enters < 2 ^ 32) × IsOfOne c × (c.events ≤ 2))
-        (λ j. (view pass.new ≡ took (view pass.old) (id_of_result j.done)) × (share.new ≡ share.old) × SomeCoreRejects j)) }
+        (λ c. ((number : ℕ) × (quantum : ℕ) × (results.new ≡ with_taken results.old (loan_id c.turns number quantum))) × (share.new ≡ grown share.old c) × (c.turns < 2 ^ 32) × (c.ran < 2 ^ 32) × (c.enters < 2 ^ 32) × IsOfOne c × (c.events ≤ 2))
+        (λ j. (results.new ≡ with_taken results.old (id_of_result j.done)) × (share.new ≡ share.old) × SomeCoreRejects j)) }
 {
-    let done = take_result(rt, results, pass)?;
+    let done = results.take(rt)?;
     let pid = done.pid();
     let count = done.count();
     match bench.settle_ticketed(rt, done, share) {
@@ -155,22 +181,21 @@ fn settle_one<N: Naming, R: Wait>(
 pub(crate) fn settle_all<N: Naming, R: Wait>(
     rt: &R,
     bench: &mut Bench<'_, N>,
-    results: &Results<N>,
-    pass: &mut ResultPass<N>,
+    results: &mut ResultQueue<'_, N>,
     share: &mut Share<N>,
 ) -> Settling
-    requires { IsPassOf results.now pass.old }
-    ensures queue { IsPassOf results.now pass.new }
-    ensures settled { Settled (view pass.old) share.old result (view pass.new) share.new }
+    ensures stopped { bench.new.stopped ≡ bench.old.stopped }
+    ensures settled { Settled results.old.hand share.old result results.new.hand share.new }
+    ensures ended { Ends results.old result results.new }
     ensures most { result.settled + length (rejected_in result.rejected) ≤ 1024 }
 {
-    let mut settling = Settling::none();
+    let mut sums = Sums::none();
     for _ in 0..1024u64 {
-        match settle_one(rt, bench, results, pass, share) {
-            Some(Ok(by)) => settling = settling.with(by),
-            Some(Err(rejected)) => return settling.ended_by(rejected),
-            None => return settling,
+        match settle_one(rt, bench, results, share) {
+            Some(Ok(by)) => sums = sums.with(by),
+            Some(Err(rejected)) => return sums.ended(Some(rejected)),
+            None => return sums.ended(None),
         }
     }
-    settling
+    sums.ended(None)
 }

@@ -1,17 +1,19 @@
 //! What a worker does at its seat.
-ghost use Rattle.std.specs.Prelude.{◌≡◌, ◌∷◌, ◌≤◌, ◌||◌, [], None, Some, IfOk, IfErr, MatchResult};
+ghost use Rattle.std.specs.Prelude.{◌≡◌, ◌∷◌, ◌≤◌, ◌||◌, [], MatchResult};
 ghost use Rattle.kernel_model.specs.Loans.{is_over};
 ghost use Rattle.bursts.specs.Benches.{OnBench};
 ghost use Rattle.bursts.specs.Totals.{Fit};
 ghost use Rattle.bursts.specs.Holdings.{Holding, grown};
 ghost use Rattle.pool.specs.declared.settling.Settling.{Settling};
 ghost use Rattle.bursts.specs.LoanIds.{id_of_result};
-ghost use Rattle.pool.specs.Settled.{totals_in, after};
+ghost use Rattle.pool.specs.Settled.{settling_of, after};
+ghost use Rattle.pool.specs.declared.told.Told.TheVariants as told_of;
 ghost use Rattle.pool.specs.Seats.{told_so};
-ghost use Rattle.pool.specs.Turns.{AllAccepted, Rejects, RejectsSoon, TurnsOut, HadNoLoan, Asks};
+ghost use Rattle.pool.specs.Turns.{AllAccepted, Clears, Rejects, RejectsSoon, TurnsOut, HadNoLoan, Asks};
 
 use crate::seats::Seat;
-use crate::settling::Settling;
+use crate::settling::{Settling, Sums, accepted};
+use crate::told::Told;
 use bursts::{Gate, Naming, Rejected, TicketedDone, TicketedLoan, WorkFault};
 use std::sync::Wait;
 
@@ -31,32 +33,6 @@ fn hold_for<N: Naming, G: Gate>(gate: &mut G, loan: &TicketedLoan<N>)
     gate.hold(loan.pid());
 }
 
-/// The settling, or the result that was not taken back.
-fn accepted(settling: Settling) -> Result<Settling, Rejected>
-    ensures ok { IfOk result (λ s. (s ≡ settling) × (s.rejected ≡ None)) }
-    ensures err { IfErr result (λ r. settling.rejected ≡ Some r) }
-{
-    let Settling {
-        settled,
-        events,
-        ran,
-        turns,
-        enters,
-        rejected,
-    } = settling;
-    match rejected {
-        None => Ok(Settling {
-            settled,
-            events,
-            ran,
-            turns,
-            enters,
-            rejected: None,
-        }),
-        Some(rejected) => Err(rejected),
-    }
-}
-
 impl<'p, 'b, N: Naming> Seat<'p, 'b, N> {
     /// The numbers of its share are each a u64.
     fn fits(&self)
@@ -66,33 +42,31 @@ impl<'p, 'b, N: Naming> Seat<'p, 'b, N> {
     }
 
     /// Settles what is in the queue, after an earlier settling, and adds the two up. Refused where a result is not taken back.
-    fn settle_more<R: Wait>(&mut self, rt: &R, earlier: Settling) -> Result<Settling, Rejected>
-        requires share { (h : Holding) × (self.old.share ≡ grown h (totals_in earlier)) }
-        requires settled { earlier.settled ≤ earlier.events }
-        ensures { MatchResult result (λ s. (t : Settling) × AllAccepted self.old self.new [] t × (s ≡ after earlier t)) (Rejects self.old self.new []) }
+    fn settle_more<R: Wait>(&mut self, rt: &R, earlier: Sums) -> Result<Sums, Rejected>
+        requires share { (h : Holding) × (self.old.share ≡ grown h earlier.totals) }
+        requires settled { earlier.settled ≤ earlier.totals.events }
+        ensures { MatchResult result (λ s. (t : Settling) × Clears self.old self.new [] t × (settling_of s ≡ after (settling_of earlier) t)) (Rejects self.old self.new []) }
     {
-        let next = self.settle_all(rt);
+        let settling = self.settle_all(rt);
         self.fits();
-        let both = earlier.then(next);
-        accepted(both)
+        match accepted(settling) {
+            Ok(later) => Ok(earlier.then(later)),
+            Err(rejected) => Err(rejected),
+        }
     }
 
     /// Hands a result in. As often as the queue is full what is in it is settled first; the answer adds that up.
-    fn hand_in_at_last<R: Wait>(
-        &mut self,
-        rt: &R,
-        done: TicketedDone<N>,
-    ) -> Result<Settling, Rejected>
-        ensures { MatchResult result (AllAccepted self.old self.new (id_of_result done ∷ [])) (RejectsSoon self.old self.new (id_of_result done)) }
+    fn hand_in_at_last<R: Wait>(&mut self, rt: &R, done: TicketedDone<N>) -> Result<Sums, Rejected>
+        ensures { MatchResult result (λ s. AllAccepted self.old self.new (id_of_result done ∷ []) (settling_of s)) (RejectsSoon self.old self.new (id_of_result done)) }
     {
         let mut left = done;
-        let mut settling = Settling::none();
+        let mut sums = Sums::none();
         for _ in rt.forever() {
             match self.hand_in_ticketed(rt, left) {
-                Ok(()) => return Ok(settling),
+                Ok(()) => return Ok(sums),
                 Err(back) => {
                     left = back;
-                    settling = self.settle_more(rt, settling)?;
+                    sums = self.settle_more(rt, sums)?;
                 }
             }
         }
@@ -104,11 +78,11 @@ impl<'p, 'b, N: Naming> Seat<'p, 'b, N> {
         &mut self,
         rt: &R,
         done: TicketedDone<N>,
-    ) -> Result<Settling, Rejected>
-        ensures { MatchResult result (AllAccepted self.old self.new (id_of_result done ∷ [])) (RejectsSoon self.old self.new (id_of_result done)) }
+    ) -> Result<Sums, Rejected>
+        ensures { MatchResult result (λ s. Clears self.old self.new (id_of_result done ∷ []) (settling_of s)) (RejectsSoon self.old self.new (id_of_result done)) }
     {
-        let settling = self.hand_in_at_last(rt, done)?;
-        self.settle_more(rt, settling)
+        let sums = self.hand_in_at_last(rt, done)?;
+        self.settle_more(rt, sums)
     }
 
     /// Fetches a loan, passes the gate, runs the loan, hands its result in, and settles what is in the queue. Where the queue is
@@ -131,7 +105,7 @@ impl<'p, 'b, N: Naming> Seat<'p, 'b, N> {
         hold_for(gate, &loan);
         let done = loan.run();
         match self.hand_in_and_settle(rt, done) {
-            Ok(settling) => Ok(Pooled::Worked(settling)),
+            Ok(sums) => Ok(Pooled::Worked(sums.ended(None))),
             Err(rejected) => Err(WorkFault::Settle(rejected)),
         }
     }
@@ -139,11 +113,11 @@ impl<'p, 'b, N: Naming> Seat<'p, 'b, N> {
     /// Asks the bench whether no process is lent and none lendable, or the work is to stop, and notes its answer.
     fn is_bench_over<R: Wait>(&mut self, rt: &R, quantum: u32) -> bool
         ensures bench { (b : OnBench) × (result ≡ (b.stopped || is_over b.core quantum)) }
-        ensures told { self.new ≡ told_so self.old result }
+        ensures told { self.new ≡ told_so self.old (told_of.Over result) }
     {
         let pool = self.pool;
         let over = pool.bench.lock(rt).over(quantum);
-        self.told = self.told.and(&over);
+        self.told = self.told.and(&Told::Over(over));
         over
     }
 

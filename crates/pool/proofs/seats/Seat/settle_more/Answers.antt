@@ -1,9 +1,24 @@
+use Rattle.std.proofs.Common.{ap, sym, subst}
+use Rattle.bursts.specs.Totals.{plus, Fit}
+use Rattle.bursts.specs.declared.totals.Totals.{Totals}
 use Rattle.pool.specs.Settled.{totals_in}
-use Rattle.pool.proofs.Advance.{fits_both, settled_after}
+use Rattle.pool.proofs.Advance.{few_later, fits_both, advances_settled, settled_after}
 use Rattle.pool.proofs.seats.Seat.settle_more.Goals as goal
 
-pub then-both-requires-clause-fits : goal.then-both-requires-clause-fits
-then-both-requires-clause-fits g c = fits_both c.requires.share.0 c.args.self.now.share c.settle_all-next.new.self.share (totals_in c.args.earlier) (totals_in c.settle_all-next.result) c.requires.share.1 c.settle_all-next.ensures.settled.share c.fits.ensures
+pub then-requires-clause-settled : goal.then-requires-clause-settled
+then-requires-clause-settled g c = (c.requires.settled, few_later c.in-Ok.later c.settle_all-settling.result c.in-Ok.ensures.ok c.settle_all-settling.ensures.settled.events)
 
-pub returns : goal.returns
-returns g c = settled_after c.args.self.now c.settle_all-next.new.self c.args.earlier c.settle_all-next.result c.then-both.result _ c.settle_all-next.ensures.settled c.settle_all-next.ensures.others c.then-both.ensures c.accepted.ensures.ok c.accepted.ensures.err
+pub then-requires-clause-fits : goal.then-requires-clause-fits
+then-requires-clause-fits g c =
+    subst (λ (t : Totals). Fit (plus c.args.earlier.totals t)) (ap totals_in (sym c.in-Ok.ensures.ok))
+    (fits_both c.requires.share.0 c.args.self.now.share c.settle_all-settling.new.self.share c.args.earlier.totals (totals_in c.settle_all-settling.result) c.requires.share.1 c.settle_all-settling.ensures.settled.share c.fits.ensures)
+
+pub returns-in-Ok : goal.returns-in-Ok
+returns-in-Ok g c =
+    let s = c.settle_all-settling in
+    settled_after c.args.self.now s.new.self c.args.earlier c.in-Ok.later c.then.result s.result s.ensures.settled s.ensures.ended s.ensures.others c.in-Ok.ensures.ok c.then.ensures
+
+pub returns-in-Err : goal.returns-in-Err
+returns-in-Err g c =
+    let s = c.settle_all-settling in
+    (s.result, advances_settled c.args.self.now s.new.self s.result s.ensures.settled s.ensures.ended s.ensures.others, c.in-Err.ensures.err)

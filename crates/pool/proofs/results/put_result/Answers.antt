@@ -1,6 +1,0 @@
-use Rattle.bursts.specs.LoanIds.{id_of_result}
-use Rattle.pool.proofs.Balance.{puts}
-use Rattle.pool.proofs.results.put_result.Goals as goal
-
-pub push_as-requires-clause-rule : goal.push_as-requires-clause-rule
-push_as-requires-clause-rule g c = (puts id_of_result _ _ _ _, (λ items views h at. tt))
