@@ -1,3 +1,4 @@
 -- The definitions.
 pub mod Records
+pub mod Asked
 pub mod Work

@@ -1,5 +1,5 @@
 -- What a worker's turn comes to.
-use Rattle.std.specs.Prelude.{◌≡◌, ℕ, List, [], ◌∷◌, ◌++◌, Result, Ok, Err, MatchResult}
+use Rattle.std.specs.Prelude.{◌≡◌, ℕ, [], ◌∷◌, ◌++◌, Result, Ok, Err, MatchResult}
 use Rattle.bursts.specs.declared.loan_id.LoanId.{LoanId}
 use Rattle.bursts.specs.LoanIds.{id_of_result}
 use Rattle.bursts.specs.Totals.{settled_totals}

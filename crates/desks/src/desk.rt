@@ -1,19 +1,24 @@
 //! Desks: where workers get loans and hand their results in.
-ghost use Rattle.std.specs.Prelude.{◌≡◌, [], ◌∷◌, ◌++◌};
+ghost use Rattle.std.specs.Prelude.{◌≡◌, [], ◌∷◌, ◌++◌, length, IfOk, MatchResult};
 ghost use Rattle.kernel_model.specs.declared.event.Event.{Event};
-ghost use Rattle.bursts.specs.LoanIds.{id_of_loan, id_of_result};
+ghost use Rattle.bursts.specs.LoanIds.{id_of_result};
 ghost use Rattle.bursts.specs.Holdings.{GrowsByLend, GrowsBySettle, GrowsByOne};
 ghost use Rattle.desks.specs.declared.note.Note.TheVariants as note_of;
-ghost use Rattle.desks.specs.Records.{Record, noted, lend_note, result_note, SomeCoreLends, SomeCoreSettles, SomeCoreApplies, SomeCoreHasFirst, SomeBenchIsOver};
+ghost use Rattle.desks.specs.Records.{Record, noted, lend_note, result_note, SomeBenchLends, SomeBenchSettles, SomeBenchApplies, SomeCoreHasFirst, SomeCoreHasInFlight, SomeCoreWantsCut, SomeBenchIsOver};
 
-use crate::note::Note;
-use bursts::{Bench, LoanId, Naming, Share};
-use kernel::{Answer, Done, Loan, Refused, Rejected};
-use notes::Notes;
+use crate::account::{
+    Account, Completes, Cuts, Fails, ForLoan, HandIn, IsCutWanted, IsOver, Stops, WhichAreInFlight,
+    WhichIsFirst,
+};
+use crate::locked::Locked;
+use bursts::{Bench, Naming, Share};
+use kernel::{Answer, Done, Loan, Piece, Refused, Rejected};
+use std::alloc::{AllocError, Global};
+use std::marker::Model;
 use std::sync::{Mutex, Wait};
 
-/// A desk, with a record that exists in proofs alone. In it are a note of each loan that was asked for, of each result that was
-/// handed in, and of each stop, in order, with what the desk answered; beside them the desk's share.
+/// A desk, with a record that exists in proofs alone. In it is a note of each call, in order, with what was asked and what the desk
+/// answered; beside them the desk's share.
 pub trait Desk {
     ghost account: { Self → Record };
 
@@ -21,54 +26,71 @@ pub trait Desk {
     fn lend(&mut self, quantum: u32) -> Result<Option<Loan>, Refused>
         ensures notes { (account self.new).notes ≡ (account self.old).notes ++ lend_note result ∷ [] }
         ensures share { GrowsByLend (account self.old).share (account self.new).share result }
-        ensures core { SomeCoreLends quantum result };
+        ensures bench { SomeBenchLends quantum result };
 
     /// Hands a loan's result in. Where it is not taken back it comes out again, with the reason.
     fn settle(&mut self, done: Done) -> Result<Answer, Rejected>
         ensures notes { (account self.new).notes ≡ (account self.old).notes ++ result_note (id_of_result done) result ∷ [] }
         ensures share { GrowsBySettle done.pid (account self.old).share (account self.new).share result }
-        ensures core { SomeCoreSettles done result };
+        ensures bench { SomeBenchSettles done result };
 
     /// A Cut: a group of changes is submitted to the disk.
     fn cut(&mut self) -> Result<Answer, Refused>
-        ensures notes { (account self.new).notes ≡ (account self.old).notes }
+        ensures notes { (account self.new).notes ≡ (account self.old).notes ++ note_of.Disk Event.Cut result ∷ [] }
         ensures share { GrowsByOne (account self.old).share (account self.new).share result }
-        ensures core { SomeCoreApplies Event.Cut result };
+        ensures bench { SomeBenchApplies Event.Cut result };
 
     /// The write in flight that begins at this offset of the disk is complete.
     fn complete(&mut self, at: u32) -> Result<Answer, Refused>
-        ensures notes { (account self.new).notes ≡ (account self.old).notes }
+        ensures notes { (account self.new).notes ≡ (account self.old).notes ++ note_of.Disk (Event.Complete at) result ∷ [] }
         ensures share { GrowsByOne (account self.old).share (account self.new).share result }
-        ensures core { SomeCoreApplies (Event.Complete at) result };
+        ensures bench { SomeBenchApplies (Event.Complete at) result };
 
     /// The write in flight that begins at this offset of the disk has failed.
     fn fail(&mut self, at: u32) -> Result<Answer, Refused>
-        ensures notes { (account self.new).notes ≡ (account self.old).notes }
+        ensures notes { (account self.new).notes ≡ (account self.old).notes ++ note_of.Disk (Event.Fail at) result ∷ [] }
         ensures share { GrowsByOne (account self.old).share (account self.new).share result }
-        ensures core { SomeCoreApplies (Event.Fail at) result };
+        ensures bench { SomeBenchApplies (Event.Fail at) result };
 
     /// The least offset on the disk at which a write in flight begins.
     fn in_flight(&mut self) -> Option<u32>
-        ensures account { account self.new ≡ account self.old }
+        ensures account { account self.new ≡ noted (account self.old) (note_of.First result) }
         ensures core { SomeCoreHasFirst result };
+
+    /// The writes in flight, in the order in which they were submitted, copied. Fails for want of memory alone.
+    fn writes_in_flight(&mut self, alloc: Global) -> Result<Vec<Piece>, AllocError>
+        ensures account { MatchResult result (λ pieces. account self.new ≡ noted (account self.old) (note_of.InFlight (length pieces.items))) (λ _. account self.new ≡ account self.old) }
+        ensures core { IfOk result (λ pieces. SomeCoreHasInFlight pieces.items) };
+
+    /// Whether a byte of a terminal waits for a commit that is not on its way.
+    fn wants_cut(&mut self) -> bool
+        ensures account { account self.new ≡ noted (account self.old) (note_of.WantsCut result) }
+        ensures core { SomeCoreWantsCut result };
 
     /// Whether no process is lent and none is lendable for a quantum, or some desk said stop.
     fn over(&mut self, quantum: u32) -> bool
-        ensures account { account self.new ≡ account self.old }
-        ensures core { SomeBenchIsOver quantum result };
+        ensures account { account self.new ≡ noted (account self.old) (note_of.Over quantum result) }
+        ensures bench { SomeBenchIsOver quantum result };
 
     /// Says stop: from now on the work is over at all desks of this bench.
     fn stop(&mut self)
         ensures { account self.new ≡ noted (account self.old) note_of.Stopped };
 }
 
-/// A desk over a bench under a lock. Each call may wait for the lock, and lets it go before it answers.
+/// A desk over a bench under a lock. Each call may wait for the lock, and lets it go before it answers. Contracts see the record.
 #[derive(Drop)]
 pub struct LockedDesk<'r, 'a, 'b, N: Naming, R: Wait> {
     rt: &'r R,
-    bench: &'a Mutex<Bench<'b, N>>,
-    share: Share<N>,
-    notes: Notes<Note>,
+    bench: Locked<'a, Bench<'b, N>>,
+    account: Account<N>,
+}
+
+impl<'r, 'a, 'b, N: Naming, R: Wait> Model for LockedDesk<'r, 'a, 'b, N, R> {
+    ghost use Rattle.desks.specs.Records.{Record};
+
+    ghost Value = { Record };
+
+    ghost view = { λ d. d.account };
 }
 
 impl<'r, 'a, 'b, N: Naming, R: Wait> LockedDesk<'r, 'a, 'b, N, R> {
@@ -78,14 +100,12 @@ impl<'r, 'a, 'b, N: Naming, R: Wait> LockedDesk<'r, 'a, 'b, N, R> {
         bench: &'a Mutex<Bench<'b, N>>,
         share: Share<N>,
     ) -> LockedDesk<'r, 'a, 'b, N, R>
-        ensures share { result.share ≡ share }
-        ensures notes { result.notes.items ≡ [] }
+        ensures { result ≡ record { notes = []; share = share } }
     {
         LockedDesk {
             rt,
-            bench,
-            share,
-            notes: Notes::new(),
+            bench: Locked::new(bench),
+            account: Account::new(share),
         }
     }
 
@@ -93,81 +113,54 @@ impl<'r, 'a, 'b, N: Naming, R: Wait> LockedDesk<'r, 'a, 'b, N, R> {
     pub fn end(self) -> Share<N>
         ensures { result ≡ self.entry.share }
     {
-        let LockedDesk { share, .. } = self;
-        share
+        let LockedDesk { account, .. } = self;
+        account.end()
     }
 }
 
 impl<'r, 'a, 'b, N: Naming, R: Wait> Desk for LockedDesk<'r, 'a, 'b, N, R> {
-    ghost account = { λ d. record { notes = d.notes.items; share = d.share } };
+    ghost account = { λ d. d };
 
     fn lend(&mut self, quantum: u32) -> Result<Option<Loan>, Refused> {
-        let given = self.bench.lock(self.rt).lend(quantum, &mut self.share);
-        self.notes = self.notes.and(&note_of_lend(&given));
-        given
+        self.bench
+            .ask(self.rt, &mut self.account, ForLoan { quantum })
     }
 
     fn settle(&mut self, done: Done) -> Result<Answer, Rejected> {
-        let loan = LoanId {
-            pid: done.pid,
-            number: done.number,
-            quantum: done.quantum,
-        };
-        let answer = self
-            .bench
-            .lock(self.rt)
-            .settle(self.rt, done, &mut self.share);
-        self.notes = self.notes.and(&note_of_result(loan, &answer));
-        answer
+        self.bench.ask(self.rt, &mut self.account, HandIn { done })
     }
 
     fn cut(&mut self) -> Result<Answer, Refused> {
-        self.bench.lock(self.rt).cut(self.rt, &mut self.share)
+        self.bench.ask(self.rt, &mut self.account, Cuts)
     }
 
     fn complete(&mut self, at: u32) -> Result<Answer, Refused> {
-        self.bench
-            .lock(self.rt)
-            .complete(self.rt, at, &mut self.share)
+        self.bench.ask(self.rt, &mut self.account, Completes { at })
     }
 
     fn fail(&mut self, at: u32) -> Result<Answer, Refused> {
-        self.bench.lock(self.rt).fail(self.rt, at, &mut self.share)
+        self.bench.ask(self.rt, &mut self.account, Fails { at })
     }
 
     fn in_flight(&mut self) -> Option<u32> {
-        self.bench.lock(self.rt).core().in_flight()
+        self.bench.ask(self.rt, &mut self.account, WhichIsFirst)
+    }
+
+    fn writes_in_flight(&mut self, alloc: Global) -> Result<Vec<Piece>, AllocError> {
+        self.bench
+            .ask(self.rt, &mut self.account, WhichAreInFlight { alloc })
+    }
+
+    fn wants_cut(&mut self) -> bool {
+        self.bench.ask(self.rt, &mut self.account, IsCutWanted)
     }
 
     fn over(&mut self, quantum: u32) -> bool {
-        self.bench.lock(self.rt).over(quantum)
+        self.bench
+            .ask(self.rt, &mut self.account, IsOver { quantum })
     }
 
     fn stop(&mut self) {
-        self.bench.lock(self.rt).stop();
-        self.notes = self.notes.and(&Note::Stopped);
-    }
-}
-
-fn note_of_lend(given: &Result<Option<Loan>, Refused>) -> Note
-    ensures { result ≡ lend_note given.now }
-{
-    match given {
-        Ok(Some(loan)) => Note::Given(LoanId {
-            pid: loan.pid,
-            number: loan.number,
-            quantum: loan.quantum,
-        }),
-        Ok(None) => Note::Idle,
-        Err(why) => Note::Refused(*why),
-    }
-}
-
-fn note_of_result(loan: LoanId, answer: &Result<Answer, Rejected>) -> Note
-    ensures { result ≡ result_note loan answer.now }
-{
-    match answer {
-        Ok(answer) => Note::Accepted(loan, *answer),
-        Err(rejected) => Note::Rejected(loan, rejected.why),
+        self.bench.ask(self.rt, &mut self.account, Stops)
     }
 }

@@ -2,7 +2,10 @@
 //! `worker_turn`. A desk keeps a record in proofs alone: the contract of each call, and of a turn, says what it adds there.
 #![tactic(auto)]
 
+mod account;
+mod copies;
 mod desk;
+mod locked;
 mod note;
 mod worker;
 

@@ -1,6 +1,6 @@
 //! What a desk notes of its calls. The notes exist in proofs alone.
 use bursts::LoanId;
-use kernel::{Answer, Refused};
+use kernel::{Answer, Event, Refused};
 
 /// What one call came to.
 #[derive(Clone, Copy)]
@@ -15,6 +15,16 @@ pub enum Note {
     Accepted(LoanId, Answer),
     /// A loan's result was handed in, and not taken back.
     Rejected(LoanId, Refused),
+    /// An event of the disk, and what was answered to it.
+    Disk(Event, Result<Answer, Refused>),
+    /// It was asked where the first write in flight begins.
+    First(Option<u32>),
+    /// The writes in flight were asked for, and so many were given.
+    InFlight(usize),
+    /// It was asked whether a Cut is wanted.
+    WantsCut(bool),
+    /// It was asked whether the work is over for a quantum.
+    Over(u32, bool),
     /// Stop was said.
     Stopped,
 }

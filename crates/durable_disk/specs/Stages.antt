@@ -1,60 +1,76 @@
 -- The commit of a stage: the writes in flight at a core, a file, and what the core is told of them.
-use Rattle.std.specs.Prelude.{◌≡◌, ◌⊎◌, ⊤, ℕ, Bool, true, false, List, [], ◌∷◌, ◌++◌, take, Result, Ok, Err}
+use Rattle.std.specs.Prelude.{◌≡◌, ◌⊎◌, ℕ, ◌-◌, ◌<◌, ◌==◌, ◌&&◌, not, if◌then◌else◌, Bool, true, false, List, [], ◌∷◌, ◌++◌, length, Result, Ok, Err}
 use Rattle.disk_model.specs.declared.change.Piece.{Piece}
 use Rattle.durable_disk.specs.FileRecords.{FileRecord, stored, refused_at}
-use Rattle.durable_disk.specs.declared.write_end.WriteEnd.{WriteEnd}
-use Rattle.durable_disk.specs.declared.write_end.WriteEnd.TheVariants.{Complete, Failed}
+use Rattle.durable_disk.specs.declared.core_call.CoreCall.{CoreCall}
+use Rattle.durable_disk.specs.declared.core_call.CoreCall.TheVariants.{InFlight, Complete, Fail}
 
--- What the core may be told of a write that begins here: that it is complete, only where it is stored; or that it has failed.
-abbrev pub MayBeTold : Bool → ℕ → WriteEnd → Type 0
-MayBeTold is_stored at e = ((is_stored ≡ true) × (e ≡ Complete at)) ⊎ (e ≡ Failed at)
+-- What the core is told of a write that begins here, where the completion of number `left` from now on is to fail, if any is: that it
+-- is complete, where the file holds it and it is not that one; else that it has failed.
+abbrev pub end_of : Bool → ℕ → ℕ → CoreCall
+end_of is_stored left at = if is_stored && not (left == 1) then Complete at else Fail at
 
--- the core was told of the write that begins here
-pub record IsToldOne (is_stored : Bool) (at : ℕ) (old new : List WriteEnd) : Type 0 where
-  pub end : WriteEnd
-  pub may : MayBeTold is_stored at end
-  pub told : new ≡ old ++ end ∷ []
+-- the number of the one that is to fail after that: where the file does not hold the write, no completion is counted
+abbrev pub left_after : Bool → ℕ → ℕ
+left_after is_stored left = if is_stored then left - 1 else left
 
--- the core was told of these pieces, one after the other, in order
-pub data IsToldEach (is_stored : Bool) (old : List WriteEnd) : List Piece → List WriteEnd → Type 0 where
-  none : IsToldEach is_stored old [] old
-  more : {ps : List Piece} {told new : List WriteEnd} (p : Piece) → IsToldEach is_stored old ps told → IsToldOne is_stored p.at told new
-      → IsToldEach is_stored old (ps ++ p ∷ []) new
+-- the same of these writes, one after the other
+abbrev pub ends_of : Bool → ℕ → List Piece → List CoreCall
+ends_of is_stored left [] = []
+ends_of is_stored left (p ∷ ps) = end_of is_stored left p.at ∷ ends_of is_stored (left_after is_stored left) ps
 
--- the core was told of the first of these pieces
-pub record IsToldSome (is_stored : Bool) (ps : List Piece) (old new : List WriteEnd) : Type 0 where
-  pub count : ℕ
-  pub first : IsToldEach is_stored old (take count ps) new
+abbrev pub left_after_all : Bool → ℕ → List Piece → ℕ
+left_after_all is_stored left [] = left
+left_after_all is_stored left (p ∷ ps) = left_after_all is_stored (left_after is_stored left) ps
+
+-- the core was told of all these pieces
+abbrev pub IsToldAll : Bool → List Piece → List CoreCall → ℕ → List CoreCall → ℕ → Type 0
+IsToldAll is_stored ps old left new left_then = (new ≡ old ++ ends_of is_stored left ps) × (left_then ≡ left_after_all is_stored left ps)
+
+-- the core was told of the first of them
+pub record IsToldSome (is_stored : Bool) (ps : List Piece) (old : List CoreCall) (left : ℕ) (new : List CoreCall) : Type 0 where
+  pub told : List CoreCall
+  pub rest : List CoreCall
+  pub first : told ++ rest ≡ ends_of is_stored left ps
+  pub new_is : new ≡ old ++ told
 
 -- what the file was asked: the host did all of it, or it refused a call
 abbrev pub IsAsked : Bool → List Piece → FileRecord → FileRecord → Type 0
 IsAsked true ps old new = new ≡ stored old ps
 IsAsked false ps old new = (k : ℕ) × (new ≡ refused_at old ps k)
 
--- what was told: of all pieces where the answer is Ok, and of the first ones where the core refused
-abbrev pub IsToldBy : {E : Type 0} → Result Bool E → Bool → List Piece → List WriteEnd → List WriteEnd → Type 0
-IsToldBy (Ok b) is_stored ps old new = (b ≡ true) × IsToldEach is_stored old ps new
-IsToldBy (Err why) is_stored ps old new = IsToldSome is_stored ps old new
+-- where a run stands: the core's calls, the file's record, and the number of the completion from now on that is to fail, or 0
+pub record Staging : Type 0 where
+  pub calls : List CoreCall
+  pub file : FileRecord
+  pub left : ℕ
 
--- the writes in flight were written and synced, or a call was refused; then the core was told
-pub record IsCommitted {E : Type 0} (submitted : List Piece → Type 0) (told : List WriteEnd) (file : FileRecord) (told_then : List WriteEnd) (file_then : FileRecord) (result : Result Bool E) : Type 0 where
+abbrev pub staging : List CoreCall → FileRecord → ℕ → Staging
+staging calls file left = record { calls = calls; file = file; left = left }
+
+-- the same, where the core was then asked for the writes in flight and gave so many
+abbrev pub asked : Staging → ℕ → Staging
+asked s count = staging (s.calls ++ InFlight count ∷ []) s.file s.left
+
+-- what was told: of all pieces where the answer is Ok, and of the first ones where the core refused
+abbrev pub IsToldBy : {E : Type 0} → Result Bool E → Bool → List Piece → Staging → Staging → Type 0
+IsToldBy (Ok b) is_stored ps old new = (b ≡ true) × IsToldAll is_stored ps old.calls old.left new.calls new.left
+IsToldBy (Err why) is_stored ps old new = IsToldSome is_stored ps old.calls old.left new.calls
+
+-- The core gave writes in flight, at least one. They were written and synced, or a call was refused; then the core was told.
+pub record IsCommitted {E : Type 0} (submitted : List Piece → Type 0) (old new : Staging) (result : Result Bool E) : Type 0 where
   pub pieces : List Piece
   pub are_submitted : submitted pieces
+  pub some : 0 < length pieces
   pub is_stored : Bool
-  pub asked : IsAsked is_stored pieces file file_then
-  pub is_told : IsToldBy result is_stored pieces told told_then
+  pub asked_file : IsAsked is_stored pieces old.file new.file
+  pub is_told : IsToldBy result is_stored pieces (asked old (length pieces)) new
 
--- the answer where no stage was begun: none was in flight, or there was no memory to copy it
-abbrev pub IsUnbegun : {E : Type 0} → Result Bool E → Type 0
-IsUnbegun (Ok b) = b ≡ false
-IsUnbegun (Err why) = ⊤
+-- No stage was begun: the core gave none, or there was no memory to copy them.
+abbrev pub IsUnbegun : {E : Type 0} → Staging → Staging → Result Bool E → Type 0
+IsUnbegun old new (Ok b) = (b ≡ false) × (new ≡ asked old 0)
+IsUnbegun old new (Err why) = new ≡ old
 
--- nothing was written, and the core was told nothing
-pub record IsIdle {E : Type 0} (told : List WriteEnd) (file : FileRecord) (told_then : List WriteEnd) (file_then : FileRecord) (result : Result Bool E) : Type 0 where
-  pub same_told : told_then ≡ told
-  pub same_file : file_then ≡ file
-  pub unbegun : IsUnbegun result
-
--- A stage: nothing happens, or what is in flight is written and synced, and then the core is told.
-abbrev pub CommitsStage : {E : Type 0} → (List Piece → Type 0) → List WriteEnd → FileRecord → List WriteEnd → FileRecord → Result Bool E → Type 0
-CommitsStage submitted told file told_then file_then result = IsIdle told file told_then file_then result ⊎ IsCommitted submitted told file told_then file_then result
+-- A stage: none is begun, or what is in flight is written and synced, and then the core is told.
+abbrev pub CommitsStage : {E : Type 0} → (List Piece → Type 0) → Staging → Staging → Result Bool E → Type 0
+CommitsStage submitted old new result = IsUnbegun old new result ⊎ IsCommitted submitted old new result

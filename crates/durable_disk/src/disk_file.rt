@@ -24,9 +24,9 @@ pub trait DiskFile {
 
     /// Writes the bytes of a piece over those from its place on.
     fn write(&mut self, piece: &Piece) -> Result<(), HostRefused>
-        ensures { record_of self.new ≡ wrote (record_of self.old) piece.now (is_ok result) };
+        ensures noted { record_of self.new ≡ wrote (record_of self.old) piece.now (is_ok result) };
 
     /// Has the host keep, whatever happens to it, all that was written.
     fn sync(&mut self) -> Result<(), HostRefused>
-        ensures { record_of self.new ≡ synced (record_of self.old) (is_ok result) };
+        ensures noted { record_of self.new ≡ synced (record_of self.old) (is_ok result) };
 }

@@ -3,6 +3,7 @@
 #![tactic(auto)]
 
 mod completions;
+mod core_call;
 mod disk_file;
 mod file_notes;
 mod host_file;
@@ -10,13 +11,13 @@ mod report;
 mod stage;
 mod staged_core;
 mod storing;
-mod write_end;
 
 pub use completions::Completions;
+pub use core_call::CoreCall;
 pub use disk_file::{DiskFile, FileCall, HostRefused};
 pub use file_notes::FileNotes;
-pub use host_file::HostFile;
+pub use host_file::{HostCalls, HostFile, PlacedFile};
+pub use report::tell_end;
 pub use stage::commit_stage;
-pub use staged_core::{StagedCore, copies_of};
+pub use staged_core::StagedCore;
 pub use storing::store;
-pub use write_end::WriteEnd;

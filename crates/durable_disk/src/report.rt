@@ -1,20 +1,21 @@
 //! What a core is told of a stage.
-ghost use Rattle.std.specs.Prelude.{◌≡◌, OnOk, OnErr};
-ghost use Rattle.durable_disk.specs.Stages.{IsToldOne, IsToldEach, IsToldSome};
+ghost use Rattle.std.specs.Prelude.{◌≡◌, [], ◌∷◌, ◌++◌, OnOk, OnErr};
+ghost use Rattle.durable_disk.specs.Stages.{end_of, left_after, IsToldAll, IsToldSome};
 
 use crate::completions::Completions;
 use crate::staged_core::StagedCore;
 use disk_model::Piece;
 
-/// Tells the core that a write is complete, if the file holds it and it is not the one that fails all the same; else that it failed.
-fn report_one<C: StagedCore>(
+/// Tells the core that a write is complete, if it is stored and is not the one that fails all the same; else that it has failed.
+pub fn tell_end<C: StagedCore>(
     core: &mut C,
     at: u32,
     is_stored: bool,
     completions: &mut Completions,
 ) -> Result<(), C::Refusal>
-    ensures ok { OnOk result (IsToldOne is_stored at (C.told core.old) (C.told core.new)) }
-    ensures err { OnErr result (C.told core.new ≡ C.told core.old) }
+    ensures ok { OnOk result (C.calls_of core.new ≡ C.calls_of core.old ++ end_of is_stored completions.old at ∷ []) }
+    ensures err { OnErr result (C.calls_of core.new ≡ C.calls_of core.old) }
+    ensures left { completions.new ≡ left_after is_stored completions.old }
 {
     if is_stored && !completions.next_fails() {
         core.complete(at)
@@ -31,11 +32,11 @@ pub fn report<C: StagedCore>(
     is_stored: bool,
     completions: &mut Completions,
 ) -> Result<(), C::Refusal>
-    ensures ok { OnOk result (IsToldEach is_stored (C.told core.old) pieces.now (C.told core.new)) }
-    ensures err { OnErr result (IsToldSome is_stored pieces.now (C.told core.old) (C.told core.new)) }
+    ensures ok { OnOk result (IsToldAll is_stored pieces.now (C.calls_of core.old) completions.old (C.calls_of core.new) completions.new) }
+    ensures err { OnErr result (IsToldSome is_stored pieces.now (C.calls_of core.old) completions.old (C.calls_of core.new)) }
 {
     for piece in pieces {
-        report_one(core, piece.at, is_stored, completions)?;
+        tell_end(core, piece.at, is_stored, completions)?;
     }
     Ok(())
 }

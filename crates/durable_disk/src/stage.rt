@@ -1,6 +1,6 @@
 //! The commit of a stage.
 ghost use Rattle.std.specs.Prelude.{◌≡◌};
-ghost use Rattle.durable_disk.specs.Stages.{CommitsStage};
+ghost use Rattle.durable_disk.specs.Stages.{staging, CommitsStage};
 
 use crate::completions::Completions;
 use crate::disk_file::DiskFile;
@@ -9,15 +9,15 @@ use crate::staged_core::StagedCore;
 use crate::storing::store;
 
 /// Stores the writes in flight in the file, and then tells the core what came of each. They are complete only where the host did
-/// all: then the file holds them. Where it refused a call they have failed. Says whether any were in flight. A refusal is the core's:
-/// for want of memory, before anything is written, or the first of what it is told.
-#[tactic(auto, using(crate::proofs::StageEnds::idle, crate::proofs::StageEnds::committed, crate::proofs::StageEnds::stopped))]
+/// all: then the file holds them. Where it refused a call they have failed, and else only the one that is to fail. Says whether any
+/// were in flight. A refusal is the core's: for want of memory, before anything is written, or the first of what it is told.
+#[tactic(auto, using(crate::proofs::StageEnds::idle, crate::proofs::StageEnds::unasked, crate::proofs::StageEnds::committed, crate::proofs::StageEnds::stopped))]
 pub fn commit_stage<C: StagedCore, F: DiskFile>(
     core: &mut C,
     file: &mut F,
     completions: &mut Completions,
 ) -> Result<bool, C::Refusal>
-    ensures { CommitsStage C.submitted (C.told core.old) (F.record_of file.old) (C.told core.new) (F.record_of file.new) result }
+    ensures { CommitsStage C.submitted (staging (C.calls_of core.old) (F.record_of file.old) completions.old) (staging (C.calls_of core.new) (F.record_of file.new) completions.new) result }
 {
     let pieces = core.in_flight()?;
     if pieces.is_empty() {

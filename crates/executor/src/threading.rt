@@ -34,7 +34,7 @@ struct Crew<'x, 'p, 'b, N: Naming> {
 
 /// What the threads of a run share.
 #[derive(Drop)]
-struct Threading<'x, 'r, 'p, 'b, 'c, N: Naming, R: Wait, F> {
+struct Threading<'x, 'r, 'p, 'b, 'c, N: Naming, R: Wait, F: DiskFile> {
     bench: &'p Mutex<Bench<'b, N>>,
     crew: Mutex<Crew<'x, 'p, 'b, N>>,
     committing: Mutex<CommitThread<'r, 'p, 'b, 'c, N, R, F>>,
@@ -236,7 +236,7 @@ fn run_to_end<
     });
 }
 
-fn lead<N: Naming + Send + Sync, R: Threads + Wait + Sync, F: Drop>(
+fn lead<N: Naming + Send + Sync, R: Threads + Wait + Sync, F: DiskFile + Drop>(
     rt: &R,
     threading: &Threading<'_, '_, '_, '_, '_, N, R, F>,
 ) {
@@ -265,7 +265,7 @@ fn commit<N: Naming, R: Wait, F: DiskFile + Drop>(
     committing.serve(rt, &threading.watch);
 }
 
-fn show<N: Naming, R: Wait, F: Drop, O: Write>(
+fn show<N: Naming, R: Wait, F: DiskFile + Drop, O: Write>(
     rt: &R,
     alloc: Global,
     threading: &Threading<'_, '_, '_, '_, '_, N, R, F>,
@@ -275,7 +275,16 @@ fn show<N: Naming, R: Wait, F: Drop, O: Write>(
     screen.serve(rt, alloc, threading.bench, &threading.watch);
 }
 
-impl<'r, 'p, 'b, 'c, N: Naming, R: Wait, F: Drop> Threading<'_, 'r, 'p, 'b, 'c, N, R, F> {
+impl<'r, 'p, 'b, 'c, N: Naming, R: Wait, F: DiskFile + Drop> Threading<
+    '_,
+    'r,
+    'p,
+    'b,
+    'c,
+    N,
+    R,
+    F,
+> {
     /// What the thread that commits has, or the first fault, if one came. What else the threads shared goes.
     fn end(self) -> Result<CommitThread<'r, 'p, 'b, 'c, N, R, F>, RunFault> {
         let Threading {

@@ -1,2 +1,3 @@
 -- The lemmas.
-pub mod CoreStages
+pub mod CoreCalls
+pub mod Turning

@@ -1,2 +1,3 @@
 -- The definitions.
-pub mod Submitted
+pub mod CoreCalls
+pub mod Committing

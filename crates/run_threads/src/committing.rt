@@ -1,22 +1,36 @@
 //! The thread that commits.
+ghost use Rattle.std.specs.Prelude.{◌≡◌, option_map};
+ghost use Rattle.run_threads.specs.Committing.{CompletesFirst, Completes, TellsNothing, DoesStages};
+
 use crate::board_reader::BoardReader;
 use crate::fault::RunFault;
 use crate::locked_core::LockedCore;
 use crate::rest::Rest;
 use crate::watch::Watch;
 use bursts::Naming;
-use durable_disk::{Completions, DiskFile, StagedCore, commit_stage};
+use durable_disk::{Completions, DiskFile, commit_stage, tell_end};
 use kernel::Refused;
+use std::marker::Model;
 use std::sync::Wait;
 
 /// What the thread that commits has: a reader of the board, the core under its lock, and a count of its completions. In a durable
-/// run it also has the file that holds the disk.
+/// run it also has the file that holds the disk. Contracts see the notes of its desk, the file's record, and which completion fails.
 #[derive(Drop)]
-pub struct CommitThread<'r, 'a, 'b, 'c, N: Naming, R: Wait, F> {
+pub struct CommitThread<'r, 'a, 'b, 'c, N: Naming, R: Wait, F: DiskFile> {
     reader: BoardReader<'c, N>,
     core: LockedCore<'r, 'a, 'b, N, R>,
     file: Option<F>,
     completions: Completions,
+}
+
+impl<'r, 'a, 'b, 'c, N: Naming, R: Wait, F: DiskFile> Model
+    for CommitThread<'r, 'a, 'b, 'c, N, R, F> {
+    ghost use Rattle.std.specs.Prelude.{option_map};
+    ghost use Rattle.run_threads.specs.Committing.{Committing};
+
+    ghost Value = { Committing };
+
+    ghost view = { λ t. record { notes = t.core.notes; file = option_map F.record_of t.file; left = t.completions } };
 }
 
 impl<'r, 'a, 'b, 'c, N: Naming, R: Wait, F: DiskFile> CommitThread<'r, 'a, 'b, 'c, N, R, F> {
@@ -27,7 +41,9 @@ impl<'r, 'a, 'b, 'c, N: Naming, R: Wait, F: DiskFile> CommitThread<'r, 'a, 'b, '
         core: LockedCore<'r, 'a, 'b, N, R>,
         file: Option<F>,
         completions: Completions,
-    ) -> CommitThread<'r, 'a, 'b, 'c, N, R, F> {
+    ) -> CommitThread<'r, 'a, 'b, 'c, N, R, F>
+        ensures { result ≡ record { notes = core.entry.notes; file = option_map F.record_of file; left = completions } }
+    {
         CommitThread {
             reader,
             core,
@@ -37,43 +53,48 @@ impl<'r, 'a, 'b, 'c, N: Naming, R: Wait, F: DiskFile> CommitThread<'r, 'a, 'b, '
     }
 
     /// Whether the board shows that all changes are committed.
-    fn is_done<W: Wait>(&mut self, rt: &W) -> bool {
+    fn is_done<W: Wait>(&mut self, rt: &W) -> bool
+        ensures { self.new ≡ self.old }
+    {
         let (committed, changes) = self.reader.seen(rt);
         committed == changes
     }
 
     /// Completes the write in flight that begins first on the disk, or has it fail, where this is the completion that is to. Says
     /// whether one is in flight.
-    fn complete_first(&mut self) -> Result<bool, Refused> {
+    fn complete_first(&mut self) -> Result<bool, Refused>
+        ensures { CompletesFirst self.old self.new result }
+    {
         let Some(at) = self.core.first_in_flight() else {
             return Ok(false);
         };
-        if self.completions.next_fails() {
-            self.core.fail(at)?;
-        } else {
-            self.core.complete(at)?;
-        }
+        tell_end(&mut self.core, at, true, &mut self.completions)?;
         Ok(true)
     }
 
     /// Completes writes in flight: in a durable run all of them, once the file holds them; else the first one. Says whether one is
     /// in flight.
-    fn complete(&mut self) -> Result<bool, Refused> {
+    fn complete(&mut self) -> Result<bool, Refused>
+        ensures { Completes self.old self.new result }
+    {
         match &mut self.file {
             Some(file) => commit_stage(&mut self.core, file, &mut self.completions),
             None => self.complete_first(),
         }
     }
 
-    /// Completes writes in flight. Where there are none it cuts a group, if output waits for one. Says whether there was something
-    /// to do.
-    fn turn<W: Wait>(&mut self, rt: &W) -> Result<bool, Refused> {
-        if self.is_done(rt) {
-            return Ok(false);
-        }
-        if self.complete()? {
-            return Ok(true);
-        }
+    /// Cuts a group.
+    fn cut(&mut self) -> Result<(), Refused>
+        ensures { TellsNothing self.old self.new }
+    {
+        self.core.cut()?;
+        Ok(())
+    }
+
+    /// Cuts a group, if output waits for one. Says whether it does.
+    fn cut_if_wanted(&mut self) -> Result<bool, Refused>
+        ensures { TellsNothing self.old self.new }
+    {
         if !self.core.wants_cut() {
             return Ok(false);
         }
@@ -81,9 +102,32 @@ impl<'r, 'a, 'b, 'c, N: Naming, R: Wait, F: DiskFile> CommitThread<'r, 'a, 'b, '
         Ok(true)
     }
 
+    /// Has the workers stop.
+    fn stop(&mut self)
+        ensures { TellsNothing self.old self.new }
+    {
+        self.core.stop();
+    }
+
+    /// Completes writes in flight. Where there are none it cuts a group, if output waits for one. Says whether there was something
+    /// to do.
+    fn turn<W: Wait>(&mut self, rt: &W) -> Result<bool, Refused>
+        ensures { DoesStages self.old self.new }
+    {
+        if self.is_done(rt) {
+            return Ok(false);
+        }
+        if self.complete()? {
+            return Ok(true);
+        }
+        self.cut_if_wanted()
+    }
+
     /// Commits what output waits for, until no worker works any more. A refusal is kept as the run's fault, and makes the workers
     /// stop.
-    pub fn serve<W: Wait>(&mut self, rt: &W, watch: &Watch) {
+    pub fn serve<W: Wait>(&mut self, rt: &W, watch: &Watch)
+        ensures { DoesStages self.old self.new }
+    {
         let mut rest = Rest::new();
         for _ in rt.forever() {
             if watch.is_over() {
@@ -94,7 +138,7 @@ impl<'r, 'a, 'b, 'c, N: Naming, R: Wait, F: DiskFile> CommitThread<'r, 'a, 'b, '
                 Ok(false) => rest.take(rt),
                 Err(why) => {
                     watch.note(rt, RunFault::from(why));
-                    self.core.stop();
+                    self.stop();
                     return;
                 }
             }
@@ -103,17 +147,19 @@ impl<'r, 'a, 'b, 'c, N: Naming, R: Wait, F: DiskFile> CommitThread<'r, 'a, 'b, '
 
     /// Commits the other changes too, whether output waits for them or not. It ends where all are committed, or where a write has
     /// failed and no other one is in flight. No worker works any more.
-    pub fn finish<W: Wait>(&mut self, rt: &W) -> Result<(), RunFault> {
+    pub fn finish<W: Wait>(&mut self, rt: &W) -> Result<(), RunFault>
+        ensures { DoesStages self.old self.new }
+    {
         for _ in rt.forever() {
             if self.is_done(rt) {
-                break;
+                return Ok(());
             }
             if self.complete()? {
                 continue;
             }
-            match self.core.cut() {
+            match self.cut() {
                 Ok(()) => {}
-                Err(Refused::DiskFailed) => break,
+                Err(Refused::DiskFailed) => return Ok(()),
                 Err(why) => return Err(RunFault::from(why)),
             }
         }

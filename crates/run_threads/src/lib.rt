@@ -1,6 +1,7 @@
 //! Two threads of a run beside its workers: one commits what output waits for, and one writes out what terminals show. Read
 //! `CommitThread` and `Screen`. A `Watch` tells them when the work is over, and keeps the first fault. Of `LockedCore` it is proved
-//! that it gives the writes in flight at the core under its lock. Of the others only safety is proved.
+//! that what its core is told stands in the notes of its desk, and of a `CommitThread` with a file that it tells its core of no write
+//! but by stages. Of the others only safety is proved.
 #![tactic(auto)]
 
 mod board_reader;

@@ -1,6 +1,6 @@
 //! All turns of both programs at one desk, with a group that is committed after the first and one that fails at the end, and what
-//! the board shows. 17 events are wanted. Six loans are a Turn and an Enter each; a Cut and two completions, and a Cut and a
-//! failure, are the others.
+//! the board shows. 18 events are wanted. Six loans are a Turn and an Enter each; a Cut and two completions, and a Cut, a completion
+//! and a failure, are the others.
 use crate::case::QUANTUM;
 use crate::fault::Fault;
 use crate::gates::Open;
@@ -22,7 +22,7 @@ struct Found {
     first: u32,
     /// How many turns settled a result after the commit.
     rest: u32,
-    /// The answer where a write of the last group failed.
+    /// The answer where the gate of the last group failed.
     failed: Answer,
 }
 
@@ -54,21 +54,23 @@ fn turns<D: Desk>(desk: &mut D) -> u32 {
 pub fn commit<D: Desk>(desk: &mut D) -> Result<(), Fault> {
     desk.cut()?;
     for _ in 0..2 {
-        let Some(at) = desk.in_flight() else {
-            return Err(Fault::NoWrite);
-        };
+        let at = first_in_flight(desk)?;
         desk.complete(at)?;
     }
     Ok(())
 }
 
-/// A Cut, and the failure of its first write. Gives the failure's answer.
+/// A Cut, the completion of its record, and the failure of its gate, which is written last. Gives the failure's answer.
 fn fail_to_commit<D: Desk>(desk: &mut D) -> Result<Answer, Fault> {
     desk.cut()?;
-    match desk.in_flight() {
-        Some(at) => Ok(desk.fail(at)?),
-        None => Err(Fault::NoWrite),
-    }
+    let record = first_in_flight(desk)?;
+    desk.complete(record)?;
+    let gate = first_in_flight(desk)?;
+    Ok(desk.fail(gate)?)
+}
+
+fn first_in_flight<D: Desk>(desk: &mut D) -> Result<u32, Fault> {
+    desk.in_flight().ok_or(Fault::NoWrite)
 }
 
 /// The first turn, and a commit. Gives how many instructions the turn ran, and what the board showed after each.

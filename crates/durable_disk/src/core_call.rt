@@ -1,0 +1,12 @@
+//! What a stage and its core say to each other.
+
+/// A call of a core that it did not refuse.
+#[derive(Clone, Copy)]
+pub enum CoreCall {
+    /// It was asked for the writes in flight, and gave so many.
+    InFlight(usize),
+    /// It was told that the write in flight which begins at this offset of the disk is complete.
+    Complete(u32),
+    /// It was told that this write has failed.
+    Fail(u32),
+}
