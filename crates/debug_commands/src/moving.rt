@@ -36,7 +36,7 @@ impl Moved {
         let number = cause.number();
         writeln!(out, "trap {number} {cause:?}")?;
         if self.aids.some() {
-            print_address(self.debugger.state(), cause, out)?;
+            print_address(self.debugger.state(), out)?;
         }
         Ok(())
     }

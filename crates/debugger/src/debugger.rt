@@ -5,7 +5,7 @@ ghost use Rattle.debugger.specs.Accesses.{LeavesOutside, next_access_of};
 ghost use Rattle.debugger.specs.Coasts.{Coasts, HasAll};
 ghost use Rattle.debugger.specs.Edits.{Changes};
 ghost use Rattle.debugger.specs.Hits.{last_below};
-ghost use Rattle.debugger.specs.Keeping.{Advances};
+ghost use Rattle.debugger.specs.Keeping.{Advances, CountsKept};
 ghost use Rattle.debugger.specs.Sessions.{TakesMemory, begins, break_count, break_of, halt_at, place_at};
 ghost use Rattle.debugger.specs.Stops.{after_step, answer_of, least_from};
 ghost use Rattle.debugger.specs.declared.fault.DebugFault.TheVariants.{BreakTableFull, NoSuchBreak, OutOfMemory, PastTrace};
@@ -29,6 +29,9 @@ pub const MOST_INSTRUCTIONS: u64 = 1 << 40;
 
 /// The places at counts that are multiples of this are kept.
 pub(crate) const SPAN: u64 = 1024;
+
+/// The most pages that a state has: those of all addresses.
+const MOST_PAGES: u64 = 1 << 20;
 
 /// The most breakpoints that are set at a time.
 const MOST_BREAKS: usize = 64;
@@ -208,12 +211,15 @@ impl Debugger {
 
     /// How many bytes the kept states hold, for whoever is to end a run before it fills the host. It counts 1,024 for each state. It
     /// counts 4,096 for each page that was copied for one, since it was not the same in the state kept before. That is counted as
-    /// states are kept, and only grows. The clause says how much it is at least; no clause says what is shared.
+    /// states are kept, and only grows. The clause says that it is such a sum, and how many states and pages there are at least and
+    /// at most; no clause says what is shared.
     pub fn kept_bytes(&self) -> u64
-        ensures { 1024 * (self.now.count / 1024 + 1) ≤ result }
+        ensures least { 1024 * (self.now.count / 1024 + 1) ≤ result }
+        ensures counts { CountsKept self.now.count result }
     {
-        let states = 1024 * self.kept.len() as u64;
-        states.saturating_add(self.kept_pages.saturating_mul(4096))
+        let states = self.kept.len() as u64;
+        let pages = self.kept_pages.min(MOST_PAGES * states);
+        1024 * states + 4096 * pages
     }
 
     pub(crate) fn count(&self) -> u64

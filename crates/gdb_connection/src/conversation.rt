@@ -6,7 +6,7 @@ use crate::keeper::Keeper;
 use gdb_packets::Packets;
 use gdb_session::{Next, Session};
 use remote_packets::{Arrival, framed};
-use std::alloc::{AllocError, Global};
+use std::alloc::Global;
 use std::io::Write;
 use std::sync::Wait;
 
@@ -83,7 +83,7 @@ impl<'x, K: Keeper, O: Write> Conversation<'x, K, O> {
     }
 
     /// Whether the machine goes on no longer, since the input ended so long ago. Counts a slice.
-    fn is_late(&mut self, inbox: &Inbox) -> Result<bool, AllocError> {
+    fn is_late(&mut self, inbox: &Inbox) -> Result<bool, ConnectionFault> {
         if inbox.is_over() {
             inbox.end()?;
             self.last = self.last.saturating_add(1);

@@ -8,7 +8,7 @@ use std::io;
 pub enum ConnectionFault {
     /// Memory ran out, or a thread could not be had.
     OutOfMemory,
-    /// What answers gdb could not be written.
+    /// What came could not be read, or what answers gdb could not be written.
     InputOutput,
 }
 

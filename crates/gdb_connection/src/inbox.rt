@@ -1,8 +1,9 @@
 //! What came in, for the thread that answers.
+use crate::fault::ConnectionFault;
 use idle::Rest;
 use remote_packets::{Arrival, Reader};
 use std::alloc::{AllocError, Global};
-use std::io::Read;
+use std::io::{ErrorKind, Read};
 use std::sync::atomic::{AtomicBool, Ordering};
 use std::sync::{Mutex, Wait};
 
@@ -17,6 +18,8 @@ pub struct Inbox {
     over: AtomicBool,
     /// Whether it is over since memory ran out.
     lost: AtomicBool,
+    /// Whether it is over since the input could not be read.
+    failed: AtomicBool,
     /// Whether no more is taken.
     closed: AtomicBool,
 }
@@ -42,6 +45,7 @@ impl Inbox {
             some: AtomicBool::new(false),
             over: AtomicBool::new(false),
             lost: AtomicBool::new(false),
+            failed: AtomicBool::new(false),
             closed: AtomicBool::new(false),
         }
     }
@@ -56,13 +60,24 @@ impl Inbox {
         self.over.load(Ordering::SeqCst)
     }
 
-    /// How the input ended, where it is over: refused for want of memory, if that ended it.
-    pub fn end(&self) -> Result<(), AllocError> {
+    /// How the input ended, where it is over: refused where memory ran out, or a read failed, if that ended it.
+    pub fn end(&self) -> Result<(), ConnectionFault> {
         if self.lost.load(Ordering::SeqCst) {
-            Err(AllocError)
+            Err(ConnectionFault::OutOfMemory)
+        } else if self.failed.load(Ordering::SeqCst) {
+            Err(ConnectionFault::InputOutput)
         } else {
             Ok(())
         }
+    }
+
+    /// Notes why no more can be read.
+    fn note(&self, fault: ConnectionFault) {
+        let flag = match fault {
+            ConnectionFault::OutOfMemory => &self.lost,
+            ConnectionFault::InputOutput => &self.failed,
+        };
+        flag.store(true, Ordering::SeqCst);
     }
 
     /// What came in.
@@ -110,14 +125,17 @@ impl Inbox {
         alloc: Global,
         reader: &mut Reader,
         input: &mut I,
-    ) -> Result<bool, AllocError> {
+    ) -> Result<bool, ConnectionFault> {
         let mut buffer = [0u8; 4096];
         match input.read(&mut buffer) {
-            Ok(n) if n > 0 => {
+            Ok(0) => Ok(false),
+            Ok(n) => {
                 let bytes = &buffer[..n];
                 Ok(self.add_in_time(rt, bytes)? && !leaves(reader, alloc, bytes)?)
             }
-            _ => Ok(false),
+            // It is made again.
+            Err(error) if error.kind() == ErrorKind::Interrupted => Ok(true),
+            Err(error) => Err(ConnectionFault::from(error)),
         }
     }
 
@@ -126,8 +144,8 @@ impl Inbox {
         let mut reader = Reader::new(alloc);
         for _ in rt.forever() {
             let filled = self.fill_once(rt, alloc, &mut reader, input);
-            if filled.is_err() {
-                self.lost.store(true, Ordering::SeqCst);
+            if let Err(fault) = &filled {
+                self.note(*fault);
             }
             if !filled.unwrap_or(false) {
                 self.over.store(true, Ordering::SeqCst);

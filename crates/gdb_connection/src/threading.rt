@@ -54,7 +54,7 @@ fn run_both<R: Threads + Wait + Sync, I: Read + Send, K: Keeper, O: Write>(
 
 /// Answers gdb, whose packets are read from `input`, and what answers them is written to `out`. A thread reads, so that a run is
 /// interrupted where gdb asks for it. It ends where gdb leaves, or the input ends: the packets before that are answered, for which the
-/// machine goes on for no more than 1,024 slices.
+/// machine goes on for no more than 1,024 slices. An input that cannot be read is no end of it, but a fault.
 pub fn converse<R: Threads + Wait + Sync, I: Read + Send, K: Keeper, O: Write>(
     rt: &R,
     alloc: Global,

@@ -15,9 +15,6 @@ const BYTES_OF_CALL: u64 = 1024;
 /// How often each byte that a call moves is kept at most.
 const TIMES_MOVED: u64 = 4;
 
-/// As what an event of the kernel counts.
-const BYTES_OF_EVENT: u64 = 512;
-
 const MIB: u64 = 1 << 20;
 
 /// That the history has no more room. It prints as a line.
@@ -36,11 +33,6 @@ impl Display for Full {
     }
 }
 
-/// So many times a number of bytes.
-fn times(count: usize, bytes: u64) -> u64 {
-    (count as u64).saturating_mul(bytes)
-}
-
 impl Timeline {
     /// How many events the kernel has had.
     pub(crate) fn events(&self) -> usize {
@@ -50,16 +42,28 @@ impl Timeline {
         }
     }
 
-    /// As how many bytes the history counts.
-    fn held(&self) -> u64 {
-        let kernel = times(self.events(), BYTES_OF_EVENT);
-        let calls = times(self.calls.count(), BYTES_OF_CALL);
+    /// As how many bytes the program's own states and calls count.
+    fn held_of_program(&self) -> u64 {
+        let calls = (self.calls.count() as u64).saturating_mul(BYTES_OF_CALL);
         let moved = self.calls.moved().saturating_mul(TIMES_MOVED);
         self.debugger
             .kept_bytes()
-            .saturating_add(kernel)
             .saturating_add(calls)
             .saturating_add(moved)
+    }
+
+    /// As how many bytes the history counts.
+    fn held(&self) -> u64 {
+        let kernel = match &self.live {
+            Some(live) => live.held(),
+            None => 0,
+        };
+        self.held_of_program().saturating_add(kernel)
+    }
+
+    /// As how many bytes what the kernel keeps may count.
+    pub(crate) fn room_of_kernel(&self) -> u64 {
+        self.room.saturating_sub(self.held_of_program())
     }
 
     /// How many instructions may be done until it is looked again how much the history takes. They end at the next state that is kept.

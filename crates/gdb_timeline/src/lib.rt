@@ -10,6 +10,7 @@ mod history;
 mod live;
 mod points;
 mod timeline;
+mod told;
 mod travel;
 
 pub use fault::OutOfMemory;

@@ -2,19 +2,22 @@
 ghost use Rattle.std.specs.Prelude.{◌<◌};
 ghost use Rattle.kernel_model.specs.World.{terminal_count};
 
+use crate::told::Told;
 use kernel::{Core, SimDisk};
 use kernel_model::{Refused, TERMINALS};
 use recorder::{Recorded, Recorder};
-use std::alloc::AllocError;
+use std::alloc::{AllocError, Global};
 
 /// How many loans are done at most until gdb's interrupts are looked at.
 const LOANS: u32 = 16;
 
-/// A kernel that answers the calls of a process, and how much of what each terminal shows was told.
+/// A kernel that answers the calls of a process, and how much of what each terminal shows gdb was told.
 pub struct Live {
     recorder: Recorder,
     process: u32,
     told: [usize; TERMINALS],
+    /// The replies that all processes were told.
+    replies: Told,
 }
 
 impl Drop for Live {
@@ -23,17 +26,19 @@ impl Drop for Live {
             recorder: _recorder,
             process: _,
             told: _,
+            replies: _replies,
         } = self;
     }
 }
 
 impl Live {
     /// A kernel of which nothing was told.
-    pub fn new(recorder: Recorder, process: u32) -> Live {
+    pub fn new(alloc: Global, recorder: Recorder, process: u32) -> Live {
         Live {
             recorder,
             process,
             told: [0; TERMINALS],
+            replies: Told::new(alloc),
         }
     }
 
@@ -52,9 +57,21 @@ impl Live {
         self.recorder.core().after_crash(&[])
     }
 
-    /// Runs the kernel on until the process has more replies, or its end is found.
-    pub fn more(&mut self) -> Result<Recorded, Refused> {
-        self.recorder.more(LOANS)
+    /// As how many bytes what the kernel keeps counts.
+    pub fn held(&self) -> u64 {
+        self.replies.bytes(self.recorder.core())
+    }
+
+    /// Runs the kernel on until the process has more replies, its end is found, or what the kernel keeps counts as so many bytes.
+    pub fn more(&mut self, room: u64) -> Result<Recorded, Refused> {
+        for _ in 0..LOANS {
+            let found = self.recorder.more(1)?;
+            self.replies.count(self.recorder.core())?;
+            if !matches!(&found, Recorded::Going) || self.held() >= room {
+                return Ok(found);
+            }
+        }
+        Ok(Recorded::Going)
     }
 
     /// Adds what a terminal shows and was not told.

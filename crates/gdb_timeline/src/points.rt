@@ -78,7 +78,7 @@ impl Points {
         !self.is_lifted && !self.watches.is_empty()
     }
 
-    /// The first watch that an access meets.
+    /// The first watch that an access meets, of those that are set the one that was set first.
     pub fn met_by(&self, access: &Access) -> Option<Watch> {
         self.watches
             .iter()
@@ -129,7 +129,7 @@ impl Points {
     pub fn clear_watch(&mut self, watch: Watch) {
         match self.watches.iter().position(|other| *other == watch) {
             Some(place) if place < self.watches.len() => {
-                let _ = self.watches.swap_remove(place);
+                let _ = self.watches.remove(place);
             }
             _ => {}
         }

@@ -101,7 +101,10 @@ impl Timeline {
         let (replies, live) = match origin {
             Origin::Trace(replies) => (queue_of(alloc, replies)?, None),
             Origin::Kernel(recorder, process) => {
-                (VecDeque::new(alloc), Some(Live::new(recorder, process)))
+                (
+                    VecDeque::new(alloc),
+                    Some(Live::new(alloc, recorder, process)),
+                )
             }
         };
         Ok(Timeline {
@@ -213,11 +216,12 @@ impl Timeline {
 
     /// What the kernel has for the call at which the machine stands.
     fn ask(&mut self) -> Result<After, OutOfMemory> {
+        let room = self.room_of_kernel();
         let Some(live) = &mut self.live else {
             return self.end("end of trace");
         };
         let pid = live.process();
-        let found = live.more();
+        let found = live.more(room);
         live.tell_shown(&mut self.notes)?;
         match found {
             Ok(Recorded::Replies(replies)) => {

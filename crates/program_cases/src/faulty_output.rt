@@ -98,13 +98,14 @@ pub fn check_output<R: Files<File = File> + AllocGlobal + Threads + Wait + Sync>
     compare_end(ended, &out, err.as_slice(), end)
 }
 
-/// Runs the program without words on an input that cannot be read.
+/// Runs the program with these words, parted by blanks, on an input that cannot be read.
 fn check_input<R: Files<File = File> + AllocGlobal + Threads + Wait + Sync>(
     rt: &R,
+    line: &str,
     failure: ErrorKind,
     end: End<'_>,
 ) -> Result<(), Error> {
-    let words = arguments(rt.alloc(), "")?;
+    let words = arguments(rt.alloc(), line)?;
     let mut input = Input { failure };
     let mut out = Output::new(0, ErrorKind::BrokenPipe);
     let mut err = Vec::new(rt.alloc());
@@ -125,19 +126,20 @@ pub fn check_faulty_output<R: Files<File = File> + AllocGlobal + Threads + Wait 
             check_output(rt, line, Output::new(1, failure), (0, ""))?;
             check_output(rt, line, Output::new(0, failure), end)?;
         }
-        check_input(rt, failure, end)?;
+        check_input(rt, "", failure, end)?;
     }
     Ok(String::from_str(rt.alloc(), "outputs that take one write or none")?)
 }
 
 /// A program that writes a byte which rests on a change, and then never ends. Its run ends only since that byte goes out while the
-/// program runs, and cannot be written. It reads the source `endless.s`.
+/// program runs, and cannot be written. Where gdb debugs it, a read that fails is no end of the input. It reads the source `endless.s`.
 pub fn check_endless_run<R: Files<File = File> + AllocGlobal + Threads + Wait + Sync>(
     rt: &R,
 ) -> Result<String, Error> {
     check_status(rt, "asm endless.s endless", 0)?;
     let out = Output::new(0, ErrorKind::BrokenPipe);
     check_output(rt, "run endless", out, (6, FAILED))?;
+    check_input(rt, "gdb endless", ErrorKind::BrokenPipe, (6, FAILED))?;
     fs::remove_file(rt, "endless")?;
     Ok(String::from_str(rt.alloc(), "a run without end whose output fails")?)
 }

@@ -40,7 +40,7 @@ grows-lent old new n (Ok (Some loan)) h =
     subst (λ (k : Kernel). Grows old k) (sym h.1.noted) (record { boot = refl; more = []; history = sym (append-nil old.history) })
 grows-lent old new n (Err why) h = grows-same old new h.2
 
-lent-history : (old new : Kernel) (n : ℕ) (given : Result (Option LoanOut) Refused) → Lends old n new given → new.history ≡ old.history
+pub lent-history : (old new : Kernel) (n : ℕ) (given : Result (Option LoanOut) Refused) → Lends old n new given → new.history ≡ old.history
 lent-history old new n (Ok None) h = ap (λ (k : Kernel). k.history) h.1.1
 lent-history old new n (Ok (Some loan)) h = ap (λ (k : Kernel). k.history) h.1.noted
 lent-history old new n (Err why) h = ap (λ (k : Kernel). k.history) h.2
@@ -56,7 +56,7 @@ pub grows-settles : (old new : Kernel) (done : Done) (result : Result Answer Rej
 grows-settles old new done (Ok a) h = grows-settled old new (loan_result done) h.events
 grows-settles old new done (Err r) h = grows-same old new h.err
 
-drains-events : (es : List Event) (k new : Kernel) → Drains k es new → new ≡ with_events k es
+pub drains-events : (es : List Event) (k new : Kernel) → Drains k es new → new ≡ with_events k es
 drains-events [] k new h = h
 drains-events (e ∷ es) k new h = drains-events es (with_event k e) new h.4
 

@@ -1,19 +1,20 @@
--- A trace only grows at its end.
-use Rattle.std.proofs.Common.{append-nil, ◌≡◌, ℕ, zero, suc, ◌<◌, ◌≤◌, Bool, true, false, if◌then◌else◌, List, [], ◌∷◌, ◌++◌, length, slice_get, Option, Some, None, is_some, refl, sym, ap, ◌∙◌, append_assoc, arith}
-use Rattle.kernel_model.specs.Answers.{Kernel, now, committed, with_events}
+-- What a process was handed only grows at its end, and so its trace does.
+use Rattle.std.proofs.Common.{append-nil, subst, ◌≡◌, ℕ, zero, suc, ◌<◌, ◌≤◌, Bool, true, false, if◌then◌else◌, List, [], ◌∷◌, ◌++◌, length, drop, slice_get, Option, Some, None, is_some, refl, sym, ap, ◌∙◌, append_assoc, arith}
+use Rattle.kernel_model.specs.Answers.{Kernel, now, committed, process_of, with_events}
 use Rattle.kernel_model.specs.Entries.{Entry, Item, Got, End}
 use Rattle.kernel_model.specs.Paths.{is_durable}
-use Rattle.kernel_model.specs.Shown.{Given, given_by, items_for, told, prefix, released, replies_in}
+use Rattle.kernel_model.specs.Shown.{Given, end_in, given_by, handed, items_for, told, prefix, released, replies_in}
 use Rattle.kernel_model.specs.State.{SyncState, Process, process_at}
 use Rattle.kernel_model.specs.Steps.{step, zero_reply}
 use Rattle.kernel_model.specs.Views.{contents}
 use Rattle.kernel_model.specs.World.{World, first_world, happens, after}
 use Rattle.kernel_model.specs.declared.event.Event.{Event}
+use Rattle.machine_model.specs.declared.reply.Reply.{Reply}
 use Rattle.kernel_model.proofs.Paths.{durable_from, durable_to}
 use Rattle.kernel_model.proofs.Runs.{after-after, history-with_events, told-entry}
 use Rattle.kernel_laws.proofs.Children.{step_not_made}
 use Rattle.kernel_laws.proofs.Others.{step_length}
-use Rattle.recorder.specs.Recording.{Grows, Lengthens}
+use Rattle.recorder.specs.Recording.{Grows, HasNone, Lengthens, Recording}
 use Rattle.recorder.proofs.Growing.{boot-with_events}
 
 -- ---- a process that is there stays
@@ -91,18 +92,65 @@ run_more old new g =
     ap (λ b. after (first_world b) new.history) g.boot ∙ ap (λ (es : List Event). after (first_world old.boot) es) g.history
     ∙ after-after (first_world old.boot) old.history g.more
 
--- so its trace begins as before
-pub lengthens : ((k : Kernel) (es : List Event) → committed (now k) ≤ committed (now (with_events k es)))
-    → (old new : Kernel) (p : ℕ) → Grows old new → Lengthens old new p
-lengthens never_falls old new p g there =
+-- so what it was handed begins as before
+hands : ((k : Kernel) (es : List Event) → committed (now k) ≤ committed (now (with_events k es)))
+    → (old new : Kernel) (p : ℕ) → Grows old new → is_some (process_of old p) ≡ true
+    → (more : List Item) × (handed (now new) p ≡ handed (now old) p ++ more)
+hands never_falls old new p g there =
     let same : committed (now new) ≡ committed (now (with_events old g.more)) = ap committed (grown_run old new g) in
     let rises : committed (now old) ≤ committed (now (with_events old g.more)) = never_falls old g.more in
     let le : committed (now old) ≤ committed (now new) = omega (arith, same, rises) in
     let t = told_grows g.more (now old) p there in
     let r = released_grows (committed (now old)) (committed (now new)) le (told p (now old).log) t.0 in (
-      replies_in r.0,
-      ap (λ (w : World). replies_in (released (committed (now new)) (told p w.log))) (run_more old new g)
-          ∙ ap (λ (xs : List (Given Item)). replies_in (released (committed (now new)) xs)) t.1
-          ∙ ap (λ (xs : List Item). replies_in xs) r.1
-          ∙ replies_in-append (released (committed (now old)) (told p (now old).log)) r.0,
+      r.0,
+      ap (λ (w : World). released (committed (now new)) (told p w.log)) (run_more old new g)
+          ∙ ap (λ (xs : List (Given Item)). released (committed (now new)) xs) t.1
+          ∙ r.1,
     )
+
+-- and its trace
+pub lengthens : ((k : Kernel) (es : List Event) → committed (now k) ≤ committed (now (with_events k es)))
+    → (old new : Kernel) (p : ℕ) → Grows old new → Lengthens old new p
+lengthens never_falls old new p g there =
+    let h = hands never_falls old new p g there in (
+      replies_in h.0,
+      ap (λ (xs : List Item). replies_in xs) h.1 ∙ replies_in-append (handed (now old) p) h.0,
+    )
+
+-- ---- what was there before
+stay : (es : List Event) (w : World) (p : ℕ) → is_some (process_at w.sync.processes p) ≡ true → is_some (process_at (after w es).sync.processes p) ≡ true
+stay [] w p there = there
+stay (e ∷ es) w p there = stay es (happens w e) p (stays w.sync p e there)
+
+drop-less : (n : ℕ) (xs ys : List Reply) → drop n (xs ++ ys) ≡ [] → drop n xs ≡ []
+drop-less zero [] ys none = refl
+drop-less zero (x ∷ xs) ys none = absurd (let no : ⊥ = cc in no)
+drop-less (suc n) [] ys none = refl
+drop-less (suc n) (x ∷ xs) ys none = drop-less n xs ys none
+
+end-less : (xs ys : List Item) → end_in (xs ++ ys) ≡ None → end_in xs ≡ None
+end-less [] ys none = refl
+end-less (Got r ∷ xs) ys none = end-less xs ys none
+end-less (End status ∷ xs) ys none = absurd (let no : ⊥ = cc in no)
+
+-- the same process with as many replies taken has nothing in the one core, where it has nothing in the other
+none-before : ((k : Kernel) (es : List Event) → committed (now k) ≤ committed (now (with_events k es)))
+    → (old new : Kernel) (p taken : ℕ) → Grows old new
+    → HasNone (record { kernel = new; process = p; taken = taken }) → HasNone (record { kernel = old; process = p; taken = taken })
+none-before never_falls old new p taken g none there =
+    let h = hands never_falls old new p g there in
+    let now_there : is_some (process_of new p) ≡ true =
+    ap (λ (w : World). is_some (process_at w.sync.processes p)) (run_more old new g) ∙ stay g.more (now old) p there in
+    let last = none now_there in
+    let trace : replies_in (handed (now new) p) ≡ replies_in (handed (now old) p) ++ replies_in h.0 =
+    ap (λ (xs : List Item). replies_in xs) h.1 ∙ replies_in-append (handed (now old) p) h.0 in (
+      drop-less taken (replies_in (handed (now old) p)) (replies_in h.0) (sym (ap (λ (rs : List Reply). drop taken rs) trace) ∙ last.0),
+      end-less (handed (now old) p) h.0 (sym (ap (λ (xs : List Item). end_in xs) h.1) ∙ last.1),
+    )
+
+pub had-none : ((k : Kernel) (es : List Event) → committed (now k) ≤ committed (now (with_events k es)))
+    → (old new : Recording) → Grows old.kernel new.kernel → new.process ≡ old.process → new.taken ≡ old.taken → HasNone new → HasNone old
+had-none never_falls old new g process taken none =
+    none-before never_falls old.kernel new.kernel old.process old.taken g
+    (subst (λ (n : ℕ). HasNone (record { kernel = new.kernel; process = old.process; taken = n })) taken
+    (subst (λ (p : ℕ). HasNone (record { kernel = new.kernel; process = p; taken = new.taken })) process none))

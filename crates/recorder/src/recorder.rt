@@ -1,16 +1,17 @@
 //! Recorders.
-ghost use Rattle.std.specs.Prelude.{◌≡◌, ◌≢◌, ◌+◌, ◌<◌, ◌≤◌, true, false, None, IfOk, IfErr, IfSome, OnOk, OnErr, MatchOption, length};
+ghost use Rattle.std.specs.Prelude.{◌≡◌, ◌+◌, ◌<◌, ◌≤◌, true, false, None, Some, is_some, IfOk, IfErr, IfSome, OnOk, OnErr, MatchOption, length};
 ghost use Rattle.kernel_model.specs.Answers.{Kernel, now, process_of};
 ghost use Rattle.kernel_model.specs.Drains.{IsAllCommitted};
-ghost use Rattle.kernel_model.specs.Loans.{is_over, pick};
-ghost use Rattle.kernel_model.specs.declared.answer.Refused.TheVariants.{Lent, NoProcess};
-ghost use Rattle.recorder.specs.Recording.{Finds, Grows, HasNone, Lengthens, Rests, StandsStill, quantum};
-ghost use Rattle.recorder.specs.declared.recorded.Recorded.TheVariants.{Going};
+ghost use Rattle.kernel_model.specs.Loans.{is_over, pick, standing_of};
+ghost use Rattle.kernel_model.specs.Shown.{end_in, handed};
+ghost use Rattle.kernel_model.specs.declared.standing.Standing.TheVariants.{Ended};
+ghost use Rattle.recorder.specs.Recording.{Finds, GoesNoFurther, Grows, HasNone, Lengthens, MayRefuse, Rests, Tells, loans_given, quantum};
+ghost use Rattle.recorder.specs.declared.recorded.Recorded.TheVariants.{Going, Waits};
 
 use crate::copies::copies_of;
 use crate::recorded::Recorded;
-use crate::running::{QUANTUM, run_next};
-use crate::traces::traces_only_grow;
+use crate::running::{QUANTUM, commit, run_next};
+use crate::traces::{ends_are_handed_out, nothing_is_lost, traces_only_grow};
 use kernel::{Core, Refused, Standing};
 use std::alloc::Global;
 use std::marker::Model;
@@ -68,20 +69,22 @@ impl Recorder {
 
     /// Runs the core on until the process has replies that were not taken, and takes them; at most so many loans of 65,536
     /// instructions each. The trace of a process that a fork made begins with its parent's up to then, and a 0. A trace only grows at
-    /// its end. So a debugger that has the replies so far goes on with those that are taken, and what it reached before stays.
+    /// its end. So a debugger that has the replies so far goes on with those that are taken, and what it reached before stays. What
+    /// the process has when it is asked is found at once, if a loan may be done.
     ///
     /// Refused, where what ran stays, and no reply is taken:
     /// - NoProcess: there is no such process, and none runs on;
     /// - Lent: no process is lendable while one is out on loan elsewhere;
-    /// - Budget: the process has no room for as many instructions, or the history for events;
+    /// - Budget: the process is free, and has no room for as many instructions; or the history has none for events;
     /// - DiskFailed: a write of the disk had failed before;
     /// - OutOfMemory.
     pub fn more(&mut self, loans: u32) -> Result<Recorded, Refused>
         ensures finds { IfOk result (λ recorded. Finds self.old.taken self.new recorded) }
+        ensures tells { IfOk result (λ recorded. 0 < loans → (HasNone self.old → ⊥) → Tells recorded) }
         ensures going { IfOk result (λ recorded. recorded ≡ Going → length self.old.kernel.history + loans ≤ length self.new.kernel.history) }
+        ensures few { loans_given self.new.kernel ≤ loans_given self.old.kernel + loans }
         ensures committed { OnOk result (IsAllCommitted (now self.new.kernel)) }
-        ensures none { IfErr result (λ why. why ≡ NoProcess → (process_of self.new.kernel self.new.process ≡ None) × Rests self.new.kernel) }
-        ensures lent { IfErr result (λ why. why ≡ Lent → StandsStill self.new.kernel) }
+        ensures refused { IfErr result (λ why. GoesNoFurther self.new why) }
         ensures taken { OnErr result (self.new.taken ≡ self.old.taken) }
         ensures grows { Grows self.old.kernel self.new.kernel }
         ensures trace { Lengthens self.old.kernel self.new.kernel self.new.process }
@@ -94,14 +97,16 @@ impl Recorder {
     /// Does what `more` does.
     fn run_on(&mut self, loans: u32) -> Result<Recorded, Refused>
         ensures finds { IfOk result (λ recorded. Finds self.old.taken self.new recorded) }
+        ensures tells { IfOk result (λ recorded. 0 < loans → (HasNone self.old → ⊥) → Tells recorded) }
         ensures going { IfOk result (λ recorded. recorded ≡ Going → length self.old.kernel.history + loans ≤ length self.new.kernel.history) }
+        ensures few { loans_given self.new.kernel ≤ loans_given self.old.kernel + loans }
         ensures committed { OnOk result (IsAllCommitted (now self.new.kernel)) }
-        ensures none { IfErr result (λ why. why ≡ NoProcess → (process_of self.new.kernel self.new.process ≡ None) × Rests self.new.kernel) }
-        ensures lent { IfErr result (λ why. why ≡ Lent → StandsStill self.new.kernel) }
+        ensures refused { IfErr result (λ why. GoesNoFurther self.new why) }
         ensures taken { OnErr result (self.new.taken ≡ self.old.taken) }
         ensures grows { Grows self.old.kernel self.new.kernel }
         ensures process { self.new.process ≡ self.old.process }
     {
+        nothing_is_lost();
         self.commit()?;
         for _ in 0..loans {
             if let Some(recorded) = self.found()? {
@@ -120,14 +125,13 @@ impl Recorder {
     /// Commits every change.
     fn commit(&mut self) -> Result<(), Refused>
         ensures committed { OnOk result (IsAllCommitted (now self.new.kernel)) }
-        ensures refused { IfErr result (λ why. why ≢ NoProcess) }
-        ensures home { IfErr result (λ why. why ≢ Lent) }
+        ensures refused { IfErr result (λ why. GoesNoFurther self.new why) }
+        ensures few { loans_given self.new.kernel ≤ loans_given self.old.kernel }
         ensures grows { Grows self.old.kernel self.new.kernel }
         ensures process { self.new.process ≡ self.old.process }
         ensures taken { self.new.taken ≡ self.old.taken }
     {
-        self.core.drain()?;
-        Ok(())
+        commit(&mut self.core)
     }
 
     /// Whether no process runs on.
@@ -142,8 +146,8 @@ impl Recorder {
         ensures ran { IfOk result (λ ran. ran ≡ true → length self.old.kernel.history < length self.new.kernel.history) }
         ensures idle { IfOk result (λ ran. ran ≡ false → (pick self.old.kernel quantum ≡ None) × (self.new.kernel ≡ self.old.kernel)) }
         ensures committed { OnOk result (IsAllCommitted (now self.old.kernel) → IsAllCommitted (now self.new.kernel)) }
-        ensures refused { IfErr result (λ why. why ≢ NoProcess) }
-        ensures home { IfErr result (λ why. why ≢ Lent) }
+        ensures refused { IfErr result (λ why. GoesNoFurther self.new why) }
+        ensures few { loans_given self.new.kernel ≤ loans_given self.old.kernel + 1 }
         ensures grows { (first : Kernel) → Grows first self.old.kernel → Grows first self.new.kernel }
         ensures process { self.new.process ≡ self.old.process }
         ensures taken { self.new.taken ≡ self.old.taken }
@@ -153,10 +157,10 @@ impl Recorder {
 
     /// The replies that were not taken, which are taken now, or the process's end; None where there is neither.
     fn found(&mut self) -> Result<Option<Recorded>, Refused>
+        requires committed { IsAllCommitted (now self.old.kernel) }
         ensures finds { IfOk result (λ found. MatchOption found (HasNone self.new × (self.new.taken ≡ self.old.taken)) (λ recorded. Finds self.old.taken self.new recorded)) }
-        ensures ends { IfOk result (λ found. IfSome found (λ recorded. recorded ≢ Going)) }
-        ensures refused { IfErr result (λ why. why ≢ NoProcess) }
-        ensures home { IfErr result (λ why. why ≢ Lent) }
+        ensures tells { IfOk result (λ found. IfSome found (λ recorded. Tells recorded)) }
+        ensures refused { IfErr result (λ why. GoesNoFurther self.new why) }
         ensures taken { OnErr result (self.new.taken ≡ self.old.taken) }
         ensures kernel { self.new.kernel ≡ self.old.kernel }
         ensures process { self.new.process ≡ self.old.process }
@@ -170,12 +174,23 @@ impl Recorder {
             self.taken = count;
             return Ok(Some(Recorded::Replies(replies)));
         }
-        match (
-            self.core.standing(self.process),
-            self.core.ended(self.process),
-        ) {
-            (Ok(Standing::Ended), Ok(Some(status))) => Ok(Some(Recorded::Ended(status))),
-            _ => Ok(None),
+        match self.end() {
+            Some(status) => Ok(Some(Recorded::Ended(status))),
+            None => Ok(None),
+        }
+    }
+
+    /// The status with which the process ended, where its end is handed out.
+    fn end(&self) -> Option<u32>
+        requires committed { IsAllCommitted (now self.now.kernel) }
+        ensures handed { is_some (process_of self.now.kernel self.now.process) ≡ true → result ≡ end_in (handed (now self.now.kernel) self.now.process) }
+        ensures status { IfSome result (λ status. end_in (handed (now self.now.kernel) self.now.process) ≡ Some status) }
+        ensures ended { IfSome result (λ status. standing_of self.now.kernel self.now.process ≡ Ended) }
+    {
+        ends_are_handed_out();
+        match self.core.ended(self.process) {
+            Ok(status) => status,
+            Err(_) => None,
         }
     }
 
@@ -183,11 +198,12 @@ impl Recorder {
     fn rest(&self) -> Result<Recorded, Refused>
         requires none { HasNone self.now }
         requires over { Rests self.now.kernel }
+        requires committed { IsAllCommitted (now self.now.kernel) }
         ensures finds { IfOk result (λ recorded. Finds self.now.taken self.now recorded) }
-        ensures ends { IfOk result (λ recorded. recorded ≢ Going) }
-        ensures none { IfErr result (λ why. why ≡ NoProcess → process_of self.now.kernel self.now.process ≡ None) }
-        ensures home { IfErr result (λ why. why ≢ Lent) }
+        ensures waits { IfOk result (λ recorded. recorded ≡ Waits) }
+        ensures refused { IfErr result (λ why. GoesNoFurther self.now why) }
     {
+        ends_are_handed_out();
         match self.core.standing(self.process)? {
             Standing::Waits => Ok(Recorded::Waits),
             _ => Err(Refused::Budget),

@@ -1,9 +1,10 @@
 //! What is reported of a machine that stands at a trap.
-ghost use Rattle.std.specs.Prelude.{◌≡◌, IfSome};
+ghost use Rattle.std.specs.Prelude.{◌≡◌, is_some, IfSome};
 ghost use Rattle.std.specs.Option.{option_map};
 ghost use Rattle.machine_model.specs.States.{stands_at};
 ghost use Rattle.memory_model.specs.Access.{value_at};
 ghost use Rattle.trap_reports.specs.Named.{named_in};
+ghost use Rattle.trap_reports.specs.Places.{below_stack, is_word_there, place_of, there_at};
 ghost use Rattle.trap_reports.specs.Traps.{cause_in};
 
 use crate::address::named_by;
@@ -34,29 +35,50 @@ pub struct TrapReport {
     pub below_stack: Option<u32>,
 }
 
-/// The four bytes at an address as a word, whatever the rights of their page.
-fn word_at(machine: &Machine, at: u32) -> Option<u32>
-    ensures { IfSome result (λ word. word ≡ value_at machine.now.hart.memory at 4) }
+impl TrapReport {
+    /// The address that the trap is about, and what is there: the address that the instruction names, where that is misaligned or may
+    /// not be used; else the pc.
+    pub fn place(&self) -> (u32, There)
+        ensures { result ≡ place_of self.now }
+    {
+        let here = (self.pc, self.there);
+        match self.cause {
+            Cause::MisalignedTarget | Cause::MisalignedData | Cause::PageFault => {
+                self.named.unwrap_or(here)
+            }
+            Cause::Illegal | Cause::FetchFault | Cause::Breakpoint => here,
+        }
+    }
+}
+
+/// The four bytes at the pc as a word, whatever the rights of their page.
+fn word_of(machine: &Machine) -> Option<u32>
+    ensures there { is_some result ≡ is_word_there machine.now.hart.memory machine.now.hart.pc }
+    ensures word { IfSome result (λ word. word ≡ value_at machine.now.hart.memory machine.now.hart.pc 4) }
 {
     let space = machine.space();
+    let at = machine.pc();
     Some(u32::from_le_bytes([
         space.byte(at)?,
-        space.byte(at.checked_add(1)?)?,
-        space.byte(at.checked_add(2)?)?,
-        space.byte(at.checked_add(3)?)?,
+        space.byte(at + 1)?,
+        space.byte(at + 2)?,
+        space.byte(at + 3)?,
     ]))
 }
 
 /// The address that the instruction at the pc names, if it names one, and what is there.
 fn named_at(machine: &Machine, word: Option<u32>) -> Option<(u32, There)>
-    ensures { option_map (λ n. n.0) result ≡ named_in word machine.now.hart }
+    ensures address { option_map (λ n. n.0) result ≡ named_in word machine.now.hart }
+    ensures there { IfSome result (λ n. n.1 ≡ there_at machine.now.hart.memory n.0) }
 {
     let at = named_by(machine, decode(word?)?)?;
     Some((at, There::at(machine.space(), at)))
 }
 
 /// The stack pointer, where it stands below the stack and no page is there.
-fn below_stack(machine: &Machine) -> Option<u32> {
+fn below_stack(machine: &Machine) -> Option<u32>
+    ensures { result ≡ below_stack machine.now.hart }
+{
     let at = machine.reg(Reg::new(SP));
     if at < STACK && machine.space().byte(at).is_none() {
         Some(at)
@@ -69,11 +91,15 @@ fn below_stack(machine: &Machine) -> Option<u32> {
 fn report(machine: &Machine, cause: Cause) -> TrapReport
     ensures cause { result.cause ≡ cause }
     ensures pc { result.pc ≡ machine.now.hart.pc }
+    ensures told { is_some result.word ≡ is_word_there machine.now.hart.memory machine.now.hart.pc }
     ensures word { IfSome result.word (λ word. word ≡ value_at machine.now.hart.memory machine.now.hart.pc 4) }
     ensures named { option_map (λ n. n.0) result.named ≡ named_in result.word machine.now.hart }
+    ensures named_there { IfSome result.named (λ n. n.1 ≡ there_at machine.now.hart.memory n.0) }
+    ensures there { result.there ≡ there_at machine.now.hart.memory machine.now.hart.pc }
+    ensures below_stack { result.below_stack ≡ below_stack machine.now.hart }
 {
     let pc = machine.pc();
-    let word = word_at(machine, pc);
+    let word = word_of(machine);
     TrapReport {
         cause,
         pc,
@@ -88,8 +114,12 @@ fn report(machine: &Machine, cause: Cause) -> TrapReport
 pub fn trap_report(machine: &Machine) -> Option<TrapReport>
     ensures cause { option_map (λ r. r.cause) result ≡ cause_in (stands_at machine.now) }
     ensures pc { IfSome result (λ r. r.pc ≡ machine.now.hart.pc) }
+    ensures told { IfSome result (λ r. is_some r.word ≡ is_word_there machine.now.hart.memory machine.now.hart.pc) }
     ensures word { IfSome result (λ r. IfSome r.word (λ word. word ≡ value_at machine.now.hart.memory machine.now.hart.pc 4)) }
     ensures named { IfSome result (λ r. option_map (λ n. n.0) r.named ≡ named_in r.word machine.now.hart) }
+    ensures named_there { IfSome result (λ r. IfSome r.named (λ n. n.1 ≡ there_at machine.now.hart.memory n.0)) }
+    ensures there { IfSome result (λ r. r.there ≡ there_at machine.now.hart.memory machine.now.hart.pc) }
+    ensures below_stack { IfSome result (λ r. r.below_stack ≡ below_stack machine.now.hart) }
 {
     match machine.stopped() {
         Some(Stop::Trap(cause)) => Some(report(machine, cause)),

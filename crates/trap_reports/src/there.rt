@@ -1,4 +1,7 @@
 //! What is at an address.
+ghost use Rattle.std.specs.Prelude.{◌≡◌};
+ghost use Rattle.trap_reports.specs.Places.{there_at};
+
 use machine_model::{Bus, Width};
 use memory::Space;
 use std::fmt;
@@ -17,7 +20,9 @@ pub enum There {
 
 impl There {
     /// What a memory has at an address.
-    pub fn at(space: &Space, at: u32) -> There {
+    pub fn at(space: &Space, at: u32) -> There
+        ensures { result ≡ there_at space.now at }
+    {
         if space.byte(at).is_none() {
             return There::NoPage;
         }
