@@ -45,6 +45,10 @@ mod process_tables;
 #[cfg(test)]
 mod pumping;
 #[cfg(test)]
+mod source_forms;
+#[cfg(test)]
 mod spaces;
 #[cfg(test)]
 mod tokens;
+#[cfg(test)]
+mod trap_lines;

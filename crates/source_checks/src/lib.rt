@@ -23,12 +23,12 @@ mod registers;
 mod saying;
 mod syntax;
 mod telling;
-#[cfg(test)]
-mod tests;
 mod warnings;
 
 pub use checking::{Checked, check};
+pub use forms::{DIRECTIVES, Form, INSTRUCTIONS};
 pub use gathering::faults;
 pub use printing::print_checked;
+pub use registers::REGISTERS;
 pub use saying::advice;
 pub use warnings::Warning;

@@ -5,8 +5,6 @@
 
 mod address;
 mod report;
-#[cfg(test)]
-mod tests;
 mod there;
 
 pub use report::{TrapReport, trap_report};

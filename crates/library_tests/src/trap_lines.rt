@@ -1,7 +1,8 @@
-use super::*;
+//! Tests of `trap_reports`: the line of each kind of trap.
 use machine::Machine;
 use machine_model::Image;
 use std::test::Fail;
+use trap_reports::trap_report;
 
 /// The line of the trap at which the program of these words ends.
 fn line(alloc: std::alloc::Global, words: &[u32]) -> Result<String, Fail> {

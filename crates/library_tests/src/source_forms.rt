@@ -1,6 +1,5 @@
-use super::*;
-use crate::forms::{DIRECTIVES, Form, INSTRUCTIONS};
-use crate::registers::REGISTERS;
+//! Tests of `source_checks`: the forms of its table assemble, and what it prints of a source.
+use source_checks::{DIRECTIVES, Form, INSTRUCTIONS, REGISTERS, check, print_checked};
 use std::alloc::{AllocError, Global};
 use std::process::Abort;
 use std::test::Fail;
