@@ -7,14 +7,16 @@ A page is README.md, CHANGES.md or a file docs/*.md. Of each it finds links to f
 heading has, and sentences of more than 35 words. Of the pages that show the commands it also finds blocks ```text that no case of
 crates/test_runner/data/*.sessions has, and no example: what is shown there is what the merge gate compares. A form, with words that stand
 for others, is in a plain block. Of the map in docs/ARCHITECTURE.md it finds rows that are not by crates.txt: another group, or another
-list of direct dependencies. With --comments it also finds such sentences in the comments `//!` and `///` of crates/*/src. With file
-names, it checks these alone: pages, and comments of files `.rt`.
+list of direct dependencies. Of README.md and docs/DEFINITIONS.md it finds wrong numbers of lines of definitions. With --comments it also
+finds such sentences in the comments `//!` and `///` of crates/*/src. With file names, it checks these alone: pages, and comments of
+files `.rt`.
 
 It prints a line for each finding, `FILE:LINE: what`, and ends with status 1 where it found something.
 
 A code span counts as one word, and in a table as none, since tables list names. Blocks of code are skipped. A sentence ends at its
 full stop, and also where its paragraph, its list item, its heading or its table cell ends."""
 import argparse
+import collections
 import glob
 import os
 import re
@@ -31,6 +33,8 @@ EXAMPLES = "crates/test_runner/data/examples/*.[sf]*"
 MAP = "docs/ARCHITECTURE.md"
 CRATES = "crates.txt"
 LEFT_OUT = "byte_list"
+# The pages that say how many lines the definitions have.
+COUNTING = ("README.md", "docs/DEFINITIONS.md")
 
 FENCE = re.compile(r"\s*(```+|~~~+)")
 HEADING = re.compile(r" {0,3}#{1,6}\s+(.*?)(?:\s+#+)?\s*$")
@@ -228,6 +232,35 @@ class Crates:
                     yield number, f"`{row[1]}` is of the group {self.groups[row[1]]}, by {CRATES}"
 
 
+class Definitions:
+    """How many lines the definitions of each crate have, as pages say it."""
+
+    IN_ALL = re.compile(r"(\d[\d,]*)(?: in `crates/\*/specs/\*\.antt`| lines, comments and imports included$)")
+    OF_CRATE = re.compile(r"`(\w+)` ([\d,]*\d)")
+    HEAD = "| Section | Lines of each crate |"
+
+    def __init__(self):
+        self.lines = collections.Counter()
+        for path in glob.glob("crates/*/specs/*.antt"):
+            with open(path, encoding="utf-8") as file:
+                self.lines[path.split("/")[1]] += file.read().count("\n")
+
+    def findings(self, page):
+        named, is_table, head = set(), False, 0
+        for line, text in numbered_lines(page):
+            is_table = text.startswith("|") and (is_table or text == self.HEAD)
+            head = line if text == self.HEAD else head
+            for it in self.IN_ALL.finditer(text):
+                if int(it[1].replace(",", "")) != self.lines.total():
+                    yield line, f"{it[1]} lines of definitions, which are {self.lines.total():,}"
+            for name, count in self.OF_CRATE.findall(text) if is_table else ():
+                named.add(name)
+                if int(count.replace(",", "")) != self.lines[name]:
+                    yield line, f"{count} lines of definitions of {name}, which are {self.lines[name]:,}"
+        for name in sorted((+self.lines).keys() - named) if head else ():
+            yield head, f"no row has the {self.lines[name]:,} lines of definitions of {name}"
+
+
 class Pages:
     def __init__(self):
         self.anchors = {}
@@ -271,6 +304,8 @@ class Pages:
                     yield line, "a text that no case has"
         if page == MAP and os.path.isfile(CRATES):
             yield from Crates(CRATES).findings(page)
+        if page in COUNTING:
+            yield from Definitions().findings(page)
 
 
 def findings_of_comments(path):
