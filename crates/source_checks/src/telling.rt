@@ -8,6 +8,9 @@ use std::alloc::{AllocError, Global};
 /// How many faults are told.
 const MOST_TOLD: usize = 20;
 
+/// Of how many faults it is found what would be said of them. The others are counted, since that takes its time.
+const MOST_COMPARED: usize = 1000;
+
 /// How many lines are named that have the same fault.
 const MOST_LINES: usize = 6;
 
@@ -99,6 +102,11 @@ impl Telling {
         Ok(())
     }
 
+    /// Counts a fault that is not told.
+    fn skip(&mut self) {
+        self.more = self.more.saturating_add(1);
+    }
+
     /// Takes a fault, of which there is room for so many.
     fn take(
         &mut self,
@@ -113,7 +121,7 @@ impl Telling {
         if self.told.len() < room {
             return self.push(alloc, fault, key);
         }
-        self.more = self.more.saturating_add(1);
+        self.skip();
         Ok(())
     }
 }
@@ -135,14 +143,17 @@ pub fn tell(
     let lines: Vec<&str> = source.split('\n').collect(alloc)?;
     let mut telling = Telling::new(alloc);
     let mut room = MOST_TOLD.saturating_sub(1);
-    for fault in faults {
+    for (before, fault) in faults.iter().enumerate() {
         let line = line_at(lines.as_slice(), fault.line);
-        let key = key_of(alloc, &labels, line, *fault)?;
         if *fault == first {
+            let key = key_of(alloc, &labels, line, *fault)?;
             telling.push(alloc, *fault, key)?;
             room = MOST_TOLD;
-        } else {
+        } else if before < MOST_COMPARED {
+            let key = key_of(alloc, &labels, line, *fault)?;
             telling.take(alloc, *fault, key, room)?;
+        } else {
+            telling.skip();
         }
     }
     Ok(telling)
