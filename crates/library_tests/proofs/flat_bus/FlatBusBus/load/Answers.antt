@@ -1,9 +1,9 @@
 -- What a load answers: that the address is past the bytes, or what they spell.
 use Rattle.std.proofs.Common.{rules, ◌≡◌, ◌<◌, ◌≤◌, ◌%◌, ◌==◌, length, true, sym, ap, ◌∙◌, arith}
 use Rattle.memory_model.specs.Access.{size, or_fault, value_at, to_read}
-use Rattle.test_bus.specs.Bytes.{memory_of_bytes}
-use Rattle.test_bus.proofs.ByByte.{fault-past, loaded-here}
-use Rattle.test_bus.proofs.bus.FlatBusBus.load.Goals as goal
+use Rattle.library_tests.specs.FlatMemory.{memory_of_bytes}
+use Rattle.library_tests.proofs.ByByte.{fault-past, loaded-here}
+use Rattle.library_tests.proofs.flat_bus.FlatBusBus.load.Goals as goal
 
 pub returns-then-at-end : goal.returns-then-at-end
 returns-then-at-end c =

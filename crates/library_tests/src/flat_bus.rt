@@ -1,8 +1,8 @@
-//! The memory, as a bus.
+//! A second memory, of 64 bytes from address 0 on, with all rights. It keeps the laws of `Bus`, so that `exec` is tested over it.
 ghost use Rattle.std.specs.Prelude.{◌≡◌, ◌+◌, ◌%◌, ◌==◌, ◌≤◌, length};
 ghost use Rattle.memory_model.specs.Access.{size, low_bytes};
 ghost use Rattle.memory_model.specs.Bytes.{value_in, put_in};
-ghost use Rattle.test_bus.specs.Bytes.{memory_of_bytes};
+ghost use Rattle.library_tests.specs.FlatMemory.{memory_of_bytes};
 
 use memory_model::{Bus, BusFault, Width};
 

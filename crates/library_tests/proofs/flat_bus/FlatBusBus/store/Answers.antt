@@ -1,9 +1,9 @@
 -- What a store answers and leaves.
 use Rattle.std.proofs.Common.{rules, ◌≡◌, ◌<◌, ◌≤◌, ◌%◌, ◌==◌, length, true, sym, ap, ◌∙◌, arith, refl}
 use Rattle.memory_model.specs.Access.{size, or_fault, to_write}
-use Rattle.test_bus.specs.Bytes.{memory_of_bytes}
-use Rattle.test_bus.proofs.ByByte.{fault-here, fault-past, stored-here}
-use Rattle.test_bus.proofs.bus.FlatBusBus.store.Goals as goal
+use Rattle.library_tests.specs.FlatMemory.{memory_of_bytes}
+use Rattle.library_tests.proofs.ByByte.{fault-here, fault-past, stored-here}
+use Rattle.library_tests.proofs.flat_bus.FlatBusBus.store.Goals as goal
 
 pub returns-then-at-end-clause-answer : goal.returns-then-at-end-clause-answer
 returns-then-at-end-clause-answer c =

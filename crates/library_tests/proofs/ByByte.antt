@@ -14,7 +14,7 @@ use Rattle.memory_model.specs.declared.access.Rights.{Rights}
 use Rattle.memory_model.specs.declared.access.Width.{Width}
 use Rattle.memory_model.specs.declared.access.Width.TheVariants as width
 use Rattle.memory_model.specs.declared.access.BusFault.TheVariants.{Unmapped}
-use Rattle.test_bus.specs.Bytes.{cell_of, memory_of_bytes}
+use Rattle.library_tests.specs.FlatMemory.{cell_of, memory_of_bytes}
 
 -- what stands at any address
 get-any : (bytes : List ℕ) (q : ℕ) → get (memory_of_bytes bytes) q ≡ cond (nat_lt q (2 ^ 32)) (option_map cell_of (slice_get bytes q)) None
