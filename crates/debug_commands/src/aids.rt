@@ -1,6 +1,6 @@
 //! What a session may have beside the program and its trace.
 use crate::live::Live;
-use source_lines::SourceLines;
+use debug_info::SourceLines;
 
 /// What a session has beside the program and its trace. With either of these it has more commands, and says more of a trap.
 pub struct Aids {

@@ -2,7 +2,7 @@
 use crate::disk_file::write_whole;
 use crate::fault::FileFault;
 use crate::same_file::is_same_file;
-use file_reading::bytes_in;
+use input_reading::bytes_in;
 use linked_elf::{MOST_BYTES, image_of};
 use machine_model::{Image, Segment};
 use std::fs;

@@ -8,10 +8,10 @@ use byte_list::Bytes;
 use command_line::{LiveOptions, RunOptions};
 use durable_disk::HostFile;
 use faults::Fault;
-use file_reading::{MOST_TAPE_BYTES, bytes_in};
 use host_files::{
     DiskLock, FileFault, disk_or_zeros, image_in, keep, open_durable, test_place, zeros,
 };
+use input_reading::{MOST_TAPE_BYTES, bytes_in};
 use kernel::{BootFault, Core, Program, SimDisk};
 use machine_model::Image;
 use std::alloc::Global;

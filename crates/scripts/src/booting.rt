@@ -7,7 +7,7 @@ ghost use Rattle.kernel_model.specs.World.{terminal_count, tape_count};
 use crate::fault::ScriptFault;
 use crate::setup::{ScriptProgram, ScriptTape, Setup, Source, tape_numbered};
 use byte_list::Bytes;
-use file_reading::image_file_in;
+use input_reading::image_file_in;
 use kernel::{Core, Program, SimDisk};
 use kernel_model::{MOST_PROGRAMS, TAPES};
 use machine_model::Image;

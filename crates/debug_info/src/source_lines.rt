@@ -1,6 +1,6 @@
 //! Sources, read beside an image.
-use crate::labels::line_of;
-use asm_text::{Line, lines};
+use asm_statements::{split_label, text_at};
+use asm_text::{Line, Token, lines};
 use assembler::{AsmFault, Listing, assemble};
 use machine_model::Image;
 use std::alloc::{AllocError, Global};
@@ -20,6 +20,35 @@ impl Drop for SourceLines {
             listing: _listing,
         } = self;
     }
+}
+
+/// Whether a line's statement, after its label, is this directive.
+fn is_directive(source: &[u8], tokens: &[Token], directive: &[u8]) -> bool {
+    match tokens {
+        [first, ..] => text_at(source, first.start, first.end) == directive,
+        [] => false,
+    }
+}
+
+/// The number of the line that has a label in text; None where no label there has this name.
+fn line_of(source: &[u8], lines: &[Line], name: &[u8]) -> Option<usize> {
+    let mut in_data = false;
+    for line in lines {
+        let Ok((label, rest)) = split_label(source, line.tokens.as_slice()) else {
+            return None;
+        };
+        if let Some(label) = label {
+            if text_at(source, label.start, label.end) == name {
+                return if in_data { None } else { Some(line.number) };
+            }
+        }
+        if is_directive(source, rest, b".data".as_slice()) {
+            in_data = true;
+        } else if is_directive(source, rest, b".text".as_slice()) {
+            in_data = false;
+        }
+    }
+    None
 }
 
 /// Whether two images are the same, by the bytes of their files.
