@@ -1,5 +1,5 @@
 //! A debugger over states that are kept, back, and over a call that enters another program.
-use crate::images::{LOOP, assembled};
+use crate::growths::images::{LOOP, assembled};
 use anyhow::{Error, ensure};
 use byte_list::Bytes;
 use debugger::{DebugFault, Debugger, Stepped, Stopped};

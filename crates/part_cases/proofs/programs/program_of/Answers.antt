@@ -1,7 +1,7 @@
 -- A program of one segment meets the profile.
 use Rattle.std.proofs.Common.{◌≡◌, ◌<◌, ◌≤◌, length, rules, ap}
-use Rattle.machine_cases.proofs.Profiles.{IsProfile-one}
-use Rattle.machine_cases.proofs.programs.program_of.Goals as goal
+use Rattle.part_cases.proofs.Profiles.{IsProfile-one}
+use Rattle.part_cases.proofs.programs.program_of.Goals as goal
 
 pub new-requires-2 : goal.new-requires-2
 new-requires-2 c =

@@ -4,7 +4,7 @@ use Rattle.std.specs.Prelude.{nat_lt, Option, None}
 use Rattle.std.specs.FinMap.{get}
 use Rattle.memory_model.specs.Memory.{Memory, Cell}
 use Rattle.memory_model.proofs.Memories.{get-memory_of}
-use Rattle.machine_cases.proofs.written_code.page.Goals as goal
+use Rattle.part_cases.proofs.written_code.page.Goals as goal
 
 none_anyway : (b : Bool) (none : Option Cell) → none ≡ None → cond b none None ≡ None
 none_anyway true none e = e

@@ -2,8 +2,6 @@
 //! (`debugging`), and the dependencies' (`marks`). A call that is refused for want of memory is made once more, and has to come to
 //! what it comes to where nothing is refused. What is seen of a debugger, or of the marks, has to be as before the first; a run
 //! keeps its steps. `tools/refused-growths.py` refuses the growths. Where none is, each call is made once.
-#![tactic(auto)]
-
 mod debugging;
 mod images;
 mod marks;
