@@ -17,7 +17,7 @@ use Rattle.kernel_model.specs.State.{changed_by}
 use Rattle.kernel_model.specs.Steps.{change_by}
 use Rattle.kernel_model.specs.declared.effect.FileEdit.{FileEdit}
 use Rattle.kernel_model.specs.declared.effect.FileEdit.TheVariants as edit
-use Rattle.kernel_model.proofs.Names.{place_there}
+use Rattle.kernel_model.proofs.Names.{place_there, rise_least}
 use Rattle.cone_laws.specs.Agreement.{bytes_of}
 
 -- ---- the element by a number, where the numbers of a list's elements stand in another list
@@ -122,15 +122,10 @@ look_removed low high (m ∷ ms) (x ∷ xs) (suc place) n rise =
       | false ↦ λ is. look_removed (m + 1) high ms xs place n rise.2
     ] refl
   where
-    least : (low high : ℕ) (ns : List ℕ) (k i : ℕ) → RiseFrom low high ns → slice_get ns k ≡ Some i → low ≤ i
-    least low high [] k i h e = absurd (let no : ⊥ = cc in no)
-    least low high (j ∷ ns) zero i h e = let same : j ≡ i = cc in omega (arith, same, h.0)
-    least low high (j ∷ ns) (suc k) i h e = omega (arith, least (j + 1) high ns k i h.2 e, h.0)
-
     first : (o : Option ℕ) → slice_get ms place ≡ o → (m == n) ≡ true → Some x ≡ without_number o n (Some x)
     first None at is = refl
     first (Some k) at is =
-        let not_it : (k == n) ≡ false = ne_eqb k n (λ (e : k ≡ n). omega (arith, least (m + 1) high ms place k rise.2 at, eqb-true m n is, e)) in
+        let not_it : (k == n) ≡ false = ne_eqb k n (λ (e : k ≡ n). omega (arith, rise_least (m + 1) high ms place k rise.2 at, eqb-true m n is, e)) in
         sym (ap (λ (b : Bool). if b then None else Some x) not_it)
 
 look_without : {A : Type 0} (high : ℕ) (ms : List ℕ) (xs : List A) (o : Option ℕ) (n : ℕ) → RiseFrom 0 high ms

@@ -22,12 +22,13 @@ use Rattle.kernel_model.specs.declared.event.Event.{Event}
 use Rattle.kernel_model.specs.declared.event.Event.TheVariants.{Turn, Enter, Cut, Complete, Fail}
 use Rattle.kernel_model.specs.declared.request.Verdict.{Verdict}
 use Rattle.kernel_model.specs.declared.request.Verdict.TheVariants.{Waits, Replies, Ends}
+use Rattle.kernel_model.proofs.Limits.{put_length}
 use Rattle.kernel_model.proofs.Making.{effect_makes}
 use Rattle.kernel_model.proofs.Names.{place_there}
 use Rattle.kernel_model.proofs.Transitions.{turned, each_event, of_step}
 use Rattle.cone_laws.specs.Agreement.{Agree, AgreeOn, IsAlike, edit_by}
 use Rattle.cone_laws.proofs.Effects.{Keeps, Carried, effect_keeps, effect_carries}
-use Rattle.cone_laws.proofs.Parts.{flip, put_at, put_long, reply_at, reply_long, replied_at, made_by, child_of}
+use Rattle.cone_laws.proofs.Parts.{flip, put_at, reply_at, reply_long, replied_at, made_by, child_of}
 use Rattle.cone_laws.proofs.Rows.{row_same}
 
 pub agree_refl : (s : SyncState) (c : Carrier) → AgreeOn s s c
@@ -61,7 +62,7 @@ turn_keeps s pid n p at (File k) h = refl
 turn_keeps s pid n p at Names h = refl
 turn_keeps s pid n p at (Pipe k) h = refl
 turn_keeps s pid n p at Pipes h = refl
-turn_keeps s pid n p at Tasks h = put_long s.processes pid (after_run n p)
+turn_keeps s pid n p at Tasks h = put_length s.processes pid (after_run n p)
 turn_keeps s pid n p at (Tape k) h = refl
 
 -- a process that is not the caller and not made
@@ -99,7 +100,7 @@ effect_keeps_but s pid p e (Ends status) at keeps (File n) h = refl
 effect_keeps_but s pid p e (Ends status) at keeps Names h = refl
 effect_keeps_but s pid p e (Ends status) at keeps (Pipe k) h = keeps.pipes k h
 effect_keeps_but s pid p e (Ends status) at keeps Pipes h = keeps.count h
-effect_keeps_but s pid p e (Ends status) at keeps Tasks h = put_long s.processes pid (after_end p status)
+effect_keeps_but s pid p e (Ends status) at keeps Tasks h = put_length s.processes pid (after_end p status)
 effect_keeps_but s pid p e (Ends status) at keeps (Tape k) h = refl
 
 -- what an event does not write stays
@@ -159,7 +160,7 @@ module _ (s t : SyncState) (pid : ℕ) (p : Process) (at : process_at s.processe
       put_at s.processes pid q x p at ∙ ap (λ (o : Option Process). if pid == q then Some x else o) a ∙ sym (put_at t.processes pid q x p too)
 
   long_same : (x : Process) → AgreeOn s t Tasks → length (put_process s.processes pid x) ≡ length (put_process t.processes pid x)
-  long_same x a = put_long s.processes pid x ∙ a ∙ sym (put_long t.processes pid x)
+  long_same x a = put_length s.processes pid x ∙ a ∙ sym (put_length t.processes pid x)
 
   turn_framed : (n : ℕ) → Framed s t (turned s pid n p) (turned t pid n p)
   turn_framed n = record { alike = alike_refl (own_entry pid); carries = carries; exact = λ same. refl; edit = refl }

@@ -18,12 +18,14 @@ use Rattle.kernel_model.specs.declared.carrier.Carrier.TheVariants.{Proc}
 use Rattle.kernel_model.specs.declared.event.Event.{Event}
 use Rattle.kernel_model.specs.declared.request.Verdict.{Verdict}
 use Rattle.kernel_model.specs.declared.request.Verdict.TheVariants.{Waits, Replies, Ends}
+use Rattle.kernel_model.proofs.Limits.{put_length}
+use Rattle.kernel_model.proofs.Meets.{meets-one}
 use Rattle.kernel_model.proofs.Transitions.{each_event, of_step}
 use Rattle.cone_laws.specs.Agreement.{Agree, AgreeOn, IsAlike}
 use Rattle.cone_laws.specs.Cones.{selected, is_visible, visible_flags}
 use Rattle.cone_laws.proofs.Frames.{framed}
-use Rattle.cone_laws.proofs.Parts.{made_by, put_long, reply_long}
-use Rattle.cone_laws.proofs.Resting.{among_meets, durable_back, durable_own, durable_skip}
+use Rattle.cone_laws.proofs.Parts.{made_by, reply_long}
+use Rattle.cone_laws.proofs.Resting.{durable_back, durable_own, durable_skip}
 use Rattle.cone_laws.proofs.Selected.{all_left, all_right, needed, taken, passed, step_numbered}
 use Rattle.cone_laws.proofs.Tidy.{IsTidy, step_tidy}
 use Rattle.cone_laws.proofs.Visible.{log_idles, visible_closed, given_contents}
@@ -33,12 +35,12 @@ effect_long : (s : SyncState) (pid : ℕ) (p : Process) (e : Effect) (v : Verdic
     → length (after_effect s pid p e v).state.processes ≡ length s.processes + made_by (after_effect s pid p e v).entry.child
 effect_long s pid p e Waits = sym (add-zero (length s.processes))
 effect_long s pid p e (Replies r) = reply_long s.processes pid (after_reply p e r) p e.child
-effect_long s pid p e (Ends status) = put_long s.processes pid (after_end p status) ∙ sym (add-zero (length s.processes))
+effect_long s pid p e (Ends status) = put_length s.processes pid (after_end p status) ∙ sym (add-zero (length s.processes))
 
 pub step_long : (s : SyncState) (e : Event) → length (step s e).state.processes ≡ length s.processes + made_by (step s e).entry.child
 step_long s e = of_step (λ (t : Transition). length t.state.processes ≡ length s.processes + made_by t.entry.child) s (sym (add-zero (length s.processes)))
     (λ pid. each_event (λ (t : Transition). length t.state.processes ≡ length s.processes + made_by t.entry.child) s pid (sym (add-zero (length s.processes)))
-    (λ n p at lives. put_long s.processes pid (after_run n p) ∙ sym (add-zero (length s.processes)))
+    (λ n p at lives. put_length s.processes pid (after_run n p) ∙ sym (add-zero (length s.processes)))
     (λ p f at lives is. effect_long s pid p f f.verdict)) e
 
 -- ---- what is released
@@ -111,7 +113,7 @@ rests_more c past told s e tidy rests p h = by (is_made e.child p) refl
   where
     -- the event, which wrote the process
     wrote : is_among (Proc p) e.writes ≡ true → is_durable c past e ≡ true
-    wrote m = durable_back c past e [] (own_entry p) h (among_meets (Proc p) e.writes m)
+    wrote m = durable_back c past e [] (own_entry p) h (meets-one e.writes (Proc p) ∙ m)
 
     items : (xs : List Item) → items_for p e ≡ xs → AllByRecursion (IsDurableGiven c) (given_by past e xs)
     items [] is = tt

@@ -24,8 +24,10 @@ use Rattle.kernel_model.specs.declared.event.Event.TheVariants.{Turn, Enter, Cut
 use Rattle.kernel_model.specs.declared.request.Verdict.{Verdict}
 use Rattle.kernel_model.specs.declared.request.Verdict.TheVariants.{Waits, Replies, Ends}
 use Rattle.kernel_model.proofs.Folding.{after_folded, with_change-length}
+use Rattle.kernel_model.proofs.Meets.{same_is}
 use Rattle.kernel_model.proofs.Numbering.{numbered_first}
 use Rattle.kernel_model.proofs.Paths.{leads_from, leads_to}
+use Rattle.kernel_model.proofs.Runs.{after_sync, after_log}
 use Rattle.kernel_model.proofs.Transitions.{each_event, of_turn}
 use Rattle.cone_laws.specs.Agreement.{Agree, AgreeOn, IsAlike, AreAlike, edit_by}
 use Rattle.cone_laws.specs.Cones.{selected, path_flags, cone_flags, entry_of, cone_before, HasPath, changes_selected, visible_flags, IsOfProcess, IsBeginningOf}
@@ -33,8 +35,7 @@ use Rattle.cone_laws.specs.Promises.{IsFramed, ConeSuffices, VisibleSuffice}
 use Rattle.cone_laws.proofs.Coned.{agree_all, cone_alone}
 use Rattle.cone_laws.proofs.Frames.{framed, step_keeps_but}
 use Rattle.cone_laws.proofs.Handed.{handed_all}
-use Rattle.cone_laws.proofs.Resting.{same_is}
-use Rattle.cone_laws.proofs.Selected.{run_numbered, alone, needed, after_sync, after_log}
+use Rattle.cone_laws.proofs.Selected.{run_numbered, alone, needed}
 use Rattle.cone_laws.proofs.Visible.{log_idles, visible_closed, visible_changes, shown_begins}
 use Rattle.cone_laws.proofs.Written.{step_reads}
 

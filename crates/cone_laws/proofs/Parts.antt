@@ -5,6 +5,7 @@ use Rattle.std.specs.List.{AllByRecursion}
 use Rattle.std.proofs.lemmas.Bool.{eqb-true, eqb-false, eq-eqb, ne_eqb, or_parts}
 use Rattle.std.proofs.lemmas.List.{length-append, length-set}
 use Rattle.disk_model.proofs.Lists.{get_same, get_other}
+use Rattle.kernel_model.proofs.Limits.{put_length}
 use Rattle.kernel_model.specs.Entries.{is_among}
 use Rattle.kernel_model.specs.Rows.{carrier_of}
 use Rattle.kernel_model.specs.State.{Process, PipeState, TapeState, process_at, put_process, new_pipe, with_pipe, with_place, read_by, stepped, all_stepped}
@@ -201,10 +202,6 @@ put_at ps zero q x p at = absurd (let no : ⊥ = cc in no)
 put_at ps (suc i) zero x p at = ap (λ (b : Bool). if b then Some x else None) (suc_zero i)
 put_at ps (suc i) (suc j) x p at = get_set ps i j x p at ∙ ap (λ (b : Bool). if b then Some x else slice_get ps j) (suc_eq i j)
 
-pub put_long : (ps : List Process) (pid : ℕ) (x : Process) → length (put_process ps pid x) ≡ length ps
-put_long ps zero x = refl
-put_long ps (suc i) x = length-set ps i x
-
 at_more : (ps : List Process) (x : Process) (q : ℕ) → process_at (ps ++ x ∷ []) q ≡ (if length ps + 1 == q then Some x else process_at ps q)
 at_more ps x zero = sym (ap (λ (b : Bool). if b then Some x else None) (ne_eqb (length ps + 1) 0 (λ (e : length ps + 1 ≡ 0). omega (arith, e))))
 at_more ps x (suc j) = get_last ps x j ∙ ap (λ (b : Bool). if b then Some x else slice_get ps j) (by (length ps) j)
@@ -230,7 +227,7 @@ pub reply_at : (ps : List Process) (pid q : ℕ) (x p : Process) (child : Option
 reply_at ps pid q x p None at = ap (λ (qs : List Process). process_at qs q) (append-nil (put_process ps pid x)) ∙ put_at ps pid q x p at
 reply_at ps pid q x p (Some child) at =
     at_more (put_process ps pid x) (child_of p) q
-    ∙ ap (λ (n : ℕ). if n + 1 == q then Some (child_of p) else process_at (put_process ps pid x) q) (put_long ps pid x)
+    ∙ ap (λ (n : ℕ). if n + 1 == q then Some (child_of p) else process_at (put_process ps pid x) q) (put_length ps pid x)
     ∙ ap (λ (o : Option Process). if length ps + 1 == q then Some (child_of p) else o) (put_at ps pid q x p at)
 
 -- how many are made
@@ -239,5 +236,5 @@ made_by None = 0
 made_by (Some child) = 1
 
 pub reply_long : (ps : List Process) (pid : ℕ) (x p : Process) (child : Option ℕ) → length (put_process ps pid x ++ forked p child) ≡ length ps + made_by child
-reply_long ps pid x p None = omega (arith, length-append (put_process ps pid x) [], put_long ps pid x)
-reply_long ps pid x p (Some child) = omega (arith, length-append (put_process ps pid x) (child_of p ∷ []), put_long ps pid x)
+reply_long ps pid x p None = omega (arith, length-append (put_process ps pid x) [], put_length ps pid x)
+reply_long ps pid x p (Some child) = omega (arith, length-append (put_process ps pid x) (child_of p ∷ []), put_length ps pid x)

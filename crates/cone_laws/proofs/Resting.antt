@@ -1,25 +1,15 @@
 -- On what an event rests: a path to an event goes on along each path from it.
-use Rattle.std.proofs.Common.{◌≡◌, ℕ, ◌+◌, ◌<◌, ◌≤◌, ◌⊎◌, inl, inr, ◌||◌, true, false, List, [], ◌∷◌, ◌++◌, is_some, refl, sym, ap, subst, ◌∙◌, arith}
-use Rattle.std.proofs.lemmas.Bool.{eqb-true, false≢true, or_cases, or_left, or_right}
+use Rattle.std.proofs.Common.{◌≡◌, ℕ, ◌+◌, ◌<◌, ◌≤◌, ◌⊎◌, inl, inr, ◌||◌, true, false, List, [], ◌∷◌, ◌++◌, is_some, sym, ap, subst, ◌∙◌, arith}
+use Rattle.std.proofs.lemmas.Bool.{false≢true, or_cases, or_left, or_right}
 use Rattle.kernel_model.specs.Entries.{Entry, is_same, is_among, meets}
 use Rattle.kernel_model.specs.Paths.{Leads, RestsOn, change_count, is_durable}
 use Rattle.kernel_model.specs.Steps.{own_entry}
 use Rattle.kernel_model.specs.declared.carrier.Carrier.{Carrier}
-use Rattle.kernel_model.specs.declared.carrier.Carrier.TheVariants.{Proc, File, Names, Pipe, Pipes, Tasks, Tape}
+use Rattle.kernel_model.specs.declared.carrier.Carrier.TheVariants.{Proc}
 use Rattle.kernel_model.proofs.Paths.{count_of, durable_from, durable_to}
-use Rattle.cone_laws.proofs.Selected.{once}
+use Rattle.kernel_model.proofs.Meets.{same_is}
 
 -- ---- carriers
-pub same_is : (a b : Carrier) → is_same a b ≡ true → a ≡ b
-same_is (Proc a) (Proc b) h = ap (λ n. Proc n) (eqb-true a b h)
-same_is (File a) (File b) h = ap (λ n. File n) (eqb-true a b h)
-same_is Names Names h = refl
-same_is (Pipe a) (Pipe b) h = ap (λ n. Pipe n) (eqb-true a b h)
-same_is Pipes Pipes h = refl
-same_is Tasks Tasks h = refl
-same_is (Tape a) (Tape b) h = ap (λ n. Tape n) (eqb-true a b h)
-same_is _ _ h = absurd (false≢true h)
-
 -- who meets a carrier that is among these meets them
 pub meets_wide : (vs : List Carrier) (c : Carrier) (cs : List Carrier) → meets vs (c ∷ []) ≡ true → is_among c cs ≡ true → meets vs cs ≡ true
 meets_wide [] c cs h m = absurd (false≢true h)
@@ -31,12 +21,6 @@ meets_wide (v ∷ vs) c cs h m = elim (or_cases (is_same v c || false) (meets vs
     by : (is_same v c ≡ true) ⊎ (false ≡ true) → is_among v cs ≡ true
     by (inl t) = subst (λ (w : Carrier). is_among w cs ≡ true) (sym (same_is v c t)) m
     by (inr t) = absurd (false≢true t)
-
-pub among_meets : (c : Carrier) (ws : List Carrier) → is_among c ws ≡ true → meets ws (c ∷ []) ≡ true
-among_meets c ws h = elim (meets ws (c ∷ [])) as (λ b. meets ws (c ∷ []) ≡ b → b ≡ true) [
-  | true ↦ λ e. refl
-  | false ↦ λ e. absurd (false≢true (sym (once c ws e) ∙ h))
-] refl
 
 -- ---- paths
 leads_now : (ys : List Entry) (ws rs : List Carrier) → meets ws rs ≡ true → Leads ws ys rs

@@ -1,55 +1,31 @@
 -- Events of a run are selected, and no event that is left out writes what a later selected one reads. Alone, they do what they did.
-use Rattle.std.proofs.Common.{append-nil, append_assoc, ◌≡◌, ℕ, ◌==◌, ◌⊎◌, inl, inr, ◌||◌, Bool, true, false, List, [], ◌∷◌, ◌++◌, refl, sym, ap, subst, ◌∙◌}
+use Rattle.std.proofs.Common.{◌≡◌, ◌⊎◌, inl, inr, Bool, true, false, List, [], ◌∷◌, ◌++◌, sym, subst, ◌∙◌}
 use Rattle.std.specs.Prelude.{if◌then◌else◌}
 use Rattle.std.specs.List.{AllByRecursion}
-use Rattle.std.proofs.lemmas.Bool.{eqb-true, eq-eqb, ne_eqb, eqb-false, false≢true, or_parts}
+use Rattle.std.proofs.lemmas.Bool.{false≢true, or_parts}
 use Rattle.disk_model.specs.Numbers.{Numbered}
 use Rattle.disk_model.proofs.Lists.{each_more}
-use Rattle.kernel_model.specs.Entries.{Entry, is_same, is_among, meets}
+use Rattle.kernel_model.specs.Entries.{Entry, is_among, meets}
 use Rattle.kernel_model.specs.Limits.{AreNumbered}
 use Rattle.kernel_model.specs.State.{SyncState}
 use Rattle.kernel_model.specs.Steps.{step}
-use Rattle.kernel_model.specs.World.{World, happens, after, sync_run, sync_log}
+use Rattle.kernel_model.specs.World.{sync_run, sync_log}
 use Rattle.kernel_model.specs.declared.carrier.Carrier.{Carrier}
-use Rattle.kernel_model.specs.declared.carrier.Carrier.TheVariants.{Proc, File, Names, Pipe, Pipes, Tasks, Tape}
 use Rattle.kernel_model.specs.declared.event.Event.{Event}
 use Rattle.kernel_model.proofs.Folding.{step_changes}
-use Rattle.kernel_model.proofs.Meets.{meets-append}
+use Rattle.kernel_model.proofs.Meets.{meets-append, meets-one}
 use Rattle.kernel_model.proofs.Numbering.{numbered_changed}
 use Rattle.cone_laws.specs.Agreement.{Agree, AgreeOn, AreAlike}
 use Rattle.cone_laws.specs.Cones.{selected}
 use Rattle.cone_laws.proofs.Frames.{agree_trans, framed, step_keeps_but}
 
 -- ---- carriers
-eq_sym : (a b : ℕ) → (a == b) ≡ (b == a)
-eq_sym a b = elim (a == b) as (λ t. (a == b) ≡ t → t ≡ (b == a)) [
-  | true ↦ λ is. sym (eq-eqb b a (sym (eqb-true a b is)))
-  | false ↦ λ is. sym (ne_eqb b a (λ (e : b ≡ a). eqb-false a b is (sym e)))
-] refl
-
-same_sym : (a b : Carrier) → is_same a b ≡ is_same b a
-same_sym (Proc a) (Proc b) = eq_sym a b
-same_sym (File a) (File b) = eq_sym a b
-same_sym (Pipe a) (Pipe b) = eq_sym a b
-same_sym (Tape a) (Tape b) = eq_sym a b
-same_sym Names Names = refl
-same_sym Pipes Pipes = refl
-same_sym Tasks Tasks = refl
-same_sym _ _ = refl
-
-pub once : (c : Carrier) (ws : List Carrier) → meets ws (c ∷ []) ≡ false → is_among c ws ≡ false
-once c [] h = refl
-once c (w ∷ ws) h =
-    let both = or_parts (is_same w c || false) (meets ws (c ∷ [])) h in
-    let first : is_same c w ≡ false = same_sym c w ∙ (or_parts (is_same w c) false both.0).0 in
-    ap (λ (b : Bool). b || is_among c ws) first ∙ once c ws both.1
-
 -- none of these is among the writes
 apart : (ws cs : List Carrier) → meets ws cs ≡ false → AllByRecursion (λ (c : Carrier). is_among c ws ≡ false) cs
 apart ws [] h = tt
 apart ws (c ∷ cs) h =
     let both = or_parts (meets ws (c ∷ [])) (meets ws cs) (sym (meets-append ws (c ∷ []) cs) ∙ h) in
-    (once c ws both.0, apart ws cs both.1)
+    (sym (meets-one ws c) ∙ both.0, apart ws cs both.1)
 
 -- ---- lists
 pub all_left : {A : Type 0} (P : A → Type 0) (xs ys : List A) → AllByRecursion P (xs ++ ys) → AllByRecursion P xs
@@ -65,14 +41,6 @@ both_hold P Q R [] f p q = tt
 both_hold P Q R (x ∷ xs) f p q = (f x p.0 q.0, both_hold P Q R xs f p.1 q.1)
 
 -- ---- runs
-pub after_sync : (es : List Event) (w : World) → (after w es).sync ≡ sync_run w.sync es
-after_sync [] w = refl
-after_sync (e ∷ es) w = after_sync es (happens w e)
-
-pub after_log : (es : List Event) (w : World) → (after w es).log ≡ w.log ++ sync_log w.sync es
-after_log [] w = sym (append-nil w.log)
-after_log (e ∷ es) w = after_log es (happens w e) ∙ append_assoc w.log ((step w.sync e).entry ∷ []) (sync_log (step w.sync e).state es)
-
 pub step_numbered : (s : SyncState) (e : Event) → AreNumbered s.files → AreNumbered (step s e).state.files
 step_numbered s e are = subst (λ (fs : Numbered). AreNumbered fs) (sym (step_changes s e)) (numbered_changed s.files (step s e).entry.change are)
 

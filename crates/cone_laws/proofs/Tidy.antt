@@ -2,7 +2,6 @@
 -- that is made is the next by number, and is written; its parent is there, and is told its number.
 use Rattle.std.proofs.Common.{◌≡◌, ℕ, zero, suc, ◌+◌, ◌≤◌, ◌==◌, true, false, List, [], ◌∷◌, length, Option, Some, None, IfSome, is_some, refl, sym, ap, subst, ◌∙◌, arith}
 use Rattle.std.proofs.lemmas.Bool.{eqb-true, eq-eqb, false≢true, or_left, or_right}
-use Rattle.std.proofs.lemmas.Option.{slice_get_within}
 use Rattle.machine_model.specs.States.{stands_at}
 use Rattle.kernel_model.specs.Entries.{Entry, is_among}
 use Rattle.kernel_model.specs.Limits.{AreNumbered}
@@ -13,6 +12,7 @@ use Rattle.kernel_model.specs.declared.carrier.Carrier.TheVariants.{Proc, Tasks}
 use Rattle.kernel_model.specs.declared.event.Event.{Event}
 use Rattle.kernel_model.specs.declared.request.Verdict.{Verdict}
 use Rattle.kernel_model.specs.declared.request.Verdict.TheVariants.{Waits, Replies, Ends}
+use Rattle.kernel_model.proofs.Limits.{at_below}
 use Rattle.kernel_model.proofs.Transitions.{each_event, of_step}
 use Rattle.cone_laws.proofs.Effects.{Keeps, effect_keeps}
 
@@ -30,10 +30,6 @@ pub record IsTidy (s : SyncState) (e : Entry) : Type 0 where
 
 none_some : {A : Type 0} (o : Option A) → o ≡ None → is_some o ≡ true → ⊥
 none_some o e h = let no : is_some o ≡ false = ap (λ p. is_some p) e in false≢true (sym no ∙ h)
-
-pub at_there : (ps : List Process) (pid : ℕ) (p : Process) → process_at ps pid ≡ Some p → pid ≤ length ps
-at_there ps zero p at = absurd (let no : ⊥ = cc in no)
-at_there ps (suc i) p at = let less = slice_get_within ps i p at in omega (arith, less)
 
 not_zero : (ps : List Process) (pid : ℕ) (p : Process) → process_at ps pid ≡ Some p → (pid == 0) ≡ true → ⊥
 not_zero ps pid p at h = let zero_at : process_at ps 0 ≡ Some p = subst (λ (k : ℕ). process_at ps k ≡ Some p) (eqb-true pid 0 h) at in let no : ⊥ = cc in no
@@ -56,7 +52,7 @@ effect_tidy s pid p e (Replies r) at keeps = record {
     by : (o : Option ℕ) → IfSome o (λ c. (c ≡ length s.processes + 1) × (is_among Tasks e.writes ≡ true) × (is_among (Proc c) e.writes ≡ true))
         → IfSome o (λ c. (c ≡ length s.processes + 1) × (is_among (Proc c) (Proc pid ∷ e.writes) ≡ true) × (true ≡ true) × (pid ≤ length s.processes))
     by None h = tt
-    by (Some c) h = (h.0, or_right (c == pid) (is_among (Proc c) e.writes) h.2, refl, at_there s.processes pid p at)
+    by (Some c) h = (h.0, or_right (c == pid) (is_among (Proc c) e.writes) h.2, refl, at_below s.processes pid p at)
 effect_tidy s pid p e (Ends status) at keeps = record {
   idle = λ h. absurd (not_zero s.processes pid p at h);
   own = λ h. (or_left (pid == pid) _ (eq-eqb pid pid refl), or_left (pid == pid) _ (eq-eqb pid pid refl));

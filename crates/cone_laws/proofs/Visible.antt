@@ -3,7 +3,7 @@
 use Rattle.std.proofs.Common.{append-nil, append_assoc, ◌≡◌, ℕ, zero, suc, ◌+◌, ◌-◌, ◌<◌, ◌≤◌, ◌==◌, ◌⊎◌, inl, inr, ◌&&◌, not, Bool, true, false, List, [], ◌∷◌, ◌++◌, map, take, Option, Some, None, is_some, refl, sym, ap, ◌∙◌, arith}
 use Rattle.std.specs.Prelude.{if◌then◌else◌}
 use Rattle.std.specs.List.{AllByRecursion}
-use Rattle.std.proofs.lemmas.Bool.{cases_lt, false≢true, and_parts, and_from, or_cases}
+use Rattle.std.proofs.lemmas.Bool.{cases_lt, false≢true, and_parts, and_from}
 use Rattle.disk_model.specs.Numbers.{Numbered}
 use Rattle.disk_model.specs.declared.change.Change.{Change}
 use Rattle.kernel_model.specs.Entries.{Entry, meets}
@@ -17,8 +17,9 @@ use Rattle.kernel_model.specs.World.{sync_log}
 use Rattle.kernel_model.specs.declared.carrier.Carrier.{Carrier}
 use Rattle.kernel_model.specs.declared.event.Event.{Event}
 use Rattle.kernel_model.proofs.Folding.{step_changes}
-use Rattle.kernel_model.proofs.Meets.{meets-append}
-use Rattle.kernel_model.proofs.Paths.{count_of}
+use Rattle.kernel_model.proofs.Meets.{meets-none}
+use Rattle.kernel_model.proofs.Paths.{count_of, meets_if}
+use Rattle.kernel_model.proofs.Runs.{contents-append, contents-given_by}
 use Rattle.cone_laws.specs.Agreement.{Agree, AgreeOn, IsAlike, AreAlike}
 use Rattle.cone_laws.specs.Cones.{selected, is_visible, visible_flags, IsBeginningOf}
 use Rattle.cone_laws.proofs.Frames.{framed}
@@ -42,16 +43,8 @@ record Reader (c : ℕ) (past : List Entry) (ws : List Carrier) : Type 0 where
   durable : is_durable c (past ++ between) reader ≡ true
   reads : meets ws reader.reads ≡ true
 
-meets_none : (ws : List Carrier) → meets ws [] ≡ false
-meets_none [] = refl
-meets_none (w ∷ ws) = meets_none ws
-
-meets_if : (ws xs rs : List Carrier) (b : Bool) → meets ws (if b then xs ++ rs else xs) ≡ true → (meets ws xs ≡ true) ⊎ ((meets ws rs ≡ true) × (b ≡ true))
-meets_if ws xs rs true h = elim (or_cases (meets ws xs) (meets ws rs) (sym (meets-append ws xs rs) ∙ h)) [ inl t ↦ inl t | inr t ↦ inr (t, refl) ]
-meets_if ws xs rs false h = inl h
-
 find_reader : (es : List Entry) (c : ℕ) (past : List Entry) (ws : List Carrier) → meets ws (needed (visible_flags c past es) es []) ≡ true → Reader c past ws
-find_reader [] c past ws h = absurd (false≢true (sym (meets_none ws) ∙ h))
+find_reader [] c past ws h = absurd (false≢true (sym (meets-none ws) ∙ h))
 find_reader (e ∷ es) c past ws h = elim (meets_if ws (needed (visible_flags c (past ++ e ∷ []) es) es []) e.reads (is_visible c past e) h) [
   | inl t ↦ later (find_reader es c (past ++ e ∷ []) ws t)
   | inr t ↦ record {
@@ -209,16 +202,8 @@ visible_changes (e ∷ es) c past s t are also a so_far =
     (λ u numbers agree same. visible_changes es c (past ++ (step s e).entry ∷ []) (step s e).state u (step_numbered s e are) numbers agree same) a
 
 -- ---- what they print begins with what is shown
-contents-append : {A : Type 0} (xs ys : List (Given A)) → contents (xs ++ ys) ≡ contents xs ++ contents ys
-contents-append [] ys = refl
-contents-append (x ∷ xs) ys = ap (λ zs. x.what ∷ zs) (contents-append xs ys)
-
-contents_given : {A : Type 0} (past : List Entry) (e : Entry) (xs : List A) → contents (given_by past e xs) ≡ xs
-contents_given past e [] = refl
-contents_given past e (x ∷ xs) = ap (λ zs. x ∷ zs) (contents_given past e xs)
-
 pub given_contents : {A : Type 0} (past : List Entry) (e : Entry) (xs : List A) (ys : List (Given A)) → contents (given_by past e xs ++ ys) ≡ xs ++ contents ys
-given_contents past e xs ys = contents-append (given_by past e xs) ys ∙ ap (λ zs. zs ++ contents ys) (contents_given past e xs)
+given_contents past e xs ys = contents-append (given_by past e xs) ys ∙ ap (λ zs. zs ++ contents ys) (contents-given_by past e xs)
 
 released_all : {A : Type 0} (c : ℕ) (past : List Entry) (e : Entry) (xs : List A) (ys : List (Given A)) → is_durable c past e ≡ true
     → released c (given_by past e xs ++ ys) ≡ xs ++ released c ys

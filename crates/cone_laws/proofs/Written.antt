@@ -28,6 +28,7 @@ use Rattle.kernel_model.specs.declared.request.Request.{Request}
 use Rattle.kernel_model.specs.declared.request.Request.TheVariants as request
 use Rattle.kernel_model.specs.declared.request.Verdict.{Verdict}
 use Rattle.kernel_model.specs.declared.request.Verdict.TheVariants.{Waits, Replies, Ends}
+use Rattle.kernel_model.proofs.Meets.{same_self}
 use Rattle.kernel_model.proofs.Transitions.{each_event, of_step}
 use Rattle.disk_model.proofs.Lists.{each_more}
 
@@ -37,15 +38,6 @@ AreAmong cs ds = AllByRecursion (λ (c : Carrier). is_among c ds ≡ true) cs
 -- what it writes it reads
 abbrev pub ReadsWritten : Effect → Type 0
 ReadsWritten e = AreAmong e.writes e.reads
-
-same_self : (c : Carrier) → is_same c c ≡ true
-same_self (carrier.Proc n) = eq-eqb n n refl
-same_self (carrier.File n) = eq-eqb n n refl
-same_self carrier.Names = refl
-same_self (carrier.Pipe n) = eq-eqb n n refl
-same_self carrier.Pipes = refl
-same_self carrier.Tasks = refl
-same_self (carrier.Tape n) = eq-eqb n n refl
 
 among_more : (c : Carrier) (cs ds : List Carrier) → AreAmong cs ds → AreAmong cs (c ∷ ds)
 among_more c cs ds h = each_more (λ (x : Carrier). is_among x ds ≡ true) (λ (x : Carrier). is_among x (c ∷ ds) ≡ true) (λ x m. or_right (is_same x c) (is_among x ds) m) cs h
