@@ -21,14 +21,14 @@ use Rattle.kernel_model.specs.declared.request.Verdict.TheVariants.{Waits, Repli
 use Rattle.kernel_model.proofs.Limits.{put_length}
 use Rattle.kernel_model.proofs.Meets.{meets-one}
 use Rattle.kernel_model.proofs.Transitions.{each_event, of_step}
-use Rattle.cone_laws.specs.Agreement.{Agree, AgreeOn, IsAlike}
-use Rattle.cone_laws.specs.Cones.{selected, is_visible, visible_flags}
-use Rattle.cone_laws.proofs.Frames.{framed}
-use Rattle.cone_laws.proofs.Parts.{made_by, reply_long}
-use Rattle.cone_laws.proofs.Resting.{durable_back, durable_own, durable_skip}
-use Rattle.cone_laws.proofs.Selected.{all_left, all_right, needed, taken, passed, step_numbered}
-use Rattle.cone_laws.proofs.Tidy.{IsTidy, step_tidy}
-use Rattle.cone_laws.proofs.Visible.{log_idles, visible_closed, given_contents}
+use Rattle.kernel_laws.specs.Agreement.{Agree, AgreeOn, IsAlike}
+use Rattle.kernel_laws.specs.Cones.{selected, is_visible, visible_flags}
+use Rattle.kernel_laws.proofs.Frames.{framed}
+use Rattle.kernel_laws.proofs.Parts.{made_by, reply_long}
+use Rattle.kernel_laws.proofs.Resting.{durable_back, durable_own, durable_skip}
+use Rattle.kernel_laws.proofs.Selected.{all_left, all_right, needed, taken, passed, step_numbered}
+use Rattle.kernel_laws.proofs.Tidy.{IsTidy, step_tidy}
+use Rattle.kernel_laws.proofs.Visible.{log_idles, visible_closed, given_contents}
 
 -- ---- how many processes there are
 effect_long : (s : SyncState) (pid : ℕ) (p : Process) (e : Effect) (v : Verdict)

@@ -20,7 +20,7 @@ use Rattle.kernel_model.specs.declared.descriptor.Descriptor.TheVariants as desc
 use Rattle.kernel_model.specs.declared.descriptor.PipeEnd.TheVariants as pipe_end
 use Rattle.kernel_model.specs.declared.request.Request.{Request}
 use Rattle.kernel_model.specs.declared.request.Request.TheVariants as request
-use Rattle.cone_laws.specs.Agreement.{Agree, AgreeOn}
+use Rattle.kernel_laws.specs.Agreement.{Agree, AgreeOn}
 
 -- the status with which a process has ended, if it is there and has
 abbrev status_of : Option Process → Option ℕ

@@ -26,10 +26,10 @@ use Rattle.kernel_model.proofs.Limits.{put_length}
 use Rattle.kernel_model.proofs.Making.{effect_makes}
 use Rattle.kernel_model.proofs.Names.{place_there}
 use Rattle.kernel_model.proofs.Transitions.{turned, each_event, of_step}
-use Rattle.cone_laws.specs.Agreement.{Agree, AgreeOn, IsAlike, edit_by}
-use Rattle.cone_laws.proofs.Effects.{Keeps, Carried, effect_keeps, effect_carries}
-use Rattle.cone_laws.proofs.Parts.{flip, put_at, reply_at, reply_long, replied_at, made_by, child_of}
-use Rattle.cone_laws.proofs.Rows.{row_same}
+use Rattle.kernel_laws.specs.Agreement.{Agree, AgreeOn, IsAlike, edit_by}
+use Rattle.kernel_laws.proofs.Effects.{Keeps, Carried, effect_keeps, effect_carries}
+use Rattle.kernel_laws.proofs.Parts.{flip, put_at, reply_at, reply_long, replied_at, made_by, child_of}
+use Rattle.kernel_laws.proofs.Rows.{row_same}
 
 pub agree_refl : (s : SyncState) (c : Carrier) → AgreeOn s s c
 agree_refl s (Proc p) = refl

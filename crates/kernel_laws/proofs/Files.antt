@@ -1,5 +1,5 @@
 -- What an edit of a file leaves of each file's bytes and of the names. It depends on the edit, on what stood there, and on the names.
-use Rattle.std.proofs.Common.{◌≡◌, ℕ, zero, suc, ◌+◌, ◌<◌, ◌≤◌, ◌==◌, Bool, true, false, cond, List, [], ◌∷◌, ◌++◌, length, map, slice_get, slice_set, Option, Some, None, refl, sym, ap, subst, ◌∙◌, arith}
+use Rattle.std.proofs.Common.{◌≡◌, ℕ, zero, suc, ◌+◌, ◌<◌, ◌==◌, Bool, true, false, cond, List, [], ◌∷◌, ◌++◌, length, map, slice_get, slice_set, Option, Some, None, refl, sym, ap, subst, ◌∙◌, arith}
 use Rattle.std.specs.Prelude.{if◌then◌else◌, option_map}
 use Rattle.std.specs.List.{position, position_from, remove}
 use Rattle.std.specs.Str.{bytes_eq}
@@ -18,7 +18,7 @@ use Rattle.kernel_model.specs.Steps.{change_by}
 use Rattle.kernel_model.specs.declared.effect.FileEdit.{FileEdit}
 use Rattle.kernel_model.specs.declared.effect.FileEdit.TheVariants as edit
 use Rattle.kernel_model.proofs.Names.{place_there, rise_least}
-use Rattle.cone_laws.specs.Agreement.{bytes_of}
+use Rattle.kernel_laws.specs.Agreement.{bytes_of}
 
 -- ---- the element by a number, where the numbers of a list's elements stand in another list
 abbrev pub look : {A : Type 0} → List ℕ → List A → ℕ → Option A

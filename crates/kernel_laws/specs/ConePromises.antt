@@ -12,8 +12,8 @@ use Rattle.kernel_model.specs.Views.{contents}
 use Rattle.kernel_model.specs.World.{Boot, run_of}
 use Rattle.kernel_model.specs.declared.carrier.Carrier.{Carrier}
 use Rattle.kernel_model.specs.declared.event.Event.{Event}
-use Rattle.cone_laws.specs.Agreement.{Agree, AgreeOn, IsAlike, AreAlike, edit_by}
-use Rattle.cone_laws.specs.Cones.{selected, path_flags, cone_flags, entry_of, cone_before, HasPath, changes_selected, IsOfProcess, visible, IsBeginningOf}
+use Rattle.kernel_laws.specs.Agreement.{Agree, AgreeOn, IsAlike, AreAlike, edit_by}
+use Rattle.kernel_laws.specs.Cones.{selected, path_flags, cone_flags, entry_of, cone_before, HasPath, changes_selected, IsOfProcess, visible, IsBeginningOf}
 
 -- The frame of an event, where two states agree on all that it reads. It does the same in both, with the same change of the same file,
 -- which is named by its number. Afterwards they agree on what it writes, and on all on which they agreed before. And whatever the

@@ -1,6 +1,6 @@
 -- What every entry has. One of no process does nothing. An event that tells its process something reads and writes that process. A process
 -- that is made is the next by number, and is written; its parent is there, and is told its number.
-use Rattle.std.proofs.Common.{◌≡◌, ℕ, zero, suc, ◌+◌, ◌≤◌, ◌==◌, true, false, List, [], ◌∷◌, length, Option, Some, None, IfSome, is_some, refl, sym, ap, subst, ◌∙◌, arith}
+use Rattle.std.proofs.Common.{◌≡◌, ℕ, ◌+◌, ◌≤◌, ◌==◌, true, false, List, [], ◌∷◌, length, Option, Some, None, IfSome, is_some, refl, sym, ap, subst, ◌∙◌}
 use Rattle.std.proofs.lemmas.Bool.{eqb-true, eq-eqb, false≢true, or_left, or_right}
 use Rattle.machine_model.specs.States.{stands_at}
 use Rattle.kernel_model.specs.Entries.{Entry, is_among}
@@ -14,7 +14,7 @@ use Rattle.kernel_model.specs.declared.request.Verdict.{Verdict}
 use Rattle.kernel_model.specs.declared.request.Verdict.TheVariants.{Waits, Replies, Ends}
 use Rattle.kernel_model.proofs.Limits.{at_below}
 use Rattle.kernel_model.proofs.Transitions.{each_event, of_step}
-use Rattle.cone_laws.proofs.Effects.{Keeps, effect_keeps}
+use Rattle.kernel_laws.proofs.Effects.{Keeps, effect_keeps}
 
 pub record IsIdle (e : Entry) : Type 0 where
   pub writes : e.writes ≡ []

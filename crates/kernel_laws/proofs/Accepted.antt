@@ -19,12 +19,12 @@ use Rattle.kernel_model.specs.declared.event.Event.{Event}
 use Rattle.kernel_model.specs.declared.event.Event.TheVariants.{Turn, Enter, Cut, Complete, Fail}
 use Rattle.kernel_model.proofs.Numbering.{numbered_first}
 use Rattle.kernel_model.proofs.Runs.{after_sync, after_log, now-with_event}
-use Rattle.cone_laws.specs.Agreement.{Agree, AgreeOn}
-use Rattle.cone_laws.specs.Cones.{selected, path_flags, entry_of, cone_before, is_visible, visible_flags, visible, IsOfProcess}
-use Rattle.cone_laws.proofs.Coned.{agree_all, paths_closed}
-use Rattle.cone_laws.proofs.Frames.{turn_reads, enter_reads}
-use Rattle.cone_laws.proofs.Selected.{all_left, all_right, needed, IsClosed, taken, passed, step_numbered}
-use Rattle.cone_laws.proofs.Visible.{log_idles, visible_closed}
+use Rattle.kernel_laws.specs.Agreement.{Agree, AgreeOn}
+use Rattle.kernel_laws.specs.Cones.{selected, path_flags, entry_of, cone_before, is_visible, visible_flags, visible, IsOfProcess}
+use Rattle.kernel_laws.proofs.Coned.{agree_all, paths_closed}
+use Rattle.kernel_laws.proofs.Frames.{turn_reads, enter_reads}
+use Rattle.kernel_laws.proofs.Selected.{all_left, all_right, needed, IsClosed, taken, passed, step_numbered}
+use Rattle.kernel_laws.proofs.Visible.{log_idles, visible_closed}
 
 -- ---- tests that are fewer
 turn_less : (a b c d f : Bool) (w x y z : Refused) → first_of ((a ⇒ w) ∷ (b ⇒ x) ∷ (c ⇒ y) ∷ ((d || f) ⇒ z) ∷ []) ≡ None

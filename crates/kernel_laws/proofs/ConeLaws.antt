@@ -29,15 +29,15 @@ use Rattle.kernel_model.proofs.Numbering.{numbered_first}
 use Rattle.kernel_model.proofs.Paths.{leads_from, leads_to}
 use Rattle.kernel_model.proofs.Runs.{after_sync, after_log}
 use Rattle.kernel_model.proofs.Transitions.{each_event, of_turn}
-use Rattle.cone_laws.specs.Agreement.{Agree, AgreeOn, IsAlike, AreAlike, edit_by}
-use Rattle.cone_laws.specs.Cones.{selected, path_flags, cone_flags, entry_of, cone_before, HasPath, changes_selected, visible_flags, IsOfProcess, IsBeginningOf}
-use Rattle.cone_laws.specs.Promises.{IsFramed, ConeSuffices, VisibleSuffice}
-use Rattle.cone_laws.proofs.Coned.{agree_all, cone_alone}
-use Rattle.cone_laws.proofs.Frames.{framed, step_keeps_but}
-use Rattle.cone_laws.proofs.Handed.{handed_all}
-use Rattle.cone_laws.proofs.Selected.{run_numbered, alone, needed}
-use Rattle.cone_laws.proofs.Visible.{log_idles, visible_closed, visible_changes, shown_begins}
-use Rattle.cone_laws.proofs.Written.{step_reads}
+use Rattle.kernel_laws.specs.Agreement.{Agree, AgreeOn, IsAlike, AreAlike, edit_by}
+use Rattle.kernel_laws.specs.Cones.{selected, path_flags, cone_flags, entry_of, cone_before, HasPath, changes_selected, visible_flags, IsOfProcess, IsBeginningOf}
+use Rattle.kernel_laws.specs.ConePromises.{IsFramed, ConeSuffices, VisibleSuffice}
+use Rattle.kernel_laws.proofs.Coned.{agree_all, cone_alone}
+use Rattle.kernel_laws.proofs.Frames.{framed, step_keeps_but}
+use Rattle.kernel_laws.proofs.Handed.{handed_all}
+use Rattle.kernel_laws.proofs.Selected.{run_numbered, alone, needed}
+use Rattle.kernel_laws.proofs.Visible.{log_idles, visible_closed, visible_changes, shown_begins}
+use Rattle.kernel_laws.proofs.Written.{step_reads}
 
 -- ---- the frame
 agree_at : (s t : SyncState) (c : Carrier) (rs : List Carrier) → Agree s t rs → is_among c rs ≡ true → AgreeOn s t c

@@ -8,7 +8,7 @@ use Rattle.kernel_model.specs.Paths.{is_durable}
 use Rattle.kernel_model.specs.Steps.{own_entry, disk_entry}
 use Rattle.kernel_model.specs.declared.carrier.Carrier.{Carrier}
 use Rattle.kernel_model.specs.declared.carrier.Carrier.TheVariants.{Proc, File, Names, Pipe, Pipes, Tasks}
-use Rattle.cone_laws.specs.Cones.{cone_numbers, cone_flags, numbers_selected, visible_flags}
+use Rattle.kernel_laws.specs.Cones.{cone_numbers, cone_flags, numbers_selected, visible_flags}
 
 abbrev enter : ℕ → List Carrier → List Carrier → Bool → Entry
 enter p reads writes changes = record {

@@ -20,12 +20,12 @@ use Rattle.kernel_model.proofs.Folding.{step_changes}
 use Rattle.kernel_model.proofs.Meets.{meets-none}
 use Rattle.kernel_model.proofs.Paths.{count_of, meets_if}
 use Rattle.kernel_model.proofs.Runs.{contents-append, contents-given_by}
-use Rattle.cone_laws.specs.Agreement.{Agree, AgreeOn, IsAlike, AreAlike}
-use Rattle.cone_laws.specs.Cones.{selected, is_visible, visible_flags, IsBeginningOf}
-use Rattle.cone_laws.proofs.Frames.{framed}
-use Rattle.cone_laws.proofs.Resting.{count-append, durable_back, durable_change, change_durable}
-use Rattle.cone_laws.proofs.Selected.{all_left, all_right, needed, IsClosed, taken, passed, step_numbered}
-use Rattle.cone_laws.proofs.Tidy.{IsIdle, step_tidy}
+use Rattle.kernel_laws.specs.Agreement.{Agree, AgreeOn, IsAlike, AreAlike}
+use Rattle.kernel_laws.specs.Cones.{selected, is_visible, visible_flags, IsBeginningOf}
+use Rattle.kernel_laws.proofs.Frames.{framed}
+use Rattle.kernel_laws.proofs.Resting.{count-append, durable_back, durable_change, change_durable}
+use Rattle.kernel_laws.proofs.Selected.{all_left, all_right, needed, IsClosed, taken, passed, step_numbered}
+use Rattle.kernel_laws.proofs.Tidy.{IsIdle, step_tidy}
 
 -- an entry without a process does nothing
 abbrev pub Idles : Entry → Type 0

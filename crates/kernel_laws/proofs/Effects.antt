@@ -24,9 +24,9 @@ use Rattle.kernel_model.specs.declared.effect.TapeRead.{TapeRead}
 use Rattle.kernel_model.specs.declared.request.Request.{Request}
 use Rattle.machine_model.specs.declared.stop.Stop.{Stop}
 use Rattle.kernel_model.proofs.Cases.{OfEach, of_effect}
-use Rattle.cone_laws.specs.Agreement.{Agree, AgreeOn, bytes_of}
-use Rattle.cone_laws.proofs.Files.{bytes_after, bytes_changed, directory_after, names_after, without_number, lost_number, loser_in, place_in}
-use Rattle.cone_laws.proofs.Parts.{flip, IsOff, IsOld, steps_off, steps_length, steps_same, open_same, open_off, open_length, drops_off, adds_off, drops_old, adds_old, tape_off, tape_same}
+use Rattle.kernel_laws.specs.Agreement.{Agree, AgreeOn, bytes_of}
+use Rattle.kernel_laws.proofs.Files.{bytes_after, bytes_changed, directory_after, names_after, without_number, lost_number, loser_in, place_in}
+use Rattle.kernel_laws.proofs.Parts.{flip, IsOff, IsOld, steps_off, steps_length, steps_same, open_same, open_off, open_length, drops_off, adds_off, drops_old, adds_old, tape_off, tape_same}
 
 -- What is not among the writes stays as it was; and a process that is made is the next one, and written.
 pub record Kept (s : SyncState) (file : Option FileEdit) (tape : Option TapeRead) (steps : List PipeStep) (made : Option ℕ) (writes : List Carrier) : Type 0 where

@@ -15,9 +15,9 @@ use Rattle.kernel_model.specs.declared.event.Event.{Event}
 use Rattle.kernel_model.proofs.Folding.{step_changes}
 use Rattle.kernel_model.proofs.Meets.{meets-append, meets-one}
 use Rattle.kernel_model.proofs.Numbering.{numbered_changed}
-use Rattle.cone_laws.specs.Agreement.{Agree, AgreeOn, AreAlike}
-use Rattle.cone_laws.specs.Cones.{selected}
-use Rattle.cone_laws.proofs.Frames.{agree_trans, framed, step_keeps_but}
+use Rattle.kernel_laws.specs.Agreement.{Agree, AgreeOn, AreAlike}
+use Rattle.kernel_laws.specs.Cones.{selected}
+use Rattle.kernel_laws.proofs.Frames.{agree_trans, framed, step_keeps_but}
 
 -- ---- carriers
 -- none of these is among the writes

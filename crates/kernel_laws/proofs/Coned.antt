@@ -8,10 +8,10 @@ use Rattle.kernel_model.specs.State.{SyncState}
 use Rattle.kernel_model.specs.World.{sync_log}
 use Rattle.kernel_model.specs.declared.carrier.Carrier.{Carrier}
 use Rattle.kernel_model.specs.declared.event.Event.{Event}
-use Rattle.cone_laws.specs.Agreement.{Agree}
-use Rattle.cone_laws.specs.Cones.{path_flags}
-use Rattle.cone_laws.proofs.Frames.{agree_refl}
-use Rattle.cone_laws.proofs.Selected.{needed, IsClosed, Alone, alone}
+use Rattle.kernel_laws.specs.Agreement.{Agree}
+use Rattle.kernel_laws.specs.Cones.{path_flags}
+use Rattle.kernel_laws.proofs.Frames.{agree_refl}
+use Rattle.kernel_laws.proofs.Selected.{needed, IsClosed, Alone, alone}
 
 needed_wanted : (log : List Entry) (rs : List Carrier) → needed (path_flags log rs) log rs ≡ wanted log rs
 needed_wanted [] rs = refl
