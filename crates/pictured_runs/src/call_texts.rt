@@ -1,10 +1,10 @@
 //! What the call or the trap says at which a process stands.
 use call_forms::{CallText, Style};
+use calls::request_of;
 use formats::Reg;
 use kernel_model::Request;
 use machine::Machine;
 use machine_model::Stop;
-use requests::request_of;
 use std::alloc::{AllocError, Global};
 
 /// The most bytes that a call shows of what it writes or of a name, and of each of two names.

@@ -1,14 +1,13 @@
-//! Which system call a machine asks for that stands at one.
+//! Which call a machine asks for that stands at one.
 //!
 //! Read `request_of`: it reads the registers, and copies the bytes that they name. The request is the definitions', and only those
 //! bytes take memory.
-#![tactic(auto)]
-
 ghost use Rattle.std.specs.Prelude.{◌≡◌, ◌+◌, ◌==◌, ◌||◌, None, IfOk, IsOk};
 ghost use Rattle.kernel_model.specs.Requests.{read_bytes, may_be_placed, longest_names, most_bytes, word_size, request_of as request_at};
 ghost use Rattle.kernel_model.specs.Wholes.{AreWhole, IsWhole, HoldsNone};
 
 use byte_list::Bytes;
+use call_forms::Call;
 use disk_model::LONGEST_NAME;
 use formats::Reg;
 use kernel_model::{MOST_BYTES, Request};
@@ -89,50 +88,52 @@ pub fn request_of(alloc: Global, machine: &Machine) -> Result<Request, AllocErro
     let a0 = machine.reg(Reg::new(10));
     let a1 = machine.reg(Reg::new(11));
     let a2 = machine.reg(Reg::new(12));
-    match machine.reg(Reg::new(17)) {
-        1 => Ok(Request::Exit { status: a0 }),
-        2 => Ok(Request::Write {
+    let Some(call) = Call::of(machine.reg(Reg::new(17))) else {
+        return Ok(Request::Unknown);
+    };
+    match call {
+        Call::Exit => Ok(Request::Exit { status: a0 }),
+        Call::Write => Ok(Request::Write {
             fd: a0,
             n: a2,
             bytes: named_bytes(alloc, machine, a1, a2, MOST_BYTES)?,
         }),
-        3 => Ok(Request::Read {
+        Call::Read => Ok(Request::Read {
             fd: a0,
             at: a1,
             n: a2,
             fits: may_be_placed(machine, a1, a2),
         }),
-        4 => Ok(Request::Open {
+        Call::Open => Ok(Request::Open {
             n: a1,
             mode: a2,
             name: named_bytes(alloc, machine, a0, a1, LONGEST_NAME)?,
         }),
-        5 => Ok(Request::Close { fd: a0 }),
-        6 => Ok(Request::Pipe {
+        Call::Close => Ok(Request::Close { fd: a0 }),
+        Call::Pipe => Ok(Request::Pipe {
             at: a0,
             fits: machine.space().writable(a0, PAIR_SIZE),
         }),
-        7 => Ok(Request::Fork),
-        8 => Ok(Request::Wait {
+        Call::Fork => Ok(Request::Fork),
+        Call::Wait => Ok(Request::Wait {
             at: a0,
             fits: may_take_status(machine, a0),
         }),
-        9 => Ok(Request::GetPid),
-        10 => Ok(Request::Seek { fd: a0, offset: a1 }),
-        11 => Ok(Request::Sync),
-        12 => Ok(Request::Unlink {
+        Call::GetPid => Ok(Request::GetPid),
+        Call::Seek => Ok(Request::Seek { fd: a0, offset: a1 }),
+        Call::Sync => Ok(Request::Sync),
+        Call::Unlink => Ok(Request::Unlink {
             n: a1,
             name: named_bytes(alloc, machine, a0, a1, LONGEST_NAME)?,
         }),
-        13 => Ok(Request::Rename {
+        Call::Rename => Ok(Request::Rename {
             n: a1,
             m: a2,
             names: named_pair(alloc, machine, a0, a1, a2)?,
         }),
-        14 => Ok(Request::Exec {
+        Call::Exec => Ok(Request::Exec {
             n: a1,
             name: named_bytes(alloc, machine, a0, a1, LONGEST_NAME)?,
         }),
-        _ => Ok(Request::Unknown),
     }
 }
