@@ -1,12 +1,11 @@
 //! Why what a command does ends early, as the program's own fault.
 use crash_outcomes::ExploreFault;
-use debug_commands::SessionFault;
 use executor::RunFault;
 use faults::Fault;
-use gdb_connection::ConnectionFault;
 use host_files::FileFault;
 use run_files::boot_fault;
 use scripts::ScriptFault;
+use timeline::SessionFault;
 
 /// That of a script.
 pub fn of_script(fault: ScriptFault) -> Fault {
@@ -39,18 +38,10 @@ pub fn of_run(fault: RunFault) -> Fault {
     }
 }
 
-/// That of a session with the debugger.
+/// That of a session with the debugger, or with gdb.
 pub fn of_session(fault: SessionFault) -> Fault {
     match fault {
         SessionFault::OutOfMemory => Fault::OutOfMemory,
         SessionFault::InputOutput => Fault::InputOutput,
-    }
-}
-
-/// That of a connection with gdb.
-pub fn of_connection(fault: ConnectionFault) -> Fault {
-    match fault {
-        ConnectionFault::OutOfMemory => Fault::OutOfMemory,
-        ConnectionFault::InputOutput => Fault::InputOutput,
     }
 }
