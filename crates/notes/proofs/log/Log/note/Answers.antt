@@ -1,7 +1,7 @@
 -- The exchange adds the entry where nothing else was added.
 use Rattle.std.proofs.Common.{sym, ◌∙◌, ap, length}
-use Rattle.ghost_log.proofs.Adding.{adds_moves}
-use Rattle.ghost_log.proofs.log.Log.note.Goals as goal
+use Rattle.notes.proofs.Adding.{adds_moves}
+use Rattle.notes.proofs.log.Log.note.Goals as goal
 
 pub compare_exchange-found-requires : goal.compare_exchange-found-requires
 compare_exchange-found-requires g c =

@@ -5,8 +5,8 @@ use Rattle.std.proofs.lemmas.Bool.Decides.{nat_tests}
 use mathlib.Core.List.{IsPrefix}
 use prog.Atomic.{either}
 use Rattle.logbook.specs.Pages.{Cell, cell, keeps, no_nib, step, Moves, Goes}
-use Rattle.ghost_log.specs.Logs.{IsCounted, Adds}
-use Rattle.ghost_log.proofs.Prefixes.{prefix_whole}
+use Rattle.notes.specs.Logs.{IsCounted, Adds}
+use Rattle.notes.proofs.Prefixes.{prefix_whole}
 
 module _ {E : Type 0} where
   abbrev pub shown : List E → List E

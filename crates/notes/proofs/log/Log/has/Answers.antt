@@ -1,8 +1,8 @@
 -- Both begin what they come to together, and the receipt is no longer.
 use Rattle.std.proofs.Common.{◌≤◌, ap, subst, arith, length, List}
 use mathlib.Core.List.{IsPrefix}
-use Rattle.ghost_log.proofs.Prefixes.{prefix_shorter, at_most}
-use Rattle.ghost_log.proofs.log.Log.has.Goals as goal
+use Rattle.notes.proofs.Prefixes.{prefix_shorter, at_most}
+use Rattle.notes.proofs.log.Log.has.Goals as goal
 
 pub returns : goal.returns
 returns g c le =

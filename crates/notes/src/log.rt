@@ -1,9 +1,9 @@
 //! A log, and receipts for its entries.
 ghost use Rattle.std.specs.Prelude.{◌≡◌, ◌++◌, ◌∷◌, [], true, IfSome, IfNone};
 ghost use mathlib.Core.List.{IsPrefix};
-ghost use Rattle.ghost_log.specs.Logs.{head_of};
+ghost use Rattle.notes.specs.Logs.{head_of};
 
-use crate::rule::{Asks, Counted, Entry, LogName, Notes, Nothing};
+use crate::rule::{Asks, Counted, Entry, LogName, Nothing, Noting};
 use logbook::{Offer, Seen, Start, Word};
 use std::marker::{Model, PhantomData};
 
@@ -37,7 +37,7 @@ pub struct Log<E, N: LogName> {
 
 impl<E, N: LogName> Model for Log<E, N> {
     ghost use Rattle.std.specs.Prelude.{◌≡◌, List, length};
-    ghost use Rattle.ghost_log.specs.Logs.{head_of};
+    ghost use Rattle.notes.specs.Logs.{head_of};
 
     ghost Value = { List E };
 
@@ -93,7 +93,7 @@ impl<E, N: LogName> Log<E, N> {
         let mut pen = seen.no_pen();
         let found = self
             .head
-            .compare_exchange::<Notes, Nothing>(
+            .compare_exchange::<Noting, Nothing>(
                 self.len,
                 self.len + 1,
                 &mut seen,

@@ -24,7 +24,7 @@ pub struct Counted;
 impl<E> Rule<E, u64> for Counted {
     ghost use Rattle.std.specs.Prelude.{[]};
     ghost use base.Fml.{ftrue};
-    ghost use Rattle.ghost_log.specs.Logs.{IsCounted};
+    ghost use Rattle.notes.specs.Logs.{IsCounted};
 
     ghost holds = { λ cells log. IsCounted cells log };
 
@@ -49,10 +49,10 @@ impl<E> Gain<E, u64> for Nothing {
 }
 
 /// An entry is noted.
-pub(crate) struct Notes;
+pub(crate) struct Noting;
 
-impl<E> Play<E, u64> for Notes {
-    ghost use Rattle.ghost_log.specs.Logs.{Adds};
+impl<E> Play<E, u64> for Noting {
+    ghost use Rattle.notes.specs.Logs.{Adds};
 
     ghost then = { Adds };
 }
