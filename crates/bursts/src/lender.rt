@@ -8,8 +8,8 @@ ghost use Rattle.kernel_step.specs.Loaned.{lent_out, Settles};
 
 use crate::naming::Naming;
 use crate::ticket::{LentLoan, OfLoan, Ticket, TicketedDone, TicketedLoan};
-use ghost_log::{Blank, Log};
 use kernel::{Answer, Core, Event, Loan, Refused, Rejected, known_loans_stay};
+use notes::{Blank, Log};
 use std::marker::Model;
 
 /// A core, beside a log of the loans that it gave, which exists in proofs alone. Contracts see the core. The type keeps that each

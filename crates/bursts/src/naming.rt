@@ -2,7 +2,7 @@
 ghost use Rattle.std.specs.Prelude.{ℕ};
 
 use board::Opening;
-use ghost_log::LogName;
+use notes::LogName;
 use std::marker::{Brand, PhantomData};
 use std::sync::ledger::Ledger;
 

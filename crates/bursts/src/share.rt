@@ -8,9 +8,8 @@ use crate::loan_id::LoanId;
 use crate::naming::{Enters, Events, Naming, Ran, Turns};
 use crate::ticket::LentLoan;
 use crate::totals::Totals;
-use ghost_log::Blank as EmptyLog;
 use kernel::{Core, Loan};
-use notes::Notes;
+use notes::{Blank as EmptyLog, Notes};
 use std::marker::Model;
 use std::sync::ledger::{Blank, Book, Ledger, Share as Mark};
 

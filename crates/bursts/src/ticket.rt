@@ -4,8 +4,8 @@ ghost use Rattle.bursts.specs.Tickets.{IsTicketOf};
 
 use crate::burst::run_loan;
 use crate::naming::Naming;
-use ghost_log::{Entry, Receipt};
 use kernel::{Done, Loan, Machine};
+use notes::{Entry, Receipt};
 use std::marker::Model;
 
 /// What a bench notes of a loan that it gives: of which process, its number, and the state from which it runs. It exists in proofs

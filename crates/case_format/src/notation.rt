@@ -3,6 +3,7 @@ use crate::hex_parts::push_parts_line;
 use crate::lines::{push_line, push_texts, refused, two_parts, words_of};
 use anyhow::Error;
 use assembler::{Row, assemble};
+use call_forms::Call;
 use std::alloc::{AllocError, Global};
 use std::str::SplitWhitespace;
 
@@ -56,22 +57,12 @@ fn file_parts(word: &str) -> &str {
     }
 }
 
-/// The names of the calls, from number 1 on.
-const CALL_NAMES: &[&str] = &[
-    "exit", "write", "read", "open", "close", "pipe", "fork", "wait", "getpid", "seek", "sync",
-    "unlink", "rename", "exec",
-];
-
 /// The number of a call, by its name or as it stands.
 fn call_number(word: &str) -> Option<u32> {
-    let mut number = 0u32;
-    for name in CALL_NAMES {
-        number = number.wrapping_add(1);
-        if *name == word {
-            return Some(number);
-        }
+    match Call::named(word) {
+        Some(call) => Some(call.number()),
+        None => word.parse::<u32>().ok(),
     }
-    word.parse::<u32>().ok()
 }
 
 /// The instruction that loads an argument, and its operand.

@@ -1,7 +1,7 @@
 //! The numbers among the options of a command.
 use crate::rows::{ArgumentRow, Form, NumberRow};
 use clap::ArgMatches;
-use line_words::decimal;
+use input_reading::decimal;
 use std::fmt;
 
 /// The value of an option that is no decimal number in its range. It prints as what is wrong.

@@ -3,8 +3,8 @@ ghost use Rattle.std.specs.Prelude.{◌≡◌, length};
 ghost use Rattle.kernel_model.specs.World.{tape_count};
 
 use clap::ArgMatches;
+use input_reading::decimal;
 use kernel_model::TAPES;
-use line_words::decimal;
 use std::fmt;
 
 /// The path that stands for standard input.

@@ -2,16 +2,16 @@
 use Rattle.std.proofs.Common.{◌≡◌, ℕ, ◌+◌, ◌<◌, ◌≤◌, Bool, true, false, if◌then◌else◌, List, [], ◌∷◌, ◌++◌, length, Option, Some, None, is_some, IfSome, unwrap_or, not, nat_lt, nat_le, ◌||◌, ◌&&◌, max, refl, sym, ap, subst, ◌∙◌, arith, take, drop, get_or}
 use Rattle.std.specs.List.{find, AllByRecursion}
 use Rattle.std.specs.Option.{option_map}
-use Rattle.std.proofs.lemmas.Bool.{false≢true, eqb-true, eq-eqb, leb-true, le-leb, ltb-true, lt-ltb, and_parts, and_from}
+use Rattle.std.proofs.lemmas.Bool.{false≢true, leb-true, le-leb, ltb-true, lt-ltb, and_parts, and_from}
 use Rattle.std.proofs.lemmas.List.{take_more}
 use Rattle.std.proofs.lemmas.List.Folds.{list_any-append}
 use Rattle.std.proofs.lemmas.List.Sums.{count_by-le-length, sum_by-cons, sum_by-drop_more}
 use Rattle.std.proofs.Math.Bool.{and-true, and_assoc, and_comm, or-true, or-false}
 use Rattle.kernel_model.specs.declared.carrier.Carrier.{Carrier}
-use Rattle.kernel_model.specs.declared.carrier.Carrier.TheVariants.{Proc, File, Names, Pipe, Pipes, Tasks, Tape}
 use Rattle.kernel_model.specs.Entries.{Entry, is_same, is_among, meets}
 use Rattle.kernel_model.specs.Paths.{is_durable, change_count, changes_in_log}
 use Rattle.kernel_model.proofs.Folding.{with_change-length}
+use Rattle.kernel_model.proofs.Meets.{same_is, same_sym, meets-one}
 use Rattle.kernel_model.proofs.Paths.{count_of}
 use Rattle.commit_deps.specs.Kept.{Marked}
 use Rattle.commit_deps.specs.Marks.{IsMarkOf, reader, change_number}
@@ -19,35 +19,6 @@ use Rattle.commit_deps.specs.Kept.{Kept}
 use Rattle.commit_deps.specs.Keeps.{mark_at, mark_or_none, is_written, Keeps, mark_of_change, greatest_mark, noted, noted_all, unwritten_count}
 use Rattle.commit_deps.proofs.Answering.{both_pass}
 use Rattle.commit_deps.proofs.Readers.{durable-reader, durable-union, durable-event, durable-nothing}
-
--- ---- two carriers are one
-pub same-true : (a b : Carrier) → is_same a b ≡ true → a ≡ b
-same-true (Proc a) (Proc b) h = ap (λ n. Proc n) (eqb-true a b h)
-same-true (File a) (File b) h = ap (λ n. File n) (eqb-true a b h)
-same-true Names Names h = refl
-same-true (Pipe a) (Pipe b) h = ap (λ n. Pipe n) (eqb-true a b h)
-same-true Pipes Pipes h = refl
-same-true Tasks Tasks h = refl
-same-true (Tape a) (Tape b) h = ap (λ n. Tape n) (eqb-true a b h)
-same-true _ _ h = absurd (false≢true h)
-
-same-refl : (a : Carrier) → is_same a a ≡ true
-same-refl (Proc a) = eq-eqb a a refl
-same-refl (File a) = eq-eqb a a refl
-same-refl Names = refl
-same-refl (Pipe a) = eq-eqb a a refl
-same-refl Pipes = refl
-same-refl Tasks = refl
-same-refl (Tape a) = eq-eqb a a refl
-
-same-sym : (a b : Carrier) → is_same a b ≡ is_same b a
-same-sym a b = elim (is_same a b) as (λ v. is_same a b ≡ v → v ≡ is_same b a) [
-  | true ↦ λ h. sym (subst (λ (x : Carrier). is_same b x ≡ true) (sym (same-true a b h)) (same-refl b))
-  | false ↦ λ h. elim (is_same b a) as (λ w. is_same b a ≡ w → false ≡ w) [
-    | true ↦ λ g. absurd (false≢true (sym h ∙ subst (λ (x : Carrier). is_same x b ≡ true) (same-true b a g) (same-refl b)))
-    | false ↦ λ g. refl
-  ] refl
-] refl
 
 -- ---- the mark of a carrier, after another mark was noted
 -- a carrier that is written, or not, has the greater of its mark and the new one, or keeps its own
@@ -65,11 +36,11 @@ noted-step : (x y : Carrier) (m : ℕ) (k : Marked) (ks : List Marked) (b d : Bo
     → mark_at y (noted x m ks) ≡ joined_at (is_same x y) (mark_at y ks) m
     → mark_at y (if b then (k.0, max k.1 m) ∷ ks else k ∷ noted x m ks) ≡ joined_at (is_same x y) (mark_at y (k ∷ ks)) m
 noted-step x y m k ks true true h g rest =
-    let same : is_same x y ≡ true = subst (λ (z : Carrier). is_same z y ≡ true) (same-true k.0 x h) g in
+    let same : is_same x y ≡ true = subst (λ (z : Carrier). is_same z y ≡ true) (same_is k.0 x h) g in
     cons-at y ((k.0, max k.1 m)) ks true g
     ∙ sym (ap (λ (v : Bool). joined_at v (mark_at y (k ∷ ks)) m) same ∙ ap (λ (o : Option ℕ). joined_at true o m) (cons-at y k ks true g))
 noted-step x y m k ks true false h g rest =
-    let same : is_same x y ≡ false = subst (λ (z : Carrier). is_same z y ≡ false) (same-true k.0 x h) g in
+    let same : is_same x y ≡ false = subst (λ (z : Carrier). is_same z y ≡ false) (same_is k.0 x h) g in
     cons-at y ((k.0, max k.1 m)) ks false g
     ∙ sym (ap (λ (v : Bool). joined_at v (mark_at y (k ∷ ks)) m) same ∙ cons-at y k ks false g)
 noted-step x y m k ks false true h g rest =
@@ -77,7 +48,7 @@ noted-step x y m k ks false true h g rest =
     ∙ sym (ap (λ (v : Bool). joined_at v (mark_at y (k ∷ ks)) m) (other (is_same x y) refl) ∙ cons-at y k ks true g)
   where
     other : (v : Bool) → is_same x y ≡ v → is_same x y ≡ false
-    other true e = absurd (false≢true (sym h ∙ ap (λ (z : Carrier). is_same k.0 z) (same-true x y e) ∙ g))
+    other true e = absurd (false≢true (sym h ∙ ap (λ (z : Carrier). is_same k.0 z) (same_is x y e) ∙ g))
     other false e = e
 noted-step x y m k ks false false h g rest =
     cons-at y k (noted x m ks) false g ∙ rest ∙ sym (ap (λ (o : Option ℕ). joined_at (is_same x y) o m) (cons-at y k ks false g))
@@ -104,7 +75,7 @@ mark_at-noted_all (x ∷ xs) y m ks =
     mark_at-noted_all xs y m (noted x m ks)
     ∙ ap (λ (o : Option ℕ). joined_at (is_among y xs) o m) (mark_at-noted x y m ks)
     ∙ joined-twice (is_among y xs) (is_same x y) (mark_at y ks) m
-    ∙ ap (λ (b : Bool). joined_at (b || is_among y xs) (mark_at y ks) m) (same-sym x y)
+    ∙ ap (λ (b : Bool). joined_at (b || is_among y xs) (mark_at y ks) m) (same_sym x y)
 
 noted_all-append : (xs ys : List Carrier) (m : ℕ) (ks : List Marked) → noted_all (xs ++ ys) m ks ≡ noted_all ys m (noted_all xs m ks)
 noted_all-append [] ys m ks = refl
@@ -118,11 +89,6 @@ noted_all-more xs i d m ks marks h e =
     ∙ sym (ap (λ (ys : List Carrier). noted_all ys m ks) (take_more xs i d h) ∙ noted_all-append (take i xs) (get_or xs i d ∷ []) m ks)
 
 -- ---- what one more event changes
--- a list meets one carrier where that is among it
-meets-one : (ws : List Carrier) (y : Carrier) → meets ws (y ∷ []) ≡ is_among y ws
-meets-one [] y = refl
-meets-one (w ∷ ws) y = ap (λ (b : Bool). b || meets ws (y ∷ [])) (or-false (is_same w y) ∙ same-sym w y) ∙ ap (λ (b : Bool). is_same y w || b) (meets-one ws y)
-
 -- the greater of two marks is below where both are
 le-max : (a b c : ℕ) → nat_le (max a b) c ≡ (nat_le a c && nat_le b c)
 le-max a b c = both_pass (nat_le (max a b) c) (nat_le a c && nat_le b c)

@@ -9,7 +9,8 @@ use Rattle.kernel_model.specs.Entries.{is_same}
 use Rattle.commit_deps.specs.Kept.{Marked}
 use Rattle.commit_deps.specs.Keeps.{mark_at, noted}
 use Rattle.commit_deps.specs.Places.{place_at, SaysPlaces}
-use Rattle.commit_deps.proofs.Keeping.{cons-at, same-true}
+use Rattle.kernel_model.proofs.Meets.{same_is}
+use Rattle.commit_deps.proofs.Keeping.{cons-at}
 
 -- ---- the first mark is the carrier's, or a later one, or none
 first-at : (x : Carrier) (k : Marked) (ks : List Marked) (b : Bool) → is_same k.0 x ≡ b
@@ -105,7 +106,7 @@ place-last x y m (k ∷ ks) h = none (place_at y ((k ∷ ks) ++ (x, m) ∷ []) �
   where
     cases : is_same k.0 x ≡ false → place_at y (ks ++ (x, m) ∷ []) ≡ (if is_same x y then Some (length ks) else place_at y ks) → (b : Bool) → is_same k.0 y ≡ b → (d : Bool) → is_same x y ≡ d
         → place_at y ((k ∷ ks) ++ (x, m) ∷ []) ≡ (if is_same x y then Some (length (k ∷ ks)) else place_at y (k ∷ ks))
-    cases e rest true f true g = absurd (false≢true (sym e ∙ ap (λ (z : Carrier). is_same k.0 z) (same-true x y g) ∙ f))
+    cases e rest true f true g = absurd (false≢true (sym e ∙ ap (λ (z : Carrier). is_same k.0 z) (same_is x y g) ∙ f))
     cases e rest true f false g =
         first-at y k (ks ++ (x, m) ∷ []) true f
         ∙ sym (ap (λ (b : Bool). if b then Some (length (k ∷ ks)) else place_at y (k ∷ ks)) g ∙ first-at y k ks true f)

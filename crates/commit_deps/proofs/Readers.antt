@@ -4,7 +4,7 @@ use Rattle.std.proofs.Math.Bool.{and-true, and_assoc, or-true, or-false}
 use Rattle.kernel_model.specs.declared.carrier.Carrier.{Carrier}
 use Rattle.kernel_model.specs.Entries.{Entry, meets}
 use Rattle.kernel_model.specs.Paths.{change_count, wanted, is_durable_from, is_durable}
-use Rattle.kernel_model.proofs.Meets.{meets-append}
+use Rattle.kernel_model.proofs.Meets.{meets-append, meets-none}
 use Rattle.kernel_model.proofs.Paths.{count_of}
 use Rattle.commit_deps.specs.Marks.{reader}
 
@@ -95,21 +95,17 @@ pub durable-reader : (c : ℕ) (log : List Entry) (d : Entry) (rs : List Carrier
     → is_durable c (log ++ d ∷ []) (reader rs) ≡ (is_durable c log (reader rs) && (not (meets d.writes rs) || is_durable c log d))
 durable-reader c log d rs = durable-before c 0 log d rs ∙ durable_at c log d rs (meets d.writes rs)
 
-nothing-wanted : (ws : List Carrier) → meets ws [] ≡ false
-nothing-wanted [] = refl
-nothing-wanted (w ∷ ws) = nothing-wanted ws
-
 wanted-nothing : (past : List Entry) → wanted past [] ≡ []
 wanted-nothing [] = refl
 wanted-nothing (x ∷ xs) =
     ap (λ (later : List Carrier). if meets x.writes later then later ++ x.reads else later) (wanted-nothing xs)
-    ∙ ap (λ (b : Bool). if b then [] ++ x.reads else []) (nothing-wanted x.writes)
+    ∙ ap (λ (b : Bool). if b then [] ++ x.reads else []) (meets-none x.writes)
 
 -- who reads nothing rests on nothing
 pub durable-nothing : (c n : ℕ) (past : List Entry) → is_durable_from c n past (reader []) ≡ true
 durable-nothing c n [] = refl
 durable-nothing c n (x ∷ xs) =
     ap (λ (later : List Carrier). (not (is_some x.change) || nat_lt n c || not (meets x.writes later)) && is_durable_from c (n + change_count x) xs (reader [])) (wanted-nothing xs)
-    ∙ ap (λ (b : Bool). (not (is_some x.change) || nat_lt n c || not b) && is_durable_from c (n + change_count x) xs (reader [])) (nothing-wanted x.writes)
+    ∙ ap (λ (b : Bool). (not (is_some x.change) || nat_lt n c || not b) && is_durable_from c (n + change_count x) xs (reader [])) (meets-none x.writes)
     ∙ ap (λ (b : Bool). b && is_durable_from c (n + change_count x) xs (reader [])) (or-true (not (is_some x.change) || nat_lt n c))
     ∙ durable-nothing c (n + change_count x) xs

@@ -1,21 +1,21 @@
 //! The visible events of a run, those that rest on committed changes alone, beside what the whole run shows and has committed.
-use crate::runs::{Run, Start};
+use crate::runs::TestRun;
 use crate::told::handed;
 use anyhow::{Error, bail};
 use files::FileList;
 use kernel::{ConeFault, Event};
 use kernel_model::TERMINALS;
+use scripts::Start;
 use std::alloc::Global;
 use std::rt::Files;
 
 /// A run after these events, and how many changes there were before each of them, and after the last.
 fn counted_run<R: Files + AllocGlobal>(
-    rt: &R,
-    start: &mut Start,
+    start: &mut Start<'_, R>,
     events: &[Event],
-) -> Result<(Run, Vec<u64>), Error> {
-    let mut run = start.boot(rt)?;
-    let mut counts = Vec::new(rt.alloc());
+) -> Result<(TestRun, Vec<u64>), Error> {
+    let mut run = TestRun::boot(start)?;
+    let mut counts = Vec::new(start.alloc());
     counts.push(run.changes())?;
     for event in events {
         run.apply(*event)?;
@@ -43,7 +43,7 @@ fn are_committed(counts: &[u64], numbers: &[u64], committed: u64) -> Result<bool
 }
 
 /// Whether an event is of a process, and rests on committed changes alone.
-fn is_visible(run: &Run, counts: &[u64], number: u64) -> Result<bool, Error> {
+fn is_visible(run: &TestRun, counts: &[u64], number: u64) -> Result<bool, Error> {
     match run.cone(number) {
         Ok(cone) => are_committed(counts, cone.as_slice(), run.committed()),
         Err(ConeFault::NoEvent) => Ok(false),
@@ -52,7 +52,7 @@ fn is_visible(run: &Run, counts: &[u64], number: u64) -> Result<bool, Error> {
 }
 
 /// The visible events of a run, in order.
-fn visible_events(alloc: Global, run: &Run, counts: &[u64]) -> Result<Vec<Event>, Error> {
+fn visible_events(alloc: Global, run: &TestRun, counts: &[u64]) -> Result<Vec<Event>, Error> {
     let mut visible = Vec::new(alloc);
     for (number, event) in (1u64..).zip(run.history()) {
         if is_visible(run, counts, number)? {
@@ -63,7 +63,7 @@ fn visible_events(alloc: Global, run: &Run, counts: &[u64]) -> Result<Vec<Event>
 }
 
 /// Checks that each terminal shows a beginning of what it shows in the run of the visible events.
-fn check_terminals(run: &Run, alone: &Run) -> Result<(), Error> {
+fn check_terminals(run: &TestRun, alone: &TestRun) -> Result<(), Error> {
     for terminal in 0..TERMINALS as u32 {
         if !alone.shown(terminal).starts_with(run.shown(terminal)) {
             bail!("terminal {terminal} shows what the visible events do not give");
@@ -73,7 +73,7 @@ fn check_terminals(run: &Run, alone: &Run) -> Result<(), Error> {
 }
 
 /// Checks that each process that is there in the run of the visible events is handed the same in both.
-fn check_processes(alloc: Global, run: &Run, alone: &Run) -> Result<(), Error> {
+fn check_processes(alloc: Global, run: &TestRun, alone: &TestRun) -> Result<(), Error> {
     for pid in 1..u32::MAX {
         if !alone.has_process(pid) {
             return Ok(());
@@ -98,7 +98,7 @@ fn are_same(one: &FileList, other: &FileList) -> bool {
 }
 
 /// Checks that the committed changes and files of a run are those of the run of its visible events. Both end.
-fn check_files(alloc: Global, run: Run, alone: Run) -> Result<(), Error> {
+fn check_files(alloc: Global, run: TestRun, alone: TestRun) -> Result<(), Error> {
     if run.committed() != alone.changes() {
         bail!("the visible events do not make the committed changes");
     }
@@ -114,15 +114,14 @@ fn check_files(alloc: Global, run: Run, alone: Run) -> Result<(), Error> {
 /// Checks a run after these events: its visible events by themselves, all their changes committed, have to give what is committed,
 /// shown and handed out.
 pub fn check_visible<R: Files + AllocGlobal>(
-    rt: &R,
-    start: &mut Start,
+    start: &mut Start<'_, R>,
     events: &[Event],
 ) -> Result<(), Error> {
-    let (run, counts) = counted_run(rt, start, events)?;
-    let visible = visible_events(rt.alloc(), &run, counts.as_slice())?;
-    let mut alone = start.after(rt, visible.as_slice())?;
+    let (run, counts) = counted_run(start, events)?;
+    let visible = visible_events(start.alloc(), &run, counts.as_slice())?;
+    let mut alone = TestRun::after(start, visible.as_slice())?;
     alone.drain()?;
     check_terminals(&run, &alone)?;
-    check_processes(rt.alloc(), &run, &alone)?;
-    check_files(rt.alloc(), run, alone)
+    check_processes(start.alloc(), &run, &alone)?;
+    check_files(start.alloc(), run, alone)
 }

@@ -1,49 +1,17 @@
 //! The run of a script, with a crash at each moment.
+ghost use Rattle.std.specs.Prelude.{◌≡◌, true, IfSome};
+ghost use Rattle.disk_model.specs.Storage.{is_quiet};
+
 use crate::crash::{FILLS, Fill, Moment};
 use crate::expectations::expectations_of;
-use crate::fault::ExploreFault;
 use crate::findings::Findings;
 use crate::outcome::outcome_of;
-use kernel::{Answer, Core, Event, Refused};
-use scripts::{Action, Script, Setup, Step};
-use std::alloc::{AllocError, Global};
+use faults::Fault;
+use kernel::{Answer, Core, Event, SimDisk};
+use scripts::{Script, Setup, Step, Visitor, play_all, process_of};
+use std::alloc::Global;
 use std::io::Write;
 use std::rt::Files;
-
-/// The most events of a run.
-const MOST_EVENTS: u64 = 1 << 40;
-
-/// Whether an event changes the disk or its writes in flight, if it is accepted.
-fn is_of_disk(event: Event) -> bool {
-    match event {
-        Event::Cut | Event::Complete { .. } | Event::Fail { .. } => true,
-        Event::Turn { .. } | Event::Enter { .. } => false,
-    }
-}
-
-/// Whether an event with this answer was accepted. Want of memory ends the run.
-fn is_accepted(answer: Result<Answer, Refused>) -> Result<bool, AllocError> {
-    match answer {
-        Ok(_) => Ok(true),
-        Err(Refused::OutOfMemory) => Err(AllocError),
-        Err(_) => Ok(false),
-    }
-}
-
-/// Whether a write of the run has failed.
-fn has_failed(history: &[Event]) -> bool {
-    history
-        .iter()
-        .any(|event| matches!(event, Event::Fail { .. }))
-}
-
-/// The next event of a drain.
-fn next_event(in_flight: Option<u32>) -> Event {
-    match in_flight {
-        Some(at) => Event::Complete { at },
-        None => Event::Cut,
-    }
-}
 
 fn moment_of(boot: u64, core: &Core) -> Moment {
     Moment {
@@ -54,158 +22,90 @@ fn moment_of(boot: u64, core: &Core) -> Moment {
     }
 }
 
-/// A script that is explored, in the run of one of its boots.
-struct Explorer<'a> {
-    setup: &'a mut Setup,
-    /// The number of the boot, from 1.
-    boot: u64,
-    findings: Findings<'a>,
+/// A script whose crashes are tried while it is played.
+#[derive(Drop)]
+struct Explorer<'r, 's, 'e, 'o, R, O> {
+    rt: &'r R,
+    setup: &'s mut Setup,
+    /// How many boots there were.
+    boots: u64,
+    findings: Findings<'e>,
+    out: &'o mut O,
 }
 
-impl Drop for Explorer<'_> {
-    fn drop(self) {
-        let Explorer {
-            setup: _,
-            boot: _,
-            findings: _findings,
-        } = self;
+impl<'r, 's, 'e, 'o, R: Files + AllocGlobal, O: Write> Explorer<'r, 's, 'e, 'o, R, O> {
+    /// Before the first boot.
+    fn new(
+        rt: &'r R,
+        setup: &'s mut Setup,
+        expected: Option<Vec<&'e str>>,
+        out: &'o mut O,
+    ) -> Explorer<'r, 's, 'e, 'o, R, O> {
+        Explorer {
+            rt,
+            setup,
+            boots: 0,
+            findings: Findings::new(rt.alloc(), expected),
+            out,
+        }
     }
-}
 
-impl Explorer<'_> {
+    /// Boots on a disk of zeros, does the steps, and prints how many crashes and outcomes there were.
+    fn run(mut self, steps: &[Step]) -> Result<(), Fault> {
+        let core = self.boot(None)?;
+        play_all(&mut self, core, steps)?;
+        let Explorer { findings, out, .. } = self;
+        Ok(findings.print_sums(out)?)
+    }
+
     /// Finds what a crash with this fill leaves. The core goes on as if there were none.
-    fn crash<R: Files + AllocGlobal, O: Write>(
-        &mut self,
-        rt: &R,
-        core: &Core,
-        moment: Moment,
-        fill: Fill,
-        out: &mut O,
-    ) -> Result<(), ExploreFault> {
+    fn try_crash(&mut self, core: &Core, moment: Moment, fill: Fill) -> Result<(), Fault> {
         let left = core.after_crash(fill.bytes())?;
-        let next = self.setup.boot(rt, Some(left))?;
-        let outcome = outcome_of(rt.alloc(), next.boot_files())?;
+        let next = self.setup.boot(self.rt, Some(left))?;
+        let alloc = self.rt.alloc();
+        let outcome = outcome_of(alloc, next.boot_files())?;
         self.findings
-            .add(rt.alloc(), moment, fill, outcome.as_str(), out)
+            .add(alloc, moment, fill, outcome.as_str(), self.out)
     }
 
     /// Finds what a crash now leaves, with each fill.
-    fn crash_now<R: Files + AllocGlobal, O: Write>(
-        &mut self,
-        rt: &R,
-        core: &Core,
-        out: &mut O,
-    ) -> Result<(), ExploreFault> {
-        let moment = moment_of(self.boot, core);
+    fn try_crashes(&mut self, core: &Core) -> Result<(), Fault> {
+        let moment = moment_of(self.boots, core);
         for fill in FILLS {
-            self.crash(rt, core, moment, fill, out)?;
+            self.try_crash(core, moment, fill)?;
         }
         Ok(())
     }
 
-    /// Applies an event, and tries crashes after it where the disk sees it. Whether it was accepted.
-    fn apply<R: Files + AllocGlobal, O: Write>(
-        &mut self,
-        rt: &R,
-        core: &mut Core,
-        event: Event,
-        out: &mut O,
-    ) -> Result<bool, ExploreFault> {
-        let accepted = is_accepted(core.apply(event))?;
-        if accepted && is_of_disk(event) {
-            self.crash_now(rt, core, out)?;
-        }
-        Ok(accepted)
+    /// Boots on the disk that a crash of the script left, or on one of zeros, and tries crashes at once.
+    fn boot(&mut self, left: Option<SimDisk>) -> Result<Core, Fault>
+        requires { IfSome left (λ device. is_quiet device ≡ true) }
+    {
+        let core = self.setup.boot(self.rt, left)?;
+        self.boots = self.boots.saturating_add(1);
+        self.try_crashes(&core)?;
+        Ok(core)
     }
+}
 
-    /// Applies the events of a drain one by one, as `Core::drain` does, up to one that is refused.
-    fn drain<R: Files + AllocGlobal, O: Write>(
-        &mut self,
-        rt: &R,
-        core: &mut Core,
-        out: &mut O,
-    ) -> Result<(), ExploreFault> {
-        if has_failed(core.history()) {
-            return Ok(());
-        }
-        for _ in 0..MOST_EVENTS {
-            if core.committed() == core.changes() {
-                return Ok(());
-            }
-            let event = next_event(core.in_flight());
-            if !self.apply(rt, core, event, out)? {
-                return Ok(());
-            }
-        }
-        Ok(())
-    }
+impl<R: Files + AllocGlobal, O: Write> Visitor for Explorer<'_, '_, '_, '_, R, O> {
+    type Fault = Fault;
 
-    fn act<R: Files + AllocGlobal, O: Write>(
-        &mut self,
-        rt: &R,
-        core: &mut Core,
-        action: Action,
-        out: &mut O,
-    ) -> Result<(), ExploreFault> {
-        match action {
-            Action::Apply(event) => {
-                self.apply(rt, core, event, out)?;
-                Ok(())
-            }
-            Action::Drain => self.drain(rt, core, out),
-            Action::Shown(_) | Action::Trace(_) | Action::Files => Ok(()),
+    /// Tries crashes where the event may have changed the disk or its writes in flight.
+    fn after(&mut self, core: &Core, event: Event, _answer: Answer) -> Result<(), Fault> {
+        match process_of(event) {
+            Some(_) => Ok(()),
+            None => self.try_crashes(core),
         }
     }
 
-    /// Boots on the disk that a crash of the script leaves, and tries crashes at once.
-    fn boot_again<R: Files + AllocGlobal, O: Write>(
-        &mut self,
-        rt: &R,
-        core: Core,
-        fill: &[u8],
-        out: &mut O,
-    ) -> Result<Core, ExploreFault> {
-        let next = self.setup.boot(rt, Some(core.halt(fill)))?;
-        self.boot = self.boot.saturating_add(1);
-        self.crash_now(rt, &next, out)?;
-        Ok(next)
-    }
-
-    /// Does a step. After a crash of the script the core that comes back is another one.
-    fn step<R: Files + AllocGlobal, O: Write>(
-        &mut self,
-        rt: &R,
-        mut core: Core,
-        step: &Step,
-        out: &mut O,
-    ) -> Result<Core, ExploreFault> {
-        match step {
-            Step::Act(action) => {
-                self.act(rt, &mut core, *action, out)?;
-                Ok(core)
-            }
-            Step::Crash(fill) => self.boot_again(rt, core, fill.as_slice(), out),
-        }
-    }
-
-    /// Boots on a disk of zeros, and does the steps.
-    fn run<R: Files + AllocGlobal, O: Write>(
-        &mut self,
-        rt: &R,
-        steps: &[Step],
-        out: &mut O,
-    ) -> Result<(), ExploreFault> {
-        let mut core = self.setup.boot(rt, None)?;
-        self.crash_now(rt, &core, out)?;
-        for step in steps {
-            core = self.step(rt, core, step, out)?;
-        }
-        Ok(())
+    fn crash(&mut self, core: Core, fill: &[u8]) -> Result<Core, Fault> {
+        self.boot(Some(core.halt(fill)))
     }
 }
 
 /// The lines of the outcomes that are expected, if any are given.
-fn expected_of(alloc: Global, expected: Option<&str>) -> Result<Option<Vec<&str>>, ExploreFault> {
+fn expected_of(alloc: Global, expected: Option<&str>) -> Result<Option<Vec<&str>>, Fault> {
     match expected {
         Some(text) => Ok(Some(expectations_of(alloc, text)?)),
         None => Ok(None),
@@ -224,13 +124,8 @@ pub fn explore<R: Files + AllocGlobal, O: Write>(
     mut script: Script,
     expected: Option<&str>,
     out: &mut O,
-) -> Result<(), ExploreFault> {
+) -> Result<(), Fault> {
     let expected = expected_of(rt.alloc(), expected)?;
-    let mut explorer = Explorer {
-        setup: &mut script.setup,
-        boot: 1,
-        findings: Findings::new(rt.alloc(), expected),
-    };
-    explorer.run(rt, script.steps.as_slice(), out)?;
-    Ok(explorer.findings.print_sums(out)?)
+    let explorer = Explorer::new(rt, &mut script.setup, expected, out);
+    explorer.run(script.steps.as_slice())
 }

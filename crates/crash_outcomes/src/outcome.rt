@@ -3,7 +3,7 @@ ghost use Rattle.std.specs.Prelude.{◌<◌, length};
 
 use disk_model::{LONGEST_FILE, LONGEST_NAME, MOST_FILES};
 use files::FileList;
-use line_words::decimal;
+use input_reading::decimal;
 use sha2::{Digest, Sha256};
 use std::alloc::{AllocError, Global};
 

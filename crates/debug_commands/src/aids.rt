@@ -1,36 +1,19 @@
-//! What a session may have beside the program and its trace.
-use crate::live::Live;
-use source_lines::SourceLines;
+//! What a session may have beside a program and its trace.
+use debug_info::SourceLines;
 
-/// What a session has beside the program and its trace. With either of these it has more commands, and says more of a trap.
+/// What a session has beside a program and its trace. With either of these it has more commands, and says more of a trap.
+#[derive(Drop)]
 pub struct Aids {
-    /// The kernel that answers the program's calls where the trace ends.
-    pub live: Option<Live>,
+    /// Whether a kernel answers the program's calls.
+    pub is_live: bool,
     /// The source of the program's image.
     pub source: Option<SourceLines>,
 }
 
-impl Drop for Aids {
-    fn drop(self) {
-        let Aids {
-            live: _live,
-            source: _source,
-        } = self;
-    }
-}
-
 impl Aids {
-    /// Neither.
-    pub fn none() -> Aids {
-        Aids {
-            live: None,
-            source: None,
-        }
-    }
-
     /// Whether there is any.
     pub fn some(&self) -> bool {
-        self.live.is_some() || self.source.is_some()
+        self.is_live || self.source.is_some()
     }
 
     /// The address at a label of the source.

@@ -1,7 +1,7 @@
 //! The commands of a session.
 use crate::aids::Aids;
 use crate::showing::MOST_SHOWN;
-use line_words::{decimal, hexadecimal};
+use input_reading::{decimal, hexadecimal};
 
 /// What moves the machine.
 #[derive(Clone, Copy)]

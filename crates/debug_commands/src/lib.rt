@@ -4,8 +4,6 @@
 mod aids;
 mod changes;
 mod command;
-mod fault;
-mod live;
 mod moving;
 mod quoted;
 mod refusal;
@@ -17,7 +15,4 @@ mod standing;
 mod traps;
 mod writable;
 
-pub use aids::Aids;
-pub use fault::SessionFault;
-pub use live::Live;
 pub use session::debug;

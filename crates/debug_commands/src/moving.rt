@@ -1,125 +1,123 @@
 //! Motions of the machine: why it stops, where it stands then, and what changed.
-use crate::aids::Aids;
+ghost use Rattle.std.specs.Prelude.{◌<◌};
+ghost use Rattle.kernel_model.specs.World.{terminal_count};
+
 use crate::changes::print_changed_memory;
 use crate::command::Motion;
-use crate::fault::SessionFault;
+use crate::quoted::print_quoted;
 use crate::refusal::{print_refusal, print_refused};
 use crate::registers::print_changed_registers;
+use crate::session::Session;
 use crate::standing::print_place_in;
 use crate::traps::print_address;
-use crate::writable::Writable;
-use debugger::{Cause, DebugFault, Debugger, MOST_INSTRUCTIONS, Machine, Stepped, Stopped};
-use std::alloc::Global;
+use debugger::{Cause, DebugFault, Machine};
+use kernel_model::TERMINALS;
 use std::io;
 use std::io::Write;
+use timeline::{After, End, SessionFault, Stop, Way};
 
-/// A debugger, and what a session keeps beside it.
-pub struct Moved {
-    pub debugger: Debugger,
-    pub writable: Writable,
-    pub aids: Aids,
-}
+/// How many loans of the kernel are done before a command gives up for the time being.
+const LOANS: u32 = 4096;
 
-impl Drop for Moved {
-    fn drop(self) {
-        let Moved {
-            debugger: _debugger,
-            writable: _writable,
-            aids: _aids,
-        } = self;
-    }
-}
-
-impl Moved {
+impl Session {
     /// Prints the trap at which the machine stands; with aids also its address.
     fn print_trap<O: Write>(&self, cause: Cause, out: &mut O) -> io::Result<()> {
         let number = cause.number();
         writeln!(out, "trap {number} {cause:?}")?;
         if self.aids.some() {
-            print_address(self.debugger.state(), out)?;
+            print_address(self.timeline.machine(), out)?;
         }
         Ok(())
     }
 
-    /// What stands at the end of the trace is answered by the kernel. Says whether the trace is longer now; None where no kernel
-    /// answers.
-    fn answer<O: Write>(&mut self, out: &mut O) -> Result<Option<bool>, SessionFault> {
-        match &mut self.aids.live {
-            Some(live) => {
-                let longer = live.answer(&mut self.debugger, &mut self.writable, out)?;
-                Ok(Some(longer))
+    /// Prints what terminals show and is not printed yet.
+    pub fn print_shown<O: Write>(&mut self, out: &mut O) -> io::Result<()> {
+        let Some(live) = &mut self.timeline.live else {
+            return Ok(());
+        };
+        for terminal in 0..TERMINALS as u32 {
+            let more = live.tell(terminal);
+            if !more.is_empty() {
+                write!(out, "terminal {terminal}: ")?;
+                print_quoted(more, out)?;
+                out.write_all(b"\n")?;
             }
-            None => Ok(None),
         }
+        Ok(())
     }
 
-    /// Prints what kept a step from being done, if anything did. Says whether the steps go on.
-    fn print_step<O: Write>(
-        &self,
-        stepped: Result<Stepped, DebugFault>,
+    /// Goes on up to a count, by a part. Prints what terminals show then. Gives how it stops, if it does.
+    fn go_part<O: Write>(
+        &mut self,
+        limit: u64,
+        stops: bool,
         out: &mut O,
-    ) -> Result<bool, SessionFault> {
-        match stepped {
-            Ok(Stepped::Went) => return Ok(true),
-            Ok(Stepped::Trap(cause)) => self.print_trap(cause, out)?,
-            Err(why) => print_refusal(why, out)?,
+    ) -> Result<Option<Stop>, SessionFault> {
+        let most = limit.saturating_sub(self.timeline.count());
+        if most == 0 {
+            return Ok(Some(Stop::Done));
         }
-        Ok(false)
+        let way = Way {
+            most,
+            stops,
+            loans: LOANS,
+        };
+        let after = self.timeline.ahead(way);
+        self.print_shown(out)?;
+        match after? {
+            After::Stop(stop) => Ok(Some(stop)),
+            After::NoReply { process } => {
+                writeln!(
+                    out,
+                    "process {process} has no reply yet: others go on, and so does the next step or run"
+                )?;
+                Ok(Some(Stop::Done))
+            }
+            After::Part | After::Asked | After::Replied => Ok(None),
+        }
     }
 
-    /// Does an instruction, if it can be done, where at the end of the trace the kernel is asked. Says whether the steps go on.
-    fn step_once<O: Write>(&mut self, out: &mut O) -> Result<bool, SessionFault> {
-        let mut stepped = self.debugger.step();
-        if matches!(&stepped, Err(DebugFault::PastTrace)) {
-            match self.answer(out)? {
-                Some(true) => stepped = self.debugger.step(),
-                Some(false) => return Ok(false),
-                None => {}
+    /// Goes on up to a count, or to where it stops before that.
+    fn go_on<O: Write>(
+        &mut self,
+        limit: u64,
+        stops: bool,
+        out: &mut O,
+    ) -> Result<Stop, SessionFault> {
+        for _ in 0..u64::MAX {
+            if let Some(stop) = self.go_part(limit, stops, out)? {
+                return Ok(stop);
             }
         }
-        self.print_step(stepped, out)
+        Ok(Stop::Done)
     }
 
-    /// Does so many instructions, or fewer where the machine can go no further.
+    /// Does so many instructions, or fewer where the machine can go no further. Prints why it cannot.
     fn step<O: Write>(&mut self, n: u64, out: &mut O) -> Result<(), SessionFault> {
-        for _ in 0..n {
-            if !self.step_once(out)? {
-                return Ok(());
-            }
+        let limit = self.timeline.count().saturating_add(n);
+        match self.go_on(limit, false, out)? {
+            Stop::End(End::Budget) => print_refusal(DebugFault::Budget, out),
+            Stop::End(End::Trace | End::FaultyReply) => print_refusal(DebugFault::PastTrace, out),
+            stop => Ok(self.print_stop(stop, out)?),
         }
-        Ok(())
-    }
-
-    /// Prints why a run stopped.
-    fn print_stopped<O: Write>(&self, stopped: Stopped, out: &mut O) -> io::Result<()> {
-        match stopped {
-            Stopped::Break(number) => writeln!(out, "break {number}"),
-            Stopped::Trap(cause) => self.print_trap(cause, out),
-            Stopped::EndOfTrace => out.write_all(b"end of trace\n"),
-            Stopped::Limit => out.write_all(b"limit\n"),
-        }
-    }
-
-    /// Runs to a stop. Says whether it has to go on, which it has at the end of a trace that the kernel made longer.
-    fn run_once<O: Write>(&mut self, out: &mut O) -> Result<bool, SessionFault> {
-        let stopped = self.debugger.run_to_break(MOST_INSTRUCTIONS)?;
-        if stopped == Stopped::EndOfTrace {
-            if let Some(longer) = self.answer(out)? {
-                return Ok(longer);
-            }
-        }
-        self.print_stopped(stopped, out)?;
-        Ok(false)
     }
 
     /// Runs on, and prints why the run stopped.
     fn run<O: Write>(&mut self, out: &mut O) -> Result<(), SessionFault> {
-        for _ in 0..MOST_INSTRUCTIONS {
-            if !self.run_once(out)? {
-                return Ok(());
-            }
+        let stop = self.go_on(u64::MAX, true, out)?;
+        Ok(self.print_stop(stop, out)?)
+    }
+
+    /// Prints why the machine stopped, where that is to be said.
+    fn print_stop<O: Write>(&self, stop: Stop, out: &mut O) -> io::Result<()> {
+        match stop {
+            Stop::Break(number) => writeln!(out, "break {number}"),
+            Stop::Trap(cause) => self.print_trap(cause, out),
+            Stop::End(End::Budget) => out.write_all(b"limit\n"),
+            Stop::End(End::Trace | End::FaultyReply) => out.write_all(b"end of trace\n"),
+            Stop::End(end) => writeln!(out, "{end}"),
+            Stop::Done | Stop::Watch(_) | Stop::Begin => Ok(()),
         }
-        Ok(())
     }
 
     /// Moves the machine, and prints why it stopped, where the command does not say it.
@@ -127,18 +125,18 @@ impl Moved {
         match motion {
             Motion::Step(n) => self.step(n, out),
             Motion::Run => self.run(out),
-            Motion::Rewind(n) => print_refused(self.debugger.rewind(n), out),
+            Motion::Rewind(n) => print_refused(self.timeline.debugger.rewind(n), out),
         }
     }
 
     /// Prints where the machine stands.
     pub fn print_place<O: Write>(&self, out: &mut O) -> io::Result<()> {
-        print_place_in(self.debugger.state(), self.aids.source.as_ref(), out)
+        print_place_in(self.timeline.machine(), self.aids.source.as_ref(), out)
     }
 
     /// Prints where the machine stands, and the registers and the memory that differ from before.
-    fn print_stop<O: Write>(&self, before: &Machine, out: &mut O) -> io::Result<()> {
-        let after = self.debugger.state();
+    fn print_changes<O: Write>(&self, before: &Machine, out: &mut O) -> io::Result<()> {
+        let after = self.timeline.machine();
         self.print_place(out)?;
         print_changed_registers(before, after, out)?;
         print_changed_memory(before.space(), after.space(), &self.writable, out)
@@ -147,12 +145,12 @@ impl Moved {
     /// Moves the machine, and prints what that comes to.
     pub fn show_motion<O: Write>(
         &mut self,
-        alloc: Global,
         motion: Motion,
         out: &mut O,
     ) -> Result<(), SessionFault> {
-        let before = self.debugger.state().try_clone(alloc)?;
+        let before = self.timeline.machine().try_clone(self.alloc)?;
         self.go(motion, out)?;
-        Ok(self.print_stop(&before, out)?)
+        self.writable.add_replies(self.timeline.debugger.replies())?;
+        Ok(self.print_changes(&before, out)?)
     }
 }

@@ -1,8 +1,8 @@
 //! What the debugger refuses.
-use crate::fault::SessionFault;
 use debugger::DebugFault;
 use std::io;
 use std::io::Write;
+use timeline::SessionFault;
 
 /// Prints the number and the name of a refusal.
 fn print_numbered<O: Write>(why: DebugFault, out: &mut O) -> io::Result<()> {

@@ -1,10 +1,10 @@
 //! Registers by their names.
-use crate::fault::SessionFault;
 use debugger::Machine;
 use formats::Reg;
 use std::alloc::Global;
 use std::io;
 use std::io::Write;
+use timeline::SessionFault;
 
 const REGISTERS: u8 = 32;
 

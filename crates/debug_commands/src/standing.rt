@@ -1,7 +1,7 @@
 //! Where a machine stands.
+use debug_info::SourceLines;
 use debugger::Machine;
 use formats::decode;
-use source_lines::SourceLines;
 use std::io;
 use std::io::Write;
 

@@ -48,29 +48,23 @@ fn put_writable_pages(pages: &mut Vec<u32>, image: &Image) -> Result<(), AllocEr
 
 /// The memory that the programs of a trace may write: their segments' pages with that right, and the stack. The programs are the
 /// first one and those that a reply brings.
+#[derive(Drop)]
 pub struct Writable {
     /// The numbers of the pages, in order and each once.
     pages: Vec<u32>,
-}
-
-impl Drop for Writable {
-    fn drop(self) {
-        let Writable { pages: _pages } = self;
-    }
+    /// How many replies were looked at.
+    replies: usize,
 }
 
 impl Writable {
-    /// That of a program and of those that these replies bring.
-    pub fn new(alloc: Global, image: &Image, replies: &[Reply]) -> Result<Writable, AllocError> {
+    /// That of a program alone.
+    pub fn new(alloc: Global, image: &Image) -> Result<Writable, AllocError> {
         let mut pages = Vec::new(alloc);
         for page in STACK.0..STACK.1 {
             pages.push(page)?;
         }
-        let mut writable = Writable { pages };
+        let mut writable = Writable { pages, replies: 0 };
         writable.add(image)?;
-        for reply in replies {
-            writable.add_reply(reply)?;
-        }
         Ok(writable)
     }
 
@@ -81,12 +75,15 @@ impl Writable {
         Ok(())
     }
 
-    /// Adds that of the program that a reply brings, if it brings one.
-    pub fn add_reply(&mut self, reply: &Reply) -> Result<(), AllocError> {
-        match &reply.image {
-            Some(image) => self.add(image),
-            None => Ok(()),
+    /// Adds that of the programs that the replies of a trace bring, which has grown since it was looked at.
+    pub fn add_replies(&mut self, trace: &[Reply]) -> Result<(), AllocError> {
+        for reply in trace.get(self.replies..).unwrap_or_default() {
+            if let Some(image) = &reply.image {
+                self.add(image)?;
+            }
         }
+        self.replies = trace.len();
+        Ok(())
     }
 
     /// The numbers of its pages, in order.

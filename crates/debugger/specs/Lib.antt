@@ -10,4 +10,5 @@ pub mod Keeping
 pub mod Backward
 pub mod Hits
 pub mod Accesses
+pub mod Watches
 pub mod Coasts

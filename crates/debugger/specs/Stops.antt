@@ -56,19 +56,19 @@ stop_after s n = if nat_lt s.count n then option_map (λ number. stopped.Break n
 abbrev pub stop_at : Session → ℕ → ℕ → Option Stopped
 stop_at s max n = option_or (stop_after s n) (stop_before s max n)
 
--- a run went on at each count from its first up to another, where it stands; all else is as it was
-pub record Passes (old : Session) (max : ℕ) (new : Session) : Type 0 where
+-- a run went on from a count up to another, where it stands, past what stops it at some counts; all else is as it was
+pub record Passes (stop : ℕ → Option Stopped) (old new : Session) : Type 0 where
   pub on : old.count ≤ new.count
-  pub past : (n : ℕ) → old.count ≤ n → n < new.count → stop_at old max n ≡ None
+  pub past : (n : ℕ) → old.count ≤ n → n < new.count → stop n ≡ None
   pub rest : new ≡ record old { count = new.count }
 
 -- a run went on up to its first stop
-pub record Stops (old : Session) (max : ℕ) (why : Stopped) (new : Session) : Type 0 where
-  pub passes : Passes old max new
-  pub here : stop_at old max new.count ≡ Some why
+pub record Stops (stop : ℕ → Option Stopped) (old : Session) (why : Stopped) (new : Session) : Type 0 where
+  pub passes : Passes stop old new
+  pub here : stop new.count ≡ Some why
 
 -- a run went on up to where the next step takes memory, and found none
-pub record StopsShort (old : Session) (max : ℕ) (new : Session) : Type 0 where
-  pub passes : Passes old max new
-  pub onward : stop_at old max new.count ≡ None
+pub record StopsShort (stop : ℕ → Option Stopped) (old new : Session) : Type 0 where
+  pub passes : Passes stop old new
+  pub onward : stop new.count ≡ None
   pub takes : TakesMemory new

@@ -1,5 +1,5 @@
 //! The debugger.
-ghost use Rattle.std.specs.Prelude.{◌≡◌, ◌≢◌, ℕ, [], ◌∷◌, ◌++◌, ◌+◌, ◌-◌, ◌*◌, ◌/◌, ◌%◌, ◌^◌, ◌<◌, ◌≤◌, Ok, None, Some, IfSome, IfOk, IfErr, OnOk, OnErr, IsTrue, ◌↔◌};
+ghost use Rattle.std.specs.Prelude.{◌≡◌, ◌≢◌, ℕ, [], ◌∷◌, ◌++◌, ◌+◌, ◌-◌, ◌*◌, ◌/◌, ◌%◌, ◌^◌, ◌<◌, ◌≤◌, ◌==◌, Ok, None, Some, IfSome, IfOk, IfErr, OnOk, OnErr, IsTrue, ◌↔◌};
 ghost use Rattle.std.specs.Option.{option_or};
 ghost use Rattle.debugger.specs.Accesses.{LeavesOutside, next_access_of};
 ghost use Rattle.debugger.specs.Coasts.{Coasts, HasAll};
@@ -120,6 +120,13 @@ impl Debugger {
         Ok(())
     }
 
+    /// The trace.
+    pub fn replies(&self) -> &[Reply]
+        ensures { result.now ≡ self.now.replies }
+    {
+        self.replies.as_slice()
+    }
+
     /// The machine as it stands.
     pub fn state(&self) -> &Machine
         ensures state { result.now ≡ (place_at self.now self.now.count).state }
@@ -169,6 +176,21 @@ impl Debugger {
             Some(_) => Ok(()),
             None => Err(DebugFault::NoSuchBreak),
         }
+    }
+
+    /// The least number of a breakpoint at an address.
+    pub fn number_at(&self, address: u32) -> Option<usize>
+        ensures { result ≡ least_from 0 self.now.breaks address }
+    {
+        least_at(&self.breaks, address)
+    }
+
+    /// Whether no breakpoint is set.
+    pub fn has_no_break(&self) -> bool
+        ensures count { result ≡ (break_count self.now == 0) }
+        ensures none { IsTrue result → (address : ℕ) → least_from 0 self.now.breaks address ≡ None }
+    {
+        self.breaks.is_empty()
     }
 
     /// Takes the machine back to its state after n instructions. It runs again from the greatest kept count not above n. Refused,
@@ -233,7 +255,7 @@ impl Debugger {
     pub(crate) fn break_here(&self) -> Option<usize>
         ensures { result ≡ least_from 0 self.now.breaks (place_at self.now self.now.count).state.hart.pc }
     {
-        least_at(&self.breaks, self.place.machine.pc())
+        self.number_at(self.place.machine.pc())
     }
 
     /// The last hit below a count, if it stands where the part of 1,024 instructions begins in which that count ends, or later.
@@ -247,13 +269,6 @@ impl Debugger {
         let mut start = kept.place(self.alloc)?;
         let hit = start.last_hit(self.alloc, self.replies.as_slice(), &self.breaks, end)?;
         Ok(hit)
-    }
-
-    /// Whether no breakpoint is set.
-    pub(crate) fn has_no_break(&self) -> bool
-        ensures { IsTrue result → (address : ℕ) → least_from 0 self.now.breaks address ≡ None }
-    {
-        self.breaks.is_empty()
     }
 
     /// The addresses of the breakpoints. None where memory is short.

@@ -15,9 +15,11 @@ mod next_access;
 mod place;
 mod running;
 mod stops;
+mod watching;
 
 pub use access::{Access, AccessKind};
 pub use debugger::{Debugger, MOST_INSTRUCTIONS};
 pub use fault::DebugFault;
 pub use machine::{Cause, Image, Machine, Reply};
 pub use stops::{Stepped, Stopped};
+pub use watching::{Watch, WatchKind};

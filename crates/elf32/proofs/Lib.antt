@@ -5,6 +5,8 @@ pub mod Headers
 pub mod Passing
 pub mod Profile
 pub mod FirstFaults
+pub mod LinkProfile
+pub mod LinkFaults
 pub mod Written
 pub mod FieldsBack
 pub mod SegmentsBack

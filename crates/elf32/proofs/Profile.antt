@@ -26,14 +26,16 @@ some_right (suc (suc (suc (suc (suc (suc zero)))))) e small = refl
 some_right (suc (suc (suc (suc (suc (suc (suc zero))))))) e small = refl
 some_right (suc (suc (suc (suc (suc (suc (suc (suc n)))))))) e small = absurd (omega (arith, ltb-false _ _ small))
 
-loadable : (file : List ℕ) (h : ProgramHeader) → is_bad_segment h ≡ false → has_bad_size h ≡ false → is_out_of_range h ≡ false → IsLoadable (segment_in file h)
-unfolding may_read may_write may_execute has_bad_flags is_misplaced has_bad_size is_out_of_range segment_in
-loadable file h good sized ranged =
-    let parts = or_parts (is_not_loaded h || has_bad_flags h) (is_misplaced h) good in
-    let few = or_parts (h.p_flags == 0) (nat_lt 7 h.p_flags) (or_parts (is_not_loaded h) (has_bad_flags h) parts.0).1 in
-    let placed = or_parts (h.p_memsz == 0) (not (h.p_offset % 4096 == h.p_vaddr % 4096)) parts.1 in
+-- a segment gives some right and no unknown one, and takes memory
+abbrev pub Serves : ProgramHeader → Type 0
+Serves h = (has_bad_flags h ≡ false) × ((h.p_memsz == 0) ≡ false)
+
+loadable : (file : List ℕ) (h : ProgramHeader) → Serves h → has_bad_size h ≡ false → is_out_of_range h ≡ false → IsLoadable (segment_in file h)
+unfolding may_read may_write may_execute has_bad_flags has_bad_size is_out_of_range segment_in
+loadable file h serves sized ranged =
+    let few = or_parts (h.p_flags == 0) (nat_lt 7 h.p_flags) serves.0 in
     let range = or_parts (nat_lt h.p_vaddr 0x00010000) (nat_lt 0x7FFF0000 (h.p_vaddr + h.p_memsz)) ranged in
-    let some : h.p_memsz ≡ 0 → ⊥ = eqb-false h.p_memsz 0 placed.0 in
+    let some : h.p_memsz ≡ 0 → ⊥ = eqb-false h.p_memsz 0 serves.1 in
     record {
       present = omega (arith, some);
       within = omega (arith, ltb-false h.p_memsz h.p_filesz sized, length-take h.p_filesz (drop h.p_offset file));
@@ -42,10 +44,10 @@ loadable file h good sized ranged =
       below = ltb-false 0x7FFF0000 (h.p_vaddr + h.p_memsz) range.1;
     }
 
-all_loadable : (file : List ℕ) (hs : List ProgramHeader) → AllByRecursion (λ h. is_bad_segment h ≡ false) hs → AllByRecursion (λ h. has_bad_size h ≡ false) hs → AllByRecursion (λ h. is_out_of_range h ≡ false) hs
+all_loadable : (file : List ℕ) (hs : List ProgramHeader) → AllByRecursion Serves hs → AllByRecursion (λ h. has_bad_size h ≡ false) hs → AllByRecursion (λ h. is_out_of_range h ≡ false) hs
     → AllByRecursion IsLoadable (map (segment_in file) hs)
-all_loadable file [] good sized ranged = tt
-all_loadable file (h ∷ hs) good sized ranged = (loadable file h good.0 sized.0 ranged.0, all_loadable file hs good.1 sized.1 ranged.1)
+all_loadable file [] serve sized ranged = tt
+all_loadable file (h ∷ hs) serve sized ranged = (loadable file h serve.0 sized.0 ranged.0, all_loadable file hs serve.1 sized.1 ranged.1)
 
 -- the first of these segments begins on this page or above
 abbrev pub BeginsAbove : ℕ → List ProgramHeader → Type 0
@@ -93,20 +95,54 @@ in_code : (file : List ℕ) (entry : ℕ) (hs : List ProgramHeader) → list_any
 in_code file entry [] e = absurd cc
 in_code file entry (h ∷ hs) e = code_cons entry (segment_in file h) (map (segment_in file) hs) (is_code_at entry h) (list_any (is_code_at entry) hs) (code_at file entry h) (in_code file entry hs) e
 
+-- what is known of the segments of a file without a fault, with this entry
+pub record Pass (entry : ℕ) (hs : List ProgramHeader) : Type 0 where
+  pub some : 1 ≤ length hs
+  pub few : length hs ≤ 4
+  pub serve : AllByRecursion Serves hs
+  pub sized : list_any has_bad_size hs ≡ false
+  pub ranged : list_any is_out_of_range hs ≡ false
+  pub apart : has_overlap hs ≡ false
+  pub small : nat_lt 60 (sum_by page_count_of hs) ≡ false
+  pub aligned : not (entry % 4 == 0) ≡ false
+  pub code : not (list_any (is_code_at entry) hs) ≡ false
+
+-- their program keeps the profile
+pub profile_of : (file : List ℕ) (entry : ℕ) (hs : List ProgramHeader) → Pass entry hs → IsProfile (record { entry = entry; segments = map (segment_in file) hs })
+profile_of file entry hs pass =
+    let count : length (map (segment_in file) hs) ≡ length hs = length-map hs (segment_in file) in
+    record {
+      some = omega (arith, count, pass.some);
+      few = omega (arith, count, pass.few);
+      loadable = All-from_recursion IsLoadable (map (segment_in file) hs) (all_loadable file hs pass.serve (none_passes has_bad_size hs pass.sized) (none_passes is_out_of_range hs pass.ranged));
+      ascending = ascending file 0 hs (begins_somewhere hs) pass.apart;
+      small = omega (arith, page_sum file hs, ltb-false 60 (sum_by page_count_of hs) pass.small);
+      aligned = eqb-true (entry % 4) 0 (not-false (entry % 4 == 0) pass.aligned);
+      in_code = in_code file entry hs (not-false (list_any (is_code_at entry) hs) pass.code);
+    }
+
+all_serve : (hs : List ProgramHeader) → AllByRecursion (λ h. is_bad_segment h ≡ false) hs → AllByRecursion Serves hs
+unfolding is_misplaced
+all_serve [] good = tt
+all_serve (h ∷ hs) good =
+    let parts = or_parts (is_not_loaded h || has_bad_flags h) (is_misplaced h) good.0 in
+    (((or_parts (is_not_loaded h) (has_bad_flags h) parts.0).1, (or_parts (h.p_memsz == 0) (not (h.p_offset % 4096 == h.p_vaddr % 4096)) parts.1).0), all_serve hs good.1)
+
 -- the program of headers with no fault keeps the profile
 pub profile : (file : List ℕ) (end entry : ℕ) (hs : List ProgramHeader) → 1 ≤ length hs → length hs ≤ 4 → first_of (segment_checks end entry hs) ≡ None → IsProfile (record { entry = entry; segments = map (segment_in file) hs })
 unfolding has_bad_range is_bad_entry
 profile file end entry hs some few sound =
     let c = six_pass (list_any is_bad_segment hs) (list_any has_bad_size hs) (list_any (is_past_end end) hs) (has_bad_range hs) (has_overlap hs) (is_bad_entry entry hs) BadSegment BadSize PastEnd BadRange Overlap BadEntry sound in
-    let ranged = or_parts (list_any is_out_of_range hs) (nat_lt 60 (sum_by page_count_of hs)) c.3 in
+    let range = or_parts (list_any is_out_of_range hs) (nat_lt 60 (sum_by page_count_of hs)) c.3 in
     let begun = or_parts (not (entry % 4 == 0)) (not (list_any (is_code_at entry) hs)) c.5 in
-    let count : length (map (segment_in file) hs) ≡ length hs = length-map hs (segment_in file) in
-    record {
-      some = omega (arith, count);
-      few = omega (arith, count);
-      loadable = All-from_recursion IsLoadable (map (segment_in file) hs) (all_loadable file hs (none_passes is_bad_segment hs c.0) (none_passes has_bad_size hs c.1) (none_passes is_out_of_range hs ranged.0));
-      ascending = ascending file 0 hs (begins_somewhere hs) c.4;
-      small = omega (arith, page_sum file hs, ltb-false 60 (sum_by page_count_of hs) ranged.1);
-      aligned = eqb-true (entry % 4) 0 (not-false (entry % 4 == 0) begun.0);
-      in_code = in_code file entry hs (not-false (list_any (is_code_at entry) hs) begun.1);
-    }
+    profile_of file entry hs (record {
+      some = some;
+      few = few;
+      serve = all_serve hs (none_passes is_bad_segment hs c.0);
+      sized = c.1;
+      ranged = range.0;
+      apart = c.4;
+      small = range.1;
+      aligned = begun.0;
+      code = begun.1;
+    })

@@ -1,27 +1,22 @@
 //! The checks of a file's headers, in the order of `ElfFault`.
-ghost use Rattle.std.specs.Prelude.{◌≡◌, ◌+◌, ◌*◌, ◌^◌, ◌<◌, ◌≤◌, length, sum_by, IfNone};
+ghost use Rattle.std.specs.Prelude.{◌≡◌, ◌+◌, ◌*◌, ◌≤◌, length, IfNone};
 ghost use Rattle.std.specs.List.{list_any};
 ghost use Rattle.image_model.specs.Fields.{file_header};
-ghost use Rattle.image_model.specs.Checks.{lacks_magic, lacks_ident, has_bad_kind, has_bad_table, has_sections, has_bad_layout, is_not_loaded, has_bad_flags, is_misplaced, is_bad_segment, has_bad_size, is_past_end, first_page_of, last_page_of, page_count_of, is_out_of_range, has_bad_range, meets_next, has_overlap, is_code_at, is_bad_entry, first_of, header_checks, segment_checks};
+ghost use Rattle.image_model.specs.Checks.{lacks_magic, lacks_ident, has_bad_kind, has_bad_table, has_sections, has_bad_layout, is_not_loaded, is_misplaced, is_bad_segment, has_bad_range, is_bad_entry, first_of, header_checks, segment_checks};
 
 use crate::header::{
-    EM_RISCV, ET_EXEC, EV_CURRENT, FILE_HEADER, IDENT, MAGIC, MOST_HEADERS, PAGE, PF_R, PF_W, PF_X,
-    PROGRAM_HEADER, PT_LOAD, may_execute, read_file_header,
+    EM_RISCV, ET_EXEC, EV_CURRENT, FILE_HEADER, IDENT, MAGIC, MOST_SEGMENTS, PAGE, PROGRAM_HEADER,
+    PT_LOAD, read_file_header,
+};
+use crate::segments::{
+    MOST_PAGES, any_bad_size, any_out_of_range, any_past_end, has_bad_flags, has_overlap,
+    is_in_code, page_total,
 };
 use image_model::{ElfFault, FileHeader, ProgramHeader};
 
-/// The lowest address of a segment.
-const LOWEST: u32 = 0x0001_0000;
-
-/// Where the addresses of segments end.
-const HIGHEST: u64 = 0x7fff_0000;
-
-/// How many pages all segments may have.
-const MOST_PAGES: u64 = 60;
-
 /// Whether a file does not begin with 7F and the letters ELF.
 #[tactic(auto, unfolding(image_model::specs::Checks::lacks_magic))]
-fn lacks_magic(file: &[u8]) -> bool
+pub fn lacks_magic(file: &[u8]) -> bool
     ensures { result ≡ lacks_magic file.now }
 {
     !file.starts_with(&MAGIC)
@@ -52,7 +47,7 @@ fn has_bad_table(h: &FileHeader) -> bool
         && h.e_ehsize == FILE_HEADER as u16
         && h.e_phentsize == PROGRAM_HEADER as u16
         && 1 <= h.e_phnum
-        && h.e_phnum <= MOST_HEADERS as u16)
+        && h.e_phnum <= MOST_SEGMENTS as u16)
 }
 
 /// Whether there are flags or sections.
@@ -77,13 +72,6 @@ fn is_not_loaded(h: &ProgramHeader) -> bool
     !(h.p_type == PT_LOAD && h.p_align == PAGE)
 }
 
-#[tactic(auto, unfolding(image_model::specs::Checks::has_bad_flags))]
-fn has_bad_flags(h: &ProgramHeader) -> bool
-    ensures { result ≡ has_bad_flags h.now }
-{
-    h.p_flags == 0 || h.p_flags > (PF_R | PF_W | PF_X)
-}
-
 /// Whether it takes no memory, or its offset and its address lie at different places of their pages.
 #[tactic(auto, unfolding(image_model::specs::Checks::is_misplaced))]
 fn is_misplaced(h: &ProgramHeader) -> bool
@@ -105,91 +93,6 @@ fn any_bad_segment(headers: &[ProgramHeader]) -> bool
     headers.iter().any(|h| is_bad_segment(h))
 }
 
-#[tactic(auto, unfolding(image_model::specs::Checks::has_bad_size))]
-fn has_bad_size(h: &ProgramHeader) -> bool
-    ensures { result ≡ has_bad_size h.now }
-{
-    h.p_memsz < h.p_filesz
-}
-
-fn any_bad_size(headers: &[ProgramHeader]) -> bool
-    ensures { result ≡ list_any has_bad_size headers.now }
-{
-    headers.iter().any(|h| has_bad_size(h))
-}
-
-/// Whether its bytes pass the end of a file of this length.
-#[tactic(auto, unfolding(image_model::specs::Checks::is_past_end))]
-fn is_past_end(end: usize, h: &ProgramHeader) -> bool
-    ensures { result ≡ is_past_end end h.now }
-{
-    (end as u64) < u64::from(h.p_offset) + u64::from(h.p_filesz)
-}
-
-fn any_past_end(end: usize, headers: &[ProgramHeader]) -> bool
-    ensures { result ≡ list_any (is_past_end end) headers.now }
-{
-    headers.iter().any(|h| is_past_end(end, h))
-}
-
-/// The address after its last byte.
-fn end_of(h: &ProgramHeader) -> u64
-    ensures value { result ≡ h.now.p_vaddr + h.now.p_memsz }
-    ensures fits { result < 2 ^ 33 }
-{
-    u64::from(h.p_vaddr) + u64::from(h.p_memsz)
-}
-
-/// The number of its first page.
-fn first_page_of(h: &ProgramHeader) -> u64
-    ensures { result ≡ first_page_of h.now }
-{
-    u64::from(h.p_vaddr / PAGE)
-}
-
-/// The number of its last page.
-fn last_page_of(h: &ProgramHeader) -> u64
-    ensures value { result ≡ last_page_of h.now }
-    ensures fits { result < 2 ^ 21 }
-{
-    end_of(h).saturating_sub(1) / u64::from(PAGE)
-}
-
-/// How many pages it has.
-#[tactic(auto, unfolding(image_model::specs::Checks::page_count_of))]
-fn page_count_of(h: &ProgramHeader) -> u64
-    ensures value { result ≡ page_count_of h.now }
-    ensures fits { result ≤ 2 ^ 21 }
-{
-    last_page_of(h) + 1 - first_page_of(h)
-}
-
-/// How many pages all of them have; a page counts once for each segment.
-fn page_total(headers: &[ProgramHeader]) -> u64
-    requires { length headers.now ≤ 4 }
-    ensures value { result ≡ sum_by page_count_of headers.now }
-    ensures fits { result ≤ 2 ^ 21 * length headers.now }
-{
-    match headers {
-        [] => 0,
-        [h, rest @ ..] => page_count_of(h) + page_total(rest),
-    }
-}
-
-/// Whether it begins below the lowest address or ends past the highest.
-#[tactic(auto, unfolding(image_model::specs::Checks::is_out_of_range))]
-fn is_out_of_range(h: &ProgramHeader) -> bool
-    ensures { result ≡ is_out_of_range h.now }
-{
-    h.p_vaddr < LOWEST || HIGHEST < end_of(h)
-}
-
-fn any_out_of_range(headers: &[ProgramHeader]) -> bool
-    ensures { result ≡ list_any is_out_of_range headers.now }
-{
-    headers.iter().any(|h| is_out_of_range(h))
-}
-
 /// Whether some lie outside the addresses of programs, or all have too many pages together.
 #[tactic(auto, unfolding(image_model::specs::Checks::has_bad_range))]
 fn has_bad_range(headers: &[ProgramHeader]) -> bool
@@ -197,42 +100,6 @@ fn has_bad_range(headers: &[ProgramHeader]) -> bool
     ensures { result ≡ has_bad_range headers.now }
 {
     any_out_of_range(headers) || MOST_PAGES < page_total(headers)
-}
-
-/// Whether the next one, if there is one, does not begin on a page above this one's.
-#[tactic(auto, unfolding(image_model::specs::Checks::meets_next))]
-fn meets_next(h: &ProgramHeader, rest: &[ProgramHeader]) -> bool
-    ensures { result ≡ meets_next h.now rest.now }
-{
-    match rest {
-        [] => false,
-        [next, ..] => first_page_of(next) <= last_page_of(h),
-    }
-}
-
-/// Whether one does not begin on a page above those of the one before.
-#[tactic(auto, unfolding(image_model::specs::Checks::has_overlap))]
-fn has_overlap(headers: &[ProgramHeader]) -> bool
-    ensures { result ≡ has_overlap headers.now }
-{
-    match headers {
-        [] => false,
-        [h, rest @ ..] => meets_next(h, rest) || has_overlap(rest),
-    }
-}
-
-/// Whether an address lies in it, and it may be executed.
-#[tactic(auto, unfolding(image_model::specs::Checks::is_code_at))]
-fn is_code_at(at: u32, h: &ProgramHeader) -> bool
-    ensures { result ≡ is_code_at at h.now }
-{
-    may_execute(h) && h.p_vaddr <= at && u64::from(at) < end_of(h)
-}
-
-fn is_in_code(at: u32, headers: &[ProgramHeader]) -> bool
-    ensures { result ≡ list_any (is_code_at at) headers.now }
-{
-    headers.iter().any(|h| is_code_at(at, h))
 }
 
 #[tactic(auto, unfolding(image_model::specs::Checks::is_bad_entry))]

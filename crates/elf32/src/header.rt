@@ -20,8 +20,8 @@ pub const FILE_HEADER: usize = 52;
 /// How many bytes a program header has (`Elf32_Phdr`; gABI, chapter 5, "Program Header").
 pub const PROGRAM_HEADER: usize = 32;
 
-/// How many program headers a file may have. This limit is bench's own.
-pub const MOST_HEADERS: usize = 4;
+/// How many segments an image may have. This limit is bench's own.
+pub const MOST_SEGMENTS: usize = 4;
 
 /// The bytes of a page. Each segment has this alignment in `p_align` (gABI, chapter 5, "Program Header").
 pub const PAGE: u32 = 4096;
@@ -88,7 +88,7 @@ pub fn read_file_header(file: &[u8]) -> FileHeader
 
 /// The program header with which these bytes begin.
 #[tactic(auto, unfolding(image_model::specs::Fields::program_header))]
-fn read_program_header(bytes: &[u8]) -> ProgramHeader
+pub fn read_program_header(bytes: &[u8]) -> ProgramHeader
     requires { 32 ≤ length bytes.now }
     ensures { result ≡ program_header bytes.now }
 {
@@ -135,7 +135,7 @@ pub fn read_table(bytes: &[u8], count: usize) -> [ProgramHeader; 4]
     ensures size { length result ≡ 4 }
     ensures headers { take count result ≡ headers_in count bytes.now }
 {
-    let mut headers = [ProgramHeader::default(); MOST_HEADERS];
+    let mut headers = [ProgramHeader::default(); MOST_SEGMENTS];
     for k in 0..count {
         headers[k] = read_program_header(&bytes[PROGRAM_HEADER * k..]);
     }

@@ -1,7 +1,7 @@
 //! Why a file could not be read or written.
 use crate::task_files::{Role, TaskFile};
-use file_reading::{MOST_TAPE_BYTES, bytes_in, image_file_in};
 use host_files::{DiskLock, FileFault, MOST_SOURCE_BYTES, test_place};
+use input_reading::{MOST_TAPE_BYTES, bytes_in, image_file_in};
 use simdisk::SIZE;
 use std::alloc::{AllocError, Global};
 use std::fs::{File, OpenOptions};

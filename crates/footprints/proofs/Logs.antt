@@ -10,7 +10,7 @@ use Rattle.kernel_model.specs.declared.carrier.Carrier.{Carrier}
 use Rattle.kernel_model.specs.declared.carrier.Carrier.TheVariants.{Proc}
 use Rattle.kernel_model.specs.declared.event.Event.{Event}
 use Rattle.kernel_model.specs.declared.event.Event.TheVariants.{Turn, Enter, Cut, Complete, Fail}
-use Rattle.cone_laws.specs.Cones.{path_flags, cone_numbers, numbers_selected}
+use Rattle.kernel_laws.specs.Cones.{path_flags, cone_numbers, numbers_selected}
 use Rattle.footprints.specs.Footprints.{footprint_of, enter_count, enters_among, footprint_by, footprints_after, AreFootprints, AreTheCone, IsOfDisk}
 use Rattle.footprints.specs.Kept.{footprint, no_footprint}
 use Rattle.footprints.proofs.Walking.{cone_by}

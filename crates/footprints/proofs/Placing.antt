@@ -7,7 +7,7 @@ use Rattle.std.proofs.Math.Seq.{drop-append-add, drop-append_seam, take-append_s
 use Rattle.disk_model.proofs.Lists.{each_append, each_more}
 use Rattle.kernel_model.specs.Entries.{Entry}
 use Rattle.kernel_model.specs.declared.carrier.Carrier.{Carrier}
-use Rattle.cone_laws.specs.Cones.{IsBeginningOf}
+use Rattle.kernel_laws.specs.Cones.{IsBeginningOf}
 use Rattle.footprints.specs.Kept.{footprint, no_footprint, part, footprint_in, footprints_in, IsWithin, AreWithin, IsPlaced}
 use Rattle.footprints.specs.declared.footprints.Ends.{Ends}
 

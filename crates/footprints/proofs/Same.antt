@@ -1,77 +1,16 @@
 -- Two carriers are one where `==` says so, and so are two footprints.
 use Rattle.std.proofs.lemmas.List.{take_more}
-use Rattle.std.proofs.Common.{◌≡◌, ℕ, ◌+◌, ◌<◌, length, take, get_or, ◌==◌, ◌||◌, ◌&&◌, Bool, true, false, cond, List, [], ◌∷◌, ◌++◌, refl, sym, ap, subst, ◌∙◌}
+use Rattle.std.proofs.Common.{◌≡◌, ℕ, ◌+◌, ◌<◌, length, take, get_or, ◌||◌, ◌&&◌, Bool, true, false, cond, List, [], ◌∷◌, ◌++◌, refl, sym, ap, subst, ◌∙◌}
 use Rattle.std.specs.Bool.{Decides}
 use Rattle.std.specs.List.{list_any}
-use Rattle.std.proofs.lemmas.Bool.{eqb-true, eqb-false, eq-eqb, ne_eqb, and_parts, and_from, false≢true}
+use Rattle.std.proofs.lemmas.Bool.{and_parts, and_from, false≢true}
 use Rattle.std.proofs.lemmas.List.Folds.{list_any-append}
 use Rattle.std.proofs.Math.Bool.{or-false, or_assoc, or_comm}
 use Rattle.kernel_model.specs.declared.carrier.Carrier.{Carrier}
-use Rattle.kernel_model.specs.declared.carrier.Carrier.TheVariants.{Proc, File, Names, Pipe, Pipes, Tasks, Tape}
 use Rattle.kernel_model.specs.contracts.carrier.CarrierPartialEq.TheImpl as carrier
 use Rattle.kernel_model.specs.Entries.{Entry, is_same, is_among}
-use Rattle.cone_laws.proofs.Resting.{same_is}
+use Rattle.kernel_model.proofs.Meets.{same-eq, same_is, same_self, same_sym}
 use Rattle.footprints.specs.Kept.{footprint}
-
-pub same-eq : (x y : Carrier) → carrier.ghosts.eq x y ≡ is_same x y
-same-eq (Proc a) (Proc b) = refl
-same-eq (Proc a) (File b) = refl
-same-eq (Proc a) Names = refl
-same-eq (Proc a) (Pipe b) = refl
-same-eq (Proc a) Pipes = refl
-same-eq (Proc a) Tasks = refl
-same-eq (Proc a) (Tape b) = refl
-same-eq (File a) (Proc b) = refl
-same-eq (File a) (File b) = refl
-same-eq (File a) Names = refl
-same-eq (File a) (Pipe b) = refl
-same-eq (File a) Pipes = refl
-same-eq (File a) Tasks = refl
-same-eq (File a) (Tape b) = refl
-same-eq Names (Proc b) = refl
-same-eq Names (File b) = refl
-same-eq Names Names = refl
-same-eq Names (Pipe b) = refl
-same-eq Names Pipes = refl
-same-eq Names Tasks = refl
-same-eq Names (Tape b) = refl
-same-eq (Pipe a) (Proc b) = refl
-same-eq (Pipe a) (File b) = refl
-same-eq (Pipe a) Names = refl
-same-eq (Pipe a) (Pipe b) = refl
-same-eq (Pipe a) Pipes = refl
-same-eq (Pipe a) Tasks = refl
-same-eq (Pipe a) (Tape b) = refl
-same-eq Pipes (Proc b) = refl
-same-eq Pipes (File b) = refl
-same-eq Pipes Names = refl
-same-eq Pipes (Pipe b) = refl
-same-eq Pipes Pipes = refl
-same-eq Pipes Tasks = refl
-same-eq Pipes (Tape b) = refl
-same-eq Tasks (Proc b) = refl
-same-eq Tasks (File b) = refl
-same-eq Tasks Names = refl
-same-eq Tasks (Pipe b) = refl
-same-eq Tasks Pipes = refl
-same-eq Tasks Tasks = refl
-same-eq Tasks (Tape b) = refl
-same-eq (Tape a) (Proc b) = refl
-same-eq (Tape a) (File b) = refl
-same-eq (Tape a) Names = refl
-same-eq (Tape a) (Pipe b) = refl
-same-eq (Tape a) Pipes = refl
-same-eq (Tape a) Tasks = refl
-same-eq (Tape a) (Tape b) = refl
-
-same_self : (x : Carrier) → is_same x x ≡ true
-same_self (Proc a) = eq-eqb a a refl
-same_self (File a) = eq-eqb a a refl
-same_self Names = refl
-same_self (Pipe a) = eq-eqb a a refl
-same_self Pipes = refl
-same_self Tasks = refl
-same_self (Tape a) = eq-eqb a a refl
 
 pub same-Decides : (x y : Carrier) → Decides (carrier.ghosts.eq x y) (x ≡ y)
 same-Decides x y = ((λ h. same_is x y (sym (same-eq x y) ∙ h)), (λ h. same-eq x y ∙ subst (λ (z : Carrier). is_same x z ≡ true) h (same_self x)))
@@ -90,22 +29,6 @@ footprint-differs rs ws xs ys r is dr = ((λ h. absurd (false≢true (sym is ∙
 pub has-among : (x : Carrier) (keys : List Carrier) → list_any (carrier.ghosts.eq x) keys ≡ is_among x keys
 has-among x [] = refl
 has-among x (k ∷ ks) = ap (λ b. b || list_any (carrier.ghosts.eq x) ks) (same-eq x k) ∙ ap (λ b. is_same x k || b) (has-among x ks)
-
-eq_sym : (a b : ℕ) → (a == b) ≡ (b == a)
-eq_sym a b = elim (a == b) as (λ t. (a == b) ≡ t → t ≡ (b == a)) [
-  | true ↦ λ is. sym (eq-eqb b a (sym (eqb-true a b is)))
-  | false ↦ λ is. sym (ne_eqb b a (λ (e : b ≡ a). eqb-false a b is (sym e)))
-] refl
-
-pub same_sym : (a b : Carrier) → is_same a b ≡ is_same b a
-same_sym (Proc a) (Proc b) = eq_sym a b
-same_sym (File a) (File b) = eq_sym a b
-same_sym (Pipe a) (Pipe b) = eq_sym a b
-same_sym (Tape a) (Tape b) = eq_sym a b
-same_sym Names Names = refl
-same_sym Pipes Pipes = refl
-same_sym Tasks Tasks = refl
-same_sym _ _ = refl
 
 as_or : (b c : Bool) → cond b true c ≡ (b || c)
 as_or true c = refl

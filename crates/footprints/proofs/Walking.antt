@@ -6,7 +6,7 @@ use Rattle.std.proofs.lemmas.List.Folds.{list_any-append}
 use Rattle.kernel_model.specs.Entries.{Entry, is_same, is_among, meets}
 use Rattle.kernel_model.specs.Paths.{wanted}
 use Rattle.kernel_model.specs.declared.carrier.Carrier.{Carrier}
-use Rattle.cone_laws.specs.Cones.{path_flags, numbers_selected}
+use Rattle.kernel_laws.specs.Cones.{path_flags, numbers_selected}
 use Rattle.footprints.specs.Kept.{no_footprint}
 
 -- the same carriers are among both

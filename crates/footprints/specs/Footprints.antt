@@ -4,7 +4,7 @@ use Rattle.kernel_model.specs.Entries.{Entry}
 use Rattle.kernel_model.specs.declared.carrier.Carrier.TheVariants.{Proc}
 use Rattle.kernel_model.specs.declared.event.Event.{Event}
 use Rattle.kernel_model.specs.declared.event.Event.TheVariants.{Turn, Enter, Cut, Complete, Fail}
-use Rattle.cone_laws.specs.Cones.{cone_numbers}
+use Rattle.kernel_laws.specs.Cones.{cone_numbers}
 use Rattle.footprints.specs.Kept.{footprint, no_footprint}
 
 -- the footprint of a log's entry

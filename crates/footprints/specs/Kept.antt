@@ -3,7 +3,7 @@ use Rattle.std.specs.Prelude.{◌≡◌, ℕ, ◌-◌, ◌≤◌, List, [], leng
 use Rattle.std.specs.List.{AllByRecursion}
 use Rattle.kernel_model.specs.Entries.{Entry}
 use Rattle.kernel_model.specs.declared.carrier.Carrier.{Carrier}
-use Rattle.cone_laws.specs.Cones.{IsBeginningOf}
+use Rattle.kernel_laws.specs.Cones.{IsBeginningOf}
 use Rattle.footprints.specs.declared.footprints.Ends.{Ends}
 
 -- a footprint: an entry of which the carriers alone are known

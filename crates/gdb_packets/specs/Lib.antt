@@ -1,3 +1,5 @@
 pub mod Answers
 pub mod Digits
 pub mod Stopping
+pub mod Framing
+pub mod Reading

@@ -1,41 +1,20 @@
 -- How gdb is told why a machine stops.
-use Rattle.std.specs.Prelude.{ℕ, ◌+◌, ◌&&◌, Bool, true, false, nat_lt, max, List, ◌++◌, codes}
+use Rattle.std.specs.Prelude.{ℕ, List, ◌++◌, codes}
 use Rattle.std.specs.Int.{w32, to_be_bytes}
 use Rattle.machine_model.specs.declared.stop.Cause.{Cause}
 use Rattle.machine_model.specs.declared.stop.Cause.TheVariants.{Illegal, MisalignedTarget, MisalignedData, PageFault, FetchFault, Breakpoint}
 use Rattle.gdb_packets.specs.Digits.{hex_of}
 use Rattle.gdb_packets.specs.declared.stops.Stop.{Stop}
 use Rattle.gdb_packets.specs.declared.stops.Stop.TheVariants.{Done, Interrupted, Break, Watch as WatchMet, Trap, Begin, End}
-use Rattle.gdb_packets.specs.declared.watching.WatchKind.{WatchKind}
-use Rattle.gdb_packets.specs.declared.watching.WatchKind.TheVariants.{Stores, Loads, Both}
-use Rattle.gdb_packets.specs.declared.watching.Watch.{Watch}
+use Rattle.debugger.specs.declared.watching.WatchKind.{WatchKind}
+use Rattle.debugger.specs.declared.watching.WatchKind.TheVariants.{Stores, Loads, Both}
+use Rattle.debugger.specs.declared.watching.Watch.{Watch}
 
 -- what a watch is called in a stop
 abbrev pub name_of : WatchKind → List ℕ
 name_of Stores = codes "watch"
 name_of Loads = codes "rwatch"
 name_of Both = codes "awatch"
-
--- whether one of n bytes from an address on is watched: the greater of the two first addresses lies before both ends
-abbrev pub shares : Watch → ℕ → ℕ → Bool
-shares w at n = nat_lt (max w.at at) (w.at + w.length) && nat_lt (max w.at at) (at + n)
-
-abbrev pub sees_loads : WatchKind → Bool
-sees_loads Stores = false
-sees_loads Loads = true
-sees_loads Both = true
-
-abbrev pub sees_stores : WatchKind → Bool
-sees_stores Stores = true
-sees_stores Loads = false
-sees_stores Both = true
-
--- whether a load, or a store, of n bytes from an address on meets a watch
-abbrev pub meets_load : Watch → ℕ → ℕ → Bool
-meets_load w at n = sees_loads w.kind && shares w at n
-
-abbrev pub meets_store : Watch → ℕ → ℕ → Bool
-meets_store w at n = sees_stores w.kind && shares w at n
 
 -- the number that gdb gives to the signal of a trap
 abbrev pub signal_of : Cause → List ℕ

@@ -1,4 +1,5 @@
 //! System calls that were done, as a text.
+use call_forms::{Call, CallText, Style};
 use formats::Reg;
 use machine::{Image, Machine, Reply};
 use std::alloc::{AllocError, Global};
@@ -8,12 +9,9 @@ use std::io::Write;
 /// The most calls that are printed at once.
 const MOST_PRINTED: usize = 1000;
 
-/// The number of the call `write`.
-const WRITE: u32 = 2;
-
 /// A call, and its reply.
 #[derive(Clone, Copy)]
-struct Call {
+struct RepliedCall {
     /// How many instructions were done before it.
     count: u64,
     number: u32,
@@ -21,78 +19,32 @@ struct Call {
     reply: u32,
 }
 
-/// An argument that is a number.
-const NUMBER: bool = false;
-
-/// An argument that is an address.
-const ADDRESS: bool = true;
-
-/// The name of a call of this number, and whether each of its arguments is an address.
-fn form_of(number: u32) -> (&'static str, &'static [bool]) {
-    match number {
-        1 => ("exit", &[NUMBER]),
-        2 => ("write", &[NUMBER, ADDRESS, NUMBER]),
-        3 => ("read", &[NUMBER, ADDRESS, NUMBER]),
-        4 => ("open", &[ADDRESS, NUMBER, NUMBER]),
-        5 => ("close", &[NUMBER]),
-        6 => ("pipe", &[ADDRESS]),
-        7 => ("fork", &[]),
-        8 => ("wait", &[ADDRESS]),
-        9 => ("getpid", &[]),
-        10 => ("seek", &[NUMBER, NUMBER]),
-        11 => ("sync", &[]),
-        12 => ("unlink", &[ADDRESS, NUMBER]),
-        13 => ("rename", &[ADDRESS, NUMBER, NUMBER]),
-        14 => ("exec", &[ADDRESS, NUMBER]),
-        _ => ("unknown", &[NUMBER, NUMBER, NUMBER]),
-    }
-}
-
-/// Prints an argument.
-fn print_argument<O: Write>(value: u32, is_address: bool, out: &mut O) -> io::Result<()> {
-    if is_address {
-        return write!(out, "0x{value:x}");
-    }
-    let value = value.cast_signed();
-    write!(out, "{value}")
-}
-
-impl Call {
+impl RepliedCall {
     /// How many bytes it wrote.
     fn written(&self) -> u64 {
-        match (self.number, self.reply.cast_signed()) {
-            (WRITE, 0..) => u64::from(self.reply),
+        match (Call::of(self.number), self.reply.cast_signed()) {
+            (Some(Call::Write), 0..) => u64::from(self.reply),
             _ => 0,
         }
-    }
-
-    /// Prints so many arguments as these are, with commas between.
-    fn print_arguments<O: Write>(&self, form: &[bool], out: &mut O) -> io::Result<()> {
-        for (place, is_address) in form.iter().enumerate() {
-            if place > 0 {
-                out.write_all(b", ")?;
-            }
-            let value = self.arguments.get(place).copied().unwrap_or(0);
-            print_argument(value, *is_address, out)?;
-        }
-        Ok(())
     }
 
     /// Prints it, with a star where it lies before a count.
     fn print<O: Write>(&self, now: u64, out: &mut O) -> io::Result<()> {
         let mark = if self.count < now { '*' } else { ' ' };
         let count = self.count;
-        let (name, form) = form_of(self.number);
-        write!(out, "{mark} {count}: {name}(")?;
-        self.print_arguments(form, out)?;
+        let text = CallText {
+            number: self.number,
+            arguments: self.arguments,
+            style: Style::Registers,
+        };
         let reply = self.reply.cast_signed();
-        writeln!(out, ") = {reply}")
+        writeln!(out, "{mark} {count}: {text} = {reply}")
     }
 }
 
 /// The calls that took a reply, in order.
 pub struct Calls {
-    calls: Vec<Call>,
+    calls: Vec<RepliedCall>,
     /// How many bytes they moved.
     moved: u64,
 }
@@ -141,22 +93,16 @@ impl Calls {
         self.moved
     }
 
-    /// Whether the last one is after so many instructions.
-    pub fn ends_at(&self, count: u64) -> bool {
-        self.calls.last().is_some_and(|call| call.count == count)
-    }
-
     /// Adds the call at which a machine stands.
     pub fn push(&mut self, machine: &Machine, reply: &Reply) -> Result<(), AllocError> {
-        let arguments = [
-            machine.reg(Reg::new(10)),
-            machine.reg(Reg::new(11)),
-            machine.reg(Reg::new(12)),
-        ];
-        let call = Call {
+        let call = RepliedCall {
             count: machine.count(),
             number: machine.reg(Reg::new(17)),
-            arguments,
+            arguments: [
+                machine.reg(Reg::new(10)),
+                machine.reg(Reg::new(11)),
+                machine.reg(Reg::new(12)),
+            ],
             reply: reply.a0,
         };
         self.calls.push(call)?;

@@ -1,5 +1,5 @@
 //! The commands that a person gives by `monitor`.
-use line_words::decimal;
+use input_reading::decimal;
 
 /// What a person can ask for.
 pub const COMMANDS: &str = "monitor count, calls, trace, files, until N, keep\n";

@@ -1,22 +1,32 @@
-//! What gdb's packets say, and the packets that answer them. Read `request_of` first. Packets are texts here, without their frames, and
-//! no machine moves. What is told of registers, of memory and of a stop is the definitions'; of most else only safety is proved.
+//! gdb's remote protocol: packets in and out, byte by byte, and what they say. No machine moves here. Read `Reader` first, of which a
+//! packet, a refused packet, an interrupt or an acknowledgement comes, whatever its bytes and wherever they are cut. Then read `framed`,
+//! which writes a packet, and `request_of`, what one asks for. What is told of registers, of memory and of a stop is the definitions';
+//! of most else that packets say only safety is proved.
 #![tactic(auto)]
 
+mod arrival;
 mod calls;
 mod commands;
+mod framing;
+mod laws;
 mod numbers;
 mod packets;
+mod phase;
+mod reader;
 mod registers;
 mod request;
 mod stops;
 mod target;
-mod watching;
+mod text;
 
+pub use arrival::Arrival;
 pub use calls::Calls;
 pub use commands::{COMMANDS, Command, command_of};
+pub use framing::framed;
+pub use laws::{cuts_change_nothing, framed_is_read_back, texts_are_bounded};
 pub use packets::Packets;
+pub use reader::Reader;
 pub use registers::{memory_at, registers_of};
 pub use request::{Document, Motion, Point, Request, request_of};
 pub use stops::{Stop, stop_text};
 pub use target::{description, part_of};
-pub use watching::{Watch, WatchKind};

@@ -68,7 +68,7 @@ pub fn little_endian(alloc: Global, word: &str) -> Result<Option<u64>, AllocErro
 }
 
 /// The digit of a number below 16.
-fn digit_of(number: u8) -> u8
+pub fn digit_of(number: u8) -> u8
     requires { number < 16 }
     ensures { result ≡ digit number }
 {

@@ -6,18 +6,10 @@ use std::alloc::{AllocError, Global};
 const MOST_TEXT: usize = 4096;
 
 /// The payloads of packets that go out, in order.
+#[derive(Drop)]
 pub struct Packets {
     alloc: Global,
     payloads: Vec<Vec<u8>>,
-}
-
-impl Drop for Packets {
-    fn drop(self) {
-        let Packets {
-            alloc: _,
-            payloads: _payloads,
-        } = self;
-    }
 }
 
 impl Packets {

@@ -1,6 +1,6 @@
 //! What gdb asks for.
 use crate::numbers::{bytes_of, little_endian, range};
-use crate::watching::{Watch, WatchKind};
+use debugger::{Watch, WatchKind};
 use std::alloc::{AllocError, Global};
 
 /// What is read in parts.

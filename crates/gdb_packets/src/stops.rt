@@ -1,10 +1,9 @@
 //! Why a machine stops.
 ghost use Rattle.std.specs.Prelude.{◌≡◌, IfOk};
-ghost use Rattle.gdb_packets.specs.Stopping.{signal_of as signal_named, stop_text as text_of_stop, watch_text as text_of_watch};
+ghost use Rattle.gdb_packets.specs.Stopping.{name_of as watch_named, signal_of as signal_named, stop_text as text_of_stop, watch_text as text_of_watch};
 
 use crate::numbers::push_bytes;
-use crate::watching::Watch;
-use machine::Cause;
+use debugger::{Cause, Watch, WatchKind};
 use std::alloc::{AllocError, Global};
 
 /// Why a machine stops.
@@ -38,11 +37,22 @@ fn signal_of(cause: Cause) -> &'static str
     }
 }
 
+/// What a watch is called in the packet of a stop.
+fn name_of(kind: WatchKind) -> &'static str
+    ensures { result.now ≡ watch_named kind }
+{
+    match kind {
+        WatchKind::Stores => "watch",
+        WatchKind::Loads => "rwatch",
+        WatchKind::Both => "awatch",
+    }
+}
+
 fn watch_text(alloc: Global, watch: Watch) -> Result<Vec<u8>, AllocError>
     ensures { IfOk result (λ text. text.items ≡ text_of_watch watch) }
 {
     let mut text = Vec::from_slice(alloc, b"T05")?;
-    text.extend_from_slice(watch.kind.stop_name().as_bytes())?;
+    text.extend_from_slice(name_of(watch.kind).as_bytes())?;
     text.extend_from_slice(b":")?;
     push_bytes(&mut text, &watch.at.to_be_bytes())?;
     text.extend_from_slice(b";")?;

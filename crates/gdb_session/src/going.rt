@@ -1,12 +1,168 @@
-//! How a machine goes on.
+//! How a program goes, a slice at a time: after a slice it is looked whether gdb interrupts it.
+use crate::session::Session;
+use gdb_packets::Stop as Told;
+use std::alloc::AllocError;
+use timeline::{After, SessionFault, Stop, Way};
+use trap_reports::trap_report;
 
-/// How a machine goes on, between two slices.
+/// How many parts a slice of the way on has at most.
+const PARTS: u32 = 1 << 10;
+
+/// The same where watches are looked at: a part is an instruction then.
+const WATCHED_PARTS: u32 = 1 << 16;
+
+/// After so many events of the kernel a slice ends, since other processes may have run long between them.
+const EVENTS: usize = 64;
+
+/// How many loans of the kernel a part has at most.
+const LOANS: u32 = 16;
+
+/// The most instructions on at once, where gdb waits two seconds for the answer.
+const FAR: u64 = 1 << 24;
+
+/// How many slices it is tried then, since a kernel may take long for a reply.
+const SLICES: u32 = 64;
+
+/// How a program goes on, between two slices.
 #[derive(Clone, Copy)]
 pub enum Going {
-    /// On to a count, with or without a look at the breakpoints.
+    /// On to a count. Of a step gdb wants to know no breakpoint.
     Ahead { limit: u64, is_step: bool },
     /// Back, from above the breakpoints that were looked at.
     Back,
     /// An instruction back.
     StepBack,
+}
+
+/// What gdb is told of a stop; of a step it wants to know no breakpoint.
+fn told_of(stop: Stop, is_step: bool) -> Told {
+    match stop {
+        Stop::Break(_) if is_step => Told::Done,
+        Stop::Break(_) => Told::Break,
+        Stop::Done => Told::Done,
+        Stop::Watch(watch) => Told::Watch(watch),
+        Stop::Trap(cause) => Told::Trap(cause),
+        Stop::Begin => Told::Begin,
+        Stop::End(_) => Told::End,
+    }
+}
+
+impl Session {
+    /// How many events the kernel has had.
+    fn events(&self) -> usize {
+        match &self.timeline.live {
+            Some(live) => live.core().history().len(),
+            None => 0,
+        }
+    }
+
+    /// Notes what terminals show.
+    fn note_shown(&mut self) -> Result<(), AllocError> {
+        match &mut self.timeline.live {
+            Some(live) => self.messages.add_shown(live),
+            None => Ok(()),
+        }
+    }
+
+    /// Notes a call that is answered, what terminals show where the kernel was asked, and why the program goes no further.
+    fn note(&mut self, after: After) -> Result<(), SessionFault> {
+        match after {
+            After::Asked | After::NoReply { .. } => self.note_shown()?,
+            After::Replied => self.history.add_call(&self.timeline)?,
+            After::Stop(Stop::End(end)) => {
+                self.note_shown()?;
+                self.messages.add(end)?;
+            }
+            After::Stop(Stop::Trap(_)) => {
+                if let Some(report) = trap_report(self.timeline.machine()) {
+                    self.messages.add(report)?;
+                }
+            }
+            _ => {}
+        }
+        Ok(())
+    }
+
+    /// A part of the way on to a count, as far as the history has room, with a loan of the kernel at most.
+    fn part_of_way(&mut self, limit: u64, stops: bool) -> Result<After, SessionFault> {
+        let left = limit.saturating_sub(self.timeline.count());
+        if left == 0 {
+            return Ok(After::Stop(Stop::Done));
+        }
+        let most = left.min(self.history.room_ahead(&self.timeline)?);
+        if most == 0 {
+            return Ok(After::Stop(Stop::End(self.history.full())));
+        }
+        let way = Way {
+            most,
+            stops,
+            loans: 1,
+        };
+        self.timeline.ahead(way)
+    }
+
+    /// A part of the way on to a count.
+    fn part(&mut self, limit: u64, stops: bool) -> Result<After, SessionFault> {
+        let mut after = self.part_of_way(limit, stops)?;
+        for _ in 1..LOANS {
+            if matches!(after, After::NoReply { .. }) {
+                after = self.part_of_way(limit, stops)?;
+            }
+        }
+        self.note(after)?;
+        Ok(after)
+    }
+
+    /// A slice of the way on to a count. None where it goes on.
+    fn ahead(&mut self, limit: u64, stops: bool) -> Result<Option<Stop>, SessionFault> {
+        let parts = if stops && self.timeline.watches() {
+            WATCHED_PARTS
+        } else {
+            PARTS
+        };
+        let last = self.events().saturating_add(EVENTS);
+        for _ in 0..parts {
+            if self.events() >= last {
+                return Ok(None);
+            }
+            match self.part(limit, stops)? {
+                After::Stop(stop) => return Ok(Some(stop)),
+                After::NoReply { .. } => return Ok(None),
+                After::Part | After::Asked | After::Replied => {}
+            }
+        }
+        Ok((self.timeline.count() >= limit).then_some(Stop::Done))
+    }
+
+    /// Goes to the state after so many instructions, past breakpoints and watches: back, or on as far as the program goes. Says whether
+    /// it went: it does not go on farther than gdb waits.
+    pub fn travel(&mut self, count: u64) -> Result<bool, SessionFault> {
+        let now = self.timeline.count();
+        if count <= now {
+            self.timeline.debugger.rewind(count)?;
+            return Ok(true);
+        }
+        if count - now > FAR {
+            return Ok(false);
+        }
+        for _ in 0..SLICES {
+            if self.ahead(count, false)?.is_some() {
+                return Ok(true);
+            }
+        }
+        Ok(true)
+    }
+
+    /// A slice of a way. Gives what gdb is told where the machine stops.
+    pub fn slice(&mut self, going: Going) -> Result<Option<Told>, SessionFault> {
+        let (stop, is_step) = match going {
+            Going::Ahead { limit, is_step } => (self.ahead(limit, true)?, is_step),
+            Going::Back => (self.timeline.back()?, false),
+            Going::StepBack => (Some(self.timeline.step_back()?), false),
+        };
+        match stop {
+            Some(stop) => Ok(Some(told_of(stop, is_step))),
+            None => Ok(None),
+        }
+    }
 }

@@ -1,14 +1,15 @@
 //! What answers the commands that a person gives by `monitor`.
+use crate::session::Session;
 use elf32::write;
 use files::FileList;
 use gdb_packets::{COMMANDS, Command};
-use gdb_timeline::{OutOfMemory, Timeline};
 use journal::{DiskFault, recover};
 use kernel::Core;
 use machine_model::{Image, Reply};
 use std::alloc::Global;
 use std::io;
 use std::io::Write;
+use timeline::SessionFault;
 
 /// Prints pairs of digits, or `-` for none.
 fn print_bytes<O: Write>(bytes: &[u8], out: &mut O) -> io::Result<()> {
@@ -63,49 +64,53 @@ fn print_files<O: Write>(files: &FileList, out: &mut O) -> io::Result<()> {
     Ok(())
 }
 
-fn print_count<O: Write>(timeline: &Timeline, out: &mut O) -> io::Result<()> {
-    let count = timeline.count();
-    let top = timeline.top();
-    let calls = timeline.calls().count();
+fn print_count<O: Write>(session: &Session, out: &mut O) -> io::Result<()> {
+    let count = session.timeline.count();
+    let top = session.timeline.top();
+    let calls = session.history.calls().count();
     writeln!(out, "count {count} of {top} reached, calls {calls}")
 }
 
-fn print_replies<O: Write>(timeline: &Timeline, alloc: Global, out: &mut O) -> io::Result<()> {
-    match timeline.live() {
-        Some(live) => print_trace(alloc, live.core(), live.process(), out),
+fn print_replies<O: Write>(session: &Session, out: &mut O) -> io::Result<()> {
+    match &session.timeline.live {
+        Some(live) => print_trace(session.alloc, live.core(), live.process(), out),
         None => out.write_all(b"the trace is that of the file\n"),
     }
 }
 
-fn print_disk(timeline: &Timeline, alloc: Global, out: &mut Vec<u8>) -> Result<(), OutOfMemory> {
-    let Some(live) = timeline.live() else {
+fn print_disk(session: &Session, out: &mut Vec<u8>) -> Result<(), SessionFault> {
+    let Some(disk) = session.disk()? else {
         return Ok(out.write_all(b"no kernel runs, and no disk\n")?);
     };
-    match recover(alloc, &live.disk()?) {
+    match recover(session.alloc, &disk) {
         Ok(table) => Ok(print_files(table.list(), out)?),
-        Err(DiskFault::OutOfMemory) => Err(OutOfMemory),
+        Err(DiskFault::OutOfMemory) => Err(SessionFault::OutOfMemory),
         Err(fault) => Ok(writeln!(out, "disk refused: {fault:?}")?),
     }
 }
 
-fn set_limit<O: Write>(timeline: &mut Timeline, count: u64, out: &mut O) -> io::Result<()> {
-    timeline.stop_at(count);
+fn set_limit<O: Write>(session: &mut Session, count: u64, out: &mut O) -> io::Result<()> {
+    session.stop_at(count);
     writeln!(out, "the next run on stops at count {count}")
 }
 
 /// Prints what answers a command; that the disk is kept is said elsewhere.
 pub fn print_answer(
-    timeline: &mut Timeline,
-    alloc: Global,
+    session: &mut Session,
     command: Command,
     out: &mut Vec<u8>,
-) -> Result<(), OutOfMemory> {
+) -> Result<(), SessionFault> {
     match command {
-        Command::Count => Ok(print_count(timeline, out)?),
-        Command::Calls => Ok(timeline.calls().print(timeline.count(), out)?),
-        Command::Trace => Ok(print_replies(timeline, alloc, out)?),
-        Command::Files => print_disk(timeline, alloc, out),
-        Command::Until(count) => Ok(set_limit(timeline, count, out)?),
+        Command::Count => Ok(print_count(session, out)?),
+        Command::Calls => Ok(
+            session
+                .history
+                .calls()
+                .print(session.timeline.count(), out)?,
+        ),
+        Command::Trace => Ok(print_replies(session, out)?),
+        Command::Files => print_disk(session, out),
+        Command::Until(count) => Ok(set_limit(session, count, out)?),
         Command::Keep | Command::Other => Ok(out.write_all(COMMANDS.as_bytes())?),
     }
 }

@@ -1,13 +1,15 @@
 //! A session: what answers each packet.
 use crate::going::Going;
+use crate::history::History;
+use crate::messages::Messages;
 use crate::monitor::print_answer;
 use gdb_packets::{
     Command, Document, Motion, Packets, Point, Request, Stop, command_of, description, memory_at,
     part_of, registers_of, request_of, stop_text,
 };
-use gdb_timeline::{OutOfMemory, SetPoint, Timeline};
 use simdisk::SimDisk;
 use std::alloc::{AllocError, Global};
+use timeline::{SessionFault, SetPoint, Timeline};
 
 /// What is supported.
 const SUPPORTED: &str =
@@ -41,23 +43,18 @@ pub enum Next {
 }
 
 /// A session: a program's run, and what gdb asked for.
+#[derive(Drop)]
 pub struct Session {
-    alloc: Global,
-    timeline: Timeline,
+    pub(crate) alloc: Global,
+    pub(crate) timeline: Timeline,
+    pub(crate) history: History,
+    /// What gdb is to print.
+    pub(crate) messages: Messages,
+    /// The count at which the next run on stops, if it is above that of the machine.
+    until: Option<u64>,
     /// The path of the file of symbols.
     symbols: Option<Vec<u8>>,
     going: Option<Going>,
-}
-
-impl Drop for Session {
-    fn drop(self) {
-        let Session {
-            alloc: _,
-            timeline: _timeline,
-            symbols: _symbols,
-            going: _,
-        } = self;
-    }
 }
 
 /// What is said of a breakpoint or a watch that was to be set.
@@ -70,11 +67,15 @@ fn answer_of(set: SetPoint) -> &'static str {
 }
 
 impl Session {
-    /// A session with a program at its first state. gdb is told the path of the file of symbols, if there is one.
-    pub fn new(alloc: Global, timeline: Timeline, symbols: Option<Vec<u8>>) -> Session {
+    /// A session with a program at its first state, whose history may take so many bytes. gdb is told the path of the file of symbols,
+    /// if there is one.
+    pub fn new(alloc: Global, timeline: Timeline, room: u64, symbols: Option<Vec<u8>>) -> Session {
         Session {
             alloc,
             timeline,
+            history: History::new(alloc, room),
+            messages: Messages::new(alloc),
+            until: None,
             symbols,
             going: None,
         }
@@ -82,8 +83,8 @@ impl Session {
 
     /// The disk as the kernel leaves it now. None where no kernel runs.
     pub fn disk(&self) -> Result<Option<SimDisk>, AllocError> {
-        match self.timeline.live() {
-            Some(live) => Ok(Some(live.disk()?)),
+        match &self.timeline.live {
+            Some(live) => Ok(Some(live.core().after_crash(&[])?)),
             None => Ok(None),
         }
     }
@@ -128,18 +129,38 @@ impl Session {
         }
     }
 
-    fn answer_travel(&mut self, count: u64, out: &mut Packets) -> Result<(), OutOfMemory> {
-        let went = self.timeline.travel(count)?;
+    fn answer_travel(&mut self, count: u64, out: &mut Packets) -> Result<(), SessionFault> {
+        let went = self.travel(count)?;
         Ok(out.push_text(if went { "OK" } else { TOO_FAR })?)
     }
 
     fn answer_set(&mut self, point: Point, out: &mut Packets) -> Result<(), AllocError> {
-        out.push_text(answer_of(self.timeline.set(point)?))
+        let set = match point {
+            Point::Break(at) => self.timeline.set_break(at),
+            Point::Watch(watch) => self.timeline.set_watch(watch)?,
+        };
+        out.push_text(answer_of(set))
     }
 
     fn answer_clear(&mut self, point: Point, out: &mut Packets) -> Result<(), AllocError> {
-        self.timeline.clear(point);
+        match point {
+            Point::Break(at) => self.timeline.clear_break(at),
+            Point::Watch(watch) => self.timeline.clear_watch(watch),
+        }
         out.push_text("OK")
+    }
+
+    /// Has the next run on stop at a count, if it is above that of the machine.
+    pub(crate) fn stop_at(&mut self, count: u64) {
+        self.until = Some(count);
+    }
+
+    /// The count at which a run on stops, which is asked for once.
+    fn take_limit(&mut self) -> u64 {
+        match self.until.take() {
+            Some(until) if until > self.timeline.count() => until,
+            _ => u64::MAX,
+        }
     }
 
     /// Has the machine go; `go_on` does it.
@@ -150,7 +171,7 @@ impl Session {
                 is_step: true,
             },
             Motion::Continue => Going::Ahead {
-                limit: self.timeline.take_limit(),
+                limit: self.take_limit(),
                 is_step: false,
             },
             Motion::StepBack => Going::StepBack,
@@ -161,20 +182,20 @@ impl Session {
     }
 
     /// Answers a command that a person gave.
-    fn answer_monitor(&mut self, line: &[u8], out: &mut Packets) -> Result<Next, OutOfMemory> {
+    fn answer_monitor(&mut self, line: &[u8], out: &mut Packets) -> Result<Next, SessionFault> {
         let command = command_of(line);
-        if matches!(command, Command::Keep) && self.timeline.live().is_some() {
+        if matches!(command, Command::Keep) && self.timeline.live.is_some() {
             return Ok(Next::Keep);
         }
         let mut text = Vec::new(self.alloc);
-        print_answer(&mut self.timeline, self.alloc, command, &mut text)?;
+        print_answer(self, command, &mut text)?;
         out.push_print(text.as_slice())?;
         out.push_text("OK")?;
         Ok(Next::Await)
     }
 
     /// Answers `monitor keep`, by a line that says what came of it.
-    pub fn tell_kept(&self, line: &str, out: &mut Packets) -> Result<(), OutOfMemory> {
+    pub fn tell_kept(&self, line: &str, out: &mut Packets) -> Result<(), SessionFault> {
         let text = format!(in self.alloc; "{line}\n")?;
         out.push_print(text.as_bytes())?;
         Ok(out.push_text("OK")?)
@@ -199,7 +220,7 @@ impl Session {
     }
 
     /// Answers a packet of this payload. What goes out is added. Says what comes next.
-    pub fn answer(&mut self, payload: &[u8], out: &mut Packets) -> Result<Next, OutOfMemory> {
+    pub fn answer(&mut self, payload: &[u8], out: &mut Packets) -> Result<Next, SessionFault> {
         match request_of(self.alloc, payload)? {
             Request::Go(motion) => return Ok(self.begin(motion)),
             Request::Monitor(line) => return self.answer_monitor(line.as_slice(), out),
@@ -215,22 +236,10 @@ impl Session {
         Ok(Next::Await)
     }
 
-    /// A slice of a way.
-    fn slice(&mut self, going: Going) -> Result<Option<Stop>, OutOfMemory> {
-        match going {
-            Going::Ahead { limit, is_step } => {
-                let stop = self.timeline.ahead(limit)?;
-                Ok(if is_step { stop_of_step(stop) } else { stop })
-            }
-            Going::Back => self.timeline.back(),
-            Going::StepBack => Ok(Some(self.timeline.step_back()?)),
-        }
-    }
-
     /// Adds what terminals showed, and lines that say why the machine stopped.
-    fn tell_notes(&mut self, out: &mut Packets) -> Result<(), AllocError> {
-        out.push_print(self.timeline.notes())?;
-        self.timeline.forget_notes();
+    fn tell_messages(&mut self, out: &mut Packets) -> Result<(), AllocError> {
+        out.push_print(self.messages.text())?;
+        self.messages.clear();
         Ok(())
     }
 
@@ -240,12 +249,12 @@ impl Session {
     }
 
     /// Goes on by a slice. Says whether the machine goes on after that; where it does not, gdb is told why.
-    pub fn go_on(&mut self, out: &mut Packets) -> Result<bool, OutOfMemory> {
+    pub fn go_on(&mut self, out: &mut Packets) -> Result<bool, SessionFault> {
         let Some(going) = self.going else {
             return Ok(false);
         };
         let stop = self.slice(going)?;
-        self.tell_notes(out)?;
+        self.tell_messages(out)?;
         match stop {
             Some(stop) => {
                 self.tell_stop(stop, out)?;
@@ -256,15 +265,15 @@ impl Session {
     }
 
     /// Stops the machine between two slices, since gdb asked for it.
-    pub fn interrupt(&mut self, out: &mut Packets) -> Result<(), OutOfMemory> {
+    pub fn interrupt(&mut self, out: &mut Packets) -> Result<(), SessionFault> {
         Ok(self.tell_stop(Stop::Interrupted, out)?)
     }
 
     /// Stops the machine between two slices, since gdb has gone, and says so.
-    pub fn cut(&mut self, out: &mut Packets) -> Result<(), OutOfMemory> {
-        self.timeline
-            .note("the input has ended, and the run goes on no longer")?;
-        self.tell_notes(out)?;
+    pub fn cut(&mut self, out: &mut Packets) -> Result<(), SessionFault> {
+        self.messages
+            .add("the input has ended, and the run goes on no longer")?;
+        self.tell_messages(out)?;
         self.interrupt(out)
     }
 }
@@ -275,13 +284,5 @@ fn next_after(request: &Request) -> Next {
         Request::NoAcks => Next::NoAcks,
         Request::Detach => Next::End,
         _ => Next::Await,
-    }
-}
-
-/// The stop of a step, of which gdb wants to know no breakpoint.
-fn stop_of_step(stop: Option<Stop>) -> Option<Stop> {
-    match stop {
-        Some(Stop::Break) => Some(Stop::Done),
-        stop => stop,
     }
 }

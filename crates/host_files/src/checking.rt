@@ -1,7 +1,7 @@
 //! Sources checked.
 use crate::fault::FileFault;
 use crate::source::{MOST_SOURCE_BYTES, text_of};
-use file_reading::bytes_in;
+use input_reading::bytes_in;
 use source_checks::{Checked, advice, check, print_checked};
 use std::alloc::Global;
 use std::io::Write;

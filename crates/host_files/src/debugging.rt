@@ -2,8 +2,8 @@
 use crate::fault::FileFault;
 use crate::source::source_text;
 use crate::trace::read_trace;
+use debug_info::SourceLines;
 use machine_model::{Image, Reply};
-use source_lines::SourceLines;
 use std::fs;
 use std::rt::Files;
 

@@ -3,7 +3,7 @@ ghost use Rattle.std.specs.Prelude.{◌≡◌, true, IfOk};
 ghost use Rattle.disk_model.specs.Storage.{is_quiet};
 
 use crate::fault::FileFault;
-use file_reading::bytes_in;
+use input_reading::bytes_in;
 use simdisk::{SIZE, SimDisk};
 use std::alloc::{AllocError, Global};
 use std::fs::{OpenFile, OpenOptions, Permissions};

@@ -1,7 +1,6 @@
 //! Why a file is refused.
 use assembler::{AsmFault, Cause};
-use elf32::ElfFault;
-use linked_elf::LinkFault;
+use elf32::{ElfFault, LinkFault};
 use simdisk::DiskRefusal;
 use std::alloc::{AllocError, AllocFailed};
 use std::io;

@@ -2,8 +2,8 @@
 use crate::disk_file::write_whole;
 use crate::fault::FileFault;
 use crate::same_file::is_same_file;
-use file_reading::bytes_in;
-use linked_elf::{MOST_BYTES, image_of};
+use elf32::{MOST_LINKED_BYTES, image_of};
+use input_reading::bytes_in;
 use machine_model::{Image, Segment};
 use std::fs;
 use std::io::Write;
@@ -47,7 +47,7 @@ pub fn image_file<R: Files + AllocGlobal, O: Write>(
     image: &str,
     out: &mut O,
 ) -> Result<(), FileFault> {
-    let bytes = bytes_in(rt, linked, MOST_BYTES)?;
+    let bytes = bytes_in(rt, linked, MOST_LINKED_BYTES)?;
     let program = image_of(rt.alloc(), &bytes)?;
     if is_same_file(rt, linked, image)? {
         return Err(FileFault::SameFile);

@@ -1,6 +1,6 @@
 //! Images in files of the host.
 use crate::fault::FileFault;
-use file_reading::image_file_in;
+use input_reading::image_file_in;
 use machine_model::Image;
 use std::rt::Files;
 

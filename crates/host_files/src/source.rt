@@ -2,8 +2,8 @@
 use crate::fault::FileFault;
 use crate::same_file::is_same_file;
 use assembler::{AsmFault, Cause, assemble};
-use debug_symbols::{SymbolFile, symbol_file};
-use file_reading::bytes_in;
+use debug_info::{SymbolFile, symbol_file};
+use input_reading::bytes_in;
 use machine_model::{Image, Segment};
 use std::alloc::Global;
 use std::fs;

@@ -2,7 +2,7 @@
 use crate::fault::FileFault;
 use byte_list::Bytes;
 use elf32::{ElfFault, parse};
-use line_words::{bytes_of, hexadecimal};
+use input_reading::{bytes_of, hexadecimal};
 use machine_model::Reply;
 use std::alloc::{AllocError, Global};
 

@@ -1,6 +1,6 @@
 //! The cone of an event: the events on which it rests.
 ghost use Rattle.std.specs.Prelude.{◌≡◌, true, if◌then◌else◌, IfOk, IfErr, OnOk};
-ghost use Rattle.cone_laws.specs.Cones.{cone};
+ghost use Rattle.kernel_laws.specs.Cones.{cone};
 ghost use Rattle.kernel_model.specs.Answers.{now};
 ghost use Rattle.kernel_step.specs.Coning.{has_event};
 ghost use Rattle.kernel_step.specs.declared.cones.ConeFault.TheVariants.{NoEvent, OutOfMemory};

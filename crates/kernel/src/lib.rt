@@ -16,11 +16,10 @@ mod views;
 
 pub use applier::{Applier, apply_each};
 pub use boot::BootFault;
-pub use cone_laws::cones;
 pub use cores::Core;
 pub use disk_model::Piece;
 pub use journal::DiskFault;
-pub use kernel_laws::{counts_never_fall, drains_are_events, interleavings, runs_go_on};
+pub use kernel_laws::{cones, counts_never_fall, drains_are_events, interleavings, runs_go_on};
 pub use kernel_model::{Answer, Event, Outcome, Refused, Standing};
 pub use kernel_step::{ConeFault, Done, Loan, Machine, Program, Rejected};
 pub use known::known_loans_stay;

@@ -17,7 +17,7 @@ use Rattle.kernel_model.specs.declared.event.Event.{Event}
 use Rattle.kernel_model.specs.declared.event.Event.TheVariants.{Turn, Enter, Cut, Complete, Fail}
 use Rattle.kernel_model.specs.declared.request.Verdict.{Verdict}
 use Rattle.kernel_model.specs.declared.request.Verdict.TheVariants.{Waits, Replies, Ends}
-use Rattle.kernel_model.proofs.Runs.{told-entry}
+use Rattle.kernel_model.proofs.Runs.{told-entry, contents-append, contents-given_by}
 use Rattle.kernel_model.proofs.Transitions.{OfEachEvent, each_event, of_turn, of_enter}
 use Rattle.kernel_model.specs.Views.{contents}
 use Rattle.kernel_laws.specs.Promises.{ComesTo, IsRunOn}
@@ -27,15 +27,7 @@ use Rattle.kernel_laws.proofs.Others.{step_keeps}
 use Rattle.kernel_laws.proofs.Children.{step_not_made}
 use Rattle.kernel_laws.proofs.Quiet.{told_if}
 
--- what is given, and the replies among it, one entry after the other
-contents-append : {A : Type 0} (xs ys : List (Given A)) → contents (xs ++ ys) ≡ contents xs ++ contents ys
-contents-append [] ys = refl
-contents-append (x ∷ xs) ys = ap (λ zs. x.what ∷ zs) (contents-append xs ys)
-
-contents-given_by : {A : Type 0} (past : List Entry) (e : Entry) (xs : List A) → contents (given_by past e xs) ≡ xs
-contents-given_by past e [] = refl
-contents-given_by past e (x ∷ xs) = ap (λ ys. x ∷ ys) (contents-given_by past e xs)
-
+-- the replies among what is given, one entry after the other
 replies_in-append : (xs ys : List Item) → replies_in (xs ++ ys) ≡ replies_in xs ++ replies_in ys
 replies_in-append [] ys = refl
 replies_in-append (Got r ∷ xs) ys = ap (λ rs. r ∷ rs) (replies_in-append xs ys)

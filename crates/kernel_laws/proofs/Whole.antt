@@ -1,29 +1,20 @@
 -- A whole run is synchronous.
-use Rattle.std.proofs.Common.{append-nil, ◌≡◌, ℕ, ◌+◌, Bool, true, false, if◌then◌else◌, List, [], ◌∷◌, ◌++◌, length, is_some, refl, sym, ap, ◌∙◌, append_assoc, add-zero, arith}
+use Rattle.std.proofs.Common.{◌≡◌, ℕ, ◌+◌, Bool, true, false, if◌then◌else◌, List, [], ◌∷◌, ◌++◌, length, is_some, refl, sym, ap, ◌∙◌, add-zero, arith}
 use Rattle.std.specs.Prelude.{cond}
 use Rattle.std.proofs.lemmas.List.Sums.{sum_by-append, sum_by-cons}
 use Rattle.kernel_model.specs.Entries.{Entry}
 use Rattle.kernel_model.specs.Steps.{step}
-use Rattle.kernel_model.specs.World.{World, Boot, first_world, happens, after, sync_run, sync_log}
+use Rattle.kernel_model.specs.World.{World, Boot, first_world, happens, after}
 use Rattle.kernel_model.specs.Shown.{printed, told}
 use Rattle.kernel_model.specs.Answers.{committed}
 use Rattle.kernel_model.specs.declared.event.Event.{Event}
+use Rattle.kernel_model.proofs.Runs.{after_sync, after_log}
 use Rattle.kernel_laws.specs.Promises.{IsSynchronous, forks}
 use Rattle.kernel_laws.proofs.Machines.{comes_at_once}
 use Rattle.kernel_laws.proofs.Prefixes.{released_is}
 use Rattle.kernel_laws.proofs.Others.{made_count, step_length}
 use Rattle.kernel_laws.proofs.Replies.{after_runs}
 use Rattle.kernel_laws.proofs.Descent.{after_descends, first_world_descends}
-
-after_sync : (es : List Event) (w : World) → (after w es).sync ≡ sync_run w.sync es
-after_sync [] w = refl
-after_sync (e ∷ es) w = after_sync es (happens w e)
-
--- the log is that of the synchronous run
-after_log : (es : List Event) (w : World) → (after w es).log ≡ w.log ++ sync_log w.sync es
-after_log [] w = sym (append-nil w.log)
-after_log (e ∷ es) w =
-    after_log es (happens w e) ∙ append_assoc w.log ((step w.sync e).entry ∷ []) (sync_log (step w.sync e).state es)
 
 -- one more entry
 forks-entry : (log : List Entry) (e : Entry) → forks (log ++ e ∷ []) ≡ forks log + made_count e.child

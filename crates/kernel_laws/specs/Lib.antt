@@ -3,3 +3,6 @@ pub mod Crashes
 pub mod Gathering
 pub mod Kept
 pub mod Resuming
+pub mod Agreement
+pub mod Cones
+pub mod ConePromises

@@ -1,15 +1,17 @@
 //! Laws over whole runs of the kernel's definitions, whatever the code. Read `headline` first: it is the whole of what the kernel
-//! promises. The others say what becomes of crashes, of interleavings and of drains.
+//! promises. `cones` says what an event's causal past is: the events on which it rests by what they wrote and later ones read. The
+//! other laws say what becomes of crashes, of interleavings and of drains.
 #![tactic(auto)]
 
-ghost use Rattle.std.specs.Prelude.{List, [], ℕ, ◌≡◌, ◌≤◌, ◌<◌, ◌+◌, ◌==◌, ◌&&◌, if◌then◌else◌, true, false, None, Some, is_some};
+ghost use Rattle.std.specs.Prelude.{List, [], ◌∷◌, ◌++◌, ℕ, ◌≡◌, ◌≤◌, ◌<◌, ◌+◌, ◌==◌, ◌&&◌, if◌then◌else◌, true, false, None, Some, is_some};
 ghost use Rattle.disk_model.specs.declared.change.Change.{Change};
 ghost use Rattle.disk_model.specs.declared.change.NamedFile.{NamedFile};
 ghost use Rattle.disk_model.specs.Files.{files_after};
 ghost use Rattle.disk_model.specs.Held.{IsHeld, joined};
 ghost use Rattle.disk_model.specs.Storage.{Storage, completed, is_empty, is_quiet, piece_at};
-ghost use Rattle.kernel_model.specs.Answers.{Kernel, changes, committed, is_lent, now, process_of, refusal, with_event, with_events, writes_to_come};
-ghost use Rattle.kernel_model.specs.State.{Process};
+ghost use Rattle.kernel_model.specs.Answers.{AllAccepted, Kernel, at_boot, changes, committed, is_lent, now, process_of, refusal, with_event, with_events, writes_to_come};
+ghost use Rattle.kernel_model.specs.Limits.{AreNumbered};
+ghost use Rattle.kernel_model.specs.State.{Process, SyncState};
 ghost use Rattle.kernel_model.specs.Drains.{Drains};
 ghost use Rattle.kernel_model.specs.Shown.{handed, printed, shown, told};
 ghost use Rattle.kernel_model.specs.declared.event.Event.{Event};
@@ -23,6 +25,8 @@ ghost use Rattle.kernel_laws.specs.Crashes.{SurvivesCrash};
 ghost use Rattle.kernel_laws.specs.Kept.{KeepsWhatWasSeen};
 ghost use Rattle.kernel_laws.specs.Resuming.{IsSound, MayLeave, GoesOn, Crashed, AreRuns, ArePrefixes, last_boot};
 ghost use Rattle.kernel_laws.specs.Gathering.{HasNoTurn, IsGathered};
+ghost use Rattle.kernel_laws.specs.Cones.{IsOfProcess, cone_before, visible};
+ghost use Rattle.kernel_laws.specs.ConePromises.{IsFramed, ConeSuffices, VisibleSuffice};
 
 use disk_model::{
     changes_come_in_turn, checkpoints_fit, crashes, held_files_are_made, held_once,
@@ -168,4 +172,23 @@ pub fn lent_processes_stay()
 /// A law: a drain is its events, applied one after the other.
 pub fn drains_are_events()
     ensures { (k : Kernel) (events : List Event) (new : Kernel) → Drains k events new → new ≡ with_events k events }
+{}
+
+/// A law, the whole of what cones promise: what is shown tells nothing uncommitted. It holds for every boot and every list of events.
+///
+/// It rests on the frame of each event: in two states that agree on what the event reads it does the same, and what it does not write
+/// stays. So an event does in the run of its cone alone, from the same boot, what it does in the whole run. A core that is booted alike
+/// accepts the cone's events, each where it stands, if the whole run's were accepted. The frame is said of files that have their numbers,
+/// as they have in each state of a run (`kernel_model::tables_keep_their_limits`).
+///
+/// The visible events are the processes' events that rest on committed changes alone. Such a core accepts them too, each where it stands.
+/// Their run gives the committed files, all that terminals show, and all that is handed to each process that is there. A process whose
+/// fork rests on an uncommitted change is not there.
+pub fn cones()
+    ensures frame { (s t : SyncState) (e : Event) → AreNumbered s.files → AreNumbered t.files → IsFramed s t e }
+    ensures cone { (b : Boot) (es : List Event) (e : Event) → ConeSuffices b es e }
+    ensures accepted { (b : Boot) (es : List Event) (e : Event) → IsOfProcess e → AllAccepted (at_boot b) (es ++ e ∷ [])
+        → AllAccepted (at_boot b) (cone_before b es e ++ e ∷ []) }
+    ensures shown { (b : Boot) (es : List Event) → VisibleSuffice b es }
+    ensures visible_accepted { (b : Boot) (es : List Event) → AllAccepted (at_boot b) es → AllAccepted (at_boot b) (visible b es) }
 {}

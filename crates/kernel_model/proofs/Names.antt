@@ -60,7 +60,7 @@ place_there files number place e =
     (found.0, slice_get-get_or files.numbers place 0 found.0 ∙ ap Some is)
 
 -- numbers that rise differ
-rise_least : (low high : ℕ) (ns : List ℕ) (k n : ℕ) → RiseFrom low high ns → slice_get ns k ≡ Some n → low ≤ n
+pub rise_least : (low high : ℕ) (ns : List ℕ) (k n : ℕ) → RiseFrom low high ns → slice_get ns k ≡ Some n → low ≤ n
 rise_least low high [] k n h e = absurd (let no : ⊥ = cc in no)
 rise_least low high (m ∷ ns) zero n h e = let same : m ≡ n = cc in omega (arith, same, h.0)
 rise_least low high (m ∷ ns) (suc k) n h e = omega (arith, rise_least (m + 1) high ns k n h.2 e, h.0)

@@ -13,7 +13,7 @@ count_of (d ∷ ds) = change_count d + count_of ds
 
 -- the tests are what they say
 
-meets_if : (ws xs rs : List Carrier) (b : Bool) → meets ws (if b then xs ++ rs else xs) ≡ true → (meets ws xs ≡ true) ⊎ ((meets ws rs ≡ true) × (b ≡ true))
+pub meets_if : (ws xs rs : List Carrier) (b : Bool) → meets ws (if b then xs ++ rs else xs) ≡ true → (meets ws xs ≡ true) ⊎ ((meets ws rs ≡ true) × (b ≡ true))
 meets_if ws xs rs true h = elim (or_cases (meets ws xs) (meets ws rs) (sym (meets-append ws xs rs) ∙ h)) [ inl t ↦ inl t | inr t ↦ inr (t, refl) ]
 meets_if ws xs rs false h = inl h
 

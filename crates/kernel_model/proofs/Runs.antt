@@ -8,7 +8,8 @@ use Rattle.kernel_model.specs.Answers.{Kernel, now, process_of, with_event, with
 use Rattle.kernel_model.specs.Ran.{instructions_of, instructions_in, instructions_from, ran_by_turns, ran_in}
 use Rattle.kernel_model.specs.State.{Process}
 use Rattle.kernel_model.specs.Steps.{step}
-use Rattle.kernel_model.specs.World.{World, first_world, happens, after}
+use Rattle.kernel_model.specs.Views.{contents}
+use Rattle.kernel_model.specs.World.{World, first_world, happens, after, sync_run, sync_log}
 use Rattle.kernel_model.specs.Shown.{Given, given_by, each_from, printed, bytes_for, told, told_from, told_with}
 use Rattle.kernel_model.specs.declared.answer.Outcome.{Outcome}
 use Rattle.kernel_model.specs.declared.answer.Outcome.TheVariants as outcome
@@ -24,6 +25,24 @@ after-append w (x ∷ es) e = after-append (happens w x) es e
 pub after-after : (w : World) (es fs : List Event) → after w (es ++ fs) ≡ after (after w es) fs
 after-after w [] fs = refl
 after-after w (x ∷ es) fs = after-after (happens w x) es fs
+
+-- a run's state and its log are those of the synchronous kernel
+pub after_sync : (es : List Event) (w : World) → (after w es).sync ≡ sync_run w.sync es
+after_sync [] w = refl
+after_sync (e ∷ es) w = after_sync es (happens w e)
+
+pub after_log : (es : List Event) (w : World) → (after w es).log ≡ w.log ++ sync_log w.sync es
+after_log [] w = sym (append-nil w.log)
+after_log (e ∷ es) w = after_log es (happens w e) ∙ append_assoc w.log ((step w.sync e).entry ∷ []) (sync_log (step w.sync e).state es)
+
+-- what is given, one entry after the other
+pub contents-append : {A : Type 0} (xs ys : List (Given A)) → contents (xs ++ ys) ≡ contents xs ++ contents ys
+contents-append [] ys = refl
+contents-append (x ∷ xs) ys = ap (λ zs. x.what ∷ zs) (contents-append xs ys)
+
+pub contents-given_by : {A : Type 0} (past : List Entry) (e : Entry) (xs : List A) → contents (given_by past e xs) ≡ xs
+contents-given_by past e [] = refl
+contents-given_by past e (x ∷ xs) = ap (λ ys. x ∷ ys) (contents-given_by past e xs)
 
 -- what one more entry gives comes last
 pub each_from-append : {A : Type 0} (f : Entry → List A) (past log : List Entry) (e : Entry)

@@ -13,14 +13,13 @@ ghost use Rattle.kernel_step.specs.Ready.{MayEnter};
 
 use crate::system::System;
 use crate::task::Task;
-use calls::{PipeStep, Plan, Verdict, plan_call, plan_end};
+use calls::{PipeStep, Plan, Verdict, plan_call, plan_end, request_of};
 use commit_deps::Carrier;
 use held_output::{Trace, zero_reply};
 use machine::Machine;
 use machine_model::{Cause, Stop};
 use pipes::Pipe;
 use processes::{Descriptors, ProcTable};
-use requests::request_of;
 use std::alloc::{AllocError, Global};
 
 /// A process that enters the kernel: its number, its machine, and the call or the trap at which that stands, which was asked for once.

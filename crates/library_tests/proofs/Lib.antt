@@ -1,1 +1,2 @@
 mod Free
+pub mod ByByte

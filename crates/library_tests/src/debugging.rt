@@ -61,6 +61,8 @@ enum Call {
     Step(Result<Stepped, DebugFault>),
     /// A run of at most so many instructions.
     Run(u64, Stopped),
+    /// The same past breakpoints.
+    RunPast(u64, Stopped),
     Rewind(u64, Result<(), DebugFault>),
     Break(u32, Result<usize, DebugFault>),
     Clear(usize, Result<(), DebugFault>),
@@ -106,6 +108,11 @@ const BREAKPOINTS: &[Call] = &[
     Call::Run(3, Stopped::Limit),
     Call::Run(0, Stopped::Limit),
     Call::Count(9),
+    Call::Rewind(0, Ok(())),
+    Call::RunPast(7, Stopped::Limit),
+    Call::Count(7),
+    Call::RunPast(100, Stopped::EndOfTrace),
+    Call::Count(18),
 ];
 
 /// A machine stands at a breakpoint's trap before its first instruction.
@@ -207,6 +214,7 @@ fn assert_call(rt: &impl Abort, row: usize, debugger: &mut Debugger, call: &Call
     match *call {
         Call::Step(wanted) => assert_row(rt, row, debugger.step(), wanted),
         Call::Run(most, wanted) => assert_row(rt, row, debugger.run_to_break(most), Ok(wanted)),
+        Call::RunPast(most, wanted) => assert_row(rt, row, debugger.run(most), Ok(wanted)),
         Call::Rewind(count, wanted) => assert_row(rt, row, debugger.rewind(count), wanted),
         Call::Break(at, wanted) => assert_row(rt, row, debugger.break_at(at), wanted),
         Call::Clear(number, wanted) => assert_row(rt, row, debugger.clear(number), wanted),
@@ -267,9 +275,12 @@ fn looped(alloc: Global, count: u64) -> Result<Debugger, DebugFault> {
 #[test]
 fn has_room_for_64_breakpoints(rt: HostRuntime) -> Result<(), Fail> {
     let mut debugger = looped(rt.alloc(), 0)?;
+    assert_row(&rt, "none", debugger.has_no_break(), true);
     for number in 0..64 {
         debugger.break_at(ENTRY + 4 * number)?;
     }
+    assert_row(&rt, "some", debugger.has_no_break(), false);
+    assert_row(&rt, "number", debugger.number_at(ENTRY + 28), Some(7));
     assert_calls(&rt, &mut debugger, ROOM);
     Ok(())
 }

@@ -1,10 +1,10 @@
 //! Instructions on a memory of 64 bytes.
 use crate::asserting::assert_row;
+use crate::flat_bus::FlatBus;
 use formats::{Immediate, Instr, Reg, ShiftAmount};
 use isa_table::{Outcome, Regs, exec};
 use machine_model::Cause;
 use std::process::Abort;
-use test_bus::FlatBus;
 
 /// The least signed number.
 const LEAST: u32 = 0x8000_0000;

@@ -1,5 +1,5 @@
 //! Tests of the lower crates over what they export. They stand in a crate of their own, since a crate with tests is proved twice.
-//! Each file's head says what it tests; `asserting` has what they share.
+//! Each file's head says what it tests; `asserting` has what they share. `flat_bus` is proved as it stands, also without the tests.
 #![tactic(auto)]
 
 #[cfg(test)]
@@ -22,6 +22,7 @@ mod event_cones;
 mod execution;
 #[cfg(test)]
 mod file_tables;
+mod flat_bus;
 #[cfg(test)]
 mod going_back;
 #[cfg(test)]
@@ -52,3 +53,5 @@ mod spaces;
 mod tokens;
 #[cfg(test)]
 mod trap_lines;
+
+pub use flat_bus::FlatBus;

@@ -2,7 +2,7 @@
 ghost use Rattle.std.specs.Prelude.{◌≤◌};
 
 use crate::asserting::assert_row;
-use console::{PumpFault, pump};
+use console::{Cursor, PumpFault, pump};
 use std::alloc::{AllocError, Global};
 use std::io::{self, Error, ErrorKind, Write};
 use std::process::Abort;
@@ -119,4 +119,12 @@ fn a_vector_takes_all(rt: HostRuntime) {
     assert_row(&rt, "upto", pump(&mut writer, TEXT, 4), Ok(22));
     let text = b"text that goes out".as_slice();
     assert_row(&rt, "taken", writer.as_slice(), text);
+}
+
+#[test]
+fn a_cursor_tells_each_byte_once(rt: HostRuntime) {
+    let mut told = Cursor::new();
+    assert_row(&rt, "begin", told.rest(&TEXT[..4]), b"the ".as_slice());
+    assert_row(&rt, "more", told.rest(&TEXT[..8]), b"text".as_slice());
+    assert_row(&rt, "none", told.rest(&TEXT[..8]), b"".as_slice());
 }

@@ -1,11 +1,9 @@
 //! A program debugged by gdb.
 use crate::debugging::process_in;
-use crate::fault::of_connection;
+use crate::fault::of_session;
 use command_line::GdbOptions;
 use faults::Fault;
-use gdb_connection::{Keeper, converse};
-use gdb_session::Session;
-use gdb_timeline::{Origin, OutOfMemory, Timeline};
+use gdb_session::{Keeper, Session, converse};
 use host_files::{DiskLock, FileFault, image_in, keep, replies_in};
 use machine_model::Image;
 use simdisk::SimDisk;
@@ -15,6 +13,7 @@ use std::io::{Read, Write};
 use std::rt::Files;
 use std::sync::Wait;
 use std::thread::Threads;
+use timeline::{Origin, SessionFault, Timeline};
 
 /// The file of a session's disk, if there is one.
 #[derive(Drop)]
@@ -60,10 +59,7 @@ fn origin_in<R: Files + AllocGlobal>(
             let replies = replies_in(rt, Some(trace))?;
             Ok((image, Origin::Trace(replies)))
         }
-        _ => {
-            let (recorder, image) = process_in(rt, live)?;
-            Ok((image, Origin::Kernel(recorder, live.process)))
-        }
+        _ => process_in(rt, live),
     }
 }
 
@@ -72,15 +68,14 @@ fn session_of(
     image: Image,
     origin: Origin,
     options: &GdbOptions<'_>,
-) -> Result<Session, Fault> {
+) -> Result<Session, SessionFault> {
     let symbols = match options.symbols {
         Some(path) => Some(Vec::from_slice(alloc, path.as_bytes())?),
         None => None,
     };
-    match Timeline::new(alloc, image, origin, u64::from(options.history) << 20) {
-        Ok(timeline) => Ok(Session::new(alloc, timeline, symbols)),
-        Err(OutOfMemory) => Err(Fault::OutOfMemory),
-    }
+    let timeline = Timeline::new(alloc, image, origin)?;
+    let room = u64::from(options.history) << 20;
+    Ok(Session::new(alloc, timeline, room, symbols))
 }
 
 /// Answers gdb, which debugs an image. A kernel answers the calls of its program, or a trace does. Nothing is written to the disk's
@@ -91,10 +86,10 @@ pub fn answer_gdb<
     O: Write,
 >(rt: &R, options: &GdbOptions<'_>, input: &mut I, out: &mut O) -> Result<(), Fault> {
     let (image, origin) = origin_in(rt, options)?;
-    let session = session_of(rt.alloc(), image, origin, options)?;
+    let session = session_of(rt.alloc(), image, origin, options).map_err(of_session)?;
     let mut file = DiskFile {
         rt,
         path: options.live.disk,
     };
-    converse(rt, rt.alloc(), session, &mut file, input, out).map_err(of_connection)
+    converse(rt, rt.alloc(), session, &mut file, input, out).map_err(of_session)
 }

@@ -1,5 +1,4 @@
 //! Scripts in files of the host, and on the input, each read whole before anything runs.
-use crate::fault::{of_exploration, of_script};
 use crash_outcomes::explore;
 use faults::Fault;
 use pictured_runs::picture;
@@ -8,6 +7,11 @@ use std::io::{Read, Write};
 use std::rt::Files;
 use std::{fs, io};
 
+fn script_in<R: Files + AllocGlobal>(rt: &R, path: &str) -> Result<Script, Fault> {
+    let text = fs::read_to_string(rt, path)?;
+    Script::parse(rt.alloc(), text.as_str())
+}
+
 /// Replays the script on the input.
 pub fn replay_input<R: Files + AllocGlobal, I: Read, O: Write>(
     rt: &R,
@@ -15,7 +19,7 @@ pub fn replay_input<R: Files + AllocGlobal, I: Read, O: Write>(
     out: &mut O,
 ) -> Result<(), Fault> {
     let text = io::read_to_string(rt.alloc(), input)?;
-    replay(rt, text.as_str(), out).map_err(of_script)
+    replay(rt, Script::parse(rt.alloc(), text.as_str())?, out)
 }
 
 /// Replays the script in a file.
@@ -24,8 +28,7 @@ pub fn replay_file<R: Files + AllocGlobal, O: Write>(
     path: &str,
     out: &mut O,
 ) -> Result<(), Fault> {
-    let text = fs::read_to_string(rt, path)?;
-    replay(rt, text.as_str(), out).map_err(of_script)
+    replay(rt, script_in(rt, path)?, out)
 }
 
 /// Replays the script in a file without printing, and prints the cone of the event of this number.
@@ -35,8 +38,7 @@ pub fn replay_cone_file<R: Files + AllocGlobal, O: Write>(
     event: u64,
     out: &mut O,
 ) -> Result<(), Fault> {
-    let text = fs::read_to_string(rt, path)?;
-    replay_cone(rt, text.as_str(), event, out).map_err(of_script)
+    replay_cone(rt, script_in(rt, path)?, event, out)
 }
 
 /// Draws the run of the script in a file, and in it the cone of an event, if a number is given.
@@ -46,8 +48,7 @@ pub fn picture_file<R: Files + AllocGlobal, O: Write>(
     cone: Option<u64>,
     out: &mut O,
 ) -> Result<(), Fault> {
-    let text = fs::read_to_string(rt, path)?;
-    picture(rt, text.as_str(), cone, out).map_err(of_script)
+    picture(rt, script_in(rt, path)?, cone, out)
 }
 
 /// Tries the crashes of the script in a file. The whole script is read first, and then what is expected of them, if anything is.
@@ -57,11 +58,10 @@ pub fn explore_file<R: Files + AllocGlobal, O: Write>(
     expect: Option<&str>,
     out: &mut O,
 ) -> Result<(), Fault> {
-    let text = fs::read_to_string(rt, path)?;
-    let script = Script::parse(rt.alloc(), text.as_str()).map_err(of_script)?;
+    let script = script_in(rt, path)?;
     let Some(path) = expect else {
-        return explore(rt, script, None, out).map_err(of_exploration);
+        return explore(rt, script, None, out);
     };
     let expected = fs::read_to_string(rt, path)?;
-    explore(rt, script, Some(expected.as_str()), out).map_err(of_exploration)
+    explore(rt, script, Some(expected.as_str()), out)
 }

@@ -1,11 +1,10 @@
 //! What the call or the trap says at which a process stands.
-use crate::texts::quoted;
-use byte_list::Bytes;
+use call_forms::{CallText, Style};
+use calls::request_of;
 use formats::Reg;
 use kernel_model::Request;
 use machine::Machine;
 use machine_model::Stop;
-use requests::request_of;
 use std::alloc::{AllocError, Global};
 
 /// The most bytes that a call shows of what it writes or of a name, and of each of two names.
@@ -13,76 +12,48 @@ const MOST_BYTES: usize = 8;
 
 const MOST_BYTES_EACH: usize = 5;
 
-/// Between quotes what a call names; a question mark where the process may not read it.
-fn named(alloc: Global, bytes: &Option<Bytes>) -> Result<String, AllocError> {
-    let bytes = bytes.as_ref().map(|bytes| bytes.as_slice());
-    quoted(alloc, bytes, MOST_BYTES)
+/// The bytes that a call reads of its process, if it reads some and may, and how many of each length are shown.
+fn bytes_of(request: &Request) -> (Option<&[u8]>, usize) {
+    let (bytes, most) = match request {
+        Request::Write { bytes, .. } => (bytes, MOST_BYTES),
+        Request::Open { name, .. } => (name, MOST_BYTES),
+        Request::Unlink { name, .. } => (name, MOST_BYTES),
+        Request::Rename { names, .. } => (names, MOST_BYTES_EACH),
+        Request::Exec { name, .. } => (name, MOST_BYTES),
+        Request::Exit { .. }
+        | Request::Read { .. }
+        | Request::Close { .. }
+        | Request::Pipe { .. }
+        | Request::Fork
+        | Request::Wait { .. }
+        | Request::GetPid
+        | Request::Seek { .. }
+        | Request::Sync
+        | Request::Unknown => return (None, MOST_BYTES),
+    };
+    (bytes.as_ref().map(|bytes| bytes.as_slice()), most)
 }
 
-/// The two names of a rename: the first n bytes, and those after them.
-fn rename_text(alloc: Global, n: u32, names: &Option<Bytes>) -> Result<String, AllocError> {
-    let names = names.as_ref().map(|names| names.as_slice());
-    let old = quoted(
-        alloc,
-        names.and_then(|names| names.get(..n as usize)),
-        MOST_BYTES_EACH,
-    )?;
-    let new = quoted(
-        alloc,
-        names.and_then(|names| names.get(n as usize..)),
-        MOST_BYTES_EACH,
-    )?;
-    format!(in alloc; "rename({old}, {new})")
-}
-
-/// A call that names bytes.
-fn naming_text(alloc: Global, request: &Request) -> Result<String, AllocError> {
-    match request {
-        Request::Write { fd, bytes, .. } => {
-            let bytes = named(alloc, bytes)?;
-            format!(in alloc; "write({fd}, {bytes})")
-        }
-        Request::Open { mode, name, .. } => {
-            let name = named(alloc, name)?;
-            format!(in alloc; "open({name}, {mode})")
-        }
-        Request::Unlink { name, .. } => {
-            let name = named(alloc, name)?;
-            format!(in alloc; "unlink({name})")
-        }
-        Request::Exec { name, .. } => {
-            let name = named(alloc, name)?;
-            format!(in alloc; "exec({name})")
-        }
-        Request::Rename { n, names, .. } => rename_text(alloc, *n, names),
-        _ => String::from_str(alloc, ""),
-    }
-}
-
-/// A call of this number.
-fn request_text(alloc: Global, number: u32, request: &Request) -> Result<String, AllocError> {
-    match request {
-        Request::Exit { status } => format!(in alloc; "exit({status})"),
-        Request::Read { fd, n, .. } => format!(in alloc; "read({fd}, {n})"),
-        Request::Close { fd } => format!(in alloc; "close({fd})"),
-        Request::Pipe { .. } => String::from_str(alloc, "pipe()"),
-        Request::Fork => String::from_str(alloc, "fork()"),
-        Request::Wait { .. } => String::from_str(alloc, "wait()"),
-        Request::GetPid => String::from_str(alloc, "getpid()"),
-        Request::Seek { fd, offset } => format!(in alloc; "seek({fd}, {offset})"),
-        Request::Sync => String::from_str(alloc, "sync()"),
-        Request::Unknown => format!(in alloc; "call {number}()"),
-        request => naming_text(alloc, request),
-    }
+/// The call at which a machine stands.
+fn request_text(alloc: Global, machine: &Machine) -> Result<String, AllocError> {
+    let request = request_of(alloc, machine)?;
+    let (bytes, most) = bytes_of(&request);
+    let text = CallText {
+        number: machine.reg(Reg::new(17)),
+        arguments: [
+            machine.reg(Reg::new(10)),
+            machine.reg(Reg::new(11)),
+            machine.reg(Reg::new(12)),
+        ],
+        style: Style::Bytes { bytes, most },
+    };
+    format!(in alloc; "{text}")
 }
 
 /// What the call or the trap says at which a machine stands. Nothing where it stands at neither.
 pub fn call_text(alloc: Global, machine: &Machine) -> Result<String, AllocError> {
     match machine.stopped() {
-        Some(Stop::Call) => {
-            let request = request_of(alloc, machine)?;
-            request_text(alloc, machine.reg(Reg::new(17)), &request)
-        }
+        Some(Stop::Call) => request_text(alloc, machine),
         Some(Stop::Trap(cause)) => {
             let number = cause.number();
             format!(in alloc; "trap {number}")

@@ -1,9 +1,9 @@
 //! The cone of an event in a picture: what it does not rest on is pale, and arrows show the paths between processes.
-use crate::fault::cone_fault;
 use crate::paths::{Past, directly_before, pasts_of};
+use faults::Fault;
 use kernel::Core;
 use pictures::{Arrow, Deed, Picture};
-use scripts::ScriptFault;
+use scripts::cone_numbers;
 use std::alloc::Global;
 
 /// The row of the event of this number.
@@ -51,7 +51,7 @@ fn push_arrows(
     picture: &mut Picture,
     pasts: &[Past],
     past: &Past,
-) -> Result<(), ScriptFault> {
+) -> Result<(), Fault> {
     let process = process_at(picture, past.event);
     for event in directly_before(alloc, pasts, past)?.as_slice() {
         if process_at(picture, *event) != process {
@@ -64,14 +64,15 @@ fn push_arrows(
     Ok(())
 }
 
-/// Shows in the picture of a run on what the event of this number rests. NoEvent: there is no such event, or it is one of the disk.
+/// Shows in the picture of a run on what the event of this number rests. Refused as an event where there is none, or
+/// it is one of the disk.
 pub fn show_cone(
     alloc: Global,
     core: &Core,
     picture: &mut Picture,
     event: u64,
-) -> Result<(), ScriptFault> {
-    let cone = core.cone(event).map_err(|why| cone_fault(why, event))?;
+) -> Result<(), Fault> {
+    let cone = cone_numbers(core, event)?;
     make_pale(picture, cone.as_slice());
     let (events, changes) = (cone.len(), full_changes(picture));
     picture.heading = format!(in alloc;

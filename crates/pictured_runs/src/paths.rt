@@ -1,8 +1,8 @@
 //! The paths between the events of a cone: from which events one leads to another with none between.
-use crate::fault::cone_fault;
+use faults::Fault;
 use kernel::Core;
 use pictures::MOST_ROWS;
-use scripts::ScriptFault;
+use scripts::cone_numbers;
 use std::alloc::{AllocError, Global};
 use std::collections::BTreeSet;
 
@@ -27,8 +27,8 @@ fn floor_of(last: u64) -> u64 {
 }
 
 /// The past of an event, from the event after this number on.
-fn past_of(alloc: Global, core: &Core, event: u64, floor: u64) -> Result<Past, ScriptFault> {
-    let cone = core.cone(event).map_err(|why| cone_fault(why, event))?;
+fn past_of(alloc: Global, core: &Core, event: u64, floor: u64) -> Result<Past, Fault> {
+    let cone = cone_numbers(core, event)?;
     let events = cone
         .iter()
         .copied()
@@ -38,7 +38,7 @@ fn past_of(alloc: Global, core: &Core, event: u64, floor: u64) -> Result<Past, S
 }
 
 /// The pasts of the events of a cone, of as many of the last ones as a picture can have.
-pub fn pasts_of(alloc: Global, core: &Core, cone: &[u64]) -> Result<Vec<Past>, ScriptFault> {
+pub fn pasts_of(alloc: Global, core: &Core, cone: &[u64]) -> Result<Vec<Past>, Fault> {
     let floor = floor_of(cone.last().copied().unwrap_or(0));
     let mut pasts = Vec::new(alloc);
     for event in cone {

@@ -1,31 +1,16 @@
 //! The picture of a script's run.
-use crate::boots::Run;
+use crate::builder::PictureBuilder;
+use crate::call_texts::{call_text, reply_text};
 use crate::cones::show_cone;
-use crate::crashes::{record_crash, record_files};
-use crate::recording::{record_drain, record_event};
-use kernel::Core;
-use pictures::{Picture, draw};
-use scripts::{Action, Script, ScriptFault, Setup, Step};
+use crate::crashes::{push_crash, push_files};
+use faults::Fault;
+use kernel::{Answer, Core, Event, Machine};
+use pictures::{Deed, Picture, Row, draw};
+use scripts::{AnswerText, EventText, Script, Setup, Start, Visitor, play_all};
 use std::alloc::{AllocError, Global};
 use std::io::Write;
+use std::mem;
 use std::rt::Files;
-
-/// The heading of a picture of a whole run.
-const HEADING: &str = "What may be seen, and when";
-
-/// A picture without a row.
-fn empty_picture(alloc: Global) -> Result<Picture, AllocError> {
-    Ok(Picture {
-        heading: String::from_str(alloc, HEADING)?,
-        rows: Vec::new(alloc),
-        processes: 0,
-        changes: Vec::new(alloc),
-        flights: Vec::new(alloc),
-        outputs: Vec::new(alloc),
-        arrows: Vec::new(alloc),
-        focus: 0,
-    })
-}
 
 /// How many processes a core has.
 fn processes_of(core: &Core) -> u32 {
@@ -37,102 +22,158 @@ fn processes_of(core: &Core) -> u32 {
     u32::MAX
 }
 
-/// Records what a line does with the core. A line that applies no event records nothing.
-fn record_action(
-    alloc: Global,
-    run: &mut Run,
-    picture: &mut Picture,
-    action: Action,
-) -> Result<(), ScriptFault> {
-    match action {
-        Action::Apply(event) => {
-            record_event(alloc, run, picture, event)?;
-            Ok(())
-        }
-        Action::Drain => record_drain(alloc, run, picture),
-        Action::Shown(_) | Action::Trace(_) | Action::Files => Ok(()),
-    }
-}
-
 /// Notes how many processes there are, where there are more than before.
-fn note_processes(run: &Run, picture: &mut Picture) {
-    picture.processes = picture.processes.max(processes_of(&run.core));
+fn note_processes(picture: &mut Picture, core: &Core) {
+    picture.processes = picture.processes.max(processes_of(core));
 }
 
-/// Boots again after a crash, and records that, in the same picture, or in one that begins with this boot.
-fn record_boot<R: Files + AllocGlobal>(
-    rt: &R,
-    setup: &mut Setup,
-    run: Run,
-    picture: &mut Picture,
-    fill: &[u8],
-    alone: bool,
-) -> Result<Run, ScriptFault> {
-    if alone {
-        *picture = empty_picture(rt.alloc())?;
-        return run.crash(rt, setup, fill, 0);
+/// The machine of the process that an event has enter the kernel.
+fn machine_of(core: &Core, event: Event) -> Option<&Machine> {
+    match event {
+        Event::Enter { pid } => core.machine(pid).ok(),
+        _ => None,
     }
-    record_crash(rt.alloc(), &run, picture, fill)?;
-    note_processes(&run, picture);
-    let next = run.crash(rt, setup, fill, picture.changes.len())?;
-    record_files(rt.alloc(), &next.core, picture)?;
-    Ok(next)
 }
 
-/// Records a step. After a crash the run that comes back is another one.
-fn record<R: Files + AllocGlobal>(
-    rt: &R,
-    setup: &mut Setup,
-    mut run: Run,
-    picture: &mut Picture,
-    step: &Step,
+/// What the call or the trap of an event says that is to be applied; nothing where the event is no Enter.
+fn call_before(alloc: Global, core: &Core, event: Event) -> Result<String, AllocError> {
+    match machine_of(core, event) {
+        Some(machine) => call_text(alloc, machine),
+        None => Ok(String::new(alloc)),
+    }
+}
+
+/// What came of the call of an event that was applied.
+fn outcome_after(
+    alloc: Global,
+    core: &Core,
+    event: Event,
+    answer: Answer,
+) -> Result<String, AllocError> {
+    match (answer, machine_of(core, event)) {
+        (Answer::Entered, Some(machine)) => reply_text(alloc, machine),
+        (Answer::Waits, _) => String::from_str(alloc, " waits"),
+        _ => Ok(String::new(alloc)),
+    }
+}
+
+/// What an event's process did.
+fn deed_of(event: Event, call: String, outcome: String) -> Deed {
+    match event {
+        Event::Turn { pid, .. } => Deed::Turn { process: pid },
+        Event::Enter { pid } => Deed::Call {
+            process: pid,
+            call,
+            outcome,
+        },
+        Event::Cut | Event::Complete { .. } | Event::Fail { .. } => Deed::Disk,
+    }
+}
+
+/// A script whose picture is made while it is played: of the whole run, or `alone` of that since the last boot.
+#[derive(Drop)]
+struct Pictured<'a, R> {
+    start: Start<'a, R>,
     alone: bool,
-) -> Result<Run, ScriptFault> {
-    match step {
-        Step::Act(action) => {
-            record_action(rt.alloc(), &mut run, picture, *action)?;
-            Ok(run)
+    builder: PictureBuilder,
+    /// What the call says of the event that is to be applied.
+    call: String,
+}
+
+impl<'a, R: Files + AllocGlobal> Pictured<'a, R> {
+    /// Before the first boot.
+    fn new(rt: &'a R, setup: &'a mut Setup, alone: bool) -> Result<Pictured<'a, R>, Fault> {
+        let mut start = Start::new(rt, setup);
+        let follower = start.boot()?;
+        let alloc = start.alloc();
+        Ok(Pictured {
+            start,
+            alone,
+            builder: PictureBuilder::new(alloc, follower)?,
+            call: String::new(alloc),
+        })
+    }
+
+    /// The row of an event that was accepted last.
+    fn row_of(&mut self, core: &Core, event: Event, answer: Answer) -> Result<Row, AllocError> {
+        let alloc = self.start.alloc();
+        let call = mem::replace(&mut self.call, String::new(alloc));
+        let outcome = outcome_after(alloc, core, event, answer)?;
+        let number = core.history().len();
+        let line = EventText(event);
+        let answer = AnswerText(answer);
+        Ok(Row {
+            label: format!(in alloc; "{number}  {line}")?,
+            answer: format!(in alloc; "{answer}")?,
+            deed: deed_of(event, call, outcome),
+            committed: None,
+            pale: false,
+        })
+    }
+
+    /// Goes on with the next boot: below what there is, with the files that this boot found, or alone.
+    fn boot_again(&mut self, next: &Core) -> Result<(), Fault> {
+        let follower = self.start.boot()?;
+        if self.alone {
+            self.builder = PictureBuilder::new(self.start.alloc(), follower)?;
+            return Ok(());
         }
-        Step::Crash(fill) => record_boot(rt, setup, run, picture, fill.as_slice(), alone),
+        self.builder.boot(follower);
+        let picture = &mut self.builder.picture;
+        Ok(push_files(self.start.alloc(), picture, next.boot_files())?)
+    }
+
+    /// Completes the picture of a run that has come to its end, and shows the cone of an event in it, if a number is given.
+    fn finish(&mut self, core: &Core, cone: Option<u64>) -> Result<(), Fault> {
+        let picture = &mut self.builder.picture;
+        note_processes(picture, core);
+        match cone {
+            Some(event) => show_cone(self.start.alloc(), core, picture, event),
+            None => Ok(()),
+        }
     }
 }
 
-/// Runs a script's steps on a disk of zeros, and records them: all, or `alone` those since the last boot.
-fn record_all<R: Files + AllocGlobal>(
-    rt: &R,
-    setup: &mut Setup,
-    steps: &[Step],
-    picture: &mut Picture,
-    alone: bool,
-) -> Result<Run, ScriptFault> {
-    let mut run = Run::boot(rt, setup, None, None, 0)?;
-    for step in steps {
-        run = record(rt, setup, run, picture, step, alone)?;
+impl<R: Files + AllocGlobal> Visitor for Pictured<'_, R> {
+    type Fault = Fault;
+
+    fn before(&mut self, core: &Core, event: Event) -> Result<(), Fault> {
+        self.call = call_before(self.start.alloc(), core, event)?;
+        Ok(())
     }
-    note_processes(&run, picture);
-    Ok(run)
+
+    fn after(&mut self, core: &Core, event: Event, answer: Answer) -> Result<(), Fault> {
+        let row = self.row_of(core, event, answer)?;
+        Ok(
+            self.builder
+                .push_event(self.start.alloc(), core, event, row)?,
+        )
+    }
+
+    fn crash(&mut self, core: Core, fill: &[u8]) -> Result<Core, Fault> {
+        push_crash(self.start.alloc(), &mut self.builder, fill)?;
+        note_processes(&mut self.builder.picture, &core);
+        let next = self.start.crash(core, fill)?;
+        self.boot_again(&next)?;
+        Ok(next)
+    }
 }
 
 /// Runs a script, and draws its events as SVG text: what each does, and from when on its changes are on the disk and its output is
 /// shown. Each boot has its part, and a note between two parts says what the crash cut off, and which files the next boot finds. A
 /// refused event is not drawn, nor is a line that applies none. With the number of an event it draws the run since the last boot
-/// alone, pale where that event does not rest on it, with arrows for the paths between processes. NoEvent: there is no such event,
-/// or it is a Cut, a Complete or a Fail. The script is read whole before any image that it names, and run before anything is
-/// written.
+/// alone, pale where that event does not rest on it, with arrows for the paths between processes. `Fault::Event`: there is no such
+/// event, or it is a Cut, a Complete or a Fail. The script is run before anything is written.
 pub fn picture<R: Files + AllocGlobal, O: Write>(
     rt: &R,
-    text: &str,
+    mut script: Script,
     cone: Option<u64>,
     out: &mut O,
-) -> Result<(), ScriptFault> {
-    let alloc = rt.alloc();
-    let mut script = Script::parse(alloc, text)?;
-    let mut picture = empty_picture(alloc)?;
-    let steps = script.steps.as_slice();
-    let run = record_all(rt, &mut script.setup, steps, &mut picture, cone.is_some())?;
-    if let Some(event) = cone {
-        show_cone(alloc, &run.core, &mut picture, event)?;
-    }
-    draw(alloc, &picture, out)?;
+) -> Result<(), Fault> {
+    let mut pictured = Pictured::new(rt, &mut script.setup, cone.is_some())?;
+    let core = pictured.start.boot()?;
+    let core = play_all(&mut pictured, core, script.steps.as_slice())?;
+    pictured.finish(&core, cone)?;
+    draw(rt.alloc(), &pictured.builder.picture, out)?;
     Ok(())
 }

@@ -155,7 +155,8 @@ impl Recorder {
         run_next(&mut self.core)
     }
 
-    /// The replies that were not taken, which are taken now, or the process's end; None where there is neither.
+    /// Takes the replies that were not taken, and gives them. Where there are none, it gives the process's end, if that is handed out,
+    /// and else None.
     fn found(&mut self) -> Result<Option<Recorded>, Refused>
         requires committed { IsAllCommitted (now self.old.kernel) }
         ensures finds { IfOk result (λ found. MatchOption found (HasNone self.new × (self.new.taken ≡ self.old.taken)) (λ recorded. Finds self.old.taken self.new recorded)) }

@@ -8,12 +8,13 @@ use byte_list::Bytes;
 use command_line::{LiveOptions, RunOptions};
 use durable_disk::HostFile;
 use faults::Fault;
-use file_reading::{MOST_TAPE_BYTES, bytes_in};
 use host_files::{
     DiskLock, FileFault, disk_or_zeros, image_in, keep, open_durable, test_place, zeros,
 };
-use kernel::{BootFault, Core, Program, SimDisk};
+use input_reading::{MOST_TAPE_BYTES, bytes_in};
+use kernel::{Core, Program, SimDisk};
 use machine_model::Image;
+use scripts::boot_fault;
 use std::alloc::Global;
 use std::fs::File;
 use std::io::{self, Read};
@@ -82,14 +83,6 @@ fn programs_in<R: Files + AllocGlobal>(rt: &R, paths: &[&str]) -> Result<Vec<Pro
         programs.push(Program { image, terminal })?;
     }
     Ok(programs)
-}
-
-/// Why a boot ends the program.
-pub fn boot_fault(fault: BootFault) -> Fault {
-    match fault {
-        BootFault::Disk(fault) => Fault::from(fault),
-        BootFault::OutOfMemory => Fault::OutOfMemory,
-    }
 }
 
 /// What a run begins with: its core; the lock of its disk's file, if the disk is kept; and that file, of a durable run.

@@ -4,20 +4,20 @@ ghost use Rattle.std.specs.List.{AllByRecursion};
 ghost use Rattle.disk_model.specs.Storage.{is_quiet};
 ghost use Rattle.kernel_model.specs.World.{terminal_count, tape_count};
 
-use crate::fault::ScriptFault;
 use crate::setup::{ScriptProgram, ScriptTape, Setup, Source, tape_numbered};
 use byte_list::Bytes;
-use file_reading::image_file_in;
-use kernel::{Core, Program, SimDisk};
+use faults::Fault;
+use host_files::{FileFault, zeros};
+use input_reading::image_file_in;
+use kernel::{BootFault, Core, Program, SimDisk};
 use kernel_model::{MOST_PROGRAMS, TAPES};
 use machine_model::Image;
-use simdisk::DiskRefusal;
 use std::alloc::{AllocError, Global};
 use std::rt::Files;
 
 impl Source {
     /// The image. Where it is in a file, that is read at the first boot, and never again.
-    fn image<R: Files + AllocGlobal>(&mut self, rt: &R) -> Result<Image, ScriptFault> {
+    fn image<R: Files + AllocGlobal>(&mut self, rt: &R) -> Result<Image, FileFault> {
         match self {
             Source::Words(words) => Ok(Image::from_text(rt.alloc(), words.as_slice())?),
             Source::Path(path) => {
@@ -33,7 +33,7 @@ impl Source {
 
 impl ScriptProgram {
     /// The program, to be booted once.
-    fn program<R: Files + AllocGlobal>(&mut self, rt: &R) -> Result<Program, ScriptFault>
+    fn program<R: Files + AllocGlobal>(&mut self, rt: &R) -> Result<Program, Fault>
         ensures { IfOk result (λ program. program.terminal < terminal_count) }
     {
         Ok(Program {
@@ -48,7 +48,7 @@ impl ScriptProgram {
 fn programs_of<R: Files + AllocGlobal>(
     rt: &R,
     programs: &mut [ScriptProgram],
-) -> Result<Vec<Program>, ScriptFault>
+) -> Result<Vec<Program>, Fault>
     ensures { IfOk result (λ booted. AllByRecursion (λ p. p.terminal < terminal_count) booted.items) }
 {
     let mut booted = Vec::new(rt.alloc());
@@ -78,13 +78,21 @@ fn tapes_of(alloc: Global, tapes: &[ScriptTape]) -> Result<Vec<Bytes>, AllocErro
 }
 
 /// The disk that a crash left, or else one of zeros.
-fn disk_of(alloc: Global, left: Option<SimDisk>) -> Result<SimDisk, DiskRefusal>
+fn disk_of(alloc: Global, left: Option<SimDisk>) -> Result<SimDisk, FileFault>
     requires { IfSome left (λ device. is_quiet device ≡ true) }
     ensures { IfOk result (λ device. is_quiet device ≡ true) }
 {
     match left {
         Some(device) => Ok(device),
-        None => SimDisk::zero(alloc),
+        None => zeros(alloc),
+    }
+}
+
+/// Why a boot ends the program.
+pub fn boot_fault(fault: BootFault) -> Fault {
+    match fault {
+        BootFault::Disk(fault) => Fault::from(fault),
+        BootFault::OutOfMemory => Fault::OutOfMemory,
     }
 }
 
@@ -95,15 +103,15 @@ impl Setup {
         &mut self,
         rt: &R,
         left: Option<SimDisk>,
-    ) -> Result<Core, ScriptFault>
+    ) -> Result<Core, Fault>
         requires { IfSome left (λ device. is_quiet device ≡ true) }
     {
         let programs = programs_of(rt, self.programs.as_mut_slice())?;
         if programs.is_empty() || programs.len() > MOST_PROGRAMS {
-            return Err(ScriptFault::Refused { line: 1 });
+            return Err(Fault::Script { line: 1 });
         }
         let device = disk_of(rt.alloc(), left)?;
         let tapes = tapes_of(rt.alloc(), self.tapes.as_slice())?;
-        Ok(Core::boot(rt.alloc(), device, programs, tapes)?)
+        Core::boot(rt.alloc(), device, programs, tapes).map_err(boot_fault)
     }
 }

@@ -1,56 +1,26 @@
 //! The cone of an event, run alone: the events on which it rests, and what it tells.
-ghost use Rattle.std.specs.Prelude.{◌≡◌, true, IfOk, IfSome};
-ghost use Rattle.disk_model.specs.Storage.{is_quiet};
-
-use crate::fault::ScriptFault;
-use crate::playing::{play_all, print_event};
-use crate::printing::{bytes_text, print_reply};
+use crate::playing::play_all;
+use crate::printing::{bytes_text, print_answer, print_reply};
 use crate::script::Script;
-use crate::setup::Setup;
-use crate::steps::Step;
+use crate::start::Start;
+use crate::steps::{Step, process_of};
 use crate::texts::EventText;
-use kernel::{ConeFault, Core, Event, SimDisk};
+use faults::Fault;
+use kernel::{ConeFault, Core, Event};
 use kernel_model::TERMINALS;
 use machine_model::Reply;
-use std::alloc::{AllocError, Global};
+use std::alloc::Global;
 use std::io;
 use std::io::Write;
 use std::rt::Files;
 
-/// The last crash among steps: what stands before it, its bytes, and what stands after it.
-fn last_crash(steps: &[Step]) -> Option<(&[Step], &[u8], &[Step])> {
-    for place in (0..steps.len()).rev() {
-        if let Step::Crash(fill) = &steps[place] {
-            return Some((&steps[..place], fill.as_slice(), &steps[place + 1..]));
-        }
-    }
-    None
-}
-
-/// The disk of a script's last boot, None for one of zeros, and the steps that come after that boot.
-fn last_boot<'a, R: Files + AllocGlobal>(
-    rt: &R,
-    setup: &mut Setup,
-    steps: &'a [Step],
-) -> Result<(Option<SimDisk>, &'a [Step]), ScriptFault>
-    ensures { IfOk result (λ boot. IfSome boot.0 (λ device. is_quiet device ≡ true)) }
-{
-    match last_crash(steps) {
-        None => Ok((None, steps)),
-        Some((before, fill, after)) => {
-            let core = play_all(rt, setup, None, before, &mut io::sink())?;
-            Ok((Some(core.halt(fill)), after))
-        }
-    }
-}
-
-/// A disk with the same bytes, to be booted on.
-fn copy_of(left: &Option<SimDisk>) -> Result<Option<SimDisk>, AllocError>
-    ensures { IfOk result (λ copy. IfSome copy (λ device. is_quiet device ≡ true)) }
-{
-    match left {
-        Some(device) => Ok(Some(device.after_crash(b"")?)),
-        None => Ok(None),
+/// The numbers of the events in the cone of the event of this number, in order. Refused as an event where there is no such event, or
+/// it is one of the disk.
+pub fn cone_numbers(core: &Core, event: u64) -> Result<Vec<u64>, Fault> {
+    match core.cone(event) {
+        Ok(numbers) => Ok(numbers),
+        Err(ConeFault::NoEvent) => Err(Fault::Event { event }),
+        Err(ConeFault::OutOfMemory) => Err(Fault::OutOfMemory),
     }
 }
 
@@ -60,54 +30,29 @@ fn event_numbered(history: &[Event], number: u64) -> Option<Event> {
     history.get(place).copied()
 }
 
-fn cone_fault(why: ConeFault, event: u64) -> ScriptFault {
-    match why {
-        ConeFault::NoEvent => ScriptFault::NoEvent { event },
-        ConeFault::OutOfMemory => ScriptFault::OutOfMemory,
-    }
-}
-
-/// The events in the cone of the event of this number, in order.
-fn events_in_cone(alloc: Global, core: &Core, event: u64) -> Result<Vec<Event>, ScriptFault> {
+/// The events in the cone of the event of this number, as `cone_numbers` has them.
+pub fn cone_events(alloc: Global, core: &Core, event: u64) -> Result<Vec<Event>, Fault> {
+    let numbers = cone_numbers(core, event)?;
     let history = core.history();
-    match core.cone(event) {
-        Ok(numbers) => Ok(
-            numbers
-                .iter()
-                .filter_map(|number| event_numbered(history, *number))
-                .collect(alloc)?,
-        ),
-        Err(why) => Err(cone_fault(why, event)),
-    }
+    Ok(
+        numbers
+            .iter()
+            .filter_map(|number| event_numbered(history, *number))
+            .collect(alloc)?,
+    )
 }
 
-/// Runs a script without printing, and gives the events in the cone of an event of its last boot.
-fn cone_of<R: Files + AllocGlobal>(
-    rt: &R,
-    setup: &mut Setup,
-    left: &Option<SimDisk>,
-    steps: &[Step],
-    event: u64,
-) -> Result<Vec<Event>, ScriptFault> {
-    let left = copy_of(left)?;
-    let core = play_all(rt, setup, left, steps, &mut io::sink())?;
-    events_in_cone(rt.alloc(), &core, event)
-}
-
-/// A core on a copy of this disk after events, each of which is printed as a line of a script, with its answer.
+/// A core after events, each of which is printed as a line of a script, with its answer.
 fn print_run<R: Files + AllocGlobal, O: Write>(
-    rt: &R,
-    setup: &mut Setup,
-    left: &Option<SimDisk>,
+    start: &mut Start<'_, R>,
     events: &[Event],
     out: &mut O,
-) -> Result<Core, ScriptFault> {
-    let left = copy_of(left)?;
-    let mut core = setup.boot(rt, left)?;
+) -> Result<Core, Fault> {
+    let mut core = start.boot()?;
     for event in events {
         let text = EventText(*event);
         writeln!(out, "{text}")?;
-        print_event(&mut core, *event, out)?;
+        print_answer(core.apply(*event), out)?;
     }
     Ok(core)
 }
@@ -120,48 +65,18 @@ fn replies_to(core: &Core, pid: u32) -> &[Reply] {
     }
 }
 
-/// Prints the reply that a process got in one run alone, if there is one.
-fn print_new_reply<O: Write>(
-    alloc: Global,
-    with: &Core,
-    without: &Core,
-    pid: u32,
-    out: &mut O,
-) -> io::Result<()> {
-    let before = replies_to(without, pid).len();
-    let replies = replies_to(with, pid);
-    match replies.get(before) {
-        Some(reply) => {
-            write!(out, "reply ")?;
-            print_reply(alloc, reply, out)
-        }
-        None => Ok(()),
-    }
-}
-
 /// Prints what a terminal shows in one run alone, if there is anything.
 fn print_output<O: Write>(
     alloc: Global,
     terminal: u32,
-    shown: &[u8],
-    before: usize,
+    bytes: &[u8],
     out: &mut O,
 ) -> io::Result<()> {
-    match shown.get(before..) {
-        Some(bytes) if !bytes.is_empty() => {
-            let digits = bytes_text(alloc, bytes)?;
-            writeln!(out, "output {terminal} {digits}")
-        }
-        _ => Ok(()),
+    if bytes.is_empty() {
+        return Ok(());
     }
-}
-
-/// Prints the status of a process that has ended in one run alone.
-fn print_new_end<O: Write>(with: &Core, without: &Core, pid: u32, out: &mut O) -> io::Result<()> {
-    match (with.ended(pid), without.ended(pid)) {
-        (Ok(Some(status)), Ok(None)) => writeln!(out, "ended {status}"),
-        _ => Ok(()),
-    }
+    let digits = bytes_text(alloc, bytes)?;
+    writeln!(out, "output {terminal} {digits}")
 }
 
 /// Prints what a process's event tells: what a drained run with it has that the same run without it has not.
@@ -172,40 +87,37 @@ fn print_told<O: Write>(
     pid: u32,
     out: &mut O,
 ) -> io::Result<()> {
-    print_new_reply(alloc, with, without, pid, out)?;
+    if let Some(reply) = replies_to(with, pid).get(replies_to(without, pid).len()) {
+        write!(out, "reply ")?;
+        print_reply(alloc, reply, out)?;
+    }
     for terminal in 0..TERMINALS as u32 {
         let before = without.shown(terminal).len();
-        print_output(alloc, terminal, with.shown(terminal), before, out)?;
+        let bytes = with.shown(terminal).get(before..).unwrap_or(&[]);
+        print_output(alloc, terminal, bytes, out)?;
     }
-    print_new_end(with, without, pid, out)
-}
-
-/// The process of an event; those of the disk have none.
-fn process_of(event: Event) -> Option<u32> {
-    match event {
-        Event::Turn { pid, .. } | Event::Enter { pid } => Some(pid),
-        Event::Cut | Event::Complete { .. } | Event::Fail { .. } => None,
+    match (with.ended(pid), without.ended(pid)) {
+        (Ok(Some(status)), Ok(None)) => writeln!(out, "ended {status}"),
+        _ => Ok(()),
     }
 }
 
 /// Commits all changes of a run in which no write fails. Only want of memory, and of room in the history, keeps it from that.
-fn drain(core: &mut Core) -> Result<(), ScriptFault> {
+fn drain(core: &mut Core) -> Result<(), Fault> {
     match core.drain() {
         Ok(()) => Ok(()),
-        Err(_) => Err(ScriptFault::OutOfMemory),
+        Err(_) => Err(Fault::OutOfMemory),
     }
 }
 
 /// Runs a cone alone, and prints how many events and changes it has, and each event with its answer. Gives the core after it.
 fn print_events<R: Files + AllocGlobal, O: Write>(
-    rt: &R,
-    setup: &mut Setup,
-    left: &Option<SimDisk>,
+    start: &mut Start<'_, R>,
     events: &[Event],
     out: &mut O,
-) -> Result<Core, ScriptFault> {
-    let mut lines = Vec::new(rt.alloc());
-    let core = print_run(rt, setup, left, events, &mut lines)?;
+) -> Result<Core, Fault> {
+    let mut lines = Vec::new(start.alloc());
+    let core = print_run(start, events, &mut lines)?;
     let (count, changes) = (events.len(), core.changes());
     writeln!(out, "cone {count} events {changes} changes")?;
     out.write_all(lines.as_slice())?;
@@ -218,33 +130,31 @@ fn last_of(events: &[Event]) -> Option<(u32, &[Event])> {
     Some((process_of(*last)?, before))
 }
 
-/// Drains a run with a process's event and the same run without it, and prints what the event tells.
-fn drain_and_print<O: Write>(
-    alloc: Global,
-    with: &mut Core,
-    without: &mut Core,
-    pid: u32,
-    out: &mut O,
-) -> Result<(), ScriptFault> {
-    drain(with)?;
-    drain(without)?;
-    Ok(print_told(alloc, with, without, pid, out)?)
-}
-
 /// Prints a cone that is run alone: how many events and changes it has, each event with its answer, and what the last one tells.
 fn print_cone<R: Files + AllocGlobal, O: Write>(
-    rt: &R,
-    setup: &mut Setup,
-    left: &Option<SimDisk>,
+    start: &mut Start<'_, R>,
     events: &[Event],
     out: &mut O,
-) -> Result<(), ScriptFault> {
-    let mut with = print_events(rt, setup, left, events, out)?;
+) -> Result<(), Fault> {
+    let mut with = print_events(start, events, out)?;
     let Some((pid, before)) = last_of(events) else {
         return Ok(());
     };
-    let mut without = print_run(rt, setup, left, before, &mut io::sink())?;
-    drain_and_print(rt.alloc(), &mut with, &mut without, pid, out)
+    let mut without = print_run(start, before, &mut io::sink())?;
+    drain(&mut with)?;
+    drain(&mut without)?;
+    Ok(print_told(start.alloc(), &with, &without, pid, out)?)
+}
+
+/// Runs a script without printing, and gives the events in the cone of an event of its last boot.
+fn cone_of<R: Files + AllocGlobal>(
+    start: &mut Start<'_, R>,
+    steps: &[Step],
+    event: u64,
+) -> Result<Vec<Event>, Fault> {
+    let core = start.boot()?;
+    let core = play_all(start, core, steps)?;
+    cone_events(start.alloc(), &core, event)
 }
 
 /// Runs a script without printing, takes the events since its last boot, and prints the cone of the event of this number, counted
@@ -255,15 +165,14 @@ fn print_cone<R: Files + AllocGlobal, O: Write>(
 ///   `ended S`, where its process ended by it. That is what the run of the cone has, all its changes committed, that the same run
 ///   without the event has not.
 ///
-/// NoEvent: there is no such event, or it is a Cut, a Complete or a Fail.
+/// `Fault::Event`: there is no such event, or it is a Cut, a Complete or a Fail.
 pub fn replay_cone<R: Files + AllocGlobal, O: Write>(
     rt: &R,
-    text: &str,
+    mut script: Script,
     event: u64,
     out: &mut O,
-) -> Result<(), ScriptFault> {
-    let mut script = Script::parse(rt.alloc(), text)?;
-    let (left, steps) = last_boot(rt, &mut script.setup, script.steps.as_slice())?;
-    let events = cone_of(rt, &mut script.setup, &left, steps, event)?;
-    print_cone(rt, &mut script.setup, &left, events.as_slice(), out)
+) -> Result<(), Fault> {
+    let mut start = Start::new(rt, &mut script.setup);
+    let events = cone_of(&mut start, script.steps.as_slice(), event)?;
+    print_cone(&mut start, events.as_slice(), out)
 }

@@ -1,28 +1,32 @@
 //! Scripts: programs to be booted, and what is done with them line by line.
 //!
-//! Read `script` first: a script is read whole, by its set-up lines (`setup`) and its `steps`. Then `replay` of `playing`, which
-//! boots it (`booting`), and prints what each line gives. Only safety is proved.
+//! Read `script` first: a script is read whole, by its set-up lines (`setup`) and its `steps`. Then `playing`, whose player does the
+//! steps with a `Visitor` beside it, and `replay`, which boots a script (`booting`), and prints what each line gives. Only safety is
+//! proved.
 #![tactic(auto)]
 
 mod booting;
 mod cone;
-mod fault;
 mod file_lines;
 mod playing;
 mod printing;
+mod replaying;
 mod script;
 mod setup;
+mod start;
 mod steps;
 mod texts;
 mod words;
 
-pub use cone::replay_cone;
-pub use fault::ScriptFault;
+pub use booting::boot_fault;
+pub use cone::{cone_events, cone_numbers, replay_cone};
 pub use file_lines::write_files;
-pub use playing::replay;
+pub use playing::{LineAnswer, Visitor, play_all};
 pub use printing::{bytes_text, print_reply};
+pub use replaying::replay;
 pub use script::Script;
 pub use setup::Setup;
-pub use steps::{Action, Step};
+pub use start::Start;
+pub use steps::{Action, Question, Step, process_of};
 pub use texts::{AnswerText, EventText};
 pub use words::Terminal;

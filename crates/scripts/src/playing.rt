@@ -1,150 +1,127 @@
-//! The run of a script.
-ghost use Rattle.std.specs.Prelude.{◌≡◌, true, IfSome};
-ghost use Rattle.disk_model.specs.Storage.{is_quiet};
+//! The player of scripts. Read `Visitor` first: whoever has a script played gives one, and the player tells it what happens.
+use crate::steps::{Action, Question, Step};
+use kernel::{Answer, Core, Event, Refused};
+use std::alloc::AllocError;
 
-use crate::fault::ScriptFault;
-use crate::file_lines::write_files;
-use crate::printing::{bytes_text, print_refusal, print_reply};
-use crate::script::Script;
-use crate::setup::Setup;
-use crate::steps::{Action, Step};
-use crate::texts::AnswerText;
-use crate::words::Terminal;
-use files::FileList;
-use kernel::{Core, Event, SimDisk};
-use machine_model::Reply;
-use std::alloc::Global;
-use std::io;
-use std::io::Write;
-use std::rt::Files;
-
-fn print_shown<O: Write>(
-    alloc: Global,
-    core: &Core,
-    terminal: Terminal,
-    out: &mut O,
-) -> io::Result<()> {
-    let number = terminal.number;
-    let bytes = bytes_text(alloc, core.shown(number))?;
-    writeln!(out, "shown {number} {bytes}")
+/// What came of a line that is no `crash` line. Nothing is refused for want of memory here, since that ends the run.
+#[derive(Clone, Copy)]
+pub enum LineAnswer {
+    Applied(Result<Answer, Refused>),
+    Drained(Result<(), Refused>),
+    Asked(Question),
 }
 
-/// How many there are, and then a line for each.
-fn print_replies<O: Write>(
-    alloc: Global,
-    pid: u32,
-    replies: &[Reply],
-    out: &mut O,
-) -> io::Result<()> {
-    let count = replies.len();
-    writeln!(out, "trace {pid} {count} replies")?;
-    for reply in replies {
-        print_reply(alloc, reply, out)?;
+/// What is done beside the run of a script: before and after each event, after each line, and at each crash.
+pub trait Visitor {
+    /// Why the run ends before its end.
+    type Fault: From<AllocError> + Drop;
+
+    /// Before an event, which may be refused. It is that of a line, or one of a drain.
+    fn before(&mut self, _core: &Core, _event: Event) -> Result<(), Self::Fault> {
+        Ok(())
     }
-    Ok(())
+
+    /// After an event that was accepted.
+    fn after(&mut self, _core: &Core, _event: Event, _answer: Answer) -> Result<(), Self::Fault> {
+        Ok(())
+    }
+
+    /// After a line that is no `crash` line, and all its events.
+    fn answered(&mut self, _core: &Core, _answer: LineAnswer) -> Result<(), Self::Fault> {
+        Ok(())
+    }
+
+    /// Boots again after a crash, which leaves these bytes in the ranges of writes in flight or failed.
+    fn crash(&mut self, core: Core, fill: &[u8]) -> Result<Core, Self::Fault>;
 }
 
-/// Those that are handed out, a line each.
-fn print_trace<O: Write>(alloc: Global, core: &Core, pid: u32, out: &mut O) -> io::Result<()> {
-    match core.trace(pid) {
-        Err(why) => print_refusal(why, out),
-        Ok(replies) => print_replies(alloc, pid, replies, out),
+/// The event by which a drain goes on.
+fn next_event(in_flight: Option<u32>) -> Event {
+    match in_flight {
+        Some(at) => Event::Complete { at },
+        None => Event::Cut,
     }
 }
 
-/// Prints how many files the disk held at boot, and then a line for each.
-fn print_boot_files<O: Write>(files: &FileList, out: &mut O) -> io::Result<()> {
-    let count = files.count();
-    writeln!(out, "files {count}")?;
-    write_files(files, out)
+#[derive(Drop)]
+struct Player<'a, V> {
+    visitor: &'a mut V,
+    /// Whether a write has failed since the last boot.
+    has_failed: bool,
 }
 
-/// Prints the answer, or the refusal.
-pub fn print_event<O: Write>(core: &mut Core, event: Event, out: &mut O) -> io::Result<()> {
-    match core.apply(event) {
-        Ok(answer) => {
-            let answer = AnswerText(answer);
-            writeln!(out, "{answer}")
+impl<V: Visitor> Player<'_, V> {
+    fn apply(
+        &mut self,
+        core: &mut Core,
+        event: Event,
+    ) -> Result<Result<Answer, Refused>, V::Fault> {
+        self.visitor.before(core, event)?;
+        let answer = core.apply(event);
+        match answer {
+            Ok(answer) => self.visitor.after(core, event, answer)?,
+            Err(Refused::OutOfMemory) => return Err(V::Fault::from(AllocError)),
+            Err(_) => {}
         }
-        Err(why) => print_refusal(why, out),
-    }
-}
-
-/// Drains the core, and prints what is committed then, or the refusal.
-fn print_drain<O: Write>(core: &mut Core, out: &mut O) -> io::Result<()> {
-    match core.drain() {
-        Ok(()) => {
-            let committed = core.committed();
-            writeln!(out, "drained, {committed} committed")
+        if let Ok(Answer::Failed) = answer {
+            self.has_failed = true;
         }
-        Err(why) => print_refusal(why, out),
+        Ok(answer)
+    }
+
+    /// Applies the events of `Core::drain` one by one, and is refused as that is.
+    fn drain(&mut self, core: &mut Core) -> Result<Result<(), Refused>, V::Fault> {
+        if self.has_failed {
+            return Ok(Err(Refused::DiskFailed));
+        }
+        for _ in 0..u64::MAX {
+            if core.committed() == core.changes() {
+                break;
+            }
+            let event = next_event(core.in_flight());
+            if let Err(why) = self.apply(core, event)? {
+                return Ok(Err(why));
+            }
+        }
+        Ok(Ok(()))
+    }
+
+    fn act(&mut self, core: &mut Core, action: Action) -> Result<(), V::Fault> {
+        let answer = match action {
+            Action::Apply(event) => LineAnswer::Applied(self.apply(core, event)?),
+            Action::Drain => LineAnswer::Drained(self.drain(core)?),
+            Action::Ask(question) => LineAnswer::Asked(question),
+        };
+        self.visitor.answered(core, answer)
+    }
+
+    /// After a crash the core that comes back is another one.
+    fn step(&mut self, mut core: Core, step: &Step) -> Result<Core, V::Fault> {
+        match step {
+            Step::Act(action) => {
+                self.act(&mut core, *action)?;
+                Ok(core)
+            }
+            Step::Crash(fill) => {
+                self.has_failed = false;
+                self.visitor.crash(core, fill.as_slice())
+            }
+        }
     }
 }
 
-fn act<O: Write>(alloc: Global, core: &mut Core, action: Action, out: &mut O) -> io::Result<()> {
-    match action {
-        Action::Apply(event) => print_event(core, event, out),
-        Action::Drain => print_drain(core, out),
-        Action::Shown(terminal) => print_shown(alloc, core, terminal, out),
-        Action::Trace(pid) => print_trace(alloc, core, pid, out),
-        Action::Files => print_boot_files(core.boot_files(), out),
-    }
-}
-
-/// The core of a further boot, on the disk that a crash with this fill leaves.
-fn crash<R: Files + AllocGlobal, O: Write>(
-    rt: &R,
-    setup: &mut Setup,
-    core: Core,
-    fill: &[u8],
-    out: &mut O,
-) -> Result<Core, ScriptFault> {
-    let next = setup.boot(rt, Some(core.halt(fill)))?;
-    writeln!(out, "crashed")?;
-    Ok(next)
-}
-
-/// After a crash the core that comes back is another one.
-fn play<R: Files + AllocGlobal, O: Write>(
-    rt: &R,
-    setup: &mut Setup,
+/// Does the steps of a script on a core that has just been booted. Gives the core that is there after the last one.
+pub fn play_all<V: Visitor>(
+    visitor: &mut V,
     mut core: Core,
-    step: &Step,
-    out: &mut O,
-) -> Result<Core, ScriptFault> {
-    match step {
-        Step::Act(action) => {
-            act(rt.alloc(), &mut core, *action, out)?;
-            Ok(core)
-        }
-        Step::Crash(fill) => crash(rt, setup, core, fill.as_slice(), out),
-    }
-}
-
-/// Boots on the disk that a crash left, or on one of zeros, and does the steps. Gives the core that is there after the last one.
-pub fn play_all<R: Files + AllocGlobal, O: Write>(
-    rt: &R,
-    setup: &mut Setup,
-    left: Option<SimDisk>,
     steps: &[Step],
-    out: &mut O,
-) -> Result<Core, ScriptFault>
-    requires { IfSome left (λ device. is_quiet device ≡ true) }
-{
-    let mut core = setup.boot(rt, left)?;
+) -> Result<Core, V::Fault> {
+    let mut player = Player {
+        visitor,
+        has_failed: false,
+    };
     for step in steps {
-        core = play(rt, setup, core, step, out)?;
+        core = player.step(core, step)?;
     }
     Ok(core)
-}
-
-/// Runs a script, and prints what each of its lines gives. The script is read whole before any image that it names.
-pub fn replay<R: Files + AllocGlobal, O: Write>(
-    rt: &R,
-    text: &str,
-    out: &mut O,
-) -> Result<(), ScriptFault> {
-    let mut script = Script::parse(rt.alloc(), text)?;
-    play_all(rt, &mut script.setup, None, script.steps.as_slice(), out)?;
-    Ok(())
 }

@@ -1,6 +1,7 @@
-//! Refusals, bytes and replies, as they are printed.
+//! Answers, refusals, bytes and replies, as they are printed.
+use crate::texts::AnswerText;
 use elf32::write;
-use kernel::Refused;
+use kernel::{Answer, Refused};
 use machine_model::{Image, Reply};
 use std::alloc::{AllocError, Global};
 use std::io;
@@ -14,6 +15,17 @@ pub fn print_refusal<O: Write>(why: Refused, out: &mut O) -> io::Result<()> {
             let number = why.number();
             writeln!(out, "refused {number} {why:?}")
         }
+    }
+}
+
+/// Prints what came of an event.
+pub fn print_answer<O: Write>(answer: Result<Answer, Refused>, out: &mut O) -> io::Result<()> {
+    match answer {
+        Ok(answer) => {
+            let answer = AnswerText(answer);
+            writeln!(out, "{answer}")
+        }
+        Err(why) => print_refusal(why, out),
     }
 }
 

@@ -1,7 +1,7 @@
 //! A script, read whole: its set-up lines first, and then its steps.
-use crate::fault::ScriptFault;
 use crate::setup::{Setup, SetupLine};
 use crate::steps::{Step, step_of};
+use faults::Fault;
 use std::alloc::{AllocError, Global};
 
 /// A script: what it sets up, and its steps in order.
@@ -53,12 +53,12 @@ impl Script {
         self.read_words(alloc, words.as_slice())
     }
 
-    fn read_lines(&mut self, alloc: Global, text: &str) -> Result<(), ScriptFault> {
+    fn read_lines(&mut self, alloc: Global, text: &str) -> Result<(), Fault> {
         let mut line = 0usize;
         for text in text.split('\n') {
             line = line.saturating_add(1);
             if !self.read(alloc, text)? {
-                return Err(ScriptFault::Refused { line });
+                return Err(Fault::Script { line });
             }
         }
         Ok(())
@@ -71,7 +71,7 @@ impl Script {
     ///
     /// Lines are counted from 1 and end at a line feed; empty ones and those that begin with `#` are skipped. A script without a
     /// `program` or an `image` line is refused when it is booted.
-    pub fn parse(alloc: Global, text: &str) -> Result<Script, ScriptFault> {
+    pub fn parse(alloc: Global, text: &str) -> Result<Script, Fault> {
         let mut script = Script {
             setup: Setup::new(alloc),
             steps: Vec::new(alloc),

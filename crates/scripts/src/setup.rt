@@ -4,7 +4,7 @@ ghost use Rattle.kernel_model.specs.World.{tape_count};
 
 use crate::words::{Terminal, decimal, numbers_of, only_bytes_of, terminal_of};
 use byte_list::Bytes;
-use file_reading::MOST_TAPE_BYTES;
+use input_reading::MOST_TAPE_BYTES;
 use kernel_model::{MOST_PROGRAMS, TAPES};
 use std::alloc::{AllocError, Global};
 

@@ -4,19 +4,25 @@ use byte_list::Bytes;
 use kernel::Event;
 use std::alloc::{AllocError, Global};
 
-/// A step that the core outlives.
+/// What a line asks of the core. The answer is printed.
+#[derive(Clone, Copy)]
+pub enum Question {
+    /// What a terminal, 0 to 7, shows.
+    Shown(Terminal),
+    /// The replies to a process's calls that are handed out.
+    Trace(u32),
+    /// The files that the disk held at this boot.
+    Files,
+}
+
+/// What a line does with the core that outlives it.
 #[derive(Clone, Copy)]
 pub enum Action {
-    /// An event is applied, and its answer printed.
+    /// An event is applied.
     Apply(Event),
     /// All changes are committed.
     Drain,
-    /// What a terminal, 0 to 7, shows is printed.
-    Shown(Terminal),
-    /// The replies to a process's calls that are handed out are printed.
-    Trace(u32),
-    /// The files that the disk held at this boot are printed.
-    Files,
+    Ask(Question),
 }
 
 /// A line of a script that is no set-up line.
@@ -33,7 +39,7 @@ fn plain_action(name: &str) -> Option<Action> {
     match name {
         "cut" => Some(Action::Apply(Event::Cut)),
         "drain" => Some(Action::Drain),
-        "files" => Some(Action::Files),
+        "files" => Some(Action::Ask(Question::Files)),
         _ => None,
     }
 }
@@ -44,8 +50,8 @@ fn numbered_action(name: &str, number: u32) -> Option<Action> {
         "enter" => Some(Action::Apply(Event::Enter { pid: number })),
         "complete" => Some(Action::Apply(Event::Complete { at: number })),
         "fail" => Some(Action::Apply(Event::Fail { at: number })),
-        "shown" => Some(Action::Shown(terminal_of(number)?)),
-        "trace" => Some(Action::Trace(number)),
+        "shown" => Some(Action::Ask(Question::Shown(terminal_of(number)?))),
+        "trace" => Some(Action::Ask(Question::Trace(number))),
         _ => None,
     }
 }
@@ -68,5 +74,13 @@ pub fn step_of(alloc: Global, name: &str, words: &[&str]) -> Result<Option<Step>
     match name {
         "crash" => Ok(only_bytes_of(alloc, words)?.map(Step::Crash)),
         _ => Ok(action_of(name, words).map(Step::Act)),
+    }
+}
+
+/// The process of an event; those of the disk have none.
+pub fn process_of(event: Event) -> Option<u32> {
+    match event {
+        Event::Turn { pid, .. } | Event::Enter { pid } => Some(pid),
+        Event::Cut | Event::Complete { .. } | Event::Fail { .. } => None,
     }
 }

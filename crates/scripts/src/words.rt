@@ -3,8 +3,8 @@ ghost use Rattle.std.specs.Prelude.{◌≡◌, ◌<◌, IfOk, IfSome, length, ve
 ghost use Rattle.kernel_model.specs.World.{terminal_count};
 
 use byte_list::Bytes;
+use input_reading::{bytes_of, hexadecimal};
 use kernel_model::TERMINALS;
-use line_words::{bytes_of, hexadecimal};
 use std::alloc::{AllocError, Global};
 
 /// A terminal's number, 0 to 7.
@@ -16,7 +16,7 @@ pub struct Terminal {
 
 /// A decimal number below 2^32. Leading zeros are allowed, a sign is not.
 pub fn decimal(word: &str) -> Option<u32> {
-    u32::try_from(line_words::decimal(word)?).ok()
+    u32::try_from(input_reading::decimal(word)?).ok()
 }
 
 /// The terminal of this number, if there is one.

@@ -1,5 +1,6 @@
 //! What hardly does what is meant.
-use crate::meanings::call_wanted;
+use crate::meanings::write_wanted;
+use call_forms::Call;
 use std::fmt;
 
 /// Why something that assembles hardly does what is meant.
@@ -11,8 +12,8 @@ pub enum Doubt {
     StackPointer,
     /// There is no call of this number.
     Call { number: i64 },
-    /// The call of this number does something else in RARS, which is said here.
-    OtherCall { said: &'static str },
+    /// The number of this call is another call in RARS, of which this is said.
+    OtherCall { call: Call, said: &'static str },
     /// The last instruction of text goes on to the next, and there is none.
     RunsOn,
 }
@@ -33,10 +34,14 @@ impl fmt::Display for Doubt {
                 )
             }
             Doubt::Call { number } => {
-                let wanted = call_wanted(*number);
-                write!(f, "there is no call {number}; {wanted}")
+                write!(f, "there is no call {number}; ")?;
+                write_wanted(f, *number)
             }
-            Doubt::OtherCall { said } => f.write_str(*said),
+            Doubt::OtherCall { call, said } => {
+                let number = call.number();
+                let name = call.form().name;
+                write!(f, "call {number} is {name}{said}")
+            }
             Doubt::RunsOn => {
                 f.write_str(
                     "the program goes on past its last word, where nothing is; it ends by li a7,1 and ecall",

@@ -30,5 +30,5 @@ pub use forms::{DIRECTIVES, Form, INSTRUCTIONS};
 pub use gathering::faults;
 pub use printing::print_checked;
 pub use registers::REGISTERS;
-pub use saying::advice;
+pub use saying::{advice, is_c};
 pub use warnings::Warning;

@@ -1,4 +1,6 @@
 //! Numbers of calls that mean something else in RARS and in Linux.
+use call_forms::Call;
+use std::fmt;
 
 /// The registers of a call's arguments, a bit each.
 pub const A0: u8 = 1;
@@ -19,107 +21,96 @@ pub enum When {
     NoReturn,
 }
 
-/// A number of RARS that is another call here. The arguments that are set for the call of RARS; those that are set for the call here
-/// alone; when there is doubt; and what is said.
-type Meaning = (i64, u8, u8, When, &'static str);
+/// A call here whose number is another call in RARS. The arguments that are set for the call of RARS, those that are set for the call
+/// here alone, and when there is doubt. Last what is said after "call N is NAME".
+type Meaning = (Call, (u8, u8, When), &'static str);
 
-/// The numbers of RARS that are other calls here, and are told from these by the arguments that a program sets.
+/// The calls here whose numbers are others in RARS, and that are told from these by the arguments that a program sets.
 static MEANINGS: [Meaning; 8] = [
     (
-        1,
-        0,
-        0,
-        When::GoesOn,
-        "call 1 is exit, so that nothing is done after it; 1 of RARS prints a number: here by its digits, with write, 2",
+        Call::Exit,
+        (0, 0, When::GoesOn),
+        ", so that nothing is done after it; 1 of RARS prints a number: here by its digits, with write, 2",
     ),
     (
-        4,
-        A0,
-        A1 | A2,
-        When::Always,
-        "call 4 is open; 4 of RARS prints a string: here write, 2, with 1 in a0, the address in a1, the length in a2",
+        Call::Open,
+        (A0, A1 | A2, When::Always),
+        "; 4 of RARS prints a string: here write, 2, with 1 in a0, the address in a1, the length in a2",
     ),
     (
-        5,
-        0,
-        A0,
-        When::NoReturn,
-        "call 5 is close; 5 of RARS reads a number: here by its digits, with read, 3",
+        Call::Close,
+        (0, A0, When::NoReturn),
+        "; 5 of RARS reads a number: here by its digits, with read, 3",
     ),
     (
-        8,
-        A0 | A1,
-        0,
-        When::Always,
-        "call 8 is wait; 8 of RARS reads a string: here read, 3, with 0 in a0, the address in a1, the most bytes in a2",
+        Call::Wait,
+        (A0 | A1, 0, When::Always),
+        "; 8 of RARS reads a string: here read, 3, with 0 in a0, the address in a1, the most bytes in a2",
     ),
     (
-        9,
-        A0,
-        0,
-        When::Always,
-        "call 9 is getpid; 9 of RARS gives memory: here .space in .data does",
+        Call::GetPid,
+        (A0, 0, When::Always),
+        "; 9 of RARS gives memory: here .space in .data does",
     ),
     (
-        10,
-        0,
-        A0 | A1,
-        When::Ends,
-        "call 10 is seek; 10 of RARS is exit: here 1, with the status in a0",
+        Call::Seek,
+        (0, A0 | A1, When::Ends),
+        "; 10 of RARS is exit: here 1, with the status in a0",
     ),
     (
-        11,
-        A0,
-        0,
-        When::Always,
-        "call 11 is sync; 11 of RARS prints a character: here write, 2, with 1 in a0, its address in a1, 1 in a2",
+        Call::Sync,
+        (A0, 0, When::Always),
+        "; 11 of RARS prints a character: here write, 2, with 1 in a0, its address in a1, 1 in a2",
     ),
     (
-        12,
-        0,
-        A0 | A1,
-        When::NoReturn,
-        "call 12 is unlink; 12 of RARS reads a character: here read, 3, with 0 in a0, an address in a1, 1 in a2",
+        Call::Unlink,
+        (0, A0 | A1, When::NoReturn),
+        "; 12 of RARS reads a character: here read, 3, with 0 in a0, an address in a1, 1 in a2",
     ),
 ];
 
-/// Which calls a program most often wants.
-const USUAL: &str = "exit is 1, write 2, read 3";
-
-/// The calls here that do what a number of RARS or Linux does.
-static ELSEWHERE: [(i64, &str); 16] = [
-    (34, "a number is written by its digits, with write, 2"),
-    (35, "unlink is 12"),
-    (36, "a number is written by its digits, with write, 2"),
-    (56, "open is 4"),
-    (57, "close is 5"),
-    (59, "pipe is 6"),
-    (62, "seek is 10"),
-    (81, "sync is 11"),
-    (82, "sync is 11"),
-    (172, "getpid is 9"),
-    (214, "there is .space in .data for memory"),
-    (220, "fork is 7"),
-    (221, "exec is 14"),
-    (260, "wait is 8"),
-    (276, "rename is 13"),
-    (1024, "open is 4"),
+/// The calls here that do what a call of this number does in RARS or Linux.
+static ELSEWHERE: [(i64, Call); 13] = [
+    (35, Call::Unlink),
+    (56, Call::Open),
+    (57, Call::Close),
+    (59, Call::Pipe),
+    (62, Call::Seek),
+    (81, Call::Sync),
+    (82, Call::Sync),
+    (172, Call::GetPid),
+    (220, Call::Fork),
+    (221, Call::Exec),
+    (260, Call::Wait),
+    (276, Call::Rename),
+    (1024, Call::Open),
 ];
 
-/// What is said of a number that is no call's: which call is wanted, where that is known.
-pub fn call_wanted(number: i64) -> &'static str {
+/// Writes which call is wanted in place of a number that is no call's, where that is known.
+pub fn write_wanted<W: fmt::Write>(f: &mut fmt::Formatter<W>, number: i64) -> fmt::Result {
     for (other, call) in &ELSEWHERE {
         if *other == number {
-            return *call;
+            let name = call.form().name;
+            let number = call.number();
+            return write!(f, "{name} is {number}");
         }
     }
-    USUAL
+    f.write_str(match number {
+        34 | 36 => "a number is written by its digits, with write, 2",
+        214 => "there is .space in .data for memory",
+        _ => "exit is 1, write 2, read 3",
+    })
 }
 
-/// What is said of a call of this number, and when, where these arguments are set for it, and these may be.
-pub fn meaning_of(number: i64, set: u8, possible: u8) -> Option<(When, &'static str)> {
-    for (call, there, here, when, said) in &MEANINGS {
-        if *call == number && set & *there == *there && possible & *here == 0 {
+/// The call of a number, if there is one.
+pub fn call_of(number: i64) -> Option<Call> {
+    Call::of(u32::try_from(number).ok()?)
+}
+
+/// What is said of this call, and when, where these arguments are set for it, and these may be.
+pub fn meaning_of(call: Call, set: u8, possible: u8) -> Option<(When, &'static str)> {
+    for (other, (there, here, when), said) in &MEANINGS {
+        if *other == call && set & *there == *there && possible & *here == 0 {
             return Some((*when, *said));
         }
     }

@@ -1,12 +1,13 @@
 //! What hardly does what is meant, though it assembles.
 use crate::doubt::Doubt;
-use crate::meanings::{A0, A1, A2, When, meaning_of};
+use crate::meanings::{A0, A1, A2, When, call_of, meaning_of};
 use asm_statements::{
     ImmediateOp, Label, Link, LoadOp, Mnemonic, Operands, PlainOp, Statement, Value,
     read_statement, split_label,
 };
 use asm_text::{Line, lines};
 use assembler::Position;
+use call_forms::Outcome;
 use machine_model::Image;
 use std::alloc::{AllocError, Global};
 
@@ -15,15 +16,6 @@ const SP: u8 = 2;
 
 /// The number of the register a7, which says which call is made.
 const A7: u8 = 17;
-
-/// The number of the call that ends a process.
-const EXIT: i64 = 1;
-
-/// The number of the call that replies a descriptor.
-const OPEN: i64 = 4;
-
-/// The greatest number of a call.
-const LAST_CALL: i64 = 14;
 
 /// A warning, and the line of which it is: its number, and its bytes in the source.
 #[derive(Clone, Copy, Debug)]
@@ -143,11 +135,16 @@ fn is_left_for_good(mnemonic: Mnemonic) -> bool {
     )
 }
 
+/// What the call of a number replies, if there is one.
+fn outcome_of(number: i64) -> Option<Outcome> {
+    call_of(number).map(|call| call.form().outcome)
+}
+
 /// Which arguments are set after a call, of which it is known whether there is a doubt about it. A descriptor that is replied may be
 /// one of the next call.
 fn arguments_after_call(call: Option<i64>, is_doubtful: bool) -> Arguments {
     let possible = match call {
-        Some(number) if number != OPEN || is_doubtful => 0,
+        Some(number) if is_doubtful || outcome_of(number) != Some(Outcome::Descriptor) => 0,
         _ => A0,
     };
     Arguments { set: 0, possible }
@@ -173,7 +170,8 @@ fn arguments_after(mnemonic: Mnemonic, operands: &Operands, arguments: Arguments
 /// Whether control goes on to the next word after an instruction, as far as can be said.
 fn goes_on(mnemonic: Mnemonic, call: Option<i64>) -> bool {
     match mnemonic {
-        Mnemonic::Plain(PlainOp::Ecall) => call.is_some_and(|number| number != EXIT),
+        Mnemonic::Plain(PlainOp::Ecall) => call.is_some_and(|number| outcome_of(number)
+            != Some(Outcome::End)),
         Mnemonic::Plain(PlainOp::Ebreak) => false,
         mnemonic => !is_jump(mnemonic),
     }
@@ -192,10 +190,10 @@ fn doubt_of(mnemonic: Mnemonic, operands: &Operands, call: Option<i64>) -> Optio
         }
         Mnemonic::Plain(PlainOp::Ecall) => {
             let number = call?;
-            if number >= EXIT && number <= LAST_CALL {
-                return None;
+            match call_of(number) {
+                Some(_) => None,
+                None => Some(Doubt::Call { number }),
             }
-            Some(Doubt::Call { number })
         }
         _ => None,
     }
@@ -203,8 +201,9 @@ fn doubt_of(mnemonic: Mnemonic, operands: &Operands, call: Option<i64>) -> Optio
 
 /// The doubt that a call of this number is meant, where it is known.
 fn meaning(line: &Line, call: Option<i64>, arguments: Arguments) -> Option<(When, Warning)> {
-    let (when, said) = meaning_of(call?, arguments.set, arguments.possible)?;
-    Some((when, warning_of(line, Doubt::OtherCall { said })))
+    let call = call_of(call?)?;
+    let (when, said) = meaning_of(call, arguments.set, arguments.possible)?;
+    Some((when, warning_of(line, Doubt::OtherCall { call, said })))
 }
 
 /// Whether a doubt about a call is one before this instruction, or before none.

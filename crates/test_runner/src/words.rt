@@ -23,10 +23,10 @@ fn named<R: AllocGlobal + Clock + Eprint + Files<File = File> + Threads + Wait +
         "writer-crashes" => core_cases::crash_writer(rt),
         "renamer-crashes" => core_cases::crash_renamer(rt),
         "writer-failures" => core_cases::fail_talker(rt),
-        "growths" => growth_cases::check_growths(rt.alloc()),
+        "growths" => part_cases::check_growths(rt.alloc()),
         "workers" => worker_cases::play_cases(rt),
-        "written-code" => machine_cases::check_written_code(rt.alloc()),
-        "random-programs" => machine_cases::check_random_programs(rt.alloc()),
+        "written-code" => part_cases::check_written_code(rt.alloc()),
+        "random-programs" => part_cases::check_random_programs(rt.alloc()),
         "costs-loans" => costs::loan_lines(rt),
         "costs-writes" => costs::write_lines(rt),
         "costs-commits" => costs::commit_lines(rt),
@@ -48,7 +48,7 @@ pub fn report<R: AllocGlobal + Clock + Eprint + Files<File = File> + Threads + W
     } else if choice.file.ends_with(".cores") {
         core_cases::check_file(rt, choice)
     } else if word.ends_with(".image") {
-        machine_cases::check_image(rt, word)
+        part_cases::check_image(rt, word)
     } else {
         named(rt, word)
     }

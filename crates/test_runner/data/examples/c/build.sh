@@ -7,7 +7,8 @@ usage: build.sh [--picolibc] [FLAGS] SOURCE.. IMAGE
 Builds an image of sources in C (.c) and assembly (.s, .S), of objects (.o) and of archives (.a).
 
   --picolibc  with Debian's picolibc: printf, malloc and the rest of a C library
-  FLAGS       what the compiler is given besides, each as one word: -O3 -DN=5 -Ifolder -lm
+  FLAGS       what the compiler is given besides, each as one word: -O3 -DN=5 -Ifolder -lm; with -g the linker's file, with what gdb
+              reads, is kept beside the image, as IMAGE.elf
   IMAGE       the image, which is written anew; never over a source
 
 CC is the compiler, riscv64-unknown-elf-gcc if it is not set; CC='clang --target=riscv32' links with LLVM's lld.
@@ -24,9 +25,11 @@ refuse() {
 here=$(dirname "$0")
 [ $# -ge 2 ] || usage
 for image; do :; done
-sources=0 libc=no
+sources=0 libc=no debug=no
 for word; do
     case $word in
+        -g0) debug=no ;;
+        -g*) debug=yes ;;
         --help | -h) usage ;;
         --picolibc) libc=yes ;;
         -o) refuse "-o is not taken: the last word is the image" ;;
@@ -85,7 +88,7 @@ while [ $rest -gt 0 ]; do
 done
 $CC -march=rv32im -mabi=ilp32 -mstrict-align -O2 -ftls-model=local-exec -ffunction-sections -fdata-sections -fno-pic $before \
     -static -nostdlib $linker -Wl,--gc-sections -Wl,--orphan-handling=error -T "$here/image.ld" -I "$here" \
-    "$here/start.s" "$@" "$library" $after -o "$linked" || {
+    "$here/start.s" "$@" -x c "$library" -x none $after -o "$linked" || {
     if [ $libc = no ]; then
         # What only a C library has: a header, but those that each compiler brings, or -lm.
         case " $* " in *' -l'*) wants=yes ;; *) wants=no ;; esac
@@ -95,3 +98,4 @@ $CC -march=rv32im -mabi=ilp32 -mstrict-align -O2 -ftls-model=local-exec -ffuncti
     exit 1
 }
 $OBJCOPY -O binary "$linked" "$image"
+[ $debug = no ] || cp "$linked" "$image.elf"

@@ -6,6 +6,8 @@ enum { READ_FILE, WRITE_FILE, NEW_FILE };   /* how sys_open opens: to read, to w
 
 enum { LONGEST_NAME = 32, MOST_BYTES = 1024 };   /* of a name; of one read or write */
 
+/* Other numbers of these three calls may be defined, as Linux has them. Where there is no call of such a number, the one here is made. */
+enum { NO_SUCH_CALL = -38 };
 #ifndef CALL_EXIT
 enum { CALL_EXIT = 1, CALL_WRITE = 2, CALL_READ = 3 };
 #endif
@@ -33,20 +35,25 @@ static __inline__ int length_of(const char *text)
 /* Ends the process with a status, modulo 256. */
 static __inline__ __attribute__((noreturn)) void sys_exit(int status)
 {
-    for (;;)
+    for (;;) {
         call(CALL_EXIT, status, 0, 0);
+        if (CALL_EXIT != 1)
+            call(1, status, 0, 0);
+    }
 }
 
 /* Writes n bytes, at most 1,024; answers how many were written. */
 static __inline__ int sys_write(int descriptor, const void *bytes, int n)
 {
-    return call(CALL_WRITE, descriptor, (int)bytes, n);
+    int reply = call(CALL_WRITE, descriptor, (int)bytes, n);
+    return CALL_WRITE != 2 && reply == NO_SUCH_CALL ? call(2, descriptor, (int)bytes, n) : reply;
 }
 
 /* Reads up to n bytes, at most 1,024; answers how many, and 0 at the end. */
 static __inline__ int sys_read(int descriptor, void *bytes, int n)
 {
-    return call(CALL_READ, descriptor, (int)bytes, n);
+    int reply = call(CALL_READ, descriptor, (int)bytes, n);
+    return CALL_READ != 3 && reply == NO_SUCH_CALL ? call(3, descriptor, (int)bytes, n) : reply;
 }
 
 /* Opens a file; answers its descriptor. */

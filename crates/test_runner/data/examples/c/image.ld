@@ -51,6 +51,20 @@ SECTIONS
     .symtab 0 : { *(.symtab) }
     .strtab 0 : { *(.strtab) }
     .shstrtab 0 : { *(.shstrtab) }
+    /* What gdb reads. It has no address, and so no place in the image. */
+    .debug_aranges 0 : { *(.debug_aranges) }
+    .debug_info 0 : { *(.debug_info) }
+    .debug_abbrev 0 : { *(.debug_abbrev) }
+    .debug_line 0 : { *(.debug_line) }
+    .debug_line_str 0 : { *(.debug_line_str) }
+    .debug_str 0 : { *(.debug_str) }
+    .debug_str_offsets 0 : { *(.debug_str_offsets) }
+    .debug_addr 0 : { *(.debug_addr) }
+    .debug_frame 0 : { *(.debug_frame) }
+    .debug_loc 0 : { *(.debug_loc) }
+    .debug_loclists 0 : { *(.debug_loclists) }
+    .debug_ranges 0 : { *(.debug_ranges) }
+    .debug_rnglists 0 : { *(.debug_rnglists) }
     /DISCARD/ : { *(.comment .riscv.attributes .note* .eh_frame* .debug* .rela* .stab*) }
     ASSERT(data_end <= 0x10000 + 60 * 0x1000, "more than 60 pages")
 }

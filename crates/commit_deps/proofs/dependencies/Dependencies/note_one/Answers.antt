@@ -9,7 +9,7 @@ use Rattle.commit_deps.specs.Kept.{Kept}
 use Rattle.commit_deps.specs.Keeps.{mark_at, noted, unwritten_count}
 use Rattle.commit_deps.specs.Places.{place_at}
 use Rattle.commit_deps.proofs.Keeping.{absent-unwritten}
-use Rattle.commit_deps.proofs.Same.{same-eq}
+use Rattle.kernel_model.proofs.Meets.{same-eq}
 use Rattle.commit_deps.proofs.Placing.{place-within, noted-there, places-stay, mark-nowhere, noted-last, says-more}
 use Rattle.commit_deps.proofs.dependencies.Dependencies.note_one.Goals as goal
 use Rattle.commit_deps.proofs.dependencies.Dependencies.note_one.Goals.{In-None, In-Some}

@@ -4,7 +4,7 @@ use Rattle.std.specs.Map.{lookup}
 use Rattle.kernel_model.specs.declared.carrier.Carrier.{Carrier}
 use Rattle.kernel_model.specs.contracts.carrier.CarrierPartialEq.TheImpl as carrier
 use Rattle.commit_deps.specs.Places.{place_at}
-use Rattle.commit_deps.proofs.Same.{same-eq}
+use Rattle.kernel_model.proofs.Meets.{same-eq}
 use Rattle.commit_deps.proofs.Placing.{says-same}
 use Rattle.commit_deps.proofs.dependencies.Dependencies.reserve.Goals as goal
 

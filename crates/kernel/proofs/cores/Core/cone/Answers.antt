@@ -2,7 +2,7 @@
 use Rattle.std.proofs.Common.{◌≡◌, ◌∙◌, ap, subst, true, if◌then◌else◌}
 use Rattle.std.specs.Prelude.{IfErr, OnOk}
 use Rattle.std.proofs.lemmas.Result.{IfOk-weaker}
-use Rattle.cone_laws.specs.Cones.{cone}
+use Rattle.kernel_laws.specs.Cones.{cone}
 use Rattle.kernel_model.specs.Answers.{Kernel, now}
 use Rattle.kernel_step.specs.Coning.{has_event}
 use Rattle.kernel_step.specs.declared.cones.ConeFault.TheVariants.{NoEvent, OutOfMemory}

@@ -1,7 +1,0 @@
--- Each part is a lemma.
-use Rattle.cone_laws.proofs.Accepted.{cone_accepted, visible_accepted}
-use Rattle.cone_laws.proofs.Laws.{is_framed, cone_suffices, visible_suffice}
-use Rattle.cone_laws.proofs.cones.Goals as goal
-
-pub returns : goal.returns
-returns _ = record { frame = is_framed; cone = cone_suffices; accepted = cone_accepted; shown = visible_suffice; visible_accepted = visible_accepted }

@@ -1,6 +1,0 @@
--- Each call has one segment fewer.
-use Rattle.std.proofs.Common.{length}
-use Rattle.elf32.proofs.checks.+page_total.Given as goal
-
-abbrev pub decreases-page_total : goal.decreases-page_total
-decreases-page_total l = length l.headers.now

@@ -1,0 +1,63 @@
+//! What gdb is to print.
+ghost use Rattle.std.specs.Prelude.{◌<◌};
+ghost use Rattle.kernel_model.specs.World.{terminal_count};
+
+use kernel_model::TERMINALS;
+use std::alloc::{AllocError, Global};
+use std::fmt::Display;
+use std::io;
+use std::io::Write;
+use timeline::Live;
+
+/// What gdb is to print: what terminals show, and lines of our own.
+#[derive(Drop)]
+pub struct Messages {
+    text: Vec<u8>,
+    /// Whether what gdb printed ends within a line.
+    is_line_open: bool,
+}
+
+impl Messages {
+    /// Nothing.
+    pub fn new(alloc: Global) -> Messages {
+        Messages {
+            text: Vec::new(alloc),
+            is_line_open: false,
+        }
+    }
+
+    /// Its bytes.
+    pub fn text(&self) -> &[u8] {
+        self.text.as_slice()
+    }
+
+    /// Forgets them, since gdb was told.
+    pub fn clear(&mut self) {
+        self.is_line_open = self.is_line_open();
+        self.text.clear();
+    }
+
+    /// Whether what gdb prints ends within a line.
+    fn is_line_open(&self) -> bool {
+        match self.text.last() {
+            Some(byte) => *byte != b'\n',
+            None => self.is_line_open,
+        }
+    }
+
+    /// Adds a line.
+    pub fn add<T: Display + Drop>(&mut self, line: T) -> io::Result<()> {
+        if self.is_line_open() {
+            self.text.push(b'\n')?;
+        }
+        writeln!(self.text, "bench: {line}")
+    }
+
+    /// Adds what terminals show and was not told, by rising number of the terminal.
+    pub fn add_shown(&mut self, live: &mut Live) -> Result<(), AllocError> {
+        for terminal in 0..TERMINALS as u32 {
+            self.text.extend_from_slice(live.tell(terminal))?;
+        }
+        Ok(())
+    }
+}

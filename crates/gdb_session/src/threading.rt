@@ -1,0 +1,74 @@
+//! The threads of a conversation.
+use crate::conversation::Conversation;
+use crate::inbox::Inbox;
+use crate::keeper::Keeper;
+use crate::session::Session;
+use std::alloc::Global;
+use std::io::{Read, Write};
+use std::sync::{Mutex, Wait};
+use std::thread;
+use std::thread::Threads;
+use timeline::SessionFault;
+
+/// An input, for the thread that reads.
+#[derive(Drop)]
+struct Source<'i, I> {
+    input: &'i mut I,
+}
+
+/// A conversation, for the thread that computes, and how it ended.
+#[derive(Drop)]
+struct Desk<'x, K, O> {
+    conversation: Conversation<'x, K, O>,
+    ended: Result<(), SessionFault>,
+}
+
+/// What the thread does that reads.
+fn read<R: Wait, I: Read>(rt: &R, alloc: Global, inbox: &Inbox, source: &Mutex<Source<'_, I>>) {
+    let mut source = source.lock(rt);
+    inbox.fill(rt, alloc, source.input);
+}
+
+/// What the thread does that computes.
+fn compute<R: Wait, K: Keeper, O: Write>(rt: &R, inbox: &Inbox, desk: &Mutex<Desk<'_, K, O>>) {
+    let mut desk = desk.lock(rt);
+    let ended = desk.conversation.answer_all(rt, inbox);
+    inbox.close(rt);
+    desk.ended = ended;
+}
+
+/// Both threads. Nothing is answered where the one that reads cannot be had.
+fn run_both<R: Threads + Wait + Sync, I: Read + Send, K: Keeper, O: Write>(
+    rt: &R,
+    alloc: Global,
+    inbox: &Inbox,
+    source: &Mutex<Source<'_, I>>,
+    desk: &Mutex<Desk<'_, K, O>>,
+) {
+    thread::scope(thread::scope_env(), rt, |scope| {
+        if scope.spawn(move || read(rt, alloc, inbox, source)).is_ok() {
+            compute(rt, inbox, desk);
+        }
+    });
+}
+
+/// Answers gdb, whose packets are read from `input`, and what answers them is written to `out`. A thread reads, so that a run is
+/// interrupted where gdb asks for it. It ends where gdb leaves, or the input ends: the packets before that are answered, for which the
+/// machine goes on for no more than 1,024 slices. An input that cannot be read is no end of it, but a fault.
+pub fn converse<R: Threads + Wait + Sync, I: Read + Send, K: Keeper, O: Write>(
+    rt: &R,
+    alloc: Global,
+    session: Session,
+    keeper: &mut K,
+    input: &mut I,
+    out: &mut O,
+) -> Result<(), SessionFault> {
+    let source = Mutex::new(Source { input });
+    let conversation = Conversation::new(alloc, session, keeper, out);
+    let desk = Mutex::new(Desk {
+        conversation,
+        ended: Err(SessionFault::OutOfMemory),
+    });
+    run_both(rt, alloc, &Inbox::new(alloc), &source, &desk);
+    desk.into_inner().ended
+}

@@ -1,6 +1,0 @@
--- The lemmas.
-pub mod Numbers
-pub mod Headers
-pub mod Passing
-pub mod Profile
-pub mod FirstFaults

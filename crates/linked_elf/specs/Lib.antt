@@ -1,3 +1,0 @@
--- The definitions.
-pub mod Checks
-pub mod Names

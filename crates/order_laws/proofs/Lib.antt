@@ -1,0 +1,12 @@
+pub mod Sorting
+pub mod Choosing
+pub mod SameStates
+pub mod Swapping
+pub mod Commuting
+pub mod Calls
+pub mod Unclaimed
+pub mod Claims
+pub mod Private
+pub mod Settling
+pub mod Upward
+pub mod Outcomes

@@ -1,0 +1,290 @@
+//! A picture that grows by what the events of a run do.
+ghost use Rattle.std.specs.Prelude.{◌<◌};
+ghost use Rattle.kernel_model.specs.World.{terminal_count};
+
+use crate::texts::bytes_shown;
+use kernel::{Core, Event};
+use kernel_model::TERMINALS;
+use pictures::{Fate, FileChange, Flight, Output, Picture, Row};
+use scripts::process_of;
+use std::alloc::{AllocError, Global};
+
+/// The heading of a picture of a whole run.
+const HEADING: &str = "What may be seen, and when";
+
+/// The most bytes that are shown of an output.
+const MOST_OUTPUT: usize = 12;
+
+/// An output that is held back.
+#[derive(Clone, Copy)]
+struct Held {
+    /// Its place among the picture's outputs.
+    output: usize,
+    terminal: u32,
+    /// How many bytes were written to the terminal, those of this output included.
+    end: usize,
+    ghost there: { terminal < terminal_count },
+}
+
+/// The picture of a run so far, and what of its last boot has not ended yet. What an event does is noted in the next row, and then
+/// that row is added.
+pub struct PictureBuilder {
+    pub picture: Picture,
+    /// A second core. It applies the events of processes too, and commits every change at once, so it shows each output in the
+    /// event that wrote it. Its processes get the same replies and write the same, since what programs do does not depend on when
+    /// changes are committed.
+    follower: Core,
+    /// How many changes the picture had at the boot.
+    first_change: usize,
+    /// How many changes there were at the last row since the boot, and how many of them were committed.
+    changes: u64,
+    committed: u64,
+    /// How many writes the picture had before those that were submitted last.
+    first_flight: usize,
+    held: Vec<Held>,
+    /// How many bytes were written to each terminal.
+    written: [usize; TERMINALS],
+}
+
+impl Drop for PictureBuilder {
+    fn drop(self) {
+        let PictureBuilder {
+            picture: _picture,
+            follower: _follower,
+            first_change: _,
+            changes: _,
+            committed: _,
+            first_flight: _,
+            held: _held,
+            written: _,
+        } = self;
+    }
+}
+
+/// A picture without a row.
+fn empty_picture(alloc: Global) -> Result<Picture, AllocError> {
+    Ok(Picture {
+        heading: String::from_str(alloc, HEADING)?,
+        rows: Vec::new(alloc),
+        processes: 0,
+        changes: Vec::new(alloc),
+        flights: Vec::new(alloc),
+        outputs: Vec::new(alloc),
+        arrows: Vec::new(alloc),
+        focus: 0,
+    })
+}
+
+/// Whether an output is held back still.
+fn is_held(core: &Core, held: &Held) -> bool {
+    core.shown(held.terminal).len() < held.end
+}
+
+/// Gives an output this fate.
+fn end_output(picture: &mut Picture, held: &Held, fate: Fate) {
+    if let Some(output) = picture.outputs.get_mut(held.output) {
+        output.fate = fate;
+    }
+}
+
+/// Applies an event of a process, and commits every change. What another core accepted is refused for want of memory alone.
+fn follow(follower: &mut Core, event: Event) -> Result<(), AllocError> {
+    if follower.apply(event).is_err() || follower.drain().is_err() {
+        return Err(AllocError);
+    }
+    Ok(())
+}
+
+impl PictureBuilder {
+    /// Before the first event of the first boot. The follower has just been booted too.
+    pub fn new(alloc: Global, follower: Core) -> Result<PictureBuilder, AllocError> {
+        Ok(PictureBuilder {
+            picture: empty_picture(alloc)?,
+            follower,
+            first_change: 0,
+            changes: 0,
+            committed: 0,
+            first_flight: 0,
+            held: Vec::new(alloc),
+            written: [0; TERMINALS],
+        })
+    }
+
+    fn next_row(&self) -> usize {
+        self.picture.rows.len()
+    }
+
+    /// Notes the change that an event made, if it made one.
+    fn note_change(&mut self, core: &Core) -> Result<(), AllocError> {
+        let number = core.changes();
+        if number > self.changes {
+            let row = self.next_row();
+            self.picture.changes.push(FileChange {
+                number,
+                row,
+                fate: Fate::Open,
+            })?;
+        }
+        Ok(())
+    }
+
+    /// Gives this fate to the changes that are not committed yet, up to the one of this number.
+    fn end_changes(&mut self, last: u64, fate: Fate) {
+        for number in self.committed..last {
+            let place = self.first_change.saturating_add(number as usize);
+            if let Some(change) = self.picture.changes.get_mut(place) {
+                change.fate = fate;
+            }
+        }
+    }
+
+    /// Notes that the write which began at this offset is in flight no more; without an offset, that none is.
+    fn end_flights(&mut self, at: Option<u32>) {
+        let row = self.next_row();
+        for flight in self.picture.flights.iter_mut().skip(self.first_flight) {
+            if flight.until.is_none() && at.unwrap_or(flight.at) == flight.at {
+                flight.until = Some(row);
+            }
+        }
+    }
+
+    /// Whether a write is in flight.
+    fn has_flights(&self) -> bool {
+        self.picture
+            .flights
+            .iter()
+            .skip(self.first_flight)
+            .any(|flight| flight.until.is_none())
+    }
+
+    /// Notes the writes that are in flight now. They are new, since a stage's writes are submitted once none is in flight.
+    fn note_takeoffs(&mut self, core: &Core) -> Result<(), AllocError> {
+        let row = self.next_row();
+        let pieces = core.writes_in_flight();
+        self.first_flight = self.picture.flights.len();
+        for (index, piece) in pieces.iter().enumerate() {
+            self.picture.flights.push(Flight {
+                at: piece.at,
+                bytes: piece.bytes.as_slice().len(),
+                row,
+                batch: pieces.len(),
+                index,
+                until: None,
+            })?;
+        }
+        Ok(())
+    }
+
+    /// Notes what an event did with writes in flight.
+    fn note_flights(&mut self, core: &Core, event: Event) -> Result<(), AllocError> {
+        match event {
+            Event::Turn { .. } | Event::Enter { .. } => return Ok(()),
+            Event::Complete { at } | Event::Fail { at } => self.end_flights(Some(at)),
+            Event::Cut => {}
+        }
+        if self.has_flights() {
+            return Ok(());
+        }
+        self.note_takeoffs(core)
+    }
+
+    /// Notes what an event wrote to a terminal, if it wrote anything. It is shown at once, or held back.
+    fn note_output(&mut self, alloc: Global, core: &Core, terminal: u32) -> Result<(), AllocError>
+        requires { terminal < terminal_count }
+    {
+        let before = self.written[terminal as usize];
+        let all = self.follower.shown(terminal);
+        let end = all.len();
+        if end <= before {
+            return Ok(());
+        }
+        let text = bytes_shown(alloc, &all[before..], MOST_OUTPUT)?;
+        self.written[terminal as usize] = end;
+        let row = self.next_row();
+        let held = Held {
+            output: self.picture.outputs.len(),
+            terminal,
+            end,
+        };
+        let fate = if is_held(core, &held) {
+            self.held.push(held)?;
+            Fate::Open
+        } else {
+            Fate::Kept { row }
+        };
+        self.picture.outputs.push(Output {
+            terminal,
+            text,
+            row,
+            fate,
+        })?;
+        Ok(())
+    }
+
+    /// Notes what an event wrote to terminals.
+    fn note_outputs(&mut self, alloc: Global, core: &Core) -> Result<(), AllocError> {
+        for terminal in 0..TERMINALS as u32 {
+            self.note_output(alloc, core, terminal)?;
+        }
+        Ok(())
+    }
+
+    /// Notes the outputs that had been held back, and are shown now.
+    fn note_shown(&mut self, core: &Core) {
+        let row = self.next_row();
+        for held in self.held.as_slice() {
+            if !is_held(core, held) {
+                end_output(&mut self.picture, held, Fate::Kept { row });
+            }
+        }
+        self.held.retain(|held| is_held(core, held));
+    }
+
+    /// Notes what an event did that the core accepted last, and adds its row.
+    pub fn push_event(
+        &mut self,
+        alloc: Global,
+        core: &Core,
+        event: Event,
+        mut row: Row,
+    ) -> Result<(), AllocError> {
+        if process_of(event).is_some() {
+            follow(&mut self.follower, event)?;
+        }
+        self.note_change(core)?;
+        self.note_flights(core, event)?;
+        self.note_outputs(alloc, core)?;
+        if core.committed() > self.committed {
+            let place = self.next_row();
+            self.end_changes(core.committed(), Fate::Kept { row: place });
+            self.note_shown(core);
+            row.committed = Some(core.committed());
+        }
+        self.changes = core.changes();
+        self.committed = core.committed();
+        Ok(self.picture.rows.push(row)?)
+    }
+
+    /// Ends in the next row what has not ended yet: changes that are not committed, writes in flight, outputs that are held back. Gives
+    /// how many changes and outputs there were.
+    pub fn cut_off(&mut self) -> (u64, u64) {
+        let row = self.next_row();
+        self.end_changes(self.changes, Fate::CutOff { row });
+        self.end_flights(None);
+        for held in self.held.as_slice() {
+            end_output(&mut self.picture, held, Fate::CutOff { row });
+        }
+        let changes = self.changes.saturating_sub(self.committed);
+        (changes, self.held.len() as u64)
+    }
+
+    /// Goes on with the next boot, of which this is the follower.
+    pub fn boot(&mut self, follower: Core) {
+        self.follower = follower;
+        self.first_change = self.picture.changes.len();
+        self.changes = 0;
+        self.committed = 0;
+        self.held.clear();
+        self.written = [0; TERMINALS];
+    }
+}

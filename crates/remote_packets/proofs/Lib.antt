@@ -1,4 +1,0 @@
-pub mod Cuts
-pub mod Bounds
-pub mod Escaping
-pub mod RoundTrip

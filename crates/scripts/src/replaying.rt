@@ -1,0 +1,118 @@
+//! The run of a script, and what each of its lines gives.
+use crate::file_lines::write_files;
+use crate::playing::{LineAnswer, Visitor, play_all};
+use crate::printing::{bytes_text, print_answer, print_refusal, print_reply};
+use crate::script::Script;
+use crate::setup::Setup;
+use crate::steps::Question;
+use faults::Fault;
+use files::FileList;
+use kernel::{Core, Refused};
+use machine_model::Reply;
+use std::alloc::Global;
+use std::io;
+use std::io::Write;
+use std::rt::Files;
+
+/// Prints how many replies to a process are handed out, and then a line for each.
+fn print_replies<O: Write>(
+    alloc: Global,
+    pid: u32,
+    replies: &[Reply],
+    out: &mut O,
+) -> io::Result<()> {
+    let count = replies.len();
+    writeln!(out, "trace {pid} {count} replies")?;
+    for reply in replies {
+        print_reply(alloc, reply, out)?;
+    }
+    Ok(())
+}
+
+/// Prints how many files the disk held at boot, and then a line for each.
+fn print_boot_files<O: Write>(files: &FileList, out: &mut O) -> io::Result<()> {
+    let count = files.count();
+    writeln!(out, "files {count}")?;
+    write_files(files, out)
+}
+
+/// Prints what a line asks for.
+fn print_asked<O: Write>(
+    alloc: Global,
+    core: &Core,
+    question: Question,
+    out: &mut O,
+) -> io::Result<()> {
+    match question {
+        Question::Shown(terminal) => {
+            let number = terminal.number;
+            let bytes = bytes_text(alloc, core.shown(number))?;
+            writeln!(out, "shown {number} {bytes}")
+        }
+        Question::Trace(pid) => match core.trace(pid) {
+            Ok(replies) => print_replies(alloc, pid, replies, out),
+            Err(why) => print_refusal(why, out),
+        },
+        Question::Files => print_boot_files(core.boot_files(), out),
+    }
+}
+
+/// Prints how many changes are committed after a drain, or why it was refused.
+fn print_drained<O: Write>(
+    core: &Core,
+    drained: Result<(), Refused>,
+    out: &mut O,
+) -> io::Result<()> {
+    match drained {
+        Ok(()) => {
+            let committed = core.committed();
+            writeln!(out, "drained, {committed} committed")
+        }
+        Err(why) => print_refusal(why, out),
+    }
+}
+
+/// Prints what each line gives.
+#[derive(Drop)]
+struct Printer<'a, R, O> {
+    rt: &'a R,
+    setup: &'a mut Setup,
+    out: &'a mut O,
+}
+
+impl<R: Files + AllocGlobal, O: Write> Visitor for Printer<'_, R, O> {
+    type Fault = Fault;
+
+    fn answered(&mut self, core: &Core, answer: LineAnswer) -> Result<(), Fault> {
+        match answer {
+            LineAnswer::Applied(answer) => print_answer(answer, self.out)?,
+            LineAnswer::Drained(drained) => print_drained(core, drained, self.out)?,
+            LineAnswer::Asked(question) => {
+                print_asked(self.rt.alloc(), core, question, self.out)?;
+            }
+        }
+        Ok(())
+    }
+
+    fn crash(&mut self, core: Core, fill: &[u8]) -> Result<Core, Fault> {
+        let next = self.setup.boot(self.rt, Some(core.halt(fill)))?;
+        writeln!(self.out, "crashed")?;
+        Ok(next)
+    }
+}
+
+/// Runs a script, and prints what each of its lines gives.
+pub fn replay<R: Files + AllocGlobal, O: Write>(
+    rt: &R,
+    mut script: Script,
+    out: &mut O,
+) -> Result<(), Fault> {
+    let core = script.setup.boot(rt, None)?;
+    let mut printer = Printer {
+        rt,
+        setup: &mut script.setup,
+        out,
+    };
+    play_all(&mut printer, core, script.steps.as_slice())?;
+    Ok(())
+}

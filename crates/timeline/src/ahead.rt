@@ -1,0 +1,117 @@
+//! The way on.
+use crate::fault::SessionFault;
+use crate::stop::{End, Stop};
+use crate::timeline::Timeline;
+use debugger::{MOST_INSTRUCTIONS, Stopped, Watch};
+use kernel_model::Refused;
+use recorder::Recorded;
+
+/// How a program goes on.
+#[derive(Clone, Copy)]
+pub struct Way {
+    /// The most instructions.
+    pub most: u64,
+    /// Whether breakpoints and watches stop it.
+    pub stops: bool,
+    /// The most loans of the kernel until that has a reply.
+    pub loans: u32,
+}
+
+/// What came of a part of the way on.
+#[derive(Clone, Copy)]
+pub enum After {
+    /// The program stops.
+    Stop(Stop),
+    /// Instructions were done.
+    Part,
+    /// The kernel was asked, and has replies.
+    Asked,
+    /// The call at which the machine stands got its reply, which it takes next: the last one of the debugger's trace.
+    Replied,
+    /// The kernel has no reply yet for this process.
+    NoReply { process: u32 },
+}
+
+/// The program goes no further.
+fn ended(end: End) -> Result<After, SessionFault> {
+    Ok(After::Stop(Stop::End(end)))
+}
+
+impl Timeline {
+    /// The watch that the next instruction, or the reply of a call, meets. Of those that it meets the one that was set first.
+    pub(crate) fn next_met(&self) -> Option<Watch> {
+        let access = self.debugger.next_access()?;
+        self.watches
+            .iter()
+            .find(|watch| watch.is_met(&access))
+            .copied()
+    }
+
+    /// Has the kernel run on for more replies.
+    fn ask(&mut self, loans: u32) -> Result<After, SessionFault> {
+        let Some(live) = &mut self.live else {
+            return ended(End::Trace);
+        };
+        let process = live.process();
+        match live.more(loans) {
+            Ok(Recorded::Replies(replies)) => {
+                for reply in replies {
+                    self.replies.push_back(reply)?;
+                }
+                Ok(After::Asked)
+            }
+            Ok(Recorded::Going) => Ok(After::NoReply { process }),
+            Ok(Recorded::Ended(status)) => ended(End::Exit { process, status }),
+            Ok(Recorded::Waits) => ended(End::Waits { process }),
+            Err(Refused::OutOfMemory) => Err(SessionFault::OutOfMemory),
+            Err(why) => ended(End::Refused { process, why }),
+        }
+    }
+
+    /// Hands the next reply to the call at which the machine stands, or asks the kernel for it.
+    fn answer(&mut self, loans: u32) -> Result<After, SessionFault> {
+        let count = self.count();
+        if self.answered == Some(count) {
+            return ended(End::FaultyReply);
+        }
+        match self.replies.pop_front() {
+            Some(reply) => {
+                self.debugger.extend(reply)?;
+                self.answered = Some(count);
+                Ok(After::Replied)
+            }
+            None => self.ask(loans),
+        }
+    }
+
+    /// Runs on.
+    fn run(&mut self, way: Way) -> Result<After, SessionFault> {
+        let stopped = if way.stops {
+            self.debugger.run_to_break(way.most)?
+        } else {
+            self.debugger.run(way.most)?
+        };
+        self.top = self.top.max(self.count());
+        match stopped {
+            Stopped::Break(number) => Ok(After::Stop(Stop::Break(number))),
+            Stopped::Trap(cause) => Ok(After::Stop(Stop::Trap(cause))),
+            Stopped::EndOfTrace => self.answer(way.loans),
+            Stopped::Limit => Ok(After::Part),
+        }
+    }
+
+    /// A part of the way on: instructions up to a call that has no reply, or a call that is answered. Where a watch is to stop the
+    /// program, it is an instruction alone.
+    pub fn ahead(&mut self, way: Way) -> Result<After, SessionFault> {
+        if self.count() == MOST_INSTRUCTIONS {
+            return ended(End::Budget);
+        }
+        if !way.stops || !self.watches() {
+            return self.run(way);
+        }
+        match self.next_met() {
+            Some(watch) => Ok(After::Stop(Stop::Watch(watch))),
+            None => self.run(Way { most: 1, ..way }),
+        }
+    }
+}

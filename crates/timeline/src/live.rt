@@ -1,0 +1,53 @@
+//! A kernel that answers the calls of the program.
+ghost use Rattle.std.specs.Prelude.{◌<◌};
+ghost use Rattle.kernel_model.specs.World.{terminal_count};
+
+use console::Cursor;
+use kernel::Core;
+use kernel_model::{Refused, TERMINALS};
+use recorder::{Recorded, Recorder};
+
+/// A kernel that answers the calls of a process, and how much of what each terminal shows was told.
+#[derive(Drop)]
+pub struct Live {
+    recorder: Recorder,
+    process: u32,
+    told: [Cursor; TERMINALS],
+}
+
+impl Live {
+    /// A kernel of which nothing was told.
+    pub(crate) fn new(recorder: Recorder, process: u32) -> Live {
+        Live {
+            recorder,
+            process,
+            told: [Cursor::new(); TERMINALS],
+        }
+    }
+
+    /// The number of its process.
+    pub fn process(&self) -> u32 {
+        self.process
+    }
+
+    /// The kernel as it stands.
+    pub fn core(&self) -> &Core {
+        self.recorder.core()
+    }
+
+    /// Runs the kernel on until the process has more replies, its end is found, or so many loans are done.
+    pub(crate) fn more(&mut self, loans: u32) -> Result<Recorded, Refused> {
+        self.recorder.more(loans)
+    }
+
+    /// What a terminal shows and was not told. It is told now.
+    pub fn tell(&mut self, terminal: u32) -> &[u8]
+        requires { terminal < terminal_count }
+    {
+        let shown = self.recorder.core().shown(terminal);
+        match self.told.get_mut(terminal as usize) {
+            Some(told) => told.rest(shown),
+            None => &[],
+        }
+    }
+}

@@ -1,0 +1,63 @@
+//! Why a program stops.
+use debugger::{Cause, Watch};
+use kernel_model::Refused;
+use std::fmt;
+use std::fmt::Display;
+
+/// Why a program goes no further. It prints as a line.
+#[derive(Clone, Copy)]
+pub enum End {
+    /// 2^40 instructions are done.
+    Budget,
+    /// The history fills so many MiB, and has no more room.
+    Full { mib: u64 },
+    /// The trace has no more replies.
+    Trace,
+    /// The bytes of the next reply may not be written.
+    FaultyReply,
+    /// The process ended with a status.
+    Exit { process: u32, status: u32 },
+    /// The process waits, and no other one runs on.
+    Waits { process: u32 },
+    /// The kernel goes no further.
+    Refused { process: u32, why: Refused },
+}
+
+impl Display for End {
+    fn fmt<W: fmt::Write>(&self, f: &mut fmt::Formatter<W>) -> fmt::Result {
+        match self {
+            End::Budget => f.write_str("2^40 instructions are done"),
+            End::Full { mib } => write!(
+                f,
+                "the program's history fills {mib} MiB; it goes no further (--history MIB gives it more)"
+            ),
+            End::Trace => f.write_str("end of trace"),
+            End::FaultyReply => {
+                f.write_str("end of trace: the bytes of its reply may not be written")
+            }
+            End::Exit { process, status } => write!(f, "process {process} ended {status}"),
+            End::Waits { process } => write!(
+                f,
+                "process {process} waits for nobody: no other process can end its wait"
+            ),
+            End::Refused { process, why } => write!(f, "process {process} goes no further: {why}"),
+        }
+    }
+}
+
+/// Why a program stops.
+#[derive(Clone, Copy)]
+pub enum Stop {
+    /// It went as far as it was to.
+    Done,
+    /// It stands at the breakpoint of a number.
+    Break(usize),
+    /// On the way on it stands before what meets a watch; on the way back, after it.
+    Watch(Watch),
+    /// It stands at a trap.
+    Trap(Cause),
+    /// It stands at its first state.
+    Begin,
+    /// It stands where the program goes no further.
+    End(End),
+}

@@ -1,0 +1,77 @@
+//! A program's run, forwards and back.
+use crate::fault::SessionFault;
+use crate::live::Live;
+use debugger::{Debugger, Image, Machine, Reply, Watch};
+use recorder::Recorder;
+use std::alloc::{AllocError, Global};
+use std::collections::VecDeque;
+
+/// Where the replies of a program's calls come from.
+#[derive(Drop)]
+pub enum Origin {
+    /// From a trace, in order.
+    Trace(Vec<Reply>),
+    /// From a kernel, of which the program is a process of this number.
+    Kernel(Recorder, u32),
+}
+
+/// A program's run, forwards and back. Replies are handed to the debugger one by one, at the call that takes them, so that each call is
+/// seen.
+#[derive(Drop)]
+pub struct Timeline {
+    /// The program at one of its states, with its breakpoints. It goes back by itself, and on by `ahead`.
+    pub debugger: Debugger,
+    /// The kernel that answers, if one does.
+    pub live: Option<Live>,
+    pub(crate) watches: Vec<Watch>,
+    /// Replies that no call got yet.
+    pub(crate) replies: VecDeque<Reply>,
+    /// The count at the call that got a reply last.
+    pub(crate) answered: Option<u64>,
+    /// The greatest count that was reached.
+    pub(crate) top: u64,
+}
+
+/// The replies of a list, in order.
+fn queue_of(alloc: Global, replies: Vec<Reply>) -> Result<VecDeque<Reply>, AllocError> {
+    let mut queue = VecDeque::new(alloc);
+    for reply in replies {
+        queue.push_back(reply)?;
+    }
+    Ok(queue)
+}
+
+impl Timeline {
+    /// A program at its first state.
+    pub fn new(alloc: Global, image: Image, origin: Origin) -> Result<Timeline, SessionFault> {
+        let (replies, live) = match origin {
+            Origin::Trace(replies) => (queue_of(alloc, replies)?, None),
+            Origin::Kernel(recorder, process) => {
+                (VecDeque::new(alloc), Some(Live::new(recorder, process)))
+            }
+        };
+        Ok(Timeline {
+            debugger: Debugger::new(alloc, image, Vec::new(alloc))?,
+            live,
+            watches: Vec::new(alloc),
+            replies,
+            answered: None,
+            top: 0,
+        })
+    }
+
+    /// The machine as it stands.
+    pub fn machine(&self) -> &Machine {
+        self.debugger.state()
+    }
+
+    /// How many instructions the machine did.
+    pub fn count(&self) -> u64 {
+        self.debugger.state().count()
+    }
+
+    /// The greatest count that was reached.
+    pub fn top(&self) -> u64 {
+        self.top
+    }
+}
