@@ -224,16 +224,23 @@ impl Footprints {
         self.ends.push(ends).unwrap();
     }
 
-    /// The carriers that an Enter reads beside its process.
-    fn reads(&self, enter: usize) -> &[Carrier]
+    /// How many Enters were noted.
+    pub fn len(&self) -> usize
+        ensures { result ≡ length self.now.footprints }
+    {
+        self.ends.len()
+    }
+
+    /// The carriers that an Enter reads beside its process. Enters are counted from 0.
+    pub fn reads(&self, enter: usize) -> &[Carrier]
         requires { enter < length self.now.footprints }
         ensures { result.now ≡ (get_or self.now.footprints enter no_footprint).reads }
     {
         read_by(&self.carriers, &self.ends, enter)
     }
 
-    /// The carriers that an Enter writes.
-    fn writes(&self, enter: usize) -> &[Carrier]
+    /// The carriers that an Enter writes. Enters are counted from 0.
+    pub fn writes(&self, enter: usize) -> &[Carrier]
         requires { enter < length self.now.footprints }
         ensures { result.now ≡ (get_or self.now.footprints enter no_footprint).writes }
     {

@@ -1,12 +1,21 @@
 -- Items and marks that stand in two lists of one length.
 use Rattle.std.proofs.Common.{◌≡◌, ℕ, suc, ◌+◌, Bool, true, false, if◌then◌else◌, List, [], ◌∷◌, ◌++◌, length, take, replicate, nat_le, refl, ap, subst, arith}
 use Rattle.kernel_model.specs.Shown.{prefix}
-use Rattle.held_output.specs.Withheld.{Held, held_with, all_held, whats, prefix_of}
+use Rattle.held_output.specs.Withheld.{Held, Withheld, held_with, all_held, whats, prefix_of}
 
 pub length-with : {A : Type 0} (xs : List A) (ms : List ℕ) → length ms ≡ length xs → length (held_with xs ms) ≡ length xs
 length-with [] ms e = refl
 length-with (x ∷ xs) [] e = cc
 length-with (x ∷ xs) (m ∷ ms) e = ap (λ n. suc n) (length-with xs ms (omega (arith, e)))
+
+-- without their marks the items are those that stand there
+pub whats-with : {A : Type 0} (xs : List A) (ms : List ℕ) → length ms ≡ length xs → whats (held_with xs ms) ≡ xs
+whats-with [] ms e = refl
+whats-with (x ∷ xs) [] e = cc
+whats-with {A} (x ∷ xs) (m ∷ ms) e = ap (λ (ys : List A). x ∷ ys) (whats-with xs ms (omega (arith, e)))
+
+pub whats-same : {A : Type 0} (w v : Withheld A) → w ≡ v → whats w.items ≡ whats v.items
+whats-same {A} w v e = ap (λ (x : Withheld A). whats x.items) e
 
 -- more of both come after those before
 pub append-with : {A : Type 0} (xs ys : List A) (ms ns : List ℕ) → length ms ≡ length xs → held_with (xs ++ ys) (ms ++ ns) ≡ held_with xs ms ++ held_with ys ns

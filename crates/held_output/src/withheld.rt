@@ -1,6 +1,6 @@
 //! Items that are held back until they may be seen.
 ghost use Rattle.std.specs.Prelude.{◌≡◌, ◌+◌, ◌≤◌, ◌++◌, ◌∷◌, [], OnOk, length, replicate, vec_len, vec_capacity};
-ghost use Rattle.held_output.specs.Withheld.{released, holds_back, all_held, nothing, IsSame};
+ghost use Rattle.held_output.specs.Withheld.{released, holds_back, whats, all_held, nothing, IsSame};
 
 use crate::prefix::prefix_from;
 use commit_deps::Mark;
@@ -73,6 +73,13 @@ impl<T> Withheld<T> {
         ensures { result.now ≡ released self.now }
     {
         &self.items[..self.count]
+    }
+
+    /// All items, released or held back. Takes no memory.
+    pub fn items(&self) -> &[T]
+        ensures { result.now ≡ whats self.now.items }
+    {
+        &self.items
     }
 
     /// Whether some item is not released yet.

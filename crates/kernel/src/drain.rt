@@ -1,7 +1,7 @@
 //! Drains: every change is committed, and so all output is shown.
 ghost use Rattle.std.specs.Prelude.{ℕ, ◌≡◌, OnOk};
 ghost use Rattle.kernel_model.specs.Answers.{now};
-ghost use Rattle.kernel_model.specs.Drains.{IsDrained, completion_or_cut};
+ghost use Rattle.kernel_model.specs.Drains.{IsDrained, completion_or_cut, next_of_drain};
 ghost use Rattle.kernel_model.specs.Shown.{printed, told, shown, handed};
 ghost use Rattle.kernel_model.specs.Views.{contents};
 
@@ -19,6 +19,18 @@ fn next_event(in_flight: Option<u32>) -> Event
 }
 
 impl Core {
+    /// The event with which a drain goes on, where no write has failed: it completes the write in flight that begins first, or is a Cut
+    /// where none is in flight. None where every change is committed.
+    pub fn next_of_drain(&self) -> Option<Event>
+        ensures { result ≡ next_of_drain (now self.now) }
+    {
+        if self.committed() < self.changes() {
+            Some(next_event(self.in_flight()))
+        } else {
+            None
+        }
+    }
+
     /// Cuts groups, and completes writes in flight in the order of their places on the disk, until every change is committed. Then
     /// all that was written to terminals is shown, and all that processes were told is handed out. The events before a refusal
     /// stay. Refused: DiskFailed, at once where a write has failed; Budget, where the history is full; OutOfMemory.

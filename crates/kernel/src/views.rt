@@ -1,17 +1,22 @@
 //! What may be seen of a run.
-ghost use Rattle.std.specs.Prelude.{◌≡◌, ◌<◌, None, true, is_some, IsSomeAnd, IfOk, OnOk, IfErr};
+ghost use Rattle.std.specs.Prelude.{◌≡◌, ◌<◌, None, true, not, is_some, IsSomeAnd, IfOk, OnOk, IfErr};
+ghost use Rattle.disk_model.specs.Storage.{is_empty};
 ghost use Rattle.kernel_model.specs.Answers.{now, process_of, committed as committed_in, changes as changes_in, in_flight as least_in_flight, wants_cut as is_cut_wanted};
 ghost use Rattle.kernel_model.specs.Ran.{ran_by_turns};
-ghost use Rattle.kernel_model.specs.Shown.{shown as shown_of, handed, replies_in, end_in};
+ghost use Rattle.kernel_model.specs.Shown.{shown as shown_of, printed, handed, replies_in, end_in};
+ghost use Rattle.kernel_model.specs.Views.{contents};
 ghost use Rattle.kernel_model.specs.World.{terminal_count};
 ghost use Rattle.kernel_model.specs.declared.answer.Refused.TheVariants.{NoProcess};
+ghost use Rattle.calls.specs.Sights.{sight_of};
+ghost use Rattle.footprints.specs.Footprints.{AreFootprints};
+ghost use Rattle.kernel_step.specs.Entering.{IsSightOf};
 ghost use Rattle.kernel.specs.Sums.{sum_of_turns, sum_of_enters};
 
 use crate::cores::Core;
 use disk_model::Piece;
 use files::FileList;
 use kernel_model::{Event, Refused};
-use kernel_step::Machine;
+use kernel_step::{Footprints, KernelTables, Machine};
 use machine_model::Reply;
 
 impl Core {
@@ -21,6 +26,14 @@ impl Core {
         ensures { result.now ≡ shown_of (now self.now) terminal }
     {
         self.running.shown(terminal)
+    }
+
+    /// All bytes that were written to a terminal, 0 to 7, shown or held back.
+    pub fn written(&self, terminal: u32) -> &[u8]
+        requires { terminal < terminal_count }
+        ensures { result.now ≡ contents (printed terminal (now self.now).log) }
+    {
+        self.running.written(terminal)
     }
 
     /// The replies to a process's calls that are handed out: the longest prefix that rests on committed changes alone. Refused:
@@ -85,6 +98,13 @@ impl Core {
         self.sums.enters
     }
 
+    /// Whether a write has failed in this run. No later Cut is accepted then.
+    pub fn has_failed(&self) -> bool
+        ensures { result ≡ not (is_empty (now self.now).storage.device.failed) }
+    {
+        self.running.has_failed()
+    }
+
     /// Whether a Cut is wanted: a byte of some terminal is held back, no group is in flight, and no write has failed.
     pub fn wants_cut(&self) -> bool
         ensures { result ≡ is_cut_wanted (now self.now) }
@@ -122,5 +142,20 @@ impl Core {
         ensures none { IfErr result (λ why. (why ≡ NoProcess) × (process_of self.now pid ≡ None)) }
     {
         self.running.machine(pid)
+    }
+
+    /// The tables from which calls are planned, where each change of a file counts at once: the files as programs see them, the bytes
+    /// that pipes hold, what is left of the tapes, and of each process its descriptors, its children left to collect, and its end.
+    pub fn tables(&self) -> KernelTables<'_>
+        ensures { IsSightOf (now self.now).sync (sight_of result) }
+    {
+        self.running.tables()
+    }
+
+    /// What each Enter of the history read beside its process, and what it wrote.
+    pub fn footprints(&self) -> &Footprints
+        ensures { AreFootprints self.now.history (now self.now).log result.now.footprints }
+    {
+        self.running.footprints()
     }
 }

@@ -1,5 +1,5 @@
 -- A drain: groups are cut and their writes completed until every change is committed.
-use Rattle.std.specs.Prelude.{◌≡◌, ℕ, not, true, List, [], ◌∷◌, Option, Some, None, Result, MatchResult}
+use Rattle.std.specs.Prelude.{◌≡◌, ℕ, nat_lt, if◌then◌else◌, not, true, List, [], ◌∷◌, Option, Some, None, Result, MatchResult}
 use Rattle.disk_model.specs.Storage.{is_empty}
 use Rattle.kernel_model.specs.Answers.{Kernel, now, committed, changes, in_flight, is_full, refusal, with_event, first_of, Refuses, ◌⇒◌}
 use Rattle.kernel_model.specs.World.{World}
@@ -24,6 +24,10 @@ IsFinished w = HasNoFailure w × IsAllCommitted w
 abbrev pub completion_or_cut : Option ℕ → Event
 completion_or_cut None = Cut
 completion_or_cut (Some at) = Complete at
+
+-- the event with which a drain goes on; none where every change is committed
+abbrev pub next_of_drain : World → Option Event
+next_of_drain w = if nat_lt (committed w) (changes w) then Some (completion_or_cut (in_flight w)) else None
 
 -- These are events of a drain, from this core to that one: each comes while no write has failed and some change is
 -- uncommitted, completes the write in flight that begins first, or is a Cut where none is in flight, and is accepted.

@@ -4,6 +4,7 @@ use Rattle.std.specs.Prelude.{IsSomeAnd}
 use Rattle.kernel_model.specs.Paths.{is_durable}
 use Rattle.kernel_model.specs.Shown.{Given, prefix, released, told, handed}
 use Rattle.kernel_model.specs.State.{Process, process_at}
+use Rattle.kernel_model.specs.Views.{contents}
 use Rattle.kernel_model.specs.World.{Boot, World, run_of}
 use Rattle.held_output.specs.Withheld.{Withheld, Held, whats, released as released_of}
 use Rattle.kernel_step.specs.Stands.{Stands}
@@ -32,6 +33,13 @@ released-so {A} c (g ∷ gs) (h ∷ hs) m =
 -- what is withheld releases what the run does
 pub released-is : {A : Type 0} (c : ℕ) (gs : List (Given A)) (w : Withheld A) → Withholds c gs w → released_of w ≡ released c gs
 released-is {A} c gs w h = ap (λ (n : ℕ). whats (prefix (λ (x : Held A). nat_le x.mark n) w.items)) h.committed ∙ released-so c gs w.items h.marked
+
+-- all that is withheld is all that events gave
+pub written-is : {A : Type 0} (gs : List (Given A)) (hs : List (Held A)) → AreMarked gs hs → whats hs ≡ contents gs
+written-is [] [] m = refl
+written-is [] (h ∷ hs) m = absurd m
+written-is (g ∷ gs) [] m = absurd m
+written-is {A} (g ∷ gs) (h ∷ hs) m = ap (λ (x : A). x ∷ whats hs) m.0 ∙ ap (λ (xs : List A). g.what ∷ xs) (written-is gs hs m.2)
 
 pub marked-length : {A : Type 0} (gs : List (Given A)) (hs : List (Held A)) → AreMarked gs hs → length hs ≡ length gs
 marked-length [] [] m = refl

@@ -25,7 +25,9 @@ mod views;
 mod whereabouts;
 
 pub use booting::Program;
+pub use calls::KernelTables;
 pub use cones::ConeFault;
+pub use footprints::Footprints;
 pub use kernel_model::{Answer, Event, Outcome, Refused, Standing};
 pub use loan::{Done, Loan, Rejected};
 pub use machine::Machine;

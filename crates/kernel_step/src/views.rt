@@ -6,15 +6,21 @@ ghost use Rattle.disk_model.specs.Storage.{is_empty};
 ghost use Rattle.simdisk.specs.Room.{crashed};
 ghost use Rattle.kernel_model.specs.Answers.{now, process_of, committed as committed_in, changes as changes_in, in_flight as least_in_flight, wants_cut as is_cut_wanted};
 ghost use Rattle.kernel_model.specs.Ran.{ran_by_turns};
-ghost use Rattle.kernel_model.specs.Shown.{shown as shown_of, handed, replies_in, end_in};
+ghost use Rattle.kernel_model.specs.Shown.{shown as shown_of, printed, handed, replies_in, end_in};
+ghost use Rattle.kernel_model.specs.Views.{contents};
 ghost use Rattle.kernel_model.specs.World.{Boot, terminal_count};
 ghost use Rattle.kernel_model.specs.declared.answer.Refused.TheVariants.{NoProcess};
+ghost use Rattle.calls.specs.Sights.{sight_of};
+ghost use Rattle.footprints.specs.Footprints.{AreFootprints};
 ghost use Rattle.held_output.specs.Withheld.{holds_back};
+ghost use Rattle.kernel_step.specs.Entering.{IsSightOf};
 ghost use Rattle.kernel_step.specs.Stands.{Stands, kernel_in};
 
 use crate::running::Running;
 use crate::tasks::task_of;
+use calls::KernelTables;
 use disk_model::Piece;
+use footprints::Footprints;
 use held_output::Withheld;
 use kernel_model::{Event, Refused};
 use machine::Machine;
@@ -37,6 +43,16 @@ impl Running {
     {
         let screen = &self.system.screens[terminal as usize];
         screen.released()
+    }
+
+    /// As `Core::written`.
+    pub fn written(&self, terminal: u32) -> &[u8]
+        requires kept { (b : Boot) × Stands b self.now }
+        requires there { terminal < terminal_count }
+        ensures { (b : Boot) → Stands b self.now → result.now ≡ contents (printed terminal (now (kernel_in b self.now)).log) }
+    {
+        let screen = &self.system.screens[terminal as usize];
+        screen.items()
     }
 
     /// As `Core::trace`.
@@ -119,7 +135,22 @@ impl Running {
         Ok(task.machine())
     }
 
-    /// Whether a write has failed in this run. No later Cut is accepted then.
+    /// As `Core::tables`.
+    pub fn tables(&self) -> KernelTables<'_>
+        ensures { (b : Boot) → Stands b self.now → IsSightOf (now (kernel_in b self.now)).sync (sight_of result) }
+    {
+        self.system.tables()
+    }
+
+    /// As `Core::footprints`.
+    pub fn footprints(&self) -> &Footprints
+        ensures { (b : Boot) → Stands b self.now
+            → AreFootprints (kernel_in b self.now).history (now (kernel_in b self.now)).log result.now.footprints }
+    {
+        &self.system.footprints
+    }
+
+    /// As `Core::has_failed`.
     pub fn has_failed(&self) -> bool
         ensures { (b : Boot) → Stands b self.now → result ≡ not (is_empty (now (kernel_in b self.now)).storage.device.failed) }
     {

@@ -35,19 +35,9 @@ pub trait Visitor {
     fn crash(&mut self, core: Core, fill: &[u8]) -> Result<Core, Self::Fault>;
 }
 
-/// The event by which a drain goes on.
-fn next_event(in_flight: Option<u32>) -> Event {
-    match in_flight {
-        Some(at) => Event::Complete { at },
-        None => Event::Cut,
-    }
-}
-
 #[derive(Drop)]
 struct Player<'a, V> {
     visitor: &'a mut V,
-    /// Whether a write has failed since the last boot.
-    has_failed: bool,
 }
 
 impl<V: Visitor> Player<'_, V> {
@@ -63,22 +53,18 @@ impl<V: Visitor> Player<'_, V> {
             Err(Refused::OutOfMemory) => return Err(V::Fault::from(AllocError)),
             Err(_) => {}
         }
-        if let Ok(Answer::Failed) = answer {
-            self.has_failed = true;
-        }
         Ok(answer)
     }
 
     /// Applies the events of `Core::drain` one by one, and is refused as that is.
     fn drain(&mut self, core: &mut Core) -> Result<Result<(), Refused>, V::Fault> {
-        if self.has_failed {
+        if core.has_failed() {
             return Ok(Err(Refused::DiskFailed));
         }
         for _ in 0..u64::MAX {
-            if core.committed() == core.changes() {
+            let Some(event) = core.next_of_drain() else {
                 break;
-            }
-            let event = next_event(core.in_flight());
+            };
             if let Err(why) = self.apply(core, event)? {
                 return Ok(Err(why));
             }
@@ -102,10 +88,7 @@ impl<V: Visitor> Player<'_, V> {
                 self.act(&mut core, *action)?;
                 Ok(core)
             }
-            Step::Crash(fill) => {
-                self.has_failed = false;
-                self.visitor.crash(core, fill.as_slice())
-            }
+            Step::Crash(fill) => self.visitor.crash(core, fill.as_slice()),
         }
     }
 }
@@ -116,10 +99,7 @@ pub fn play_all<V: Visitor>(
     mut core: Core,
     steps: &[Step],
 ) -> Result<Core, V::Fault> {
-    let mut player = Player {
-        visitor,
-        has_failed: false,
-    };
+    let mut player = Player { visitor };
     for step in steps {
         core = player.step(core, step)?;
     }
