@@ -1,12 +1,17 @@
 //! Runs of the program `bench`, each compared with what is wanted.
 //!
-//! Read `check_file` first: it runs the cases of a file of `.calls` or `.sessions`, which `case_format` reads. What no case can say
+//! Read `check_file` first: it runs the cases of a file of `.calls` or `.sessions`, which `case_format` reads. Of each case of `.calls`
+//! the runs are gone through once more, event by event, each beside the run of its cone alone (`check_cones`). What no case can say
 //! is a function each. Outputs fail (`faulty_output`), and a disk and arguments cannot be read (`damaged_disk`, `lost_arguments`). A
 //! disk's file has links and rights (`kept_disk`), and standard error is looked at write by write (`whole_lines`). Each gives a line
 //! that says what was tried. What comes out otherwise is refused, with a text that says how.
 #![tactic(auto)]
 
 mod case_files;
+mod cone_runs;
+mod cone_told;
+mod cone_visible;
+mod cones;
 mod damaged_disk;
 mod faulty_output;
 mod kept_disk;

@@ -1,8 +1,8 @@
 //! Cases done step by step, each beside what is wanted of it.
+use crate::cones::check_cones;
 use crate::running::run;
 use anyhow::Error;
 use case_format::{CallsCase, IMAGE_NAME, Ran, Step, check_missing, session_steps};
-use cone_cases::check_cones;
 use std::fs::{self, File};
 use std::rt::Files;
 use std::sync::Wait;

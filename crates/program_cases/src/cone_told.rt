@@ -1,5 +1,5 @@
 //! What a run tells, as text: the replies to a process with its end, and what terminals show.
-use crate::runs::TestRun;
+use crate::cone_runs::TestRun;
 use anyhow::{Error, bail};
 use kernel::Event;
 use kernel_model::TERMINALS;

@@ -1,6 +1,6 @@
 //! The visible events of a run, those that rest on committed changes alone, beside what the whole run shows and has committed.
-use crate::runs::TestRun;
-use crate::told::handed;
+use crate::cone_runs::TestRun;
+use crate::cone_told::handed;
 use anyhow::{Error, bail};
 use files::FileList;
 use kernel::{ConeFault, Event};

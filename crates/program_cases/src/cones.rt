@@ -1,7 +1,9 @@
-//! What each event of a process tells, in a run and in that of its cone alone.
-use crate::runs::TestRun;
-use crate::told::told_by;
-use crate::visible::check_visible;
+//! What each event of a process tells, in a run and in that of its cone alone. At the first event that rests on more than its cone
+//! has, the runs are refused, with a text that says which. The contracts of `Core::cone` and the law `cones` promise this of the
+//! definitions. The table that says what a call reads and writes is one of them. So here the calls themselves are run.
+use crate::cone_runs::TestRun;
+use crate::cone_told::told_by;
+use crate::cone_visible::check_visible;
 use anyhow::{Error, bail};
 use kernel::{Core, Event};
 use scripts::{Script, Start, Visitor, cone_events, play_all, process_of};
