@@ -24,7 +24,7 @@ ENDS = {"J", "Jal", "Jr", "Jalr"}
 
 
 def kind(word):
-    """The kind of operation that stands for a word (`crates/operations/src/op.rt`); None where it is left to the plain way."""
+    """The kind of operation that stands for a word (`crates/operations/src/operation.rt`); None where it is left to the plain way."""
     opcode, funct3, rd = word & 127, word >> 12 & 7, word >> 7 & 31
     if opcode == 0x63:
         return BRANCHES.get(funct3)

@@ -11,7 +11,7 @@ use Rattle.assembler.specs.Assembly.{pages, data_base, entry_of, Assembled, asse
 use Rattle.assembler.specs.Listed.{AreListed, IsListedIn}
 use Rattle.assembler.specs.declared.fault.AsmFault.{AsmFault}
 use Rattle.assembler.specs.declared.filling.Cell.{Cell}
-use Rattle.assembler.specs.declared.listing.Row.{Row}
+use Rattle.assembler.specs.declared.listing.ListingRow.{ListingRow}
 use Rattle.assembler.specs.declared.layout.Position.{Position}
 use Rattle.assembler.specs.declared.layout.Layout.{Layout}
 use Rattle.asm_statements.proofs.Stepping.{and_then-ok}
@@ -65,7 +65,7 @@ pub same_assembled : (a b : Assembled) → ◌≡◌ {A = Result Assembled AsmFa
 same_assembled a b is = cc
 
 -- what the passes make is listed
-pub listed-made : (source : List ℕ) (lines : List Line) (image : Program) (listing : List Row) → assembly source lines ≡ Ok (record { image = image; listing = listing }) → IsListedIn image listing
+pub listed-made : (source : List ℕ) (lines : List Line) (image : Program) (listing : List ListingRow) → assembly source lines ≡ Ok (record { image = image; listing = listing }) → IsListedIn image listing
 listed-made source lines image listing is =
     let wanted : Assembled = record { image = image; listing = listing } in
     let (l, _, is2) = and_then-ok (all_placed source lines start_layout) (assembly_from source lines) wanted is in

@@ -24,7 +24,7 @@ use Rattle.assembler.specs.declared.labels.Spot.{Spot}
 use Rattle.asm_statements.specs.declared.statement.Label.{Label}
 use Rattle.asm_statements.specs.declared.statement.Statement.{Statement}
 use Rattle.asm_statements.specs.declared.statement.Statement.TheVariants as statement
-use Rattle.assembler.specs.declared.listing.Row.{Row}
+use Rattle.assembler.specs.declared.listing.ListingRow.{ListingRow}
 use Rattle.asm_statements.proofs.Stepping.{and_then-ok}
 use Rattle.assembler.proofs.Profiles.{text_length}
 use Rattle.asm_statements.proofs.Registers.{statement-known}
@@ -257,7 +257,7 @@ image-segments pieces entry c text data_is =
     let begins : data_base (length c.cells) ≡ data_begins pieces = ap (λ (n : ℕ). 65536 + 4096 * pages n) (sym (text_length c.cells) ∙ ap length text) in
     (λ i. text_segment (text i) ∷ data_segments (begins i) (data_is i))
 
-by-lines-of : (source : List ℕ) (lines : List Line) (l : Layout) (f : Filling) (c : Contents) (entry : ℕ) (image : Program) (listing : List Row) → IsText source lines → all_placed source lines start_layout ≡ Ok l → all_filled (scope_of source l) lines start_filling ≡ Ok f
+by-lines-of : (source : List ℕ) (lines : List Line) (l : Layout) (f : Filling) (c : Contents) (entry : ℕ) (image : Program) (listing : List ListingRow) → IsText source lines → all_placed source lines start_layout ≡ Ok l → all_filled (scope_of source l) lines start_filling ≡ Ok f
     → ◌≡◌ {A = Result Contents AsmFault} (Ok f.contents) (Ok c) → length c.cells ≡ l.position.words → length c.bytes ≡ l.position.bytes → pages (4 * l.position.words) + pages l.position.bytes ≤ 60
     → ◌≡◌ {A = Result Assembled AsmFault} (Ok (assembled entry c)) (Ok (record { image = image; listing = listing })) → IsByLines source image
 by-lines-of source lines l f c entry image listing text placed_is filled_is shows cells held fits made =
@@ -284,7 +284,7 @@ by-lines-of source lines l f c entry image listing text placed_is filled_is show
     }
 
 -- an image that a source assembles to is the one of its lines
-pub by-lines : (source : List ℕ) (image : Program) (listing : List Row) → Assembles source image listing → IsByLines source image
+pub by-lines : (source : List ℕ) (image : Program) (listing : List ListingRow) → Assembles source image listing → IsByLines source image
 by-lines source image listing a =
     let wanted : Assembled = record { image = image; listing = listing } in
     let (l, placed_is, is2) = and_then-ok (all_placed source a.lines start_layout) (assembly_from source a.lines) wanted a.made in

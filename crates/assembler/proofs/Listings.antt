@@ -31,7 +31,7 @@ use Rattle.asm_statements.specs.declared.statement.Label.{Label}
 use Rattle.asm_statements.specs.declared.statement.Statement.{Statement}
 use Rattle.asm_statements.specs.declared.statement.Statement.TheVariants as statement
 use Rattle.assembler.specs.declared.filling.Cell.{Cell}
-use Rattle.assembler.specs.declared.listing.Row.{Row}
+use Rattle.assembler.specs.declared.listing.ListingRow.{ListingRow}
 use Rattle.asm_statements.proofs.Stepping.{and_then-ok, and_then-each, ok_or-ok}
 use Rattle.assembler.proofs.Stepping.{at_line-ok}
 use Rattle.asm_statements.proofs.Registers.{HasRegisters, statement-known}
@@ -207,7 +207,7 @@ are_instructions at line (Two i j) m = (refl, refl, m.0, (refl, refl, m.1, refl)
 rows-append : (at : ℕ) (xs ys : List Cell) → rows_from at (xs ++ ys) ≡ rows_from at xs ++ rows_from (at + 4 * length xs) ys
 rows-append at [] ys = ap (λ (n : ℕ). rows_from n ys) (omega arith)
 rows-append at (x ∷ xs) ys =
-    ap (λ (rows : List Row). (record { address = at; word = x.word; line = x.line }) ∷ rows)
+    ap (λ (rows : List ListingRow). (record { address = at; word = x.word; line = x.line }) ∷ rows)
     (rows-append (at + 4) xs ys ∙ ap (λ (n : ℕ). rows_from (at + 4) xs ++ rows_from n ys) (omega arith))
 
 length-rows : (at : ℕ) (xs : List Cell) → length (rows_from at xs) ≡ length xs
@@ -215,10 +215,10 @@ length-rows at [] = refl
 length-rows at (x ∷ xs) = ap suc (length-rows (at + 4) xs)
 
 -- what is said of each cell's line is said of each row's
-rows-lines : (P : ℕ → Type 0) (at : ℕ) (xs : List Cell) → All (λ (x : Cell). P x.line) xs → All (λ (r : Row). P r.line) (rows_from at xs)
-rows-lines P at [] all = All-nil (λ (r : Row). P r.line)
+rows-lines : (P : ℕ → Type 0) (at : ℕ) (xs : List Cell) → All (λ (x : Cell). P x.line) xs → All (λ (r : ListingRow). P r.line) (rows_from at xs)
+rows-lines P at [] all = All-nil (λ (r : ListingRow). P r.line)
 rows-lines P at (x ∷ xs) all =
-    All-cons (λ (r : Row). P r.line) (record { address = at; word = x.word; line = x.line }) (rows_from (at + 4) xs)
+    All-cons (λ (r : ListingRow). P r.line) (record { address = at; word = x.word; line = x.line }) (rows_from (at + 4) xs)
     (All-head (λ (x : Cell). P x.line) x xs all) (rows-lines P (at + 4) xs (All-tail (λ (x : Cell). P x.line) x xs all))
 
 -- what an instruction in text adds, after so many words
@@ -326,7 +326,7 @@ pub entry-fits : (l : Layout) (entry : ℕ) → entry_of l ≡ Ok entry → page
 entry-fits l entry is = grind (arith, nat_tests)
 
 -- the listing of what the passes make
-listed-instruction : (source : List ℕ) (before : List Line) (line : Line) (after : List Line) (words : ℕ) (m : Mnemonic) (o : Operands) (listing : List Row) (l : Layout) (c : Contents) → all_placed source (before ++ line ∷ after) start_layout ≡ Ok l
+listed-instruction : (source : List ℕ) (before : List Line) (line : Line) (after : List Line) (words : ℕ) (m : Mnemonic) (o : Operands) (listing : List ListingRow) (l : Layout) (c : Contents) → all_placed source (before ++ line ∷ after) start_layout ≡ Ok l
     → length c.cells ≤ 61440 → rows_from 65536 c.cells ≡ listing → IsParted (scope_of source l) line words m o c → IsListedInstruction source (before ++ line ∷ after) line words m o listing
 listed-instruction source before line after words m o listing l c placed small shows parted =
     let here : List Cell = cells_of line.number parted.expansion in
@@ -344,7 +344,7 @@ listed-instruction source before line after words m o listing l c placed small s
       below = rows_from (65536 + 4 * words + 4 * length here) parted.back;
       parted = sym shows ∙ ap (rows_from 65536) parted.cells ∙ rows-append 65536 parted.prefix (here ++ parted.back)
           ∙ ap (λ (n : ℕ). rows_from 65536 parted.prefix ++ rows_from (65536 + 4 * n) (here ++ parted.back)) count
-          ∙ ap (λ (x : List Row). rows_from 65536 parted.prefix ++ x) (rows-append (65536 + 4 * words) here parted.back)
+          ∙ ap (λ (x : List ListingRow). rows_from 65536 parted.prefix ++ x) (rows-append (65536 + 4 * words) here parted.back)
           ∙ sym (append_assoc (rows_from 65536 parted.prefix) (rows_from (65536 + 4 * words) here) (rows_from (65536 + 4 * words + 4 * length here) parted.back));
       as_many = length-rows 65536 parted.prefix ∙ count;
       instructions = are_instructions (65536 + 4 * words) line.number parted.expansion parted.meant;
@@ -352,7 +352,7 @@ listed-instruction source before line after words m o listing l c placed small s
       later = rows-lines (λ (n : ℕ). line.number < n) (65536 + 4 * words + 4 * length here) parted.back parted.later;
     }
 
-made-lists : (source : List ℕ) (before : List Line) (line : Line) (after : List Line) (words : ℕ) (m : Mnemonic) (o : Operands) (image : Program) (listing : List Row) → IsText source (before ++ line ∷ after) → IsInstruction source before line words m o
+made-lists : (source : List ℕ) (before : List Line) (line : Line) (after : List Line) (words : ℕ) (m : Mnemonic) (o : Operands) (image : Program) (listing : List ListingRow) → IsText source (before ++ line ∷ after) → IsInstruction source before line words m o
     → assembly source (before ++ line ∷ after) ≡ Ok (record { image = image; listing = listing }) → IsListedInstruction source (before ++ line ∷ after) line words m o listing
 made-lists source before line after words m o image listing text instruction is =
     let lines : List Line = before ++ line ∷ after in
@@ -367,7 +367,7 @@ made-lists source before line after words m o image listing text instruction is 
     (parted-lines (scope_of source l) before line after words m o c text instruction fills)
 
 -- what the passes make of the one reading of a source lists its instructions
-pub lists-instructions : (source given : List ℕ) (lines given_lines : List Line) (image : Program) (listing : List Row) → given ≡ source → given_lines ≡ lines → IsText source lines
+pub lists-instructions : (source given : List ℕ) (lines given_lines : List Line) (image : Program) (listing : List ListingRow) → given ≡ source → given_lines ≡ lines → IsText source lines
     → ((s : List ℕ) (ls ms : List Line) → IsText s ls → IsText s ms → ls ≡ ms) → assembly given given_lines ≡ Ok (record { image = image; listing = listing }) → ListsInstructions source listing
 lists-instructions source given lines given_lines image listing same same_lines text one is before line after words m o other instruction =
     let made : assembly source lines ≡ Ok (record { image = image; listing = listing }) =

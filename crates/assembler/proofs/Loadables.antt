@@ -12,7 +12,7 @@ use Rattle.assembler.specs.Assembly.{pages, data_base, start_at, IsTextAddress, 
 use Rattle.assembler.specs.declared.fault.AsmFault.{AsmFault}
 use Rattle.assembler.specs.declared.fault.Cause.TheVariants.{NoStart, TooLarge}
 use Rattle.assembler.specs.declared.labels.Spot.{Spot}
-use Rattle.assembler.specs.declared.listing.Row.{Row}
+use Rattle.assembler.specs.declared.listing.ListingRow.{ListingRow}
 use Rattle.assembler.specs.declared.layout.Layout.{Layout}
 use Rattle.asm_statements.proofs.Stepping.{and_then-ok}
 use Rattle.assembler.proofs.Profiles.{profile-image}
@@ -48,7 +48,7 @@ fitting-pages : (words bytes w b : ℕ) → w ≡ words → b ≡ bytes → page
 fitting-pages words bytes w b is js fits = omega arith
 
 -- what the passes make keeps the profile
-pub profile-made : (source : List ℕ) (lines : List Line) (image : Program) (listing : List Row) → assembly source lines ≡ Ok (record { image = image; listing = listing }) → IsProfile image
+pub profile-made : (source : List ℕ) (lines : List Line) (image : Program) (listing : List ListingRow) → assembly source lines ≡ Ok (record { image = image; listing = listing }) → IsProfile image
 profile-made source lines image listing is =
     let wanted : Assembled = record { image = image; listing = listing } in
     let (l, placed, is2) = and_then-ok (all_placed source lines start_layout) (assembly_from source lines) wanted is in

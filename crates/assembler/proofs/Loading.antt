@@ -7,7 +7,7 @@ use Rattle.std.proofs.lemmas.Int.{ints, of_z-to_z}
 use Rattle.std.proofs.lemmas.Bool.Decides.{nat_tests}
 use Rattle.formats.specs.Fields.{signed}
 use Rattle.formats.specs.declared.instr.Instr.TheVariants as instr
-use Rattle.machine_model.specs.Effects.{Hart, reg, put, effect}
+use Rattle.machine_model.specs.Effects.{ArchitecturalState, reg, put, effect}
 use Rattle.machine_model.specs.Arithmetic.{as_word, sum}
 use Rattle.asm_statements.specs.Expansion.{immediate_of, modulo_word, low_part, high_part, li_expansion, la_expansion, fitting_expansion, long_expansion, word_count}
 use Rattle.assembler.specs.Instructions.{instructions_of}
@@ -50,14 +50,14 @@ pc-twice : (pc : ℕ) → ((pc + 4) % 2 ^ 32 + 4) % 2 ^ 32 ≡ (pc + 4 * 2) % 2 
 pc-twice pc = omega arith
 
 -- an `addi` after an instruction that set its register
-added : (h : Hart) (rd x value : ℕ) (z : ℤ) → length h.registers ≡ 32 → rd < 32 → sum x (as_word z) ≡ value
+added : (h : ArchitecturalState) (rd x value : ℕ) (z : ℤ) → length h.registers ≡ 32 → rd < 32 → sum x (as_word z) ≡ value
     → carried_out (instr.Addi rd rd z ∷ []) (record { registers = put h.registers rd x; pc = (h.pc + 4) % 2 ^ 32; memory = h.memory }) ≡ Some (with_value h rd value 2)
 unfolding effect
 added h rd x value z size below is =
     let registers : put (put h.registers rd x) rd (sum (slice_index (put h.registers rd x) rd) (as_word z)) ≡ put h.registers rd value = set-again h.registers rd x value z (omega (arith, size)) is in
     λ i. Some (record { registers = registers i; pc = pc-twice h.pc i; memory = h.memory })
 
-li-fitting : (h : Hart) (rd u : ℕ) (imm : ℤ) → reg h 0 ≡ 0 → u < 2 ^ 32 → immediate_of (cast_signed w32 u) ≡ Some imm → carried_out (instr.Addi rd 0 imm ∷ []) h ≡ Some (with_value h rd u 1)
+li-fitting : (h : ArchitecturalState) (rd u : ℕ) (imm : ℤ) → reg h 0 ≡ 0 → u < 2 ^ 32 → immediate_of (cast_signed w32 u) ≡ Some imm → carried_out (instr.Addi rd 0 imm ∷ []) h ≡ Some (with_value h rd u 1)
 unfolding effect
 li-fitting h rd u imm none small fits =
     let word : as_word imm ≡ u = ap as_word (immediate-same (cast_signed w32 u) imm fits) ∙ of_z-to_z w32 u small in
@@ -74,15 +74,15 @@ high-whole u none small =
     let low : as_word (low_part u) ≡ 0 = ap as_word (low-none u none) in
     omega (arith, parts-sum u, low, high-below u)
 
-li-whole : (h : Hart) (rd u : ℕ) → u % 2 ^ 12 ≡ 0 → u < 2 ^ 32 → carried_out (instr.Lui rd (high_part u) ∷ []) h ≡ Some (with_value h rd u 1)
+li-whole : (h : ArchitecturalState) (rd u : ℕ) → u % 2 ^ 12 ≡ 0 → u < 2 ^ 32 → carried_out (instr.Lui rd (high_part u) ∷ []) h ≡ Some (with_value h rd u 1)
 unfolding effect
 li-whole h rd u none small = ap (λ (n : ℕ). Some (record { registers = put h.registers rd n; pc = (h.pc + 4) % 2 ^ 32; memory = h.memory })) (high-whole u none small)
 
-li-parts : (h : Hart) (rd u : ℕ) → length h.registers ≡ 32 → rd < 32 → u < 2 ^ 32 → carried_out (instr.Lui rd (high_part u) ∷ instr.Addi rd rd (low_part u) ∷ []) h ≡ Some (with_value h rd u 2)
+li-parts : (h : ArchitecturalState) (rd u : ℕ) → length h.registers ≡ 32 → rd < 32 → u < 2 ^ 32 → carried_out (instr.Lui rd (high_part u) ∷ instr.Addi rd rd (low_part u) ∷ []) h ≡ Some (with_value h rd u 2)
 unfolding effect
 li-parts h rd u size below small = added h rd (high_part u * 2 ^ 12) u (low_part u) size below (let parts : (high_part u * 2 ^ 12 + as_word (low_part u)) % 2 ^ 32 ≡ u % 2 ^ 32 = parts-sum u in omega arith)
 
-li-long : (h : Hart) (rd u : ℕ) → length h.registers ≡ 32 → rd < 32 → u < 2 ^ 32 → carried_out (instructions_of (long_expansion rd u)) h ≡ Some (with_value h rd u (word_count (long_expansion rd u)))
+li-long : (h : ArchitecturalState) (rd u : ℕ) → length h.registers ≡ 32 → rd < 32 → u < 2 ^ 32 → carried_out (instructions_of (long_expansion rd u)) h ≡ Some (with_value h rd u (word_count (long_expansion rd u)))
 li-long h rd u size below small = by_test (u % 2 ^ 12 == 0) refl
   where
     by_test : (b : Bool) → (u % 2 ^ 12 == 0) ≡ b → carried_out (instructions_of (if b then One (instr.Lui rd (high_part u)) else Two (instr.Lui rd (high_part u)) (instr.Addi rd rd (low_part u)))) h
@@ -90,12 +90,12 @@ li-long h rd u size below small = by_test (u % 2 ^ 12 == 0) refl
     by_test true is = li-whole h rd u (grind (arith, nat_tests)) small
     by_test false is = li-parts h rd u size below small
 
-li-found : (h : Hart) (rd u : ℕ) (x : Option ℤ) → length h.registers ≡ 32 → reg h 0 ≡ 0 → rd < 32 → u < 2 ^ 32 → immediate_of (cast_signed w32 u) ≡ x
+li-found : (h : ArchitecturalState) (rd u : ℕ) (x : Option ℤ) → length h.registers ≡ 32 → reg h 0 ≡ 0 → rd < 32 → u < 2 ^ 32 → immediate_of (cast_signed w32 u) ≡ x
     → carried_out (instructions_of (fitting_expansion rd u x)) h ≡ Some (with_value h rd u (word_count (fitting_expansion rd u x)))
 li-found h rd u (Some imm) size none below small fits = li-fitting h rd u imm none small fits
 li-found h rd u None size none below small fits = li-long h rd u size below small
 
-pub li-loads : (h : Hart) (rd u : ℕ) → length h.registers ≡ 32 → reg h 0 ≡ 0 → rd < 32 → u < 2 ^ 32 → carried_out (instructions_of (li_expansion rd u)) h ≡ Some (with_value h rd u (word_count (li_expansion rd u)))
+pub li-loads : (h : ArchitecturalState) (rd u : ℕ) → length h.registers ≡ 32 → reg h 0 ≡ 0 → rd < 32 → u < 2 ^ 32 → carried_out (instructions_of (li_expansion rd u)) h ≡ Some (with_value h rd u (word_count (li_expansion rd u)))
 li-loads h rd u size none below small = li-found h rd u (immediate_of (cast_signed w32 u)) size none below small refl
 
 far : (pc a b u at : ℕ) → (a + b) % 2 ^ 32 ≡ u % 2 ^ 32 → (pc + u) % 2 ^ 32 ≡ at → ((pc + a) % 2 ^ 32 + b) % 2 ^ 32 ≡ at
@@ -107,11 +107,11 @@ from-pc pc at a b =
     let distance : modulo_word (pos at -ℤ pos pc) ≡ (at + 2 ^ 32 - pc) % 2 ^ 32 = modulo_shifted (pos at -ℤ pos pc) (at + 2 ^ 32 - pc) (omega (arith, ints)) in
     rw distance (omega arith)
 
-la-distance : (h : Hart) (rd u at : ℕ) → length h.registers ≡ 32 → rd < 32 → (h.pc + u) % 2 ^ 32 ≡ at → carried_out (instructions_of (la_expansion rd u)) h ≡ Some (with_value h rd at 2)
+la-distance : (h : ArchitecturalState) (rd u at : ℕ) → length h.registers ≡ 32 → rd < 32 → (h.pc + u) % 2 ^ 32 ≡ at → carried_out (instructions_of (la_expansion rd u)) h ≡ Some (with_value h rd at 2)
 unfolding effect
 la-distance h rd u at size below there =
     added h rd (sum h.pc (high_part u * 2 ^ 12)) at (low_part u) size below
     (let parts : (high_part u * 2 ^ 12 + as_word (low_part u)) % 2 ^ 32 ≡ u % 2 ^ 32 = parts-sum u in far h.pc (high_part u * 2 ^ 12) (as_word (low_part u)) u at parts there)
 
-pub la-loads : (h : Hart) (rd at : ℕ) → length h.registers ≡ 32 → rd < 32 → h.pc < 2 ^ 32 → at < 2 ^ 32 → carried_out (instructions_of (la_expansion rd (modulo_word (pos at -ℤ pos h.pc)))) h ≡ Some (with_value h rd at 2)
+pub la-loads : (h : ArchitecturalState) (rd at : ℕ) → length h.registers ≡ 32 → rd < 32 → h.pc < 2 ^ 32 → at < 2 ^ 32 → carried_out (instructions_of (la_expansion rd (modulo_word (pos at -ℤ pos h.pc)))) h ≡ Some (with_value h rd at 2)
 la-loads h rd at size below pc small = la-distance h rd (modulo_word (pos at -ℤ pos h.pc)) at size below (from-pc h.pc at pc small)

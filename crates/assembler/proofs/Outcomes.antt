@@ -9,7 +9,7 @@ use Rattle.assembler.specs.Assembly.{Assembled, Assembles, FaultOf, too_long, in
 use Rattle.assembler.specs.declared.fault.AsmFault.{AsmFault}
 use Rattle.assembler.specs.declared.fault.Cause.{Cause}
 use Rattle.assembler.specs.declared.fault.Cause.TheVariants.{Syntax, TooLarge}
-use Rattle.assembler.specs.declared.listing.Row.{Row}
+use Rattle.assembler.specs.declared.listing.ListingRow.{ListingRow}
 use Rattle.assembler.proofs.Assemblies.{same_assembled}
 
 -- what asm_text's law says
@@ -34,7 +34,7 @@ within m n = by_test (nat_lt n m) refl
 same_passes : LinesAreOne → (s : List ℕ) (ls ms : List Line) (r : Result Assembled AsmFault) → IsText s ls → IsText s ms → assembly s ls ≡ r → assembly s ms ≡ r
 same_passes one s ls ms r p q is = subst (λ (x : List Line). assembly s x ≡ r) (one s ls ms p q) is
 
-pub one-image : LinesAreOne → (s : List ℕ) (i j : Program) (l m : List Row) → Assembles s i l → Assembles s j m → (i ≡ j) × (l ≡ m)
+pub one-image : LinesAreOne → (s : List ℕ) (i j : Program) (l m : List ListingRow) → Assembles s i l → Assembles s j m → (i ≡ j) × (l ≡ m)
 one-image one s i j l m a b =
     let first : Assembled = record { image = i; listing = l } in
     let second : Assembled = record { image = j; listing = m } in
@@ -46,7 +46,7 @@ abbrev pub ReadingIsThere : Type 0
 ReadingIsThere = (s : List ℕ) → ((ls : List Line) × IsText s ls) ⊎ ((line : ℕ) × (column : ℕ) × FirstFault s line column)
 
 abbrev HasOutcome : List ℕ → Type 0
-HasOutcome s = ((i : Program) × (l : List Row) × Assembles s i l) ⊎ ((f : AsmFault) × FaultOf s f)
+HasOutcome s = ((i : Program) × (l : List ListingRow) × Assembles s i l) ⊎ ((f : AsmFault) × FaultOf s f)
 
 lines-outcome : (s : List ℕ) (ls : List Line) (r : Result Assembled AsmFault) → length s ≤ source_limit → IsText s ls → assembly s ls ≡ r → HasOutcome s
 lines-outcome s ls (Ok a) fits text is = inl (a.image, a.listing, record { fits = fits; lines = ls; text = text; made = is })
@@ -67,7 +67,7 @@ no_outcome a f is = cc
 same_fault : (f g : AsmFault) → ◌≡◌ {A = Result Assembled AsmFault} (Err f) (Err g) → f ≡ g
 same_fault f g is = cc
 
-pub image-or-fault : LinesAreOne → LinesOrFault → (s : List ℕ) (i : Program) (l : List Row) (f : AsmFault) → Assembles s i l → FaultOf s f → ⊥
+pub image-or-fault : LinesAreOne → LinesOrFault → (s : List ℕ) (i : Program) (l : List ListingRow) (f : AsmFault) → Assembles s i l → FaultOf s f → ⊥
 image-or-fault one either s i l f a (too_long long is) = let fits : length s ≤ source_limit = a.fits in omega arith
 image-or-fault one either s i l f a (in_tokens fits fault why) = either s a.lines f.line f.column a.text fault
 image-or-fault one either s i l f a (in_lines fits lines text refused) =

@@ -25,7 +25,7 @@ use Rattle.asm_statements.specs.declared.expansion.Expansion.TheVariants.{One, T
 use Rattle.asm_statements.specs.declared.statement.Statement.{Statement}
 use Rattle.asm_statements.specs.declared.statement.Statement.TheVariants as statement
 use Rattle.assembler.specs.declared.filling.Cell.{Cell}
-use Rattle.assembler.specs.declared.listing.Row.{Row}
+use Rattle.assembler.specs.declared.listing.ListingRow.{ListingRow}
 use Rattle.asm_statements.proofs.Encodings.{complement-signed}
 use Rattle.asm_statements.proofs.Stepping.{and_then-ok, ok_or-ok}
 use Rattle.assembler.proofs.Stepping.{at_line-ok}
@@ -264,18 +264,18 @@ words-contents scope lines c is =
     let (f, made, shows) = and_then-ok (all_filled scope lines start_filling) contents_shown c is in
     words-same f.contents c shows (words-lines scope lines start_filling f made (All-nil IsWord))
 
-words-rows : (at : ℕ) (cells : List Cell) → All IsWord cells → All (λ (row : Row). row.word < 2 ^ 32) (rows_from at cells)
-words-rows at [] all = All-nil (λ (row : Row). row.word < 2 ^ 32)
+words-rows : (at : ℕ) (cells : List Cell) → All IsWord cells → All (λ (row : ListingRow). row.word < 2 ^ 32) (rows_from at cells)
+words-rows at [] all = All-nil (λ (row : ListingRow). row.word < 2 ^ 32)
 words-rows at (c ∷ cells) all =
-    All-cons (λ (row : Row). row.word < 2 ^ 32) (record { address = at; word = c.word; line = c.line }) (rows_from (at + 4) cells)
+    All-cons (λ (row : ListingRow). row.word < 2 ^ 32) (record { address = at; word = c.word; line = c.line }) (rows_from (at + 4) cells)
     (All-head IsWord c cells all) (words-rows (at + 4) cells (All-tail IsWord c cells all))
 
 -- each listed word is below 2^32
-pub words-made : (source : List ℕ) (lines : List Line) (image : Program) (listing : List Row) → assembly source lines ≡ Ok (record { image = image; listing = listing }) → All (λ (row : Row). row.word < 2 ^ 32) listing
+pub words-made : (source : List ℕ) (lines : List Line) (image : Program) (listing : List ListingRow) → assembly source lines ≡ Ok (record { image = image; listing = listing }) → All (λ (row : ListingRow). row.word < 2 ^ 32) listing
 words-made source lines image listing is =
     let wanted : Assembled = record { image = image; listing = listing } in
     let (l, _, is2) = and_then-ok (all_placed source lines start_layout) (assembly_from source lines) wanted is in
     let (entry, _, is3) = and_then-ok (entry_of l) (assembly_after source lines l) wanted is2 in
     let (c, fills, is4) = and_then-ok (contents_filled (scope_of source l) lines) (made_of entry) wanted is3 in
-    subst (λ (a : Assembled). All (λ (row : Row). row.word < 2 ^ 32) a.listing) (same_assembled (assembled entry c) wanted is4)
+    subst (λ (a : Assembled). All (λ (row : ListingRow). row.word < 2 ^ 32) a.listing) (same_assembled (assembled entry c) wanted is4)
     (words-rows 65536 c.cells (words-contents (scope_of source l) lines c fills))

@@ -14,7 +14,7 @@ use Rattle.assembler.specs.declared.fault.Cause.TheVariants.{Syntax, NoStart, To
 use Rattle.assembler.specs.declared.labels.Spot.{Spot}
 use Rattle.assembler.specs.declared.layout.Layout.{Layout}
 use Rattle.assembler.specs.declared.filling.Cell.{Cell}
-use Rattle.assembler.specs.declared.listing.Row.{Row}
+use Rattle.assembler.specs.declared.listing.ListingRow.{ListingRow}
 
 -- how many pages of 4,096 bytes so many bytes take
 abbrev pub pages : ℕ → ℕ
@@ -40,7 +40,7 @@ entry_of l =
     else start_at (get l.labels (codes "_start")) l.position.words
 
 -- the listing: each word of text with its address and the line of its statement
-abbrev pub rows_from : ℕ → List Cell → List Row
+abbrev pub rows_from : ℕ → List Cell → List ListingRow
 rows_from at [] = []
 rows_from at (c ∷ cells) = (record { address = at; word = c.word; line = c.line }) ∷ rows_from (at + 4) cells
 
@@ -66,7 +66,7 @@ image_of entry c = record { entry = entry; segments = text_segment (bytes_of_wor
 -- an image, and the listing of its text
 pub record Assembled : Type 0 where
   pub image : Program
-  pub listing : List Row
+  pub listing : List ListingRow
 
 abbrev pub assembled : ℕ → Contents → Assembled
 assembled entry c = record { image = image_of entry c; listing = rows_from 65536 c.cells }
@@ -88,7 +88,7 @@ abbrev pub source_limit : ℕ
 source_limit = 1048576
 
 -- A source has this image and this listing: it is not too long, and the passes make them of its lines.
-pub record Assembles (source : List ℕ) (image : Program) (listing : List Row) : Type 0 where
+pub record Assembles (source : List ℕ) (image : Program) (listing : List ListingRow) : Type 0 where
   pub fits : length source ≤ source_limit
   pub lines : List Line
   pub text : IsText source lines

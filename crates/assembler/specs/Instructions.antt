@@ -17,7 +17,7 @@ use Rattle.asm_statements.specs.declared.expansion.Expansion.TheVariants.{One, T
 use Rattle.asm_statements.specs.declared.statement.Label.{Label}
 use Rattle.asm_statements.specs.declared.statement.Statement.TheVariants.{Instruction}
 use Rattle.assembler.specs.declared.layout.Layout.{Layout}
-use Rattle.assembler.specs.declared.listing.Row.{Row}
+use Rattle.assembler.specs.declared.listing.ListingRow.{ListingRow}
 
 -- A line's statement is an instruction in text, after lines that have so many words of text.
 pub record IsInstruction (source : List ℕ) (before : List Line) (line : Line) (words : ℕ) (m : Mnemonic) (o : Operands) : Type 0 where
@@ -36,7 +36,7 @@ instructions_of (One i) = i ∷ []
 instructions_of (Two i j) = i ∷ j ∷ []
 
 -- rows that stand one after the other from an address, are of one line, and have words that mean these instructions in order
-abbrev pub AreInstructions : ℕ → ℕ → List Instr → List Row → Type 0
+abbrev pub AreInstructions : ℕ → ℕ → List Instr → List ListingRow → Type 0
 AreInstructions at number [] rows = rows ≡ []
 AreInstructions at number (i ∷ instructions) [] = ⊥
 AreInstructions at number (i ∷ instructions) (row ∷ rows) =
@@ -44,16 +44,16 @@ AreInstructions at number (i ∷ instructions) (row ∷ rows) =
 
 -- A line's instruction is listed. Where the labels stand as all lines place them, it expands to instructions. After a row for each
 -- word of text before it come its rows: those instructions from the address there on, and the only rows of the line.
-pub record IsListedInstruction (source : List ℕ) (lines : List Line) (line : Line) (words : ℕ) (m : Mnemonic) (o : Operands) (listing : List Row) : Type 0 where
+pub record IsListedInstruction (source : List ℕ) (lines : List Line) (line : Line) (words : ℕ) (m : Mnemonic) (o : Operands) (listing : List ListingRow) : Type 0 where
   pub layout : Layout
   pub placed : all_placed source lines start_layout ≡ Ok layout
   pub number : ℤ
   pub value : distance_of (scope_of source layout) (pos (65536 + 4 * words)) o.value ≡ Some number
   pub expansion : Expansion
   pub expands : expansion_of m o number ≡ Some expansion
-  pub above : List Row
-  pub rows : List Row
-  pub below : List Row
+  pub above : List ListingRow
+  pub rows : List ListingRow
+  pub below : List ListingRow
   pub parted : listing ≡ above ++ rows ++ below
   pub as_many : length above ≡ words
   pub instructions : AreInstructions (65536 + 4 * words) line.number (instructions_of expansion) rows
@@ -61,7 +61,7 @@ pub record IsListedInstruction (source : List ℕ) (lines : List Line) (line : L
   pub later : All (λ row. line.number < row.line) below
 
 -- each instruction in the text of a source is listed
-abbrev pub ListsInstructions : List ℕ → List Row → Type 0
+abbrev pub ListsInstructions : List ℕ → List ListingRow → Type 0
 ListsInstructions source listing =
     (before : List Line) (line : Line) (after : List Line) (words : ℕ) (m : Mnemonic) (o : Operands)
     → IsText source (before ++ line ∷ after) → IsInstruction source before line words m o

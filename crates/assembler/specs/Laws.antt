@@ -9,7 +9,7 @@ use Rattle.asm_statements.specs.Expansion.{modulo_word, low_part, high_part}
 use Rattle.assembler.specs.Assembly.{Assembles, FaultOf}
 use Rattle.assembler.specs.Sections.{IsByLines}
 use Rattle.assembler.specs.declared.fault.AsmFault.{AsmFault}
-use Rattle.assembler.specs.declared.listing.Row.{Row}
+use Rattle.assembler.specs.declared.listing.ListingRow.{ListingRow}
 
 -- A word that means an instruction is the instruction's word. FENCE and FENCE.I have several words: for FENCE it is the fence of
 -- all accesses, for FENCE.I the one whose unused fields are 0.
@@ -23,11 +23,11 @@ PartsAddUp = (u : ℕ) → modulo_word (pos (high_part u * 2 ^ 12) +ℤ low_part
 -- The image of a source is, line by line, the bytes of its statements, each at its own address. A label stands at its section's
 -- base plus the bytes of that section before it.
 abbrev pub ImagesAreByLines : Type 0
-ImagesAreByLines = (source : List ℕ) (image : Program) (listing : List Row) → Assembles source image listing → IsByLines source image
+ImagesAreByLines = (source : List ℕ) (image : Program) (listing : List ListingRow) → Assembles source image listing → IsByLines source image
 
 -- A source has one image and one listing, or one first fault, and never both.
 pub record HasOneOutcome : Type 0 where
-  pub some : (source : List ℕ) → ((i : Program) × (l : List Row) × Assembles source i l) ⊎ ((f : AsmFault) × FaultOf source f)
-  pub image : (source : List ℕ) (i j : Program) (l m : List Row) → Assembles source i l → Assembles source j m → (i ≡ j) × (l ≡ m)
+  pub some : (source : List ℕ) → ((i : Program) × (l : List ListingRow) × Assembles source i l) ⊎ ((f : AsmFault) × FaultOf source f)
+  pub image : (source : List ℕ) (i j : Program) (l m : List ListingRow) → Assembles source i l → Assembles source j m → (i ≡ j) × (l ≡ m)
   pub fault : (source : List ℕ) (f g : AsmFault) → FaultOf source f → FaultOf source g → f ≡ g
-  pub not_both : (source : List ℕ) (i : Program) (l : List Row) (f : AsmFault) → Assembles source i l → FaultOf source f → ⊥
+  pub not_both : (source : List ℕ) (i : Program) (l : List ListingRow) (f : AsmFault) → Assembles source i l → FaultOf source f → ⊥

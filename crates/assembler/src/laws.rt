@@ -6,7 +6,7 @@ ghost use Rattle.assembler.specs.Listed.{IsListedIn};
 ghost use Rattle.assembler.specs.Instructions.{ListsInstructions};
 ghost use Rattle.assembler.specs.Loads.{LoadsAreRight};
 ghost use Rattle.assembler.specs.Laws.{WordsAreOfTable, PartsAddUp, ImagesAreByLines, HasOneOutcome};
-ghost use Rattle.assembler.specs.declared.listing.Row.{Row};
+ghost use Rattle.assembler.specs.declared.listing.ListingRow.{ListingRow};
 
 use asm_text::one_reading;
 
@@ -45,10 +45,10 @@ pub fn one_outcome()
 /// A law: what a source assembles to keeps the profile of what may be loaded. The listed words, each below 2^32, stand in the image
 /// one after the other, each at its address. Each instruction in text is listed.
 pub fn assembled_is_listed()
-    ensures profile { (source : List ℕ) (image : Program) (listing : List Row) → Assembles source image listing → IsProfile image }
-    ensures listed { (source : List ℕ) (image : Program) (listing : List Row) → Assembles source image listing → IsListedIn image listing }
-    ensures words { (source : List ℕ) (image : Program) (listing : List Row) → Assembles source image listing → All (λ row. row.word < 2 ^ 32) listing }
-    ensures meant { (source : List ℕ) (image : Program) (listing : List Row) → Assembles source image listing → ListsInstructions source listing }
+    ensures profile { (source : List ℕ) (image : Program) (listing : List ListingRow) → Assembles source image listing → IsProfile image }
+    ensures listed { (source : List ℕ) (image : Program) (listing : List ListingRow) → Assembles source image listing → IsListedIn image listing }
+    ensures words { (source : List ℕ) (image : Program) (listing : List ListingRow) → Assembles source image listing → All (λ row. row.word < 2 ^ 32) listing }
+    ensures meant { (source : List ℕ) (image : Program) (listing : List ListingRow) → Assembles source image listing → ListsInstructions source listing }
 {
     one_reading();
 }

@@ -18,4 +18,4 @@ pub use laws::{
     word_meanings,
 };
 pub use layout::Position;
-pub use listing::{Listing, Row};
+pub use listing::{Listing, ListingRow};

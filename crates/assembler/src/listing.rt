@@ -8,7 +8,7 @@ use std::marker::Model;
 
 /// A word of text: its address, the word, and the line of its statement, from 1.
 #[derive(Clone, Copy, Debug, PartialEq, Eq)]
-pub struct Row {
+pub struct ListingRow {
     pub address: u32,
     pub word: u32,
     pub line: usize,
@@ -16,7 +16,7 @@ pub struct Row {
 
 /// The words of a program's text, in ascending order. A contract sees the list of its rows.
 pub struct Listing {
-    rows: Vec<Row>,
+    rows: Vec<ListingRow>,
 }
 
 impl Drop for Listing {
@@ -27,16 +27,16 @@ impl Drop for Listing {
 
 impl Model for Listing {
     ghost use Rattle.std.specs.Prelude.{List};
-    ghost use Rattle.assembler.specs.declared.listing.Row.{Row};
+    ghost use Rattle.assembler.specs.declared.listing.ListingRow.{ListingRow};
 
-    ghost Value = { List Row };
+    ghost Value = { List ListingRow };
 
     ghost view = { λ l. l.rows.items };
 }
 
 impl Listing {
     /// The rows, in ascending order of their addresses.
-    pub fn rows(&self) -> &[Row]
+    pub fn rows(&self) -> &[ListingRow]
         ensures { result.now ≡ self.now }
     {
         self.rows.as_slice()
@@ -51,7 +51,7 @@ pub fn list_cells(alloc: Global, cells: &[Cell]) -> Result<Listing, AllocError>
     let mut rows = Vec::with_capacity(alloc, cells.len())?;
     let mut address: u32 = 65536;
     for cell in cells {
-        rows.push(Row {
+        rows.push(ListingRow {
             address,
             word: cell.word,
             line: cell.line,

@@ -5,7 +5,7 @@ use Rattle.std.specs.Prelude.{if◌then◌else◌}
 use Rattle.std.proofs.lemmas.List.{length-append}
 use Rattle.std.proofs.lemmas.List.Sums.{sum_by-append}
 use Rattle.kernel_model.proofs.Runs.{history-with_events}
-use Rattle.machine_model.specs.States.{stands_at}
+use Rattle.machine_model.specs.States.{stopped_at}
 use Rattle.kernel_model.specs.Answers.{Kernel, answer, with_event}
 use Rattle.kernel_model.specs.Loans.{LoanResult, returned, events_of, settled, settled_answer, outcome_after}
 use Rattle.kernel_model.specs.Ran.{ran_by_turns, ran_in}
@@ -29,7 +29,7 @@ adds k new es by is events turns enters ran = λ i. record {
 }
 
 -- the events of a result, by whether the state reached stands at a call or a trap
-events_add : (k new : Kernel) (r : LoanResult) (b : Bool) → is_some (stands_at r.reached.state) ≡ b → new.history ≡ k.history ++ events_of r
+events_add : (k new : Kernel) (r : LoanResult) (b : Bool) → is_some (stopped_at r.reached.state) ≡ b → new.history ≡ k.history ++ events_of r
     → ran_by_turns new ≡ ran_by_turns k + r.reached.count → plus (history_totals k) (settled_totals r.process (settled_answer k r)) ≡ history_totals new
 events_add k new r true at is ran =
     let events : events_of r ≡ Turn r.process r.reached.count ∷ Enter r.process ∷ [] = ap (λ (b : Bool). Turn r.process r.reached.count ∷ (if b then Enter r.process ∷ [] else [])) at in
@@ -51,7 +51,7 @@ pub result_adds : (k new : Kernel) (r : LoanResult) (a : Answer) (books by : Tot
     → ran_by_turns new ≡ ran_by_turns k + r.reached.count → by ≡ settled_totals r.process a → plus books by ≡ history_totals new
 result_adds k new r a books by here is answered ran sum =
     (λ i. plus (here i) ((sum ∙ ap (settled_totals r.process) answered) i))
-    ∙ events_add k new r (is_some (stands_at r.reached.state)) refl (ap (λ (x : Kernel). x.history) is ∙ history-with_events (returned k r.process) (events_of r)) ran
+    ∙ events_add k new r (is_some (stopped_at r.reached.state)) refl (ap (λ (x : Kernel). x.history) is ∙ history-with_events (returned k r.process) (events_of r)) ran
 
 -- an event that ran nothing and in which no process took part
 silent_adds : (k new : Kernel) (e : Event) (a : Answer) → process_of_turn e ≡ 0 → process_of_enter e ≡ 0 → ran_in (answer k e) ≡ 0 → a ≡ answer k e → new ≡ with_event k e

@@ -13,14 +13,14 @@ use Rattle.processes.specs.Parts.{Part, part_at, descriptors_in, children_in, st
 use Rattle.calls.specs.Plans.{IsRow, IsNext, CarriesBytes, NamesFiles, Says, effect_of, effect_with}
 use Rattle.calls.specs.Sights.{Sight, row_from, MayPlanCall, PlansCall}
 use Rattle.kernel_model.specs.Wholes.{IsWhole}
-use Rattle.calls.specs.declared.plan.Plan.{Plan}
-use Rattle.calls.specs.declared.row.Row.{Row}
+use Rattle.calls.specs.declared.plan.CallPlan.{CallPlan}
+use Rattle.calls.specs.declared.row.CallRow.{CallRow}
 use Rattle.calls.proofs.Sound.{Kept, IsFine, IsSound, named-after, row-sound}
 use Rattle.calls.proofs.Seeing.{row-kept}
 use Rattle.calls.proofs.Stepping.{few-shown}
 use Rattle.calls.proofs.Planned.{is-effect, both_planned, edits-as}
 
-pub planned-call : (seen : Sight) (pid : ℕ) (request : Request) (ds : List (Option Descriptor)) (found : Row) (plan : Plan)
+pub planned-call : (seen : Sight) (pid : ℕ) (request : Request) (ds : List (Option Descriptor)) (found : CallRow) (plan : CallPlan)
     → MayPlanCall seen pid → IsWhole request → ds ≡ descriptors_in (part_at seen.parts pid) → length ds ≤ 16
     → IsRow found (row_from seen pid ds request) → IfSome found.edit CarriesBytes → Says seen.files plan (effect_of found)
     → PlansCall seen pid request plan
@@ -59,5 +59,5 @@ planned-call seen pid request ds found plan may whole same few is carries says =
       left = sound.left;
       steps = λ s n shown most room. sound.steps n (omega (arith, size, few, room)) (few-shown n s.pipes seen.pipes shown.pipes most);
       child = subst (λ (n : ℕ). IfSome plan.child (IsNext n)) count sound.child;
-      place = λ s asked. sound.placed s.hart.memory (subst (IsAsked s.hart.memory) (sym asked) (asked_by s));
+      place = λ s asked. sound.placed s.architectural.memory (subst (IsAsked s.architectural.memory) (sym asked) (asked_by s));
     }

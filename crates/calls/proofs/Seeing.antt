@@ -5,7 +5,7 @@ use Rattle.std.proofs.lemmas.List.{length-map}
 use Rattle.std.proofs.lemmas.Option.{slice_get-map}
 use Rattle.disk_model.specs.Numbers.{Numbered, file_of}
 use Rattle.kernel_model.specs.Requests.{most_bytes}
-use Rattle.kernel_model.specs.Rows.{Effect, failure, bad_descriptor, bad_argument, bad_address, number, only, minus, no_reader, pipe_size, on_pipe, put_some, take_some, write_pipe, write_to, write_read, row_write, may_write, read_file, read_pipe, read_from, row_read, may_read, looking_at, descriptor_at, directory, row, row_open, row_seek, row_unlink, row_rename, row_exec, row_pipe, row_fork, row_wait}
+use Rattle.kernel_model.specs.Rows.{CallEffect, failure, bad_descriptor, bad_argument, bad_address, number, only, minus, no_reader, pipe_size, on_pipe, put_some, take_some, write_pipe, write_to, write_read, row_write, may_write, read_file, read_pipe, read_from, row_read, may_read, looking_at, descriptor_at, directory, row, row_open, row_seek, row_unlink, row_rename, row_exec, row_pipe, row_fork, row_wait}
 use Rattle.kernel_model.specs.State.{Shared, PipeState, TapeState}
 use Rattle.kernel_model.specs.declared.carrier.Carrier.TheVariants.{Pipe}
 use Rattle.kernel_model.specs.declared.descriptor.Descriptor.{Descriptor}
@@ -22,14 +22,14 @@ abbrev pub AreAlike : List PipeState → List PipeState → Type 0
 AreAlike ps qs = (k : ℕ) → option_map seen_of (slice_get ps k) ≡ option_map seen_of (slice_get qs k)
 
 -- the rows of a pipe, by what is seen of it
-abbrev write_seen : ℕ → List ℕ → Option Seen → Effect
+abbrev write_seen : ℕ → List ℕ → Option Seen → CallEffect
 write_seen k bytes None = record (failure bad_descriptor) { reads = Pipe k ∷ [] }
 write_seen k bytes (Some x) =
     if x.readers == 0 then on_pipe k (minus no_reader) []
     else if nat_le pipe_size (length x.held) then on_pipe k Waits []
     else put_some k bytes (pipe_size - length x.held)
 
-abbrev read_seen : ℕ → ℕ → ℕ → Option Seen → Effect
+abbrev read_seen : ℕ → ℕ → ℕ → Option Seen → CallEffect
 read_seen k at n None = record (failure bad_descriptor) { reads = Pipe k ∷ [] }
 read_seen k at n (Some x) =
     if nat_lt 0 (length x.held) then take_some k at n x.held
@@ -66,8 +66,8 @@ write_read-alike s t d fd (Some bytes) same = write_to-alike s t d fd bytes same
 pub row_write-alike : (s t : Shared) (d : Option Descriptor) (fd n : ℕ) (bytes : Option (List ℕ)) → AreAlike s.pipes t.pipes → s.files ≡ t.files
     → row_write s d fd n bytes ≡ row_write t d fd n bytes
 row_write-alike s t d fd n bytes same files =
-    let tested : Numbered → Effect → Effect =
-    λ (fs : Numbered) (e : Effect).
+    let tested : Numbered → CallEffect → CallEffect =
+    λ (fs : Numbered) (e : CallEffect).
     looking_at d (
     if not (may_write fs d) then failure bad_descriptor
     else if nat_lt most_bytes n then failure bad_argument
@@ -89,8 +89,8 @@ read_from-alike s t None fd at n same files tapes = refl
 pub row_read-alike : (s t : Shared) (d : Option Descriptor) (fd at n : ℕ) (fits : Bool) → AreAlike s.pipes t.pipes → s.files ≡ t.files → s.tapes ≡ t.tapes
     → row_read s d fd at n fits ≡ row_read t d fd at n fits
 row_read-alike s t d fd at n fits same files tapes =
-    let tested : Numbered → Effect → Effect =
-    λ (fs : Numbered) (e : Effect).
+    let tested : Numbered → CallEffect → CallEffect =
+    λ (fs : Numbered) (e : CallEffect).
     looking_at d (
     if not (may_read fs d) then failure bad_descriptor
     else if nat_lt most_bytes n then failure bad_argument

@@ -14,7 +14,7 @@ use Rattle.disk_model.specs.declared.change.NamedFile.{NamedFile}
 use Rattle.disk_model.specs.Numbers.{Numbered, place_of}
 use Rattle.memory_model.specs.Access.{is_writable}
 use Rattle.memory_model.specs.Memory.{Memory}
-use Rattle.kernel_model.specs.Rows.{Effect, number, with_bytes, row, pipe_size, directory, descriptor_at, ends_of}
+use Rattle.kernel_model.specs.Rows.{CallEffect, number, with_bytes, row, pipe_size, directory, descriptor_at, ends_of}
 use Rattle.kernel_model.specs.State.{TapeState, PipeState, unread, changed_by}
 use Rattle.kernel_model.specs.Limits.{AreNumbered}
 use Rattle.kernel_model.specs.Steps.{set_slots, change_of, change_by}
@@ -62,7 +62,7 @@ pub record IsFine (c : Kept) (r : Request) : Type 0 where
   pub whole : IsWhole r
 
 -- nothing changes but the pipes
-pub record EditsLittle (e : Effect) : Type 0 where
+pub record EditsLittle (e : CallEffect) : Type 0 where
   pub edit : e.edit ≡ None
   pub output : e.output ≡ None
   pub tape : e.tape ≡ None
@@ -71,7 +71,7 @@ pub record EditsLittle (e : Effect) : Type 0 where
   pub collects : e.collects ≡ None
 
 -- where the caller waits nothing changes, and where it ends nothing but the pipes
-abbrev pub EditsWhere : Verdict → Effect → Type 0
+abbrev pub EditsWhere : Verdict → CallEffect → Type 0
 EditsWhere Waits e = EditsLittle e × (e.pipes ≡ [])
 EditsWhere (Replies reply) e = Unit {0}
 EditsWhere (Ends status) e = EditsLittle e
@@ -85,7 +85,7 @@ abbrev made_by : Numbered → Option FileEdit → ℕ
 made_by files o = (changed_by files (change_by files o)).made
 
 -- what holds of an effect of a request
-pub record IsSound (c : Kept) (r : Request) (e : Effect) : Type 0 where
+pub record IsSound (c : Kept) (r : Request) (e : CallEffect) : Type 0 where
   pub one_entry : AtMostOneEntry e.slots e.child e.collects
   pub opens : OpensAlone e.pipes
   pub edits : EditsWhere e.verdict e
@@ -107,7 +107,7 @@ collects_alone : (child : Option ℕ) → AtMostOneEntry [] None child
 collects_alone child = record { slots_or_child = inl refl; slots_or_collects = inl refl; child_or_collects = inl refl }
 
 -- an effect that leaves the pipes, makes no child, and collects none
-still-sound : (c : Kept) (r : Request) (e : Effect) → e.pipes ≡ [] → e.child ≡ None → e.collects ≡ None
+still-sound : (c : Kept) (r : Request) (e : CallEffect) → e.pipes ≡ [] → e.child ≡ None → e.collects ≡ None
     → EditsWhere e.verdict e → IfSome e.edit (MayBeMade c.files)
     → AllByRecursion (λ (slot : Slot). NamesFile (made_by c.files e.edit) slot.holds) e.slots → IfSome e.tape (AreLeft c.tapes)
     → ((memory : Memory) → IsAsked memory r → MayBePlaced memory e.verdict) → IsSound c r e
@@ -125,7 +125,7 @@ still-sound c r e pipes child collects edits possible named left placed = record
 }
 
 -- an effect that takes these steps of the pipes, which open none, and makes no edit of a file
-steps-sound : (c : Kept) (r : Request) (e : Effect) → e.edit ≡ None → e.tape ≡ None → e.child ≡ None → e.collects ≡ None
+steps-sound : (c : Kept) (r : Request) (e : CallEffect) → e.edit ≡ None → e.tape ≡ None → e.child ≡ None → e.collects ≡ None
     → AllByRecursion OpensNone e.pipes → EditsWhere e.verdict e → AllByRecursion (λ (slot : Slot). NamesFile c.files.made slot.holds) e.slots
     → (length c.descriptors ≤ 16 → length e.pipes ≤ 16) → MayAllStep c.seen e.pipes
     → ((memory : Memory) → IsAsked memory r → MayBePlaced memory e.verdict) → IsSound c r e
@@ -198,7 +198,7 @@ taken-left tapes t n tape found =
 
 -- ---- what is told
 
-told-edits : (n at : ℕ) (bytes : List ℕ) (e : Effect) → EditsWhere (with_bytes n at bytes) e
+told-edits : (n at : ℕ) (bytes : List ℕ) (e : CallEffect) → EditsWhere (with_bytes n at bytes) e
 told-edits n at [] e = tt
 told-edits n at (b ∷ bs) e = tt
 
@@ -207,7 +207,7 @@ part-placed memory at n rest fits =
     let few : length (take n rest) ≤ n = omega (arith, length-take n rest) in
     bytes-placed memory (length (take n rest)) at n (take n rest) few fits
 
-ended-edits : (b : Bool) (n at : ℕ) (bytes : List ℕ) (e : Effect) → EditsWhere (if b then number n else with_bytes n at bytes) e
+ended-edits : (b : Bool) (n at : ℕ) (bytes : List ℕ) (e : CallEffect) → EditsWhere (if b then number n else with_bytes n at bytes) e
 ended-edits true n at bytes e = tt
 ended-edits false n at bytes e = told-edits n at bytes e
 
@@ -324,7 +324,7 @@ row-sound c p r fine = of_row (IsSound c r) (shared_of c.statuses c.files c.seen
 }) p
 
 -- so after an effect each descriptor names a file that was made
-pub named-after : (c : Kept) (r : Request) (e : Effect) → IsSound c r e → NamesFiles c.files.made c.descriptors
+pub named-after : (c : Kept) (r : Request) (e : CallEffect) → IsSound c r e → NamesFiles c.files.made c.descriptors
     → NamesFiles (changed_by c.files (change_by c.files e.edit)).made (set_slots c.descriptors e.slots)
 named-after c r e sound names =
     each_slot (NamesFile (made_by c.files e.edit)) e.slots c.descriptors sound.named

@@ -4,7 +4,7 @@ use Rattle.std.specs.List.{AllByRecursion}
 use Rattle.disk_model.specs.Numbers.{Numbered}
 use Rattle.memory_model.specs.Access.{is_writable}
 use Rattle.memory_model.specs.Memory.{Memory}
-use Rattle.kernel_model.specs.Rows.{Effect, most_processes}
+use Rattle.kernel_model.specs.Rows.{CallEffect, most_processes}
 use Rattle.kernel_model.specs.State.{TapeState}
 use Rattle.kernel_model.specs.Steps.{change_by}
 use Rattle.kernel_model.specs.declared.descriptor.Descriptor.{Descriptor}
@@ -19,11 +19,11 @@ use Rattle.kernel_model.specs.declared.request.Verdict.{Verdict}
 use Rattle.kernel_model.specs.declared.request.Verdict.TheVariants.{Waits, Replies, Ends}
 use Rattle.pipes.specs.Seen.{Seen}
 use Rattle.pipes.specs.Stepping.{seen_after, MayStep}
-use Rattle.calls.specs.declared.plan.Plan.{Plan}
-use Rattle.calls.specs.declared.row.Row.{Row}
+use Rattle.calls.specs.declared.plan.CallPlan.{CallPlan}
+use Rattle.calls.specs.declared.row.CallRow.{CallRow}
 
 -- what the code finds is this row of the table
-pub record IsRow (row : Row) (effect : Effect) : Type 0 where
+pub record IsRow (row : CallRow) (effect : CallEffect) : Type 0 where
   pub verdict : row.verdict ≡ effect.verdict
   pub reads : row.reads.items ≡ effect.reads
   pub writes : row.writes.items ≡ effect.writes
@@ -36,7 +36,7 @@ pub record IsRow (row : Row) (effect : Effect) : Type 0 where
   pub collects : row.collects ≡ effect.collects
 
 -- what the code finds, as a row of the table
-abbrev pub effect_of : Row → Effect
+abbrev pub effect_of : CallRow → CallEffect
 effect_of row = record {
   verdict = row.verdict;
   reads = row.reads.items;
@@ -51,7 +51,7 @@ effect_of row = record {
 }
 
 -- what a plan says, as a row of the table with this edit of a file
-abbrev pub effect_with : Plan → Option FileEdit → Effect
+abbrev pub effect_with : CallPlan → Option FileEdit → CallEffect
 effect_with plan edit = record {
   verdict = plan.verdict;
   reads = plan.reads.items;
@@ -66,7 +66,7 @@ effect_with plan edit = record {
 }
 
 -- the plan says what this row of the table says, with its change in place of the row's edit of a file: a file by its place
-pub record Says (files : Numbered) (plan : Plan) (effect : Effect) : Type 0 where
+pub record Says (files : Numbered) (plan : CallPlan) (effect : CallEffect) : Type 0 where
   pub row : effect_with plan effect.edit ≡ effect
   pub change : plan.change ≡ change_by files effect.edit
 
@@ -127,7 +127,7 @@ abbrev pub OpensAlone : List PipeStep → Type 0
 OpensAlone steps = (steps ≡ pipe_step.Open ∷ []) ⊎ AllByRecursion OpensNone steps
 
 -- nothing changes but the pipes
-pub record EditsPipesAlone (plan : Plan) : Type 0 where
+pub record EditsPipesAlone (plan : CallPlan) : Type 0 where
   pub change : plan.change ≡ None
   pub output : plan.output ≡ None
   pub tape : plan.tape ≡ None
@@ -136,7 +136,7 @@ pub record EditsPipesAlone (plan : Plan) : Type 0 where
   pub collects : plan.collects ≡ None
 
 -- a plan that waits changes nothing, and one that ends its process nothing but the pipes
-abbrev pub EditsAs : Verdict → Plan → Type 0
+abbrev pub EditsAs : Verdict → CallPlan → Type 0
 EditsAs Waits plan = EditsPipesAlone plan × (plan.pipes.items ≡ [])
 EditsAs (Replies reply) plan = Unit {0}
 EditsAs (Ends status) plan = EditsPipesAlone plan

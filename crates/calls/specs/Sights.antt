@@ -8,7 +8,7 @@ use Rattle.disk_model.specs.declared.change.NamedFile.{NamedFile}
 use Rattle.kernel_model.specs.Limits.{AreNumbered}
 use Rattle.machine_model.specs.States.{State}
 use Rattle.kernel_model.specs.Requests.{request_of}
-use Rattle.kernel_model.specs.Rows.{Effect, row}
+use Rattle.kernel_model.specs.Rows.{CallEffect, row}
 use Rattle.kernel_model.specs.State.{Shared, TapeState, changed_by}
 use Rattle.kernel_model.specs.Steps.{set_slots}
 use Rattle.kernel_model.specs.declared.descriptor.Descriptor.{Descriptor}
@@ -18,7 +18,7 @@ use Rattle.pipes.specs.Stepping.{HasAtMost}
 use Rattle.processes.specs.Parts.{Part, part_at, descriptors_in, children_in, statuses_of}
 use Rattle.calls.specs.Plans.{Says, NamesFiles, AreLeft, AtMostOneEntry, OpensAlone, EditsAs, MayAllStep, IsNext, MayBePlaced}
 use Rattle.calls.specs.Shares.{IsKept, shared_of}
-use Rattle.calls.specs.declared.plan.Plan.{Plan}
+use Rattle.calls.specs.declared.plan.CallPlan.{CallPlan}
 use Rattle.calls.specs.declared.tables.KernelTables.{KernelTables}
 
 -- what is kept of all processes beside their machines, the files, what is seen of the pipes, and the tapes
@@ -37,7 +37,7 @@ abbrev pub IsSightOfShared : Shared → Sight → Type 0
 IsSightOfShared s seen = IsKept s (statuses_of seen.parts) seen.files seen.pipes seen.tapes
 
 -- the row of a request of process pid, by this much of a state, where its descriptors are these
-abbrev pub row_from : Sight → ℕ → List (Option Descriptor) → Request → Effect
+abbrev pub row_from : Sight → ℕ → List (Option Descriptor) → Request → CallEffect
 row_from seen pid ds request = row (shared_of (statuses_of seen.parts) seen.files seen.pipes seen.tapes) pid ds (children_in (part_at seen.parts pid)) request
 
 -- A call of process pid may be planned: the process is there, and its descriptors name files that were made; the files are few and
@@ -56,7 +56,7 @@ pub record MayPlanCall (seen : Sight) (pid : ℕ) : Type 0 where
 -- waits nothing changes, and where it ends nothing but the pipes. Its change of the files is possible, and the caller's
 -- descriptors still name files that were made. No more of a tape is read than is left. A child is the next process, and not one
 -- too many. Where a machine asks this request, the bytes of the reply may be written at their place in that machine.
-pub record PlansCall (seen : Sight) (pid : ℕ) (request : Request) (plan : Plan) : Type 0 where
+pub record PlansCall (seen : Sight) (pid : ℕ) (request : Request) (plan : CallPlan) : Type 0 where
   pub says : (s : Shared) → IsSightOfShared s seen → Says s.files plan (row s pid (descriptors_in (part_at seen.parts pid)) (children_in (part_at seen.parts pid)) request)
   pub one_entry : AtMostOneEntry plan.slots.items plan.child plan.collects
   pub opens : OpensAlone plan.pipes.items
@@ -67,4 +67,4 @@ pub record PlansCall (seen : Sight) (pid : ℕ) (request : Request) (plan : Plan
   pub left : IfSome plan.tape (AreLeft seen.tapes)
   pub steps : (s : Shared) (n : ℕ) → IsSightOfShared s seen → AllByRecursion (HasAtMost n) s.pipes → n + 16 < 2 ^ 64 → MayAllStep seen.pipes plan.pipes.items
   pub child : IfSome plan.child (IsNext (length seen.parts))
-  pub place : (s : State) → request ≡ request_of s → MayBePlaced s.hart.memory plan.verdict
+  pub place : (s : State) → request ≡ request_of s → MayBePlaced s.architectural.memory plan.verdict

@@ -6,8 +6,8 @@ ghost use Rattle.pipes.specs.Seen.{Seen};
 ghost use Rattle.calls.specs.Plans.{IsRow, effect_with, EditsAs, OpensAlone, MayAllStep};
 
 use crate::errno::Errno;
-use crate::plan::Plan;
-use crate::row::Row;
+use crate::plan::CallPlan;
+use crate::row::CallRow;
 use crate::verdict::number;
 use kernel_model::{Carrier, Descriptor, PipeEnd, PipeStep, Verdict};
 use processes::Descriptors;
@@ -58,17 +58,17 @@ fn drops_of(alloc: Global, ends: &[PipeEnd]) -> Result<Vec<PipeStep>, AllocError
 }
 
 /// The caller is told this, and the descriptors that stand for these ends are closed.
-fn closing(alloc: Global, ends: &[PipeEnd], verdict: Verdict) -> Result<Row, AllocError>
+fn closing(alloc: Global, ends: &[PipeEnd], verdict: Verdict) -> Result<CallRow, AllocError>
     ensures { IfOk result (λ row. IsRow row (closing ends.now verdict)) }
 {
     let carriers = carriers_of(alloc, ends)?;
     let pipes = drops_of(alloc, ends)?;
-    let mut row = Row::only(alloc, verdict);
+    let mut row = CallRow::only(alloc, verdict);
     row.pipes = pipes;
     row.updating_all(&carriers)
 }
 
-fn ending(alloc: Global, descriptors: &Descriptors, status: u32) -> Result<Row, AllocError>
+fn ending(alloc: Global, descriptors: &Descriptors, status: u32) -> Result<CallRow, AllocError>
     ensures row { IfOk result (λ row. IsRow row (row_end descriptors.now status)) }
     ensures few { length descriptors.now ≤ 16 }
 {
@@ -78,7 +78,11 @@ fn ending(alloc: Global, descriptors: &Descriptors, status: u32) -> Result<Row, 
 
 /// The end of a process, which gives up each end of a pipe for which a descriptor of its stands. The status is 0 to 255 by a call,
 /// or 256 plus a trap's cause. Refused for want of memory alone.
-pub fn plan_end(alloc: Global, descriptors: &Descriptors, status: u32) -> Result<Plan, AllocError>
+pub fn plan_end(
+    alloc: Global,
+    descriptors: &Descriptors,
+    status: u32,
+) -> Result<CallPlan, AllocError>
     ensures row { IfOk result (λ plan. effect_with plan None ≡ row_end descriptors.now status) }
     ensures change { IfOk result (λ plan. plan.change ≡ None) }
     ensures edits { IfOk result (λ plan. EditsAs plan.verdict plan) }
@@ -90,43 +94,43 @@ pub fn plan_end(alloc: Global, descriptors: &Descriptors, status: u32) -> Result
 }
 
 /// An exit with a status, of which the last byte counts.
-pub fn exit(alloc: Global, descriptors: &Descriptors, status: u32) -> Result<Row, AllocError>
+pub fn exit(alloc: Global, descriptors: &Descriptors, status: u32) -> Result<CallRow, AllocError>
     ensures { IfOk result (λ row. IsRow row (row_end descriptors.now (status % 256))) }
 {
     ending(alloc, descriptors, status % 256)
 }
 
 /// The caller is told this, and a descriptor is closed that may stand for an end.
-fn closing_one(alloc: Global, end: Option<PipeEnd>, verdict: Verdict) -> Result<Row, AllocError>
+fn closing_one(alloc: Global, end: Option<PipeEnd>, verdict: Verdict) -> Result<CallRow, AllocError>
     ensures { IfOk result (λ row. IsRow row (closing (option_to_list end) verdict)) }
 {
     match end {
         Some(end) => closing(alloc, &[end], verdict),
-        None => Ok(Row::only(alloc, verdict)),
+        None => Ok(CallRow::only(alloc, verdict)),
     }
 }
 
 /// A close of a descriptor.
-pub fn close(alloc: Global, descriptors: &Descriptors, fd: u32) -> Result<Row, AllocError>
+pub fn close(alloc: Global, descriptors: &Descriptors, fd: u32) -> Result<CallRow, AllocError>
     ensures { IfOk result
         (λ row. IsRow row (row_close (descriptor_at descriptors.now fd) fd)) }
 {
     match descriptors.get(fd) {
         Some(descriptor) => close_there(alloc, descriptor, fd),
-        None => Ok(Row::failure(alloc, Errno::BadDescriptor)),
+        None => Ok(CallRow::failure(alloc, Errno::BadDescriptor)),
     }
 }
 
 /// A close of a descriptor that stands for this.
-fn close_there(alloc: Global, descriptor: Descriptor, fd: u32) -> Result<Row, AllocError>
+fn close_there(alloc: Global, descriptor: Descriptor, fd: u32) -> Result<CallRow, AllocError>
     ensures { IfOk result (λ row. IsRow row (row_close (Some descriptor) fd)) }
 {
     closing_one(alloc, end_of(Some(descriptor)), number(alloc, 0))?.setting(fd as usize, None)
 }
 
 /// The caller of a call on a pipe is told this.
-pub fn on_pipe(alloc: Global, pipe: u32, verdict: Verdict) -> Result<Row, AllocError>
+pub fn on_pipe(alloc: Global, pipe: u32, verdict: Verdict) -> Result<CallRow, AllocError>
     ensures { IfOk result (λ row. IsRow row (on_pipe pipe verdict [])) }
 {
-    Row::only(alloc, verdict).updating(Carrier::Pipe(pipe))
+    CallRow::only(alloc, verdict).updating(Carrier::Pipe(pipe))
 }

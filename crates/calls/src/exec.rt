@@ -8,7 +8,7 @@ ghost use Rattle.calls.specs.Plans.{IsRow};
 
 use crate::errno::Errno;
 use crate::names::{is_bad_length, is_name, number_named};
-use crate::row::Row;
+use crate::row::CallRow;
 use crate::verdict::with_image;
 use byte_list::Bytes;
 use elf32::{ElfFault, parse};
@@ -23,18 +23,18 @@ pub fn exec(
     files: &FileTable,
     n: u32,
     name: Option<Bytes>,
-) -> Result<Row, AllocError>
+) -> Result<CallRow, AllocError>
     requires { AreNumbered files.now }
     ensures { IfOk result (λ row. IsRow row (row_exec files.now n name)) }
 {
     if is_bad_length(n) {
-        return Ok(Row::failure(alloc, Errno::BadArgument));
+        return Ok(CallRow::failure(alloc, Errno::BadArgument));
     }
     let Some(name) = name else {
-        return Ok(Row::failure(alloc, Errno::BadAddress));
+        return Ok(CallRow::failure(alloc, Errno::BadAddress));
     };
     if !is_name(name.as_slice()) {
-        return Ok(Row::failure(alloc, Errno::BadArgument));
+        return Ok(CallRow::failure(alloc, Errno::BadArgument));
     }
     exec_file(alloc, files, number_named(files, name.as_slice()))
 }
@@ -47,26 +47,26 @@ fn bytes_of_file(files: &FileTable, file: u64) -> Option<&[u8]>
     Some(files.bytes(place))
 }
 
-fn exec_file(alloc: Global, files: &FileTable, file: Option<u64>) -> Result<Row, AllocError>
+fn exec_file(alloc: Global, files: &FileTable, file: Option<u64>) -> Result<CallRow, AllocError>
     ensures { IfOk result (λ row. IsRow row (exec_file files.now file)) }
 {
     let Some(file) = file else {
-        return Row::failure(alloc, Errno::NoSuchFile).reading(Carrier::Names);
+        return CallRow::failure(alloc, Errno::NoSuchFile).reading(Carrier::Names);
     };
     let Some(bytes) = bytes_of_file(files, file) else {
-        return Row::failure(alloc, Errno::NoSuchFile).reading(Carrier::Names);
+        return CallRow::failure(alloc, Errno::NoSuchFile).reading(Carrier::Names);
     };
     exec_image(alloc, file, bytes)
 }
 
 /// An exec of the file of this number and these bytes. Memory is wanted for an image only where the bytes are one.
-fn exec_image(alloc: Global, file: u64, bytes: &[u8]) -> Result<Row, AllocError>
+fn exec_image(alloc: Global, file: u64, bytes: &[u8]) -> Result<CallRow, AllocError>
     ensures { IfOk result (λ row. IsRow row (exec_image file bytes.now (first_fault bytes.now))) }
 {
     let row = match parse(alloc, bytes) {
-        Ok(image) => Row::only(alloc, with_image(alloc, image)),
+        Ok(image) => CallRow::only(alloc, with_image(alloc, image)),
         Err(ElfFault::OutOfMemory) => return Err(AllocError),
-        Err(_) => Row::failure(alloc, Errno::NotAnImage),
+        Err(_) => CallRow::failure(alloc, Errno::NotAnImage),
     };
     row.reading(Carrier::Names)?.reading(Carrier::File(file))
 }

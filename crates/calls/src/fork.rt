@@ -7,7 +7,7 @@ ghost use Rattle.calls.specs.Plans.{IsRow};
 
 use crate::ends::{carriers_of, ends_of};
 use crate::errno::Errno;
-use crate::row::Row;
+use crate::row::CallRow;
 use kernel_model::{Carrier, PipeEnd, PipeStep};
 use processes::{Descriptors, MOST_PROCESSES, ProcTable};
 use std::alloc::{AllocError, Global};
@@ -20,13 +20,13 @@ fn adds_of(alloc: Global, ends: &[PipeEnd]) -> Result<Vec<PipeStep>, AllocError>
 }
 
 /// A fork where there is no room for one more process, by a caller whose pipes are these carriers.
-fn fork_refused(alloc: Global, carriers: &[Carrier]) -> Result<Row, AllocError>
+fn fork_refused(alloc: Global, carriers: &[Carrier]) -> Result<CallRow, AllocError>
     ensures { IfOk result (λ row. IsRow row (record (failure table_full) {
       reads = Tasks ∷ carriers.now;
       writes = Tasks ∷ carriers.now;
     })) }
 {
-    Row::failure(alloc, Errno::TableFull)
+    CallRow::failure(alloc, Errno::TableFull)
         .updating(Carrier::Tasks)?
         .updating_all(carriers)
 }
@@ -37,7 +37,7 @@ fn fork_made(
     child: u32,
     carriers: &[Carrier],
     pipes: Vec<PipeStep>,
-) -> Result<Row, AllocError>
+) -> Result<CallRow, AllocError>
     ensures { IfOk result (λ row. IsRow row (record (only (number child)) {
       reads = Tasks ∷ Proc child ∷ carriers.now;
       writes = Tasks ∷ Proc child ∷ carriers.now;
@@ -45,7 +45,7 @@ fn fork_made(
       child = Some child;
     })) }
 {
-    let mut row = Row::number(alloc, child);
+    let mut row = CallRow::number(alloc, child);
     row.pipes = pipes;
     row.child = Some(child);
     row.updating_all(&[Carrier::Tasks, Carrier::Proc(child)])?
@@ -57,7 +57,7 @@ pub fn fork(
     alloc: Global,
     processes: &ProcTable,
     descriptors: &Descriptors,
-) -> Result<Row, AllocError>
+) -> Result<CallRow, AllocError>
     ensures { IfOk result
         (λ row. IsRow row (row_fork (length processes.now.parts) descriptors.now)) }
 {

@@ -25,7 +25,7 @@ mod write;
 
 pub use ends::plan_end;
 pub use kernel_model::{Descriptor, Output, PipeStep, Request, Slot, TapeRead, Verdict};
-pub use plan::{Plan, plan_call};
+pub use plan::{CallPlan, plan_call};
 pub use request::request_of;
 pub use tables::KernelTables;
 pub use tapes::TapeTable;

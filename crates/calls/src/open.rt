@@ -6,7 +6,7 @@ ghost use Rattle.calls.specs.Plans.{IsRow};
 
 use crate::errno::Errno;
 use crate::names::{is_bad_length, is_name, number_named};
-use crate::row::Row;
+use crate::row::CallRow;
 use byte_list::Bytes;
 use disk_model::MOST_FILES;
 use files::FileTable;
@@ -22,22 +22,22 @@ pub fn open(
     n: u32,
     mode: u32,
     name: Option<Bytes>,
-) -> Result<Row, AllocError>
+) -> Result<CallRow, AllocError>
     requires { AreNumbered files.now }
     ensures { IfOk result
         (λ row. IsRow row (row_open (directory files.now) descriptors.now n mode name)) }
 {
     if mode > 2 || is_bad_length(n) {
-        return Ok(Row::failure(alloc, Errno::BadArgument));
+        return Ok(CallRow::failure(alloc, Errno::BadArgument));
     }
     let Some(name) = name else {
-        return Ok(Row::failure(alloc, Errno::BadAddress));
+        return Ok(CallRow::failure(alloc, Errno::BadAddress));
     };
     if !is_name(name.as_slice()) {
-        return Ok(Row::failure(alloc, Errno::BadArgument));
+        return Ok(CallRow::failure(alloc, Errno::BadArgument));
     }
     match descriptors.free() {
-        None => Ok(Row::failure(alloc, Errno::TooManyDescriptors)),
+        None => Ok(CallRow::failure(alloc, Errno::TooManyDescriptors)),
         Some(fd) => open_free(alloc, files, fd, mode, name),
     }
 }
@@ -49,7 +49,7 @@ fn open_free(
     fd: usize,
     mode: u32,
     name: Bytes,
-) -> Result<Row, AllocError>
+) -> Result<CallRow, AllocError>
     requires files { AreNumbered files.now }
     requires fd { fd < 16 }
     ensures { IfOk result
@@ -64,12 +64,12 @@ fn open_free(
             }
         }
         None if mode == 2 => open_made(alloc, files, fd, name),
-        None => Row::failure(alloc, Errno::NoSuchFile).reading(Carrier::Names),
+        None => CallRow::failure(alloc, Errno::NoSuchFile).reading(Carrier::Names),
     }
 }
 
 /// A reply of a descriptor that stands for the start of a file.
-fn opened(alloc: Global, fd: usize, file: u64, writes: bool) -> Result<Row, AllocError>
+fn opened(alloc: Global, fd: usize, file: u64, writes: bool) -> Result<CallRow, AllocError>
     requires { fd < 16 }
     ensures { IfOk result
         (λ row. IsRow row (record (only (number fd)) { slots = opened fd file writes })) }
@@ -79,11 +79,11 @@ fn opened(alloc: Global, fd: usize, file: u64, writes: bool) -> Result<Row, Allo
         offset: 0,
         writes,
     };
-    Row::number(alloc, fd as u32).setting(fd, Some(holds))
+    CallRow::number(alloc, fd as u32).setting(fd, Some(holds))
 }
 
 /// A file that is there is opened as it stands.
-fn open_there(alloc: Global, fd: usize, file: u64, writes: bool) -> Result<Row, AllocError>
+fn open_there(alloc: Global, fd: usize, file: u64, writes: bool) -> Result<CallRow, AllocError>
     requires { fd < 16 }
     ensures { IfOk result (λ row. IsRow row (open_there fd file writes)) }
 {
@@ -91,7 +91,7 @@ fn open_there(alloc: Global, fd: usize, file: u64, writes: bool) -> Result<Row, 
 }
 
 /// A file that is there is emptied, and opened to be written.
-fn open_emptied(alloc: Global, fd: usize, file: u64) -> Result<Row, AllocError>
+fn open_emptied(alloc: Global, fd: usize, file: u64) -> Result<CallRow, AllocError>
     requires { fd < 16 }
     ensures { IfOk result (λ row. IsRow row (open_emptied fd file)) }
 {
@@ -102,18 +102,23 @@ fn open_emptied(alloc: Global, fd: usize, file: u64) -> Result<Row, AllocError>
 }
 
 /// A new file, the next by number, is opened to be written, where there is room for one.
-fn open_made(alloc: Global, files: &FileTable, fd: usize, name: Bytes) -> Result<Row, AllocError>
+fn open_made(
+    alloc: Global,
+    files: &FileTable,
+    fd: usize,
+    name: Bytes,
+) -> Result<CallRow, AllocError>
     requires { fd < 16 }
     ensures { IfOk result (λ row. IsRow row (open_made (directory files.now) fd name)) }
 {
     if files.count() >= MOST_FILES {
-        return Row::failure(alloc, Errno::TableFull).updating(Carrier::Names);
+        return CallRow::failure(alloc, Errno::TableFull).updating(Carrier::Names);
     }
     open_new(alloc, fd, files.made(), name)
 }
 
 /// A new file of this number is opened to be written.
-fn open_new(alloc: Global, fd: usize, file: u64, name: Bytes) -> Result<Row, AllocError>
+fn open_new(alloc: Global, fd: usize, file: u64, name: Bytes) -> Result<CallRow, AllocError>
     requires { fd < 16 }
     ensures { IfOk result (λ row. IsRow row (open_new fd file name)) }
 {

@@ -5,7 +5,7 @@ ghost use Rattle.kernel_model.specs.Rows.{pipe_made, row_pipe};
 ghost use Rattle.calls.specs.Plans.{IsRow};
 
 use crate::errno::Errno;
-use crate::row::Row;
+use crate::row::CallRow;
 use crate::verdict::with_bytes;
 use byte_list::Bytes;
 use kernel_model::{Carrier, Descriptor, PipeEnd, PipeStep};
@@ -20,22 +20,22 @@ pub fn pipe(
     descriptors: &Descriptors,
     at: u32,
     fits: bool,
-) -> Result<Row, AllocError>
+) -> Result<CallRow, AllocError>
     ensures { IfOk result
         (λ row. IsRow row (row_pipe (length pipes.now) descriptors.now at fits)) }
 {
     if !fits {
-        return Ok(Row::failure(alloc, Errno::BadAddress));
+        return Ok(CallRow::failure(alloc, Errno::BadAddress));
     }
     let Some(reader) = descriptors.free() else {
-        return Ok(Row::failure(alloc, Errno::TooManyDescriptors));
+        return Ok(CallRow::failure(alloc, Errno::TooManyDescriptors));
     };
     let Some(writer) = descriptors.free_after(reader) else {
-        return Ok(Row::failure(alloc, Errno::TooManyDescriptors));
+        return Ok(CallRow::failure(alloc, Errno::TooManyDescriptors));
     };
     let count = pipes.len();
     if count >= MOST_PIPES {
-        return Row::failure(alloc, Errno::TableFull).updating(Carrier::Pipes);
+        return CallRow::failure(alloc, Errno::TableFull).updating(Carrier::Pipes);
     }
     pipe_made(alloc, count as u32, at, reader, writer)
 }
@@ -58,13 +58,13 @@ fn pipe_made(
     at: u32,
     reader: usize,
     writer: usize,
-) -> Result<Row, AllocError>
+) -> Result<CallRow, AllocError>
     requires reader { reader < 16 }
     requires writer { writer < 16 }
     ensures { IfOk result (λ row. IsRow row (pipe_made pipe at reader writer)) }
 {
     let words = pair_of(alloc, reader as u32, writer as u32)?;
-    Row::only(alloc, with_bytes(0, at, words))
+    CallRow::only(alloc, with_bytes(0, at, words))
         .updating_all(&[Carrier::Pipes, Carrier::Pipe(pipe)])?
         .stepping(PipeStep::Open)?
         .setting(reader, Some(Descriptor::Pipe(PipeEnd::Read(pipe))))?

@@ -19,7 +19,7 @@ use crate::open::open;
 use crate::pipe::pipe;
 use crate::read::{Place, read};
 use crate::rename::rename;
-use crate::row::Row;
+use crate::row::CallRow;
 use crate::seek::seek;
 use crate::tables::KernelTables;
 use crate::unlink::unlink;
@@ -31,9 +31,9 @@ use kernel_model::{Carrier, FileEdit, Output, PipeStep, Request, Slot, TapeRead,
 use processes::{Descriptors, ProcTable};
 use std::alloc::{AllocError, Global};
 
-/// What a call comes to. Its fields are those of `Row`, but `change` names a file by its place among those that live, and an edit
+/// What a call comes to. Its fields are those of `CallRow`, but `change` names a file by its place among those that live, and an edit
 /// by its number. The carriers are those beside the caller's own.
-pub struct Plan {
+pub struct CallPlan {
     pub verdict: Verdict,
     pub reads: Vec<Carrier>,
     pub writes: Vec<Carrier>,
@@ -46,9 +46,9 @@ pub struct Plan {
     pub collects: Option<u32>,
 }
 
-impl Drop for Plan {
+impl Drop for CallPlan {
     fn drop(self) {
-        let Plan {
+        let CallPlan {
             verdict: _verdict,
             reads: _reads,
             writes: _writes,
@@ -63,13 +63,13 @@ impl Drop for Plan {
     }
 }
 
-impl Plan {
+impl CallPlan {
     /// What the caller is told, and the change of the files; the rest is let go.
     pub fn into_verdict_and_change(self) -> (Verdict, Option<Change>)
         ensures verdict { result.0 ≡ self.verdict }
         ensures change { result.1 ≡ self.change }
     {
-        let Plan {
+        let CallPlan {
             verdict,
             reads: _reads,
             writes: _writes,
@@ -123,7 +123,7 @@ fn change_of(files: &FileTable, edit: FileEdit) -> Option<Change>
 }
 
 /// The plan of a row of the table: its edit of a file becomes a change, by the file's place. Takes no memory.
-fn planned(files: &FileTable, mut row: Row) -> Plan
+fn planned(files: &FileTable, mut row: CallRow) -> CallPlan
     requires { length files.now.living ≤ most_files }
     ensures { Says files.now result (effect_of row) }
 {
@@ -148,7 +148,7 @@ fn plan_row(
     pid: u32,
     descriptors: &Descriptors,
     request: Request,
-) -> Result<Row, AllocError>
+) -> Result<CallRow, AllocError>
     requires numbered { AreNumbered tables.now.files.now }
     requires short { AllByRecursion (λ (f : NamedFile). length f.bytes ≤ longest_file) tables.now.files.now.living }
     requires whole { IsWhole request }
@@ -166,13 +166,13 @@ fn plan_row(
         Request::Pipe { at, fits } => pipe(alloc, tables.pipes, descriptors, at, fits),
         Request::Fork => fork(alloc, tables.processes, descriptors),
         Request::Wait { at, fits } => wait(alloc, tables.processes, pid, at, fits),
-        Request::GetPid => Ok(Row::number(alloc, pid)),
+        Request::GetPid => Ok(CallRow::number(alloc, pid)),
         Request::Seek { fd, offset } => seek(alloc, tables.files, descriptors, fd, offset),
-        Request::Sync => Ok(Row::number(alloc, 0)),
+        Request::Sync => Ok(CallRow::number(alloc, 0)),
         Request::Unlink { n, name } => unlink(alloc, tables.files, n, name),
         Request::Rename { n, m, names } => rename(alloc, tables.files, n, m, names),
         Request::Exec { n, name } => exec(alloc, tables.files, n, name),
-        Request::Unknown => Ok(Row::failure(alloc, Errno::NoSuchCall)),
+        Request::Unknown => Ok(CallRow::failure(alloc, Errno::NoSuchCall)),
     }
 }
 
@@ -183,7 +183,7 @@ pub fn plan_call(
     tables: &KernelTables,
     pid: u32,
     request: Request,
-) -> Result<Plan, AllocError>
+) -> Result<CallPlan, AllocError>
     requires may { MayPlanCall (sight_of tables.now) pid }
     requires whole { IsWhole request }
     ensures { IfOk result (λ plan. PlansCall (sight_of tables.now) pid request plan) }

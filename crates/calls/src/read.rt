@@ -11,7 +11,7 @@ ghost use Rattle.calls.specs.Shares.{pipe_of, things};
 
 use crate::ends::on_pipe;
 use crate::errno::Errno;
-use crate::row::Row;
+use crate::row::CallRow;
 use crate::tables::KernelTables;
 use crate::tapes::TapeTable;
 use crate::verdict::{number, with_bytes};
@@ -48,7 +48,7 @@ pub fn read(
     descriptors: &Descriptors,
     fd: u32,
     place: Place,
-) -> Result<Row, AllocError>
+) -> Result<CallRow, AllocError>
     requires { AllByRecursion (λ (f : NamedFile). length f.bytes ≤ longest_file) tables.now.files.now.living }
     ensures { IfOk result (λ row. IsRow row
         (row_read (things tables.now.files.now tables.now.pipes.now tables.now.tapes.now)
@@ -65,7 +65,7 @@ fn read_tested(
     from: Option<Descriptor>,
     fd: usize,
     place: Place,
-) -> Result<Row, AllocError>
+) -> Result<CallRow, AllocError>
     requires { AllByRecursion (λ (f : NamedFile). length f.bytes ≤ longest_file) tables.now.files.now.living }
     ensures { IfOk result (λ row. IsRow row (
         if not (may_read tables.now.files.now from) then failure bad_descriptor
@@ -75,16 +75,16 @@ fn read_tested(
         else read_from (things tables.now.files.now tables.now.pipes.now tables.now.tapes.now) from fd place.at place.n)) }
 {
     if !may_read(tables.files, from) {
-        return Ok(Row::failure(alloc, Errno::BadDescriptor));
+        return Ok(CallRow::failure(alloc, Errno::BadDescriptor));
     }
     if place.n > MOST_BYTES {
-        return Ok(Row::failure(alloc, Errno::BadArgument));
+        return Ok(CallRow::failure(alloc, Errno::BadArgument));
     }
     if place.n == 0 {
-        return Ok(Row::number(alloc, 0));
+        return Ok(CallRow::number(alloc, 0));
     }
     if !place.fits {
-        return Ok(Row::failure(alloc, Errno::BadAddress));
+        return Ok(CallRow::failure(alloc, Errno::BadAddress));
     }
     read_from(alloc, tables, from, fd, place)
 }
@@ -96,7 +96,7 @@ fn read_from(
     from: Option<Descriptor>,
     fd: usize,
     place: Place,
-) -> Result<Row, AllocError>
+) -> Result<CallRow, AllocError>
     requires short { AllByRecursion (λ (f : NamedFile). length f.bytes ≤ longest_file) tables.now.files.now.living }
     requires n { place.n ≤ most_bytes }
     ensures { IfOk result (λ row. IsRow row
@@ -112,21 +112,26 @@ fn read_from(
             },
         ) => read_file(alloc, tables.files, fd, file, offset, place),
         Some(Descriptor::Pipe(PipeEnd::Read(pipe))) => read_pipe(alloc, tables.pipes, pipe, place),
-        _ => Ok(Row::failure(alloc, Errno::BadDescriptor)),
+        _ => Ok(CallRow::failure(alloc, Errno::BadDescriptor)),
     }
 }
 
 /// A read of what is left of a tape.
-fn read_tape(alloc: Global, tapes: &TapeTable, tape: u32, place: Place) -> Result<Row, AllocError>
+fn read_tape(
+    alloc: Global,
+    tapes: &TapeTable,
+    tape: u32,
+    place: Place,
+) -> Result<CallRow, AllocError>
     requires { place.n ≤ most_bytes }
     ensures { IfOk result
         (λ row. IsRow row (read_tape tape place.at place.n (slice_get tapes.now tape))) }
 {
     let Some(bytes) = tapes.read(tape, place.n as usize) else {
-        return Row::failure(alloc, Errno::BadDescriptor).reading(Carrier::Tape(tape));
+        return CallRow::failure(alloc, Errno::BadDescriptor).reading(Carrier::Tape(tape));
     };
     let copy = Bytes::copy_of(alloc, bytes)?;
-    let mut row = Row::only(alloc, with_bytes(bytes.len() as u32, place.at, copy));
+    let mut row = CallRow::only(alloc, with_bytes(bytes.len() as u32, place.at, copy));
     row.tape = Some(TapeRead {
         tape,
         count: bytes.len(),
@@ -151,14 +156,14 @@ fn read_file(
     file: u64,
     offset: u32,
     place: Place,
-) -> Result<Row, AllocError>
+) -> Result<CallRow, AllocError>
     requires short { AllByRecursion (λ (f : NamedFile). length f.bytes ≤ longest_file) files.now.living }
     requires n { place.n ≤ most_bytes }
     ensures { IfOk result
         (λ row. IsRow row (read_file fd file offset place.at place.n (file_of files.now file))) }
 {
     let Some(bytes) = part_of_file(files, file, offset, place.n) else {
-        return Ok(Row::failure(alloc, Errno::BadDescriptor));
+        return Ok(CallRow::failure(alloc, Errno::BadDescriptor));
     };
     let copy = Bytes::copy_of(alloc, bytes)?;
     let holds = Descriptor::File {
@@ -166,23 +171,28 @@ fn read_file(
         offset: offset + bytes.len() as u32,
         writes: false,
     };
-    Row::only(alloc, with_bytes(bytes.len() as u32, place.at, copy)).setting(fd, Some(holds))
+    CallRow::only(alloc, with_bytes(bytes.len() as u32, place.at, copy)).setting(fd, Some(holds))
 }
 
 /// A read of a pipe that holds nothing gives no bytes where none can write it any more, and waits where some still can.
-fn read_pipe(alloc: Global, pipes: &PipeTable, pipe: u32, place: Place) -> Result<Row, AllocError>
+fn read_pipe(
+    alloc: Global,
+    pipes: &PipeTable,
+    pipe: u32,
+    place: Place,
+) -> Result<CallRow, AllocError>
     requires { place.n ≤ most_bytes }
     ensures { IfOk result (λ row. IsRow row
         (read_pipe pipe place.at place.n (slice_get (map pipe_of pipes.now) pipe))) }
 {
     match pipes.get(pipe) {
         Some(from) => read_held(alloc, pipe, from, place),
-        None => Row::failure(alloc, Errno::BadDescriptor).reading(Carrier::Pipe(pipe)),
+        None => CallRow::failure(alloc, Errno::BadDescriptor).reading(Carrier::Pipe(pipe)),
     }
 }
 
 /// A read of a pipe that is there.
-fn read_held(alloc: Global, pipe: u32, from: &Pipe, place: Place) -> Result<Row, AllocError>
+fn read_held(alloc: Global, pipe: u32, from: &Pipe, place: Place) -> Result<CallRow, AllocError>
     requires { place.n ≤ most_bytes }
     ensures { IfOk result
         (λ row. IsRow row (read_pipe pipe place.at place.n (Some (pipe_of from.now)))) }
@@ -197,7 +207,7 @@ fn read_held(alloc: Global, pipe: u32, from: &Pipe, place: Place) -> Result<Row,
 }
 
 /// A read of these bytes, the first that a pipe holds.
-fn take_some(alloc: Global, pipe: u32, bytes: Bytes, at: u32) -> Result<Row, AllocError>
+fn take_some(alloc: Global, pipe: u32, bytes: Bytes, at: u32) -> Result<CallRow, AllocError>
     requires { length bytes ≤ most_bytes }
     ensures { IfOk result (λ row. IsRow row (take_some pipe at (length bytes) bytes)) }
 {

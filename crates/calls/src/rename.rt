@@ -8,7 +8,7 @@ ghost use Rattle.calls.specs.Plans.{IsRow};
 
 use crate::errno::Errno;
 use crate::names::{is_bad_length, is_name, number_named};
-use crate::row::Row;
+use crate::row::CallRow;
 use byte_list::Bytes;
 use files::FileTable;
 use kernel_model::{Carrier, FileEdit};
@@ -21,31 +21,36 @@ pub fn rename(
     n: u32,
     m: u32,
     names: Option<Bytes>,
-) -> Result<Row, AllocError>
+) -> Result<CallRow, AllocError>
     requires numbered { AreNumbered files.now }
     requires whole { AreWhole longest_names (n + m) names }
     ensures { IfOk result (λ row. IsRow row (row_rename (directory files.now) n m names)) }
 {
     if is_bad_length(n) || is_bad_length(m) {
-        return Ok(Row::failure(alloc, Errno::BadArgument));
+        return Ok(CallRow::failure(alloc, Errno::BadArgument));
     }
     let Some(names) = names else {
-        return Ok(Row::failure(alloc, Errno::BadAddress));
+        return Ok(CallRow::failure(alloc, Errno::BadAddress));
     };
     let (old, new) = names.as_slice().split_at(n as usize);
     rename_named(alloc, files, old, new)
 }
 
-fn rename_named(alloc: Global, files: &FileTable, old: &[u8], new: &[u8]) -> Result<Row, AllocError>
+fn rename_named(
+    alloc: Global,
+    files: &FileTable,
+    old: &[u8],
+    new: &[u8],
+) -> Result<CallRow, AllocError>
     requires { AreNumbered files.now }
     ensures { IfOk result (λ row. IsRow row (rename_named (directory files.now) old.now new.now)) }
 {
     if !(is_name(old) && is_name(new)) {
-        return Ok(Row::failure(alloc, Errno::BadArgument));
+        return Ok(CallRow::failure(alloc, Errno::BadArgument));
     }
     match number_named(files, old) {
         Some(file) => rename_file(alloc, files, file, old, new),
-        None => Row::failure(alloc, Errno::NoSuchFile).reading(Carrier::Names),
+        None => CallRow::failure(alloc, Errno::NoSuchFile).reading(Carrier::Names),
     }
 }
 
@@ -56,13 +61,13 @@ fn rename_file(
     file: u64,
     old: &[u8],
     new: &[u8],
-) -> Result<Row, AllocError>
+) -> Result<CallRow, AllocError>
     requires { AreNumbered files.now }
     ensures { IfOk result
         (λ row. IsRow row (rename_file (directory files.now) old.now new.now (Some file))) }
 {
     if old == new {
-        return Row::number(alloc, 0).reading(Carrier::Names);
+        return CallRow::number(alloc, 0).reading(Carrier::Names);
     }
     rename_to(
         alloc,
@@ -73,10 +78,15 @@ fn rename_file(
 }
 
 /// A rename of this file to a new name, which another file may have: that one loses it.
-fn rename_to(alloc: Global, file: u64, new: Bytes, loser: Option<u64>) -> Result<Row, AllocError>
+fn rename_to(
+    alloc: Global,
+    file: u64,
+    new: Bytes,
+    loser: Option<u64>,
+) -> Result<CallRow, AllocError>
     ensures { IfOk result (λ row. IsRow row (rename_to file new loser)) }
 {
-    let row = Row::number(alloc, 0)
+    let row = CallRow::number(alloc, 0)
         .editing(FileEdit::Rename { file, name: new })
         .updating_all(&[Carrier::Names, Carrier::File(file)])?;
     match loser {

@@ -32,9 +32,9 @@ fn named_bytes(
     n: u32,
     most: u32,
 ) -> Result<Option<Bytes>, AllocError>
-    ensures read { IfOk result (λ bytes. bytes ≡ read_bytes machine.now.hart.memory most at n) }
+    ensures read { IfOk result (λ bytes. bytes ≡ read_bytes machine.now.architectural.memory most at n) }
     ensures whole { IfOk result (λ bytes. AreWhole most n bytes) }
-    ensures none { read_bytes machine.now.hart.memory most at n ≡ None → IsOk result }
+    ensures none { read_bytes machine.now.architectural.memory most at n ≡ None → IsOk result }
 {
     if n > most {
         return Ok(None);
@@ -54,9 +54,9 @@ fn named_pair(
     n: u32,
     m: u32,
 ) -> Result<Option<Bytes>, AllocError>
-    ensures read { IfOk result (λ names. names ≡ read_bytes machine.now.hart.memory longest_names at (n + m)) }
+    ensures read { IfOk result (λ names. names ≡ read_bytes machine.now.architectural.memory longest_names at (n + m)) }
     ensures whole { IfOk result (λ names. AreWhole longest_names (n + m) names) }
-    ensures none { read_bytes machine.now.hart.memory longest_names at (n + m) ≡ None → IsOk result }
+    ensures none { read_bytes machine.now.architectural.memory longest_names at (n + m) ≡ None → IsOk result }
 {
     match n.checked_add(m) {
         Some(size) => named_bytes(alloc, machine, at, size, LONGEST_NAMES),
@@ -66,14 +66,14 @@ fn named_pair(
 
 /// Whether n bytes that a call gives are not too many, and the process may write them at an address.
 fn may_be_placed(machine: &Machine, at: u32, n: u32) -> bool
-    ensures { result ≡ may_be_placed machine.now.hart.memory most_bytes at n }
+    ensures { result ≡ may_be_placed machine.now.architectural.memory most_bytes at n }
 {
     n <= MOST_BYTES && machine.space().writable(at, n)
 }
 
 /// A wait at the address 0 asks for no status.
 fn may_take_status(machine: &Machine, at: u32) -> bool
-    ensures { result ≡ ((at == 0) || may_be_placed machine.now.hart.memory word_size at word_size) }
+    ensures { result ≡ ((at == 0) || may_be_placed machine.now.architectural.memory word_size at word_size) }
 {
     at == 0 || machine.space().writable(at, WORD_SIZE)
 }

@@ -5,16 +5,16 @@ ghost use Rattle.calls.specs.Errors.{code_of};
 ghost use Rattle.calls.specs.Plans.{IsRow, effect_of, effect_with};
 
 use crate::errno::Errno;
-use crate::plan::Plan;
+use crate::plan::CallPlan;
 use crate::verdict::number;
 use disk_model::Change;
 use kernel_model::{Carrier, Descriptor, FileEdit, Output, PipeStep, Slot, TapeRead, Verdict};
 use std::alloc::{AllocError, Global};
 
-/// What a call comes to by the table. The definition `Effect` has the same fields, on purpose. They are: what the caller is told;
+/// What a call comes to by the table. The definition `CallEffect` has the same fields, on purpose. They are: what the caller is told;
 /// the carriers that the call reads and writes beside the caller's own; its edits. `edit` names a file by its number. `child` is a
 /// process that is made, `collects` a child that is collected.
-pub(crate) struct Row {
+pub(crate) struct CallRow {
     pub verdict: Verdict,
     pub reads: Vec<Carrier>,
     pub writes: Vec<Carrier>,
@@ -27,9 +27,9 @@ pub(crate) struct Row {
     pub collects: Option<u32>,
 }
 
-impl Drop for Row {
+impl Drop for CallRow {
     fn drop(self) {
-        let Row {
+        let CallRow {
             verdict: _verdict,
             reads: _reads,
             writes: _writes,
@@ -44,12 +44,12 @@ impl Drop for Row {
     }
 }
 
-impl Row {
+impl CallRow {
     /// The caller is told this, and nothing else comes of it.
-    pub fn only(alloc: Global, verdict: Verdict) -> Row
+    pub fn only(alloc: Global, verdict: Verdict) -> CallRow
         ensures { IsRow result (only verdict) }
     {
-        Row {
+        CallRow {
             verdict,
             reads: Vec::new(alloc),
             writes: Vec::new(alloc),
@@ -64,21 +64,21 @@ impl Row {
     }
 
     /// A reply of a number, without bytes.
-    pub fn number(alloc: Global, a0: u32) -> Row
+    pub fn number(alloc: Global, a0: u32) -> CallRow
         ensures { IsRow result (only (number a0)) }
     {
-        Row::only(alloc, number(alloc, a0))
+        CallRow::only(alloc, number(alloc, a0))
     }
 
     /// A reply of an error, which changes nothing.
-    pub fn failure(alloc: Global, errno: Errno) -> Row
+    pub fn failure(alloc: Global, errno: Errno) -> CallRow
         ensures { IsRow result (failure (code_of errno)) }
     {
-        Row::number(alloc, errno.reply())
+        CallRow::number(alloc, errno.reply())
     }
 
     /// It reads this carrier too.
-    pub fn reading(mut self, carrier: Carrier) -> Result<Row, AllocError>
+    pub fn reading(mut self, carrier: Carrier) -> Result<CallRow, AllocError>
         ensures { IfOk result
             (λ row. IsRow row (record (effect_of self) { reads = self.reads.items ++ carrier ∷ [] })) }
     {
@@ -87,7 +87,7 @@ impl Row {
     }
 
     /// It looks whether the file for which a descriptor stands, if it stands for one, still lives: it reads that file first.
-    pub fn looking_at(mut self, descriptor: Option<Descriptor>) -> Result<Row, AllocError>
+    pub fn looking_at(mut self, descriptor: Option<Descriptor>) -> Result<CallRow, AllocError>
         ensures { IfOk result (λ row. IsRow row (looking_at descriptor (effect_of self))) }
     {
         let Some(Descriptor::File { file, .. }) = descriptor else {
@@ -98,7 +98,7 @@ impl Row {
     }
 
     /// It writes this carrier too.
-    pub fn writing(mut self, carrier: Carrier) -> Result<Row, AllocError>
+    pub fn writing(mut self, carrier: Carrier) -> Result<CallRow, AllocError>
         ensures { IfOk result
             (λ row. IsRow row (record (effect_of self) { writes = self.writes.items ++ carrier ∷ [] })) }
     {
@@ -107,7 +107,7 @@ impl Row {
     }
 
     /// It reads and writes this carrier too.
-    pub fn updating(self, carrier: Carrier) -> Result<Row, AllocError>
+    pub fn updating(self, carrier: Carrier) -> Result<CallRow, AllocError>
         ensures { IfOk result (λ row. IsRow row (record (effect_of self) {
           reads = self.reads.items ++ carrier ∷ [];
           writes = self.writes.items ++ carrier ∷ [];
@@ -117,7 +117,7 @@ impl Row {
     }
 
     /// It reads and writes these carriers too.
-    pub fn updating_all(mut self, carriers: &[Carrier]) -> Result<Row, AllocError>
+    pub fn updating_all(mut self, carriers: &[Carrier]) -> Result<CallRow, AllocError>
         ensures { IfOk result (λ row. IsRow row (record (effect_of self) {
           reads = self.reads.items ++ carriers.now;
           writes = self.writes.items ++ carriers.now;
@@ -129,7 +129,7 @@ impl Row {
     }
 
     /// This edit of a file comes of it.
-    pub fn editing(mut self, edit: FileEdit) -> Row
+    pub fn editing(mut self, edit: FileEdit) -> CallRow
         ensures { IsRow result (record (effect_of self) { edit = Some edit }) }
     {
         self.edit = Some(edit);
@@ -137,7 +137,7 @@ impl Row {
     }
 
     /// This step of the pipes comes of it too.
-    pub fn stepping(mut self, step: PipeStep) -> Result<Row, AllocError>
+    pub fn stepping(mut self, step: PipeStep) -> Result<CallRow, AllocError>
         ensures { IfOk result
             (λ row. IsRow row (record (effect_of self) { pipes = self.pipes.items ++ step ∷ [] })) }
     {
@@ -146,7 +146,7 @@ impl Row {
     }
 
     /// The descriptor of this number comes to stand for this too.
-    pub fn setting(mut self, fd: usize, holds: Option<Descriptor>) -> Result<Row, AllocError>
+    pub fn setting(mut self, fd: usize, holds: Option<Descriptor>) -> Result<CallRow, AllocError>
         ensures { IfOk result (λ row. IsRow row (record (effect_of self) {
           slots = self.slots.items ++ record { fd = fd; holds = holds } ∷ [];
         })) }
@@ -156,11 +156,11 @@ impl Row {
     }
 
     /// The plan that says the same, with this change of the files in place of the edit. Takes no memory.
-    pub fn with_change(self, change: Option<Change>) -> Plan
+    pub fn with_change(self, change: Option<Change>) -> CallPlan
         ensures row { effect_with result self.edit ≡ effect_of self }
         ensures change { result.change ≡ change }
     {
-        let Row {
+        let CallRow {
             verdict,
             reads,
             writes,
@@ -172,7 +172,7 @@ impl Row {
             child,
             collects,
         } = self;
-        Plan {
+        CallPlan {
             verdict,
             reads,
             writes,

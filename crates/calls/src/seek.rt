@@ -4,7 +4,7 @@ ghost use Rattle.kernel_model.specs.Rows.{descriptor_at, row_seek, seek_to};
 ghost use Rattle.calls.specs.Plans.{IsRow};
 
 use crate::errno::Errno;
-use crate::row::Row;
+use crate::row::CallRow;
 use disk_model::LONGEST_FILE;
 use files::FileTable;
 use kernel_model::Descriptor;
@@ -18,7 +18,7 @@ pub fn seek(
     descriptors: &Descriptors,
     fd: u32,
     offset: u32,
-) -> Result<Row, AllocError>
+) -> Result<CallRow, AllocError>
     ensures { IfOk result
         (λ row. IsRow row (row_seek files.now (descriptor_at descriptors.now fd) fd offset)) }
 {
@@ -33,22 +33,22 @@ fn seek_to(
     held: Option<Descriptor>,
     fd: usize,
     offset: u32,
-) -> Result<Row, AllocError>
+) -> Result<CallRow, AllocError>
     ensures { IfOk result (λ row. IsRow row (seek_to files.now held fd offset)) }
 {
     let Some(Descriptor::File { file, writes, .. }) = held else {
-        return Ok(Row::failure(alloc, Errno::BadDescriptor));
+        return Ok(CallRow::failure(alloc, Errno::BadDescriptor));
     };
     if !files.alive(file) {
-        return Ok(Row::failure(alloc, Errno::BadDescriptor));
+        return Ok(CallRow::failure(alloc, Errno::BadDescriptor));
     }
     if offset > LONGEST_FILE {
-        return Ok(Row::failure(alloc, Errno::BadArgument));
+        return Ok(CallRow::failure(alloc, Errno::BadArgument));
     }
     let holds = Descriptor::File {
         file,
         offset,
         writes,
     };
-    Row::number(alloc, offset).setting(fd, Some(holds))
+    CallRow::number(alloc, offset).setting(fd, Some(holds))
 }

@@ -6,7 +6,7 @@ ghost use Rattle.calls.specs.Plans.{IsRow};
 
 use crate::errno::Errno;
 use crate::names::{is_bad_length, is_name, number_named};
-use crate::row::Row;
+use crate::row::CallRow;
 use byte_list::Bytes;
 use files::FileTable;
 use kernel_model::{Carrier, FileEdit};
@@ -18,31 +18,31 @@ pub fn unlink(
     files: &FileTable,
     n: u32,
     name: Option<Bytes>,
-) -> Result<Row, AllocError>
+) -> Result<CallRow, AllocError>
     requires { AreNumbered files.now }
     ensures { IfOk result (λ row. IsRow row (row_unlink (directory files.now) n name)) }
 {
     if is_bad_length(n) {
-        return Ok(Row::failure(alloc, Errno::BadArgument));
+        return Ok(CallRow::failure(alloc, Errno::BadArgument));
     }
     let Some(name) = name else {
-        return Ok(Row::failure(alloc, Errno::BadAddress));
+        return Ok(CallRow::failure(alloc, Errno::BadAddress));
     };
     if !is_name(name.as_slice()) {
-        return Ok(Row::failure(alloc, Errno::BadArgument));
+        return Ok(CallRow::failure(alloc, Errno::BadArgument));
     }
     unlink_file(alloc, number_named(files, name.as_slice()))
 }
 
-fn unlink_file(alloc: Global, file: Option<u64>) -> Result<Row, AllocError>
+fn unlink_file(alloc: Global, file: Option<u64>) -> Result<CallRow, AllocError>
     ensures { IfOk result (λ row. IsRow row (unlink_file file)) }
 {
     match file {
         Some(file) => {
-            Row::number(alloc, 0)
+            CallRow::number(alloc, 0)
                 .editing(FileEdit::Remove(file))
                 .updating_all(&[Carrier::Names, Carrier::File(file)])
         }
-        None => Row::failure(alloc, Errno::NoSuchFile).reading(Carrier::Names),
+        None => CallRow::failure(alloc, Errno::NoSuchFile).reading(Carrier::Names),
     }
 }

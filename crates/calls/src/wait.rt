@@ -8,7 +8,7 @@ ghost use Rattle.processes.specs.Parts.{part_at, children_in, statuses_of};
 ghost use Rattle.calls.specs.Plans.{IsRow};
 
 use crate::errno::Errno;
-use crate::row::Row;
+use crate::row::CallRow;
 use crate::verdict::{number, with_bytes};
 use byte_list::Bytes;
 use kernel_model::{Carrier, Verdict};
@@ -22,16 +22,16 @@ pub fn wait(
     pid: u32,
     at: u32,
     fits: bool,
-) -> Result<Row, AllocError>
+) -> Result<CallRow, AllocError>
     ensures { IfOk result (λ row. IsRow row (row_wait (statuses_of processes.now.parts)
         (children_in (part_at processes.now.parts pid)) at fits)) }
 {
     if !fits {
-        return Ok(Row::failure(alloc, Errno::BadAddress));
+        return Ok(CallRow::failure(alloc, Errno::BadAddress));
     }
     let children = processes.children(pid);
     if children.is_empty() {
-        return Ok(Row::failure(alloc, Errno::NoChild));
+        return Ok(CallRow::failure(alloc, Errno::NoChild));
     }
     wait_ended(alloc, at, children, processes.ended_child(pid))
 }
@@ -63,18 +63,18 @@ fn wait_ended(
     at: u32,
     children: &[u32],
     ended: Option<EndedChild>,
-) -> Result<Row, AllocError>
+) -> Result<CallRow, AllocError>
     ensures { IfOk result
         (λ row. IsRow row (wait_ended at children.now (option_map child_of ended))) }
 {
     let reads = procs_of(alloc, children)?;
     let Some(ended) = ended else {
-        let mut row = Row::only(alloc, Verdict::Waits);
+        let mut row = CallRow::only(alloc, Verdict::Waits);
         row.reads = reads;
         return Ok(row);
     };
     let verdict = told_of(alloc, at, ended)?;
-    let mut row = Row::only(alloc, verdict);
+    let mut row = CallRow::only(alloc, verdict);
     row.reads = reads;
     row.collects = Some(ended.child);
     Ok(row)

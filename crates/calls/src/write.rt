@@ -10,7 +10,7 @@ ghost use Rattle.calls.specs.Shares.{pipe_of, things};
 
 use crate::ends::on_pipe;
 use crate::errno::Errno;
-use crate::row::Row;
+use crate::row::CallRow;
 use crate::tables::KernelTables;
 use crate::verdict::number;
 use byte_list::Bytes;
@@ -48,7 +48,7 @@ pub fn write(
     fd: u32,
     n: u32,
     bytes: Option<Bytes>,
-) -> Result<Row, AllocError>
+) -> Result<CallRow, AllocError>
     requires { AreWhole most_bytes n bytes }
     ensures row { IfOk result
         (λ row. IsRow row
@@ -67,7 +67,7 @@ fn write_tested(
     fd: usize,
     n: u32,
     bytes: Option<Bytes>,
-) -> Result<Row, AllocError>
+) -> Result<CallRow, AllocError>
     requires { AreWhole most_bytes n bytes }
     ensures row { IfOk result (λ row. IsRow row (
         if not (may_write tables.now.files.now to) then failure bad_descriptor
@@ -77,16 +77,16 @@ fn write_tested(
     ensures carries { IfOk result (λ row. IfSome row.edit CarriesBytes) }
 {
     if !may_write(tables.files, to) {
-        return Ok(Row::failure(alloc, Errno::BadDescriptor));
+        return Ok(CallRow::failure(alloc, Errno::BadDescriptor));
     }
     if n > MOST_BYTES {
-        return Ok(Row::failure(alloc, Errno::BadArgument));
+        return Ok(CallRow::failure(alloc, Errno::BadArgument));
     }
     if n == 0 {
-        return Ok(Row::number(alloc, 0));
+        return Ok(CallRow::number(alloc, 0));
     }
     match bytes {
-        None => Ok(Row::failure(alloc, Errno::BadAddress)),
+        None => Ok(CallRow::failure(alloc, Errno::BadAddress)),
         Some(bytes) => write_to(alloc, tables, to, fd, bytes),
     }
 }
@@ -98,7 +98,7 @@ fn write_to(
     to: Option<Descriptor>,
     fd: usize,
     bytes: Bytes,
-) -> Result<Row, AllocError>
+) -> Result<CallRow, AllocError>
     requires { length bytes ≤ most_bytes }
     ensures row { IfOk result
         (λ row. IsRow row (write_to (things tables.now.files.now tables.now.pipes.now []) to fd bytes)) }
@@ -119,17 +119,17 @@ fn write_to(
             pipe,
             bytes,
         ),
-        _ => Ok(Row::failure(alloc, Errno::BadDescriptor)),
+        _ => Ok(CallRow::failure(alloc, Errno::BadDescriptor)),
     }
 }
 
-fn write_terminal(alloc: Global, terminal: u32, bytes: Bytes) -> Result<Row, AllocError>
+fn write_terminal(alloc: Global, terminal: u32, bytes: Bytes) -> Result<CallRow, AllocError>
     requires { length bytes ≤ most_bytes }
     ensures { IfOk result (λ row. IsRow row (record (only (number (length bytes))) {
       output = Some (record { terminal = terminal; bytes = bytes });
     })) }
 {
-    let mut row = Row::number(alloc, count(bytes.as_slice()));
+    let mut row = CallRow::number(alloc, count(bytes.as_slice()));
     row.output = Some(Output { terminal, bytes });
     Ok(row)
 }
@@ -148,14 +148,14 @@ fn write_file(
     file: u64,
     offset: u32,
     bytes: Bytes,
-) -> Result<Row, AllocError>
+) -> Result<CallRow, AllocError>
     requires { length bytes ≤ most_bytes }
     ensures row { IfOk result (λ row. IsRow row (write_file fd file offset bytes)) }
     ensures carries { IfOk result (λ row. IfSome row.edit CarriesBytes) }
 {
     let n = count(bytes.as_slice());
     if ends_too_far(offset, n) {
-        return Ok(Row::failure(alloc, Errno::FileTooLarge));
+        return Ok(CallRow::failure(alloc, Errno::FileTooLarge));
     }
     let edit = FileEdit::Write {
         file,
@@ -167,14 +167,19 @@ fn write_file(
         offset: offset + n,
         writes: true,
     };
-    Row::number(alloc, n)
+    CallRow::number(alloc, n)
         .editing(edit)
         .writing(Carrier::File(file))?
         .setting(fd, Some(holds))
 }
 
 /// A write of these bytes to a pipe: refused where none can read it any more, and waiting where it is full.
-fn write_pipe(alloc: Global, pipes: &PipeTable, pipe: u32, bytes: Bytes) -> Result<Row, AllocError>
+fn write_pipe(
+    alloc: Global,
+    pipes: &PipeTable,
+    pipe: u32,
+    bytes: Bytes,
+) -> Result<CallRow, AllocError>
     requires { length bytes ≤ most_bytes }
     ensures row { IfOk result
         (λ row. IsRow row (write_pipe pipe bytes (slice_get (map pipe_of pipes.now) pipe))) }
@@ -182,12 +187,12 @@ fn write_pipe(alloc: Global, pipes: &PipeTable, pipe: u32, bytes: Bytes) -> Resu
 {
     match pipes.get(pipe) {
         Some(to) => write_held(alloc, pipe, to, bytes),
-        None => Row::failure(alloc, Errno::BadDescriptor).reading(Carrier::Pipe(pipe)),
+        None => CallRow::failure(alloc, Errno::BadDescriptor).reading(Carrier::Pipe(pipe)),
     }
 }
 
 /// A write of these bytes to a pipe that is there.
-fn write_held(alloc: Global, pipe: u32, to: &Pipe, bytes: Bytes) -> Result<Row, AllocError>
+fn write_held(alloc: Global, pipe: u32, to: &Pipe, bytes: Bytes) -> Result<CallRow, AllocError>
     requires { length bytes ≤ most_bytes }
     ensures row { IfOk result (λ row. IsRow row (write_pipe pipe bytes (Some (pipe_of to.now)))) }
     ensures carries { IfOk result (λ row. IfSome row.edit CarriesBytes) }
@@ -203,7 +208,7 @@ fn write_held(alloc: Global, pipe: u32, to: &Pipe, bytes: Bytes) -> Result<Row, 
 }
 
 /// A write of as many of these bytes to a pipe as there is room for.
-fn put_some(alloc: Global, pipe: u32, bytes: &[u8], room: usize) -> Result<Row, AllocError>
+fn put_some(alloc: Global, pipe: u32, bytes: &[u8], room: usize) -> Result<CallRow, AllocError>
     requires { length bytes.now ≤ most_bytes }
     ensures row { IfOk result (λ row. IsRow row (put_some pipe bytes.now room)) }
     ensures carries { IfOk result (λ row. IfSome row.edit CarriesBytes) }

@@ -2,7 +2,7 @@
 use crate::hex_parts::push_parts_line;
 use crate::lines::{push_line, push_texts, refused, two_parts, words_of};
 use anyhow::Error;
-use assembler::{Row, assemble};
+use assembler::{ListingRow, assemble};
 use call_forms::Call;
 use std::alloc::{AllocError, Global};
 use std::str::SplitWhitespace;
@@ -272,7 +272,7 @@ impl Drop for Program {
     }
 }
 
-fn listed_words(alloc: Global, rows: &[Row]) -> Result<Vec<u32>, AllocError> {
+fn listed_words(alloc: Global, rows: &[ListingRow]) -> Result<Vec<u32>, AllocError> {
     let mut words = Vec::new(alloc);
     for row in rows {
         words.push(row.word)?;

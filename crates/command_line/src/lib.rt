@@ -16,7 +16,7 @@ mod task;
 
 pub use debug_options::LiveOptions;
 pub use gdb_options::GdbOptions;
-pub use parsing::{Asked, parse};
+pub use parsing::{Arguments, parse};
 pub use run_options::{ImagePaths, RunNumbers, RunOptions};
 pub use tapes::TapePaths;
 pub use task::Task;

@@ -19,7 +19,7 @@ const BEFORE_HELP: usize = 998;
 
 /// What the words of a command line ask for.
 #[derive(Drop)]
-pub struct Asked<'a> {
+pub struct Arguments<'a> {
     pub task: Task<'a>,
     /// Whether a refusal, and a process that trapped, are to have a line more that says why.
     pub explain: bool,
@@ -58,14 +58,14 @@ fn asked_of<'a>(
     alloc: Global,
     name: &str,
     matches: &ArgMatches<'a>,
-) -> Result<Option<Asked<'a>>, Error> {
+) -> Result<Option<Arguments<'a>>, Error> {
     let Some(row) = row_named(name) else {
         return Ok(None);
     };
     test_numbers(alloc, row, matches)?;
     let explain = matches.get_flag(EXPLAIN);
     match task_of(alloc, row.kind, matches)? {
-        Some(task) => Ok(Some(Asked { task, explain })),
+        Some(task) => Ok(Some(Arguments { task, explain })),
         None => Ok(None),
     }
 }
@@ -75,7 +75,7 @@ fn asked_for<'a>(
     alloc: Global,
     commands: &mut Command<'a>,
     words: &'a [String],
-) -> Result<Option<Asked<'a>>, Error> {
+) -> Result<Option<Arguments<'a>>, Error> {
     let matches = commands.try_get_matches_from_mut(words)?;
     match matches.subcommand() {
         Some((name, matches)) => asked_of(alloc, name, matches),
@@ -88,7 +88,7 @@ fn read<'a>(
     alloc: Global,
     commands: &mut Command<'a>,
     words: &'a [String],
-) -> Result<Asked<'a>, Error> {
+) -> Result<Arguments<'a>, Error> {
     match asked_for(alloc, commands, words) {
         Ok(Some(asked)) => Ok(asked),
         Ok(None) => Err(commands.error(ErrorKind::InvalidSubcommand, "no such command")?),
@@ -98,9 +98,9 @@ fn read<'a>(
 
 /// What the words, the program's name aside, ask for; without words it is the script on standard input. An error prints as what is
 /// wrong and the usage of its command, or as the help that was asked for.
-pub fn parse<'a>(alloc: Global, words: &'a [String]) -> Result<Asked<'a>, Error> {
+pub fn parse<'a>(alloc: Global, words: &'a [String]) -> Result<Arguments<'a>, Error> {
     if words.is_empty() {
-        return Ok(Asked {
+        return Ok(Arguments {
             task: Task::ReplayInput,
             explain: false,
         });

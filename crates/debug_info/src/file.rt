@@ -6,7 +6,7 @@ use crate::sections::{EXECUTED, Header, PROGRAM, STRINGS, SYMBOLS, Sections, WRI
 use crate::symbol::{Symbol, symbols_of};
 use crate::tables::{SYMBOL_BYTES, Tables, tables_of};
 use asm_text::lines;
-use assembler::{AsmFault, Row, assemble};
+use assembler::{AsmFault, ListingRow, assemble};
 use machine_model::{Image, Segment};
 use std::alloc::{AllocError, Global};
 
@@ -98,7 +98,7 @@ fn put_lines(
     sections: &mut Sections,
     unit: &Unit<'_>,
     symbols: &[Symbol<'_>],
-    rows: &[Row],
+    rows: &[ListingRow],
 ) -> Result<(), AllocError> {
     let end = unit.start.saturating_add(unit.text_bytes);
     let described = info(alloc, unit, symbols)?;

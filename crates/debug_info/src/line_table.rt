@@ -1,6 +1,6 @@
 //! The section .debug_line: which line each word of text is of.
 use crate::numbers::{length_of, put_half, put_signed, put_text, put_unsigned, put_word};
-use assembler::Row;
+use assembler::ListingRow;
 use std::alloc::{AllocError, Global};
 
 const VERSION: u16 = 4;
@@ -35,7 +35,12 @@ fn put_advance(out: &mut Vec<u8>, from: u32, to: u32) -> Result<(), AllocError> 
 }
 
 /// A row for each line of text; a line's further words have none. The rows' addresses and lines ascend. Lines count from 1.
-fn put_rows(out: &mut Vec<u8>, rows: &[Row], start: u32, end: u32) -> Result<(), AllocError> {
+fn put_rows(
+    out: &mut Vec<u8>,
+    rows: &[ListingRow],
+    start: u32,
+    end: u32,
+) -> Result<(), AllocError> {
     out.extend_from_slice(&SET_ADDRESS)?;
     put_word(out, start)?;
     let mut at = start;
@@ -62,7 +67,7 @@ fn put_rows(out: &mut Vec<u8>, rows: &[Row], start: u32, end: u32) -> Result<(),
 pub fn line_table(
     alloc: Global,
     name: &[u8],
-    rows: &[Row],
+    rows: &[ListingRow],
     start: u32,
     end: u32,
 ) -> Result<Vec<u8>, AllocError> {

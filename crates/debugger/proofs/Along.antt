@@ -30,7 +30,7 @@ replied-count s r = by r.image
 
 call-count : (s : State) (left : List Reply) (u : Traced) → next_at_call s left ≡ Moves u → u.state.count ≡ s.count + 1
 call-count s [] u e = absurd (rests_not halt.EndOfTrace u e)
-call-count s (r ∷ rs) u e = by (is_writable s.hart.memory r.at (length r.bytes)) e
+call-count s (r ∷ rs) u e = by (is_writable s.architectural.memory r.at (length r.bytes)) e
   where
     by : (b : Bool) → cond b (Moves (traced (replied s r) rs)) (Rests halt.EndOfTrace) ≡ Moves u → u.state.count ≡ s.count + 1
     by true e = sym (ap (λ (v : Traced). v.state.count) (same_move (traced (replied s r) rs) u e)) ∙ replied-count s r
@@ -131,7 +131,7 @@ longer t more = traced t.state (t.left ++ more)
 
 call-more : (s : State) (left : List Reply) (u : Traced) (more : List Reply) → next_at_call s left ≡ Moves u → next_at_call s (left ++ more) ≡ Moves (longer u more)
 call-more s [] u more e = absurd (rests_not halt.EndOfTrace u e)
-call-more s (r ∷ rs) u more e = by (is_writable s.hart.memory r.at (length r.bytes)) e
+call-more s (r ∷ rs) u more e = by (is_writable s.architectural.memory r.at (length r.bytes)) e
   where
     by : (b : Bool) → cond b (Moves (traced (replied s r) rs)) (Rests halt.EndOfTrace) ≡ Moves u → cond b (Moves (traced (replied s r) (rs ++ more))) (Rests halt.EndOfTrace) ≡ Moves (longer u more)
     by true e = ap (λ (v : Traced). Moves (longer v more)) (same_move (traced (replied s r) rs) u e)

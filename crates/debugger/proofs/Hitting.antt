@@ -22,7 +22,7 @@ pub last_hit-zero : (breaks : List (Option ℕ)) (t : Traced) (from : ℕ) → l
 unfolding last_hit
 last_hit-zero breaks t from = refl
 
-pub last_hit-suc : (breaks : List (Option ℕ)) (t : Traced) (from n : ℕ) → last_hit breaks t from (suc n) ≡ option_or (hit_with (from + n) (least_from 0 breaks (along n t).state.hart.pc)) (last_hit breaks t from n)
+pub last_hit-suc : (breaks : List (Option ℕ)) (t : Traced) (from n : ℕ) → last_hit breaks t from (suc n) ≡ option_or (hit_with (from + n) (least_from 0 breaks (along n t).state.architectural.pc)) (last_hit breaks t from n)
 unfolding last_hit
 last_hit-suc breaks t from n = refl
 
@@ -40,7 +40,7 @@ last_hit-none breaks t from n e = ap (last_hit breaks t from) e ∙ last_hit-zer
 
 -- one state more
 pub last_hit-more : (breaks : List (Option ℕ)) (f g : Traced) (done from to : ℕ) (last : Option Hit) → Leads done f g → from ≡ f.state.count → to ≡ from + done + 1 → last ≡ last_hit breaks f from done
-    → option_or (hit_with g.state.count (least_from 0 breaks g.state.hart.pc)) last ≡ last_hit breaks f from (to - from)
+    → option_or (hit_with g.state.count (least_from 0 breaks g.state.architectural.pc)) last ≡ last_hit breaks f from (to - from)
 last_hit-more breaks f g done from to last leads same more is =
     let counts : g.state.count ≡ f.state.count + done = leads.counts in
     let here : from + done ≡ g.state.count = omega arith in
@@ -48,9 +48,9 @@ last_hit-more breaks f g done from to last leads same more is =
     sym (
     ap (last_hit breaks f from) longer
     ∙ last_hit-suc breaks f from done
-    ∙ ap (λ (n : ℕ). option_or (hit_with n (least_from 0 breaks (along done f).state.hart.pc)) (last_hit breaks f from done)) here
-    ∙ ap (λ (t : Traced). option_or (hit_with g.state.count (least_from 0 breaks t.state.hart.pc)) (last_hit breaks f from done)) leads.moves
-    ∙ ap (λ (o : Option Hit). option_or (hit_with g.state.count (least_from 0 breaks g.state.hart.pc)) o) (sym is)
+    ∙ ap (λ (n : ℕ). option_or (hit_with n (least_from 0 breaks (along done f).state.architectural.pc)) (last_hit breaks f from done)) here
+    ∙ ap (λ (t : Traced). option_or (hit_with g.state.count (least_from 0 breaks t.state.architectural.pc)) (last_hit breaks f from done)) leads.moves
+    ∙ ap (λ (o : Option Hit). option_or (hit_with g.state.count (least_from 0 breaks g.state.architectural.pc)) o) (sym is)
     )
 
 or-none : (a : Option Hit) → option_or None a ≡ a
@@ -71,7 +71,7 @@ last_below-add s from (suc k) =
     ∙ last_below-suc s (from + k)
     ∙ ap (λ (o : Option Hit). option_or (hit_with (from + k) (break_after s (from + k))) o) (last_below-add s from k)
     ∙ or-or (hit_with (from + k) (break_after s (from + k))) (last_hit s.breaks (place_at s from) from k) (last_below s from)
-    ∙ ap (λ (t : Traced). option_or (option_or (hit_with (from + k) (least_from 0 s.breaks t.state.hart.pc)) (last_hit s.breaks (place_at s from) from k)) (last_below s from)) (reached-add s.program s.replies from k)
+    ∙ ap (λ (t : Traced). option_or (option_or (hit_with (from + k) (least_from 0 s.breaks t.state.architectural.pc)) (last_hit s.breaks (place_at s from) from k)) (last_below s from)) (reached-add s.program s.replies from k)
     ∙ sym (ap (λ (o : Option Hit). option_or o (last_below s from)) (last_hit-suc s.breaks (place_at s from) from k))
 
 pub last_below-part : (s : Session) (t : Traced) (from end : ℕ) (hit : Option Hit) → from ≤ end → place_at s from ≡ t → hit ≡ last_hit s.breaks t from (end - from) → last_below s end ≡ option_or hit (last_below s from)

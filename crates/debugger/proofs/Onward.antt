@@ -2,7 +2,7 @@
 use Rattle.std.proofs.Common.{◌≡◌, ℕ, suc, zero, ◌+◌, ◌-◌, ◌<◌, ◌≤◌, Bool, true, false, cond, List, [], ◌∷◌, length, get_or, drop, Some, None, refl, sym, ap, subst, ◌∙◌, arith}
 use Rattle.std.specs.Prelude.{Option}
 use Rattle.std.proofs.lemmas.Option.{same_Some, none-some}
-use Rattle.machine_model.specs.States.{State, Stepped, Goes, Halts, Ran, next, run, reached_at, stands_at, by_step}
+use Rattle.machine_model.specs.States.{State, Stepped, Goes, Halts, Ran, next, run, reached_at, stopped_at, by_step}
 use Rattle.machine_model.specs.declared.reply.Reply.{Reply}
 use Rattle.machine_model.specs.declared.stop.Cause.{Cause}
 use Rattle.machine_model.specs.declared.stop.Stop.{Stop}
@@ -39,23 +39,23 @@ pub reached-leads : (max n : ℕ) (s t : State) (stop : Stop) (left : List Reply
 reached-leads max n s t stop left e = subst (λ (r : Ran). Leads r.count (traced s left) (traced r.state left)) e (run-leads max s left)
 
 -- a state that stands somewhere goes no further by itself
-pub halts-stands : (s : State) (stop : Stop) → stands_at s ≡ Some stop → next s ≡ Halts stop
+pub halts-stands : (s : State) (stop : Stop) → stopped_at s ≡ Some stop → next s ≡ Halts stop
 halts-stands s stop = by (next s) refl
   where
     by : (x : Stepped) → next s ≡ x → by_step {A = Option Stop} x (λ t. None) (λ why. Some why) ≡ Some stop → next s ≡ Halts stop
     by (Goes t) is e = cc
     by (Halts why) is e = is ∙ ap (λ (w : Stop). Halts w) (same_Some why stop e)
 
-pub trap-halt : (t : Traced) (cause : Cause) → stands_at t.state ≡ Some (Trap cause) → halt_of (next_of t) ≡ Some (halt.Trap cause)
+pub trap-halt : (t : Traced) (cause : Cause) → stopped_at t.state ≡ Some (Trap cause) → halt_of (next_of t) ≡ Some (halt.Trap cause)
 trap-halt t cause e = ap halt_of (next_of-by t (Halts (Trap cause)) (halts-stands t.state (Trap cause) e))
 
-pub call-next : (t : Traced) → stands_at t.state ≡ Some Call → next_of t ≡ next_at_call t.state t.left
+pub call-next : (t : Traced) → stopped_at t.state ≡ Some Call → next_of t ≡ next_at_call t.state t.left
 call-next t e = next_of-by t (Halts Call) (halts-stands t.state Call e)
 
-pub limit-halt : (t : Traced) → stands_at t.state ≡ Some Limit → halt_of (next_of t) ≡ Some halt.EndOfTrace
+pub limit-halt : (t : Traced) → stopped_at t.state ≡ Some Limit → halt_of (next_of t) ≡ Some halt.EndOfTrace
 limit-halt t e = ap halt_of (next_of-by t (Halts Limit) (halts-stands t.state Limit e))
 
-pub goes-halt : (t : Traced) → stands_at t.state ≡ None → halt_of (next_of t) ≡ None
+pub goes-halt : (t : Traced) → stopped_at t.state ≡ None → halt_of (next_of t) ≡ None
 goes-halt t = by (next t.state) refl
   where
     by : (x : Stepped) → next t.state ≡ x → by_step {A = Option Stop} x (λ s. None) (λ why. Some why) ≡ None → halt_of (next_of t) ≡ None
@@ -74,7 +74,7 @@ pub enters-leads : (rs : List Reply) (taken : ℕ) (s new : State) (p : Program)
     → (get_or rs taken d).image ≡ Some p → new ≡ in_image s p → Leads 1 (traced s (drop taken rs)) (traced new (drop (taken + 1) rs))
 enters-leads rs taken s new p d enters onward image is =
     leads-one (traced s (drop taken rs)) (traced new left)
-    (call-next (traced s (drop taken rs)) enters.stands ∙ ap (next_at_call s) there ∙ by (is_writable s.hart.memory r.at (length r.bytes)) goes ∙ ap (λ (t : State). Moves (traced t left)) (ap (replied_by s r) image ∙ sym is))
+    (call-next (traced s (drop taken rs)) enters.stands ∙ ap (next_at_call s) there ∙ by (is_writable s.architectural.memory r.at (length r.bytes)) goes ∙ ap (λ (t : State). Moves (traced t left)) (ap (replied_by s r) image ∙ sym is))
   where
     r : Reply
     r = get_or rs taken d

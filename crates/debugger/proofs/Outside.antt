@@ -12,10 +12,10 @@ use Rattle.memory_model.specs.declared.access.BusFault.{BusFault}
 use Rattle.memory_model.specs.declared.access.Width.{Width}
 use Rattle.memory_model.specs.declared.access.Width.TheVariants as width
 use Rattle.memory_model.proofs.Memories.{get-insert}
-use Rattle.machine_model.specs.Effects.{Hart, Effect, Becomes, Stands, effect, jumps, load_effect, moved, reg, store_effect, stores}
+use Rattle.machine_model.specs.Effects.{ArchitecturalState, InstructionEffect, Becomes, Stops, effect, jumps, load_effect, moved, reg, store_effect, stores}
 use Rattle.machine_model.specs.Images.{Program}
 use Rattle.machine_model.specs.Replies.{replied, replied_by}
-use Rattle.machine_model.specs.States.{State, Stepped, Goes, Halts, by_fetch, by_instr, by_step, counted, next, stands_at}
+use Rattle.machine_model.specs.States.{State, Stepped, Goes, Halts, by_fetch, by_instr, by_step, counted, next, stopped_at}
 use Rattle.machine_model.specs.declared.reply.Reply.{Reply}
 use Rattle.machine_model.specs.declared.stop.Cause.TheVariants as cause
 use Rattle.machine_model.specs.declared.stop.Stop.{Stop}
@@ -48,39 +48,39 @@ stored-apart : (m : Memory) (at : ℕ) (w : Width) (value q : ℕ) → (q < at) 
 stored-apart m at w value q out =
     put_bytes-apart (low_bytes (size w) value) m at q (subst (λ (n : ℕ). (q < at) ⊎ (at + n ≤ q)) (sym (length-low_bytes (size w) value)) out)
 
-abbrev memory_after : Effect → Memory → Memory
+abbrev memory_after : InstructionEffect → Memory → Memory
 memory_after (Becomes h) m = h.memory
-memory_after (Stands why) m = m
+memory_after (Stops why) m = m
 
 -- an effect leaves each byte outside of an access
-record Leaves (h : Hart) (access : Option Access) (e : Effect) : Type 0 where
+record Leaves (h : ArchitecturalState) (access : Option Access) (e : InstructionEffect) : Type 0 where
   apart : (a : ℕ) → IsOutside a access → get (memory_after e h.memory) a ≡ get h.memory a
 
-goes-leaves : (h : Hart) (access : Option Access) (registers : List ℕ) (pc : ℕ) → Leaves h access (Becomes (record { registers = registers; pc = pc; memory = h.memory }))
+goes-leaves : (h : ArchitecturalState) (access : Option Access) (registers : List ℕ) (pc : ℕ) → Leaves h access (Becomes (record { registers = registers; pc = pc; memory = h.memory }))
 goes-leaves h access registers pc = record { apart = λ a out. refl }
 
-stands-leaves : (h : Hart) (access : Option Access) (why : Stop) → Leaves h access (Stands why)
+stands-leaves : (h : ArchitecturalState) (access : Option Access) (why : Stop) → Leaves h access (Stops why)
 stands-leaves h access why = record { apart = λ a out. refl }
 
-jump-leaves : (h : Hart) (access : Option Access) (registers : List ℕ) (target : ℕ) → Leaves h access (jumps h registers target)
+jump-leaves : (h : ArchitecturalState) (access : Option Access) (registers : List ℕ) (target : ℕ) → Leaves h access (jumps h registers target)
 jump-leaves h access registers target = by (target % 4 == 0)
   where
-    by : (b : Bool) → Leaves h access (cond b (Becomes (record { registers = registers; pc = target; memory = h.memory })) (Stands (Trap cause.MisalignedTarget)))
+    by : (b : Bool) → Leaves h access (cond b (Becomes (record { registers = registers; pc = target; memory = h.memory })) (Stops (Trap cause.MisalignedTarget)))
     by true = goes-leaves h access registers target
     by false = stands-leaves h access (Trap cause.MisalignedTarget)
 
-load-leaves : (h : Hart) (access : Option Access) (rd : ℕ) (extended : ℕ → ℕ) (r : Result ℕ BusFault) → Leaves h access (load_effect h rd extended r)
+load-leaves : (h : ArchitecturalState) (access : Option Access) (rd : ℕ) (extended : ℕ → ℕ) (r : Result ℕ BusFault) → Leaves h access (load_effect h rd extended r)
 load-leaves h access rd extended (Ok value) = goes-leaves h access _ _
 load-leaves h access rd extended (Err fault) = stands-leaves h access _
 
-store-leaves : (h : Hart) (at : ℕ) (w : Width) (value : ℕ) → Leaves h (accessed Store at w) (stores h at w value)
+store-leaves : (h : ArchitecturalState) (at : ℕ) (w : Width) (value : ℕ) → Leaves h (accessed Store at w) (stores h at w value)
 store-leaves h at w value = by (access_fault to_write h.memory at w)
   where
     by : (f : Option BusFault) → Leaves h (accessed Store at w) (store_effect h (stored h.memory at w value) f)
     by None = record { apart = λ a out. stored-apart h.memory at w value a (out refl) }
     by (Some fault) = stands-leaves h (accessed Store at w) _
 
-effect-leaves : (i : Instr) (h : Hart) → Leaves h (access_of i h) (effect i h)
+effect-leaves : (i : Instr) (h : ArchitecturalState) → Leaves h (access_of i h) (effect i h)
 unfolding effect
 effect-leaves (instr.Lui rd imm) h = goes-leaves h _ _ _
 effect-leaves (instr.Auipc rd imm) h = goes-leaves h _ _ _
@@ -139,19 +139,19 @@ halts_not : (stop : Stop) (t : State) → Halts stop ≡ Goes t → ⊥
 halts_not stop t e = cc
 
 -- an instruction leaves what it does not store to
-state-leaves : (s t : State) (a : ℕ) → next s ≡ Goes t → IsOutside a (fetched_access s) → get t.hart.memory a ≡ get s.hart.memory a
+state-leaves : (s t : State) (a : ℕ) → next s ≡ Goes t → IsOutside a (fetched_access s) → get t.architectural.memory a ≡ get s.architectural.memory a
 unfolding next
-state-leaves s t a = by-fetch (fetched s.hart.memory s.hart.pc)
+state-leaves s t a = by-fetch (fetched s.architectural.memory s.architectural.pc)
   where
-    by-effect : (x : Effect) (access : Option Access) → Leaves s.hart access x → counted s.count x ≡ Goes t → IsOutside a access → get t.hart.memory a ≡ get s.hart.memory a
-    by-effect (Becomes h) access leaves e out = ap (λ (u : State). get u.hart.memory a) (sym (same_state (record { hart = h; count = s.count + 1 }) t e)) ∙ leaves.apart a out
-    by-effect (Stands stop) access leaves e out = absurd (halts_not stop t e)
+    by-effect : (x : InstructionEffect) (access : Option Access) → Leaves s.architectural access x → counted s.count x ≡ Goes t → IsOutside a access → get t.architectural.memory a ≡ get s.architectural.memory a
+    by-effect (Becomes h) access leaves e out = ap (λ (u : State). get u.architectural.memory a) (sym (same_state (record { architectural = h; count = s.count + 1 }) t e)) ∙ leaves.apart a out
+    by-effect (Stops stop) access leaves e out = absurd (halts_not stop t e)
 
-    by-instr : (o : Option Instr) → by_instr s o ≡ Goes t → IsOutside a (access_by_instr s.hart o) → get t.hart.memory a ≡ get s.hart.memory a
+    by-instr : (o : Option Instr) → by_instr s o ≡ Goes t → IsOutside a (access_by_instr s.architectural o) → get t.architectural.memory a ≡ get s.architectural.memory a
     by-instr None e out = absurd (halts_not (Trap cause.Illegal) t e)
-    by-instr (Some i) e out = by-effect (effect i s.hart) (access_of i s.hart) (effect-leaves i s.hart) e out
+    by-instr (Some i) e out = by-effect (effect i s.architectural) (access_of i s.architectural) (effect-leaves i s.architectural) e out
 
-    by-fetch : (r : Result ℕ BusFault) → by_fetch s r ≡ Goes t → IsOutside a (access_by_fetch s.hart r) → get t.hart.memory a ≡ get s.hart.memory a
+    by-fetch : (r : Result ℕ BusFault) → by_fetch s r ≡ Goes t → IsOutside a (access_by_fetch s.architectural r) → get t.architectural.memory a ≡ get s.architectural.memory a
     by-fetch (Err fault) e out = absurd (halts_not (Trap cause.FetchFault) t e)
     by-fetch (Ok word) e out = by-instr (instr_of word) e out
 
@@ -160,27 +160,27 @@ bytes-leave : (m : Memory) (at a : ℕ) (bs : List ℕ) → IsOutside a (stored_
 bytes-leave m at a [] out = refl
 bytes-leave m at a (b ∷ bs) out = put_bytes-apart (b ∷ bs) m at a (out refl)
 
-reply-leaves : (s : State) (r : Reply) (a : ℕ) → a < 2 ^ 32 → IsOutside a (stored_by r) → get (replied s r).hart.memory a ≡ get s.hart.memory a
+reply-leaves : (s : State) (r : Reply) (a : ℕ) → a < 2 ^ 32 → IsOutside a (stored_by r) → get (replied s r).architectural.memory a ≡ get s.architectural.memory a
 reply-leaves s r a there = by r.image
   where
-    by : (o : Option Program) → IsOutside a (stored_with r o) → get (replied_by s r o).hart.memory a ≡ get s.hart.memory a
-    by None out = bytes-leave s.hart.memory r.at a r.bytes out
+    by : (o : Option Program) → IsOutside a (stored_with r o) → get (replied_by s r o).architectural.memory a ≡ get s.architectural.memory a
+    by None out = bytes-leave s.architectural.memory r.at a r.bytes out
     by (Some p) out = absurd (elim (out refl) [ inl f ↦ omega (arith, f) | inr f ↦ omega (arith, f, there) ])
 
-call-leaves : (s : State) (left : List Reply) (u : Traced) (a : ℕ) → a < 2 ^ 32 → next_at_call s left ≡ Moves u → IsOutside a (stored_by_next left) → get u.state.hart.memory a ≡ get s.hart.memory a
+call-leaves : (s : State) (left : List Reply) (u : Traced) (a : ℕ) → a < 2 ^ 32 → next_at_call s left ≡ Moves u → IsOutside a (stored_by_next left) → get u.state.architectural.memory a ≡ get s.architectural.memory a
 call-leaves s [] u a there e out = absurd (rests_not halt.EndOfTrace u e)
-call-leaves s (r ∷ rs) u a there e out = by (is_writable s.hart.memory r.at (length r.bytes)) e
+call-leaves s (r ∷ rs) u a there e out = by (is_writable s.architectural.memory r.at (length r.bytes)) e
   where
-    by : (b : Bool) → cond b (Moves (traced (replied s r) rs)) (Rests halt.EndOfTrace) ≡ Moves u → get u.state.hart.memory a ≡ get s.hart.memory a
-    by true e = ap (λ (v : Traced). get v.state.hart.memory a) (sym (same_move (traced (replied s r) rs) u e)) ∙ reply-leaves s r a there out
+    by : (b : Bool) → cond b (Moves (traced (replied s r) rs)) (Rests halt.EndOfTrace) ≡ Moves u → get u.state.architectural.memory a ≡ get s.architectural.memory a
+    by true e = ap (λ (v : Traced). get v.state.architectural.memory a) (sym (same_move (traced (replied s r) rs) u e)) ∙ reply-leaves s r a there out
     by false e = absurd (rests_not halt.EndOfTrace u e)
 
-next-leaves : (t u : Traced) (a : ℕ) → a < 2 ^ 32 → next_of t ≡ Moves u → IsOutside a (access_standing t (stands_at t.state)) → get u.state.hart.memory a ≡ get t.state.hart.memory a
+next-leaves : (t u : Traced) (a : ℕ) → a < 2 ^ 32 → next_of t ≡ Moves u → IsOutside a (access_standing t (stopped_at t.state)) → get u.state.architectural.memory a ≡ get t.state.architectural.memory a
 unfolding next_of
 next-leaves t u a there = by (next t.state) refl
   where
-    by : (x : Stepped) → next t.state ≡ x → next_by t x ≡ Moves u → IsOutside a (access_standing t (by_step {A = Option Stop} x (λ s. None) (λ stop. Some stop))) → get u.state.hart.memory a ≡ get t.state.hart.memory a
-    by (Goes s) is e out = ap (λ (v : Traced). get v.state.hart.memory a) (sym (same_move (traced s t.left) u e)) ∙ state-leaves t.state s a is out
+    by : (x : Stepped) → next t.state ≡ x → next_by t x ≡ Moves u → IsOutside a (access_standing t (by_step {A = Option Stop} x (λ s. None) (λ stop. Some stop))) → get u.state.architectural.memory a ≡ get t.state.architectural.memory a
+    by (Goes s) is e out = ap (λ (v : Traced). get v.state.architectural.memory a) (sym (same_move (traced s t.left) u e)) ∙ state-leaves t.state s a is out
     by (Halts (Trap why)) is e out = absurd (rests_not (halt.Trap why) u e)
     by (Halts Call) is e out = call-leaves t.state t.left u a there e out
     by (Halts Limit) is e out = absurd (rests_not halt.EndOfTrace u e)
@@ -189,4 +189,4 @@ next-leaves t u a there = by (next t.state) refl
 pub leaves-outside : (t : Traced) (access : Option Access) → access ≡ next_access_of t → LeavesOutside t access
 leaves-outside t access is u a there moves out =
     next-leaves t u a there moves
-    (subst (λ (o : Option Halt). IsOutside a (access_unless o (access_standing t (stands_at t.state)))) (ap halt_of moves) (subst (λ (o : Option Access). IsOutside a o) is out))
+    (subst (λ (o : Option Halt). IsOutside a (access_unless o (access_standing t (stopped_at t.state)))) (ap halt_of moves) (subst (λ (o : Option Access). IsOutside a o) is out))

@@ -24,26 +24,26 @@ use Rattle.debugger.proofs.Onward.{next_of-by}
 -- as many moves as it did instructions, none at one of these addresses
 record AreOff (stops : List ℕ) (n : ℕ) (from to : Traced) : Type 0 where
   leads : Leads n from to
-  off : (k : ℕ) → k < n → is_among stops (along k from).state.hart.pc ≡ false
+  off : (k : ℕ) → k < n → is_among stops (along k from).state.architectural.pc ≡ false
 
 off-none : (stops : List ℕ) (t : Traced) → AreOff stops 0 t t
 off-none stops t = record { leads = leads-none t; off = λ k less. absurd (omega (arith, less)) }
 
-off-more : (stops : List ℕ) (n : ℕ) (from next to : Traced) → is_among stops from.state.hart.pc ≡ false → next_of from ≡ Moves next → AreOff stops n next to → AreOff stops (1 + n) from to
+off-more : (stops : List ℕ) (n : ℕ) (from next to : Traced) → is_among stops from.state.architectural.pc ≡ false → next_of from ≡ Moves next → AreOff stops n next to → AreOff stops (1 + n) from to
 off-more stops n from next to here moves later = record {
   leads = leads-then 1 n from next to (leads-one from next moves) later.leads;
   off = each;
 }
   where
-    each : (k : ℕ) → k < 1 + n → is_among stops (along k from).state.hart.pc ≡ false
-    each zero less = ap (λ (t : Traced). is_among stops t.state.hart.pc) (along-zero from) ∙ here
-    each (suc k) less = ap (λ (t : Traced). is_among stops t.state.hart.pc) (along-moves k from next moves) ∙ later.off k (omega (arith, less))
+    each : (k : ℕ) → k < 1 + n → is_among stops (along k from).state.architectural.pc ≡ false
+    each zero less = ap (λ (t : Traced). is_among stops t.state.architectural.pc) (along-zero from) ∙ here
+    each (suc k) less = ap (λ (t : Traced). is_among stops t.state.architectural.pc) (along-moves k from next moves) ∙ later.off k (omega (arith, less))
 
 run_to-off : (stops : List ℕ) (max : ℕ) (s : State) (left : List Reply) → AreOff stops (run_to stops max s).count (traced s left) (traced (run_to stops max s).state left)
 run_to-off stops zero s left = subst (λ (r : Ran). AreOff stops r.count (traced s left) (traced r.state left)) (sym (run_to-zero stops s)) (off-none stops (traced s left))
-run_to-off stops (suc max) s left = by (λ t. run_to-off stops max t left) (is_among stops s.hart.pc) (next s) refl refl
+run_to-off stops (suc max) s left = by (λ t. run_to-off stops max t left) (is_among stops s.architectural.pc) (next s) refl refl
   where
-    by : ((t : State) → AreOff stops (run_to stops max t).count (traced t left) (traced (run_to stops max t).state left)) → (b : Bool) (x : Stepped) → is_among stops s.hart.pc ≡ b → next s ≡ x → AreOff stops (run_to stops (suc max) s).count (traced s left) (traced (run_to stops (suc max) s).state left)
+    by : ((t : State) → AreOff stops (run_to stops max t).count (traced t left) (traced (run_to stops max t).state left)) → (b : Bool) (x : Stepped) → is_among stops s.architectural.pc ≡ b → next s ≡ x → AreOff stops (run_to stops (suc max) s).count (traced s left) (traced (run_to stops (suc max) s).state left)
     by later true x here is =
         subst (λ (r : Ran). AreOff stops r.count (traced s left) (traced r.state left)) (sym (run_to-stops stops (suc max) s here)) (off-none stops (traced s left))
     by later false (Goes t) here is =
@@ -72,8 +72,8 @@ coasts-on p rs a b breaks reran most limit stops all from to came few =
           let split : n ≡ a.machine.count + (n - a.machine.count) = omega (arith, above) in
           let there : reached p rs n ≡ along (n - a.machine.count) (traced_at rs a) =
           ap (λ (k : ℕ). reached p rs k) split ∙ reached-add p rs a.machine.count (n - a.machine.count) ∙ ap (along (n - a.machine.count)) from in
-          all (reached p rs n).state.hart.pc
-          (ap (λ (t : Traced). is_among stops t.state.hart.pc) there ∙ came.off (n - a.machine.count) (omega (arith, above, less, counts)));
+          all (reached p rs n).state.architectural.pc
+          (ap (λ (t : Traced). is_among stops t.state.architectural.pc) there ∙ came.off (n - a.machine.count) (omega (arith, above, less, counts)));
       rest = refl;
     }
 
@@ -86,8 +86,8 @@ last_hit-coasted breaks stops f g h done max from all leads came = up came.done 
     up (suc n) few =
         let one : done + suc n ≡ suc (done + n) = omega arith in
         let there : along (done + n) f ≡ along n g = along-add done n f ∙ ap (along n) leads.moves in
-        let none : least_from 0 breaks (along (done + n) f).state.hart.pc ≡ None =
-        all (along (done + n) f).state.hart.pc (ap (λ (t : Traced). is_among stops t.state.hart.pc) there ∙ came.off n (omega (arith, few))) in
+        let none : least_from 0 breaks (along (done + n) f).state.architectural.pc ≡ None =
+        all (along (done + n) f).state.architectural.pc (ap (λ (t : Traced). is_among stops t.state.architectural.pc) there ∙ came.off n (omega (arith, few))) in
         ap (last_hit breaks f from) one
         ∙ last_hit-suc breaks f from (done + n)
         ∙ ap (λ (o : Option ℕ). option_or (hit_with (from + (done + n)) o) (last_hit breaks f from (done + n))) none

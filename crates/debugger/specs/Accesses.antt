@@ -8,9 +8,9 @@ use Rattle.memory_model.specs.Access.{fetched, size}
 use Rattle.memory_model.specs.declared.access.BusFault.{BusFault}
 use Rattle.memory_model.specs.declared.access.Width.{Width}
 use Rattle.memory_model.specs.declared.access.Width.TheVariants.{Byte, Half, Word}
-use Rattle.machine_model.specs.Effects.{Hart, moved, reg}
+use Rattle.machine_model.specs.Effects.{ArchitecturalState, moved, reg}
 use Rattle.machine_model.specs.Images.{Program}
-use Rattle.machine_model.specs.States.{State, stands_at}
+use Rattle.machine_model.specs.States.{State, stopped_at}
 use Rattle.machine_model.specs.declared.reply.Reply.{Reply}
 use Rattle.machine_model.specs.declared.stop.Stop.{Stop}
 use Rattle.debugger.specs.Traces.{Traced, Moves, next_of, halt_of}
@@ -24,7 +24,7 @@ abbrev pub accessed : AccessKind → ℕ → Width → Option Access
 accessed kind at width = Some (record { at = at; length = size width; kind = kind })
 
 -- what an instruction loads or stores: one clause for each row of the table that does
-abbrev pub access_of : Instr → Hart → Option Access
+abbrev pub access_of : Instr → ArchitecturalState → Option Access
 access_of (instr.Lb rd rs1 imm) h = accessed Load (moved (reg h rs1) imm) Byte
 access_of (instr.Lh rd rs1 imm) h = accessed Load (moved (reg h rs1) imm) Half
 access_of (instr.Lw rd rs1 imm) h = accessed Load (moved (reg h rs1) imm) Word
@@ -35,17 +35,17 @@ access_of (instr.Sh rs1 rs2 imm) h = accessed Store (moved (reg h rs1) imm) Half
 access_of (instr.Sw rs1 rs2 imm) h = accessed Store (moved (reg h rs1) imm) Word
 access_of _ h = None
 
-abbrev pub access_by_instr : Hart → Option Instr → Option Access
+abbrev pub access_by_instr : ArchitecturalState → Option Instr → Option Access
 access_by_instr h None = None
 access_by_instr h (Some i) = access_of i h
 
-abbrev pub access_by_fetch : Hart → Result ℕ BusFault → Option Access
+abbrev pub access_by_fetch : ArchitecturalState → Result ℕ BusFault → Option Access
 access_by_fetch h (Err fault) = None
 access_by_fetch h (Ok word) = access_by_instr h (instr_of word)
 
 -- what the instruction at the program counter loads or stores
 abbrev pub fetched_access : State → Option Access
-fetched_access s = access_by_fetch s.hart (fetched s.hart.memory s.hart.pc)
+fetched_access s = access_by_fetch s.architectural (fetched s.architectural.memory s.architectural.pc)
 
 abbrev pub stored_bytes : ℕ → List ℕ → Option Access
 stored_bytes at [] = None
@@ -75,7 +75,7 @@ access_unless (Some why) access = None
 
 -- what comes next loads or stores: the instruction at the program counter, or the reply to the call at which the state stands
 abbrev pub next_access_of : Traced → Option Access
-next_access_of t = access_unless (halt_of (next_of t)) (access_standing t (stands_at t.state))
+next_access_of t = access_unless (halt_of (next_of t)) (access_standing t (stopped_at t.state))
 
 -- an address is none of those that are stored to
 abbrev pub IsOutside : ℕ → Option Access → Type 0
@@ -84,4 +84,4 @@ IsOutside a (Some access) = access.kind ≡ Store → (a < access.at) ⊎ (acces
 
 -- what comes next leaves each byte, with its rights, at an address outside of what is stored
 abbrev pub LeavesOutside : Traced → Option Access → Type 0
-LeavesOutside t access = (u : Traced) (a : ℕ) → a < 2 ^ 32 → next_of t ≡ Moves u → IsOutside a access → get u.state.hart.memory a ≡ get t.state.hart.memory a
+LeavesOutside t access = (u : Traced) (a : ℕ) → a < 2 ^ 32 → next_of t ≡ Moves u → IsOutside a access → get u.state.architectural.memory a ≡ get t.state.architectural.memory a

@@ -5,7 +5,7 @@ use Rattle.debugger.specs.Stops.{least_from}
 
 -- the least number of a breakpoint at the program counter after n instructions
 abbrev pub break_after : Session → ℕ → Option ℕ
-break_after s n = least_from 0 s.breaks (place_at s n).state.hart.pc
+break_after s n = least_from 0 s.breaks (place_at s n).state.architectural.pc
 
 -- no breakpoint stands at a count from one on and below the present one
 abbrev pub HasNone : Session → ℕ → Type 0

@@ -11,7 +11,7 @@ pub record Coasted (stops : List ℕ) (max : ℕ) (from to : Traced) : Type 0 wh
   pub done : ℕ
   pub leads : Leads done from to
   pub within : done ≤ max
-  pub off : (k : ℕ) → k < done → is_among stops (along k from).state.hart.pc ≡ false
+  pub off : (k : ℕ) → k < done → is_among stops (along k from).state.architectural.pc ≡ false
 
 -- the address of each breakpoint is one of these
 abbrev pub HasAll : List (Option ℕ) → List ℕ → Type 0
@@ -22,5 +22,5 @@ pub record Coasts (old : Session) (limit : ℕ) (new : Session) : Type 0 where
   pub on : old.count ≤ new.count
   pub within : new.count ≤ limit
   pub past : (n : ℕ) → old.count ≤ n → n < new.count → halt_at old n ≡ None
-  pub unbroken : (n : ℕ) → old.count ≤ n → n < new.count → least_from 0 old.breaks (place_at old n).state.hart.pc ≡ None
+  pub unbroken : (n : ℕ) → old.count ≤ n → n < new.count → least_from 0 old.breaks (place_at old n).state.architectural.pc ≡ None
   pub rest : new ≡ record old { count = new.count }

@@ -15,7 +15,7 @@ hit_with count (Some number) = Some (record { count = count; number = number })
 -- the last hit among n states, the first of which has a count
 unfoldable pub last_hit : List (Option ℕ) → Traced → ℕ → ℕ → Option Hit
 last_hit breaks t from zero = None
-last_hit breaks t from (suc n) = option_or (hit_with (from + n) (least_from 0 breaks (along n t).state.hart.pc)) (last_hit breaks t from n)
+last_hit breaks t from (suc n) = option_or (hit_with (from + n) (least_from 0 breaks (along n t).state.architectural.pc)) (last_hit breaks t from n)
 
 -- the last hit at a count below n
 unfoldable pub last_below : Session → ℕ → Option Hit

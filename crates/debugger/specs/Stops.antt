@@ -50,7 +50,7 @@ stop_before s max n = if n == limit_of s max then Some stopped.Limit else option
 
 -- why a run stops after the instruction that led to a count, if it does
 abbrev pub stop_after : Session → ℕ → Option Stopped
-stop_after s n = if nat_lt s.count n then option_map (λ number. stopped.Break number) (least_from 0 s.breaks (place_at s n).state.hart.pc) else None
+stop_after s n = if nat_lt s.count n then option_map (λ number. stopped.Break number) (least_from 0 s.breaks (place_at s n).state.architectural.pc) else None
 
 -- why a run of at most max instructions, from a session on, stops at a count, if it does
 abbrev pub stop_at : Session → ℕ → ℕ → Option Stopped

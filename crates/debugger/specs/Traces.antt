@@ -3,7 +3,7 @@ use Rattle.std.specs.Prelude.{◌≡◌, ℕ, zero, suc, if◌then◌else◌, Bo
 use Rattle.memory_model.specs.Access.{is_writable}
 use Rattle.machine_model.specs.First.{first_state}
 use Rattle.machine_model.specs.Images.{Program}
-use Rattle.machine_model.specs.States.{State, Stepped, Goes, Halts, next, stands_at}
+use Rattle.machine_model.specs.States.{State, Stepped, Goes, Halts, next, stopped_at}
 use Rattle.machine_model.specs.Replies.{replied}
 use Rattle.machine_model.specs.declared.reply.Reply.{Reply}
 use Rattle.machine_model.specs.declared.stop.Stop.TheVariants.{Limit, Call, Trap}
@@ -26,7 +26,7 @@ pub data Next : Type 0 where
 -- A call takes the next reply. The trace ends where there is none, and where its bytes may not be written.
 abbrev pub next_at_call : State → List Reply → Next
 next_at_call s [] = Rests halt.EndOfTrace
-next_at_call s (r ∷ rs) = if is_writable s.hart.memory r.at (length r.bytes) then Moves (traced (replied s r) rs) else Rests halt.EndOfTrace
+next_at_call s (r ∷ rs) = if is_writable s.architectural.memory r.at (length r.bytes) then Moves (traced (replied s r) rs) else Rests halt.EndOfTrace
 
 -- the next reply has an image
 abbrev pub brings_image : List Reply → Bool
@@ -35,7 +35,7 @@ brings_image (r ∷ rs) = is_some r.image
 
 -- the state stands at a call, and the next reply has an image
 pub record EntersNext (t : Traced) : Type 0 where
-  pub stands : stands_at t.state ≡ Some Call
+  pub stands : stopped_at t.state ≡ Some Call
   pub image : brings_image t.left ≡ true
 
 -- by what the state itself comes to; no state halts at the limit

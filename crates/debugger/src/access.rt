@@ -44,7 +44,7 @@ fn named(
     imm: Immediate,
     width: Width,
 ) -> Option<Access>
-    ensures { result ≡ accessed kind (moved_by (register machine.now.hart base) imm) width }
+    ensures { result ≡ accessed kind (moved_by (register machine.now.architectural base) imm) width }
 {
     Some(Access {
         at: moved(machine.reg(base), imm.value()),
@@ -55,7 +55,7 @@ fn named(
 
 /// What an instruction of a machine loads or stores, if it does.
 fn access_of(machine: &Machine, instr: Instr) -> Option<Access>
-    ensures { result ≡ access_in instr machine.now.hart }
+    ensures { result ≡ access_in instr machine.now.architectural }
 {
     match instr {
         Instr::Lb { rs1, imm, .. } | Instr::Lbu { rs1, imm, .. } => {

@@ -253,7 +253,7 @@ impl Debugger {
 
     /// The least number of a breakpoint where the machine stands.
     pub(crate) fn break_here(&self) -> Option<usize>
-        ensures { result ≡ least_from 0 self.now.breaks (place_at self.now self.now.count).state.hart.pc }
+        ensures { result ≡ least_from 0 self.now.breaks (place_at self.now self.now.count).state.architectural.pc }
     {
         self.number_at(self.place.machine.pc())
     }

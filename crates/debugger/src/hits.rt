@@ -22,7 +22,7 @@ pub struct Hit {
 impl Place {
     /// The hit at this place, if a breakpoint stands there.
     fn hit(&self, breaks: &Slab<u32>) -> Option<Hit>
-        ensures { result ≡ hit_with self.now.machine.count (least_from 0 breaks.now.slots self.now.machine.hart.pc) }
+        ensures { result ≡ hit_with self.now.machine.count (least_from 0 breaks.now.slots self.now.machine.architectural.pc) }
     {
         let number = least_at(breaks, self.machine.pc())?;
         Some(Hit {

@@ -1,6 +1,6 @@
 //! A machine on its way along a trace.
 ghost use Rattle.std.specs.Prelude.{◌≡◌, ◌≢◌, ℕ, ◌+◌, ◌-◌, ◌<◌, ◌≤◌, ◌^◌, true, None, Some, IfOk, OnOk, OnErr, drop, length};
-ghost use Rattle.machine_model.specs.States.{stands_at};
+ghost use Rattle.machine_model.specs.States.{stopped_at};
 ghost use Rattle.debugger.specs.Traces.{EntersNext, Moves, Rests, along, brings_image, halt_of, next_at_call, next_of};
 ghost use Rattle.debugger.specs.Ways.{Came, Leads, traced_at};
 
@@ -73,7 +73,7 @@ impl Place {
     /// Gives the call at which the machine stands its reply, unless that has an image. Says why it did not, and then changes
     /// nothing.
     fn take_reply(&mut self, replies: &[Reply]) -> StretchEnd
-        requires stands { stands_at self.old.machine ≡ Some Stop.Call }
+        requires stands { stopped_at self.old.machine ≡ Some Stop.Call }
         requires budget { self.old.machine.count < 2 ^ 40 }
         ensures taken { result ≡ StretchEnd.Done → next_at_call self.old.machine (drop self.old.taken replies.now) ≡ Moves (traced_at replies.now self.new) }
         ensures halted { (why : Halt) → result ≡ StretchEnd.Halted why → halt_of (next_at_call self.old.machine (drop self.old.taken replies.now)) ≡ Some why }

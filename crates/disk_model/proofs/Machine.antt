@@ -5,7 +5,7 @@ use Rattle.std.proofs.lemmas.Bool.{cases_lt, and_parts, and_left, and_right}
 use Rattle.std.specs.List.{AllByRecursion}
 use Rattle.std.proofs.lemmas.List.{ext_get_or}
 use Rattle.disk_model.specs.declared.change.NamedFile.{NamedFile}
-use Rattle.disk_model.specs.Held.{Stands, IsHeldTo}
+use Rattle.disk_model.specs.Held.{HasBytes, IsHeldTo}
 use Rattle.disk_model.specs.declared.change.Piece.{Piece}
 use Rattle.disk_model.specs.Storage.{Storage, overwritten, with_completion, sent, is_empty, is_quiet, without, piece_at, completed, completed_by, failed, failed_by, next_stage}
 use Rattle.disk_model.specs.Crash.{InRange, IsSameBut, IsCrashOf}
@@ -158,7 +158,7 @@ completed_goes st old new at s = go (piece_at st.device.in_flight at) refl s
             let clear : IsSameBut [] goal st1.device.disk = subst (λ (ps : List Piece). IsSameBut ps goal st1.device.disk) (ap (λ (ps : List Piece). ps ++ st1.device.failed) in_flight ∙ failed) same in
             next_goes st st1 old new in_flight failed c n st1.stages (subst (λ (d : List ℕ). Ready st1.stages d st1.next_half st1.next_gate old new) (sym (all_same goal st1.device.disk clear)) ready)
 
-        inside : (p : Piece) (goal d : List ℕ) → Stands d p.at p.bytes → Stands goal p.at p.bytes → (i : ℕ) → p.at ≤ i → i < p.at + length p.bytes → get_or d i 0 ≡ get_or goal i 0
+        inside : (p : Piece) (goal d : List ℕ) → HasBytes d p.at p.bytes → HasBytes goal p.at p.bytes → (i : ℕ) → p.at ≤ i → i < p.at + length p.bytes → get_or d i 0 ≡ get_or goal i 0
         inside p goal d h g i ge lt =
             let k : p.at + (i - p.at) ≡ i = omega arith in
             ap (λ (j : ℕ). get_or d j 0) (sym k) ∙ h (i - p.at) (omega arith) ∙ sym (g (i - p.at) (omega arith)) ∙ ap (λ (j : ℕ). get_or goal j 0) k

@@ -10,7 +10,7 @@ use Rattle.disk_model.specs.declared.change.Change.TheVariants.{Create, Write, E
 use Rattle.disk_model.specs.declared.change.NamedFile.{NamedFile}
 use Rattle.disk_model.specs.Files.{IsFormed, Follow, changed, files_after}
 use Rattle.disk_model.specs.Spelling.{spelling, body_of, sized_body, gate_after}
-use Rattle.disk_model.specs.Held.{Stands, IsRecord, Records, joined, IsHeldTo, selected_half, start_of, end_of}
+use Rattle.disk_model.specs.Held.{HasBytes, IsRecord, Records, joined, IsHeldTo, selected_half, start_of, end_of}
 
 -- ---- texts
 
@@ -120,10 +120,10 @@ body_once (c ∷ cs) (e ∷ es) f g same =
 -- ---- records
 
 -- two texts of one length stand at the same place
-stands_once : (d : List ℕ) (at : ℕ) (a b : List ℕ) → length a ≡ length b → Stands d at a → Stands d at b → a ≡ b
+stands_once : (d : List ℕ) (at : ℕ) (a b : List ℕ) → length a ≡ length b → HasBytes d at a → HasBytes d at b → a ≡ b
 stands_once d at a b size h g = ext_get_or 0 a b size (λ i lt. sym (h i lt) ∙ g i (omega arith))
 
-stands_prefix : (d : List ℕ) (at : ℕ) (a b : List ℕ) → Stands d at (a ++ b) → Stands d at a
+stands_prefix : (d : List ℕ) (at : ℕ) (a b : List ℕ) → HasBytes d at (a ++ b) → HasBytes d at a
 stands_prefix d at a b h i lt = h i (omega (arith, length-append a b)) ∙ get_or_append_left a b 0 i lt
 
 -- at most one record stands after a gate

@@ -4,7 +4,7 @@ use Rattle.std.specs.Prelude.{◌==◌, if◌then◌else◌}
 use Rattle.std.specs.List.{AllByRecursion}
 use Rattle.std.proofs.lemmas.Bool.{cases_lt}
 use Rattle.std.proofs.lemmas.List.{get_or_append_left, get_or-append_right, get_or-take, get_or-drop, length-take, length-drop}
-use Rattle.disk_model.specs.Held.{Stands}
+use Rattle.disk_model.specs.Held.{HasBytes}
 use Rattle.disk_model.specs.declared.change.Piece.{Piece}
 use Rattle.disk_model.specs.Storage.{overwritten, pieces_from, pieces, is_empty, without, piece_at}
 use Rattle.disk_model.specs.Crash.{InRange, IsSameBut}
@@ -26,7 +26,7 @@ over_above d at bs i le ge =
     ∙ get_or-drop (at + length bs) d (i - (at + length bs)) 0
     ∙ ap (λ (k : ℕ). get_or d k 0) (omega arith)
 
-pub over_in : (d : List ℕ) (at : ℕ) (bs : List ℕ) → at ≤ length d → Stands (overwritten d at bs) at bs
+pub over_in : (d : List ℕ) (at : ℕ) (bs : List ℕ) → at ≤ length d → HasBytes (overwritten d at bs) at bs
 over_in d at bs le i lt =
     get_or_append_left (take at d ++ bs) (drop (at + length bs) d) 0 (at + i) (omega (arith, prefix_length d at bs le))
     ∙ get_or-append_right (take at d) bs at (at + i) 0 (omega (arith, length-take at d)) (omega arith)
@@ -95,18 +95,18 @@ same_then ps a b c h g = record { size = g.size ∙ h.size; same = λ i out. g.s
 
 -- what the piece brings is what this disk has there
 abbrev pub Carried : List ℕ → Piece → Type 0
-Carried disk p = Stands disk p.at p.bytes × (p.at + length p.bytes ≤ length disk)
+Carried disk p = HasBytes disk p.at p.bytes × (p.at + length p.bytes ≤ length disk)
 
-stands_take : (d : List ℕ) (at n : ℕ) (bs : List ℕ) → Stands d at bs → Stands d at (take n bs)
+stands_take : (d : List ℕ) (at n : ℕ) (bs : List ℕ) → HasBytes d at bs → HasBytes d at (take n bs)
 stands_take d at n bs h i lt =
     h i (omega (arith, length-take n bs)) ∙ sym (get_or-take n bs i 0 (omega (arith, length-take n bs)))
 
-stands_drop : (d : List ℕ) (at n : ℕ) (bs : List ℕ) → Stands d at bs → Stands d (at + n) (drop n bs)
+stands_drop : (d : List ℕ) (at n : ℕ) (bs : List ℕ) → HasBytes d at bs → HasBytes d (at + n) (drop n bs)
 stands_drop d at n bs h i lt =
     ap (λ (k : ℕ). get_or d k 0) (let e : at + n + i ≡ at + (n + i) = omega arith in e)
     ∙ h (n + i) (omega (arith, length-drop n bs)) ∙ sym (get_or-drop n bs i 0)
 
-from_carried : (n size : ℕ) (d : List ℕ) (at : ℕ) (bs : List ℕ) → Stands d at bs → (1 ≤ length bs → at + length bs ≤ length d) → AllByRecursion (Carried d) (pieces_from n size at bs)
+from_carried : (n size : ℕ) (d : List ℕ) (at : ℕ) (bs : List ℕ) → HasBytes d at bs → (1 ≤ length bs → at + length bs ≤ length d) → AllByRecursion (Carried d) (pieces_from n size at bs)
 from_carried zero size d at bs h le = tt
 from_carried (suc n) size d at [] h le = tt
 from_carried (suc n) size d at (b ∷ bs) h le = (
@@ -130,7 +130,7 @@ from_within (suc n) size at (b ∷ bs) i (inl h) = (h.0, omega (arith, length-ta
 from_within (suc n) size at (b ∷ bs) i (inr h) =
     let r = from_within n size (at + size) (drop size (b ∷ bs)) i h in (omega arith, omega (arith, length-drop size (b ∷ bs)))
 
-pub pieces_carried : (d : List ℕ) (at : ℕ) (bs : List ℕ) → Stands d at bs → at + length bs ≤ length d → AllByRecursion (Carried d) (pieces at bs)
+pub pieces_carried : (d : List ℕ) (at : ℕ) (bs : List ℕ) → HasBytes d at bs → at + length bs ≤ length d → AllByRecursion (Carried d) (pieces at bs)
 unfolding pieces
 pieces_carried d at bs h le = from_carried (length bs) 4096 d at bs h (λ some. le)
 

@@ -6,7 +6,7 @@ use Rattle.disk_model.specs.declared.change.Change.{Change}
 use Rattle.disk_model.specs.declared.change.NamedFile.{NamedFile}
 use Rattle.disk_model.specs.Files.{Follow, IsFormed, IsMade, MayCome, files_after, changed}
 use Rattle.disk_model.specs.Spelling.{body_of, sized_body, record_of, gate_after}
-use Rattle.disk_model.specs.Held.{Stands, start_of, end_of, IsRecord, Records, joined, Reads}
+use Rattle.disk_model.specs.Held.{HasBytes, start_of, end_of, IsRecord, Records, joined, Reads}
 
 -- ---- files
 
@@ -90,7 +90,7 @@ reads_none d half = record { groups = []; records = refl; possible = tt; makes =
 
 -- one more record, after a gate that is open
 pub reads_more : (e : List ℕ) (half : Bool) (gate : ℕ) (files : List NamedFile) (cs : List Change)
-    → Reads e half gate files → Follow files cs → get_or e gate 0 ≡ 1 → gate_after gate cs < end_of half → Stands e (gate + 1) (record_of cs)
+    → Reads e half gate files → Follow files cs → get_or e gate 0 ≡ 1 → gate_after gate cs < end_of half → HasBytes e (gate + 1) (record_of cs)
     → Reads e half (gate_after gate cs) (files_after files cs)
 reads_more e half gate files cs r follow opened within stands = record {
   groups = r.groups ++ cs ∷ [];
@@ -104,7 +104,7 @@ reads_more e half gate files cs r follow opened within stands = record {
 }
 
 -- and the gate after it is closed
-pub closed_after : (e : List ℕ) (gate : ℕ) (cs : List Change) → Stands e (gate + 1) (record_of cs) → get_or e (gate_after gate cs) 0 ≡ 0
+pub closed_after : (e : List ℕ) (gate : ℕ) (cs : List Change) → HasBytes e (gate + 1) (record_of cs) → get_or e (gate_after gate cs) 0 ≡ 0
 closed_after e gate cs stands =
     let l = sized_length cs in
     ap (λ (k : ℕ). get_or e k 0) (let same : gate_after gate cs ≡ gate + 1 + length (sized_body cs) = omega arith in same)

@@ -6,7 +6,7 @@ use Rattle.disk_model.specs.declared.change.Change.{Change}
 use Rattle.disk_model.specs.declared.change.NamedFile.{NamedFile}
 use Rattle.disk_model.specs.Files.{Follow, files_after}
 use Rattle.disk_model.specs.Spelling.{record_of, gate_after}
-use Rattle.disk_model.specs.Held.{Stands, start_of, end_of, Reads, selected_half, IsHeldTo, IsHeld}
+use Rattle.disk_model.specs.Held.{HasBytes, start_of, end_of, Reads, selected_half, IsHeldTo, IsHeld}
 use Rattle.disk_model.specs.declared.change.Piece.{Piece}
 use Rattle.disk_model.specs.Storage.{overwritten, pieces, one_byte, is_empty, selector}
 use Rattle.disk_model.specs.Crash.{InRange, IsSameBut}
@@ -66,7 +66,7 @@ rest_bounds d half gate old rest = reads_bounds d half gate old (subst (λ (b : 
 
 -- a record after the gate, and the gate is open: the new files
 grown : (d e : List ℕ) (half : Bool) (gate : ℕ) (old : List NamedFile) (cs : List Change) → AtRest d half gate old → IsSize e → Follow old cs → gate_after gate cs < end_of half
-    → get_or e 0 0 ≡ get_or d 0 0 → ((i : ℕ) → start_of half ≤ i → i < gate → get_or e i 0 ≡ get_or d i 0) → Stands e (gate + 1) (record_of cs) → get_or e gate 0 ≡ 1
+    → get_or e 0 0 ≡ get_or d 0 0 → ((i : ℕ) → start_of half ≤ i → i < gate → get_or e i 0 ≡ get_or d i 0) → HasBytes e (gate + 1) (record_of cs) → get_or e gate 0 ≡ 1
     → AtRest e half (gate_after gate cs) (files_after old cs)
 grown d e half gate old cs rest long follow within zero-is same stands opened =
     let selects : selected_half (get_or e 0 0) ≡ half = ap selected_half zero-is ∙ rest.selects in
@@ -135,7 +135,7 @@ module _ (d : List ℕ) (half : Bool) (gate : ℕ) (old : List NamedFile) (cs : 
     low2 : (i : ℕ) → i < gate → get_or g2 i 0 ≡ get_or d i 0
     low2 i lt = over_below g1 gate (1 ∷ []) i (let f = fits2 in omega arith) lt ∙ low1 i (omega arith)
 
-    stands2 : Stands g2 (gate + 1) (record_of cs)
+    stands2 : HasBytes g2 (gate + 1) (record_of cs)
     stands2 i lt = over_above g1 gate (1 ∷ []) (gate + 1 + i) (let f = fits2 in omega arith) (omega arith) ∙ over_in d (gate + 1) (record_of cs) (let r = room in omega arith) i lt
 
     -- the record is there, and the gate may be open or not
@@ -276,7 +276,7 @@ module _ (d : List ℕ) (half : Bool) (gate : ℕ) (old : List NamedFile) (cs : 
   written e same =
       let b = bounds (not half) in
       let f2 = fits_in c2 next.1 in let f1 = fits_in c1 first.1 in
-      let stands : Stands e (there + 1) (record_of cs) =
+      let stands : HasBytes e (there + 1) (record_of cs) =
       λ i lt. same (there + 1 + i) (omega arith)
       ∙ over_above c2 there (1 ∷ []) (there + 1 + i) (omega arith) (omega arith)
       ∙ over_in c1 (there + 1) (record_of cs) (omega arith) i lt in

@@ -6,8 +6,8 @@ use Rattle.disk_model.specs.Files.{Follow, files_after}
 use Rattle.disk_model.specs.Spelling.{sized_body, gate_after}
 
 -- these bytes stand on the disk from this place on
-abbrev pub Stands : List ℕ → ℕ → List ℕ → Type 0
-Stands disk at bytes = (i : ℕ) → i < length bytes → slice_index disk (at + i) ≡ slice_index bytes i
+abbrev pub HasBytes : List ℕ → ℕ → List ℕ → Type 0
+HasBytes disk at bytes = (i : ℕ) → i < length bytes → slice_index disk (at + i) ≡ slice_index bytes i
 
 -- the half that this byte 0 selects by its low bit: `false` is half 0, `true` is half 1
 abbrev pub selected_half : ℕ → Bool
@@ -27,7 +27,7 @@ end_of true = 2097088
 pub record IsRecord (disk : List ℕ) (last gate : ℕ) (cs : List Change) : Type 0 where
   pub opened : slice_index disk gate ≡ 1
   pub within : gate_after gate cs < last
-  pub stands : Stands disk (gate + 1) (sized_body cs)
+  pub stands : HasBytes disk (gate + 1) (sized_body cs)
 
 -- records of these groups of changes stand one after the other, from this gate up to that one
 abbrev pub Records : List ℕ → ℕ → ℕ → List (List Change) → ℕ → Type 0

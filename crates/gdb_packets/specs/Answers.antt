@@ -3,17 +3,17 @@ use Rattle.std.specs.Prelude.{ℕ, zero, suc, ◌+◌, ◌-◌, ◌^◌, nat_le,
 use Rattle.std.specs.FinMap.{get}
 use Rattle.std.specs.Int.{w32, w64, to_le_bytes}
 use Rattle.memory_model.specs.Memory.{Memory, Cell}
-use Rattle.machine_model.specs.Effects.{Hart, reg}
+use Rattle.machine_model.specs.Effects.{ArchitecturalState, reg}
 use Rattle.machine_model.specs.States.{State}
 
 -- the first n registers, the lowest byte of each first
-abbrev pub registers : Hart → ℕ → List ℕ
+abbrev pub registers : ArchitecturalState → ℕ → List ℕ
 registers h zero = []
 registers h (suc n) = registers h n ++ to_le_bytes w32 (reg h n)
 
 -- the registers, the pc and the count
 unfoldable pub machine_bytes : State → List ℕ
-machine_bytes s = (registers s.hart 32 ++ to_le_bytes w32 s.hart.pc) ++ to_le_bytes w64 s.count
+machine_bytes s = (registers s.architectural 32 ++ to_le_bytes w32 s.architectural.pc) ++ to_le_bytes w64 s.count
 
 abbrev pub with_cell : Option Cell → List ℕ → List ℕ
 with_cell None rest = []

@@ -26,7 +26,7 @@ fn hex_text(alloc: Global, bytes: &[u8]) -> Result<Vec<u8>, AllocError>
 
 /// The registers, the lowest byte of each first.
 fn bytes_of_registers(alloc: Global, machine: &Machine) -> Result<Vec<u8>, AllocError>
-    ensures { IfOk result (λ bytes. bytes.items ≡ registers machine.now.hart 32) }
+    ensures { IfOk result (λ bytes. bytes.items ≡ registers machine.now.architectural 32) }
 {
     let mut bytes = Vec::new(alloc);
     for number in 0..REGISTERS {

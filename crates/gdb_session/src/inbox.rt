@@ -1,6 +1,6 @@
 //! What arrived, for the thread that answers.
 use gdb_packets::{Arrival, Reader};
-use idle::Rest;
+use idle::Backoff;
 use std::alloc::{AllocError, Global};
 use std::collections::VecDeque;
 use std::io::{ErrorKind, Read};
@@ -104,7 +104,7 @@ impl Inbox {
 
     /// Takes what arrived next, and waits for it. None where nothing more will come.
     pub fn next<R: Wait>(&self, rt: &R) -> Result<Option<Arrival>, SessionFault> {
-        let mut rest = Rest::new();
+        let mut rest = Backoff::new();
         for _ in rt.forever() {
             if let Some(next) = self.look(rt) {
                 return next;
@@ -135,7 +135,7 @@ impl Inbox {
 
     /// Waits until there is room for more. Says whether more is taken.
     fn is_open<R: Wait>(&self, rt: &R) -> bool {
-        let mut rest = Rest::new();
+        let mut rest = Backoff::new();
         for _ in rt.forever() {
             if let Some(is_open) = self.has_room(rt) {
                 return is_open;

@@ -7,7 +7,7 @@ use std::alloc::{AllocError, Global};
 use std::fmt::Display;
 use std::io;
 use std::io::Write;
-use timeline::Live;
+use timeline::LiveKernel;
 
 /// What gdb is to print: what terminals show, and lines of our own.
 #[derive(Drop)]
@@ -54,7 +54,7 @@ impl Messages {
     }
 
     /// Adds what terminals show and was not told, by rising number of the terminal.
-    pub fn add_shown(&mut self, live: &mut Live) -> Result<(), AllocError> {
+    pub fn add_shown(&mut self, live: &mut LiveKernel) -> Result<(), AllocError> {
         for terminal in 0..TERMINALS as u32 {
             self.text.extend_from_slice(live.tell(terminal))?;
         }

@@ -7,7 +7,7 @@ use Rattle.disk_model.specs.Held.{start_of, end_of}
 use Rattle.disk_model.specs.Storage.{Storage, sent, pieces, one_byte, selector, group, checkpoint}
 use Rattle.disk_model.proofs.Reading.{record_length}
 use Rattle.simdisk.specs.Room.{AreSpaced}
-use Rattle.group_commit.specs.declared.plan.Plan.{Plan}
+use Rattle.group_commit.specs.declared.plan.CutPlan.{CutPlan}
 use Rattle.group_commit.specs.Stages.{items_of, AllSpaced}
 use Rattle.group_commit.specs.Plans.{planned, HasRoom, Begins}
 use Rattle.group_commit.proofs.Parts.{pieces_spaced}
@@ -29,7 +29,7 @@ gate_before half gate cs lt = omega (arith, end_within half)
 abbrev made_of : Storage → List Piece → List (List Piece) → Bool → ℕ → ℕ → Storage
 made_of st first later half gate committed = record st { device = sent st.device first; stages = later; next_half = half; next_gate = gate; next_committed = committed }
 
-planned_is : (st : Storage) (p : Plan) (first : List Piece) (later : List (List Piece)) (half : Bool) (gate committed : ℕ)
+planned_is : (st : Storage) (p : CutPlan) (first : List Piece) (later : List (List Piece)) (half : Bool) (gate committed : ℕ)
     → p.first.items ≡ first → items_of p.later.items ≡ later → p.half ≡ half → p.gate ≡ gate → p.committed ≡ committed → planned st p ≡ made_of st first later half gate committed
 planned_is st p first later half gate committed a b h g c =
     ap (λ (x : List Piece). made_of st x (items_of p.later.items) p.half p.gate p.committed) a
@@ -38,7 +38,7 @@ planned_is st p first later half gate committed a b h g c =
     ∙ ap (λ (x : ℕ). made_of st first later half x p.committed) g
     ∙ ap (λ (x : ℕ). made_of st first later half gate x) c
 
-room_is : (p : Plan) (first : List Piece) (later : List (List Piece)) (half : Bool) (gate : ℕ)
+room_is : (p : CutPlan) (first : List Piece) (later : List (List Piece)) (half : Bool) (gate : ℕ)
     → p.first.items ≡ first → items_of p.later.items ≡ later → p.half ≡ half → p.gate ≡ gate → AreSpaced 2097152 first → AllSpaced later → gate < end_of half → HasRoom p
 room_is p first later half gate a b h g one others lt = record {
   first = subst (λ (x : List Piece). AreSpaced 2097152 x) (sym a) one;
@@ -46,7 +46,7 @@ room_is p first later half gate a b h g one others lt = record {
   gate = subst (λ (x : ℕ). x < end_of p.half) (sym g) (subst (λ (x : Bool). gate < end_of x) (sym h) lt);
 }
 
-pub group_begins : (st : Storage) (cs : List Change) (p : Plan)
+pub group_begins : (st : Storage) (cs : List Change) (p : CutPlan)
     → p.first.items ≡ pieces (st.gate + 1) (record_of cs) → items_of p.later.items ≡ one_byte st.gate 1 ∷ [] → p.writes ≡ length p.first.items + 1
     → p.half ≡ st.half → p.gate ≡ gate_after st.gate cs → p.count ≡ length cs → p.committed ≡ st.committed + length cs
     → gate_after st.gate cs < end_of st.half → Begins st (group st cs) p
@@ -58,7 +58,7 @@ group_begins st cs p a b w h g n c lt = record {
       (record_spaced st.half st.gate cs lt) (byte_spaced st.gate 1 (gate_before st.half st.gate cs lt), tt) lt;
 }
 
-pub checkpoint_begins : (st : Storage) (count : ℕ) (cs : List Change) (p : Plan)
+pub checkpoint_begins : (st : Storage) (count : ℕ) (cs : List Change) (p : CutPlan)
     → p.first.items ≡ one_byte (start_of (not st.half)) 0
     → items_of p.later.items ≡ pieces (start_of (not st.half) + 1) (record_of cs) ∷ one_byte (start_of (not st.half)) 1 ∷ one_byte 0 (selector (not st.half)) ∷ []
     → p.writes ≡ length (pieces (start_of (not st.half) + 1) (record_of cs)) + 3

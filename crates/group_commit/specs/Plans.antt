@@ -3,11 +3,11 @@ use Rattle.std.specs.Prelude.{◌≡◌, ◌+◌, ◌<◌, length}
 use Rattle.disk_model.specs.Held.{end_of}
 use Rattle.disk_model.specs.Storage.{Storage, sent}
 use Rattle.simdisk.specs.Room.{AreSpaced}
-use Rattle.group_commit.specs.declared.plan.Plan.{Plan}
+use Rattle.group_commit.specs.declared.plan.CutPlan.{CutPlan}
 use Rattle.group_commit.specs.Stages.{items_of, AllSpaced, length_all}
 
 -- the storage once the plan's first stage is submitted
-abbrev pub planned : Storage → Plan → Storage
+abbrev pub planned : Storage → CutPlan → Storage
 planned st p = record st {
   device = sent st.device p.first.items;
   stages = items_of p.later.items;
@@ -17,13 +17,13 @@ planned st p = record st {
 }
 
 -- the disk has room for what the plan writes
-pub record HasRoom (p : Plan) : Type 0 where
+pub record HasRoom (p : CutPlan) : Type 0 where
   pub first : AreSpaced 2097152 p.first.items
   pub later : AllSpaced (items_of p.later.items)
   pub gate : p.gate < end_of p.half
 
 -- from `old` the plan leads to `new`, and tells how many changes and writes that are
-pub record Begins (old new : Storage) (p : Plan) : Type 0 where
+pub record Begins (old new : Storage) (p : CutPlan) : Type 0 where
   pub leads : planned old p ≡ new
   pub count : new.next_committed ≡ old.committed + p.count
   pub writes : p.writes ≡ length new.device.in_flight + length_all new.stages

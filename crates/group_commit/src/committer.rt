@@ -13,7 +13,7 @@ ghost use Rattle.group_commit.specs.Plans.{planned, HasRoom, Begins};
 ghost use Rattle.group_commit.specs.declared.refusal.CommitRefusal.TheVariants.{NoSuchWrite, OutOfMemory};
 
 use crate::pieces::{byte_piece, checkpoint_stages, gate_past, record_pieces};
-use crate::plan::Plan;
+use crate::plan::CutPlan;
 use crate::refusal::CommitRefusal;
 use disk_model::{Change, Piece, checkpoints_fit};
 use files::FileTable;
@@ -262,7 +262,7 @@ impl Committer {
         alloc: Global,
         changes: &[Change],
         files: &FileTable,
-    ) -> Result<Plan, CommitRefusal>
+    ) -> Result<CutPlan, CommitRefusal>
         requires possible { IsMade files.now.living }
         requires formed { AllByRecursion IsFormed changes.now }
         requires counted { self.now.committed + length changes.now < 2 ^ 64 }
@@ -300,7 +300,7 @@ impl Committer {
         alloc: Global,
         changes: &[Change],
         bytes: &[u8],
-    ) -> Result<Plan, CommitRefusal>
+    ) -> Result<CutPlan, CommitRefusal>
         requires body { bytes.now ≡ body changes.now }
         requires counted { self.now.committed + length changes.now < 2 ^ 64 }
         requires room { gate_after self.now.gate changes.now < end_of self.now.half }
@@ -312,7 +312,7 @@ impl Committer {
         let writes = first.len() as u64 + 1;
         let mut later = Vec::new(alloc);
         later.push(byte_piece(alloc, self.gate, 1)?)?;
-        Ok(Plan {
+        Ok(CutPlan {
             first,
             later,
             writes,
@@ -329,7 +329,7 @@ impl Committer {
         alloc: Global,
         count: usize,
         all: &[Change],
-    ) -> Result<Plan, CommitRefusal>
+    ) -> Result<CutPlan, CommitRefusal>
         requires formed { AllByRecursion IsFormed all.now }
         requires counted { self.now.committed + count < 2 ^ 64 }
         requires room { gate_after (start_of (not self.now.half)) all.now < end_of (not self.now.half) }
@@ -344,7 +344,7 @@ impl Committer {
         let writes = pieces.len() as u64 + 3;
         let first = byte_piece(alloc, gate, 0)?;
         let later = checkpoint_stages(alloc, pieces, gate, half)?;
-        Ok(Plan {
+        Ok(CutPlan {
             first,
             later,
             writes,
@@ -356,7 +356,7 @@ impl Committer {
     }
 
     /// Submits the plan's first stage, and keeps the others.
-    fn start(&mut self, plan: Plan)
+    fn start(&mut self, plan: CutPlan)
         requires idle { is_quiet self.old.device ≡ true }
         requires room { HasRoom plan }
         ensures { self.new ≡ planned self.old plan }

@@ -3,7 +3,7 @@ use disk_model::Piece;
 
 /// The writes of a group, and what is committed with it.
 #[derive(Drop)]
-pub struct Plan {
+pub struct CutPlan {
     /// The pieces that are submitted at once.
     pub first: Vec<Piece>,
     /// The stages to be submitted after them.

@@ -1,4 +1,4 @@
-//! What a thread does that finds nothing to do: it yields its processor, and later it sleeps. Read `Rest`. Only safety is proved.
+//! What a thread does that finds nothing to do: it yields its processor, and later it sleeps. Read `Backoff`. Only safety is proved.
 #![tactic(auto)]
 
 use std::sync::Wait;
@@ -18,7 +18,7 @@ const MOST_PAUSES: u32 = 50;
 /// A thread's turns without work. At first it yields its processor; after a while it sleeps, longer and longer, up to five
 /// milliseconds or what else is said. So a wait that lasts costs next to no processor, and whoever sleeps looks again soon.
 #[derive(Drop)]
-pub struct Rest {
+pub struct Backoff {
     turns: u32,
     /// By how many turns the next work found makes it shorter.
     relief: u32,
@@ -27,15 +27,15 @@ pub struct Rest {
     parker: Parker,
 }
 
-impl Rest {
+impl Backoff {
     /// No turn yet.
-    pub fn new() -> Rest {
-        Rest::up_to(MOST_PAUSES)
+    pub fn new() -> Backoff {
+        Backoff::up_to(MOST_PAUSES)
     }
 
     /// No turn yet. The longest sleep is of so many times 100 microseconds, and of one at least.
-    pub fn up_to(pauses: u32) -> Rest {
-        Rest {
+    pub fn up_to(pauses: u32) -> Backoff {
+        Backoff {
             turns: 0,
             relief: 1,
             most: YIELDS.saturating_add(pauses.max(1) - 1),

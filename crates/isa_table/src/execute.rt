@@ -5,12 +5,12 @@ ghost use Rattle.machine_model.specs.Arithmetic as model;
 ghost use Rattle.machine_model.specs.Effects as effects;
 ghost use Rattle.machine_model.specs.Effects.{effect, put, fault_cause, links, branches, loads, stores, as_it_is};
 ghost use Rattle.memory_model.specs.Memory.{Memory};
-ghost use Rattle.machine_model.specs.States.{hart};
+ghost use Rattle.machine_model.specs.States.{architectural};
 ghost use Rattle.isa_table.specs.Executes.{Executes};
 ghost use Rattle.isa_table.specs.Operations.{holds_of, value_of};
 
 use crate::arithmetic::{moved, shifted_right_signed, sign_extended};
-use crate::operation::{Condition, Operation, computed, holds};
+use crate::operation::{Arithmetic, Condition, computed, holds};
 use crate::regs::Regs;
 use formats::{BranchOffset, Immediate, Instr, Reg};
 use machine_model::{Bus, BusFault, Cause, Width, word_of_immediate};
@@ -50,7 +50,7 @@ fn write(regs: &mut Regs, rd: Reg, value: u32) -> Outcome
 }
 
 #[inline(always)]
-fn by_registers(regs: &mut Regs, operation: Operation, rd: Reg, rs1: Reg, rs2: Reg) -> Outcome
+fn by_registers(regs: &mut Regs, operation: Arithmetic, rd: Reg, rs1: Reg, rs2: Reg) -> Outcome
     ensures answer { result ≡ Outcome.Next }
     ensures x { regs.new.x ≡ put regs.old.x rd (value_of operation (slice_index regs.old.x rs1) (slice_index regs.old.x rs2)) }
     ensures pc { regs.new.pc ≡ (regs.old.pc + 4) % 2 ^ 32 }
@@ -60,7 +60,13 @@ fn by_registers(regs: &mut Regs, operation: Operation, rd: Reg, rs1: Reg, rs2: R
 }
 
 #[inline(always)]
-fn by_immediate(regs: &mut Regs, operation: Operation, rd: Reg, rs1: Reg, imm: Immediate) -> Outcome
+fn by_immediate(
+    regs: &mut Regs,
+    operation: Arithmetic,
+    rd: Reg,
+    rs1: Reg,
+    imm: Immediate,
+) -> Outcome
     ensures answer { result ≡ Outcome.Next }
     ensures x { regs.new.x ≡ put regs.old.x rd (value_of operation (slice_index regs.old.x rs1) (model.as_word imm)) }
     ensures pc { regs.new.pc ≡ (regs.old.pc + 4) % 2 ^ 32 }
@@ -80,10 +86,10 @@ fn address(regs: &Regs, base: Reg, offset: Immediate) -> u32
 #[inline]
 fn link(regs: &mut Regs, rd: Reg, target: u32) -> Outcome
     ensures { (m : Memory) → Executes
-        (links (hart regs.old.x regs.old.pc m) rd target)
+        (links (architectural regs.old.x regs.old.pc m) rd target)
         result
-        (hart regs.old.x regs.old.pc m)
-        (hart regs.new.x regs.new.pc m) }
+        (architectural regs.old.x regs.old.pc m)
+        (architectural regs.new.x regs.new.pc m) }
 {
     let return_address = regs.pc.wrapping_add(4);
     if target % 4 != 0 {
@@ -98,10 +104,10 @@ fn link(regs: &mut Regs, rd: Reg, target: u32) -> Outcome
 #[inline]
 fn link_to_register(regs: &mut Regs, rd: Reg, base: Reg, offset: Immediate) -> Outcome
     ensures { (m : Memory) → Executes
-        (links (hart regs.old.x regs.old.pc m) rd (effects.moved (slice_index regs.old.x base) offset - effects.moved (slice_index regs.old.x base) offset % 2))
+        (links (architectural regs.old.x regs.old.pc m) rd (effects.moved (slice_index regs.old.x base) offset - effects.moved (slice_index regs.old.x base) offset % 2))
         result
-        (hart regs.old.x regs.old.pc m)
-        (hart regs.new.x regs.new.pc m) }
+        (architectural regs.old.x regs.old.pc m)
+        (architectural regs.new.x regs.new.pc m) }
 {
     let target = address(regs, base, offset);
     link(regs, rd, target - target % 2)
@@ -116,10 +122,10 @@ fn branch(
     offset: BranchOffset,
 ) -> Outcome
     ensures { (m : Memory) → Executes
-        (branches (hart regs.old.x regs.old.pc m) (holds_of condition (slice_index regs.old.x rs1) (slice_index regs.old.x rs2)) offset)
+        (branches (architectural regs.old.x regs.old.pc m) (holds_of condition (slice_index regs.old.x rs1) (slice_index regs.old.x rs2)) offset)
         result
-        (hart regs.old.x regs.old.pc m)
-        (hart regs.new.x regs.new.pc m) }
+        (architectural regs.old.x regs.old.pc m)
+        (architectural regs.new.x regs.new.pc m) }
 {
     let is_taken = holds(condition, regs.get(rs1), regs.get(rs2));
     if !is_taken {
@@ -153,10 +159,10 @@ fn load<B: Bus>(
     width: Width,
 ) -> Outcome
     ensures { Executes
-        (loads (hart regs.old.x regs.old.pc (B.memory bus.now)) rd (effects.moved (slice_index regs.old.x base) offset) width as_it_is)
+        (loads (architectural regs.old.x regs.old.pc (B.memory bus.now)) rd (effects.moved (slice_index regs.old.x base) offset) width as_it_is)
         result
-        (hart regs.old.x regs.old.pc (B.memory bus.now))
-        (hart regs.new.x regs.new.pc (B.memory bus.now)) }
+        (architectural regs.old.x regs.old.pc (B.memory bus.now))
+        (architectural regs.new.x regs.new.pc (B.memory bus.now)) }
 {
     match bus.load(address(regs, base, offset), width) {
         Ok(value) => write(regs, rd, value),
@@ -175,10 +181,10 @@ fn load_signed<B: Bus>(
     width: Width,
 ) -> Outcome
     ensures { Executes
-        (loads (hart regs.old.x regs.old.pc (B.memory bus.now)) rd (effects.moved (slice_index regs.old.x base) offset) width (model.sign_extended (8 * size width)))
+        (loads (architectural regs.old.x regs.old.pc (B.memory bus.now)) rd (effects.moved (slice_index regs.old.x base) offset) width (model.sign_extended (8 * size width)))
         result
-        (hart regs.old.x regs.old.pc (B.memory bus.now))
-        (hart regs.new.x regs.new.pc (B.memory bus.now)) }
+        (architectural regs.old.x regs.old.pc (B.memory bus.now))
+        (architectural regs.new.x regs.new.pc (B.memory bus.now)) }
 {
     match bus.load(address(regs, base, offset), width) {
         Ok(value) => write(regs, rd, sign_extended(value, width)),
@@ -196,10 +202,10 @@ fn store<B: Bus>(
     width: Width,
 ) -> Outcome
     ensures { Executes
-        (stores (hart regs.old.x regs.old.pc (B.memory bus.old)) (effects.moved (slice_index regs.old.x base) offset) width (slice_index regs.old.x rs2))
+        (stores (architectural regs.old.x regs.old.pc (B.memory bus.old)) (effects.moved (slice_index regs.old.x base) offset) width (slice_index regs.old.x rs2))
         result
-        (hart regs.old.x regs.old.pc (B.memory bus.old))
-        (hart regs.new.x regs.new.pc (B.memory bus.new)) }
+        (architectural regs.old.x regs.old.pc (B.memory bus.old))
+        (architectural regs.new.x regs.new.pc (B.memory bus.new)) }
 {
     match bus.store(address(regs, base, offset), width, regs.get(rs2)) {
         Ok(()) => advance(regs),
@@ -212,10 +218,10 @@ fn store<B: Bus>(
 #[inline]
 pub fn exec<B: Bus>(regs: &mut Regs, bus: &mut B, i: Instr) -> Outcome
     ensures { Executes
-        (effect i (hart regs.old.x regs.old.pc (B.memory bus.old)))
+        (effect i (architectural regs.old.x regs.old.pc (B.memory bus.old)))
         result
-        (hart regs.old.x regs.old.pc (B.memory bus.old))
-        (hart regs.new.x regs.new.pc (B.memory bus.new)) }
+        (architectural regs.old.x regs.old.pc (B.memory bus.old))
+        (architectural regs.new.x regs.new.pc (B.memory bus.new)) }
 {
     exec_ref(regs, bus, &i)
 }
@@ -225,10 +231,10 @@ pub fn exec<B: Bus>(regs: &mut Regs, bus: &mut B, i: Instr) -> Outcome
 #[tactic(auto, unfolding(machine_model::specs::Effects::effect))]
 pub fn exec_ref<B: Bus>(regs: &mut Regs, bus: &mut B, i: &Instr) -> Outcome
     ensures { Executes
-        (effect i.now (hart regs.old.x regs.old.pc (B.memory bus.old)))
+        (effect i.now (architectural regs.old.x regs.old.pc (B.memory bus.old)))
         result
-        (hart regs.old.x regs.old.pc (B.memory bus.old))
-        (hart regs.new.x regs.new.pc (B.memory bus.new)) }
+        (architectural regs.old.x regs.old.pc (B.memory bus.old))
+        (architectural regs.new.x regs.new.pc (B.memory bus.new)) }
 {
     match *i {
         Instr::Lui { rd, imm } => write(regs, rd, imm.value() << 12),
@@ -249,12 +255,12 @@ pub fn exec_ref<B: Bus>(regs: &mut Regs, bus: &mut B, i: &Instr) -> Outcome
         Instr::Sb { rs1, rs2, imm } => store(regs, bus, rs2, rs1, imm, Width::Byte),
         Instr::Sh { rs1, rs2, imm } => store(regs, bus, rs2, rs1, imm, Width::Half),
         Instr::Sw { rs1, rs2, imm } => store(regs, bus, rs2, rs1, imm, Width::Word),
-        Instr::Addi { rd, rs1, imm } => by_immediate(regs, Operation::Add, rd, rs1, imm),
-        Instr::Slti { rd, rs1, imm } => by_immediate(regs, Operation::Slt, rd, rs1, imm),
-        Instr::Sltiu { rd, rs1, imm } => by_immediate(regs, Operation::Sltu, rd, rs1, imm),
-        Instr::Xori { rd, rs1, imm } => by_immediate(regs, Operation::Xor, rd, rs1, imm),
-        Instr::Ori { rd, rs1, imm } => by_immediate(regs, Operation::Or, rd, rs1, imm),
-        Instr::Andi { rd, rs1, imm } => by_immediate(regs, Operation::And, rd, rs1, imm),
+        Instr::Addi { rd, rs1, imm } => by_immediate(regs, Arithmetic::Add, rd, rs1, imm),
+        Instr::Slti { rd, rs1, imm } => by_immediate(regs, Arithmetic::Slt, rd, rs1, imm),
+        Instr::Sltiu { rd, rs1, imm } => by_immediate(regs, Arithmetic::Sltu, rd, rs1, imm),
+        Instr::Xori { rd, rs1, imm } => by_immediate(regs, Arithmetic::Xor, rd, rs1, imm),
+        Instr::Ori { rd, rs1, imm } => by_immediate(regs, Arithmetic::Or, rd, rs1, imm),
+        Instr::Andi { rd, rs1, imm } => by_immediate(regs, Arithmetic::And, rd, rs1, imm),
         Instr::Slli { rd, rs1, amount } => write(regs, rd, regs.get(rs1) << amount.value()),
         Instr::Srli { rd, rs1, amount } => write(regs, rd, regs.get(rs1) >> amount.value()),
         Instr::Srai { rd, rs1, amount } => write(
@@ -262,24 +268,24 @@ pub fn exec_ref<B: Bus>(regs: &mut Regs, bus: &mut B, i: &Instr) -> Outcome
             rd,
             shifted_right_signed(regs.get(rs1), u32::from(amount.value())),
         ),
-        Instr::Add { rd, rs1, rs2 } => by_registers(regs, Operation::Add, rd, rs1, rs2),
-        Instr::Sub { rd, rs1, rs2 } => by_registers(regs, Operation::Sub, rd, rs1, rs2),
-        Instr::Sll { rd, rs1, rs2 } => by_registers(regs, Operation::Sll, rd, rs1, rs2),
-        Instr::Slt { rd, rs1, rs2 } => by_registers(regs, Operation::Slt, rd, rs1, rs2),
-        Instr::Sltu { rd, rs1, rs2 } => by_registers(regs, Operation::Sltu, rd, rs1, rs2),
-        Instr::Xor { rd, rs1, rs2 } => by_registers(regs, Operation::Xor, rd, rs1, rs2),
-        Instr::Srl { rd, rs1, rs2 } => by_registers(regs, Operation::Srl, rd, rs1, rs2),
-        Instr::Sra { rd, rs1, rs2 } => by_registers(regs, Operation::Sra, rd, rs1, rs2),
-        Instr::Or { rd, rs1, rs2 } => by_registers(regs, Operation::Or, rd, rs1, rs2),
-        Instr::And { rd, rs1, rs2 } => by_registers(regs, Operation::And, rd, rs1, rs2),
-        Instr::Mul { rd, rs1, rs2 } => by_registers(regs, Operation::Mul, rd, rs1, rs2),
-        Instr::Mulh { rd, rs1, rs2 } => by_registers(regs, Operation::Mulh, rd, rs1, rs2),
-        Instr::Mulhsu { rd, rs1, rs2 } => by_registers(regs, Operation::Mulhsu, rd, rs1, rs2),
-        Instr::Mulhu { rd, rs1, rs2 } => by_registers(regs, Operation::Mulhu, rd, rs1, rs2),
-        Instr::Div { rd, rs1, rs2 } => by_registers(regs, Operation::Div, rd, rs1, rs2),
-        Instr::Divu { rd, rs1, rs2 } => by_registers(regs, Operation::Divu, rd, rs1, rs2),
-        Instr::Rem { rd, rs1, rs2 } => by_registers(regs, Operation::Rem, rd, rs1, rs2),
-        Instr::Remu { rd, rs1, rs2 } => by_registers(regs, Operation::Remu, rd, rs1, rs2),
+        Instr::Add { rd, rs1, rs2 } => by_registers(regs, Arithmetic::Add, rd, rs1, rs2),
+        Instr::Sub { rd, rs1, rs2 } => by_registers(regs, Arithmetic::Sub, rd, rs1, rs2),
+        Instr::Sll { rd, rs1, rs2 } => by_registers(regs, Arithmetic::Sll, rd, rs1, rs2),
+        Instr::Slt { rd, rs1, rs2 } => by_registers(regs, Arithmetic::Slt, rd, rs1, rs2),
+        Instr::Sltu { rd, rs1, rs2 } => by_registers(regs, Arithmetic::Sltu, rd, rs1, rs2),
+        Instr::Xor { rd, rs1, rs2 } => by_registers(regs, Arithmetic::Xor, rd, rs1, rs2),
+        Instr::Srl { rd, rs1, rs2 } => by_registers(regs, Arithmetic::Srl, rd, rs1, rs2),
+        Instr::Sra { rd, rs1, rs2 } => by_registers(regs, Arithmetic::Sra, rd, rs1, rs2),
+        Instr::Or { rd, rs1, rs2 } => by_registers(regs, Arithmetic::Or, rd, rs1, rs2),
+        Instr::And { rd, rs1, rs2 } => by_registers(regs, Arithmetic::And, rd, rs1, rs2),
+        Instr::Mul { rd, rs1, rs2 } => by_registers(regs, Arithmetic::Mul, rd, rs1, rs2),
+        Instr::Mulh { rd, rs1, rs2 } => by_registers(regs, Arithmetic::Mulh, rd, rs1, rs2),
+        Instr::Mulhsu { rd, rs1, rs2 } => by_registers(regs, Arithmetic::Mulhsu, rd, rs1, rs2),
+        Instr::Mulhu { rd, rs1, rs2 } => by_registers(regs, Arithmetic::Mulhu, rd, rs1, rs2),
+        Instr::Div { rd, rs1, rs2 } => by_registers(regs, Arithmetic::Div, rd, rs1, rs2),
+        Instr::Divu { rd, rs1, rs2 } => by_registers(regs, Arithmetic::Divu, rd, rs1, rs2),
+        Instr::Rem { rd, rs1, rs2 } => by_registers(regs, Arithmetic::Rem, rd, rs1, rs2),
+        Instr::Remu { rd, rs1, rs2 } => by_registers(regs, Arithmetic::Remu, rd, rs1, rs2),
         Instr::Fence | Instr::FenceI => advance(regs),
         Instr::Ecall => Outcome::Call,
         Instr::Ebreak => Outcome::Trap(Cause::Breakpoint),

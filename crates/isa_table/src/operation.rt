@@ -1,5 +1,5 @@
-//! The operations of instructions on two words, and the conditions of branches. The operations of the crate `operations` are
-//! another thing: decoded words.
+//! The arithmetic of instructions on two words, and the conditions of branches. An operation of the crate `operations` is another
+//! thing: a decoded word.
 ghost use Rattle.std.specs.Prelude.{◌≡◌};
 ghost use Rattle.isa_table.specs.Operations.{holds_of, value_of};
 
@@ -10,7 +10,7 @@ use crate::arithmetic::{
 
 /// An operation on two words. An instruction with an immediate shares it with the one of two registers.
 #[derive(Clone, Copy)]
-pub enum Operation {
+pub enum Arithmetic {
     Add,
     Sub,
     Sll,
@@ -33,28 +33,28 @@ pub enum Operation {
 
 /// The result of an operation on two words. Callers know the operation, so that the compiler leaves one arm of it.
 #[inline(always)]
-pub fn computed(operation: Operation, a: u32, b: u32) -> u32
+pub fn computed(operation: Arithmetic, a: u32, b: u32) -> u32
     ensures { result ≡ value_of operation a b }
 {
     match operation {
-        Operation::Add => a.wrapping_add(b),
-        Operation::Sub => a.wrapping_sub(b),
-        Operation::Sll => a << (b % 32),
-        Operation::Slt => u32::from(is_less_signed(a, b)),
-        Operation::Sltu => u32::from(a < b),
-        Operation::Xor => a ^ b,
-        Operation::Srl => a >> (b % 32),
-        Operation::Sra => shifted_right_signed(a, b % 32),
-        Operation::Or => a | b,
-        Operation::And => a & b,
-        Operation::Mul => a.wrapping_mul(b),
-        Operation::Mulh => high_product_signed(a, b),
-        Operation::Mulhsu => high_product_mixed(a, b),
-        Operation::Mulhu => high_product(a, b),
-        Operation::Div => quotient_signed(a, b),
-        Operation::Divu => quotient(a, b),
-        Operation::Rem => remainder_signed(a, b),
-        Operation::Remu => remainder(a, b),
+        Arithmetic::Add => a.wrapping_add(b),
+        Arithmetic::Sub => a.wrapping_sub(b),
+        Arithmetic::Sll => a << (b % 32),
+        Arithmetic::Slt => u32::from(is_less_signed(a, b)),
+        Arithmetic::Sltu => u32::from(a < b),
+        Arithmetic::Xor => a ^ b,
+        Arithmetic::Srl => a >> (b % 32),
+        Arithmetic::Sra => shifted_right_signed(a, b % 32),
+        Arithmetic::Or => a | b,
+        Arithmetic::And => a & b,
+        Arithmetic::Mul => a.wrapping_mul(b),
+        Arithmetic::Mulh => high_product_signed(a, b),
+        Arithmetic::Mulhsu => high_product_mixed(a, b),
+        Arithmetic::Mulhu => high_product(a, b),
+        Arithmetic::Div => quotient_signed(a, b),
+        Arithmetic::Divu => quotient(a, b),
+        Arithmetic::Rem => remainder_signed(a, b),
+        Arithmetic::Remu => remainder(a, b),
     }
 }
 

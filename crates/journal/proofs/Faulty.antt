@@ -9,7 +9,7 @@ use Rattle.disk_model.specs.declared.change.Change.TheVariants.{Write}
 use Rattle.disk_model.specs.declared.change.NamedFile.{NamedFile}
 use Rattle.disk_model.specs.Files.{Follow, changed, files_after}
 use Rattle.disk_model.specs.Spelling.{body_of, sized_body, gate_after}
-use Rattle.disk_model.specs.Held.{Stands, IsRecord, Records, joined, selected_half, start_of, end_of}
+use Rattle.disk_model.specs.Held.{HasBytes, IsRecord, Records, joined, selected_half, start_of, end_of}
 use Rattle.journal.specs.declared.fault.DiskFault.{DiskFault}
 use Rattle.journal.specs.declared.fault.DiskFault.TheVariants.{BadRecord, BadChange, PastHalf, OutOfMemory}
 use Rattle.journal.specs.Reading.{◌>>=◌, number_at, text_at, name_at, create_at, write_at, empty_at, remove_at, rename_at, change_at, changes_at, all_changed, may_come, step_at, body_at, record_at, records_at, opened, on_some, all_name_bytes}
@@ -168,7 +168,7 @@ record_faulty d last at files fault fits le small lt one e =
           let body = x.0 in let next = x.1 in let some = i.some in
           let a1 = length-append (to_le_bytes w32 (length body)) (body ++ next) in let a2 = length-append body next in
           let whole : last - (at + 1) ≡ 4 + (length body + length next) = omega (arith, sym tl ∙ ap length i.parts) in
-          let stands : Stands d (at + 5) body = λ k lk.
+          let stands : HasBytes d (at + 5) body = λ k lk.
           ap (λ (j : ℕ). get_or d j 0) (let q : at + 5 + k ≡ at + 1 + (4 + k) = omega arith in q) ∙ sym (tail_get d last (at + 1) (4 + k) (omega arith)) ∙ ap (λ (l : List ℕ). get_or l (4 + k) 0) i.parts
           ∙ get_or-append-add (to_le_bytes w32 (length body)) (body ++ next) k 0 ∙ get_or_append_left body next 0 k lk in
           let sized_is : size_after d at ≡ length body =

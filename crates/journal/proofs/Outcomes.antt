@@ -9,7 +9,7 @@ use Rattle.disk_model.specs.declared.change.Change.{Change}
 use Rattle.disk_model.specs.declared.change.NamedFile.{NamedFile}
 use Rattle.disk_model.specs.Files.{IsFormed, Follow, files_after}
 use Rattle.disk_model.specs.Spelling.{body_of, gate_after}
-use Rattle.disk_model.specs.Held.{Stands, IsRecord, Records, joined, Reads, IsHeld, selected_half, start_of, end_of}
+use Rattle.disk_model.specs.Held.{HasBytes, IsRecord, Records, joined, Reads, IsHeld, selected_half, start_of, end_of}
 use Rattle.journal.specs.declared.fault.DiskFault.{DiskFault}
 use Rattle.journal.specs.declared.fault.DiskFault.TheVariants.{BadRecord, BadChange, PastHalf, OutOfMemory}
 use Rattle.journal.specs.Faults.{size_after, FaultAfter, IsFault}
@@ -24,7 +24,7 @@ use Rattle.journal.proofs.Faulty.{told_fault}
 -- a record tells its length, and its body comes next
 pub record HasSize (d : List ℕ) (gate : ℕ) (cs : List Change) : Type 0 where
   pub size : length (body_of cs) ≡ size_after d gate
-  pub body : Stands d (gate + 5) (body_of cs)
+  pub body : HasBytes d (gate + 5) (body_of cs)
 
 has_size : (d : List ℕ) (last gate : ℕ) (cs : List Change) → length d ≡ 2097152 → last ≤ 2097152 → IsRecord d last gate cs → HasSize d gate cs
 has_size d last gate cs len le r =
@@ -42,7 +42,7 @@ has_size d last gate cs len le r =
 
 -- two bodies that stand at the same place and have the same length are of the same changes
 same_changes : (d : List ℕ) (at : ℕ) (cs ds : List Change) → AllByRecursion IsFormed cs → AllByRecursion IsFormed ds → length (body_of cs) ≡ length (body_of ds)
-    → Stands d at (body_of cs) → Stands d at (body_of ds) → cs ≡ ds
+    → HasBytes d at (body_of cs) → HasBytes d at (body_of ds) → cs ≡ ds
 same_changes d at cs ds fc fd len sc sd =
     let same : body_of cs ≡ body_of ds = ext_get_or 0 (body_of cs) (body_of ds) len (λ i lt. sym (sc i lt) ∙ sd i (omega arith)) in
     ok_is cs ds (sym (changes_again cs (length (body_of cs)) fc (omega arith)) ∙ ap (λ (l : List ℕ). changes_at (length l) l) same ∙ changes_again ds (length (body_of ds)) fd (omega arith))

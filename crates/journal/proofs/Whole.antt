@@ -9,7 +9,7 @@ use Rattle.disk_model.specs.declared.change.Change.{Change}
 use Rattle.disk_model.specs.declared.change.NamedFile.{NamedFile}
 use Rattle.disk_model.specs.Files.{Follow, changed, files_after}
 use Rattle.disk_model.specs.Spelling.{body_of, sized_body, gate_after}
-use Rattle.disk_model.specs.Held.{Stands, IsRecord, Records, joined, IsHeldTo, selected_half, start_of, end_of}
+use Rattle.disk_model.specs.Held.{HasBytes, IsRecord, Records, joined, IsHeldTo, selected_half, start_of, end_of}
 use Rattle.journal.specs.declared.fault.DiskFault.{DiskFault}
 use Rattle.disk_model.proofs.Once.{formed_all}
 use Rattle.journal.specs.Reading.{◌>>=◌, body_at, record_at, records_at, opened, on_some}
@@ -28,7 +28,7 @@ pub tail_cons : (d : List ℕ) (last at : ℕ) → at < last → last ≤ length
 tail_cons d last at lt le =
     drop_more (take last d) at 0 (omega (arith, length-take last d)) ∙ ap (λ (b : ℕ). b ∷ tail d last (at + 1)) (get_or-take last d at 0 lt)
 
-stands_tail : (d : List ℕ) (last at : ℕ) (bs : List ℕ) → Stands d at bs → at + length bs ≤ last → last ≤ length d → tail d last at ≡ bs ++ tail d last (at + length bs)
+stands_tail : (d : List ℕ) (last at : ℕ) (bs : List ℕ) → HasBytes d at bs → at + length bs ≤ last → last ≤ length d → tail d last at ≡ bs ++ tail d last (at + length bs)
 stands_tail d last at [] h fit le = ap (tail d last) (let e : at ≡ at + 0 = omega arith in e)
 stands_tail d last at (b ∷ bs) h fit le =
     tail_cons d last at (omega arith) le

@@ -6,7 +6,7 @@ use Rattle.disk_model.specs.declared.change.Change.{Change}
 use Rattle.disk_model.specs.declared.change.NamedFile.{NamedFile}
 use Rattle.disk_model.specs.Files.{IsFormed, Follow}
 use Rattle.disk_model.specs.Spelling.{body_of}
-use Rattle.disk_model.specs.Held.{Reads, IsRecord, Stands, selected_half, end_of}
+use Rattle.disk_model.specs.Held.{Reads, IsRecord, HasBytes, selected_half, end_of}
 use Rattle.journal.specs.declared.fault.DiskFault.{DiskFault}
 use Rattle.journal.specs.declared.fault.DiskFault.TheVariants.{BadRecord, BadChange, PastHalf, OutOfMemory}
 
@@ -22,7 +22,7 @@ size_after disk gate = from_le_bytes w32 (take 4 (drop (gate + 1) disk))
 
 -- no list of formed changes has the length that is told and stands after it as a body
 abbrev pub HasNoBody : List ℕ → ℕ → Type 0
-HasNoBody disk gate = (cs : List Change) → AllByRecursion IsFormed cs → length (body_of cs) ≡ size_after disk gate → Stands disk (gate + 5) (body_of cs) → ⊥
+HasNoBody disk gate = (cs : List Change) → AllByRecursion IsFormed cs → length (body_of cs) ≡ size_after disk gate → HasBytes disk (gate + 5) (body_of cs) → ⊥
 
 -- what is wrong with the record after this open gate, with these files before it, in a half that ends before `last`. Its next gate
 -- lies past the half; else its body is no list of changes; else one of its changes is not possible

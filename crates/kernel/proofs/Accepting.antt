@@ -7,7 +7,7 @@ use Rattle.std.proofs.lemmas.List.{append_assoc, append-nil}
 use Rattle.std.proofs.lemmas.List.Sums.{sum_by-cons}
 use Rattle.std.proofs.lemmas.Option.{slice_get_within}
 use Rattle.disk_model.specs.Storage.{is_empty, piece_at}
-use Rattle.machine_model.specs.States.{stands_at}
+use Rattle.machine_model.specs.States.{stopped_at}
 use Rattle.kernel_model.specs.Answers.{Kernel, Lending, AllAccepted, at_boot, Test, ◌⇒◌, first_of, now, process_of, refusal, turn_refusal, enter_refusal, cut_refusal, write_refusal, has_ended, is_stopped, count_at, limit, is_lent, is_full, lending_at, quantum_out, loans_out, uncommitted, never_lent, with_child, with_event, with_events}
 use Rattle.kernel_model.specs.Loans.{LoanResult, events_of, settled_answer, outcome_after}
 use Rattle.kernel_model.specs.Rows.{most_processes}
@@ -206,14 +206,14 @@ number-few k (Fail at) few h = omega (arith, few)
 
 -- ---- the sums of a result's events
 pub turns-of : (r : LoanResult) → sum_of_turns (events_of r) ≡ r.process
-turns-of r = by (is_some (stands_at r.reached.state))
+turns-of r = by (is_some (stopped_at r.reached.state))
   where
     by : (b : Bool) → sum_of_turns (Turn r.process r.reached.count ∷ (if b then Enter r.process ∷ [] else [])) ≡ r.process
     by true = omega arith
     by false = omega arith
 
 pub enters-of : (k : Kernel) (r : LoanResult) → sum_of_enters (events_of r) ≡ (if tells_enter (settled_answer k r) then r.process else 0)
-enters-of k r = by (is_some (stands_at r.reached.state))
+enters-of k r = by (is_some (stopped_at r.reached.state))
   where
     by : (b : Bool) → sum_of_enters (Turn r.process r.reached.count ∷ (if b then Enter r.process ∷ [] else []))
         ≡ (if tells_enter (answer_of.Settled r.reached.count r.reached.stop (if b then Some (outcome_after k r.process r.reached.count) else None)) then r.process else 0)

@@ -5,7 +5,7 @@ use Rattle.std.specs.List.{AllByRecursion}
 use Rattle.std.proofs.lemmas.List.{length-append}
 use Rattle.std.proofs.lemmas.List.Sums.{sum_by-append}
 use Rattle.disk_model.proofs.Lists.{each_append}
-use Rattle.machine_model.specs.States.{stands_at}
+use Rattle.machine_model.specs.States.{stopped_at}
 use Rattle.kernel_model.specs.Answers.{Kernel, Lending, Applies, AllAccepted, at_boot, now, committed, changes}
 use Rattle.kernel_model.specs.Loans.{LoanOut, LoanResult, Lends, returned, events_of}
 use Rattle.kernel_model.specs.Ran.{ran_by_turns, ran_in}
@@ -17,7 +17,7 @@ use Rattle.kernel_model.specs.declared.answer.Refused.{Refused}
 use Rattle.kernel_model.specs.declared.event.Event.{Event}
 use Rattle.kernel_model.specs.declared.event.Event.TheVariants.{Turn, Enter}
 use Rattle.kernel_step.specs.Loaned.{loan_result}
-use Rattle.kernel_step.specs.Stands.{Stands, Steps, TakesBack, kernel_in}
+use Rattle.kernel_step.specs.Represents.{Represents, Steps, TakesBack, kernel_in}
 use Rattle.kernel_step.proofs.FewLoans.{out-lent}
 use Rattle.kernel_step.specs.declared.loan.Done.{Done}
 use Rattle.kernel_step.specs.declared.loan.Rejected.{Rejected}
@@ -29,7 +29,7 @@ use Rattle.kernel.specs.declared.sums.Sums.{Sums}
 use Rattle.kernel.proofs.Accepting.{accepted-from-boot, number-few, turns-of, enters-of}
 
 -- the history stays
-pub still-core : (b : Boot) (old new : Running) (sums : Sums) → IsCore b old sums → Stands b new → new.history.items ≡ old.history.items → IsCore b new sums
+pub still-core : (b : Boot) (old new : Running) (sums : Sums) → IsCore b old sums → Represents b new → new.history.items ≡ old.history.items → IsCore b new sums
 still-core b old new sums h stands same = record {
   booted = h.booted;
   stands = stands;
@@ -43,7 +43,7 @@ still-core b old new sums h stands same = record {
 }
 
 -- these events join the history, each accepted where it stands
-grown-core : (b : Boot) (old new : Running) (sums later : Sums) (lendings : List Lending) (last : ℕ) (es : List Event) → IsCore b old sums → Stands b new
+grown-core : (b : Boot) (old new : Running) (sums later : Sums) (lendings : List Lending) (last : ℕ) (es : List Event) → IsCore b old sums → Represents b new
     → AllAccepted (record { boot = b; history = old.history.items; lendings = lendings; last_lent = last }) es → new.history.items ≡ old.history.items ++ es
     → later.turns ≡ sums.turns + sum_of_turns es → later.enters ≡ sums.enters + sum_of_enters es
     → AllByRecursion (λ e. process_of_turn e + process_of_enter e ≤ most_processes) es → sum_of_turns es + sum_of_enters es ≤ most_processes * length es → IsCore b new later
@@ -76,7 +76,7 @@ applied-core b old new sums later e (Err why) h s turns enters same =
 
 settled-numbers : (k : Kernel) (r : LoanResult) → length (now k).sync.processes ≤ most_processes → AllAccepted k (events_of r)
     → AllByRecursion (λ e. process_of_turn e + process_of_enter e ≤ most_processes) (events_of r)
-settled-numbers k r few fine = by (is_some (stands_at r.reached.state))
+settled-numbers k r few fine = by (is_some (stopped_at r.reached.state))
   where
     one : r.process + 0 ≤ most_processes
     one = number-few k (Turn r.process r.reached.count) few fine.0
@@ -87,7 +87,7 @@ settled-numbers k r few fine = by (is_some (stands_at r.reached.state))
 
 settled-few : (k : Kernel) (r : LoanResult) → length (now k).sync.processes ≤ most_processes → AllAccepted k (events_of r)
     → sum_of_turns (events_of r) + sum_of_enters (events_of r) ≤ most_processes * length (events_of r)
-settled-few k r few fine = by (is_some (stands_at r.reached.state))
+settled-few k r few fine = by (is_some (stopped_at r.reached.state))
   where
     one : r.process + 0 ≤ most_processes
     one = number-few k (Turn r.process r.reached.count) few fine.0
@@ -114,7 +114,7 @@ settled-core b old new sums later done (Err r) h s turns enters same =
     still-core b old new later (subst (λ (z : Sums). IsCore b old z) (sym same) h) s.stands (ap (λ (k : Kernel). k.history) s.settles.err)
 
 -- a loan joins no history
-pub lent-core : (b : Boot) (old new : Running) (sums : Sums) (quantum : ℕ) (result : Result (Option LoanOut) Refused) → IsCore b old sums → Stands b new
+pub lent-core : (b : Boot) (old new : Running) (sums : Sums) (quantum : ℕ) (result : Result (Option LoanOut) Refused) → IsCore b old sums → Represents b new
     → Lends (kernel_in b old) quantum (kernel_in b new) result → IsCore b new sums
 lent-core b old new sums quantum (Ok None) h stands lends = still-core b old new sums h stands (ap (λ (k : Kernel). k.history) lends.1.1)
 lent-core b old new sums quantum (Ok (Some loan)) h stands lends = still-core b old new sums h stands (ap (λ (k : Kernel). k.history) lends.1.noted)

@@ -6,7 +6,7 @@ ghost use Rattle.kernel_model.specs.Loans.{Lends};
 ghost use Rattle.kernel_model.specs.World.{Boot};
 ghost use Rattle.kernel_step.specs.Known.{IsKnownResult};
 ghost use Rattle.kernel_step.specs.Loaned.{lent_out, Settles};
-ghost use Rattle.kernel_step.specs.Stands.{Stands, kernel_in};
+ghost use Rattle.kernel_step.specs.Represents.{Represents, kernel_in};
 
 use crate::sums::Sums;
 use byte_list::Bytes;
@@ -66,7 +66,7 @@ impl Model for Core {
 
     ghost coded = { kernel_code };
 
-    ghost use Rattle.kernel_step.specs.Stands.{kernel_in};
+    ghost use Rattle.kernel_step.specs.Represents.{kernel_in};
     ghost use Rattle.kernel.specs.Booting.{boot_of};
     ghost use Rattle.kernel.specs.Parts.{IsCore};
 
@@ -78,7 +78,7 @@ impl Model for Core {
 impl Core {
     /// The parts alone, which stand for the run.
     pub(crate) fn into_running(self) -> Running
-        ensures { (b : Boot) × Stands b result × (kernel_in b result ≡ self) }
+        ensures { (b : Boot) × Represents b result × (kernel_in b result ≡ self) }
     {
         let Core {
             booted: _booted,

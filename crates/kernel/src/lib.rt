@@ -21,6 +21,8 @@ pub use disk_model::Piece;
 pub use journal::DiskFault;
 pub use kernel_laws::{cones, counts_never_fall, drains_are_events, interleavings, runs_go_on};
 pub use kernel_model::{Answer, Event, Outcome, Refused, Standing};
-pub use kernel_step::{ConeFault, Done, Footprints, KernelTables, Loan, Machine, Program, Rejected};
+pub use kernel_step::{
+    ConeFault, Done, Footprints, KernelTables, Loan, Machine, Program, Rejected,
+};
 pub use known::known_loans_stay;
 pub use simdisk::SimDisk;

@@ -8,7 +8,7 @@ use Rattle.formats.specs.declared.instr.Instr.{Instr}
 use Rattle.formats.specs.declared.instr.Instr.TheVariants as instr
 use Rattle.memory_model.specs.Memory.{Memory, Cell}
 use Rattle.memory_model.specs.Access.{HoldsBytes, byte_of, fetched, low_bytes, put_bytes, size, stored, to_write, access_fault, with_byte}
-use Rattle.machine_model.specs.Effects.{Hart, Effect, Becomes, Stands, effect, jumps, load_effect, store_effect, stores, reg}
+use Rattle.machine_model.specs.Effects.{ArchitecturalState, InstructionEffect, Becomes, Stops, effect, jumps, load_effect, store_effect, stores, reg}
 use Rattle.machine_model.specs.States.{State, Stepped, Goes, Halts, Ran, counted, by_instr, by_fetch, next, run}
 use Rattle.machine_model.specs.First.{byte_at, has_page, stack_cell, first_cell, first_state}
 use Rattle.machine_model.specs.Images.{Program}
@@ -48,30 +48,30 @@ low_bytes-small (suc n) value = (omega arith, low_bytes-small n (value / 2 ^ 8))
 stored-holds : (m : Memory) (at : ℕ) (width : Width) (value : ℕ) → HoldsBytes m → HoldsBytes (stored m at width value)
 stored-holds m at width value h = put_bytes-holds (low_bytes (size width) value) m at (low_bytes-small (size width) value) h
 
--- the memory of the hart that an instruction makes, if it makes one, holds bytes
-abbrev MakesBytes : Effect → Type 0
+-- the memory of the architectural state that an instruction makes, if it makes one, holds bytes
+abbrev MakesBytes : InstructionEffect → Type 0
 MakesBytes (Becomes h) = HoldsBytes h.memory
-MakesBytes (Stands stop) = Unit {0}
+MakesBytes (Stops stop) = Unit {0}
 
-jump_makes : (h : Hart) (registers : List ℕ) (target : ℕ) → HoldsBytes h.memory → MakesBytes (jumps h registers target)
+jump_makes : (h : ArchitecturalState) (registers : List ℕ) (target : ℕ) → HoldsBytes h.memory → MakesBytes (jumps h registers target)
 jump_makes h registers target m = by (target % 4 == 0)
   where
-    by : (b : Bool) → MakesBytes (if b then Becomes (record { registers = registers; pc = target; memory = h.memory }) else Stands (Trap cause.MisalignedTarget))
+    by : (b : Bool) → MakesBytes (if b then Becomes (record { registers = registers; pc = target; memory = h.memory }) else Stops (Trap cause.MisalignedTarget))
     by true = m
     by false = tt
 
-load_makes : (h : Hart) (rd : ℕ) (extended : ℕ → ℕ) (r : Result ℕ BusFault) → HoldsBytes h.memory → MakesBytes (load_effect h rd extended r)
+load_makes : (h : ArchitecturalState) (rd : ℕ) (extended : ℕ → ℕ) (r : Result ℕ BusFault) → HoldsBytes h.memory → MakesBytes (load_effect h rd extended r)
 load_makes h rd extended (Ok value) m = m
 load_makes h rd extended (Err fault) m = tt
 
-store_makes : (h : Hart) (at : ℕ) (width : Width) (value : ℕ) → HoldsBytes h.memory → MakesBytes (stores h at width value)
+store_makes : (h : ArchitecturalState) (at : ℕ) (width : Width) (value : ℕ) → HoldsBytes h.memory → MakesBytes (stores h at width value)
 store_makes h at width value m = by (access_fault to_write h.memory at width)
   where
     by : (f : Option BusFault) → MakesBytes (store_effect h (stored h.memory at width value) f)
     by None = stored-holds h.memory at width value m
     by (Some fault) = tt
 
-effect_makes : (i : Instr) (h : Hart) → HoldsBytes h.memory → MakesBytes (effect i h)
+effect_makes : (i : Instr) (h : ArchitecturalState) → HoldsBytes h.memory → MakesBytes (effect i h)
 unfolding effect
 effect_makes (instr.Lui rd imm) h m = m
 effect_makes (instr.Auipc rd imm) h m = m
@@ -125,31 +125,31 @@ effect_makes instr.Ebreak h m = tt
 
 -- so does the memory of the state that comes next
 abbrev GoesToBytes : Stepped → Type 0
-GoesToBytes (Goes t) = HoldsBytes t.hart.memory
+GoesToBytes (Goes t) = HoldsBytes t.architectural.memory
 GoesToBytes (Halts stop) = Unit {0}
 
-counted_goes : (count : ℕ) (e : Effect) → MakesBytes e → GoesToBytes (counted count e)
+counted_goes : (count : ℕ) (e : InstructionEffect) → MakesBytes e → GoesToBytes (counted count e)
 counted_goes count (Becomes h) m = m
-counted_goes count (Stands stop) m = tt
+counted_goes count (Stops stop) m = tt
 
-instr_goes : (s : State) (o : Option Instr) → HoldsBytes s.hart.memory → GoesToBytes (by_instr s o)
+instr_goes : (s : State) (o : Option Instr) → HoldsBytes s.architectural.memory → GoesToBytes (by_instr s o)
 instr_goes s None m = tt
-instr_goes s (Some i) m = counted_goes s.count (effect i s.hart) (effect_makes i s.hart m)
+instr_goes s (Some i) m = counted_goes s.count (effect i s.architectural) (effect_makes i s.architectural m)
 
-fetch_goes : (s : State) (r : Result ℕ BusFault) → HoldsBytes s.hart.memory → GoesToBytes (by_fetch s r)
+fetch_goes : (s : State) (r : Result ℕ BusFault) → HoldsBytes s.architectural.memory → GoesToBytes (by_fetch s r)
 fetch_goes s (Err fault) m = tt
 fetch_goes s (Ok word) m = instr_goes s (instr_of word) m
 
-next_goes : (s : State) → HoldsBytes s.hart.memory → GoesToBytes (next s)
+next_goes : (s : State) → HoldsBytes s.architectural.memory → GoesToBytes (next s)
 unfolding next
-next_goes s m = fetch_goes s (fetched s.hart.memory s.hart.pc) m
+next_goes s m = fetch_goes s (fetched s.architectural.memory s.architectural.pc) m
 
 -- and of each that a run comes to
-pub run_holds : (n : ℕ) (s : State) → HoldsBytes s.hart.memory → HoldsBytes (run n s).state.hart.memory
-run_holds zero s m = subst (λ (r : Ran). HoldsBytes r.state.hart.memory) (sym (run-zero s)) m
-run_holds (suc n) s m = elim (next s) as (λ o. next s ≡ o → GoesToBytes o → HoldsBytes (run (suc n) s).state.hart.memory) [
-  | Goes t ↦ λ e k. subst (λ (r : Ran). HoldsBytes r.state.hart.memory) (sym (run-goes n s t e)) (run_holds n t k)
-  | Halts stop ↦ λ e k. subst (λ (r : Ran). HoldsBytes r.state.hart.memory) (sym (run-halts n s stop e)) m
+pub run_holds : (n : ℕ) (s : State) → HoldsBytes s.architectural.memory → HoldsBytes (run n s).state.architectural.memory
+run_holds zero s m = subst (λ (r : Ran). HoldsBytes r.state.architectural.memory) (sym (run-zero s)) m
+run_holds (suc n) s m = elim (next s) as (λ o. next s ≡ o → GoesToBytes o → HoldsBytes (run (suc n) s).state.architectural.memory) [
+  | Goes t ↦ λ e k. subst (λ (r : Ran). HoldsBytes r.state.architectural.memory) (sym (run-goes n s t e)) (run_holds n t k)
+  | Halts stop ↦ λ e k. subst (λ (r : Ran). HoldsBytes r.state.architectural.memory) (sym (run-halts n s stop e)) m
 ] refl (next_goes s m)
 
 -- ---- replies
@@ -184,7 +184,7 @@ cell_small [] a small = stack_small a
 cell_small (s ∷ segments) a small = either_small (has_page s (a / 4096)) _ _ (segment_small s a small.0) (cell_small segments a small.1)
 
 -- the first state of a program whose segments hold bytes does
-pub first_holds : (p : Program) → ProgramHoldsBytes p → HoldsBytes (first_state p).hart.memory
+pub first_holds : (p : Program) → ProgramHoldsBytes p → HoldsBytes (first_state p).architectural.memory
 first_holds p small q = subst (λ (o : Option Cell). byte_of o < 256) (sym (get-memory_of (first_cell p.segments) q)) (by (nat_lt q (2 ^ 32)))
   where
     by : (t : Bool) → byte_of (cond t (first_cell p.segments q) None) < 256
@@ -196,9 +196,9 @@ pub record CarriesBytes (r : Reply) : Type 0 where
   pub bytes : AreBytes r.bytes
   pub image : IfSome r.image ProgramHoldsBytes
 
-pub replied_holds : (s : State) (r : Reply) → CarriesBytes r → HoldsBytes s.hart.memory → HoldsBytes (replied s r).hart.memory
+pub replied_holds : (s : State) (r : Reply) → CarriesBytes r → HoldsBytes s.architectural.memory → HoldsBytes (replied s r).architectural.memory
 replied_holds s r carries m = by r.image carries.image
   where
-    by : (o : Option Program) → IfSome o ProgramHoldsBytes → HoldsBytes (replied_by s r o).hart.memory
-    by None image = put_bytes-holds r.bytes s.hart.memory r.at carries.bytes m
+    by : (o : Option Program) → IfSome o ProgramHoldsBytes → HoldsBytes (replied_by s r o).architectural.memory
+    by None image = put_bytes-holds r.bytes s.architectural.memory r.at carries.bytes m
     by (Some p) image = first_holds p image

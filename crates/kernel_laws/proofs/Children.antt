@@ -1,7 +1,7 @@
 -- Of all events a fork alone makes a process, which is the next by number.
 use Rattle.std.proofs.Common.{◌≡◌, ℕ, ◌≤◌, false, length, Option, Some, None, refl, arith}
 use Rattle.std.proofs.lemmas.Bool.{ne_eqb}
-use Rattle.kernel_model.specs.Rows.{Effect}
+use Rattle.kernel_model.specs.Rows.{CallEffect}
 use Rattle.kernel_model.specs.Shown.{is_made}
 use Rattle.kernel_model.specs.State.{SyncState, Process, process_at}
 use Rattle.kernel_model.specs.Steps.{Transition, after_effect, step}
@@ -12,7 +12,7 @@ use Rattle.kernel_model.proofs.Transitions.{call_of, of_step}
 use Rattle.kernel_model.proofs.ChildRows.{IsNoneOrNextProcess, call_next}
 use Rattle.kernel_model.proofs.Limits.{at_below}
 
-effect_next : (s : SyncState) (q : ℕ) (y : Process) (e : Effect) (v : Verdict) → IsNoneOrNextProcess (length s.processes) e.child
+effect_next : (s : SyncState) (q : ℕ) (y : Process) (e : CallEffect) (v : Verdict) → IsNoneOrNextProcess (length s.processes) e.child
     → IsNoneOrNextProcess (length s.processes) (after_effect s q y e v).entry.child
 effect_next s q y e Waits next = tt
 effect_next s q y e (Replies r) next = next

@@ -11,7 +11,7 @@ use Rattle.kernel_model.specs.Answers.{Kernel, at_boot, now, answer, ran_by, ent
 use Rattle.kernel_model.specs.Entries.{Entry, Item, is_same, is_among, meets}
 use Rattle.kernel_model.specs.Limits.{AreNumbered}
 use Rattle.kernel_model.specs.Paths.{RestsOn, wanted, change_count, changes_in_log}
-use Rattle.kernel_model.specs.Rows.{Effect}
+use Rattle.kernel_model.specs.Rows.{CallEffect}
 use Rattle.kernel_model.specs.Shown.{released, bytes_for, printed, told}
 use Rattle.kernel_model.specs.State.{SyncState, Process, process_at}
 use Rattle.kernel_model.specs.Steps.{Transition, after_effect, step}
@@ -139,7 +139,7 @@ does_by b es e =
 abbrev ReadsOwn : SyncState → SyncState → ℕ → Transition → Type 0
 ReadsOwn u v pid t = Agree u v t.entry.reads → AgreeOn u v (Proc pid)
 
-effect_own : (u v : SyncState) (pid : ℕ) (p : Process) (e : Effect) (verdict : Verdict) → ReadsOwn u v pid (after_effect u pid p e verdict)
+effect_own : (u v : SyncState) (pid : ℕ) (p : Process) (e : CallEffect) (verdict : Verdict) → ReadsOwn u v pid (after_effect u pid p e verdict)
 effect_own u v pid p e Waits a = a.0
 effect_own u v pid p e (Replies r) a = a.0
 effect_own u v pid p e (Ends status) a = a.0

@@ -3,12 +3,12 @@ use Rattle.std.proofs.Common.{append-nil, ◌≡◌, ℕ, ◌+◌, Bool, true, f
 use Rattle.std.proofs.lemmas.Bool.{eq-eqb}
 use Rattle.machine_model.specs.declared.reply.Reply.{Reply}
 use Rattle.machine_model.specs.declared.stop.Stop.TheVariants.{Call}
-use Rattle.machine_model.specs.States.{State, stands_at}
+use Rattle.machine_model.specs.States.{State, stopped_at}
 use Rattle.machine_model.specs.Replies.{replied}
 use Rattle.kernel_model.specs.Entries.{Entry}
 use Rattle.kernel_model.specs.State.{SyncState, Process, process_at, put_process}
 use Rattle.machine_model.specs.Numbers.{cause_number}
-use Rattle.kernel_model.specs.Rows.{Effect}
+use Rattle.kernel_model.specs.Rows.{CallEffect}
 use Rattle.kernel_model.specs.Steps.{unchanged, Transition, impossible, after_run, after_reply, zero_reply, forked, after_end, after_effect, step}
 use Rattle.kernel_model.specs.Shown.{is_made}
 use Rattle.kernel_model.specs.World.{World, Boot, first_world, happens, after}
@@ -28,7 +28,7 @@ use Rattle.kernel_laws.proofs.Replies.{replies_of, replies_of-made, goes_on}
 record IsMadeBy (s : SyncState) (t : Transition) (p : ℕ) (new : Process) : Type 0 where
   parent : Process
   there : process_at s.processes t.entry.process ≡ Some parent
-  stands : stands_at parent.state ≡ Some Call
+  stands : stopped_at parent.state ≡ Some Call
   made : is_made t.entry.child p ≡ true
   state : new.state ≡ replied parent.state zero_reply
 
@@ -57,7 +57,7 @@ forked_new s p q x y new (Some child) next none there =
     let same : child ≡ p = omega (arith, next, last.0, put_length s.processes q x) in
     (eq-eqb child p same, ap (λ (z : Process). z.state) (sym last.1))
 
-effect_new : (s : SyncState) (p q : ℕ) (y new : Process) (e : Effect) (v : Verdict) → process_at s.processes q ≡ Some y → stands_at y.state ≡ Some Call
+effect_new : (s : SyncState) (p q : ℕ) (y new : Process) (e : CallEffect) (v : Verdict) → process_at s.processes q ≡ Some y → stopped_at y.state ≡ Some Call
     → IsNoneOrNextProcess (length s.processes) e.child → MakesNew s p new (after_effect s q y e v)
 effect_new s p q y new e Waits at call next = same_new s p new (after_effect s q y e Waits) refl
 effect_new s p q y new e (Replies r) at call next = λ none there.

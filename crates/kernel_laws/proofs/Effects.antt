@@ -10,7 +10,7 @@ use Rattle.disk_model.specs.Numbers.{at_place}
 use Rattle.kernel_model.specs.Entries.{is_among}
 use Rattle.kernel_model.specs.Limits.{AreNumbered}
 use Rattle.kernel_model.specs.Requests.{request_of}
-use Rattle.kernel_model.specs.Rows.{Effect, Directory, directory, number_named, ends_of, carrier_of, loser_carriers}
+use Rattle.kernel_model.specs.Rows.{CallEffect, Directory, directory, number_named, ends_of, carrier_of, loser_carriers}
 use Rattle.kernel_model.specs.State.{SyncState, Process, shared, changed_by, read_by, all_stepped}
 use Rattle.kernel_model.specs.Steps.{change_by, effect_at}
 use Rattle.kernel_model.specs.declared.carrier.Carrier.{Carrier}
@@ -37,7 +37,7 @@ pub record Kept (s : SyncState) (file : Option FileEdit) (tape : Option TapeRead
   pub tapes : (k : ℕ) → is_among (carrier.Tape k) writes ≡ false → slice_get (read_by s.tapes tape) k ≡ slice_get s.tapes k
   pub child : IfSome made (λ c. (c ≡ length s.processes + 1) × (is_among carrier.Tasks writes ≡ true) × (is_among (carrier.Proc c) writes ≡ true))
 
-abbrev pub Keeps : SyncState → Effect → Type 0
+abbrev pub Keeps : SyncState → CallEffect → Type 0
 Keeps s e = Kept s e.edit e.tape e.pipes e.child e.writes
 
 -- What two states agree on they agree on afterwards.
@@ -50,7 +50,7 @@ pub record Carried (s t : SyncState) (file : Option FileEdit) (tape : Option Tap
   pub child : IfSome made (λ c. AgreeOn s t carrier.Tasks)
 
 -- .. where they agree on what it reads
-abbrev pub Carries : SyncState → SyncState → Effect → Type 0
+abbrev pub Carries : SyncState → SyncState → CallEffect → Type 0
 Carries s t e = Agree s t e.reads → Carried s t e.edit e.tape e.pipes e.child
 
 -- ---- an effect of none of these parts
@@ -249,11 +249,11 @@ each_carries s t ds children r are too = record {
 }
 
 -- of what comes of a call or a trap
-pub effect_keeps : (s : SyncState) (pid : ℕ) (p : Process) (stop : Option Stop) (e : Effect) → AreNumbered s.files → effect_at (shared s) pid p stop ≡ Some e → Keeps s e
+pub effect_keeps : (s : SyncState) (pid : ℕ) (p : Process) (stop : Option Stop) (e : CallEffect) → AreNumbered s.files → effect_at (shared s) pid p stop ≡ Some e → Keeps s e
 effect_keeps s pid p stop e are is =
-    subst (λ (o : Option Effect). IfSome o (Keeps s)) is (of_effect (Keeps s) (shared s) pid p stop (each_keeps s p.descriptors p.children (request_of p.state) are))
+    subst (λ (o : Option CallEffect). IfSome o (Keeps s)) is (of_effect (Keeps s) (shared s) pid p stop (each_keeps s p.descriptors p.children (request_of p.state) are))
 
-pub effect_carries : (s t : SyncState) (pid : ℕ) (p : Process) (stop : Option Stop) (e : Effect) → AreNumbered s.files → AreNumbered t.files
+pub effect_carries : (s t : SyncState) (pid : ℕ) (p : Process) (stop : Option Stop) (e : CallEffect) → AreNumbered s.files → AreNumbered t.files
     → effect_at (shared s) pid p stop ≡ Some e → Carries s t e
 effect_carries s t pid p stop e are too is =
-    subst (λ (o : Option Effect). IfSome o (Carries s t)) is (of_effect (Carries s t) (shared s) pid p stop (each_carries s t p.descriptors p.children (request_of p.state) are too))
+    subst (λ (o : Option CallEffect). IfSome o (Carries s t)) is (of_effect (Carries s t) (shared s) pid p stop (each_carries s t p.descriptors p.children (request_of p.state) are too))

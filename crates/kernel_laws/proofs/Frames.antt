@@ -5,13 +5,13 @@ use Rattle.std.specs.Prelude.{if◌then◌else◌, option_map}
 use Rattle.std.proofs.lemmas.Bool.{false≢true, or_parts, ne_eqb}
 use Rattle.disk_model.specs.Numbers.{Numbered, place_of}
 use Rattle.disk_model.specs.declared.change.Change.TheVariants as change
-use Rattle.machine_model.specs.States.{stands_at}
+use Rattle.machine_model.specs.States.{stopped_at}
 use Rattle.machine_model.specs.declared.stop.Stop.{Stop}
 use Rattle.machine_model.specs.declared.stop.Stop.TheVariants.{Limit, Call, Trap}
 use Rattle.kernel_model.specs.Entries.{Entry, is_among}
 use Rattle.kernel_model.specs.Limits.{AreNumbered}
 use Rattle.kernel_model.specs.Requests.{request_of}
-use Rattle.kernel_model.specs.Rows.{Effect}
+use Rattle.kernel_model.specs.Rows.{CallEffect}
 use Rattle.kernel_model.specs.State.{SyncState, Process, shared, process_at, put_process}
 use Rattle.kernel_model.specs.Steps.{Transition, impossible, own_entry, after_run, after_turn, after_reply, after_end, change_by, effect_at, after_effect, after_effect_if, after_enter, step}
 use Rattle.kernel_model.specs.declared.carrier.Carrier.{Carrier}
@@ -83,7 +83,7 @@ off_count : (s : SyncState) (writes : List Carrier) (child : Option ℕ)
 off_count s writes None made h = add-zero (length s.processes)
 off_count s writes (Some child) made h = absurd (false≢true (sym h ∙ made.1))
 
-effect_keeps_but : (s : SyncState) (pid : ℕ) (p : Process) (e : Effect) (v : Verdict) → process_at s.processes pid ≡ Some p → Keeps s e → KeepsBut s (after_effect s pid p e v)
+effect_keeps_but : (s : SyncState) (pid : ℕ) (p : Process) (e : CallEffect) (v : Verdict) → process_at s.processes pid ≡ Some p → Keeps s e → KeepsBut s (after_effect s pid p e v)
 effect_keeps_but s pid p e Waits at keeps c h = agree_refl s c
 effect_keeps_but s pid p e (Replies r) at keeps (Proc q) h =
     let both = or_parts (q == pid) (is_among (Proc q) e.writes) h in
@@ -107,7 +107,7 @@ effect_keeps_but s pid p e (Ends status) at keeps (Tape k) h = refl
 pub step_keeps_but : (s : SyncState) (e : Event) → AreNumbered s.files → KeepsBut s (step s e)
 step_keeps_but s e are = of_step (KeepsBut s) s (λ c h. agree_refl s c)
     (λ pid. each_event (KeepsBut s) s pid (λ c h. agree_refl s c) (λ n p at lives. turn_keeps s pid n p at)
-    (λ p f at lives is. effect_keeps_but s pid p f f.verdict at (effect_keeps s pid p (stands_at p.state) f are is))) e
+    (λ p f at lives is. effect_keeps_but s pid p f f.verdict at (effect_keeps s pid p (stopped_at p.state) f are is))) e
 
 -- ---- what it does, and what two states agree on
 pub record Framed (s t : SyncState) (a b : Transition) : Type 0 where
@@ -181,7 +181,7 @@ module _ (s t : SyncState) (pid : ℕ) (p : Process) (at : process_at s.processe
       ap (λ (n : ℕ). if n + 1 == q then Some y else if pid == q then Some x else process_at s.processes q) known
       ∙ ap (λ (o : Option Process). if length t.processes + 1 == q then Some y else if pid == q then Some x else o) a
 
-  effect_framed : (e : Effect) (v : Verdict) → Carried s t e.edit e.tape e.pipes e.child → is_some (change_by s.files e.edit) ≡ is_some e.edit → is_some (change_by t.files e.edit) ≡ is_some e.edit
+  effect_framed : (e : CallEffect) (v : Verdict) → Carried s t e.edit e.tape e.pipes e.child → is_some (change_by s.files e.edit) ≡ is_some e.edit → is_some (change_by t.files e.edit) ≡ is_some e.edit
       → Framed s t (after_effect s pid p e v) (after_effect t pid p e v)
   effect_framed e Waits carried makes also = still s t _ refl
   effect_framed e (Replies r) carried makes also = record {
@@ -216,19 +216,19 @@ module _ (s t : SyncState) (pid : ℕ) (p : Process) (at : process_at s.processe
       carries Tasks a = long_same (after_end p status) a
       carries (Tape k) a = a
 
-  reads_of : (e : Effect) (v : Verdict) → Agree s t (after_effect s pid p e v).entry.reads → Agree s t e.reads
+  reads_of : (e : CallEffect) (v : Verdict) → Agree s t (after_effect s pid p e v).entry.reads → Agree s t e.reads
   reads_of e Waits a = a.1
   reads_of e (Replies r) a = a.1
   reads_of e (Ends status) a = a.1
 
-  one_framed : (stop : Option Stop) (e f : Effect) → AreNumbered s.files → AreNumbered t.files → effect_at (shared s) pid p stop ≡ Some e → effect_at (shared t) pid p stop ≡ Some f
+  one_framed : (stop : Option Stop) (e f : CallEffect) → AreNumbered s.files → AreNumbered t.files → effect_at (shared s) pid p stop ≡ Some e → effect_at (shared t) pid p stop ≡ Some f
       → (Agree s t e.reads → f ≡ e) → Agree s t (after_effect s pid p e e.verdict).entry.reads
       → Framed s t (after_effect s pid p e e.verdict) (after_effect t pid p f f.verdict)
   one_framed stop e f are also is it same a =
       let known = reads_of e e.verdict a in
       let one : f ≡ e = same known in
-      let makes : is_some (change_by t.files e.edit) ≡ is_some e.edit = subst (λ (x : Effect). is_some (change_by t.files x.edit) ≡ is_some x.edit) one (effect_makes (shared t) pid p stop f it) in
-      subst (λ (x : Effect). Framed s t (after_effect s pid p e e.verdict) (after_effect t pid p x x.verdict)) (sym one)
+      let makes : is_some (change_by t.files e.edit) ≡ is_some e.edit = subst (λ (x : CallEffect). is_some (change_by t.files x.edit) ≡ is_some x.edit) one (effect_makes (shared t) pid p stop f it) in
+      subst (λ (x : CallEffect). Framed s t (after_effect s pid p e e.verdict) (after_effect t pid p x x.verdict)) (sym one)
       (effect_framed e e.verdict (effect_carries s t pid p stop e are also is known) (effect_makes (shared s) pid p stop e is) makes)
 
   stop_framed : (stop : Option Stop) → AreNumbered s.files → AreNumbered t.files → Agree s t (after_effect_if s pid p (effect_at (shared s) pid p stop)).entry.reads
@@ -240,11 +240,11 @@ module _ (s t : SyncState) (pid : ℕ) (p : Process) (at : process_at s.processe
   stop_framed (Some (Trap cause)) are also a = one_framed (Some (Trap cause)) _ _ are also refl refl (λ _. refl) a
 
   enter_framed : (b : Bool) → AreNumbered s.files → AreNumbered t.files
-      → Agree s t (if b then impossible pid s else after_effect_if s pid p (effect_at (shared s) pid p (stands_at p.state))).entry.reads
-      → Framed s t (if b then impossible pid s else after_effect_if s pid p (effect_at (shared s) pid p (stands_at p.state)))
-      (if b then impossible pid t else after_effect_if t pid p (effect_at (shared t) pid p (stands_at p.state)))
+      → Agree s t (if b then impossible pid s else after_effect_if s pid p (effect_at (shared s) pid p (stopped_at p.state))).entry.reads
+      → Framed s t (if b then impossible pid s else after_effect_if s pid p (effect_at (shared s) pid p (stopped_at p.state)))
+      (if b then impossible pid t else after_effect_if t pid p (effect_at (shared t) pid p (stopped_at p.state)))
   enter_framed true are also a = still s t _ refl
-  enter_framed false are also a = stop_framed (stands_at p.state) are also a
+  enter_framed false are also a = stop_framed (stopped_at p.state) are also a
 
 -- the process itself is read by each event of its own
 module _ (s t : SyncState) (pid : ℕ) where
@@ -256,7 +256,7 @@ module _ (s t : SyncState) (pid : ℕ) where
       by true a = a.0
       by false a = a.0
 
-  effect_reads : (p : Process) (o : Option Effect) → Agree s t (after_effect_if s pid p o).entry.reads → AgreeOn s t (Proc pid)
+  effect_reads : (p : Process) (o : Option CallEffect) → Agree s t (after_effect_if s pid p o).entry.reads → AgreeOn s t (Proc pid)
   effect_reads p None a = a.0
   effect_reads p (Some e) a = by e.verdict a
     where
@@ -269,9 +269,9 @@ module _ (s t : SyncState) (pid : ℕ) where
   enter_reads None a = a.0
   enter_reads (Some p) a = by (is_some p.status) a
     where
-      by : (b : Bool) → Agree s t (if b then impossible pid s else after_effect_if s pid p (effect_at (shared s) pid p (stands_at p.state))).entry.reads → AgreeOn s t (Proc pid)
+      by : (b : Bool) → Agree s t (if b then impossible pid s else after_effect_if s pid p (effect_at (shared s) pid p (stopped_at p.state))).entry.reads → AgreeOn s t (Proc pid)
       by true a = a.0
-      by false a = effect_reads p (effect_at (shared s) pid p (stands_at p.state)) a
+      by false a = effect_reads p (effect_at (shared s) pid p (stopped_at p.state)) a
 
   turn_of : (n : ℕ) (o : Option Process) → process_at s.processes pid ≡ o → process_at t.processes pid ≡ o → Framed s t (after_turn s pid n o) (after_turn t pid n o)
   turn_of n None at too = still s t _ refl

@@ -7,7 +7,7 @@ use Rattle.disk_model.proofs.Lists.{each_append}
 use Rattle.kernel_model.specs.Entries.{Entry, Item, Got, is_among, meets}
 use Rattle.kernel_model.specs.Limits.{AreNumbered}
 use Rattle.kernel_model.specs.Paths.{is_durable}
-use Rattle.kernel_model.specs.Rows.{Effect}
+use Rattle.kernel_model.specs.Rows.{CallEffect}
 use Rattle.kernel_model.specs.Shown.{Given, given_by, told_from, told_with, is_made, items_for, prefix, released}
 use Rattle.kernel_model.specs.State.{SyncState, Process}
 use Rattle.kernel_model.specs.Steps.{Transition, own_entry, zero_reply, after_run, after_reply, after_end, after_effect, step}
@@ -31,7 +31,7 @@ use Rattle.kernel_laws.proofs.Tidy.{IsTidy, step_tidy}
 use Rattle.kernel_laws.proofs.Visible.{log_idles, visible_closed, given_contents}
 
 -- ---- how many processes there are
-effect_long : (s : SyncState) (pid : ℕ) (p : Process) (e : Effect) (v : Verdict)
+effect_long : (s : SyncState) (pid : ℕ) (p : Process) (e : CallEffect) (v : Verdict)
     → length (after_effect s pid p e v).state.processes ≡ length s.processes + made_by (after_effect s pid p e v).entry.child
 effect_long s pid p e Waits = sym (add-zero (length s.processes))
 effect_long s pid p e (Replies r) = reply_long s.processes pid (after_reply p e r) p e.child

@@ -3,7 +3,7 @@ use Rattle.std.proofs.Common.{◌≡◌, ℕ, zero, suc, ◌+◌, List, [], ◌�
 use Rattle.machine_model.specs.declared.reply.Reply.{Reply}
 use Rattle.machine_model.specs.declared.stop.Stop.{Stop}
 use Rattle.machine_model.specs.declared.stop.Stop.TheVariants.{Call}
-use Rattle.machine_model.specs.States.{State, Goes, Halts, Ran, next, run, stands_at}
+use Rattle.machine_model.specs.States.{State, Goes, Halts, Ran, next, run, stopped_at}
 use Rattle.machine_model.specs.Replies.{replied}
 use Rattle.machine_model.proofs.Running.{run-zero, run-goes, run-halts}
 use Rattle.kernel_laws.specs.Promises.{ComesTo}
@@ -48,9 +48,9 @@ comes_on s [] t n h = (h.0 + n, run-add h.0 n s ∙ ap (λ (u : State). (run n u
 comes_on s (r ∷ rs) t n h = (h.0, h.1, comes_on (replied (run h.0 s).state r) rs t n h.2)
 
 -- and by one more reply, where it stands at a call
-pub comes_replied : (s : State) (rs : List Reply) (t : State) (r : Reply) → stands_at t ≡ Some Call → ComesTo s rs t → ComesTo s (rs ++ r ∷ []) (replied t r)
+pub comes_replied : (s : State) (rs : List Reply) (t : State) (r : Reply) → stopped_at t ≡ Some Call → ComesTo s rs t → ComesTo s (rs ++ r ∷ []) (replied t r)
 comes_replied s [] t r call h =
-    (h.0, ap (λ (u : State). stands_at u) h.1 ∙ call, (0, run_zero (replied (run h.0 s).state r) ∙ ap (λ (u : State). replied u r) h.1))
+    (h.0, ap (λ (u : State). stopped_at u) h.1 ∙ call, (0, run_zero (replied (run h.0 s).state r) ∙ ap (λ (u : State). replied u r) h.1))
 comes_replied s (x ∷ rs) t r call h = (h.0, h.1, comes_replied (replied (run h.0 s).state x) rs t r call h.2)
 
 pub comes_at_once : (s : State) → ComesTo s [] s

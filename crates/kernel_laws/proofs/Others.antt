@@ -1,9 +1,9 @@
 -- An event leaves other processes as they are, and finds and leaves the same wherever their machines are.
 use Rattle.std.proofs.Common.{◌≡◌, ℕ, zero, suc, ◌+◌, true, false, if◌then◌else◌, List, [], ◌∷◌, ◌++◌, map, length, length-append, slice_get, slice_set, Option, Some, None, is_some, refl, sym, ap, ◌∙◌, add-zero}
-use Rattle.machine_model.specs.States.{State, stands_at}
+use Rattle.machine_model.specs.States.{State, stopped_at}
 use Rattle.machine_model.specs.declared.reply.Reply.{Reply}
 use Rattle.kernel_model.specs.State.{SyncState, Shared, shared, Process, process_at, put_process, with_process}
-use Rattle.kernel_model.specs.Rows.{Effect}
+use Rattle.kernel_model.specs.Rows.{CallEffect}
 use Rattle.kernel_model.specs.Steps.{Transition, own_entry, impossible, after_run, after_reply, forked, after_end, after_turn, effect_at, after_effect, after_effect_if, after_enter, step}
 use Rattle.kernel_model.specs.declared.event.Event.{Event}
 use Rattle.kernel_model.specs.declared.event.Event.TheVariants.{Turn, Enter, Cut, Complete, Fail}
@@ -58,13 +58,13 @@ turn_moves s p q n x (Some z) ne = elim (is_some z.status) as (λ b.
     ]
 
 -- what an effect does, given what the processes become
-abbrev with_processes : SyncState → ℕ → Process → Effect → Verdict → List Process → Transition
+abbrev with_processes : SyncState → ℕ → Process → CallEffect → Verdict → List Process → Transition
 with_processes s q z e v ps = record {
   state = record (after_effect s q z e v).state { processes = ps };
   entry = (after_effect s q z e v).entry;
 }
 
-effect_moves : (s : SyncState) (p q : ℕ) (x y z : Process) (e : Effect) (v : Verdict) → process_at s.processes p ≡ Some y → (p ≡ q → ⊥)
+effect_moves : (s : SyncState) (p q : ℕ) (x y z : Process) (e : CallEffect) (v : Verdict) → process_at s.processes p ≡ Some y → (p ≡ q → ⊥)
     → after_effect (with_process s p x) q z e v ≡ moved p x (after_effect s q z e v)
 effect_moves s p q x y z e Waits at ne = refl
 effect_moves s p q x y z e (Replies r) at ne =
@@ -73,7 +73,7 @@ effect_moves s p q x y z e (Replies r) at ne =
     ∙ ap (with_processes s q z e (Replies r)) (sym (put_append (put_process s.processes q (after_reply z e r)) (forked z e.child) p x y there))
 effect_moves s p q x y z e (Ends status) at ne = ap (with_processes s q z e (Ends status)) (put_put s.processes p q x (after_end z status) ne)
 
-effect_if_moves : (s : SyncState) (p q : ℕ) (x y z : Process) (o : Option Effect) → process_at s.processes p ≡ Some y → (p ≡ q → ⊥)
+effect_if_moves : (s : SyncState) (p q : ℕ) (x y z : Process) (o : Option CallEffect) → process_at s.processes p ≡ Some y → (p ≡ q → ⊥)
     → after_effect_if (with_process s p x) q z o ≡ moved p x (after_effect_if s q z o)
 effect_if_moves s p q x y z None at ne = refl
 effect_if_moves s p q x y z (Some e) at ne = effect_moves s p q x y z e e.verdict at ne
@@ -82,12 +82,12 @@ enter_moves : (s : SyncState) (p q : ℕ) (y : Process) (t : State) (o : Option 
     → after_enter (with_process s p (at_state y t)) q o ≡ moved p (at_state y t) (after_enter s q o)
 enter_moves s p q y t None at ne = refl
 enter_moves s p q y t (Some z) at ne = elim (is_some z.status) as (λ b.
-    (if b then impossible q (with_process s p x) else after_effect_if (with_process s p x) q z (effect_at (shared (with_process s p x)) q z (stands_at z.state)))
-    ≡ moved p x (if b then impossible q s else after_effect_if s q z (effect_at (shared s) q z (stands_at z.state)))) [
+    (if b then impossible q (with_process s p x) else after_effect_if (with_process s p x) q z (effect_at (shared (with_process s p x)) q z (stopped_at z.state)))
+    ≡ moved p x (if b then impossible q s else after_effect_if s q z (effect_at (shared s) q z (stopped_at z.state)))) [
       | true ↦ refl
       | false ↦
-          ap (λ (seen : Shared). after_effect_if (with_process s p x) q z (effect_at seen q z (stands_at z.state))) (shared_same s p y t at)
-          ∙ effect_if_moves s p q x y z (effect_at (shared s) q z (stands_at z.state)) at ne
+          ap (λ (seen : Shared). after_effect_if (with_process s p x) q z (effect_at seen q z (stopped_at z.state))) (shared_same s p y t at)
+          ∙ effect_if_moves s p q x y z (effect_at (shared s) q z (stopped_at z.state)) at ne
     ]
   where
     x : Process
@@ -135,7 +135,7 @@ length-forked : (z : Process) (o : Option ℕ) → length (forked z o) ≡ made_
 length-forked z None = refl
 length-forked z (Some child) = refl
 
-reply_keeps : (s : SyncState) (q : ℕ) (z : Process) (e : Effect) (r : Reply) → Keeps s q (after_effect s q z e (Replies r))
+reply_keeps : (s : SyncState) (q : ℕ) (z : Process) (e : CallEffect) (r : Reply) → Keeps s q (after_effect s q z e (Replies r))
 reply_keeps s q z e r =
     let ps = put_process s.processes q (after_reply z e r) in
     record {
@@ -145,7 +145,7 @@ reply_keeps s q z e r =
           ∙ ap (λ (n : ℕ). length s.processes + n) (length-forked z e.child);
     }
 
-effect_keeps : (s : SyncState) (q : ℕ) (z : Process) (e : Effect) (v : Verdict) → Keeps s q (after_effect s q z e v)
+effect_keeps : (s : SyncState) (q : ℕ) (z : Process) (e : CallEffect) (v : Verdict) → Keeps s q (after_effect s q z e v)
 effect_keeps s q z e Waits = keeps_all s q (after_effect s q z e Waits) refl refl
 effect_keeps s q z e (Replies r) = reply_keeps s q z e r
 effect_keeps s q z e (Ends status) = keeps_others s q (after_effect s q z e (Ends status)) (after_end z status) refl refl

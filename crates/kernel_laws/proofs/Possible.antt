@@ -17,7 +17,7 @@ use Rattle.memory_model.specs.Memory.{Memory}
 use Rattle.machine_model.specs.declared.image.Segment.{Segment}
 use Rattle.machine_model.specs.declared.stop.Stop.{Stop}
 use Rattle.kernel_model.specs.Requests.{request_of}
-use Rattle.kernel_model.specs.Rows.{Effect, number, with_bytes as placed, ends_of, pipe_size}
+use Rattle.kernel_model.specs.Rows.{CallEffect, number, with_bytes as placed, ends_of, pipe_size}
 use Rattle.kernel_model.specs.State.{Process, Shared, PipeState, TapeState, unread}
 use Rattle.kernel_model.specs.Limits.{AreNumbered}
 use Rattle.kernel_model.specs.Steps.{change_by, effect_at}
@@ -73,7 +73,7 @@ abbrev pub PutBytes : List PipeStep → Type 0
 PutBytes steps = AllByRecursion PutsBytes steps
 
 -- The change is possible, and what is told and what is put into pipes are bytes.
-pub record IsSound (files : Numbered) (e : Effect) : Type 0 where
+pub record IsSound (files : Numbered) (e : CallEffect) : Type 0 where
   pub change : IfSome (change_by files e.edit) (IsPossible files.living)
   pub verdict : TellsBytes e.verdict
   pub pipes : PutBytes e.pipes
@@ -227,7 +227,7 @@ module _ (s : Shared) (ready : IsReadable s) (memory : Memory) (holds : HoldsByt
 
 -- what comes of a call or a trap is sound
 pub effect_sound : (s : Shared) (pid : ℕ) (p : Process) (stop : Option Stop) → IsReadable s
-    → HoldsBytes p.state.hart.memory → IfSome (effect_at s pid p stop) (IsSound s.files)
+    → HoldsBytes p.state.architectural.memory → IfSome (effect_at s pid p stop) (IsSound s.files)
 effect_sound s pid p stop ready holds =
     of_effect (IsSound s.files) s pid p stop
-    (each_sound s ready p.state.hart.memory holds p.descriptors p.children (request_of p.state) (asked_by p.state))
+    (each_sound s ready p.state.architectural.memory holds p.descriptors p.children (request_of p.state) (asked_by p.state))

@@ -4,12 +4,12 @@ use Rattle.std.proofs.lemmas.Bool.{eqb-true, eqb-false, eq-eqb}
 use Rattle.machine_model.specs.declared.reply.Reply.{Reply}
 use Rattle.machine_model.specs.declared.stop.Stop.{Stop}
 use Rattle.machine_model.specs.declared.stop.Stop.TheVariants.{Limit, Call, Trap}
-use Rattle.machine_model.specs.States.{State, stands_at}
+use Rattle.machine_model.specs.States.{State, stopped_at}
 use Rattle.kernel_model.specs.Entries.{Entry, Item, Got, End}
 use Rattle.kernel_model.specs.State.{SyncState, shared, Process, process_at, put_process, with_process}
 use Rattle.kernel_model.specs.Requests.{request_of}
 use Rattle.machine_model.specs.Numbers.{cause_number}
-use Rattle.kernel_model.specs.Rows.{Effect, row, row_end}
+use Rattle.kernel_model.specs.Rows.{CallEffect, row, row_end}
 use Rattle.kernel_model.specs.Steps.{Transition, own_entry, impossible, after_run, after_reply, zero_reply, forked, after_end, after_turn, effect_at, after_effect, after_effect_if, after_enter, step}
 use Rattle.kernel_model.specs.Shown.{Given, given_by, is_made, items_for, told, replies_in}
 use Rattle.kernel_model.specs.World.{World, happens, after}
@@ -113,10 +113,10 @@ turn_goes s p n old at = elim (is_some old.status) as (λ b. OwnGoesOn s p old (
   | false ↦ run_goes_on s p n old at
 ]
 
-end_goes : (s : SyncState) (p : ℕ) (old : Process) (e : Effect) (status : ℕ) → process_at s.processes p ≡ Some old → OwnGoesOn s p old (after_effect s p old e (Ends status))
+end_goes : (s : SyncState) (p : ℕ) (old : Process) (e : CallEffect) (status : ℕ) → process_at s.processes p ≡ Some old → OwnGoesOn s p old (after_effect s p old e (Ends status))
 end_goes s p old e status at = stands_still old (after_end old status) _ _ (at_same s.processes p (after_end old status) old at) (own_item p (Some (End status))) refl
 
-effect_goes : (s : SyncState) (p : ℕ) (old : Process) (e : Effect) (v : Verdict) → process_at s.processes p ≡ Some old → stands_at old.state ≡ Some Call
+effect_goes : (s : SyncState) (p : ℕ) (old : Process) (e : CallEffect) (v : Verdict) → process_at s.processes p ≡ Some old → stopped_at old.state ≡ Some Call
     → OwnGoesOn s p old (after_effect s p old e v)
 effect_goes s p old e Waits at call = stands_still old old _ _ at (no_item p (after_effect s p old e Waits).entry refl) refl
 effect_goes s p old e (Replies r) at call = (
@@ -129,19 +129,19 @@ effect_goes s p old e (Replies r) at call = (
 effect_goes s p old e (Ends status) at call = end_goes s p old e status at
 
 enter_goes : (s : SyncState) (p : ℕ) (old : Process) → process_at s.processes p ≡ Some old → OwnGoesOn s p old (after_enter s p (Some old))
-enter_goes s p old at = elim (is_some old.status) as (λ b. OwnGoesOn s p old (if b then impossible p s else after_effect_if s p old (effect_at (shared s) p old (stands_at old.state)))) [
+enter_goes s p old at = elim (is_some old.status) as (λ b. OwnGoesOn s p old (if b then impossible p s else after_effect_if s p old (effect_at (shared s) p old (stopped_at old.state)))) [
   | true ↦ impossible_goes s p old at
-  | false ↦ by_stop (stands_at old.state) refl
+  | false ↦ by_stop (stopped_at old.state) refl
 ]
   where
-    by_stop : (o : Option Stop) → stands_at old.state ≡ o → OwnGoesOn s p old (after_effect_if s p old (effect_at (shared s) p old o))
+    by_stop : (o : Option Stop) → stopped_at old.state ≡ o → OwnGoesOn s p old (after_effect_if s p old (effect_at (shared s) p old o))
     by_stop None h = impossible_goes s p old at
     by_stop (Some Limit) h = impossible_goes s p old at
     by_stop (Some Call) h = let e = row (shared s) p old.descriptors old.children (request_of old.state) in effect_goes s p old e e.verdict at h
     by_stop (Some (Trap cause)) h = end_goes s p old (row_end old.descriptors (256 + cause_number cause)) (256 + cause_number cause) at
 
 -- an event is of the process that its entry names
-effect_is_of : (s : SyncState) (q : ℕ) (y : Process) (e : Effect) (v : Verdict) → (after_effect s q y e v).entry.process ≡ q
+effect_is_of : (s : SyncState) (q : ℕ) (y : Process) (e : CallEffect) (v : Verdict) → (after_effect s q y e v).entry.process ≡ q
 effect_is_of s q y e Waits = refl
 effect_is_of s q y e (Replies r) = refl
 effect_is_of s q y e (Ends status) = refl

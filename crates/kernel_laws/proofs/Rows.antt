@@ -12,7 +12,7 @@ use Rattle.disk_model.specs.Limits.{most_files}
 use Rattle.image_model.specs.declared.fault.ElfFault.{ElfFault}
 use Rattle.image_model.specs.Checks.{first_fault}
 use Rattle.kernel_model.specs.Requests.{most_bytes}
-use Rattle.kernel_model.specs.Rows.{Effect, only, number, failure, bad_argument, bad_address, looking_at, Directory, directory, number_named, is_bad_length, seek_file, row_seek, row_unlink, unlink_named, unlink_file, row_rename, rename_read, rename_named, rename_file, names_of, row_exec, exec_named, exec_file, exec_found, exec_image, EndedChild, ended_or, status_in, row, row_write, write_read, write_to, write_pipe, row_read, read_from, read_file, read_tape, read_pipe, row_open, open_named, open_free, open_file, row_pipe, pipe_free, pipe_made, row_fork, row_wait, wait_ended, first_ended, free_descriptor, free_after, descriptor_at, most_pipes, most_processes, pipe_size}
+use Rattle.kernel_model.specs.Rows.{CallEffect, only, number, failure, bad_argument, bad_address, looking_at, Directory, directory, number_named, is_bad_length, seek_file, row_seek, row_unlink, unlink_named, unlink_file, row_rename, rename_read, rename_named, rename_file, names_of, row_exec, exec_named, exec_file, exec_found, exec_image, EndedChild, ended_or, status_in, row, row_write, write_read, write_to, write_pipe, row_read, read_from, read_file, read_tape, read_pipe, row_open, open_named, open_free, open_file, row_pipe, pipe_free, pipe_made, row_fork, row_wait, wait_ended, first_ended, free_descriptor, free_after, descriptor_at, most_pipes, most_processes, pipe_size}
 use Rattle.kernel_model.specs.State.{SyncState, Process, shared, PipeState, TapeState, unread, process_at}
 use Rattle.kernel_model.specs.declared.carrier.Carrier.TheVariants as carrier
 use Rattle.kernel_model.specs.declared.descriptor.Descriptor.{Descriptor}
@@ -56,14 +56,14 @@ by_names files file = place_some files.living (place_of files file)
 -- of two states
 module _ (s t : SyncState) where
   -- where they agree on what the one effect reads, the other is the same
-  abbrev Same : Effect → Effect → Type 0
+  abbrev Same : CallEffect → CallEffect → Type 0
   Same x y = Agree s t x.reads → y ≡ x
 
-  if_same : (b : Bool) (x y z : Effect) → Same y z → Same (if b then x else y) (if b then x else z)
+  if_same : (b : Bool) (x y z : CallEffect) → Same y z → Same (if b then x else y) (if b then x else z)
   if_same true x y z h a = refl
   if_same false x y z h a = h a
 
-  look_same : (d : Option Descriptor) (b : Bool) (x y z : Effect) → Same (looking_at d y) (looking_at d z)
+  look_same : (d : Option Descriptor) (b : Bool) (x y z : CallEffect) → Same (looking_at d y) (looking_at d z)
       → Same (looking_at d (if b then x else y)) (looking_at d (if b then x else z))
   look_same d true x y z h a = refl
   look_same d false x y z h a = h a
@@ -73,7 +73,7 @@ module _ (s t : SyncState) where
   pipe_read k bytes None a = a.0
   pipe_read k bytes (Some p) a = by (p.readers == 0) (nat_le pipe_size (length (unread p))) _ _ _ (λ h. h.0) (λ h. h.0) (λ h. h.0) a
     where
-      by : (b c : Bool) (x y z : Effect) → (Agree s t x.reads → AgreeOn s t (carrier.Pipe k)) → (Agree s t y.reads → AgreeOn s t (carrier.Pipe k)) → (Agree s t z.reads → AgreeOn s t (carrier.Pipe k))
+      by : (b c : Bool) (x y z : CallEffect) → (Agree s t x.reads → AgreeOn s t (carrier.Pipe k)) → (Agree s t y.reads → AgreeOn s t (carrier.Pipe k)) → (Agree s t z.reads → AgreeOn s t (carrier.Pipe k))
           → Agree s t (if b then x else if c then y else z).reads → AgreeOn s t (carrier.Pipe k)
       by true c x y z f g h a = f a
       by false true x y z f g h a = g a
@@ -104,7 +104,7 @@ module _ (s t : SyncState) where
   alive_same file a = sym (some_map (λ (f : NamedFile). f.bytes) (file_of t.files file)) ∙ ap (λ (o : Option (List ℕ)). is_some o) (sym a) ∙ some_map (λ (f : NamedFile). f.bytes) (file_of s.files file)
 
   -- where the first test is the same
-  tested_same : (d : Option Descriptor) (b c : Bool) (x y z : Effect) → c ≡ b → Same (looking_at d y) (looking_at d z)
+  tested_same : (d : Option Descriptor) (b c : Bool) (x y z : CallEffect) → c ≡ b → Same (looking_at d y) (looking_at d z)
       → Same (looking_at d (if not b then x else y)) (looking_at d (if not c then x else z))
   tested_same d b c x y z e h a = ap (λ (v : Bool). looking_at d (if not v then x else z)) e ∙ look_same d (not b) x y z h a
 
@@ -123,7 +123,7 @@ module _ (s t : SyncState) where
   held_read k at n None a = a.0
   held_read k at n (Some p) a = by (nat_lt 0 (length (unread p))) (p.writers == 0) _ _ _ (λ h. h.0) (λ h. h.0) (λ h. h.0) a
     where
-      by : (b c : Bool) (x y z : Effect) → (Agree s t x.reads → AgreeOn s t (carrier.Pipe k)) → (Agree s t y.reads → AgreeOn s t (carrier.Pipe k)) → (Agree s t z.reads → AgreeOn s t (carrier.Pipe k))
+      by : (b c : Bool) (x y z : CallEffect) → (Agree s t x.reads → AgreeOn s t (carrier.Pipe k)) → (Agree s t y.reads → AgreeOn s t (carrier.Pipe k)) → (Agree s t z.reads → AgreeOn s t (carrier.Pipe k))
           → Agree s t (if b then x else if c then y else z).reads → AgreeOn s t (carrier.Pipe k)
       by true c x y z f g h a = f a
       by false true x y z f g h a = g a
@@ -180,10 +180,10 @@ module _ (s t : SyncState) where
   row_seek_same (Some (descriptor.Pipe end)) fd offset a = refl
 
   -- ---- open, unlink, rename
-  abbrev KnowsNames : Effect → Type 0
+  abbrev KnowsNames : CallEffect → Type 0
   KnowsNames x = Agree s t x.reads → AgreeOn s t carrier.Names
 
-  either_knows : (b : Bool) (x y : Effect) → KnowsNames x → KnowsNames y → KnowsNames (if b then x else y)
+  either_knows : (b : Bool) (x y : CallEffect) → KnowsNames x → KnowsNames y → KnowsNames (if b then x else y)
   either_knows true x y f g = f
   either_knows false x y f g = g
 
@@ -289,13 +289,13 @@ module _ (s t : SyncState) where
   row_pipe_same : (ds : List (Option Descriptor)) (at : ℕ) (fits : Bool) → Same (row_pipe (length s.pipes) ds at fits) (row_pipe (length t.pipes) ds at fits)
   row_pipe_same ds at fits = if_same (not fits) _ _ _ (pipe_free_same at (free_descriptor ds) (free_after ds (free_descriptor ds)))
 
-  abbrev KnowsTasks : Effect → Type 0
+  abbrev KnowsTasks : CallEffect → Type 0
   KnowsTasks x = Agree s t x.reads → AgreeOn s t carrier.Tasks
 
   fork_knows : (n : ℕ) (ds : List (Option Descriptor)) → KnowsTasks (row_fork n ds)
   fork_knows n ds = by (nat_le most_processes n) _ _ (λ a. a.0) (λ a. a.0)
     where
-      by : (b : Bool) (x y : Effect) → KnowsTasks x → KnowsTasks y → KnowsTasks (if b then x else y)
+      by : (b : Bool) (x y : CallEffect) → KnowsTasks x → KnowsTasks y → KnowsTasks (if b then x else y)
       by true x y f g = f
       by false x y f g = g
 

@@ -6,10 +6,10 @@ use Rattle.disk_model.specs.Numbers.{Numbered}
 use Rattle.disk_model.specs.Files.{IsMade, IsPossible}
 use Rattle.disk_model.proofs.Lists.{each_get, each_set, each_append}
 use Rattle.memory_model.specs.Access.{HoldsBytes}
-use Rattle.machine_model.specs.States.{stands_at}
+use Rattle.machine_model.specs.States.{stopped_at}
 use Rattle.kernel_model.specs.Bytes.{ProgramsHoldBytes, TapesHoldBytes}
 use Rattle.kernel_model.specs.Limits.{KeepLimits}
-use Rattle.kernel_model.specs.Rows.{Effect}
+use Rattle.kernel_model.specs.Rows.{CallEffect}
 use Rattle.kernel_model.specs.State.{SyncState, PipeState, TapeState, Process, put_process, with_process, shared, changed_by, with_place, read_by, new_pipe, with_pipe, stepped, all_stepped}
 use Rattle.kernel_model.specs.Steps.{Transition, change_by, after_run, after_reply, zero_reply, forked, after_end, after_effect, step}
 use Rattle.kernel_model.specs.World.{BootProgram, Boot, processes_from, tapes_of, tape_count, first_world}
@@ -28,7 +28,7 @@ use Rattle.kernel_laws.proofs.Possible.{TellsBytes, PutsBytes, PutBytes, PipeHol
 
 -- the memory of the process holds bytes
 abbrev pub IsFit : Process → Type 0
-IsFit p = HoldsBytes p.state.hart.memory
+IsFit p = HoldsBytes p.state.architectural.memory
 
 -- a state of which each memory does, with files that possible changes made, and pipes and tapes that hold bytes
 pub record AreFit (s : SyncState) : Type 0 where
@@ -98,7 +98,7 @@ forked_fit : (p : Process) (o : Option ℕ) → IsFit p → AllByRecursion IsFit
 forked_fit p None f = tt
 forked_fit p (Some child) f = (replied_holds p.state zero_reply (record { bytes = tt; image = tt }) f, tt)
 
-effect_fit : DiskLaws → (s : SyncState) (pid : ℕ) (p : Process) (e : Effect) (v : Verdict) → AreFit s → IsFit p → IsSound s.files e → TellsBytes v
+effect_fit : DiskLaws → (s : SyncState) (pid : ℕ) (p : Process) (e : CallEffect) (v : Verdict) → AreFit s → IsFit p → IsSound s.files e → TellsBytes v
     → GoesFit s (after_effect s pid p e v)
 effect_fit laws s pid p e Waits h f sound tells = record { fit = h; possible = tt }
 effect_fit laws s pid p e (Replies r) h f sound tells = record {
@@ -128,12 +128,12 @@ step_fit laws s e limits h = of_step (GoesFit s) s (record { fit = h; possible =
     (λ n p at lives. record { fit = put_goes s pid (after_run n p) h (run_holds n p.state (each_process IsFit s.processes pid p h.each at)); possible = tt })
     (λ p f at lives is.
     let holds = each_process IsFit s.processes pid p h.each at in
-    let sound = subst (λ (o : Option Effect). IfSome o (IsSound s.files)) is
-    (effect_sound (shared s) pid p (stands_at p.state) (readable laws s limits h) holds) in
+    let sound = subst (λ (o : Option CallEffect). IfSome o (IsSound s.files)) is
+    (effect_sound (shared s) pid p (stopped_at p.state) (readable laws s limits h) holds) in
     effect_fit laws s pid p f f.verdict h holds sound sound.verdict)) e
 
 -- ---- before any event
-processes_fit : (i : ℕ) (programs : List BootProgram) → AllByRecursion (λ (p : BootProgram). HoldsBytes p.state.hart.memory) programs
+processes_fit : (i : ℕ) (programs : List BootProgram) → AllByRecursion (λ (p : BootProgram). HoldsBytes p.state.architectural.memory) programs
     → AllByRecursion IsFit (processes_from i programs)
 processes_fit i [] h = tt
 processes_fit i (p ∷ programs) h = (h.0, processes_fit (i + 1) programs h.1)

@@ -3,7 +3,7 @@ use Rattle.std.proofs.Common.{append-nil, ◌≡◌, ℕ, ◌+◌, ◌==◌, Boo
 use Rattle.std.proofs.lemmas.Bool.{eqb-true, eqb-false, false≢true}
 use Rattle.disk_model.specs.declared.change.Change.{Change}
 use Rattle.disk_model.specs.Storage.{Storage}
-use Rattle.machine_model.specs.States.{State, run, stands_at}
+use Rattle.machine_model.specs.States.{State, run, stopped_at}
 use Rattle.kernel_model.specs.Entries.{Entry}
 use Rattle.kernel_model.specs.Paths.{changes_in_log}
 use Rattle.kernel_model.specs.State.{SyncState, Process, process_at, with_process}
@@ -123,7 +123,7 @@ goer w p h = from (process_at w.sync.processes p) refl h
 
     from : (o : Option Process) → process_at w.sync.processes p ≡ o → may_go o ≡ true → Goer w p
     from None e h = absurd (false≢true h)
-    from (Some y) e h = record { process = y; there = e; running = not_ended (is_some y.status) (is_some (stands_at y.state)) h }
+    from (Some y) e h = record { process = y; there = e; running = not_ended (is_some y.status) (is_some (stopped_at y.state)) h }
 
 still : (w : World) (p : ℕ) (e : Event) → IsNotOf p e → may_go (process_at w.sync.processes p) ≡ true → may_go (process_at (happens w e).sync.processes p) ≡ true
 still w p e ne h = let g = goer w p h in ap may_go (step_keeps w.sync p g.process e g.there ne) ∙ sym (ap may_go g.there) ∙ h

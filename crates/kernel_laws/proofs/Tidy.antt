@@ -2,10 +2,10 @@
 -- that is made is the next by number, and is written; its parent is there, and is told its number.
 use Rattle.std.proofs.Common.{◌≡◌, ℕ, ◌+◌, ◌≤◌, ◌==◌, true, false, List, [], ◌∷◌, length, Option, Some, None, IfSome, is_some, refl, sym, ap, subst, ◌∙◌}
 use Rattle.std.proofs.lemmas.Bool.{eqb-true, eq-eqb, false≢true, or_left, or_right}
-use Rattle.machine_model.specs.States.{stands_at}
+use Rattle.machine_model.specs.States.{stopped_at}
 use Rattle.kernel_model.specs.Entries.{Entry, is_among}
 use Rattle.kernel_model.specs.Limits.{AreNumbered}
-use Rattle.kernel_model.specs.Rows.{Effect}
+use Rattle.kernel_model.specs.Rows.{CallEffect}
 use Rattle.kernel_model.specs.State.{SyncState, Process, process_at}
 use Rattle.kernel_model.specs.Steps.{Transition, after_effect, step}
 use Rattle.kernel_model.specs.declared.carrier.Carrier.TheVariants.{Proc, Tasks}
@@ -41,7 +41,7 @@ idle_tidy s e idle = record {
   made = subst (λ (o : Option ℕ). IfSome o (λ c. (c ≡ length s.processes + 1) × (is_among (Proc c) e.writes ≡ true) × (is_some e.item ≡ true) × (e.process ≤ length s.processes))) (sym idle.child) tt;
 }
 
-effect_tidy : (s : SyncState) (pid : ℕ) (p : Process) (e : Effect) (v : Verdict) → process_at s.processes pid ≡ Some p → Keeps s e → IsTidy s (after_effect s pid p e v).entry
+effect_tidy : (s : SyncState) (pid : ℕ) (p : Process) (e : CallEffect) (v : Verdict) → process_at s.processes pid ≡ Some p → Keeps s e → IsTidy s (after_effect s pid p e v).entry
 effect_tidy s pid p e Waits at keeps = idle_tidy s _ (record { writes = refl; change = refl; output = refl; item = refl; child = refl })
 effect_tidy s pid p e (Replies r) at keeps = record {
   idle = λ h. absurd (not_zero s.processes pid p at h);
@@ -65,4 +65,4 @@ step_tidy s e are = of_step (λ (t : Transition). IsTidy s t.entry) s
     (λ pid. each_event (λ (t : Transition). IsTidy s t.entry) s pid
     (idle_tidy s _ (record { writes = refl; change = refl; output = refl; item = refl; child = refl }))
     (λ n p at lives. record { idle = λ h. absurd (not_zero s.processes pid p at h); own = λ h. absurd (false≢true h); made = tt })
-    (λ p f at lives is. effect_tidy s pid p f f.verdict at (effect_keeps s pid p (stands_at p.state) f are is))) e
+    (λ p f at lives is. effect_tidy s pid p f f.verdict at (effect_keeps s pid p (stopped_at p.state) f are is))) e

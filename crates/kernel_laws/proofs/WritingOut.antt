@@ -1,6 +1,6 @@
 -- A Turn is its single instructions, one after the other.
 use Rattle.std.proofs.Common.{append-nil, ◌≡◌, ℕ, zero, suc, ◌+◌, Bool, true, false, if◌then◌else◌, List, [], ◌∷◌, ◌++◌, replicate, Option, Some, None, is_some, refl, sym, ap, subst, ◌∙◌, arith}
-use Rattle.machine_model.specs.States.{State, Stepped, Goes, Halts, Ran, reached_at, next, by_step, run, stands_at}
+use Rattle.machine_model.specs.States.{State, Stepped, Goes, Halts, Ran, reached_at, next, by_step, run, stopped_at}
 use Rattle.machine_model.specs.declared.stop.Stop.{Stop}
 use Rattle.kernel_model.specs.Entries.{Entry}
 use Rattle.kernel_model.specs.State.{SyncState, Process, process_at, with_process}
@@ -57,7 +57,7 @@ one_written : (w : World) (p n count : ℕ) (y : Process) (t : State) → proces
 one_written w p n count y t at running h rest =
     let goes : may_go (process_at w.sync.processes p) ≡ true =
     ap may_go at
-    ∙ ap (λ (b : Bool). if b then false else if is_some (stands_at y.state) then false else true) running
+    ∙ ap (λ (b : Bool). if b then false else if is_some (stopped_at y.state) then false else true) running
     ∙ ap (λ (o : Stepped). if is_some (by_step {A = Option Stop} o (λ u. None) (λ stop. Some stop)) then false else true) h in
     let longer : n + 1 ≡ suc n = omega arith in (
       (goes, rest.0),

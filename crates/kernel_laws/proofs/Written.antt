@@ -10,12 +10,12 @@ use Rattle.disk_model.specs.Numbers.{Numbered, file_of, lives}
 use Rattle.disk_model.specs.Limits.{most_files, longest_file}
 use Rattle.machine_model.specs.declared.stop.Stop.{Stop}
 use Rattle.machine_model.specs.declared.stop.Stop.TheVariants.{Limit, Call, Trap}
-use Rattle.machine_model.specs.States.{stands_at}
+use Rattle.machine_model.specs.States.{stopped_at}
 use Rattle.image_model.specs.declared.fault.ElfFault.{ElfFault}
 use Rattle.image_model.specs.Checks.{first_fault}
 use Rattle.kernel_model.specs.Entries.{is_same, is_among}
 use Rattle.kernel_model.specs.Requests.{most_bytes, request_of}
-use Rattle.kernel_model.specs.Rows.{Effect, looking_at, Directory, directory, number_named, is_bad_length, row_seek, row_unlink, unlink_named, unlink_file, row_rename, rename_read, rename_file, rename_to, row_exec, exec_named, exec_file, exec_found, exec_image, EndedChild, carrier_of, ends_of, row, row_write, may_write, write_read, write_to, write_pipe, row_read, may_read, read_from, read_file, read_tape, read_pipe, row_close, row_open, open_named, open_free, open_file, row_pipe, pipe_free, row_fork, row_wait, wait_ended, first_ended, free_descriptor, free_after, descriptor_at, most_pipes, most_processes, pipe_size}
+use Rattle.kernel_model.specs.Rows.{CallEffect, looking_at, Directory, directory, number_named, is_bad_length, row_seek, row_unlink, unlink_named, unlink_file, row_rename, rename_read, rename_file, rename_to, row_exec, exec_named, exec_file, exec_found, exec_image, EndedChild, carrier_of, ends_of, row, row_write, may_write, write_read, write_to, write_pipe, row_read, may_read, read_from, read_file, read_tape, read_pipe, row_close, row_open, open_named, open_free, open_file, row_pipe, pipe_free, row_fork, row_wait, wait_ended, first_ended, free_descriptor, free_after, descriptor_at, most_pipes, most_processes, pipe_size}
 use Rattle.kernel_model.specs.State.{SyncState, Process, Shared, shared, PipeState, TapeState, unread}
 use Rattle.kernel_model.specs.Steps.{Transition, after_effect, effect_at, step}
 use Rattle.kernel_model.specs.declared.carrier.Carrier.{Carrier}
@@ -36,7 +36,7 @@ abbrev pub AreAmong : List Carrier → List Carrier → Type 0
 AreAmong cs ds = AllByRecursion (λ (c : Carrier). is_among c ds ≡ true) cs
 
 -- what it writes it reads
-abbrev pub ReadsWritten : Effect → Type 0
+abbrev pub ReadsWritten : CallEffect → Type 0
 ReadsWritten e = AreAmong e.writes e.reads
 
 among_more : (c : Carrier) (cs ds : List Carrier) → AreAmong cs ds → AreAmong cs (c ∷ ds)
@@ -47,11 +47,11 @@ among_self [] = tt
 among_self (c ∷ cs) = (or_left (is_same c c) (is_among c cs) (same_self c), among_more c cs cs (among_self cs))
 
 -- whatever a test comes to
-either : (b : Bool) (x y : Effect) → ReadsWritten x → ReadsWritten y → ReadsWritten (if b then x else y)
+either : (b : Bool) (x y : CallEffect) → ReadsWritten x → ReadsWritten y → ReadsWritten (if b then x else y)
 either true x y f g = f
 either false x y f g = g
 
-look_either : (d : Option Descriptor) (b : Bool) (x y : Effect) → ReadsWritten (looking_at d x) → ReadsWritten (looking_at d y) → ReadsWritten (looking_at d (if b then x else y))
+look_either : (d : Option Descriptor) (b : Bool) (x y : CallEffect) → ReadsWritten (looking_at d x) → ReadsWritten (looking_at d y) → ReadsWritten (looking_at d (if b then x else y))
 look_either d true x y f g = f
 look_either d false x y f g = g
 
@@ -218,10 +218,10 @@ effect_reads s pid p (Some (Trap cause)) = among_self (map carrier_of (ends_of p
 effect_reads s pid p (Some Limit) = tt
 effect_reads s pid p None = tt
 
-own_too : (pid : ℕ) (e : Effect) → ReadsWritten e → AreAmong (carrier.Proc pid ∷ e.writes) (carrier.Proc pid ∷ e.reads)
+own_too : (pid : ℕ) (e : CallEffect) → ReadsWritten e → AreAmong (carrier.Proc pid ∷ e.writes) (carrier.Proc pid ∷ e.reads)
 own_too pid e h = (or_left (pid == pid) (is_among (carrier.Proc pid) e.reads) (eq-eqb pid pid refl), among_more (carrier.Proc pid) e.writes e.reads h)
 
-after_reads : (s : SyncState) (pid : ℕ) (p : Process) (e : Effect) (v : Verdict) → ReadsWritten e → AreAmong (after_effect s pid p e v).entry.writes (after_effect s pid p e v).entry.reads
+after_reads : (s : SyncState) (pid : ℕ) (p : Process) (e : CallEffect) (v : Verdict) → ReadsWritten e → AreAmong (after_effect s pid p e v).entry.writes (after_effect s pid p e v).entry.reads
 after_reads s pid p e Waits h = tt
 after_reads s pid p e (Replies r) h = own_too pid e h
 after_reads s pid p e (Ends status) h = own_too pid e h
@@ -231,4 +231,4 @@ pub step_reads : (s : SyncState) (e : Event) → AreAmong (step s e).entry.write
 step_reads s e = of_step (λ (t : Transition). AreAmong t.entry.writes t.entry.reads) s tt
     (λ pid. each_event (λ (t : Transition). AreAmong t.entry.writes t.entry.reads) s pid tt
     (λ n p at lives. among_self (carrier.Proc pid ∷ []))
-    (λ p f at lives is. after_reads s pid p f f.verdict (subst (λ (o : Option Effect). IfSome o ReadsWritten) is (effect_reads (shared s) pid p (stands_at p.state))))) e
+    (λ p f at lives is. after_reads s pid p f f.verdict (subst (λ (o : Option CallEffect). IfSome o ReadsWritten) is (effect_reads (shared s) pid p (stopped_at p.state))))) e

@@ -2,7 +2,7 @@
 use Rattle.std.specs.Prelude.{◌≡◌, ℕ, ◌+◌, ◌<◌, if◌then◌else◌, List, [], ◌∷◌, length, take, slice_get, count_by, Some, is_some}
 use Rattle.machine_model.specs.declared.reply.Reply.{Reply}
 use Rattle.machine_model.specs.declared.stop.Stop.TheVariants.{Call}
-use Rattle.machine_model.specs.States.{State, run, stands_at}
+use Rattle.machine_model.specs.States.{State, run, stopped_at}
 use Rattle.machine_model.specs.Replies.{replied}
 use Rattle.kernel_model.specs.State.{Process, process_at}
 use Rattle.kernel_model.specs.Entries.{Entry}
@@ -17,7 +17,7 @@ use Rattle.kernel_model.specs.declared.event.Event.{Event}
 -- these get these replies, in order.
 abbrev pub ComesTo : State → List Reply → State → Type 0
 ComesTo s [] t = (n : ℕ) × ((run n s).state ≡ t)
-ComesTo s (r ∷ rs) t = (n : ℕ) × (stands_at (run n s).state ≡ Some Call) × ComesTo (replied (run n s).state r) rs t
+ComesTo s (r ∷ rs) t = (n : ℕ) × (stopped_at (run n s).state ≡ Some Call) × ComesTo (replied (run n s).state r) rs t
 
 -- process p's replies so far; those of one that was made begin with its parent's before it was, and then 0
 abbrev pub replies_to : ℕ → World → List Reply

@@ -71,6 +71,6 @@ is_asked number a0 a1 a2 memory =
     by false x y f g = g
 
 -- so it is of what a machine asks for
-pub asked_by : (s : State) → IsAsked s.hart.memory (request_of s)
-asked_by s = is_asked (slice_index s.hart.registers 17)
-    (slice_index s.hart.registers 10) (slice_index s.hart.registers 11) (slice_index s.hart.registers 12) s.hart.memory
+pub asked_by : (s : State) → IsAsked s.architectural.memory (request_of s)
+asked_by s = is_asked (slice_index s.architectural.registers 17)
+    (slice_index s.architectural.registers 10) (slice_index s.architectural.registers 11) (slice_index s.architectural.registers 12) s.architectural.memory

@@ -15,7 +15,7 @@ use Rattle.image_model.specs.declared.fault.ElfFault.{ElfFault}
 use Rattle.image_model.specs.Checks.{first_fault}
 use Rattle.kernel_model.specs.Requests.{most_bytes, request_of}
 use Rattle.machine_model.specs.Numbers.{cause_number}
-use Rattle.kernel_model.specs.Rows.{Effect, looking_at, Directory, directory, number_named, is_bad_length, seek_file, seek_to, row_unlink, unlink_named, unlink_file, row_rename, rename_read, rename_file, rename_to, row_exec, exec_named, exec_file, exec_found, exec_image, EndedChild, only, number, failure, bad_address, carrier_of, ends_of, row, row_end, row_write, write_read, write_to, write_file, write_pipe, put_some, may_write, row_read, read_from, read_file, read_tape, read_pipe, take_some, may_read, row_close, row_open, open_named, open_free, open_file, open_there, open_emptied, open_new, row_pipe, pipe_free, pipe_made, row_fork, row_wait, wait_ended, first_ended, free_descriptor, free_after, descriptor_at, most_pipes, most_processes, pipe_size}
+use Rattle.kernel_model.specs.Rows.{CallEffect, looking_at, Directory, directory, number_named, is_bad_length, seek_file, seek_to, row_unlink, unlink_named, unlink_file, row_rename, rename_read, rename_file, rename_to, row_exec, exec_named, exec_file, exec_found, exec_image, EndedChild, only, number, failure, bad_address, carrier_of, ends_of, row, row_end, row_write, write_read, write_to, write_file, write_pipe, put_some, may_write, row_read, read_from, read_file, read_tape, read_pipe, take_some, may_read, row_close, row_open, open_named, open_free, open_file, open_there, open_emptied, open_new, row_pipe, pipe_free, pipe_made, row_fork, row_wait, wait_ended, first_ended, free_descriptor, free_after, descriptor_at, most_pipes, most_processes, pipe_size}
 use Rattle.kernel_model.specs.State.{Process, Shared, PipeState, TapeState, unread}
 use Rattle.kernel_model.specs.Steps.{effect_at}
 use Rattle.kernel_model.specs.declared.carrier.Carrier.{Carrier}
@@ -32,19 +32,19 @@ use Rattle.kernel_model.specs.declared.request.Verdict.TheVariants.{Waits}
 -- ---- effects
 
 -- a reply of a number, which reads and writes these carriers, and makes no edit
-abbrev pub plain : ℕ → List Carrier → List Carrier → Effect
+abbrev pub plain : ℕ → List Carrier → List Carrier → CallEffect
 plain k reads writes = record (only (number k)) { reads = reads; writes = writes }
 
 -- no reply yet
-abbrev pub waiting : List Carrier → List Carrier → Effect
+abbrev pub waiting : List Carrier → List Carrier → CallEffect
 waiting reads writes = record (only Waits) { reads = reads; writes = writes }
 
 -- bytes for a terminal
-abbrev pub to_terminal : ℕ → List ℕ → Effect
+abbrev pub to_terminal : ℕ → List ℕ → CallEffect
 to_terminal t bytes = record (only (number (length bytes))) { output = Some (record { terminal = t; bytes = bytes }) }
 
 -- bytes for a file
-abbrev pub to_file : ℕ → ℕ → ℕ → List ℕ → Effect
+abbrev pub to_file : ℕ → ℕ → ℕ → List ℕ → CallEffect
 to_file fd file offset bytes = record (only (number (length bytes))) {
   reads = carrier.File file ∷ [];
   writes = carrier.File file ∷ [];
@@ -53,18 +53,18 @@ to_file fd file offset bytes = record (only (number (length bytes))) {
 }
 
 -- bytes of a file
-abbrev pub from_file : ℕ → ℕ → ℕ → ℕ → ℕ → NamedFile → Effect
+abbrev pub from_file : ℕ → ℕ → ℕ → ℕ → ℕ → NamedFile → CallEffect
 from_file fd file offset at n f = looking_at (Some (descriptor.File file offset false)) (read_file fd file offset at n (Some f))
 
 -- another offset of a file
-abbrev pub to_offset : ℕ → ℕ → ℕ → Bool → Effect
+abbrev pub to_offset : ℕ → ℕ → ℕ → Bool → CallEffect
 to_offset fd file offset writes = record (only (number offset)) {
   reads = carrier.File file ∷ [];
   slots = record { fd = fd; holds = Some (descriptor.File file offset writes) } ∷ [];
 }
 
 -- the process of this number is made, by a caller with these descriptors
-abbrev pub child_made : ℕ → List (Option Descriptor) → Effect
+abbrev pub child_made : ℕ → List (Option Descriptor) → CallEffect
 child_made child ds = record (only (number child)) {
   reads = carrier.Tasks ∷ carrier.Proc child ∷ map carrier_of (ends_of ds);
   writes = carrier.Tasks ∷ carrier.Proc child ∷ map carrier_of (ends_of ds);
@@ -99,7 +99,7 @@ pub record IsRenamed (dir : Directory) (n m : ℕ) (old new : List ℕ) (file : 
 
 -- What has to hold of each effect that a row may have, of a request of a caller with these descriptors and these children left to
 -- collect. Each field is one effect, after what is so where it comes.
-pub record OfEach (P : Effect → Type 0) (s : Shared) (ds : List (Option Descriptor)) (children : List ℕ) (r : Request) : Type 0 where
+pub record OfEach (P : CallEffect → Type 0) (s : Shared) (ds : List (Option Descriptor)) (children : List ℕ) (r : Request) : Type 0 where
   -- a number, as of an error, and no edit; and no reply yet
   pub told : (k : ℕ) (reads writes : List Carrier) → P (plain k reads writes)
   pub waits : (reads writes : List Carrier) → P (waiting reads writes)
@@ -145,13 +145,13 @@ pub record OfEach (P : Effect → Type 0) (s : Shared) (ds : List (Option Descri
 -- ---- the walk
 
 -- Below, a request of which that holds.
-module _ (P : Effect → Type 0) (s : Shared) (ds : List (Option Descriptor)) (children : List ℕ) (r : Request) (of : OfEach P s ds children r) where
-  by_test : (b : Bool) (x y : Effect) → (b ≡ true → P x) → (b ≡ false → P y) → P (if b then x else y)
+module _ (P : CallEffect → Type 0) (s : Shared) (ds : List (Option Descriptor)) (children : List ℕ) (r : Request) (of : OfEach P s ds children r) where
+  by_test : (b : Bool) (x y : CallEffect) → (b ≡ true → P x) → (b ≡ false → P y) → P (if b then x else y)
   by_test true x y p q = p refl
   by_test false x y p q = q refl
 
   -- the same of what looks at what a descriptor stands for
-  by_look : (d : Option Descriptor) (b : Bool) (x y : Effect) → (b ≡ true → P (looking_at d x)) → (b ≡ false → P (looking_at d y))
+  by_look : (d : Option Descriptor) (b : Bool) (x y : CallEffect) → (b ≡ true → P (looking_at d x)) → (b ≡ false → P (looking_at d y))
       → P (looking_at d (if b then x else y))
   by_look d true x y p q = p refl
   by_look d false x y p q = q refl
@@ -386,7 +386,7 @@ module _ (P : Effect → Type 0) (s : Shared) (ds : List (Option Descriptor)) (c
   of_row p = row_is p r refl
 
 -- and of what comes of a call or a trap
-pub of_effect : (P : Effect → Type 0) (s : Shared) (pid : ℕ) (p : Process) (stop : Option Stop) → OfEach P s p.descriptors p.children (request_of p.state)
+pub of_effect : (P : CallEffect → Type 0) (s : Shared) (pid : ℕ) (p : Process) (stop : Option Stop) → OfEach P s p.descriptors p.children (request_of p.state)
     → IfSome (effect_at s pid p stop) P
 of_effect P s pid p (Some Call) of = of_row P s p.descriptors p.children (request_of p.state) of pid
 of_effect P s pid p (Some (Trap cause)) of = of.ended (256 + cause_number cause)

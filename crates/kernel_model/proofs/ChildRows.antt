@@ -2,7 +2,7 @@
 use Rattle.std.proofs.Common.{◌≡◌, ℕ, ◌+◌, ◌<◌, List, length, Option, IfSome, refl, subst}
 use Rattle.std.proofs.lemmas.List.{length-map}
 use Rattle.kernel_model.specs.Requests.{request_of}
-use Rattle.kernel_model.specs.Rows.{Effect, row, most_processes}
+use Rattle.kernel_model.specs.Rows.{CallEffect, row, most_processes}
 use Rattle.kernel_model.specs.State.{SyncState, Process, Shared, shared}
 use Rattle.kernel_model.specs.declared.descriptor.Descriptor.{Descriptor}
 use Rattle.kernel_model.specs.declared.request.Request.{Request}
@@ -13,7 +13,7 @@ abbrev pub IsNoneOrNextProcess : ℕ → Option ℕ → Type 0
 IsNoneOrNextProcess count o = IfSome o (λ child. (child ≡ count + 1) × (count < most_processes))
 
 each_next : (s : Shared) (ds : List (Option Descriptor)) (children : List ℕ) (r : Request)
-    → OfEach (λ (e : Effect). IsNoneOrNextProcess (length s.statuses) e.child) s ds children r
+    → OfEach (λ (e : CallEffect). IsNoneOrNextProcess (length s.statuses) e.child) s ds children r
 each_next s ds children r = record {
   told = λ _ _ _. tt;
   waits = λ _ _. tt;
@@ -43,5 +43,5 @@ call_next s pid p =
     let r = request_of p.state in
     subst (λ (count : ℕ). IsNoneOrNextProcess count (row (shared s) pid p.descriptors p.children r).child)
     (length-map s.processes (λ (q : Process). q.status))
-    (of_row (λ (e : Effect). IsNoneOrNextProcess (length (shared s).statuses) e.child) (shared s) p.descriptors p.children r
+    (of_row (λ (e : CallEffect). IsNoneOrNextProcess (length (shared s).statuses) e.child) (shared s) p.descriptors p.children r
     (each_next (shared s) p.descriptors p.children r) pid)

@@ -3,7 +3,7 @@ use Rattle.std.proofs.Common.{◌≡◌, ℕ, ◌+◌, ◌<◌, ◌≤◌, ◌==
 use Rattle.std.specs.Prelude.{if◌then◌else◌}
 use Rattle.std.specs.Int.{w32, to_le_bytes}
 use Rattle.kernel_model.specs.Ends.{count_among}
-use Rattle.kernel_model.specs.Rows.{Effect, number, with_bytes, ends_of, row, row_end, row_close, pipe_made, free_descriptor, descriptor_at}
+use Rattle.kernel_model.specs.Rows.{CallEffect, number, with_bytes, ends_of, row, row_end, row_close, pipe_made, free_descriptor, descriptor_at}
 use Rattle.kernel_model.specs.State.{Shared, PipeState, all_stepped}
 use Rattle.kernel_model.specs.Steps.{set_slots}
 use Rattle.kernel_model.specs.declared.descriptor.Descriptor.{Descriptor}
@@ -29,7 +29,7 @@ count_made f ds (Some child) = count_among f ds
 
 -- of an end, an effect on these pipes and the caller's descriptors adds as many to its number as descriptors come to stand for
 -- it; and it sets no descriptor for an end of a pipe that is there
-pub record InStep (f : PipeEnd) (pipes : List PipeState) (ds : List (Option Descriptor)) (e : Effect) : Type 0 where
+pub record InStep (f : PipeEnd) (pipes : List PipeState) (ds : List (Option Descriptor)) (e : CallEffect) : Type 0 where
   pub goes_on : GoesOn e.verdict
   pub counted : number_at f (all_stepped pipes e.pipes) + count_among f ds ≡ number_at f pipes + count_among f (set_slots ds e.slots) + count_made f ds e.child
   pub no_new : pipe_of f < length pipes → count_among f (set_slots ds e.slots) ≤ count_among f ds
@@ -46,7 +46,7 @@ one_goes_on false n at bytes = bytes_go_on n at bytes
 -- the caller has descriptors.
 module _ (f : PipeEnd) (s : Shared) (ds : List (Option Descriptor)) (has : (g : PipeEnd) → count_among g ds ≤ number_at g s.pipes) where
   -- neither number changes
-  still : (e : Effect) → GoesOn e.verdict → number_at f (all_stepped s.pipes e.pipes) ≡ number_at f s.pipes → count_among f (set_slots ds e.slots) ≡ count_among f ds → e.child ≡ None
+  still : (e : CallEffect) → GoesOn e.verdict → number_at f (all_stepped s.pipes e.pipes) ≡ number_at f s.pipes → count_among f (set_slots ds e.slots) ≡ count_among f ds → e.child ≡ None
       → InStep f s.pipes ds e
   still e on steps slots child = record {
     goes_on = on;
@@ -89,7 +89,7 @@ module _ (f : PipeEnd) (s : Shared) (ds : List (Option Descriptor)) (has : (g : 
       record { goes_on = tt; counted = omega (arith, added, count_ends_of f ds); no_new = λ there. omega arith }
 
   -- a row keeps both in step, or the caller ends
-  abbrev FitsOrEnds : Effect → Type 0
+  abbrev FitsOrEnds : CallEffect → Type 0
   FitsOrEnds e = InStep f s.pipes ds e ⊎ ((status : ℕ) × (e ≡ row_end ds status))
 
   each_fits : (children : List ℕ) (r : Request) → OfEach FitsOrEnds s ds children r

@@ -8,7 +8,7 @@ use Rattle.machine_model.specs.declared.reply.Reply.{Reply}
 use Rattle.kernel_model.specs.Ends.{count_among, count_of, count_held}
 use Rattle.kernel_model.specs.Requests.{request_of}
 use Rattle.machine_model.specs.Numbers.{cause_number}
-use Rattle.kernel_model.specs.Rows.{Effect, ends_of, row_end}
+use Rattle.kernel_model.specs.Rows.{CallEffect, ends_of, row_end}
 use Rattle.kernel_model.specs.State.{SyncState, Process, PipeState, process_at, put_process, with_process, shared}
 use Rattle.kernel_model.specs.Steps.{Transition, after_run, after_reply, forked, after_end, after_effect, step}
 use Rattle.kernel_model.specs.World.{World, Boot, BootProgram, first_process, processes_from, first_world, happens, after}
@@ -60,7 +60,7 @@ module _ (f : PipeEnd) (s : SyncState) (all : Counted s) (pid : ℕ) (p : Proces
     gone = λ below none. none;
   }
 
-  reply_carried : (e : Effect) (r : Reply) → InStep f s.pipes p.descriptors e → Carried f s (after_effect s pid p e (Replies r)).state
+  reply_carried : (e : CallEffect) (r : Reply) → InStep f s.pipes p.descriptors e → Carried f s (after_effect s pid p e (Replies r)).state
   reply_carried e r fits =
       let own = own_count f p lives in
       let put = held_put f s.processes pid p (after_reply p e r) at in
@@ -85,7 +85,7 @@ module _ (f : PipeEnd) (s : SyncState) (all : Counted s) (pid : ℕ) (p : Proces
         gone = λ below none. omega (arith, dropped, none);
       }
 
-  told_carried : (e : Effect) (v : Verdict) → GoesOn v → InStep f s.pipes p.descriptors e → Carried f s (after_effect s pid p e v).state
+  told_carried : (e : CallEffect) (v : Verdict) → GoesOn v → InStep f s.pipes p.descriptors e → Carried f s (after_effect s pid p e v).state
   told_carried e Waits on fits = same_carried f s all
   told_carried e (Replies r) on fits = reply_carried e r fits
   told_carried e (Ends status) on fits = absurd on
@@ -97,7 +97,7 @@ module _ (f : PipeEnd) (s : SyncState) (all : Counted s) (pid : ℕ) (p : Proces
   call_carried : Carried f s (after_effect s pid p (call_of s pid p) (call_of s pid p).verdict).state
   call_carried = elim (row_fits f (shared s) p.descriptors has_own pid p.children (request_of p.state)) [
     | inl fits ↦ told_carried (call_of s pid p) (call_of s pid p).verdict fits.goes_on fits
-    | inr end ↦ subst (λ (x : Effect). Carried f s (after_effect s pid p x x.verdict).state) (sym end.1) (end_carried end.0)
+    | inr end ↦ subst (λ (x : CallEffect). Carried f s (after_effect s pid p x x.verdict).state) (sym end.1) (end_carried end.0)
   ]
 
 step_carried : (f : PipeEnd) (s : SyncState) (e : Event) → Counted s → Carried f s (step s e).state
@@ -176,7 +176,7 @@ forked_emptied : (p : Process) (o : Option ℕ) → AreEmptied (forked p o)
 forked_emptied p None = tt
 forked_emptied p (Some child) = (λ ended. absurd (let no : ⊥ = cc in no), tt)
 
-effect_emptied : (s : SyncState) (pid : ℕ) (p : Process) (e : Effect) (v : Verdict) → AreEmptied s.processes → AreEmptied (after_effect s pid p e v).state.processes
+effect_emptied : (s : SyncState) (pid : ℕ) (p : Process) (e : CallEffect) (v : Verdict) → AreEmptied s.processes → AreEmptied (after_effect s pid p e v).state.processes
 effect_emptied s pid p e Waits all = all
 effect_emptied s pid p e (Replies r) all =
     each_append IsEmptied (put_process s.processes pid (after_reply p e r)) (forked p e.child)

@@ -7,7 +7,7 @@ use Rattle.disk_model.specs.Numbers.{Numbered, numbered_after}
 use Rattle.kernel_model.specs.Entries.{Entry}
 use Rattle.kernel_model.proofs.Transitions.{each_event, of_step}
 use Rattle.kernel_model.specs.State.{SyncState, Process, changed_by}
-use Rattle.kernel_model.specs.Rows.{Effect}
+use Rattle.kernel_model.specs.Rows.{CallEffect}
 use Rattle.kernel_model.specs.Steps.{Transition, after_effect, step}
 use Rattle.kernel_model.specs.Paths.{changes_in_log, with_change}
 use Rattle.kernel_model.specs.World.{World, happens, after}
@@ -46,7 +46,7 @@ files_after-entry files (x ∷ xs) e =
 abbrev ChangesByEntry : SyncState → Transition → Type 0
 ChangesByEntry s t = t.state.files ≡ changed_by s.files t.entry.change
 
-effect_changes : (s : SyncState) (pid : ℕ) (p : Process) (e : Effect) (verdict : Verdict) → ChangesByEntry s (after_effect s pid p e verdict)
+effect_changes : (s : SyncState) (pid : ℕ) (p : Process) (e : CallEffect) (verdict : Verdict) → ChangesByEntry s (after_effect s pid p e verdict)
 effect_changes s pid p e Waits = refl
 effect_changes s pid p e (Replies r) = refl
 effect_changes s pid p e (Ends status) = refl

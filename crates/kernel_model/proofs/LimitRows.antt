@@ -9,7 +9,7 @@ use Rattle.machine_model.specs.declared.stop.Stop.{Stop}
 use Rattle.kernel_model.specs.Requests.{request_of}
 use Rattle.disk_model.specs.declared.change.Change.TheVariants as change
 use Rattle.kernel_model.specs.Limits.{AreNumbered}
-use Rattle.kernel_model.specs.Rows.{Effect, only, ends_of, descriptor_at, most_pipes}
+use Rattle.kernel_model.specs.Rows.{CallEffect, only, ends_of, descriptor_at, most_pipes}
 use Rattle.kernel_model.specs.State.{Process, Shared, PipeState, changed_by, all_stepped}
 use Rattle.kernel_model.specs.Steps.{change_by, effect_at}
 use Rattle.kernel_model.specs.declared.descriptor.Descriptor.{Descriptor}
@@ -40,17 +40,17 @@ mapped P f (Some a) each = each a
 module _ (s : Shared) (tapes : ℕ) (before : PipesFit s.pipes) (numbered : AreNumbered s.files) where
   -- An effect leaves the pipes within their limits; the change that it makes leaves the files within theirs, the descriptors that
   -- it sets stand for what is then there, and the process that it makes is the next.
-  pub record Keeps (e : Effect) : Type 0 where
+  pub record Keeps (e : CallEffect) : Type 0 where
     pub pipes : PipesFit (all_stepped s.pipes e.pipes)
     pub change : IfSome (change_by s.files e.edit) (LeavesFew s.files.living)
     pub slots : SetThere (changed_by s.files (change_by s.files e.edit)).made tapes e.slots
     pub child : IsNoneOrNextProcess (length s.statuses) e.child
 
   -- the effect changes no table
-  abbrev IsStill : Effect → Type 0
+  abbrev IsStill : CallEffect → Type 0
   IsStill e = e ≡ record (only e.verdict) { reads = e.reads; writes = e.writes; output = e.output; tape = e.tape; collects = e.collects }
 
-  still : (e : Effect) → IsStill e → Keeps e
+  still : (e : CallEffect) → IsStill e → Keeps e
   still e is = subst Keeps (sym is) (record { pipes = before; change = tt; slots = tt; child = tt })
 
   stand : PipesStand (length s.pipes) s.pipes
@@ -150,4 +150,4 @@ module _ (s : Shared) (tapes : ℕ) (before : PipesFit s.pipes) (numbered : AreN
   -- what comes of a call or a trap keeps the limits
   pub effect_keeps : (pid : ℕ) (p : Process) (stop : Option Stop) → AreThere s.files.made tapes p.descriptors → IfSome (effect_at s pid p stop) Keeps
   effect_keeps pid p stop known =
-      of_effect Keeps s pid p stop (each_keeps p.descriptors known p.state.hart.memory p.children (request_of p.state) (asked_by p.state))
+      of_effect Keeps s pid p stop (each_keeps p.descriptors known p.state.architectural.memory p.children (request_of p.state) (asked_by p.state))

@@ -7,11 +7,11 @@ use Rattle.disk_model.specs.declared.change.Change.{Change}
 use Rattle.disk_model.proofs.Lists.{each_get, each_more}
 use Rattle.disk_model.proofs.Tidy.{IsTidyFile, tidy_after}
 use Rattle.machine_model.specs.declared.reply.Reply.{Reply}
-use Rattle.machine_model.specs.States.{stands_at}
+use Rattle.machine_model.specs.States.{stopped_at}
 use Rattle.machine_model.specs.Replies.{replied}
 use Rattle.disk_model.specs.Numbers.{Numbered}
 use Rattle.kernel_model.specs.Limits.{AreNumbered, KeepLimits, TapesAreThere, AreFewAndShort, RiseWithin, descriptor_count}
-use Rattle.kernel_model.specs.Rows.{Effect, most_processes}
+use Rattle.kernel_model.specs.Rows.{CallEffect, most_processes}
 use Rattle.kernel_model.specs.State.{SyncState, Process, TapeState, process_at, put_process, with_process, shared, changed_by, read_by, with_place}
 use Rattle.kernel_model.specs.Steps.{Transition, change_by, after_run, is_collected, after_reply, forked, after_end, after_effect, step, zero_reply}
 use Rattle.kernel_model.specs.World.{World, Boot, BootProgram, HoldsItsFiles, first_process, processes_from, tapes_of, tape_count, first_world, happens, after}
@@ -123,7 +123,7 @@ module _ (tapes : ℕ) (s : SyncState) (all : AllStand tapes s) (pid : ℕ) (p :
         files = λ h. h;
       }
 
-  end_kept : (e : Effect) (status : ℕ) → Keeps (shared s) tapes all.pipes all.numbered e → Kept tapes s (after_effect s pid p e (Ends status)).state
+  end_kept : (e : CallEffect) (status : ℕ) → Keeps (shared s) tapes all.pipes all.numbered e → Kept tapes s (after_effect s pid p e (Ends status)).state
   end_kept e status keeps =
       let count = put_length s.processes pid (after_end p status) in
       record {
@@ -143,7 +143,7 @@ module _ (tapes : ℕ) (s : SyncState) (all : AllStand tapes s) (pid : ℕ) (p :
       }
 
   -- Below, an effect that keeps the limits, and a reply.
-  module _ (e : Effect) (r : Reply) (keeps : Keeps (shared s) tapes all.pipes all.numbered e) where
+  module _ (e : CallEffect) (r : Reply) (keeps : Keeps (shared s) tapes all.pipes all.numbered e) where
     next : IsNoneOrNextProcess (length s.processes) e.child
     next = subst (λ (n : ℕ). IsNoneOrNextProcess n e.child) (length-map s.processes (λ (q : Process). q.status)) keeps.child
 
@@ -202,7 +202,7 @@ module _ (tapes : ℕ) (s : SyncState) (all : AllStand tapes s) (pid : ℕ) (p :
       files = λ h. by_stand s.files (change_by s.files e.edit) keeps.change h;
     }
 
-  told_kept : (e : Effect) (v : Verdict) → Keeps (shared s) tapes all.pipes all.numbered e → Kept tapes s (after_effect s pid p e v).state
+  told_kept : (e : CallEffect) (v : Verdict) → Keeps (shared s) tapes all.pipes all.numbered e → Kept tapes s (after_effect s pid p e v).state
   told_kept e Waits keeps = same_kept tapes s all
   told_kept e (Replies r) keeps = reply_kept e r keeps
   told_kept e (Ends status) keeps = end_kept e status keeps
@@ -213,8 +213,8 @@ pub step_kept : (tapes : ℕ) (s : SyncState) (e : Event) → AllStand tapes s �
 step_kept tapes s e all = of_step (λ (t : Transition). Kept tapes s t.state) s (same_kept tapes s all)
     (λ pid. each_event (λ (t : Transition). Kept tapes s t.state) s pid (same_kept tapes s all)
     (λ n p at lives. run_kept tapes s all pid p at n)
-    (λ p f at lives is. told_kept tapes s all pid p at f f.verdict (subst (λ (o : Option Effect). IfSome o (Keeps (shared s) tapes all.pipes all.numbered)) is
-    (effect_keeps (shared s) tapes all.pipes all.numbered pid p (stands_at p.state) (all.each pid p at).there)))) e
+    (λ p f at lives is. told_kept tapes s all pid p at f f.verdict (subst (λ (o : Option CallEffect). IfSome o (Keeps (shared s) tapes all.pipes all.numbered)) is
+    (effect_keeps (shared s) tapes all.pipes all.numbered pid p (stopped_at p.state) (all.each pid p at).there)))) e
 
 -- ---- runs
 

@@ -9,7 +9,7 @@ use Rattle.disk_model.specs.declared.change.Change.{Change}
 use Rattle.disk_model.specs.declared.change.Change.TheVariants as change
 use Rattle.machine_model.specs.declared.stop.Stop.{Stop}
 use Rattle.kernel_model.specs.Requests.{request_of}
-use Rattle.kernel_model.specs.Rows.{Effect, directory, names_of, number_named}
+use Rattle.kernel_model.specs.Rows.{CallEffect, directory, names_of, number_named}
 use Rattle.kernel_model.specs.State.{Process, Shared}
 use Rattle.kernel_model.specs.Steps.{change_by, effect_at}
 use Rattle.kernel_model.specs.declared.descriptor.Descriptor.{Descriptor}
@@ -19,7 +19,7 @@ use Rattle.kernel_model.proofs.Gone.{none_number}
 use Rattle.kernel_model.proofs.Names.{at_some}
 
 -- there is a change where there is an edit
-abbrev pub Makes : Numbered → Effect → Type 0
+abbrev pub Makes : Numbered → CallEffect → Type 0
 Makes files e = is_some (change_by files e.edit) ≡ is_some e.edit
 
 -- a file that lives has a place
@@ -65,7 +65,7 @@ each_makes s ds children r = record {
   ended = λ _. refl;
 }
 
-pub effect_makes : (s : Shared) (pid : ℕ) (p : Process) (stop : Option Stop) (e : Effect) → effect_at s pid p stop ≡ Some e
+pub effect_makes : (s : Shared) (pid : ℕ) (p : Process) (stop : Option Stop) (e : CallEffect) → effect_at s pid p stop ≡ Some e
     → is_some (change_by s.files e.edit) ≡ is_some e.edit
 effect_makes s pid p stop e is =
-    subst (λ (o : Option Effect). IfSome o (Makes s.files)) is (of_effect (Makes s.files) s pid p stop (each_makes s p.descriptors p.children (request_of p.state)))
+    subst (λ (o : Option CallEffect). IfSome o (Makes s.files)) is (of_effect (Makes s.files) s pid p stop (each_makes s p.descriptors p.children (request_of p.state)))

@@ -1,13 +1,13 @@
 -- The events of a process, walked once: what holds of each transition that one may make holds of the event's.
 use Rattle.std.proofs.Common.{◌≡◌, ℕ, ◌+◌, Bool, true, false, Option, Some, None, is_some, refl, ap}
 use Rattle.std.specs.Prelude.{if◌then◌else◌}
-use Rattle.machine_model.specs.States.{stands_at}
+use Rattle.machine_model.specs.States.{stopped_at}
 use Rattle.machine_model.specs.declared.stop.Cause.{Cause}
 use Rattle.machine_model.specs.declared.stop.Stop.{Stop}
 use Rattle.machine_model.specs.declared.stop.Stop.TheVariants.{Limit, Call, Trap}
 use Rattle.kernel_model.specs.Requests.{request_of}
 use Rattle.machine_model.specs.Numbers.{cause_number}
-use Rattle.kernel_model.specs.Rows.{Effect, row, row_end}
+use Rattle.kernel_model.specs.Rows.{CallEffect, row, row_end}
 use Rattle.kernel_model.specs.State.{SyncState, Process, shared, process_at, with_process}
 use Rattle.kernel_model.specs.Steps.{Transition, unchanged, impossible, own_entry, after_run, after_turn, after_effect, after_effect_if, after_enter, effect_at, step}
 use Rattle.kernel_model.specs.declared.event.Event.{Event}
@@ -19,11 +19,11 @@ abbrev pub turned : SyncState → ℕ → ℕ → Process → Transition
 turned s pid n p = record { state = with_process s pid (after_run n p); entry = own_entry pid }
 
 -- the effect of the call at which process pid, which is p, stands
-abbrev pub call_of : SyncState → ℕ → Process → Effect
+abbrev pub call_of : SyncState → ℕ → Process → CallEffect
 call_of s pid p = row (shared s) pid p.descriptors p.children (request_of p.state)
 
 -- the effect of a trap
-abbrev pub trap_of : Process → Cause → Effect
+abbrev pub trap_of : Process → Cause → CallEffect
 trap_of p cause = row_end p.descriptors (256 + cause_number cause)
 
 -- What has to hold of each transition that an event of process pid may make: of one that it cannot have, of a Turn, and of an
@@ -31,16 +31,16 @@ trap_of p cause = row_end p.descriptors (256 + cause_number cause)
 pub record OfEachEvent (P : Transition → Type 0) (s : SyncState) (pid : ℕ) : Type 0 where
   pub cannot : P (impossible pid s)
   pub turns : (n : ℕ) (p : Process) → process_at s.processes pid ≡ Some p → is_some p.status ≡ false → P (turned s pid n p)
-  pub calls : (p : Process) → process_at s.processes pid ≡ Some p → is_some p.status ≡ false → stands_at p.state ≡ Some Call
+  pub calls : (p : Process) → process_at s.processes pid ≡ Some p → is_some p.status ≡ false → stopped_at p.state ≡ Some Call
       → P (after_effect s pid p (call_of s pid p) (call_of s pid p).verdict)
-  pub traps : (p : Process) (cause : Cause) → process_at s.processes pid ≡ Some p → is_some p.status ≡ false → stands_at p.state ≡ Some (Trap cause)
+  pub traps : (p : Process) (cause : Cause) → process_at s.processes pid ≡ Some p → is_some p.status ≡ false → stopped_at p.state ≡ Some (Trap cause)
       → P (after_effect s pid p (trap_of p cause) (Ends (256 + cause_number cause)))
 
 -- the same, where a call and a trap are alike
 pub each_event : (P : Transition → Type 0) (s : SyncState) (pid : ℕ) → P (impossible pid s)
     → ((n : ℕ) (p : Process) → process_at s.processes pid ≡ Some p → is_some p.status ≡ false → P (turned s pid n p))
-    → ((p : Process) (e : Effect) → process_at s.processes pid ≡ Some p → is_some p.status ≡ false
-    → effect_at (shared s) pid p (stands_at p.state) ≡ Some e → P (after_effect s pid p e e.verdict))
+    → ((p : Process) (e : CallEffect) → process_at s.processes pid ≡ Some p → is_some p.status ≡ false
+    → effect_at (shared s) pid p (stopped_at p.state) ≡ Some e → P (after_effect s pid p e e.verdict))
     → OfEachEvent P s pid
 each_event P s pid cannot turns enters = record {
   cannot = cannot;
@@ -59,7 +59,7 @@ module _ (P : Transition → Type 0) (s : SyncState) (pid : ℕ) (of : OfEachEve
       by true ended = of.cannot
       by false lives = of.turns n p at lives
 
-  stop_is : (p : Process) (o : Option Stop) → process_at s.processes pid ≡ Some p → is_some p.status ≡ false → stands_at p.state ≡ o
+  stop_is : (p : Process) (o : Option Stop) → process_at s.processes pid ≡ Some p → is_some p.status ≡ false → stopped_at p.state ≡ o
       → P (after_effect_if s pid p (effect_at (shared s) pid p o))
   stop_is p None at lives stands = of.cannot
   stop_is p (Some Limit) at lives stands = of.cannot
@@ -71,9 +71,9 @@ module _ (P : Transition → Type 0) (s : SyncState) (pid : ℕ) (of : OfEachEve
   enter_is (Some p) at = by (is_some p.status) refl
     where
       by : (b : Bool) → is_some p.status ≡ b
-          → P (if b then impossible pid s else after_effect_if s pid p (effect_at (shared s) pid p (stands_at p.state)))
+          → P (if b then impossible pid s else after_effect_if s pid p (effect_at (shared s) pid p (stopped_at p.state)))
       by true ended = of.cannot
-      by false lives = stop_is p (stands_at p.state) at lives refl
+      by false lives = stop_is p (stopped_at p.state) at lives refl
 
   -- it holds of a Turn, and of an Enter
   pub of_turn : (n : ℕ) → P (step s (Turn pid n))

@@ -4,7 +4,7 @@ use Rattle.std.specs.List.{list_any}
 use Rattle.disk_model.specs.declared.change.Change.{Change}
 use Rattle.disk_model.specs.declared.change.Piece.{Piece}
 use Rattle.disk_model.specs.Storage.{Storage, piece_at, is_empty, is_quiet, least_start}
-use Rattle.machine_model.specs.States.{run, stands_at}
+use Rattle.machine_model.specs.States.{run, stopped_at}
 use Rattle.kernel_model.specs.Entries.{Item, Got, End}
 use Rattle.kernel_model.specs.Paths.{changes_in_log}
 use Rattle.kernel_model.specs.State.{Process, process_at}
@@ -118,7 +118,7 @@ has_ended (Some p) = is_some p.status
 -- the process is there, and stands at a call or a trap
 abbrev pub is_stopped : Option Process → Bool
 is_stopped None = false
-is_stopped (Some p) = is_some (stands_at p.state)
+is_stopped (Some p) = is_some (stopped_at p.state)
 
 -- how many instructions the process has done
 abbrev pub count_at : Option Process → ℕ

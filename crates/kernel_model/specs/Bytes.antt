@@ -6,7 +6,7 @@ use Rattle.kernel_model.specs.World.{BootProgram, Boot}
 
 -- the memory of each program holds bytes
 abbrev pub ProgramsHoldBytes : Boot → Type 0
-ProgramsHoldBytes b = AllByRecursion (λ (p : BootProgram). HoldsBytes p.state.hart.memory) b.programs
+ProgramsHoldBytes b = AllByRecursion (λ (p : BootProgram). HoldsBytes p.state.architectural.memory) b.programs
 
 -- each tape holds bytes
 abbrev pub TapesHoldBytes : Boot → Type 0

@@ -1,6 +1,6 @@
 -- Runs by single instructions.
 use Rattle.std.specs.Prelude.{◌≡◌, ℕ, ◌+◌, ◌==◌, Bool, true, false, if◌then◌else◌, List, [], ◌∷◌, ◌++◌, replicate, Option, Some, None, is_some}
-use Rattle.machine_model.specs.States.{run, stands_at}
+use Rattle.machine_model.specs.States.{run, stopped_at}
 use Rattle.kernel_model.specs.State.{Process, process_at}
 use Rattle.kernel_model.specs.World.{World, happens}
 use Rattle.kernel_model.specs.declared.event.Event.{Event}
@@ -37,7 +37,7 @@ gathered (Other e ∷ items) = e ∷ gathered items
 -- the process is there, has not ended, and stands at no call and no trap
 abbrev pub may_go : Option Process → Bool
 may_go None = false
-may_go (Some p) = if is_some p.status then false else if is_some (stands_at p.state) then false else true
+may_go (Some p) = if is_some p.status then false else if is_some (stopped_at p.state) then false else true
 
 -- no Turn stands among the other events, and each instruction can be done where it stands
 abbrev pub IsFine : World → List Fine → Type 0

@@ -2,7 +2,7 @@
 use Rattle.std.specs.Prelude.{◌≡◌, ℕ, suc, zero, ◌+◌, ◌-◌, ◌==◌, ◌&&◌, not, nat_lt, nat_le, Bool, true, false, if◌then◌else◌, List, [], ◌∷◌, ◌++◌, length, take, drop, find, slice_set, ◌*◌, Option, Some, None, is_some, is_none, option_map, Result, MatchResult, MatchOption}
 use Rattle.std.specs.List.{fold}
 use Rattle.disk_model.specs.Storage.{is_empty}
-use Rattle.machine_model.specs.States.{State, Ran, stands_at}
+use Rattle.machine_model.specs.States.{State, Ran, stopped_at}
 use Rattle.kernel_model.specs.Entries.{Entry}
 use Rattle.kernel_model.specs.State.{Process}
 use Rattle.kernel_model.specs.Steps.{step}
@@ -129,7 +129,7 @@ returned k p = record k { lendings = put_lending k.lendings p (record { loans = 
 
 -- the events that a result becomes: a Turn, and an Enter where the state reached stands at a call or a trap
 abbrev pub events_of : LoanResult → List Event
-events_of r = Turn r.process r.reached.count ∷ (if is_some (stands_at r.reached.state) then Enter r.process ∷ [] else [])
+events_of r = Turn r.process r.reached.count ∷ (if is_some (stopped_at r.reached.state) then Enter r.process ∷ [] else [])
 
 -- the core once the result is taken back
 abbrev pub settled : Kernel → LoanResult → Kernel
@@ -141,7 +141,7 @@ outcome_after k p n = outcome_of (step (now (with_event k (Turn p n))).sync (Ent
 
 -- what the result's Enter came to, if it has one
 abbrev pub settled_outcome : Kernel → LoanResult → Option Outcome
-settled_outcome k r = if is_some (stands_at r.reached.state) then Some (outcome_after k r.process r.reached.count) else None
+settled_outcome k r = if is_some (stopped_at r.reached.state) then Some (outcome_after k r.process r.reached.count) else None
 
 -- the answer to a result that is taken back
 abbrev pub settled_answer : Kernel → LoanResult → Answer

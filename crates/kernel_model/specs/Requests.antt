@@ -54,5 +54,5 @@ request_by number a0 a1 a2 memory =
 
 -- the call at which a machine stands: its number is in a7, its arguments in a0, a1 and a2
 abbrev pub request_of : State → Request
-request_of s = request_by (slice_index s.hart.registers 17)
-    (slice_index s.hart.registers 10) (slice_index s.hart.registers 11) (slice_index s.hart.registers 12) s.hart.memory
+request_of s = request_by (slice_index s.architectural.registers 17)
+    (slice_index s.architectural.registers 10) (slice_index s.architectural.registers 11) (slice_index s.architectural.registers 12) s.architectural.memory

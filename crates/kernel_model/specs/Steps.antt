@@ -6,13 +6,13 @@ use Rattle.disk_model.specs.declared.change.Change.TheVariants as change
 use Rattle.machine_model.specs.declared.reply.Reply.{Reply}
 use Rattle.machine_model.specs.declared.stop.Stop.{Stop}
 use Rattle.machine_model.specs.declared.stop.Stop.TheVariants.{Limit, Call, Trap}
-use Rattle.machine_model.specs.States.{run, stands_at}
+use Rattle.machine_model.specs.States.{run, stopped_at}
 use Rattle.machine_model.specs.Replies.{replied}
 use Rattle.kernel_model.specs.Entries.{Entry, Got, End}
 use Rattle.kernel_model.specs.State.{SyncState, Shared, shared, Process, process_at, put_process, with_process, changed_by, read_by, all_stepped}
 use Rattle.kernel_model.specs.Requests.{request_of}
 use Rattle.machine_model.specs.Numbers.{cause_number}
-use Rattle.kernel_model.specs.Rows.{Effect, row, row_end}
+use Rattle.kernel_model.specs.Rows.{CallEffect, row, row_end}
 use Rattle.kernel_model.specs.declared.carrier.Carrier.TheVariants.{Proc}
 use Rattle.kernel_model.specs.declared.descriptor.Descriptor.{Descriptor}
 use Rattle.kernel_model.specs.declared.effect.FileEdit.{FileEdit}
@@ -56,7 +56,7 @@ after_turn s pid n (Some p) =
     else record { state = with_process s pid (after_run n p); entry = own_entry pid }
 
 -- what comes of the call or the trap at which process pid stands
-abbrev pub effect_at : Shared → ℕ → Process → Option Stop → Option Effect
+abbrev pub effect_at : Shared → ℕ → Process → Option Stop → Option CallEffect
 effect_at s pid p (Some Call) = Some (row s pid p.descriptors p.children (request_of p.state))
 effect_at s pid p (Some (Trap cause)) = Some (row_end p.descriptors (256 + cause_number cause))
 effect_at s pid p (Some Limit) = None
@@ -73,11 +73,11 @@ is_collected None child = false
 is_collected (Some collected) child = child == collected
 
 -- the children left to collect, without the one that is collected, and with the one that is made
-abbrev pub children_after : List ℕ → Effect → List ℕ
+abbrev pub children_after : List ℕ → CallEffect → List ℕ
 children_after children e = filter (λ child. not (is_collected e.collects child)) children ++ option_to_list e.child
 
 -- the process after a reply
-abbrev pub after_reply : Process → Effect → Reply → Process
+abbrev pub after_reply : Process → CallEffect → Reply → Process
 after_reply p e r = record {
   state = replied p.state r;
   descriptors = set_slots p.descriptors e.slots;
@@ -112,7 +112,7 @@ change_by files None = None
 change_by files (Some edit) = change_of files edit
 
 -- what an effect does, where the caller is told this
-abbrev pub after_effect : SyncState → ℕ → Process → Effect → Verdict → Transition
+abbrev pub after_effect : SyncState → ℕ → Process → CallEffect → Verdict → Transition
 after_effect s pid p e Waits = record {
   state = s;
   entry = record { process = pid; reads = Proc pid ∷ e.reads; writes = []; change = None; output = None; item = None; child = None };
@@ -148,7 +148,7 @@ after_effect s pid p e (Ends status) = record {
 }
 
 -- the same of an effect, if there is one
-abbrev pub after_effect_if : SyncState → ℕ → Process → Option Effect → Transition
+abbrev pub after_effect_if : SyncState → ℕ → Process → Option CallEffect → Transition
 after_effect_if s pid p None = impossible pid s
 after_effect_if s pid p (Some e) = after_effect s pid p e e.verdict
 
@@ -157,7 +157,7 @@ abbrev pub after_enter : SyncState → ℕ → Option Process → Transition
 after_enter s pid None = impossible pid s
 after_enter s pid (Some p) =
     if is_some p.status then impossible pid s
-    else after_effect_if s pid p (effect_at (shared s) pid p (stands_at p.state))
+    else after_effect_if s pid p (effect_at (shared s) pid p (stopped_at p.state))
 
 -- one event
 abbrev pub step : SyncState → Event → Transition

@@ -8,9 +8,9 @@ ghost use Rattle.kernel_model.specs.Entries.{Entry};
 ghost use Rattle.kernel_model.specs.Paths.{IsDurable, is_durable, changes_in_log};
 ghost use Rattle.kernel_model.specs.State.{Process, PipeState, SyncState, process_at, shared};
 ghost use Rattle.kernel_model.specs.Ends.{count_held};
-ghost use Rattle.kernel_model.specs.Rows.{Effect, first_ended, most_processes};
+ghost use Rattle.kernel_model.specs.Rows.{CallEffect, first_ended, most_processes};
 ghost use Rattle.kernel_model.specs.Steps.{change_by, effect_at};
-ghost use Rattle.machine_model.specs.States.{stands_at};
+ghost use Rattle.machine_model.specs.States.{stopped_at};
 ghost use Rattle.kernel_model.specs.Limits.{AreFewAndShort, FindsLeast, KeepLimits, TapesAreThere};
 ghost use Rattle.kernel_model.specs.World.{Boot, HoldsItsFiles, first_world, after, tape_count};
 ghost use Rattle.kernel_model.specs.declared.descriptor.PipeEnd.TheVariants.{Read, Write};
@@ -39,7 +39,7 @@ pub fn files_stay_gone()
 
 /// A law: each edit of a file is made. Where the row of the call at which a process stands edits a file, its event makes a change.
 pub fn edits_are_made()
-    ensures { (s : SyncState) (pid : ℕ) (p : Process) (e : Effect) → effect_at (shared s) pid p (stands_at p.state) ≡ Some e
+    ensures { (s : SyncState) (pid : ℕ) (p : Process) (e : CallEffect) → effect_at (shared s) pid p (stopped_at p.state) ≡ Some e
         → is_some (change_by s.files e.edit) ≡ is_some e.edit }
 {}
 

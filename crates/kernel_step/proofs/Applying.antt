@@ -19,7 +19,7 @@ use Rattle.kernel_model.specs.declared.answer.Answer.TheVariants as answer_of
 use Rattle.kernel_model.specs.declared.answer.Refused.{Refused}
 use Rattle.kernel_model.specs.declared.event.Event.{Event}
 use Rattle.kernel_model.specs.declared.event.Event.TheVariants.{Turn}
-use Rattle.kernel_step.specs.Stands.{kernel_of, KeepsRun}
+use Rattle.kernel_step.specs.Represents.{kernel_of, KeepsRun}
 use Rattle.kernel_step.specs.Mirrors.{Mirrors}
 use Rattle.kernel_step.specs.Parts.{Turned}
 use Rattle.kernel_step.specs.Seen.{AreScreens}

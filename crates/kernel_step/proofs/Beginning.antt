@@ -22,7 +22,7 @@ use Rattle.disk_model.specs.declared.change.NamedFile.{NamedFile}
 use Rattle.disk_model.specs.Numbers.{numbered}
 use Rattle.disk_model.proofs.Tidy.{tidy_after}
 use Rattle.kernel_step.specs.Booting.{program_of, boot_with, nothing_lent}
-use Rattle.kernel_step.specs.Stands.{KeepsRun}
+use Rattle.kernel_step.specs.Represents.{KeepsRun}
 use Rattle.kernel_step.specs.First.{IsFirst, AreFirst, parts_from, AreEmpty}
 use Rattle.kernel_step.specs.Mirrors.{IsTask, ArePipes}
 use Rattle.kernel_step.specs.Seen.{Withholds, AreScreens}
@@ -100,22 +100,22 @@ none-lent programs = record { each = λ place l there. few programs place l ther
 
 -- ---- the memories
 each-holds : (programs : List Program) (tasks : List Task) → length tasks ≡ length programs
-    → ((i : ℕ) (t : Task) → slice_get tasks i ≡ Some t → (p : Program) × (slice_get programs i ≡ Some p) × HoldsBytes (first_state p.image).hart.memory)
-    → AllByRecursion (λ (p : BootProgram). HoldsBytes p.state.hart.memory) (map program_of programs)
+    → ((i : ℕ) (t : Task) → slice_get tasks i ≡ Some t → (p : Program) × (slice_get programs i ≡ Some p) × HoldsBytes (first_state p.image).architectural.memory)
+    → AllByRecursion (λ (p : BootProgram). HoldsBytes p.state.architectural.memory) (map program_of programs)
 each-holds [] tasks l h = tt
 each-holds (p ∷ ps) [] l h = absurd (omega arith)
 each-holds (p ∷ ps) (t ∷ ts) l h =
     let first = h 0 t refl in
     let same : first.0 ≡ p = cc in (
-      subst (λ (q : Program). HoldsBytes (first_state q.image).hart.memory) same first.2,
+      subst (λ (q : Program). HoldsBytes (first_state q.image).architectural.memory) same first.2,
       each-holds ps ts (omega arith) (λ i u there. h (suc i) u there),
     )
 
 pub programs-hold : (programs : List Program) (tasks : List Task) → AreFirst programs tasks
-    → AllByRecursion (λ (p : BootProgram). HoldsBytes p.state.hart.memory) (map program_of programs)
+    → AllByRecursion (λ (p : BootProgram). HoldsBytes p.state.architectural.memory) (map program_of programs)
 programs-hold programs tasks h = each-holds programs tasks h.count (λ i t there.
     let one = h.each i t there in
-    (one.0, one.1, subst (λ (s : State). HoldsBytes s.hart.memory) one.2.machine one.2.bytes))
+    (one.0, one.1, subst (λ (s : State). HoldsBytes s.architectural.memory) one.2.machine one.2.bytes))
 
 -- ---- one task
 first-task : (b : Boot) (served i : ℕ) (p : Program) (t : Task) → IsFirst i p t → IsTask (first_world b) served i t

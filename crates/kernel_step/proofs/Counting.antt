@@ -2,7 +2,7 @@
 use Rattle.std.proofs.Common.{◌≡◌, ℕ, zero, suc, ◌+◌, ◌*◌, ◌^◌, ◌<◌, ◌≤◌, Bool, true, false, if◌then◌else◌, List, [], ◌∷◌, ◌++◌, length, map, slice_get, slice_set, Option, Some, None, is_some, Result, Ok, Err, refl, sym, ap, subst, ◌∙◌, arith, append_assoc, length-append}
 use Rattle.std.proofs.lemmas.List.{length-map}
 use Rattle.std.specs.Prelude.{IfOk, OnOk, OnErr}
-use Rattle.machine_model.specs.States.{State, Stepped, Goes, Halts, Ran, reached_at, next, run, stands_at}
+use Rattle.machine_model.specs.States.{State, Stepped, Goes, Halts, Ran, reached_at, next, run, stopped_at}
 use Rattle.machine_model.specs.declared.stop.Stop.{Stop}
 use Rattle.machine_model.specs.declared.stop.Stop.TheVariants.{Limit, Call, Trap}
 use Rattle.machine_model.proofs.Running.{run-zero, run-goes, run-halts, next-count}
@@ -11,7 +11,7 @@ use Rattle.kernel_model.specs.Loans.{events_of}
 use Rattle.kernel_model.specs.Ran.{instructions_of, instructions_in, instructions_from, ran_in}
 use Rattle.kernel_model.specs.Requests.{request_of}
 use Rattle.machine_model.specs.Numbers.{cause_number}
-use Rattle.kernel_model.specs.Rows.{Effect as Row, row, row_end, most_processes}
+use Rattle.kernel_model.specs.Rows.{CallEffect, row, row_end, most_processes}
 use Rattle.kernel_model.specs.State.{SyncState, Process, shared, process_at, put_process, with_process}
 use Rattle.kernel_model.specs.Steps.{Transition, step, impossible, own_entry, after_run, after_turn, after_reply, after_end, forked, effect_at, after_effect, after_effect_if, after_enter}
 use Rattle.kernel_model.specs.World.{Boot, World, first_world, happens, processes_from, most_programs, run_of}
@@ -26,7 +26,7 @@ use Rattle.kernel_model.proofs.Limits.{put_length}
 use Rattle.kernel_model.proofs.Runs.{after-append, append-nil, now-with_event, instructions-append, ran-answer}
 use Rattle.disk_model.specs.declared.change.NamedFile.{NamedFile}
 use Rattle.kernel_step.specs.Booting.{program_of, boot_with}
-use Rattle.kernel_step.specs.Stands.{kernel_of, KeepsRun}
+use Rattle.kernel_step.specs.Represents.{kernel_of, KeepsRun}
 use Rattle.kernel_step.specs.Counted.{done_by, IsCounted}
 use Rattle.kernel_step.specs.Loaned.{loan_result}
 use Rattle.kernel_step.specs.Mirrors.{AreTasks}
@@ -90,7 +90,7 @@ done-append [] qs = omega arith
 done-append (p ∷ ps) qs = let rest = done-append ps qs in omega (arith, rest)
 
 -- ---- what an event does to that
-effect-done : (s : SyncState) (pid : ℕ) (p : Process) (e : Row) (v : Verdict) → process_at s.processes pid ≡ Some p
+effect-done : (s : SyncState) (pid : ℕ) (p : Process) (e : CallEffect) (v : Verdict) → process_at s.processes pid ≡ Some p
     → done_by s.processes ≤ done_by (after_effect s pid p e v).state.processes
 effect-done s pid p e Waits there = omega arith
 effect-done s pid p e (Replies r) there =
@@ -104,18 +104,18 @@ stop-done : (s : SyncState) (pid : ℕ) (p : Process) (stop : Option Stop) → p
 stop-done s pid p None there = omega arith
 stop-done s pid p (Some Limit) there = omega arith
 stop-done s pid p (Some Call) there =
-    let e : Row = row (shared s) pid p.descriptors p.children (request_of p.state) in effect-done s pid p e e.verdict there
+    let e : CallEffect = row (shared s) pid p.descriptors p.children (request_of p.state) in effect-done s pid p e e.verdict there
 stop-done s pid p (Some (Trap cause)) there =
-    let e : Row = row_end p.descriptors (256 + cause_number cause) in effect-done s pid p e e.verdict there
+    let e : CallEffect = row_end p.descriptors (256 + cause_number cause) in effect-done s pid p e e.verdict there
 
 enter-done : (s : SyncState) (pid : ℕ) (o : Option Process) → process_at s.processes pid ≡ o → done_by s.processes ≤ done_by (after_enter s pid o).state.processes
 enter-done s pid None there = omega arith
 enter-done s pid (Some p) there = by (is_some p.status)
   where
     by : (b : Bool) → done_by s.processes
-        ≤ done_by (if b then impossible pid s else after_effect_if s pid p (effect_at (shared s) pid p (stands_at p.state))).state.processes
+        ≤ done_by (if b then impossible pid s else after_effect_if s pid p (effect_at (shared s) pid p (stopped_at p.state))).state.processes
     by true = omega arith
-    by false = stop-done s pid p (stands_at p.state) there
+    by false = stop-done s pid p (stopped_at p.state) there
 
 turn-done : (s : SyncState) (pid n : ℕ) (lent full : Bool) (o : Option Process) → process_at s.processes pid ≡ o → turn_refusal o lent full n ≡ None
     → done_by s.processes + instructions_of o n ≤ done_by (after_turn s pid n o).state.processes
@@ -140,7 +140,7 @@ forked-few : (p : Process) (count : ℕ) (o : Option ℕ) → IsNoneOrNextProces
 forked-few p count None next few = omega arith
 forked-few p count (Some child) next few = omega (arith, next)
 
-effect-few : (s : SyncState) (pid : ℕ) (p : Process) (e : Row) (v : Verdict) → IsNoneOrNextProcess (length s.processes) e.child → length s.processes ≤ most_processes
+effect-few : (s : SyncState) (pid : ℕ) (p : Process) (e : CallEffect) (v : Verdict) → IsNoneOrNextProcess (length s.processes) e.child → length s.processes ≤ most_processes
     → length (after_effect s pid p e v).state.processes ≤ most_processes
 effect-few s pid p e Waits next few = few
 effect-few s pid p e (Replies r) next few =
@@ -155,18 +155,18 @@ stop-few : (s : SyncState) (pid : ℕ) (p : Process) (stop : Option Stop) → le
 stop-few s pid p None few = few
 stop-few s pid p (Some Limit) few = few
 stop-few s pid p (Some Call) few =
-    let e : Row = row (shared s) pid p.descriptors p.children (request_of p.state) in effect-few s pid p e e.verdict (call_next s pid p) few
+    let e : CallEffect = row (shared s) pid p.descriptors p.children (request_of p.state) in effect-few s pid p e e.verdict (call_next s pid p) few
 stop-few s pid p (Some (Trap cause)) few =
-    let e : Row = row_end p.descriptors (256 + cause_number cause) in effect-few s pid p e e.verdict tt few
+    let e : CallEffect = row_end p.descriptors (256 + cause_number cause) in effect-few s pid p e e.verdict tt few
 
 enter-few : (s : SyncState) (pid : ℕ) (o : Option Process) → length s.processes ≤ most_processes → length (after_enter s pid o).state.processes ≤ most_processes
 enter-few s pid None few = few
 enter-few s pid (Some p) few = by (is_some p.status)
   where
-    by : (b : Bool) → length (if b then impossible pid s else after_effect_if s pid p (effect_at (shared s) pid p (stands_at p.state))).state.processes
+    by : (b : Bool) → length (if b then impossible pid s else after_effect_if s pid p (effect_at (shared s) pid p (stopped_at p.state))).state.processes
         ≤ most_processes
     by true = few
-    by false = stop-few s pid p (stands_at p.state) few
+    by false = stop-few s pid p (stopped_at p.state) few
 
 turn-few : (s : SyncState) (pid n : ℕ) (o : Option Process) → length s.processes ≤ most_processes → length (after_turn s pid n o).state.processes ≤ most_processes
 turn-few s pid n None few = few
@@ -259,7 +259,7 @@ counted-turn b history history' tasks new last ran ran' pid n (Err why) h done m
 -- ---- a loan's result
 result-ran : (w : World) (d : Done) (p : Process) → process_at w.sync.processes d.pid ≡ Some p → p.state ≡ d.began.value
     → instructions_from w (events_of (loan_result d)) ≡ d.count
-result-ran w d p there began = by (is_some (stands_at d.machine))
+result-ran w d p there began = by (is_some (stopped_at d.machine))
   where
     turn : instructions_in w (Turn d.pid d.count) ≡ d.count
     turn =

@@ -1,7 +1,7 @@
 -- An Enter that is not refused.
 use Rattle.std.proofs.Common.{◌≡◌, ℕ, ◌+◌, ◌^◌, ◌<◌, Bool, true, false, ◌||◌, not, List, [], ◌∷◌, slice_get, Option, Some, None, is_some, is_none, nat_le, refl, sym, ap, ◌∙◌}
 use Rattle.std.proofs.lemmas.Bool.{leb-false, not-false, or_parts}
-use Rattle.machine_model.specs.States.{stands_at}
+use Rattle.machine_model.specs.States.{stopped_at}
 use Rattle.kernel_model.specs.declared.answer.Refused.{Refused}
 use Rattle.kernel_model.specs.State.{Process}
 use Rattle.kernel_model.specs.declared.answer.Refused.TheVariants as refused
@@ -25,7 +25,7 @@ none-of-five false false false false false r s t u v h = (refl, refl, refl, refl
 pub record IsFineTask (t : Task) (full : Bool) : Type 0 where
   pub running : status_of t ≡ None
   pub here : out_of t ≡ None
-  pub stopped : is_some (stands_at (machine_of t)) ≡ true
+  pub stopped : is_some (stopped_at (machine_of t)) ≡ true
   pub few : (machine_of t).count < 2 ^ 40
   pub room : full ≡ false
 
@@ -35,13 +35,13 @@ none-some (Some x) h = cc
 
 fine-by : (t : Task) (full : Bool) → enter_refusal (Some (process_of t)) (is_some (out_of t)) full ≡ None → IsFineTask t full
 fine-by t full h =
-    let all = none-of-five false (is_some (status_of t)) (is_some (out_of t)) (not (is_some (stands_at (machine_of t)))) (nat_le limit (machine_of t).count || full)
+    let all = none-of-five false (is_some (status_of t)) (is_some (out_of t)) (not (is_some (stopped_at (machine_of t)))) (nat_le limit (machine_of t).count || full)
     refused.NoProcess refused.Ended refused.Lent refused.NotStopped refused.Budget h in
     let last = or_parts (nat_le limit (machine_of t).count) full all.4 in
     record {
       running = none-some (status_of t) all.1;
       here = none-some (out_of t) all.2;
-      stopped = not-false (is_some (stands_at (machine_of t))) all.3;
+      stopped = not-false (is_some (stopped_at (machine_of t))) all.3;
       few = leb-false limit (machine_of t).count last.0;
       room = last.1;
     }

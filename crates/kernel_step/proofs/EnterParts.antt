@@ -3,7 +3,7 @@ use Rattle.std.proofs.Common.{◌≡◌, ℕ, zero, suc, ◌+◌, ◌*◌, ◌�
 use Rattle.std.proofs.lemmas.List.{map-set, map-append, length_push}
 use Rattle.std.specs.List.{AllByRecursion}
 use Rattle.calls.specs.Plans.{MayAllStep, all_seen}
-use Rattle.calls.specs.declared.plan.Plan.{Plan}
+use Rattle.calls.specs.declared.plan.CallPlan.{CallPlan}
 use Rattle.pipes.specs.Seen.{Seen, Shows}
 use Rattle.pipes.specs.Stepping.{HasAtMost, MayStep, seen_after}
 use Rattle.processes.specs.Parts.{Part, part_of, with_part}
@@ -22,7 +22,7 @@ born-forked : (p : Process) (o : Option ℕ) → born (Some (part_of p)) o ≡ m
 born-forked p None = refl
 born-forked p (Some child) = refl
 
-pub parts-planned : (ps : List Process) (pid : ℕ) (p : Process) (plan : Plan) → process_at ps pid ≡ Some p
+pub parts-planned : (ps : List Process) (pid : ℕ) (p : Process) (plan : CallPlan) → process_at ps pid ≡ Some p
     → parts_after (map part_of ps) pid plan ≡ map part_of (put_process ps pid (process_after p plan) ++ forked p plan.child)
 parts-planned ps zero p plan e = cc
 parts-planned ps (suc k) p plan e =

@@ -3,7 +3,7 @@ use Rattle.std.proofs.Common.{◌≡◌, ℕ, zero, suc, ◌+◌, ◌≤◌, inl
 use Rattle.std.proofs.lemmas.List.{append-nil}
 use Rattle.disk_model.specs.Files.{IsPossible}
 use Rattle.disk_model.specs.declared.change.Change.{Change}
-use Rattle.machine_model.specs.States.{State, stands_at, next, by_step, Stepped, Goes, Halts}
+use Rattle.machine_model.specs.States.{State, stopped_at, next, by_step, Stepped, Goes, Halts}
 use Rattle.machine_model.specs.Replies.{replied}
 use Rattle.machine_model.specs.declared.stop.Stop.{Stop}
 use Rattle.machine_model.specs.declared.stop.Stop.TheVariants.{Limit, Call, Trap}
@@ -11,12 +11,12 @@ use Rattle.machine_model.specs.declared.stop.Cause.{Cause}
 use Rattle.machine_model.proofs.Halting.{next-not_limit}
 use Rattle.calls.specs.Plans.{effect_with, Says, AreLeft, OpensAlone, MayBePlaced, EditsAs, EditsPipesAlone, IsNext, MayAllStep}
 use Rattle.calls.specs.Sights.{Sight, IsSightOfShared, PlansCall}
-use Rattle.calls.specs.declared.plan.Plan.{Plan}
+use Rattle.calls.specs.declared.plan.CallPlan.{CallPlan}
 use Rattle.processes.specs.Parts.{Part, part_of, part_at, descriptors_in, children_in, statuses_of}
 use Rattle.kernel_model.specs.State.{SyncState, Shared as Seen, PipeState, Process, shared, process_at, put_process, changed_by, read_by, all_stepped}
 use Rattle.kernel_model.specs.Requests.{request_of}
 use Rattle.machine_model.specs.Numbers.{cause_number}
-use Rattle.kernel_model.specs.Rows.{Effect, row, row_end, number}
+use Rattle.kernel_model.specs.Rows.{CallEffect, row, row_end, number}
 use Rattle.kernel_model.specs.Steps.{Transition, change_by, step, after_enter, impossible, effect_at, set_slots, children_after, is_collected, forked, after_effect, after_effect_if}
 use Rattle.kernel_model.specs.declared.carrier.Carrier.TheVariants.{Proc}
 use Rattle.kernel_model.specs.declared.descriptor.Descriptor.{Descriptor}
@@ -32,7 +32,7 @@ use Rattle.kernel_model.proofs.Limits.{put_same}
 use Rattle.kernel_step.specs.Entering.{IsSightOf, HaveRoom, item_of, machine_after, descriptors_after, status_after, writes_of, MayBeTold, planned, PlansEnter}
 
 -- ---- what comes of an effect is what the plan says
-abbrev planned_told : SyncState → ℕ → Process → Plan → Verdict → Transition
+abbrev planned_told : SyncState → ℕ → Process → CallPlan → Verdict → Transition
 planned_told s pid p plan verdict = record {
   state = record {
     processes = put_process s.processes pid (record {
@@ -64,7 +64,7 @@ children-kept : (cs : List ℕ) → filter (λ child. not (is_collected None chi
 children-kept cs = append-nil (filter (λ child. not (is_collected None child)) cs) ∙ all-kept cs
 
 -- the edits are these
-abbrev edited : SyncState → ℕ → Process → Plan → Verdict → Option Change → Option Output → Option TapeRead → List PipeStep → Option ℕ → Option ℕ → Transition
+abbrev edited : SyncState → ℕ → Process → CallPlan → Verdict → Option Change → Option Output → Option TapeRead → List PipeStep → Option ℕ → Option ℕ → Transition
 edited s pid p plan verdict change output tape pipes child collects = record {
   state = record {
     processes = put_process s.processes pid (record {
@@ -88,7 +88,7 @@ edited s pid p plan verdict change output tape pipes child collects = record {
   };
 }
 
-pipes-alone : (s : SyncState) (pid : ℕ) (p : Process) (plan : Plan) (verdict : Verdict) (pipes : List PipeStep) → EditsPipesAlone plan → plan.pipes.items ≡ pipes
+pipes-alone : (s : SyncState) (pid : ℕ) (p : Process) (plan : CallPlan) (verdict : Verdict) (pipes : List PipeStep) → EditsPipesAlone plan → plan.pipes.items ≡ pipes
     → edited s pid p plan verdict None None None pipes None None ≡ planned_told s pid p plan verdict
 pipes-alone s pid p plan verdict pipes h steps =
     ap (λ c. edited s pid p plan verdict c None None pipes None None) (sym h.change)
@@ -98,7 +98,7 @@ pipes-alone s pid p plan verdict pipes h steps =
     ∙ ap (λ c. edited s pid p plan verdict plan.change plan.output plan.tape plan.pipes.items c None) (sym h.child)
     ∙ ap (λ c. edited s pid p plan verdict plan.change plan.output plan.tape plan.pipes.items plan.child c) (sym h.collects)
 
-told-planned : (s : SyncState) (pid : ℕ) (p : Process) (plan : Plan) (edit : Option FileEdit) (verdict : Verdict) → plan.change ≡ change_by s.files edit
+told-planned : (s : SyncState) (pid : ℕ) (p : Process) (plan : CallPlan) (edit : Option FileEdit) (verdict : Verdict) → plan.change ≡ change_by s.files edit
     → EditsAs verdict plan → process_at s.processes pid ≡ Some p → p.status ≡ None
     → after_effect s pid p (effect_with plan edit) verdict ≡ planned_told s pid p plan verdict
 told-planned s pid p plan edit Waits placed edits there running =
@@ -158,13 +158,13 @@ told-planned s pid p plan edit (Ends status) placed edits there running =
     ∙ pipes-alone s pid p plan (Ends status) plan.pipes.items edits refl
 
 -- the step of a process that is there and has not ended
-step-by : (s : SyncState) (pid : ℕ) (p : Process) (plan : Plan) (e : Effect) → Says s.files plan e → EditsAs plan.verdict plan
-    → process_at s.processes pid ≡ Some p → p.status ≡ None → effect_at (shared s) pid p (stands_at p.state) ≡ Some e
+step-by : (s : SyncState) (pid : ℕ) (p : Process) (plan : CallPlan) (e : CallEffect) → Says s.files plan e → EditsAs plan.verdict plan
+    → process_at s.processes pid ≡ Some p → p.status ≡ None → effect_at (shared s) pid p (stopped_at p.state) ≡ Some e
     → step s (Enter pid) ≡ planned s pid p plan
 step-by s pid p plan e says edits there running at =
     ap (λ (o : Option Process). after_enter s pid o) there
-    ∙ ap (λ (o : Option ℕ). if is_some o then impossible pid s else after_effect_if s pid p (effect_at (shared s) pid p (stands_at p.state))) running
-    ∙ ap (λ (o : Option Effect). after_effect_if s pid p o) (at ∙ ap (λ (x : Effect). Some x) (sym says.row))
+    ∙ ap (λ (o : Option ℕ). if is_some o then impossible pid s else after_effect_if s pid p (effect_at (shared s) pid p (stopped_at p.state))) running
+    ∙ ap (λ (o : Option CallEffect). after_effect_if s pid p o) (at ∙ ap (λ (x : CallEffect). Some x) (sym says.row))
     ∙ told-planned s pid p plan e.edit plan.verdict says.change edits there running
 
 -- ---- what is seen of the process
@@ -194,7 +194,7 @@ kept state seen sight = record {
 }
 
 -- ---- at a call
-told-row : (s : State) (verdict : Verdict) → stands_at s ≡ Some Call → MayBePlaced s.hart.memory verdict → MayBeTold s verdict
+told-row : (s : State) (verdict : Verdict) → stopped_at s ≡ Some Call → MayBePlaced s.architectural.memory verdict → MayBeTold s verdict
 told-row s Waits stands place = tt
 told-row s (Replies r) stands place = (stands, place)
 told-row s (Ends status) stands place = tt
@@ -203,7 +203,7 @@ told-row s (Ends status) stands place = tt
 abbrev sight_shared : Sight → List PipeState → Seen
 sight_shared seen pipes = record { statuses = statuses_of seen.parts; files = seen.files; pipes = pipes; tapes = seen.tapes }
 
-pub call-plans : (seen : Sight) (pid : ℕ) (s : State) (plan : Plan) → stands_at s ≡ Some Call → HaveRoom seen.pipes → PlansCall seen pid (request_of s) plan
+pub call-plans : (seen : Sight) (pid : ℕ) (s : State) (plan : CallPlan) → stopped_at s ≡ Some Call → HaveRoom seen.pipes → PlansCall seen pid (request_of s) plan
     → PlansEnter seen pid s plan
 call-plans seen pid s plan stands ends calls =
     let ds : List (Option Descriptor) = descriptors_in (part_at seen.parts pid) in
@@ -213,7 +213,7 @@ call-plans seen pid s plan stands ends calls =
       goes = λ state p sight there state_is running.
           let part : part_at seen.parts pid ≡ Some (part_of p) = part-at state seen pid p sight there in
           step-by state pid p plan (row (shared state) pid ds (children_in (part_at seen.parts pid)) (request_of s)) (calls.says (shared state) (kept state seen sight)) calls.edits there running
-          (ap (λ (o : Option Stop). effect_at (shared state) pid p o) (ap stands_at state_is ∙ stands)
+          (ap (λ (o : Option Stop). effect_at (shared state) pid p o) (ap stopped_at state_is ∙ stands)
           ∙ ap (λ (o : Option Part). Some (row (shared state) pid (descriptors_in o) (children_in o) (request_of p.state))) (sym part)
           ∙ ap (λ (t : State). Some (row (shared state) pid ds (children_in (part_at seen.parts pid)) (request_of t))) state_is);
       verdict = told-row s plan.verdict stands (calls.place s refl);
@@ -227,8 +227,8 @@ call-plans seen pid s plan stands ends calls =
     }
 
 -- ---- at a trap
-pub trap-plans : (seen : Sight) (pid : ℕ) (s : State) (plan : Plan) (cause : Cause) (status : ℕ)
-    → stands_at s ≡ Some (Trap cause) → status ≡ 256 + cause_number cause
+pub trap-plans : (seen : Sight) (pid : ℕ) (s : State) (plan : CallPlan) (cause : Cause) (status : ℕ)
+    → stopped_at s ≡ Some (Trap cause) → status ≡ 256 + cause_number cause
     → effect_with plan None ≡ row_end (descriptors_in (part_at seen.parts pid)) status → plan.change ≡ None
     → EditsAs plan.verdict plan → OpensAlone plan.pipes.items → length plan.pipes.items ≤ 16 → MayAllStep seen.pipes plan.pipes.items
     → PlansEnter seen pid s plan
@@ -238,21 +238,21 @@ trap-plans seen pid s plan cause status stands number is none edits opens few ma
       goes = λ state p sight there state_is running.
           let part : part_at seen.parts pid ≡ Some (part_of p) = part-at state seen pid p sight there in
           step-by state pid p plan (row_end ds status) (record { row = is; change = none }) edits there running
-          (ap (λ (o : Option Stop). effect_at (shared state) pid p o) (ap stands_at state_is ∙ stands)
+          (ap (λ (o : Option Stop). effect_at (shared state) pid p o) (ap stopped_at state_is ∙ stands)
           ∙ ap (λ (o : Option Part). Some (row_end (descriptors_in o) (256 + cause_number cause))) (sym part)
           ∙ ap (λ n. Some (row_end ds n)) (sym number));
-      verdict = subst (λ (v : Verdict). MayBeTold s v) (sym (ap (λ (e : Effect). e.verdict) is)) tt;
+      verdict = subst (λ (v : Verdict). MayBeTold s v) (sym (ap (λ (e : CallEffect). e.verdict) is)) tt;
       edits = edits;
-      one_child = inl (ap (λ (e : Effect). e.child) is);
+      one_child = inl (ap (λ (e : CallEffect). e.child) is);
       possible = subst (λ (o : Option Change). IfSome o (IsPossible seen.files.living)) (sym none) tt;
-      left = subst (λ (o : Option TapeRead). IfSome o (AreLeft seen.tapes)) (sym (ap (λ (e : Effect). e.tape) is)) tt;
+      left = subst (λ (o : Option TapeRead). IfSome o (AreLeft seen.tapes)) (sym (ap (λ (e : CallEffect). e.tape) is)) tt;
       steps = record { kind = opens; few = few };
       may = may;
-      child = subst (λ (o : Option ℕ). IfSome o (IsNext (length seen.parts))) (sym (ap (λ (e : Effect). e.child) is)) tt;
+      child = subst (λ (o : Option ℕ). IfSome o (IsNext (length seen.parts))) (sym (ap (λ (e : CallEffect). e.child) is)) tt;
     }
 
-pub trap-result : {E : Type 0} (seen : Sight) (pid : ℕ) (s : State) (r : Result Plan E) (cause : Cause) (status : ℕ)
-    → stands_at s ≡ Some (Trap cause) → status ≡ 256 + cause_number cause
+pub trap-result : {E : Type 0} (seen : Sight) (pid : ℕ) (s : State) (r : Result CallPlan E) (cause : Cause) (status : ℕ)
+    → stopped_at s ≡ Some (Trap cause) → status ≡ 256 + cause_number cause
     → IfOk r (λ plan. effect_with plan None ≡ row_end (descriptors_in (part_at seen.parts pid)) status)
     → IfOk r (λ plan. plan.change ≡ None)
     → IfOk r (λ plan. EditsAs plan.verdict plan)
@@ -264,7 +264,7 @@ trap-result seen pid s (Ok plan) cause status stands number is none edits opens 
 trap-result seen pid s (Err e) cause status stands number is none edits opens few may = tt
 
 -- a state that stands somewhere, and at no trap, stands at a call
-pub stands-call : (s : State) (stop : Stop) → stands_at s ≡ Some stop → ((c : Cause) → stop ≡ Trap c → ⊥) → stop ≡ Call
+pub stands-call : (s : State) (stop : Stop) → stopped_at s ≡ Some stop → ((c : Cause) → stop ≡ Trap c → ⊥) → stop ≡ Call
 stands-call s Call h none = refl
 stands-call s (Trap c) h none = absurd (none c refl)
 stands-call s Limit h none = by (next s) refl h
@@ -274,8 +274,8 @@ stands-call s Limit h none = by (next s) refl h
     by (Halts stop) is at = absurd (next-not_limit s (is ∙ (let same : stop ≡ Limit = cc in ap (λ (x : Stop). Halts x) same)))
 
 -- the same of a result
-pub result-plans : {E : Type 0} (seen : Sight) (pid : ℕ) (s : State) (r : Result Plan E) (request : Request)
-    → stands_at s ≡ Some Call → request ≡ request_of s → HaveRoom seen.pipes → IfOk r (λ plan. PlansCall seen pid request plan)
+pub result-plans : {E : Type 0} (seen : Sight) (pid : ℕ) (s : State) (r : Result CallPlan E) (request : Request)
+    → stopped_at s ≡ Some Call → request ≡ request_of s → HaveRoom seen.pipes → IfOk r (λ plan. PlansCall seen pid request plan)
     → IfOk r (λ plan. PlansEnter seen pid s plan)
 result-plans seen pid s (Ok plan) request stands asks ends calls =
     call-plans seen pid s plan stands ends (subst (λ (q : Request). PlansCall seen pid q plan) asks calls)

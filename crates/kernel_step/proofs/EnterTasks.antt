@@ -7,7 +7,7 @@ use Rattle.disk_model.specs.Storage.{is_empty}
 use Rattle.machine_model.specs.States.{State}
 use Rattle.machine_model.specs.Replies.{replied}
 use Rattle.calls.specs.Plans.{IsNext}
-use Rattle.calls.specs.declared.plan.Plan.{Plan}
+use Rattle.calls.specs.declared.plan.CallPlan.{CallPlan}
 use Rattle.commit_deps.specs.Marks.{IsMarkOf}
 use Rattle.kernel_model.specs.Entries.{Entry, Item, Got, End as Ended}
 use Rattle.kernel_model.specs.Loans.{is_waiting}
@@ -141,7 +141,7 @@ status-by Waits = refl
 status-by (Replies r) = refl
 status-by (Ends status) = refl
 
-process-told : (q : Process) (t t' : Task) (full : Bool) (plan : Plan) (mark served : ℕ) → IsFineTask t full → q.state ≡ machine_of t → q.status ≡ None
+process-told : (q : Process) (t t' : Task) (full : Bool) (plan : CallPlan) (mark served : ℕ) → IsFineTask t full → q.state ≡ machine_of t → q.status ≡ None
     → IsTold plan.verdict mark served t t' → process_of t' ≡ bare (process_after q plan)
 process-told q t t' full plan mark served fine state running new =
     let status : status_of t' ≡ status_after plan.verdict q.status =
@@ -164,7 +164,7 @@ machine-count s Waits = omega arith
 machine-count s (Replies r) = omega (arith, replied-count s r)
 machine-count s (Ends status) = omega arith
 
-told-task : (w : World) (served pid place n : ℕ) (full : Bool) (q : Process) (t t' : Task) (plan : Plan) (mark : ℕ)
+told-task : (w : World) (served pid place n : ℕ) (full : Bool) (q : Process) (t t' : Task) (plan : CallPlan) (mark : ℕ)
     → pid ≡ place + 1 → place < n → IsFineTask t full → IfSome plan.child (IsNext n)
     → IsMarkOf mark w.log (entry_of pid plan)
     → IsTold plan.verdict mark served t t'
@@ -191,7 +191,7 @@ told-task w served pid place n full q t t' plan mark number within fine child is
       running = λ lent. cc (ap (λ (o : Option ℕ). is_some o) out);
     }
 
-other-task : (w : World) (served pid place k n : ℕ) (q : Process) (u : Task) (plan : Plan)
+other-task : (w : World) (served pid place k n : ℕ) (q : Process) (u : Task) (plan : CallPlan)
     → pid ≡ place + 1 → (k ≡ place → ⊥) → k < n → IfSome plan.child (IsNext n)
     → IsTask w served k u → IsTask (world_with w (planned w.sync pid q plan)) (served_after plan.verdict served) k u
 other-task w served pid place k n q u plan number other within child h = record {
@@ -210,7 +210,7 @@ child-waits Waits p q b cs h = cc
 child-waits (Replies r) p q b cs h = refl
 child-waits (Ends status) p q b cs h = refl
 
-child-task : (w : World) (served pid place n : ℕ) (full : Bool) (q : Process) (t u : Task) (plan : Plan) (mark : ℕ)
+child-task : (w : World) (served pid place n : ℕ) (full : Bool) (q : Process) (t u : Task) (plan : CallPlan) (mark : ℕ)
     → pid ≡ place + 1 → IsFineTask t full → IfSome plan.child (IsNext n) → plan.child ≡ Some u.pid → is_some (item_of plan.verdict) ≡ true
     → IsMarkOf mark w.log (entry_of pid plan)
     → IsForked mark (machine_of t) t.trace u
@@ -248,7 +248,7 @@ child-is : (number : Option ℕ) (mark : ℕ) (s : State) (r : Withheld Item) (o
     → (number ≡ Some u.pid) × IsForked mark s r u
 child-is number mark s r o u is made = let P : Option Task → Type 0 = λ x. MakesTask number mark s r x in subst P is made
 
-pub told-tasks : (w : World) (served : ℕ) (tasks : List Task) (pid place : ℕ) (full : Bool) (t t' : Task) (plan : Plan) (mark : ℕ) (child : Option Task)
+pub told-tasks : (w : World) (served : ℕ) (tasks : List Task) (pid place : ℕ) (full : Bool) (t t' : Task) (plan : CallPlan) (mark : ℕ) (child : Option Task)
     → pid ≡ place + 1 → slice_get tasks place ≡ Some t → IsFineTask t full → (of : IsProcessOf w.sync.processes pid t)
     → IfSome plan.child (IsNext (length tasks))
     → (is_some plan.child ≡ true → is_some (item_of plan.verdict) ≡ true)

@@ -14,7 +14,7 @@ use Rattle.disk_model.proofs.Lists.{each_append}
 use Rattle.disk_model.specs.Storage.{Storage}
 use Rattle.machine_model.specs.States.{State}
 use Rattle.calls.specs.Plans.{NamesFile, NamesFiles, EditsAs, IsNext, all_seen}
-use Rattle.calls.specs.declared.plan.Plan.{Plan}
+use Rattle.calls.specs.declared.plan.CallPlan.{CallPlan}
 use Rattle.commit_deps.specs.Keeps.{Keeps}
 use Rattle.commit_deps.specs.Kept.{Kept}
 use Rattle.footprints.specs.Kept.{Kept as KeptFootprints}
@@ -47,7 +47,7 @@ use Rattle.kernel_step.specs.Seen.{AreScreens}
 use Rattle.kernel_step.specs.Settling.{marked_with}
 use Rattle.kernel_step.specs.Tasks.{machine_of, out_of, process_of, bare, lending_of, status_of, needed}
 use Rattle.kernel_step.specs.Waiting.{is_asleep, served_after}
-use Rattle.kernel_step.specs.declared.plan.Entering.{Entering}
+use Rattle.kernel_step.specs.declared.plan.EnterPlan.{EnterPlan}
 use Rattle.kernel_step.specs.declared.system.System.{System}
 use Rattle.kernel_step.specs.declared.task.Task.{Task}
 use Rattle.kernel_step.proofs.EnterFine.{IsFineTask}
@@ -133,7 +133,7 @@ may-plan law w tasks s pid place t h limits short number there =
     }
 
 -- ---- the step of the run
-pub enter-steps : (w : World) (seen : Sight) (pid : ℕ) (full : Bool) (t : Task) (plan : Plan) (of : IsProcessOf w.sync.processes pid t)
+pub enter-steps : (w : World) (seen : Sight) (pid : ℕ) (full : Bool) (t : Task) (plan : CallPlan) (of : IsProcessOf w.sync.processes pid t)
     → IsSightOf w.sync seen → IsFineTask t full → PlansEnter seen pid (machine_of t) plan
     → step w.sync (Enter pid) ≡ planned w.sync pid of.process plan
 enter-steps w seen pid full t plan of sight fine plans =
@@ -187,7 +187,7 @@ same-lendings tasks place t t' there loans out =
 
 -- ---- all parts
 -- one that makes a process is told something
-pub makes-told : (plan : Plan) (v : Verdict) → EditsAs v plan → is_some plan.child ≡ true → is_some (item_of v) ≡ true
+pub makes-told : (plan : CallPlan) (v : Verdict) → EditsAs v plan → is_some plan.child ≡ true → is_some (item_of v) ≡ true
 makes-told plan Waits edits makes = let none : is_some plan.child ≡ false = ap (λ (o : Option ℕ). is_some o) edits.0.child in cc
 makes-told plan (Replies r) edits makes = refl
 makes-told plan (Ends status) edits makes = refl
@@ -221,7 +221,7 @@ pub done-runs : EnterLaws → (w : World) (tasks : List Task) (s s' : System) (p
     → IsDone pid t t' s s' outcome child
     → IsRun w pid tasks (slice_set tasks place t' ++ option_to_list child) s s' outcome
 done-runs laws w tasks s s' pid place full t t' outcome child h number there fine done =
-    let plan : Plan = done.plan in
+    let plan : CallPlan = done.plan in
     let x : Entry = entry_of pid plan in
     let of : IsProcessOf w.sync.processes pid t = process-there w s.served tasks pid place t h.each number there in
     let goes : step w.sync (Enter pid) ≡ planned w.sync pid of.process plan =
@@ -267,7 +267,7 @@ done-runs laws w tasks s s' pid place full t t' outcome child h number there fin
     }
 
 -- an Enter whose change of the files is done, whose event is noted, and of which then the rest is done
-finished-entered : (pid : ℕ) (plan : Plan) (mark : ℕ) (s s1 s3 : System) (d : Kept) (f : KeptFootprints)
+finished-entered : (pid : ℕ) (plan : CallPlan) (mark : ℕ) (s s1 s3 : System) (d : Kept) (f : KeptFootprints)
     → IsSystemWith (changed_by s.files plan.change) s s1
     → IsNoted (entry_of pid plan) (length s1.changes.items) s1.dependencies.marks d.marks mark
     → f.footprints ≡ s1.footprints.footprints ++ footprint_of pid plan ∷ []
@@ -315,10 +315,10 @@ shared-turned files s s1 d ready = record {
 }
 
 -- an Enter that was prepared from the task t, which is u now that it has room for more, and was carried out
-pub carried-done : (pid : ℕ) (m : State) (t u v : Task) (s s1 s2 : System) (e : Entering) (outcome : Outcome) (child : Option Task) → machine_of t ≡ m
+pub carried-done : (pid : ℕ) (m : State) (t u v : Task) (s s1 s2 : System) (e : EnterPlan) (outcome : Outcome) (child : Option Task) → machine_of t ≡ m
     → IsPrepared pid m t.trace s s1 e → IsSameTask t u → IsCarriedOut e u v s1 s2 outcome child → IsDone pid t v s s2 outcome child
 carried-done pid m t u v s s1 s2 e outcome child here prepared same carried =
-    let plan : Plan = e.plan in
+    let plan : CallPlan = e.plan in
     let entering = prepared.entering in
     record {
       plan = plan;

@@ -7,7 +7,7 @@ use Rattle.kernel_model.specs.State.{Process}
 use Rattle.kernel_model.specs.World.{Boot, run_of}
 use Rattle.kernel_model.specs.declared.event.Event.{Event}
 use Rattle.kernel_step.specs.Known.{IsKnownResult, MayBeLoanOf}
-use Rattle.kernel_step.specs.Stands.{kernel_of, KeepsRun}
+use Rattle.kernel_step.specs.Represents.{kernel_of, KeepsRun}
 use Rattle.kernel_step.specs.Tasks.{machine_of}
 use Rattle.kernel_step.specs.declared.loan.Done.{Done}
 use Rattle.kernel_step.specs.declared.system.System.{System}

@@ -16,7 +16,7 @@ use Rattle.kernel_model.specs.World.{Boot, World, run_of}
 use Rattle.kernel_model.specs.declared.answer.Refused.{Refused}
 use Rattle.kernel_model.specs.declared.answer.Refused.TheVariants as refused
 use Rattle.kernel_model.specs.declared.event.Event.{Event}
-use Rattle.kernel_step.specs.Stands.{kernel_of, KeepsRun}
+use Rattle.kernel_step.specs.Represents.{kernel_of, KeepsRun}
 use Rattle.kernel_step.specs.Lending.{full_for_loan_of, is_fit, next_fit, IsLent, Lent}
 use Rattle.kernel_step.specs.Loaned.{loan_out}
 use Rattle.kernel_step.specs.Mirrors.{IsTask, AreTasks}

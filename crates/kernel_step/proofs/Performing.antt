@@ -3,7 +3,7 @@ use Rattle.std.proofs.Common.{◌≡◌, ℕ, zero, suc, ◌+◌, ◌<◌, ◌�
 use Rattle.std.proofs.lemmas.List.{length-set, append-nil, drop_all}
 use Rattle.std.specs.List.{AllByRecursion}
 use Rattle.calls.specs.Plans.{IsNext, MayAllStep, OpensNone, all_seen}
-use Rattle.calls.specs.declared.plan.Plan.{Plan}
+use Rattle.calls.specs.declared.plan.CallPlan.{CallPlan}
 use Rattle.pipes.specs.Seen.{Seen}
 use Rattle.pipes.specs.Stepping.{seen_after}
 use Rattle.processes.specs.Parts.{Part, part_at, put_part, with_part, with_slots, with_child, without_child, child_part, ended_part, after_fork}
@@ -132,13 +132,13 @@ abbrev family_parts : List Part → ℕ → Part → Option ℕ → Option ℕ �
 family_parts parts pid part child collects =
     put_part parts pid (record part { children = filter (λ other. not (is_collected collects other)) part.children ++ option_to_list child }) ++ born (Some part) child
 
-family-is : (parts : List Part) (pid : ℕ) (part : Part) (plan : Plan) (child collects : Option ℕ) → plan.child ≡ child → plan.collects ≡ collects
+family-is : (parts : List Part) (pid : ℕ) (part : Part) (plan : CallPlan) (child collects : Option ℕ) → plan.child ≡ child → plan.collects ≡ collects
     → family_parts parts pid part child collects ≡ with_part parts pid (Some part) (λ x. family_of x plan) ++ born (Some part) plan.child
 family-is parts pid part plan child collects made gone =
     ap (λ (o : Option ℕ). family_parts parts pid part child o) (sym gone)
     ∙ ap (λ (o : Option ℕ). family_parts parts pid part o plan.collects) (sym made)
 
-fork-by : (parts : List Part) (pid : ℕ) (o : Option Part) (plan : Plan) (child : ℕ) → plan.child ≡ Some child → plan.collects ≡ None → child ≡ length parts + 1
+fork-by : (parts : List Part) (pid : ℕ) (o : Option Part) (plan : CallPlan) (child : ℕ) → plan.child ≡ Some child → plan.collects ≡ None → child ≡ length parts + 1
     → after_fork parts pid o ≡ with_part parts pid o (λ x. family_of x plan) ++ born o plan.child
 fork-by parts pid None plan child made gone next = sym (append-nil parts)
 fork-by parts pid (Some part) plan child made gone next =
@@ -146,14 +146,14 @@ fork-by parts pid (Some part) plan child made gone next =
     ∙ ap (λ (cs : List ℕ). put_part parts pid (record part { children = cs ++ child ∷ [] }) ++ child_part part ∷ []) (sym (all-kept part.children))
     ∙ family-is parts pid part plan (Some child) None made gone
 
-pub fork-children : (parts parts' : List Part) (pid : ℕ) (plan : Plan) (child : ℕ) → plan.child ≡ Some child → (plan.child ≡ None) ⊎ (plan.collects ≡ None)
+pub fork-children : (parts parts' : List Part) (pid : ℕ) (plan : CallPlan) (child : ℕ) → plan.child ≡ Some child → (plan.child ≡ None) ⊎ (plan.collects ≡ None)
     → IfSome plan.child (IsNext (length parts)) → parts' ≡ after_fork parts pid (part_at parts pid) → parts' ≡ with_children parts pid plan
 fork-children parts parts' pid plan child made (inl none) next is = let both : Some child ≡ None = sym made ∙ none in cc
 fork-children parts parts' pid plan child made (inr gone) next is =
     let one : IfSome (Some child) (IsNext (length parts)) = subst (λ (o : Option ℕ). IfSome o (IsNext (length parts))) made next in
     is ∙ fork-by parts pid (part_at parts pid) plan child made gone one.0
 
-collect-by : (parts : List Part) (pid : ℕ) (o : Option Part) (plan : Plan) (child : ℕ) → plan.child ≡ None → plan.collects ≡ Some child
+collect-by : (parts : List Part) (pid : ℕ) (o : Option Part) (plan : CallPlan) (child : ℕ) → plan.child ≡ None → plan.collects ≡ Some child
     → with_part parts pid o (without_child child) ≡ with_part parts pid o (λ x. family_of x plan) ++ born o plan.child
 collect-by parts pid None plan child made gone = sym (append-nil parts)
 collect-by parts pid (Some part) plan child made gone =
@@ -162,11 +162,11 @@ collect-by parts pid (Some part) plan child made gone =
     ∙ sym (append-nil (put_part parts pid (record part { children = left ++ [] })))
     ∙ family-is parts pid part plan None (Some child) made gone
 
-pub collect-children : (parts parts' : List Part) (pid : ℕ) (plan : Plan) (child : ℕ) → plan.child ≡ None → plan.collects ≡ Some child
+pub collect-children : (parts parts' : List Part) (pid : ℕ) (plan : CallPlan) (child : ℕ) → plan.child ≡ None → plan.collects ≡ Some child
     → parts' ≡ with_part parts pid (part_at parts pid) (without_child child) → parts' ≡ with_children parts pid plan
 collect-children parts parts' pid plan child made gone is = is ∙ collect-by parts pid (part_at parts pid) plan child made gone
 
-none-by : (parts : List Part) (pid : ℕ) (o : Option Part) (plan : Plan) → plan.child ≡ None → plan.collects ≡ None
+none-by : (parts : List Part) (pid : ℕ) (o : Option Part) (plan : CallPlan) → plan.child ≡ None → plan.collects ≡ None
     → with_part parts pid o (λ x. x) ≡ with_part parts pid o (λ x. family_of x plan) ++ born o plan.child
 none-by parts pid None plan made gone = sym (append-nil parts)
 none-by parts pid (Some part) plan made gone =
@@ -174,18 +174,18 @@ none-by parts pid (Some part) plan made gone =
     ∙ sym (append-nil (put_part parts pid (record part { children = filter (λ other. not (is_collected None other)) part.children ++ [] })))
     ∙ family-is parts pid part plan None None made gone
 
-pub same-children : (parts : List Part) (pid : ℕ) (plan : Plan) → plan.child ≡ None → plan.collects ≡ None → parts ≡ with_children parts pid plan
+pub same-children : (parts : List Part) (pid : ℕ) (plan : CallPlan) → plan.child ≡ None → plan.collects ≡ None → parts ≡ with_children parts pid plan
 same-children parts pid plan made gone = sym (with-same parts pid (λ x. x) (λ x. refl)) ∙ none-by parts pid (part_at parts pid) plan made gone
 
 -- ---- all of it
-abbrev parts_told : List Part → ℕ → Plan → Verdict → List Part
+abbrev parts_told : List Part → ℕ → CallPlan → Verdict → List Part
 parts_told parts pid plan verdict = with_part parts pid (part_at parts pid) (λ part. record {
   descriptors = descriptors_after part.descriptors verdict plan.slots.items;
   children = (family_of part plan).children;
   status = status_after verdict part.status;
 }) ++ born (part_at parts pid) plan.child
 
-pub parts-wait : (parts parts' : List Part) (pid : ℕ) (plan : Plan) → plan.verdict ≡ Waits → parts' ≡ with_children parts pid plan → parts' ≡ parts_after parts pid plan
+pub parts-wait : (parts parts' : List Part) (pid : ℕ) (plan : CallPlan) → plan.verdict ≡ Waits → parts' ≡ with_children parts pid plan → parts' ≡ parts_after parts pid plan
 parts-wait parts parts' pid plan verdict is = is ∙ ap (λ (v : Verdict). parts_told parts pid plan v) (sym verdict)
 
 -- a reply
@@ -195,7 +195,7 @@ IsReply (Replies r) = Unit {0}
 IsReply (Ends status) = ⊥
 
 -- what becomes of the process's own part
-own-part : (parts before after : List Part) (pid : ℕ) (plan : Plan) (f : Part → Part) → 0 < pid → pid ≤ length parts
+own-part : (parts before after : List Part) (pid : ℕ) (plan : CallPlan) (f : Part → Part) → 0 < pid → pid ≤ length parts
     → before ≡ with_children parts pid plan → after ≡ with_part before pid (part_at before pid) f
     → after ≡ with_part parts pid (part_at parts pid) (λ x. f (family_of x plan)) ++ born (part_at parts pid) plan.child
 own-part parts before after pid plan f from_1 there was is =
@@ -206,7 +206,7 @@ own-part parts before after pid plan f from_1 there was is =
     ∙ with-joined family (born (part_at parts pid) plan.child) pid f from_1 (omega (arith, there, size))
     ∙ ap (λ (xs : List Part). xs ++ born (part_at parts pid) plan.child) (with-twice parts pid (λ x. family_of x plan) f)
 
-pub parts-reply : (parts before after : List Part) (pid : ℕ) (plan : Plan) (slots : List Slot) (verdict : Verdict) → 0 < pid → pid ≤ length parts
+pub parts-reply : (parts before after : List Part) (pid : ℕ) (plan : CallPlan) (slots : List Slot) (verdict : Verdict) → 0 < pid → pid ≤ length parts
     → IsReply verdict → plan.verdict ≡ verdict → slots ≡ plan.slots.items
     → before ≡ with_children parts pid plan → after ≡ with_part before pid (part_at before pid) (with_slots slots) → after ≡ parts_after parts pid plan
 parts-reply parts before after pid plan slots Waits from_1 there reply is same was set = absurd reply
@@ -216,7 +216,7 @@ parts-reply parts before after pid plan slots (Replies r) from_1 there reply is 
     ∙ ap (λ (xs : List Slot). with_part parts pid (part_at parts pid) (λ x. with_slots xs (family_of x plan)) ++ born (part_at parts pid) plan.child) same
     ∙ ap (λ (v : Verdict). parts_told parts pid plan v) (sym is)
 
-pub parts-end : (parts before after : List Part) (pid : ℕ) (plan : Plan) (status : ℕ) → 0 < pid → pid ≤ length parts
+pub parts-end : (parts before after : List Part) (pid : ℕ) (plan : CallPlan) (status : ℕ) → 0 < pid → pid ≤ length parts
     → plan.verdict ≡ Ends status
     → before ≡ with_children parts pid plan → after ≡ with_part before pid (part_at before pid) (ended_part status) → after ≡ parts_after parts pid plan
 parts-end parts before after pid plan status from_1 there is was set =

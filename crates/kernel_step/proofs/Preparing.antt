@@ -14,7 +14,7 @@ use Rattle.held_output.specs.Withheld.{Withheld, Held, IsSame, whats}
 use Rattle.kernel_step.specs.Entering.{entry_of, in_image_by, MayBeTold, IsChild}
 use Rattle.kernel_step.specs.Ready.{MayEnter, HasRoomForEnter, IsPrepared, IsReady, MayBeNoted}
 use Rattle.kernel_step.specs.Tasks.{machine_of, out_of, status_of}
-use Rattle.kernel_step.specs.declared.plan.Entering.{Entering}
+use Rattle.kernel_step.specs.declared.plan.EnterPlan.{EnterPlan}
 use Rattle.kernel_step.specs.declared.system.System.{System}
 use Rattle.kernel_step.specs.declared.task.Task.{Task}
 
@@ -28,7 +28,7 @@ child-room : (number : Option ℕ) (s : State) (parent : Withheld Item) (o : Opt
 child-room number s parent None made = tt
 child-room number s parent (Some u) made = made.1.room
 
-pub is-ready : (u : Task) (m : State) (parent trace : Withheld Item) (s s1 : System) (d : Kept) (pid : ℕ) (history : Vec Event) (e : Entering)
+pub is-ready : (u : Task) (m : State) (parent trace : Withheld Item) (s s1 : System) (d : Kept) (pid : ℕ) (history : Vec Event) (e : EnterPlan)
     → MayEnter s pid m parent → IsPrepared pid m parent s s1 e → HasRoomForEnter history trace s1 e → IsSame parent trace
     → out_of u ≡ None → machine_of u ≡ m → u.trace ≡ trace
     → IsReady u (record s1 { dependencies = d }) e
@@ -73,7 +73,7 @@ is-ready u m parent trace s s1 d pid history e may prepared holds same here is t
     }
 
 -- its event may be noted
-pub may-note : (m : State) (trace later : Withheld Item) (s s1 : System) (d : Kept) (pid : ℕ) (history : Vec Event) (e : Entering) → IsPrepared pid m trace s s1 e
+pub may-note : (m : State) (trace later : Withheld Item) (s s1 : System) (d : Kept) (pid : ℕ) (history : Vec Event) (e : EnterPlan) → IsPrepared pid m trace s s1 e
     → HasRoomForEnter history later s1 e
     → length e.writes.items ≤ d.room → MayBeNoted (record s1 { dependencies = d }) e
 may-note m trace later s s1 d pid history e prepared holds room =

@@ -7,7 +7,7 @@ use Rattle.kernel_model.specs.State.{Process, process_at}
 use Rattle.kernel_model.specs.Views.{contents}
 use Rattle.kernel_model.specs.World.{Boot, World, run_of}
 use Rattle.held_output.specs.Withheld.{Withheld, Held, whats, released as released_of}
-use Rattle.kernel_step.specs.Stands.{Stands}
+use Rattle.kernel_step.specs.Represents.{Represents}
 use Rattle.kernel_step.specs.Seen.{AreMarked, Withholds}
 use Rattle.kernel_step.specs.Tasks.{machine_of}
 use Rattle.kernel_step.specs.Tests.{IsTaskOf}
@@ -48,7 +48,7 @@ marked-length (g ∷ gs) [] m = absurd m
 marked-length (g ∷ gs) (h ∷ hs) m = ap (λ n. suc n) (marked-length gs hs m.2)
 
 -- what the task of a process has handed out is what the run hands out of it
-pub handed-is : (b : Boot) (r : Running) (tasks : List Task) (pid : ℕ) (t : Task) → Stands b r → tasks ≡ r.tasks.items → IsTaskOf tasks pid t
+pub handed-is : (b : Boot) (r : Running) (tasks : List Task) (pid : ℕ) (t : Task) → Represents b r → tasks ≡ r.tasks.items → IsTaskOf tasks pid t
     → released_of t.trace ≡ handed (run_of b r.history.items) pid
 handed-is b r tasks pid t h same of =
     let w : World = run_of b r.history.items in
@@ -59,7 +59,7 @@ handed-is b r tasks pid t h same of =
 -- ---- the process of a task
 
 -- the task of a process stands for it
-pub process-is : (b : Boot) (r : Running) (tasks : List Task) (pid : ℕ) (t : Task) → Stands b r → tasks ≡ r.tasks.items → IsTaskOf tasks pid t
+pub process-is : (b : Boot) (r : Running) (tasks : List Task) (pid : ℕ) (t : Task) → Represents b r → tasks ≡ r.tasks.items → IsTaskOf tasks pid t
     → IsProcessOf (run_of b r.history.items).sync.processes pid t
 process-is b r tasks pid t h same of =
     let w : World = run_of b r.history.items in
@@ -67,12 +67,12 @@ process-is b r tasks pid t h same of =
     process-there w r.system.served r.tasks.items pid of.place t h.parts.mirrors.each of.placed.number there
 
 -- there is such a process
-pub there-is : (b : Boot) (r : Running) (tasks : List Task) (pid : ℕ) (t : Task) → Stands b r → tasks ≡ r.tasks.items → IsTaskOf tasks pid t
+pub there-is : (b : Boot) (r : Running) (tasks : List Task) (pid : ℕ) (t : Task) → Represents b r → tasks ≡ r.tasks.items → IsTaskOf tasks pid t
     → is_some (process_at (run_of b r.history.items).sync.processes pid) ≡ true
 there-is b r tasks pid t h same of = ap (λ (o : Option Process). is_some o) (process-is b r tasks pid t h same of).there
 
 -- the task's machine is in the state of the process
-pub machine-is : (b : Boot) (r : Running) (tasks : List Task) (pid : ℕ) (t : Task) → Stands b r → tasks ≡ r.tasks.items → IsTaskOf tasks pid t
+pub machine-is : (b : Boot) (r : Running) (tasks : List Task) (pid : ℕ) (t : Task) → Represents b r → tasks ≡ r.tasks.items → IsTaskOf tasks pid t
     → IsSomeAnd (process_at (run_of b r.history.items).sync.processes pid) (λ (p : Process). machine_of t ≡ p.state)
 machine-is b r tasks pid t h same of =
     let p : IsProcessOf (run_of b r.history.items).sync.processes pid t = process-is b r tasks pid t h same of in

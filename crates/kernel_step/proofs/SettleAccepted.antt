@@ -3,7 +3,7 @@ use Rattle.std.proofs.Common.{◌≡◌, ℕ, zero, suc, ◌+◌, ◌*◌, ◌^�
 use Rattle.std.proofs.lemmas.Option.{slice_get_within}
 use Rattle.std.proofs.lemmas.List.{map-set, length_push}
 use Rattle.std.proofs.lemmas.Bool.{le-ltb, lt-leb, or_from}
-use Rattle.machine_model.specs.States.{State, Stepped, Goes, Halts, Ran, next, run, stands_at}
+use Rattle.machine_model.specs.States.{State, Stepped, Goes, Halts, Ran, next, run, stopped_at}
 use Rattle.machine_model.proofs.Running.{run-zero, run-goes, run-halts}
 use Rattle.kernel_model.specs.Answers.{Kernel, Lending, AllAccepted, refusal, turn_refusal, enter_refusal, first_of, ◌⇒◌, limit, is_full, lending_at, with_child, with_event}
 use Rattle.kernel_model.specs.Loans.{returned, events_of, put_lending, loans_in}
@@ -15,7 +15,7 @@ use Rattle.kernel_model.specs.declared.answer.Refused.{Refused}
 use Rattle.kernel_model.specs.declared.answer.Refused.TheVariants as refused
 use Rattle.kernel_model.specs.declared.event.Event.{Event}
 use Rattle.kernel_model.specs.declared.event.Event.TheVariants.{Turn, Enter}
-use Rattle.kernel_step.specs.Stands.{kernel_of, KeepsRun}
+use Rattle.kernel_step.specs.Represents.{kernel_of, KeepsRun}
 use Rattle.kernel_step.specs.Loaned.{loan_result}
 use Rattle.kernel_step.specs.Settling.{IsLoanOf}
 use Rattle.kernel_step.specs.Tasks.{machine_of, out_of, lending_of, count_out, needed}
@@ -75,10 +75,10 @@ turn-accepted o p lent full n there running here few room =
 
 -- an Enter of one that stands at a call or a trap
 enter-accepted : (o : Option Process) (p : Process) (lent full : Bool) → o ≡ Some p → is_some p.status ≡ false → lent ≡ false
-    → is_some (stands_at p.state) ≡ true → p.state.count < limit → full ≡ false → enter_refusal o lent full ≡ None
+    → is_some (stopped_at p.state) ≡ true → p.state.count < limit → full ≡ false → enter_refusal o lent full ≡ None
 enter-accepted o p lent full there running here stands few room =
     ap (λ (x : Option Process). enter_refusal x lent full) there
-    ∙ none-of-four (is_some p.status) lent (not (is_some (stands_at p.state))) (nat_le limit p.state.count || full)
+    ∙ none-of-four (is_some p.status) lent (not (is_some (stopped_at p.state))) (nat_le limit p.state.count || full)
     refused.NoProcess refused.Ended refused.Lent refused.NotStopped refused.Budget
     running here (ap not stands) (or_from (nat_le limit p.state.count) full (lt-leb limit p.state.count few) room)
 
@@ -143,7 +143,7 @@ turn-event b history tasks s last place t d h number there of =
     (not-full b history (slice_set tasks place u) last (omega (arith, less, was)))
 
 enter-event : (b : Boot) (history : List Event) (tasks : List Task) (s : System) (last place : ℕ) (t : Task) (d : Done) → KeepsRun b history tasks s
-    → d.pid ≡ place + 1 → slice_get tasks place ≡ Some t → IsLoanOf t d → is_some (stands_at d.machine) ≡ true
+    → d.pid ≡ place + 1 → slice_get tasks place ≡ Some t → IsLoanOf t d → is_some (stopped_at d.machine) ≡ true
     → refusal (kernel_of b (history ++ Turn d.pid d.count ∷ []) (slice_set tasks place (returned_task t)) last) (Enter d.pid) ≡ None
 enter-event b history tasks s last place t d h number there of stands =
     let u : Task = returned_task t in
@@ -160,7 +160,7 @@ enter-event b history tasks s last place t d h number there of stands =
     (process-after b history tasks s d.pid place d.count d.quantum t h number there of.out own)
     (ap (λ (o : Option ℕ). is_some o) own.status ∙ ap (λ (o : Option ℕ). is_some o) (out-running (run_of b history) s.served place t d.quantum task of.out))
     (lending-place (slice_set tasks place u) d.pid place u number (get-set-here tasks place u (slice_get_within tasks place t there)))
-    (subst (λ (x : State). is_some (stands_at x) ≡ true) goes stands)
+    (subst (λ (x : State). is_some (stopped_at x) ≡ true) goes stands)
     (subst (λ (x : State). x.count < 2 ^ 40) goes d.room)
     (not-full b later (slice_set tasks place u) last (omega (arith, less, was, longer)))
 
@@ -176,7 +176,7 @@ events-accepted b history tasks s last place t d h number there of =
     ap (λ (o : Option ℕ). record { boot = b; history = history ++ Turn d.pid d.count ∷ []; lendings = with_child ls o; last_lent = last }) (turn-child w.sync d.pid d.count) in
     subst (λ (x : Kernel). AllAccepted x (events_of (loan_result d))) (returned-is b history tasks last d.pid place t number there) (
       turn-event b history tasks s last place t d h number there of,
-      subst (λ (x : Kernel). AllAccepted x (if is_some (stands_at d.machine) then Enter d.pid ∷ [] else [])) (sym same) (elim (is_some (stands_at d.machine)) as (λ (v : Bool). is_some (stands_at d.machine) ≡ v
+      subst (λ (x : Kernel). AllAccepted x (if is_some (stopped_at d.machine) then Enter d.pid ∷ [] else [])) (sym same) (elim (is_some (stopped_at d.machine)) as (λ (v : Bool). is_some (stopped_at d.machine) ≡ v
           → AllAccepted later (if v then Enter d.pid ∷ [] else [])) [
             | true ↦ λ stands. (enter-event b history tasks s last place t d h number there of stands, tt)
             | false ↦ λ stands. tt

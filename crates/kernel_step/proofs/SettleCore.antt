@@ -2,7 +2,7 @@
 use Rattle.std.proofs.Common.{◌≡◌, ℕ, zero, suc, ◌+◌, ◌*◌, ◌^◌, ◌<◌, ◌≤◌, Bool, true, false, if◌then◌else◌, List, [], ◌∷◌, ◌++◌, length, map, slice_get, slice_set, Option, Some, None, is_some, option_map, option_to_list, refl, sym, ap, subst, ◌∙◌, arith, length-append, append_assoc}
 use Rattle.std.proofs.lemmas.List.{map-set}
 use Rattle.disk_model.proofs.Lists.{set_same}
-use Rattle.machine_model.specs.States.{State, reached_at, run, stands_at}
+use Rattle.machine_model.specs.States.{State, reached_at, run, stopped_at}
 use Rattle.machine_model.specs.declared.stop.Stop.{Stop}
 use Rattle.kernel_model.specs.Answers.{Kernel, Lending, lending_at, quantum_out, outcome_of, now, with_child, with_event, with_events}
 use Rattle.kernel_model.specs.Loans.{LoanResult, IsOfLoan, loans_in, put_lending, events_of, returned, settled, settled_answer, outcome_after}
@@ -18,7 +18,7 @@ use Rattle.kernel_model.specs.declared.event.Event.TheVariants.{Turn, Enter}
 use Rattle.commit_deps.specs.Kept.{Kept}
 use Rattle.footprints.specs.Footprints.{AreFootprints}
 use Rattle.kernel_model.specs.Entries.{Entry}
-use Rattle.kernel_step.specs.Stands.{kernel_of, KeepsRun}
+use Rattle.kernel_step.specs.Represents.{kernel_of, KeepsRun}
 use Rattle.kernel_step.specs.Entering.{IsSameTask, IsSameSystem}
 use Rattle.kernel_step.specs.Loaned.{loan_result}
 use Rattle.kernel_step.specs.Mirrors.{Mirrors}
@@ -88,10 +88,10 @@ pub record IsTaken (b : Boot) (history history' : List Event) (tasks new : List 
   pub out : out_of u ≡ None
   pub answer : a ≡ settled_answer (kernel_of b history tasks last) (loan_result d)
 
-events-none : (d : Done) → stands_at d.machine ≡ None → events_of (loan_result d) ≡ Turn d.pid d.count ∷ []
+events-none : (d : Done) → stopped_at d.machine ≡ None → events_of (loan_result d) ≡ Turn d.pid d.count ∷ []
 events-none d stands = ap (λ (o : Option Stop). Turn d.pid d.count ∷ (if is_some o then Enter d.pid ∷ [] else [])) stands
 
-events-some : (d : Done) (at : Stop) → stands_at d.machine ≡ Some at → events_of (loan_result d) ≡ Turn d.pid d.count ∷ Enter d.pid ∷ []
+events-some : (d : Done) (at : Stop) → stopped_at d.machine ≡ Some at → events_of (loan_result d) ≡ Turn d.pid d.count ∷ Enter d.pid ∷ []
 events-some d at stands = ap (λ (o : Option Stop). Turn d.pid d.count ∷ (if is_some o then Enter d.pid ∷ [] else [])) stands
 
 pub reached : (t : Task) (d : Done) → IsLoanOf t d → d.machine ≡ (run d.count (machine_of t)).state
@@ -100,7 +100,7 @@ reached t d of =
     (ap (run d.quantum) of.began ∙ d.ran) refl refl)
 
 -- the kernel after the events of a result
-settled-turn : (k : Kernel) (d : Done) → stands_at d.machine ≡ None → settled k (loan_result d) ≡ later_core (returned k d.pid) d None
+settled-turn : (k : Kernel) (d : Done) → stopped_at d.machine ≡ None → settled k (loan_result d) ≡ later_core (returned k d.pid) d None
 settled-turn k d stands =
     let es = events-none d stands in
     let r : Kernel = returned k d.pid in
@@ -108,7 +108,7 @@ settled-turn k d stands =
     ∙ ap (λ (o : Option ℕ). record r { history = r.history ++ Turn d.pid d.count ∷ []; lendings = with_child r.lendings o }) (turn-child (now r).sync d.pid d.count)
     ∙ ap (λ (xs : List Event). record r { history = r.history ++ xs }) (sym es)
 
-settled-enter : (k : Kernel) (d : Done) (at : Stop) (child : Option ℕ) → stands_at d.machine ≡ Some at
+settled-enter : (k : Kernel) (d : Done) (at : Stop) (child : Option ℕ) → stopped_at d.machine ≡ Some at
     → child ≡ (step (happens (now k) (Turn d.pid d.count)).sync (Enter d.pid)).entry.child → settled k (loan_result d) ≡ later_core (returned k d.pid) d child
 settled-enter k d at child stands is =
     let es = events-some d at stands in
@@ -136,7 +136,7 @@ turned-footprints law b history tasks s place t d h number there of =
     h.footprints
 
 pub turn-taken : TurnGrows → (b : Boot) (history history' : List Event) (tasks : List Task) (s s' : System) (last place : ℕ) (t u : Task) (d : Done) (a : Answer)
-    → KeepsRun b history tasks s → d.pid ≡ place + 1 → slice_get tasks place ≡ Some t → IsLoanOf t d → stands_at d.machine ≡ None
+    → KeepsRun b history tasks s → d.pid ≡ place + 1 → slice_get tasks place ≡ Some t → IsLoanOf t d → stopped_at d.machine ≡ None
     → IsBack d.machine t u → IsTurnNoted d.pid s s' → history' ≡ history ++ Turn d.pid d.count ∷ []
     → a ≡ answer_of.Settled d.count d.stop None
     → IsTaken b history history' tasks (slice_set tasks place u) last place t u s' d a
@@ -163,7 +163,7 @@ turn-taken law b history history' tasks s s' last place t u d a h number there o
     }
 
 pub enter-taken : EnterLaws → TurnGrows → EnterGrows → (b : Boot) (old new : Running) (place : ℕ) (d : Done) (at : Stop) (a : Answer)
-    → KeepsRun b old.history.items old.tasks.items old.system → d.pid ≡ place + 1 → stands_at d.machine ≡ Some at
+    → KeepsRun b old.history.items old.tasks.items old.system → d.pid ≡ place + 1 → stopped_at d.machine ≡ Some at
     → (e : IsCallSettled d place old new a) → IsLoanOf e.task d
     → IsTaken b old.history.items new.history.items old.tasks.items new.tasks.items old.last_lent place e.task e.after new.system d a
 enter-taken laws turns enters b old new place d at a h number stands e of =
@@ -230,14 +230,14 @@ count-back (x ∷ xs) (suc place) q t u there out none =
     omega (arith, was, is, rest)
 
 few-events : (r : LoanResult) → length (events_of r) ≤ 2
-few-events r = by (is_some (stands_at r.reached.state))
+few-events r = by (is_some (stopped_at r.reached.state))
   where
     by : (b : Bool) → length (Turn r.process r.reached.count ∷ (if b then Enter r.process ∷ [] else [])) ≤ 2
     by true = omega arith
     by false = omega arith
 
 some-events : (r : LoanResult) → 1 ≤ length (events_of r)
-some-events r = by (is_some (stands_at r.reached.state))
+some-events r = by (is_some (stopped_at r.reached.state))
   where
     by : (b : Bool) → 1 ≤ length (Turn r.process r.reached.count ∷ (if b then Enter r.process ∷ [] else []))
     by true = omega arith

@@ -2,7 +2,7 @@
 use Rattle.std.proofs.Common.{◌≡◌, ℕ, zero, suc, ◌+◌, ◌^◌, ◌<◌, inl, inr, true, false, List, [], ◌∷◌, ◌++◌, map, option_to_list, slice_get, slice_set, Option, Some, None, is_some, refl, sym, ap, subst, ◌∙◌, arith}
 use Rattle.std.proofs.lemmas.Option.{slice_get_within}
 use Rattle.std.proofs.lemmas.List.{map-set, set-set}
-use Rattle.machine_model.specs.States.{State, Stepped, Goes, Halts, Ran, reached_at, next, run, after, stands_at}
+use Rattle.machine_model.specs.States.{State, Stepped, Goes, Halts, Ran, reached_at, next, run, after, stopped_at}
 use Rattle.machine_model.proofs.Running.{run-zero, run-goes, run-halts}
 use Rattle.kernel_model.specs.State.{Process, put_process}
 use Rattle.kernel_model.specs.Steps.{own_entry, after_run}
@@ -132,7 +132,7 @@ back-mirrors w tasks s s' pid place n q m t u h number there out reached few bac
 -- ---- the Turn and its Enter
 pub both-run : EnterLaws → (w : World) (tasks : List Task) (s s' : System) (pid place n q : ℕ) (m : State) (t u : Task) (outcome : Outcome) (child : Option Task)
     → Mirrors w tasks s → pid ≡ place + 1 → slice_get tasks place ≡ Some t → out_of t ≡ Some q → m ≡ (run n (machine_of t)).state → m.count < 2 ^ 40
-    → is_some (stands_at m) ≡ true
+    → is_some (stopped_at m) ≡ true
     → (e : IsTurnEntered pid m t u s s' outcome child)
     → IsRun (happens w (Turn pid n)) pid (slice_set tasks place e.middle) (slice_set tasks place u ++ option_to_list child) (marked_with s e.marks) s' outcome
 both-run laws w tasks s s' pid place n q m t u outcome child h number there out reached few stands e =
@@ -146,7 +146,7 @@ both-run laws w tasks s s' pid place n q m t u outcome child h number there out 
     let fine : IsFineTask e.middle false = record {
       running = back-status m t e.middle e.back ∙ out-running w s.served place t q (h.each.each place t there) out;
       here = e.back.out;
-      stopped = ap (λ (x : State). is_some (stands_at x)) e.back.machine ∙ stands;
+      stopped = ap (λ (x : State). is_some (stopped_at x)) e.back.machine ∙ stands;
       few = subst (λ (x : State). x.count < 2 ^ 40) (sym e.back.machine) few;
       room = refl;
     } in

@@ -1,7 +1,7 @@
 -- A loan's result, taken back or not.
 use Rattle.std.proofs.Common.{◌≡◌, ◌∙◌, ℕ, ◌+◌, List, Some, None, Result, Ok, Err, refl, sym, ap, subst, slice_get, arith}
 use Rattle.std.specs.Prelude.{IfOk, IfErr, OnErr}
-use Rattle.machine_model.specs.States.{stands_at}
+use Rattle.machine_model.specs.States.{stopped_at}
 use Rattle.machine_model.specs.declared.stop.Stop.{Stop}
 use Rattle.kernel_model.specs.Loans.{IsOfLoan}
 use Rattle.kernel_model.specs.World.{Boot}
@@ -11,7 +11,7 @@ use Rattle.kernel_model.specs.declared.event.Event.{Event}
 use Rattle.kernel_step.specs.Counted.{IsCounted}
 use Rattle.kernel_step.specs.Loaned.{loan_result}
 use Rattle.kernel_step.specs.Settling.{IsLoanOf, IsTurnSettled, IsCallSettled, IsNotSettled, LackedMemory}
-use Rattle.kernel_step.specs.Stands.{kernel_of, kernel_in, KeepsRun, Stands, TakesBack}
+use Rattle.kernel_step.specs.Represents.{kernel_of, kernel_in, KeepsRun, Represents, TakesBack}
 use Rattle.kernel_step.specs.Tasks.{count_out}
 use Rattle.kernel_step.specs.declared.loan.Done.{Done}
 use Rattle.kernel_step.specs.declared.loan.Rejected.{Rejected}
@@ -34,7 +34,7 @@ record IsTakenAndCounted (b : Boot) (d : Done) (place : ℕ) (old new : Running)
 abbrev IsTakenTo : Boot → Done → ℕ → Running → Running → Answer → Task → Task → List Task → Type 0
 IsTakenTo b d place old new a t u tasks = IsTaken b old.history.items new.history.items old.tasks.items tasks old.last_lent place t u new.system d a
 
-settles : (b : Boot) (old new : Running) (place : ℕ) (t : Task) (d : Done) (r : Result Answer Rejected) → Stands b old
+settles : (b : Boot) (old new : Running) (place : ℕ) (t : Task) (d : Done) (r : Result Answer Rejected) → Represents b old
     → d.pid ≡ place + 1 → slice_get old.tasks.items place ≡ Some t → IsLoanOf t d
     → IfOk r (λ a. IsTakenAndCounted b d place old new a) → OnErr r (IsNotSettled place old new) → IfErr r (λ e. LackedMemory d e)
     → TakesBack b d old new r
@@ -44,7 +44,7 @@ settles b old new place t d (Ok a) h number there of done same back =
     let tasks : List Task = old.tasks.items in
     let after : List Task = new.tasks.items in
     let all = done.taken in
-    let stands : Stands b new = record {
+    let stands : Represents b new = record {
       parts = taken-core b history later tasks after old.system new.system old.last_lent place all.task all.after d a h.parts all.there all.of all.taken;
       counted =
           counted-settle b history later tasks after old.system new.system old.last_lent place old.ran new.ran t d (Ok a) h.parts number there of h.counted
@@ -108,7 +108,7 @@ settles b old new place t d (Err e) h number there of done same back =
     }
 
 -- a result that is of no loan
-pub stranger-back : (b : Boot) (r : Running) (d : Done) → Stands b r → ¬ (IsOfLoan (kernel_in b r) (loan_result d))
+pub stranger-back : (b : Boot) (r : Running) (d : Done) → Represents b r → ¬ (IsOfLoan (kernel_in b r) (loan_result d))
     → TakesBack b d r r (Err (record { why = Stranger; done = d }))
 stranger-back b r d h other = record {
   stands = h;
@@ -126,8 +126,8 @@ stranger-back b r d h other = record {
 }
 
 -- a result whose machine stands nowhere
-pub turn-settles : TurnGrows → (b : Boot) (old new : Running) (place : ℕ) (t : Task) (d : Done) (r : Result Answer Rejected) → Stands b old
-    → d.pid ≡ place + 1 → slice_get old.tasks.items place ≡ Some t → IsLoanOf t d → stands_at d.machine ≡ None
+pub turn-settles : TurnGrows → (b : Boot) (old new : Running) (place : ℕ) (t : Task) (d : Done) (r : Result Answer Rejected) → Represents b old
+    → d.pid ≡ place + 1 → slice_get old.tasks.items place ≡ Some t → IsLoanOf t d → stopped_at d.machine ≡ None
     → IfOk r (λ a. IsTurnSettled d place old new a) → OnErr r (IsNotSettled place old new) → IfErr r (λ e. LackedMemory d e)
     → TakesBack b d old new r
 turn-settles law b old new place t d (Ok a) h number there of stands done same back =
@@ -150,8 +150,8 @@ turn-settles law b old new place t d (Ok a) h number there of stands done same b
 turn-settles law b old new place t d (Err e) h number there of stands done same back = settles b old new place t d (Err e) h number there of tt same back
 
 -- a result whose machine stands at a call or a trap
-pub call-settles : EnterLaws → TurnGrows → EnterGrows → (b : Boot) (old new : Running) (place : ℕ) (t : Task) (d : Done) (at : Stop) (r : Result Answer Rejected) → Stands b old
-    → d.pid ≡ place + 1 → slice_get old.tasks.items place ≡ Some t → IsLoanOf t d → stands_at d.machine ≡ Some at
+pub call-settles : EnterLaws → TurnGrows → EnterGrows → (b : Boot) (old new : Running) (place : ℕ) (t : Task) (d : Done) (at : Stop) (r : Result Answer Rejected) → Represents b old
+    → d.pid ≡ place + 1 → slice_get old.tasks.items place ≡ Some t → IsLoanOf t d → stopped_at d.machine ≡ Some at
     → IfOk r (λ a. IsCallSettled d place old new a) → OnErr r (IsNotSettled place old new) → IfErr r (λ e. LackedMemory d e)
     → TakesBack b d old new r
 call-settles laws turns enters b old new place t d at (Ok a) h number there of stands done same back =

@@ -8,7 +8,7 @@ use Rattle.kernel_model.specs.declared.event.Event.{Event}
 use Rattle.kernel_model.specs.declared.standing.Standing.{Standing}
 use Rattle.kernel_model.specs.declared.standing.Standing.TheVariants.{Ended, Lent, Waits, Free}
 use Rattle.kernel_step.specs.Lending.{next_fit, standing_in}
-use Rattle.kernel_step.specs.Stands.{kernel_of, kernel_in, KeepsRun, Stands}
+use Rattle.kernel_step.specs.Represents.{kernel_of, kernel_in, KeepsRun, Represents}
 use Rattle.kernel_step.specs.Tasks.{out_of, status_of, count_out}
 use Rattle.kernel_step.specs.Tests.{IsTaskOf}
 use Rattle.kernel_step.specs.Waiting.{is_asleep}
@@ -23,7 +23,7 @@ abbrev first_held : Bool → Bool → Bool → Standing
 first_held ended lent waits = if ended then Ended else if lent then Lent else if waits then Waits else Free
 
 -- a process stands as its task does
-pub standing-is : (b : Boot) (r : Running) (tasks : List Task) (pid : ℕ) (t : Task) → Stands b r → tasks ≡ r.tasks.items → IsTaskOf tasks pid t
+pub standing-is : (b : Boot) (r : Running) (tasks : List Task) (pid : ℕ) (t : Task) → Represents b r → tasks ≡ r.tasks.items → IsTaskOf tasks pid t
     → standing_in r.system.served t ≡ standing_of (kernel_in b r) pid
 standing-is b r tasks pid t h same task =
     let k : Kernel = kernel_in b r in

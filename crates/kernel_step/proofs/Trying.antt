@@ -9,7 +9,7 @@ use Rattle.kernel_model.specs.declared.answer.Refused.{Refused}
 use Rattle.kernel_model.specs.declared.event.Event.{Event}
 use Rattle.kernel_model.specs.declared.event.Event.TheVariants.{Turn, Enter}
 use Rattle.kernel_step.specs.Counted.{IsCounted}
-use Rattle.kernel_step.specs.Stands.{kernel_of, kernel_in, KeepsRun, Stands, Steps}
+use Rattle.kernel_step.specs.Represents.{kernel_of, kernel_in, KeepsRun, Represents, Steps}
 use Rattle.kernel_step.specs.Tasks.{count_out}
 use Rattle.kernel_step.specs.Trying.{is_history_full, IsTurnAccepted, IsTurnRefused, IsEnterAccepted, IsEnterRefused}
 use Rattle.kernel_step.specs.Tests.{turn_refusal_of, enter_refusal_of}
@@ -28,7 +28,7 @@ same-lent : (b : Boot) (old new : Running) (e : Event) (r : Result Answer Refuse
 same-lent b old new e r same h =
     subst (λ (last : ℕ). Applies (kernel_in b old) e (kernel_of b new.history.items new.tasks.items last) r) (sym same) h
 
-pub turn-steps-run : TurnGrows → (b : Boot) (old new : Running) (pid n : ℕ) (r : Result Answer Refused) → Stands b old
+pub turn-steps-run : TurnGrows → (b : Boot) (old new : Running) (pid n : ℕ) (r : Result Answer Refused) → Represents b old
     → IfOk r (λ a. IsTurnAccepted pid n old new a)
     → IfErr r (λ why. Refuses (turn_refusal_of old.tasks.items (is_history_full old) pid n) why)
     → OnErr r (IsTurnRefused old new)
@@ -69,7 +69,7 @@ turn-steps-run law b old new pid n (Err e) h done why same =
       applies = same-lent b old new (Turn pid n) (Err e) same.last_lent applies;
     }
 
-pub enter-steps-run : EnterGrows → (b : Boot) (old new : Running) (pid : ℕ) (r : Result Answer Refused) → Stands b old
+pub enter-steps-run : EnterGrows → (b : Boot) (old new : Running) (pid : ℕ) (r : Result Answer Refused) → Represents b old
     → IfOk r (λ a. IsEnterAccepted pid old new a)
     → IfErr r (λ why. Refuses (enter_refusal_of old.tasks.items (is_history_full old) pid) why)
     → OnErr r (IsEnterRefused old new)

@@ -29,7 +29,7 @@ use Rattle.kernel_model.specs.declared.event.Event.TheVariants.{Cut, Complete, F
 use Rattle.machine_model.specs.States.{State}
 use Rattle.kernel_step.specs.Waiting.{is_asleep}
 use Rattle.kernel_step.specs.Advanced.{AreAdvanced, IsMoved, AreMoved}
-use Rattle.kernel_step.specs.Stands.{kernel_of, KeepsRun}
+use Rattle.kernel_step.specs.Represents.{kernel_of, KeepsRun}
 use Rattle.held_output.specs.Withheld.{Withheld, Held, whats}
 use Rattle.kernel_step.specs.Mirrors.{IsTask, AreTasks, AreChanges, Mirrors}
 use Rattle.kernel_step.specs.Seen.{AreScreens}

@@ -5,12 +5,12 @@ use Rattle.std.specs.Option.{ForSome}
 use Rattle.disk_model.specs.Files.{IsPossible}
 use Rattle.disk_model.specs.Numbers.{Numbered}
 use Rattle.memory_model.specs.Access.{is_writable}
-use Rattle.machine_model.specs.States.{State, stands_at}
+use Rattle.machine_model.specs.States.{State, stopped_at}
 use Rattle.machine_model.specs.Replies.{in_image, replied}
 use Rattle.machine_model.specs.declared.stop.Stop.TheVariants.{Call}
 use Rattle.calls.specs.Plans.{effect_with, AreLeft, EditsAs, IsNext, MayAllStep, OpensAlone, OpensNone, all_seen}
 use Rattle.calls.specs.Sights.{Sight, MayPlanCall}
-use Rattle.calls.specs.declared.plan.Plan.{Plan}
+use Rattle.calls.specs.declared.plan.CallPlan.{CallPlan}
 use Rattle.commit_deps.specs.Keeps.{Keeps}
 use Rattle.commit_deps.specs.Marks.{IsMarkOf}
 use Rattle.commit_deps.specs.Kept.{Kept, Marked}
@@ -38,7 +38,7 @@ use Rattle.processes.specs.Parts.{Part, part_of, part_at, with_part, child_part}
 use Rattle.kernel_step.specs.Seen.{AreScreens}
 use Rattle.kernel_step.specs.Tasks.{machine_of, out_of}
 use Rattle.kernel_step.specs.Waiting.{served_after, waited_after}
-use Rattle.kernel_step.specs.declared.plan.Entering.{Entering}
+use Rattle.kernel_step.specs.declared.plan.EnterPlan.{EnterPlan}
 use Rattle.kernel_step.specs.declared.system.System.{System}
 use Rattle.kernel_step.specs.declared.task.Task.{Task}
 
@@ -83,7 +83,7 @@ writes_of pid (Ends status) carriers = Proc pid ∷ carriers
 -- a process that stands here may be told this: at a call a reply whose bytes may be written at their place, or anything else
 abbrev pub MayBeTold : State → Verdict → Type 0
 MayBeTold s Waits = Unit {0}
-MayBeTold s (Replies r) = (stands_at s ≡ Some Call) × (is_writable s.hart.memory r.at (length r.bytes) ≡ true)
+MayBeTold s (Replies r) = (stopped_at s ≡ Some Call) × (is_writable s.architectural.memory r.at (length r.bytes) ≡ true)
 MayBeTold s (Ends status) = Unit {0}
 
 -- ---- what a plan comes to
@@ -113,11 +113,11 @@ pub record MayPlan (seen : Sight) (pid : ℕ) : Type 0 where
   pub ends : HaveRoom seen.pipes
 
 -- the footprint of an Enter of process pid: the carriers that it reads beside its process, and those that it writes
-abbrev pub footprint_of : ℕ → Plan → Entry
+abbrev pub footprint_of : ℕ → CallPlan → Entry
 footprint_of pid plan = footprint plan.reads.items (writes_of pid plan.verdict plan.writes.items)
 
 -- the entry of an Enter of process pid
-abbrev pub entry_of : ℕ → Plan → Entry
+abbrev pub entry_of : ℕ → CallPlan → Entry
 entry_of pid plan = record {
   process = pid;
   reads = Proc pid ∷ plan.reads.items;
@@ -129,7 +129,7 @@ entry_of pid plan = record {
 }
 
 -- the process's part
-abbrev pub part_after : Part → Plan → Part
+abbrev pub part_after : Part → CallPlan → Part
 part_after part plan = record {
   descriptors = descriptors_after part.descriptors plan.verdict plan.slots.items;
   children = children_after part.children (effect_with plan None);
@@ -137,7 +137,7 @@ part_after part plan = record {
 }
 
 -- the process
-abbrev pub process_after : Process → Plan → Process
+abbrev pub process_after : Process → CallPlan → Process
 process_after p plan = record {
   state = machine_after p.state plan.verdict;
   descriptors = (part_after (part_of p) plan).descriptors;
@@ -146,7 +146,7 @@ process_after p plan = record {
 }
 
 -- the process's part once it has made a child of this number or collected this one
-abbrev pub family_of : Part → Plan → Part
+abbrev pub family_of : Part → CallPlan → Part
 family_of part plan = record part { children = children_after part.children (effect_with plan None) }
 
 -- the part of the process that is made, if one is
@@ -156,15 +156,15 @@ born (Some part) None = []
 born (Some part) (Some child) = child_part part ∷ []
 
 -- all parts once it has
-abbrev pub with_children : List Part → ℕ → Plan → List Part
+abbrev pub with_children : List Part → ℕ → CallPlan → List Part
 with_children parts pid plan = with_part parts pid (part_at parts pid) (λ part. family_of part plan) ++ born (part_at parts pid) plan.child
 
 -- all parts
-abbrev pub parts_after : List Part → ℕ → Plan → List Part
+abbrev pub parts_after : List Part → ℕ → CallPlan → List Part
 parts_after parts pid plan = with_part parts pid (part_at parts pid) (λ part. part_after part plan) ++ born (part_at parts pid) plan.child
 
 -- the state after it, and its entry
-abbrev pub planned : SyncState → ℕ → Process → Plan → Transition
+abbrev pub planned : SyncState → ℕ → Process → CallPlan → Transition
 planned s pid p plan = record {
   state = record {
     processes = put_process s.processes pid (process_after p plan) ++ forked p plan.child;
@@ -182,7 +182,7 @@ pub record AreSteps (steps : List PipeStep) : Type 0 where
 
 -- The plan says what comes of the call or the trap at which process pid stands, which sees this. It does not both make a child
 -- and collect one; and it reads no more of a tape than is left.
-pub record PlansEnter (seen : Sight) (pid : ℕ) (s : State) (plan : Plan) : Type 0 where
+pub record PlansEnter (seen : Sight) (pid : ℕ) (s : State) (plan : CallPlan) : Type 0 where
   pub goes : (state : SyncState) (p : Process) → IsSightOf state seen → process_at state.processes pid ≡ Some p → p.state ≡ s → p.status ≡ None
       → step state (Enter pid) ≡ planned state pid p plan
   pub verdict : MayBeTold s plan.verdict
@@ -234,7 +234,7 @@ MakesTask number mark s parent (Some u) = (number ≡ Some u.pid) × IsForked ma
 
 -- the plan of an Enter of process pid, where its machine and trace are these, all carriers that its event reads and writes, the
 -- pipe and the process that it makes, and the machine with which the process goes on where its reply has an image
-pub record IsEntering (seen : Sight) (pid : ℕ) (s : State) (t : Withheld Item) (e : Entering) : Type 0 where
+pub record IsEntering (seen : Sight) (pid : ℕ) (s : State) (t : Withheld Item) (e : EnterPlan) : Type 0 where
   pub process : e.pid ≡ pid
   pub plan : PlansEnter seen pid s e.plan
   pub reads : e.reads.items ≡ (entry_of pid e.plan).reads
@@ -303,7 +303,7 @@ pub record IsNoted (x : Entry) (count : ℕ) (old new : List Marked) (mark : ℕ
 
 -- The rest of an Enter whose change of the files is done, and whose event of this mark is noted: its output is written, its change
 -- is kept, the tape that it reads is past what was read, the steps of its pipes are done, and so is what becomes of the processes.
-pub record IsFinished (pid : ℕ) (plan : Plan) (mark : ℕ) (old new : System) : Type 0 where
+pub record IsFinished (pid : ℕ) (plan : CallPlan) (mark : ℕ) (old new : System) : Type 0 where
   pub marks : new.dependencies ≡ old.dependencies
   pub footprints : new.footprints ≡ old.footprints
   pub changes : new.changes.items ≡ old.changes.items ++ option_to_list plan.change
@@ -317,7 +317,7 @@ pub record IsFinished (pid : ℕ) (plan : Plan) (mark : ℕ) (old new : System) 
 
 -- An Enter that was prepared is carried out: its event is noted, and its footprint, the rest of it is done, the task was told what it
 -- came to, and so was the process that it made, if it made one.
-pub record IsCarriedOut (e : Entering) (old new : Task) (before later : System) (outcome : Outcome) (child : Option Task) : Type 0 where
+pub record IsCarriedOut (e : EnterPlan) (old new : Task) (before later : System) (outcome : Outcome) (child : Option Task) : Type 0 where
   pub mark : ℕ
   pub dependencies : Kept
   pub noted : IsNoted (entry_of e.pid e.plan) (length before.changes.items) before.dependencies.marks dependencies.marks mark
@@ -329,7 +329,7 @@ pub record IsCarriedOut (e : Entering) (old new : Task) (before later : System) 
   pub outcome_is : outcome ≡ outcome_of (item_of e.plan.verdict)
 
 -- what is shared after an Enter, whose event has this mark
-pub record IsEntered (pid : ℕ) (plan : Plan) (mark : ℕ) (old new : System) : Type 0 where
+pub record IsEntered (pid : ℕ) (plan : CallPlan) (mark : ℕ) (old new : System) : Type 0 where
   pub noted : IsNoted (entry_of pid plan) (length old.changes.items) old.dependencies.marks new.dependencies.marks mark
   pub footprints : new.footprints.footprints ≡ old.footprints.footprints ++ footprint_of pid plan ∷ []
   pub changes : new.changes.items ≡ old.changes.items ++ option_to_list plan.change
@@ -343,7 +343,7 @@ pub record IsEntered (pid : ℕ) (plan : Plan) (mark : ℕ) (old new : System) :
 
 -- an Enter of process pid is done: its task and what is shared are these, it came to this, and it made this process, if it made one
 pub record IsDone (pid : ℕ) (old new : Task) (before later : System) (outcome : Outcome) (child : Option Task) : Type 0 where
-  pub plan : Plan
+  pub plan : CallPlan
   pub mark : ℕ
   pub plans : PlansEnter (sight_in before) pid (machine_of old) plan
   pub told : IsTold plan.verdict mark before.served old new

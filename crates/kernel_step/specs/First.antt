@@ -12,7 +12,7 @@ use Rattle.kernel_step.specs.declared.task.Task.{Task}
 pub record IsFirst (place : ℕ) (p : Program) (t : Task) : Type 0 where
   pub number : t.pid ≡ place + 1
   pub machine : machine_of t ≡ first_state p.image
-  pub bytes : HoldsBytes (machine_of t).hart.memory
+  pub bytes : HoldsBytes (machine_of t).architectural.memory
   pub trace : t.trace ≡ nothing
   pub waited : t.waited ≡ None
   pub loans : t.loans ≡ 0

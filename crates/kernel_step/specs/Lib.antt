@@ -13,7 +13,7 @@ pub mod Parts
 pub mod Ready
 pub mod Seen
 pub mod Settling
-pub mod Stands
+pub mod Represents
 pub mod Storing
 pub mod Tasks
 pub mod Tests

@@ -2,26 +2,26 @@
 use Rattle.std.specs.Prelude.{◌≡◌, ℕ, ◌+◌, ◌^◌, ◌<◌, ◌≤◌, ◌⊎◌, true, length, Option, None, is_some, IfSome, vec_len, vec_capacity}
 use Rattle.std.specs.Global.{Vec}
 use Rattle.calls.specs.Plans.{AreLeft, IsNext, MayAllStep}
-use Rattle.calls.specs.declared.plan.Plan.{Plan}
+use Rattle.calls.specs.declared.plan.CallPlan.{CallPlan}
 use Rattle.kernel_model.specs.Entries.{Item}
 use Rattle.kernel_model.specs.Shown.{end_in}
 use Rattle.kernel_model.specs.State.{changed_by}
 use Rattle.kernel_model.specs.declared.event.Event.{Event}
 use Rattle.kernel_model.specs.declared.request.Verdict.{Verdict}
-use Rattle.machine_model.specs.States.{State, stands_at}
+use Rattle.machine_model.specs.States.{State, stopped_at}
 use Rattle.pipes.specs.Seen.{Seen}
 use Rattle.processes.specs.Table.{Table, HasRoom as HasChildRoom}
 use Rattle.held_output.specs.Withheld.{Withheld, whats}
 use Rattle.kernel_step.specs.Entering.{sight_in, entry_of, in_image_by, MayBeTold, MayPlan, HasSpaceFor, IsSpare, IsEntering, IsSystemWith}
 use Rattle.kernel_step.specs.Tasks.{machine_of, out_of, status_of}
-use Rattle.kernel_step.specs.declared.plan.Entering.{Entering}
+use Rattle.kernel_step.specs.declared.plan.EnterPlan.{EnterPlan}
 use Rattle.kernel_step.specs.declared.system.System.{System}
 use Rattle.kernel_step.specs.declared.task.Task.{Task}
 
 -- Process pid may enter by this machine and with this trace: it stands at a call or a trap, may do one more instruction, and has
 -- not ended; a plan may be made for it, and one more Enter and one more file may be counted.
 pub record MayEnter (s : System) (pid : ℕ) (m : State) (trace : Withheld Item) : Type 0 where
-  pub stands : is_some (stands_at m) ≡ true
+  pub stands : is_some (stopped_at m) ≡ true
   pub budget : m.count < 2 ^ 40
   pub running : end_in (whats trace.items) ≡ None
   pub plan : MayPlan (sight_in s) pid
@@ -31,13 +31,13 @@ pub record MayEnter (s : System) (pid : ℕ) (m : State) (trace : Withheld Item)
 -- ---- room
 
 -- there is room for what a plan of process pid adds to what is shared
-pub record HasRoomForPlan (s : System) (pid : ℕ) (plan : Plan) : Type 0 where
+pub record HasRoomForPlan (s : System) (pid : ℕ) (plan : CallPlan) : Type 0 where
   pub children : HasChildRoom s.processes pid
   pub changes : vec_len s.changes < vec_capacity s.changes
   pub output : HasSpaceFor plan.output s.screens.items
 
 -- there is room for all that an Enter adds, and for a Turn before it
-pub record HasRoomForEnter (history : Vec Event) (trace : Withheld Item) (s : System) (e : Entering) : Type 0 where
+pub record HasRoomForEnter (history : Vec Event) (trace : Withheld Item) (s : System) (e : EnterPlan) : Type 0 where
   pub events : vec_len history + 2 ≤ vec_capacity history
   pub writes : length e.writes.items + 1 ≤ s.dependencies.room
   pub footprint : 1 ≤ s.footprints.enter_room
@@ -48,13 +48,13 @@ pub record HasRoomForEnter (history : Vec Event) (trace : Withheld Item) (s : Sy
 -- ---- what is prepared
 
 -- an Enter of process pid by this machine and with this trace comes to this, and its change of the files is done
-pub record IsPrepared (pid : ℕ) (m : State) (trace : Withheld Item) (old new : System) (e : Entering) : Type 0 where
+pub record IsPrepared (pid : ℕ) (m : State) (trace : Withheld Item) (old new : System) (e : EnterPlan) : Type 0 where
   pub entering : IsEntering (sight_in old) pid m trace e
   pub changed : IsSystemWith (changed_by old.files e.plan.change) old new
 
 -- the event of an Enter may be noted: there is room for what it writes, and for its footprint, and what it reads and writes is what its
 -- plan says
-pub record MayBeNoted (s : System) (e : Entering) : Type 0 where
+pub record MayBeNoted (s : System) (e : EnterPlan) : Type 0 where
   pub room : length e.writes.items ≤ s.dependencies.room
   pub footprint : 1 ≤ s.footprints.enter_room
   pub carriers : length e.plan.reads.items + length e.writes.items ≤ s.footprints.carrier_room
@@ -80,7 +80,7 @@ pub record ChildMayBeTold (child : Option Task) : Type 0 where
 
 -- the plan of process pid may change the table of processes: the process is there, with room for a child; a process that the plan
 -- makes is the next one, and it does not both make one and collect one
-pub record MayChangeParts (table : Table) (pid : ℕ) (plan : Plan) : Type 0 where
+pub record MayChangeParts (table : Table) (pid : ℕ) (plan : CallPlan) : Type 0 where
   pub from_1 : 0 < pid
   pub there : pid ≤ length table.parts
   pub child : IfSome plan.child (IsNext (length table.parts))
@@ -89,7 +89,7 @@ pub record MayChangeParts (table : Table) (pid : ℕ) (plan : Plan) : Type 0 whe
 
 -- the plan may change what is shared: the table of processes as above; no more of a tape is read than is left; the steps of its
 -- pipes may be done, of which this is the pipe that is made, if one is; and one more Enter may be counted
-pub record MayChangeSystem (s : System) (pid : ℕ) (plan : Plan) (pipe : Option Seen) : Type 0 where
+pub record MayChangeSystem (s : System) (pid : ℕ) (plan : CallPlan) (pipe : Option Seen) : Type 0 where
   pub processes : MayChangeParts s.processes pid plan
   pub left : IfSome plan.tape (AreLeft s.tapes)
   pub spare : IsSpare plan.pipes.items pipe
@@ -97,7 +97,7 @@ pub record MayChangeSystem (s : System) (pid : ℕ) (plan : Plan) (pipe : Option
   pub few : s.served < 2 ^ 63
 
 -- the rest of an Enter may be done
-pub record IsReady (t : Task) (s : System) (e : Entering) : Type 0 where
+pub record IsReady (t : Task) (s : System) (e : EnterPlan) : Type 0 where
   pub task : TaskMayBeTold e.plan.verdict e.next t
   pub child : ChildMayBeTold e.child
   pub output : HasSpaceFor e.plan.output s.screens.items

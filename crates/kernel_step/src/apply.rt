@@ -1,6 +1,6 @@
 //! Events, one at a time.
 ghost use Rattle.kernel_model.specs.World.{Boot};
-ghost use Rattle.kernel_step.specs.Stands.{Stands, Steps};
+ghost use Rattle.kernel_step.specs.Represents.{Represents, Steps};
 
 use crate::running::Running;
 use crate::storing::{complete, cut, fail, release};
@@ -11,8 +11,8 @@ use kernel_model::{Answer, Event, Refused};
 impl Running {
     /// As `Core::apply`. The clause speaks of every boot of which these are the parts.
     pub fn apply(&mut self, event: Event) -> Result<Answer, Refused>
-        requires { (b : Boot) × Stands b self.old }
-        ensures { (b : Boot) → Stands b self.old → Steps b event self.old self.new result }
+        requires { (b : Boot) × Represents b self.old }
+        ensures { (b : Boot) → Represents b self.old → Steps b event self.old self.new result }
     {
         match event {
             Event::Turn { pid, n } => self.turn(pid, n),
@@ -24,8 +24,8 @@ impl Running {
     }
 
     fn cut(&mut self) -> Result<Answer, Refused>
-        requires { (b : Boot) × Stands b self.old }
-        ensures { (b : Boot) → Stands b self.old → Steps b Event.Cut self.old self.new result }
+        requires { (b : Boot) × Represents b self.old }
+        ensures { (b : Boot) → Represents b self.old → Steps b Event.Cut self.old self.new result }
     {
         silent_events_leave_marks();
         footprints_grow();
@@ -34,8 +34,8 @@ impl Running {
     }
 
     fn complete(&mut self, at: u32) -> Result<Answer, Refused>
-        requires { (b : Boot) × Stands b self.old }
-        ensures { (b : Boot) → Stands b self.old → Steps b (Event.Complete at) self.old self.new result }
+        requires { (b : Boot) × Represents b self.old }
+        ensures { (b : Boot) → Represents b self.old → Steps b (Event.Complete at) self.old self.new result }
     {
         silent_events_leave_marks();
         footprints_grow();
@@ -47,8 +47,8 @@ impl Running {
     }
 
     fn fail(&mut self, at: u32) -> Result<Answer, Refused>
-        requires { (b : Boot) × Stands b self.old }
-        ensures { (b : Boot) → Stands b self.old → Steps b (Event.Fail at) self.old self.new result }
+        requires { (b : Boot) × Represents b self.old }
+        ensures { (b : Boot) → Represents b self.old → Steps b (Event.Fail at) self.old self.new result }
     {
         silent_events_leave_marks();
         footprints_grow();

@@ -8,7 +8,7 @@ ghost use Rattle.kernel_model.specs.World.{Boot, most_programs};
 ghost use Rattle.kernel_model.specs.Bytes.{ProgramsHoldBytes, TapesHoldBytes};
 ghost use Rattle.kernel_step.specs.Booting.{boot_with, nothing_lent};
 ghost use Rattle.kernel_step.specs.First.{AreFirst, AreEmpty, parts_from};
-ghost use Rattle.kernel_step.specs.Stands.{Stands, kernel_in};
+ghost use Rattle.kernel_step.specs.Represents.{Represents, kernel_in};
 
 use crate::running::Running;
 use crate::system::System;
@@ -56,7 +56,7 @@ impl Running {
         requires made { IsMade files.living }
         requires numbered { files ≡ numbered files.living }
         ensures stands { IfOk result (λ r. (disk : List ℕ) (gate : ℕ) → committer ≡ first_storage disk gate
-            → Stands (boot_with programs.now tapes.value.items files.living disk gate) r) }
+            → Represents (boot_with programs.now tapes.value.items files.living disk gate) r) }
         ensures history { IfOk result (λ r. (b : Boot) → (kernel_in b r).history ≡ []) }
         ensures lendings { IfOk result (λ r. (b : Boot) → (kernel_in b r).lendings ≡ map nothing_lent programs.now) }
         ensures last_lent { IfOk result (λ r. (b : Boot) → (kernel_in b r).last_lent ≡ 0) }

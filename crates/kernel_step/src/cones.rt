@@ -4,7 +4,7 @@ ghost use Rattle.kernel_laws.specs.Cones.{cone};
 ghost use Rattle.kernel_model.specs.Answers.{now};
 ghost use Rattle.kernel_model.specs.World.{Boot};
 ghost use Rattle.kernel_step.specs.Coning.{is_of_process, has_event, number_of};
-ghost use Rattle.kernel_step.specs.Stands.{Stands, kernel_in};
+ghost use Rattle.kernel_step.specs.Represents.{Represents, kernel_in};
 ghost use Rattle.kernel_step.specs.declared.cones.ConeFault.TheVariants.{NoEvent, OutOfMemory};
 
 use crate::running::Running;
@@ -79,8 +79,8 @@ impl Running {
     /// The numbers, counted from 1 and in order, of the events in the cone of event n: event n, and those on which it rests. Refused:
     /// NoEvent, where there is no such event, or it is a Cut, a Complete or a Fail; OutOfMemory.
     pub fn cone(&self, n: u64) -> Result<Vec<u64>, ConeFault>
-        requires { (b : Boot) × Stands b self.now }
-        ensures numbers { IfOk result (λ numbers. (b : Boot) → Stands b self.now → numbers.items ≡ cone (now (kernel_in b self.now)) n) }
+        requires { (b : Boot) × Represents b self.now }
+        ensures numbers { IfOk result (λ numbers. (b : Boot) → Represents b self.now → numbers.items ≡ cone (now (kernel_in b self.now)) n) }
         ensures there { OnOk result (has_event self.now.history.items n ≡ true) }
         ensures fault { IfErr result (λ why. why ≡ (if has_event self.now.history.items n then OutOfMemory else NoEvent)) }
     {

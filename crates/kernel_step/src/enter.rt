@@ -1,9 +1,9 @@
 //! An Enter, by a system call or a trap: a process is told what that comes to.
 ghost use Rattle.std.specs.Prelude.{◌≡◌, ◌<◌, ◌++◌, ◌∷◌, [], None, Some, vec_len, vec_capacity, option_to_list, IfOk, IfErr, OnOk, OnErr};
-ghost use Rattle.machine_model.specs.States.{stands_at};
+ghost use Rattle.machine_model.specs.States.{stopped_at};
 ghost use Rattle.kernel_model.specs.Answers.{Refuses, entered as answer_to};
 ghost use Rattle.kernel_model.specs.World.{Boot};
-ghost use Rattle.kernel_step.specs.Stands.{Stands, Steps};
+ghost use Rattle.kernel_step.specs.Represents.{Represents, Steps};
 ghost use Rattle.kernel_step.specs.Entering.{IsDone};
 ghost use Rattle.kernel_step.specs.Ready.{MayEnter};
 ghost use Rattle.kernel_step.specs.Trying.{is_history_full, MayTryEnter, IsEnterAccepted, IsEnterRefused};
@@ -55,7 +55,7 @@ fn enter_task(
     task: &mut Task,
 ) -> Result<(Outcome, Option<Task>), AllocError>
     requires here { out_of task.old ≡ None }
-    requires stands { stands_at (machine_of task.old) ≡ Some stop }
+    requires stands { stopped_at (machine_of task.old) ≡ Some stop }
     requires fine { MayEnter system.old pid (machine_of task.old) task.old.trace }
     ensures done { IfOk result (λ r. IsDone pid task.old task.new system.old system.new r.0 r.1) }
     ensures history { OnOk result (history.new.items ≡ history.old.items ++ Event.Enter pid ∷ []) }
@@ -70,8 +70,8 @@ fn enter_task(
 impl Running {
     /// The process enters the kernel by the call or the trap at which it stands. Refused as `Core::apply` says.
     pub(crate) fn enter(&mut self, pid: u32) -> Result<Answer, Refused>
-        requires { (b : Boot) × Stands b self.old }
-        ensures { (b : Boot) → Stands b self.old → Steps b (Event.Enter pid) self.old self.new result }
+        requires { (b : Boot) × Represents b self.old }
+        ensures { (b : Boot) → Represents b self.old → Steps b (Event.Enter pid) self.old self.new result }
     {
         tables_keep_their_limits();
         footprints_grow();

@@ -13,11 +13,11 @@ ghost use Rattle.kernel_step.specs.Entering.{entry_of, item_of, parts_after, wit
 ghost use Rattle.kernel_step.specs.Ready.{MayChangeParts, MayChangeSystem, IsReady, MayBeNoted};
 ghost use Rattle.kernel_step.specs.Waiting.{served_after};
 
-use crate::plan::Entering;
+use crate::plan::EnterPlan;
 use crate::replies::{tell, tell_child};
 use crate::system::System;
 use crate::task::Task;
-use calls::{PipeStep, Plan, Slot, Verdict};
+use calls::{CallPlan, PipeStep, Slot, Verdict};
 use commit_deps::{Dependencies, Mark};
 use disk_model::Change;
 use held_output::Withheld;
@@ -36,7 +36,7 @@ fn change_number(change: &Option<Change>, changes: usize) -> Option<u64>
 }
 
 /// Notes the event of an Enter that is prepared, where there are so many changes, and gives its mark. Takes no memory.
-fn note_enter(dependencies: &mut Dependencies, entering: &Entering, changes: usize) -> Mark
+fn note_enter(dependencies: &mut Dependencies, entering: &EnterPlan, changes: usize) -> Mark
     requires room { length entering.now.writes.items ≤ dependencies.old.room }
     requires few { changes < 2 ^ 63 }
     requires reads { entering.now.reads.items ≡ (entry_of entering.now.pid entering.now.plan).reads }
@@ -113,7 +113,7 @@ fn set_all(processes: &mut ProcTable, pid: u32, slots: &[Slot])
 }
 
 /// A process makes a child, or collects one. Takes no memory.
-fn change_children(processes: &mut ProcTable, pid: u32, plan: &Plan)
+fn change_children(processes: &mut ProcTable, pid: u32, plan: &CallPlan)
     requires { MayChangeParts processes.old pid plan.now }
     ensures { processes.new.parts ≡ with_children processes.old.parts pid plan.now }
 {
@@ -129,7 +129,7 @@ fn change_children(processes: &mut ProcTable, pid: u32, plan: &Plan)
     }
 }
 
-fn change_parts(processes: &mut ProcTable, pid: u32, plan: &Plan)
+fn change_parts(processes: &mut ProcTable, pid: u32, plan: &CallPlan)
     requires { MayChangeParts processes.old pid plan.now }
     ensures { processes.new.parts ≡ parts_after processes.old.parts pid plan.now }
 {
@@ -153,7 +153,7 @@ fn count_served(verdict: &Verdict, served: u64) -> u64
 }
 
 /// Does what an Enter changes that is shared, beside its output and its change of the files. Takes no memory.
-fn change_system(system: &mut System, pid: u32, plan: &Plan, spare: Option<Pipe>)
+fn change_system(system: &mut System, pid: u32, plan: &CallPlan, spare: Option<Pipe>)
     requires { MayChangeSystem system.old pid plan.now spare }
     ensures system { system.new ≡ record system.old {
       tapes = read_by system.old.tapes plan.now.tape;
@@ -186,7 +186,7 @@ fn keep(changes: &mut Vec<Change>, change: Option<Change>)
 fn finish(
     task: &mut Task,
     system: &mut System,
-    entering: Entering,
+    entering: EnterPlan,
     mark: Mark,
 ) -> (Outcome, Option<Task>)
     requires { IsReady task.old system.old entering }
@@ -196,7 +196,7 @@ fn finish(
     ensures child { (number : Option ℕ) (s : State) (parent : Withheld Item) → IsChild number s parent entering.child → MakesTask number mark s parent result.1 }
 {
     let before = system.served;
-    let Entering {
+    let EnterPlan {
         pid,
         plan,
         spare,
@@ -219,7 +219,7 @@ pub fn carry_out(
     history: &mut Vec<Event>,
     system: &mut System,
     task: &mut Task,
-    entering: Entering,
+    entering: EnterPlan,
 ) -> (Outcome, Option<Task>)
     requires ready { IsReady task.old system.old entering }
     requires noting { MayBeNoted system.old entering }

@@ -2,7 +2,7 @@
 ghost use Rattle.std.specs.Prelude.{◌≡◌, ◌+◌, ◌*◌, ◌^◌, ◌<◌, ◌≤◌, None, length, take, drop, position, IfOk, IfErr, OnOk, OnErr};
 ghost use Rattle.kernel_model.specs.Loans.{Lends};
 ghost use Rattle.kernel_model.specs.World.{Boot};
-ghost use Rattle.kernel_step.specs.Stands.{Stands, kernel_in};
+ghost use Rattle.kernel_step.specs.Represents.{Represents, kernel_in};
 ghost use Rattle.kernel_model.specs.declared.answer.Refused.TheVariants.{OutOfMemory};
 ghost use Rattle.kernel_step.specs.Lending.{full_for_loan_of, is_fit, next_fit, IsLent, IsNextLoanOf};
 ghost use Rattle.kernel_step.specs.Loaned.{lent_out};
@@ -74,7 +74,7 @@ fn lend_task(alloc: Global, task: &mut Task, quantum: u32) -> Result<Loan, Refus
     let Whereabouts::Here(machine) = &mut task.whereabouts else {
         unreachable!()
     };
-    let began = machine.stand(alloc)?;
+    let began = machine.share(alloc)?;
     let out = Whereabouts::Out {
         began: Arc::try_clone(&began)?,
         quantum,
@@ -111,9 +111,9 @@ impl Running {
 
     /// As `Core::lend`. The clauses speak of every boot of which these are the parts.
     pub fn lend(&mut self, quantum: u32) -> Result<Option<Loan>, Refused>
-        requires { (b : Boot) × Stands b self.old }
-        ensures stands { (b : Boot) → Stands b self.old → Stands b self.new }
-        ensures lends { (b : Boot) → Stands b self.old → Lends (kernel_in b self.old) quantum (kernel_in b self.new) (lent_out result) }
+        requires { (b : Boot) × Represents b self.old }
+        ensures stands { (b : Boot) → Represents b self.old → Represents b self.new }
+        ensures lends { (b : Boot) → Represents b self.old → Lends (kernel_in b self.old) quantum (kernel_in b self.new) (lent_out result) }
     {
         if self.is_full_for_loan() {
             return Err(Refused::Budget);

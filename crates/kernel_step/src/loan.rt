@@ -1,6 +1,6 @@
 //! Machines that are lent, and what comes back.
 ghost use Rattle.std.specs.Prelude.{◌≡◌, ◌+◌, ◌<◌, ◌^◌};
-ghost use Rattle.machine_model.specs.States.{run, reached_at, stands_at};
+ghost use Rattle.machine_model.specs.States.{run, reached_at, stopped_at};
 
 use kernel_model::Refused;
 use machine::{Machine, SharedMachine};
@@ -38,7 +38,7 @@ pub struct Done {
 impl Done {
     /// The call or the trap at which its machine stands, if it stands at one. The machine is asked only where the limit stopped it.
     pub(crate) fn standing(&self) -> Option<Stop>
-        ensures { result ≡ stands_at self.now.machine }
+        ensures { result ≡ stopped_at self.now.machine }
     {
         match self.stop {
             Stop::Limit => self.machine.stopped(),

@@ -1,7 +1,7 @@
 //! What an Enter comes to, found before anything changes.
 ghost use Rattle.std.specs.Prelude.{◌≡◌, ◌+◌, ◌<◌, ◌≤◌, ◌^◌, ◌∷◌, length, IfOk, Some, None, true, is_some};
 ghost use Rattle.machine_model.specs.Numbers.{cause_number};
-ghost use Rattle.machine_model.specs.States.{stands_at};
+ghost use Rattle.machine_model.specs.States.{stopped_at};
 ghost use Rattle.machine_model.specs.Replies.{replied};
 ghost use Rattle.processes.specs.Parts.{descriptors_in, part_at};
 ghost use Rattle.kernel_model.specs.Shown.{end_in};
@@ -13,7 +13,7 @@ ghost use Rattle.kernel_step.specs.Ready.{MayEnter};
 
 use crate::system::System;
 use crate::task::Task;
-use calls::{PipeStep, Plan, Verdict, plan_call, plan_end, request_of};
+use calls::{CallPlan, PipeStep, Verdict, plan_call, plan_end, request_of};
 use commit_deps::Carrier;
 use held_output::{Trace, zero_reply};
 use machine::Machine;
@@ -34,9 +34,9 @@ pub struct Caller<'a> {
 /// `spare` and `child` are the pipe and the process that it makes, if it makes one. The process goes on with `next`, if its reply
 /// has an image.
 #[derive(Drop)]
-pub struct Entering {
+pub struct EnterPlan {
     pub pid: u32,
-    pub plan: Plan,
+    pub plan: CallPlan,
     pub reads: Vec<Carrier>,
     pub writes: Vec<Carrier>,
     pub spare: Option<Pipe>,
@@ -59,8 +59,8 @@ fn descriptors_of(processes: &ProcTable, pid: u32) -> &Descriptors
 }
 
 /// The plan of the Enter of a process whose machine stands here, at a call or at a trap.
-fn plan_enter(system: &System, caller: &Caller<'_>) -> Result<Plan, AllocError>
-    requires stands { stands_at caller.now.machine.now ≡ Some caller.now.stop }
+fn plan_enter(system: &System, caller: &Caller<'_>) -> Result<CallPlan, AllocError>
+    requires stands { stopped_at caller.now.machine.now ≡ Some caller.now.stop }
     requires fine { MayPlan (sight_in system.now) caller.now.pid }
     ensures { IfOk result (λ plan. PlansEnter (sight_in system.now) caller.now.pid caller.now.machine.now plan) }
 {
@@ -87,7 +87,7 @@ fn with_own(alloc: Global, pid: u32, carriers: &[Carrier]) -> Result<Vec<Carrier
 }
 
 /// The carriers that the event of a plan writes: none where the process has to wait.
-fn all_writes(alloc: Global, pid: u32, plan: &Plan) -> Result<Vec<Carrier>, AllocError>
+fn all_writes(alloc: Global, pid: u32, plan: &CallPlan) -> Result<Vec<Carrier>, AllocError>
     ensures { IfOk result (λ all. all.items ≡ writes_of pid plan.now.verdict plan.now.writes.items) }
 {
     match &plan.verdict {
@@ -113,7 +113,7 @@ fn spare_pipe(alloc: Global, steps: &[PipeStep]) -> Result<Option<Pipe>, AllocEr
 
 /// The machine of a process that a fork makes: its parent's, told 0.
 fn forked_machine(alloc: Global, machine: &Machine) -> Result<Machine, AllocError>
-    requires stands { stands_at machine.now ≡ Some Stop.Call }
+    requires stands { stopped_at machine.now ≡ Some Stop.Call }
     requires budget { machine.now.count < 2 ^ 40 }
     ensures { IfOk result (λ m. m ≡ replied machine.now zero_reply) }
 {
@@ -129,7 +129,7 @@ fn prepare_child(
     machine: &Machine,
     trace: &Trace,
 ) -> Result<Option<Task>, AllocError>
-    requires stands { is_some number ≡ true → stands_at machine.now ≡ Some Stop.Call }
+    requires stands { is_some number ≡ true → stopped_at machine.now ≡ Some Stop.Call }
     requires budget { machine.now.count < 2 ^ 40 }
     requires running { end_in (whats trace.now.items) ≡ None }
     ensures { IfOk result (λ child. IsChild number machine.now trace.now child) }
@@ -165,11 +165,11 @@ fn prepare_next(
     }
 }
 
-impl Entering {
+impl EnterPlan {
     /// Finds what an Enter comes to of a process whose trace is this; nothing changes. Refused for want of memory alone.
-    pub fn new(system: &System, caller: &Caller<'_>, trace: &Trace) -> Result<Entering, AllocError>
+    pub fn new(system: &System, caller: &Caller<'_>, trace: &Trace) -> Result<EnterPlan, AllocError>
         requires fine { MayEnter system.now caller.now.pid caller.now.machine.now trace.now }
-        requires stands { stands_at caller.now.machine.now ≡ Some caller.now.stop }
+        requires stands { stopped_at caller.now.machine.now ≡ Some caller.now.stop }
         ensures { IfOk result (λ e. IsEntering (sight_in system.now) caller.now.pid caller.now.machine.now trace.now e) }
     {
         let alloc = system.alloc;
@@ -179,7 +179,7 @@ impl Entering {
         let spare = spare_pipe(alloc, &plan.pipes)?;
         let child = prepare_child(alloc, plan.child, caller.machine, trace)?;
         let next = prepare_next(alloc, &plan.verdict, caller.machine)?;
-        Ok(Entering {
+        Ok(EnterPlan {
             pid: caller.pid,
             plan,
             reads,

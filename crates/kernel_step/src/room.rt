@@ -1,15 +1,15 @@
 //! The memory for an Enter, taken before anything of it is done.
 ghost use Rattle.std.specs.Prelude.{◌≡◌, ◌+◌, ◌^◌, ◌<◌, ◌≤◌, Some, length, IfOk, OnOk, OnErr};
-ghost use Rattle.machine_model.specs.States.{stands_at};
+ghost use Rattle.machine_model.specs.States.{stopped_at};
 ghost use Rattle.kernel_model.specs.State.{changed_by};
 ghost use Rattle.held_output.specs.Withheld.{IsSame};
 ghost use Rattle.kernel_step.specs.Entering.{HasSpaceFor, StayScreens, IsSameSystem, IsSystemWith};
 ghost use Rattle.kernel_step.specs.Ready.{MayEnter, HasRoomForPlan, HasRoomForEnter, IsPrepared};
 
-use crate::plan::{Caller, Entering};
+use crate::plan::{Caller, EnterPlan};
 use crate::system::System;
 use crate::turn::reserve;
-use calls::Plan;
+use calls::CallPlan;
 use disk_model::Change;
 use files::FileTable;
 use held_output::{Trace, Withheld};
@@ -49,7 +49,7 @@ fn change_files(files: &mut FileTable, change: &Option<Change>) -> Result<(), Al
 
 /// Takes the memory that an Enter of this plan takes of what is shared. Then does its change of the files, the last step that may
 /// fail. Where memory runs out nothing has changed.
-fn ready(system: &mut System, pid: u32, plan: &Plan) -> Result<(), AllocError>
+fn ready(system: &mut System, pid: u32, plan: &CallPlan) -> Result<(), AllocError>
     requires from_1 { 0 < pid }
     requires there { pid ≤ length system.old.processes.parts }
     requires fresh { system.old.files.made + 1 < 2 ^ 64 }
@@ -71,7 +71,7 @@ fn take_room(
     history: &mut Vec<Event>,
     system: &mut System,
     trace: &mut Trace,
-    entering: &Entering,
+    entering: &EnterPlan,
 ) -> Result<(), AllocError>
     requires from_1 { 0 < entering.now.pid }
     requires there { entering.now.pid ≤ length system.old.processes.parts }
@@ -102,16 +102,16 @@ pub fn prepare(
     system: &mut System,
     caller: &Caller<'_>,
     trace: &mut Trace,
-) -> Result<Entering, AllocError>
+) -> Result<EnterPlan, AllocError>
     requires fine { MayEnter system.old caller.now.pid caller.now.machine.now trace.old }
-    requires stands { stands_at caller.now.machine.now ≡ Some caller.now.stop }
+    requires stands { stopped_at caller.now.machine.now ≡ Some caller.now.stop }
     ensures history { history.new.items ≡ history.old.items }
     ensures trace { IsSame trace.old trace.new }
     ensures prepared { IfOk result (λ e. IsPrepared caller.now.pid caller.now.machine.now trace.old system.old system.new e) }
     ensures holds { IfOk result (λ e. HasRoomForEnter history.new trace.new system.new e) }
     ensures err { OnErr result (IsSameSystem system.old system.new) }
 {
-    let entering = Entering::new(system, caller, trace)?;
+    let entering = EnterPlan::new(system, caller, trace)?;
     take_room(history, system, trace, &entering)?;
     Ok(entering)
 }

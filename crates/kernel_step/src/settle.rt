@@ -1,9 +1,9 @@
 //! Loans' results taken back.
 ghost use Rattle.std.specs.Prelude.{◌≡◌, ◌++◌, ◌∷◌, [], ◌↔◌, IsTrue, true, Some, IfOk, IfErr, OnOk, OnErr};
-ghost use Rattle.machine_model.specs.States.{stands_at};
+ghost use Rattle.machine_model.specs.States.{stopped_at};
 ghost use Rattle.kernel_model.specs.World.{Boot};
 ghost use Rattle.kernel_step.specs.Known.{IsKnownResult, MayBeLoanOf};
-ghost use Rattle.kernel_step.specs.Stands.{Stands, TakesBack, kernel_in};
+ghost use Rattle.kernel_step.specs.Represents.{Represents, TakesBack, kernel_in};
 ghost use Rattle.kernel_model.specs.declared.answer.Outcome.{Outcome};
 ghost use Rattle.held_output.specs.Withheld.{IsSame};
 ghost use Rattle.kernel_step.specs.Entering.{IsSameSystem};
@@ -14,7 +14,7 @@ ghost use Rattle.kernel_step.specs.Unchanged.{AreUnchanged};
 use crate::enter::join;
 use crate::finishing::carry_out;
 use crate::loan::{Done, Rejected};
-use crate::plan::{Caller, Entering};
+use crate::plan::{Caller, EnterPlan};
 use crate::room::prepare;
 use crate::running::Running;
 use crate::system::System;
@@ -69,9 +69,9 @@ fn prepare_done(
     done: &Done,
     standing: Stop,
     trace: &mut Trace,
-) -> Result<Entering, AllocError>
+) -> Result<EnterPlan, AllocError>
     requires fine { MayEnter system.old done.now.pid done.now.machine trace.old }
-    requires stands { stands_at done.now.machine ≡ Some standing }
+    requires stands { stopped_at done.now.machine ≡ Some standing }
     ensures history { history.new.items ≡ history.old.items }
     ensures trace { IsSame trace.old trace.new }
     ensures prepared { IfOk result (λ e. IsPrepared done.now.pid done.now.machine trace.old system.old system.new e) }
@@ -97,7 +97,7 @@ fn settle_enter(
     standing: Stop,
 ) -> Result<(Answer, Option<Task>), Rejected>
     requires fine { MayEnter system.old done.pid done.machine task.old.trace }
-    requires stands { stands_at done.machine ≡ Some standing }
+    requires stands { stopped_at done.machine ≡ Some standing }
     ensures done { IfOk result (λ r. (o : Outcome) × (r.0 ≡ Answer.Settled done.count done.stop (Some o))
         × IsTurnEntered done.pid done.machine task.old task.new system.old system.new o r.1) }
     ensures history { OnOk result (history.new.items ≡ history.old.items ++ Event.Turn done.pid done.count ∷ Event.Enter done.pid ∷ []) }
@@ -133,24 +133,24 @@ fn settle_enter(
 impl Running {
     /// As `Core::settle`. The clause speaks of every boot of which these are the parts.
     pub fn settle(&mut self, done: Done) -> Result<Answer, Rejected>
-        requires { (b : Boot) × Stands b self.old }
-        ensures { (b : Boot) → Stands b self.old → TakesBack b done self.old self.new result }
+        requires { (b : Boot) × Represents b self.old }
+        ensures { (b : Boot) → Represents b self.old → TakesBack b done self.old self.new result }
     {
         self.take_back(done, false)
     }
 
     /// As `Core::settle_known`. The clause speaks of every boot of which these are the parts.
     pub fn settle_known(&mut self, done: Done) -> Result<Answer, Rejected>
-        requires { (b : Boot) × Stands b self.old × IsKnownResult (kernel_in b self.old) done }
-        ensures { (b : Boot) → Stands b self.old → TakesBack b done self.old self.new result }
+        requires { (b : Boot) × Represents b self.old × IsKnownResult (kernel_in b self.old) done }
+        ensures { (b : Boot) → Represents b self.old → TakesBack b done self.old self.new result }
     {
         self.take_back(done, true)
     }
 
     /// As `settle`, and where it is known from which state the result began, as `settle_known`.
     fn take_back(&mut self, done: Done, is_known: bool) -> Result<Answer, Rejected>
-        requires { (b : Boot) × Stands b self.old × (is_known ≡ true → IsKnownResult (kernel_in b self.old) done) }
-        ensures { (b : Boot) → Stands b self.old → TakesBack b done self.old self.new result }
+        requires { (b : Boot) × Represents b self.old × (is_known ≡ true → IsKnownResult (kernel_in b self.old) done) }
+        ensures { (b : Boot) → Represents b self.old → TakesBack b done self.old self.new result }
     {
         checkpoints_fit();
         made_files_change();
@@ -214,7 +214,7 @@ impl Running {
     /// As `settle_turn`, of a machine that stands at this call or trap: an Enter comes after the Turn.
     fn settle_call(&mut self, done: Done, place: usize, standing: Stop) -> Result<Answer, Rejected>
         requires fine { MaySettleCall done place self.old }
-        requires stands { stands_at done.machine ≡ Some standing }
+        requires stands { stopped_at done.machine ≡ Some standing }
         ensures done { IfOk result (IsCallSettled done place self.old self.new) }
         ensures same { OnErr result (IsNotSettled place self.old self.new) }
         ensures back { IfErr result (LackedMemory done) }

@@ -1,6 +1,6 @@
 //! Processes.
 ghost use Rattle.std.specs.Prelude.{◌≡◌, Some, None, is_some, IfOk, IfErr, OnOk};
-ghost use Rattle.machine_model.specs.States.{stands_at};
+ghost use Rattle.machine_model.specs.States.{stopped_at};
 ghost use Rattle.held_output.specs.Withheld.{nothing};
 ghost use Rattle.kernel_model.specs.Answers.{turn_refusal, enter_refusal};
 
@@ -134,7 +134,7 @@ impl Task {
     /// The call or the trap at which its machine stands, or why an Enter is refused, memory aside, where the history may be full.
     pub fn enter_stop(&self, full: bool) -> Result<Stop, Refused>
         ensures fine { OnOk result (enter_refusal (Some (process_of self.now)) (is_some (out_of self.now)) full ≡ None) }
-        ensures stop { IfOk result (λ stop. stands_at (machine_of self.now) ≡ Some stop) }
+        ensures stop { IfOk result (λ stop. stopped_at (machine_of self.now) ≡ Some stop) }
         ensures refused { IfErr result (λ why. enter_refusal (Some (process_of self.now)) (is_some (out_of self.now)) full ≡ Some why) }
     {
         if self.trace.has_end() {

@@ -1,6 +1,6 @@
 //! The tasks of all processes.
 ghost use Rattle.std.specs.Prelude.{◌≡◌, ◌+◌, ◌^◌, ◌≤◌, ◌<◌, None, Some, true, is_some, length, map, slice_get, MatchOption, IfOk, IfErr, OnOk, OnErr};
-ghost use Rattle.machine_model.specs.States.{stands_at};
+ghost use Rattle.machine_model.specs.States.{stopped_at};
 ghost use Rattle.kernel_model.specs.State.{process_at};
 ghost use Rattle.kernel_model.specs.declared.answer.Refused.TheVariants.{NoProcess, Lent};
 ghost use Rattle.kernel_step.specs.Tasks.{machine_of, out_of, process_of, RanAt};
@@ -58,7 +58,7 @@ pub fn turn_place(tasks: &[Task], full: bool, pid: u32, n: u32) -> Result<usize,
 pub fn enter_place(tasks: &[Task], full: bool, pid: u32) -> Result<(usize, Stop), Refused>
     ensures fine { OnOk result (enter_refusal_of tasks.now full pid ≡ None) }
     ensures place { IfOk result (λ r. IsPlaceOf tasks.now pid r.0) }
-    ensures stop { IfOk result (λ r. (t : Task) → slice_get tasks.now r.0 ≡ Some t → stands_at (machine_of t) ≡ Some r.1) }
+    ensures stop { IfOk result (λ r. (t : Task) → slice_get tasks.now r.0 ≡ Some t → stopped_at (machine_of t) ≡ Some r.1) }
     ensures refused { IfErr result (λ why. enter_refusal_of tasks.now full pid ≡ Some why) }
 {
     let Some(place) = place_of(tasks, pid) else {

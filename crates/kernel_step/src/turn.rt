@@ -3,7 +3,7 @@ ghost use Rattle.std.specs.Prelude.{◌≡◌, ◌+◌, ◌≤◌, vec_len, vec_
 ghost use Rattle.kernel_model.specs.Answers.{Refuses};
 ghost use Rattle.kernel_model.specs.World.{Boot};
 ghost use Rattle.kernel_step.specs.Parts.{IsOwnNoted};
-ghost use Rattle.kernel_step.specs.Stands.{Stands, Steps};
+ghost use Rattle.kernel_step.specs.Represents.{Represents, Steps};
 ghost use Rattle.kernel_step.specs.Trying.{is_history_full, MayTryTurn, IsTurnAccepted, IsTurnRefused};
 ghost use Rattle.kernel_step.specs.Tests.{turn_refusal_of};
 
@@ -43,8 +43,8 @@ pub fn note_own(dependencies: &mut Dependencies, pid: u32)
 impl Running {
     /// The process runs at most n instructions. Refused as `Core::apply` says.
     pub(crate) fn turn(&mut self, pid: u32, n: u32) -> Result<Answer, Refused>
-        requires { (b : Boot) × Stands b self.old }
-        ensures { (b : Boot) → Stands b self.old → Steps b (Event.Turn pid n) self.old self.new result }
+        requires { (b : Boot) × Represents b self.old }
+        ensures { (b : Boot) → Represents b self.old → Steps b (Event.Turn pid n) self.old self.new result }
     {
         footprints_grow();
         self.try_turn(pid, n)

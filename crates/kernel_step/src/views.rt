@@ -14,7 +14,7 @@ ghost use Rattle.calls.specs.Sights.{sight_of};
 ghost use Rattle.footprints.specs.Footprints.{AreFootprints};
 ghost use Rattle.held_output.specs.Withheld.{holds_back};
 ghost use Rattle.kernel_step.specs.Entering.{IsSightOf};
-ghost use Rattle.kernel_step.specs.Stands.{Stands, kernel_in};
+ghost use Rattle.kernel_step.specs.Represents.{Represents, kernel_in};
 
 use crate::running::Running;
 use crate::tasks::task_of;
@@ -37,9 +37,9 @@ fn is_any_held_back(screens: &[Withheld<u8>]) -> bool
 impl Running {
     /// As `Core::shown`.
     pub fn shown(&self, terminal: u32) -> &[u8]
-        requires kept { (b : Boot) × Stands b self.now }
+        requires kept { (b : Boot) × Represents b self.now }
         requires there { terminal < terminal_count }
-        ensures { (b : Boot) → Stands b self.now → result.now ≡ shown_of (now (kernel_in b self.now)) terminal }
+        ensures { (b : Boot) → Represents b self.now → result.now ≡ shown_of (now (kernel_in b self.now)) terminal }
     {
         let screen = &self.system.screens[terminal as usize];
         screen.released()
@@ -47,9 +47,9 @@ impl Running {
 
     /// As `Core::written`.
     pub fn written(&self, terminal: u32) -> &[u8]
-        requires kept { (b : Boot) × Stands b self.now }
+        requires kept { (b : Boot) × Represents b self.now }
         requires there { terminal < terminal_count }
-        ensures { (b : Boot) → Stands b self.now → result.now ≡ contents (printed terminal (now (kernel_in b self.now)).log) }
+        ensures { (b : Boot) → Represents b self.now → result.now ≡ contents (printed terminal (now (kernel_in b self.now)).log) }
     {
         let screen = &self.system.screens[terminal as usize];
         screen.items()
@@ -57,9 +57,9 @@ impl Running {
 
     /// As `Core::trace`.
     pub fn trace(&self, pid: u32) -> Result<&[Reply], Refused>
-        ensures replies { IfOk result (λ rs. (b : Boot) → Stands b self.now → rs.now ≡ replies_in (handed (now (kernel_in b self.now)) pid)) }
-        ensures there { OnOk result ((b : Boot) → Stands b self.now → is_some (process_of (kernel_in b self.now) pid) ≡ true) }
-        ensures none { IfErr result (λ why. (b : Boot) → Stands b self.now → (why ≡ NoProcess) × (process_of (kernel_in b self.now) pid ≡ None)) }
+        ensures replies { IfOk result (λ rs. (b : Boot) → Represents b self.now → rs.now ≡ replies_in (handed (now (kernel_in b self.now)) pid)) }
+        ensures there { OnOk result ((b : Boot) → Represents b self.now → is_some (process_of (kernel_in b self.now) pid) ≡ true) }
+        ensures none { IfErr result (λ why. (b : Boot) → Represents b self.now → (why ≡ NoProcess) × (process_of (kernel_in b self.now) pid ≡ None)) }
     {
         let task = task_of(&self.tasks, pid)?;
         Ok(task.trace.replies())
@@ -67,9 +67,9 @@ impl Running {
 
     /// As `Core::ended`.
     pub fn ended(&self, pid: u32) -> Result<Option<u32>, Refused>
-        ensures status { IfOk result (λ status. (b : Boot) → Stands b self.now → status ≡ end_in (handed (now (kernel_in b self.now)) pid)) }
-        ensures there { OnOk result ((b : Boot) → Stands b self.now → is_some (process_of (kernel_in b self.now) pid) ≡ true) }
-        ensures none { IfErr result (λ why. (b : Boot) → Stands b self.now → (why ≡ NoProcess) × (process_of (kernel_in b self.now) pid ≡ None)) }
+        ensures status { IfOk result (λ status. (b : Boot) → Represents b self.now → status ≡ end_in (handed (now (kernel_in b self.now)) pid)) }
+        ensures there { OnOk result ((b : Boot) → Represents b self.now → is_some (process_of (kernel_in b self.now) pid) ≡ true) }
+        ensures none { IfErr result (λ why. (b : Boot) → Represents b self.now → (why ≡ NoProcess) × (process_of (kernel_in b self.now) pid ≡ None)) }
     {
         let task = task_of(&self.tasks, pid)?;
         Ok(task.trace.ended())
@@ -84,29 +84,29 @@ impl Running {
 
     /// As `Core::committed`.
     pub fn committed(&self) -> u64
-        ensures { (b : Boot) → Stands b self.now → result ≡ committed_in (now (kernel_in b self.now)) }
+        ensures { (b : Boot) → Represents b self.now → result ≡ committed_in (now (kernel_in b self.now)) }
     {
         self.system.committer.committed()
     }
 
     /// As `Core::changes`.
     pub fn changes(&self) -> u64
-        ensures { (b : Boot) → Stands b self.now → result ≡ changes_in (now (kernel_in b self.now)) }
+        ensures { (b : Boot) → Represents b self.now → result ≡ changes_in (now (kernel_in b self.now)) }
     {
         self.system.changes.len() as u64
     }
 
     /// As `Core::ran`.
     pub fn ran(&self) -> u64
-        ensures sum { (b : Boot) → Stands b self.now → result ≡ ran_by_turns (kernel_in b self.now) }
-        ensures few { (b : Boot) → Stands b self.now → result ≤ 2 ^ 50 }
+        ensures sum { (b : Boot) → Represents b self.now → result ≡ ran_by_turns (kernel_in b self.now) }
+        ensures few { (b : Boot) → Represents b self.now → result ≤ 2 ^ 50 }
     {
         self.ran
     }
 
     /// As `Core::wants_cut`.
     pub fn wants_cut(&self) -> bool
-        ensures { (b : Boot) → Stands b self.now → result ≡ is_cut_wanted (now (kernel_in b self.now)) }
+        ensures { (b : Boot) → Represents b self.now → result ≡ is_cut_wanted (now (kernel_in b self.now)) }
     {
         let held = is_any_held_back(&self.system.screens);
         self.system.committer.wants_cut(held)
@@ -114,22 +114,22 @@ impl Running {
 
     /// As `Core::in_flight`.
     pub fn in_flight(&self) -> Option<u32>
-        ensures { (b : Boot) → Stands b self.now → result ≡ least_in_flight (now (kernel_in b self.now)) }
+        ensures { (b : Boot) → Represents b self.now → result ≡ least_in_flight (now (kernel_in b self.now)) }
     {
         self.system.committer.in_flight()
     }
 
     /// As `Core::writes_in_flight`.
     pub fn writes_in_flight(&self) -> &[Piece]
-        ensures { (b : Boot) → Stands b self.now → result.now ≡ (now (kernel_in b self.now)).storage.device.in_flight }
+        ensures { (b : Boot) → Represents b self.now → result.now ≡ (now (kernel_in b self.now)).storage.device.in_flight }
     {
         self.system.committer.writes_in_flight()
     }
 
     /// As `Core::machine`.
     pub fn machine(&self, pid: u32) -> Result<&Machine, Refused>
-        ensures machine { IfOk result (λ machine. (b : Boot) → Stands b self.now → IsSomeAnd (process_of (kernel_in b self.now) pid) (λ process. machine.now ≡ process.state)) }
-        ensures none { IfErr result (λ why. (b : Boot) → Stands b self.now → (why ≡ NoProcess) × (process_of (kernel_in b self.now) pid ≡ None)) }
+        ensures machine { IfOk result (λ machine. (b : Boot) → Represents b self.now → IsSomeAnd (process_of (kernel_in b self.now) pid) (λ process. machine.now ≡ process.state)) }
+        ensures none { IfErr result (λ why. (b : Boot) → Represents b self.now → (why ≡ NoProcess) × (process_of (kernel_in b self.now) pid ≡ None)) }
     {
         let task = task_of(&self.tasks, pid)?;
         Ok(task.machine())
@@ -137,14 +137,14 @@ impl Running {
 
     /// As `Core::tables`.
     pub fn tables(&self) -> KernelTables<'_>
-        ensures { (b : Boot) → Stands b self.now → IsSightOf (now (kernel_in b self.now)).sync (sight_of result) }
+        ensures { (b : Boot) → Represents b self.now → IsSightOf (now (kernel_in b self.now)).sync (sight_of result) }
     {
         self.system.tables()
     }
 
     /// As `Core::footprints`.
     pub fn footprints(&self) -> &Footprints
-        ensures { (b : Boot) → Stands b self.now
+        ensures { (b : Boot) → Represents b self.now
             → AreFootprints (kernel_in b self.now).history (now (kernel_in b self.now)).log result.now.footprints }
     {
         &self.system.footprints
@@ -152,21 +152,21 @@ impl Running {
 
     /// As `Core::has_failed`.
     pub fn has_failed(&self) -> bool
-        ensures { (b : Boot) → Stands b self.now → result ≡ not (is_empty (now (kernel_in b self.now)).storage.device.failed) }
+        ensures { (b : Boot) → Represents b self.now → result ≡ not (is_empty (now (kernel_in b self.now)).storage.device.failed) }
     {
         self.system.committer.has_failed()
     }
 
     /// The device that `Core::halt` gives; what is known of its files is said there.
     pub fn crash(self, fill: &[u8]) -> SimDisk
-        ensures { (b : Boot) → Stands b self → result ≡ quiet (crashed (now (kernel_in b self)).storage.device fill.now) }
+        ensures { (b : Boot) → Represents b self → result ≡ quiet (crashed (now (kernel_in b self)).storage.device fill.now) }
     {
         self.into_system().into_committer().crash(fill)
     }
 
     /// The device that `Core::after_crash` gives; what is known of its files is said there.
     pub fn after_crash(&self, fill: &[u8]) -> Result<SimDisk, AllocError>
-        ensures { IfOk result (λ d. (b : Boot) → Stands b self.now → d ≡ quiet (crashed (now (kernel_in b self.now)).storage.device fill.now)) }
+        ensures { IfOk result (λ d. (b : Boot) → Represents b self.now → d ≡ quiet (crashed (now (kernel_in b self.now)).storage.device fill.now)) }
     {
         self.system.committer.after_crash(fill)
     }

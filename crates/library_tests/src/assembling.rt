@@ -3,7 +3,7 @@ use crate::asserting::assert_row;
 use crate::image_files::is_one_call;
 use crate::tokens::{Repeated, push_repeated};
 use assembler::Cause::{DoubleLabel, NoStart, Range, Syntax, TooLarge, UnknownName};
-use assembler::{AsmFault, Cause, Row, assemble};
+use assembler::{AsmFault, Cause, ListingRow, assemble};
 use elf32::write;
 use std::alloc::{AllocError, Global};
 use std::process::Abort;
@@ -239,7 +239,11 @@ const SIZE_FAULTS: &[(&str, Cause, usize, usize)] = &[
 ];
 
 /// How many words a source's text has, and the row of one of them.
-fn row_of(alloc: Global, source: &str, place: usize) -> Result<(usize, Option<Row>), AsmFault> {
+fn row_of(
+    alloc: Global,
+    source: &str,
+    place: usize,
+) -> Result<(usize, Option<ListingRow>), AsmFault> {
     let (_, listing) = assemble(alloc, source)?;
     Ok((listing.rows().len(), listing.rows().get(place).copied()))
 }
@@ -304,7 +308,7 @@ fn words(rt: HostRuntime) {
 /// A source's text has this word.
 fn assert_place(rt: &(impl Abort + AllocGlobal), source: &str, place: Place) {
     let (count, place, address, word, line) = place;
-    let row = Row {
+    let row = ListingRow {
         address,
         word,
         line,

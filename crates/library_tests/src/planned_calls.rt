@@ -11,7 +11,7 @@ ghost use Rattle.calls.specs.Plans.{AreLeft, NamesFiles};
 use crate::asserting::assert_row;
 use crate::image_files::small_file;
 use byte_list::Bytes;
-use calls::{KernelTables, Plan, TapeTable, plan_call, plan_end, request_of};
+use calls::{CallPlan, KernelTables, TapeTable, plan_call, plan_end, request_of};
 use disk_model::Change;
 use files::FileTable;
 use kernel_model::{Carrier, Descriptor, PipeEnd, PipeStep, Request, Slot, Verdict};
@@ -148,7 +148,7 @@ fn plan_over(
     bytes: &[u8],
     tapes: &TapeTable,
     request: Request,
-) -> Result<Plan, AllocError>
+) -> Result<CallPlan, AllocError>
     requires short { length bytes.now ≤ longest_file }
     requires whole { IsWhole request }
     ensures { IfOk result (λ plan. IfSome plan.tape (AreLeft tapes.now)) }
@@ -166,7 +166,7 @@ fn plan_over(
 }
 
 /// What process 2 is planned to do by a request, where the file has the bytes 'abc'.
-fn plan_of(alloc: Global, tapes: &TapeTable, request: Request) -> Result<Plan, AllocError>
+fn plan_of(alloc: Global, tapes: &TapeTable, request: Request) -> Result<CallPlan, AllocError>
     requires { IsWhole request }
     ensures { IfOk result (λ plan. IfSome plan.tape (AreLeft tapes.now)) }
 {
@@ -174,7 +174,7 @@ fn plan_of(alloc: Global, tapes: &TapeTable, request: Request) -> Result<Plan, A
 }
 
 /// What a plan tells its caller: a reply's number, or as an error the status with which it ends, if it does.
-fn told(plan: &Plan) -> Result<u32, Option<u32>> {
+fn told(plan: &CallPlan) -> Result<u32, Option<u32>> {
     match &plan.verdict {
         Verdict::Replies(reply) => Ok(reply.a0),
         Verdict::Ends(status) => Err(Some(*status)),
@@ -221,7 +221,7 @@ fn programs_call(rt: HostRuntime) {
 }
 
 /// What process 2 is planned to do where it opens the file.
-fn plan_of_open(alloc: Global) -> Result<Plan, AllocError> {
+fn plan_of_open(alloc: Global) -> Result<CallPlan, AllocError> {
     let tapes = tapes_of(alloc, b"hi")?;
     let name = Some(Bytes::copy_of(alloc, b"f")?);
     plan_of(
@@ -236,14 +236,14 @@ fn plan_of_open(alloc: Global) -> Result<Plan, AllocError> {
 }
 
 /// What process 2 is planned to do where it takes the file's name away.
-fn plan_of_unlink(alloc: Global) -> Result<Plan, AllocError> {
+fn plan_of_unlink(alloc: Global) -> Result<CallPlan, AllocError> {
     let tapes = tapes_of(alloc, b"hi")?;
     let name = Some(Bytes::copy_of(alloc, b"f")?);
     plan_of(alloc, &tapes, Request::Unlink { n: 1, name })
 }
 
 /// What process 2 is planned to do where it gives the file another name.
-fn plan_of_rename(alloc: Global) -> Result<Plan, AllocError> {
+fn plan_of_rename(alloc: Global) -> Result<CallPlan, AllocError> {
     let tapes = tapes_of(alloc, b"hi")?;
     let names = Some(Bytes::copy_of(alloc, b"fg")?);
     plan_of(alloc, &tapes, Request::Rename { n: 1, m: 1, names })
@@ -262,14 +262,14 @@ fn renamed(change: &Option<Change>) -> Renamed<'_> {
 }
 
 /// What a plan tells, by which change of which name, and what it reads.
-fn assert_plan(rt: &impl Abort, plan: &Plan, reply: u32, change: Renamed, reads: &[Carrier]) {
+fn assert_plan(rt: &impl Abort, plan: &CallPlan, reply: u32, change: Renamed, reads: &[Carrier]) {
     assert_row(rt, reply, told(plan), Ok(reply));
     assert_row(rt, reply, renamed(&plan.change), change);
     assert_row(rt, reply, plan.reads.as_slice(), reads);
 }
 
 /// A plan replies 0, and changes the names and the first file by a change of this kind.
-fn assert_names_change(rt: &impl Abort, plan: &Plan, name: Option<&[u8]>) {
+fn assert_names_change(rt: &impl Abort, plan: &CallPlan, name: Option<&[u8]>) {
     let touched = [Carrier::Names, Carrier::File(0)];
     assert_plan(rt, plan, 0, Some((0, name)), &touched);
     assert_row(rt, "writes", plan.writes.as_slice(), touched.as_slice());
@@ -285,7 +285,7 @@ fn files_and_their_names(rt: HostRuntime) -> Result<(), AllocError> {
 }
 
 /// What process 2 is planned to do where it executes the file of this name, and file f has these bytes.
-fn plan_of_exec(alloc: Global, bytes: &[u8], name: &[u8]) -> Result<Plan, AllocError>
+fn plan_of_exec(alloc: Global, bytes: &[u8], name: &[u8]) -> Result<CallPlan, AllocError>
     requires short { length bytes.now ≤ longest_file }
     requires name { length name.now ≡ 1 }
 {
@@ -295,7 +295,7 @@ fn plan_of_exec(alloc: Global, bytes: &[u8], name: &[u8]) -> Result<Plan, AllocE
 }
 
 /// Where the program begins with which a plan replies, if it does.
-fn entry_told(plan: &Plan) -> Option<u32> {
+fn entry_told(plan: &CallPlan) -> Option<u32> {
     match &plan.verdict {
         Verdict::Replies(reply) => match &reply.image {
             Some(image) => Some(image.entry()),
@@ -306,7 +306,13 @@ fn entry_told(plan: &Plan) -> Option<u32> {
 }
 
 /// A plan tells this number and perhaps a program, reads these carriers and writes none.
-fn assert_exec(rt: &impl Abort, plan: &Plan, reply: u32, entry: Option<u32>, reads: &[Carrier]) {
+fn assert_exec(
+    rt: &impl Abort,
+    plan: &CallPlan,
+    reply: u32,
+    entry: Option<u32>,
+    reads: &[Carrier],
+) {
     assert_plan(rt, plan, reply, None, reads);
     assert_row(rt, "entry", entry_told(plan), entry);
     assert_row(rt, "writes", plan.writes.len(), 0);
@@ -380,7 +386,7 @@ fn dropped(step: &PipeStep) -> Option<PipeEnd> {
 }
 
 /// A plan gives up the ends of `ENDS`, and reads and writes what carries them.
-fn assert_given_up(rt: &impl Abort, plan: &Plan) {
+fn assert_given_up(rt: &impl Abort, plan: &CallPlan) {
     assert_row(rt, "end", told(plan), Err(Some(300)));
     assert_row(rt, "ends", plan.pipes.len(), ENDS.len());
     for (step, &(fd, end, _)) in plan.pipes.iter().zip(ENDS) {

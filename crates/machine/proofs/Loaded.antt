@@ -61,7 +61,7 @@ low-address : (at size k : ℕ) → at + size ≤ 0x7FFF0000 → k < size → at
 low-address at size k a b = omega arith
 
 -- each segment of a program that may be loaded
-pub all-loaded : (p : Program) → IsProfile p → All (λ (s : Segment). (k : ℕ) → k < s.memsz → get (first_state p).hart.memory (s.vaddr + k) ≡ Some (cell_with s.rights (slice_index s.bytes k))) p.segments
+pub all-loaded : (p : Program) → IsProfile p → All (λ (s : Segment). (k : ℕ) → k < s.memsz → get (first_state p).architectural.memory (s.vaddr + k) ≡ Some (cell_with s.rights (slice_index s.bytes k))) p.segments
 all-loaded p profile i d lt k small =
     let s : Segment = get_or p.segments i d in
     let ok : IsLoadable s = All-get_or IsLoadable p.segments i d lt profile.loadable in

@@ -1,7 +1,7 @@
 -- What a machine stands for that may be shared.
 use Rattle.std.specs.Prelude.{Bool, true, false, [], None}
 use Rattle.memory_model.specs.Memory.{memory_of}
-use Rattle.machine_model.specs.States.{State, state, hart}
+use Rattle.machine_model.specs.States.{State, state, architectural}
 use Rattle.machine.specs.declared.shared.Form.{Form}
 use Rattle.machine.specs.declared.shared.Form.TheVariants.{Whole, Still, Gone}
 
@@ -9,7 +9,7 @@ use Rattle.machine.specs.declared.shared.Form.TheVariants.{Whole, Still, Gone}
 abbrev pub state_of : Form → State
 state_of (Whole m) = m
 state_of (Still s) = s
-state_of Gone = state (hart [] 0 (memory_of (λ _. None))) 0
+state_of Gone = state (architectural [] 0 (memory_of (λ _. None))) 0
 
 -- there is a machine
 abbrev pub is_there : Form → Bool

@@ -2,7 +2,7 @@
 ghost use Rattle.std.specs.Prelude.{◌≡◌, IfOk};
 
 use crate::machine::Machine;
-use interpreter::{Hart, Run, Table, own_tables_of};
+use interpreter::{ArchitecturalState, Run, Table, own_tables_of};
 use isa_table::Regs;
 use memory::KeptSpace;
 use std::alloc::{AllocError, Global};
@@ -32,14 +32,14 @@ impl Drop for KeptMachine {
 }
 
 impl Model for KeptMachine {
-    ghost use Rattle.machine_model.specs.States.{State, state_code, state, hart};
+    ghost use Rattle.machine_model.specs.States.{State, state_code, state, architectural};
     ghost use Rattle.interpreter.specs.Tables.{AllFixed, AllMatch};
 
     ghost Value = { State };
 
     ghost coded = { state_code };
 
-    ghost view = { λ m. state (hart m.regs.x m.regs.pc m.space) m.count };
+    ghost view = { λ m. state (architectural m.regs.x m.regs.pc m.space) m.count };
 
     ghost invariant = { λ m. AllMatch m.tables.value.items m.space × AllFixed m.tables.value.items m.space };
 }
@@ -54,8 +54,11 @@ impl Machine {
         ensures { IfOk result (λ k. k ≡ self.now) }
     {
         Ok(KeptMachine {
-            regs: self.hart.regs,
-            space: self.hart.space.keep(alloc, before.map(|kept| &kept.space))?,
+            regs: self.architectural.regs,
+            space: self
+                .architectural
+                .space
+                .keep(alloc, before.map(|kept| &kept.space))?,
             count: self.count,
             tables: Arc::try_clone(&self.tables)?,
             runs: Arc::try_clone(&self.runs)?,
@@ -71,7 +74,7 @@ impl KeptMachine {
         let space = self.space.space(alloc)?;
         let own = own_tables_of(alloc, &space, &self.runs)?;
         Ok(Machine {
-            hart: Hart {
+            architectural: ArchitecturalState {
                 regs: self.regs,
                 space,
             },

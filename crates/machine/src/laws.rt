@@ -10,5 +10,5 @@ ghost use Rattle.machine_model.specs.First.{first_state};
 /// segment's rights. The byte is 0 after those of the file.
 pub fn segments_are_loaded()
     ensures { (p : Program) → IsProfile p → All (λ (s : Segment). (k : ℕ) → k < s.memsz
-        → get (first_state p).hart.memory (s.vaddr + k) ≡ Some (cell_with s.rights (slice_index s.bytes k))) p.segments }
+        → get (first_state p).architectural.memory (s.vaddr + k) ≡ Some (cell_with s.rights (slice_index s.bytes k))) p.segments }
 {}

@@ -2,14 +2,15 @@
 ghost use Rattle.std.specs.Prelude.{◌≡◌, ◌≢◌, ◌↔◌, ℕ, ◌+◌, ◌%◌, ◌<◌, ◌≤◌, ◌^◌, true, length, Some, None, IfOk, OnOk, OnErr, IsTrue};
 ghost use Rattle.memory_model.specs.Access.{HoldsBytes, is_writable};
 ghost use Rattle.machine_model.specs.Effects.{reg as register};
-ghost use Rattle.machine_model.specs.States.{run as run_from, hart, reached_at, stands_at, state};
+ghost use Rattle.machine_model.specs.States.{run as run_from, architectural, reached_at, stopped_at, state};
 ghost use Rattle.machine_model.specs.Replies.{in_image, replied};
 ghost use Rattle.machine_model.specs.First.{first_state, first_registers};
 
 use crate::loading::space_of;
 use formats::Reg;
 use interpreter::{
-    Hart, Run, Table, copies_of, own_tables_of, place, run_tables, runs_of, stop_at, tables_of,
+    ArchitecturalState, Run, Table, copies_of, own_tables_of, place, run_tables, runs_of, stop_at,
+    tables_of,
 };
 use isa_table::Regs;
 use machine_model::{Image, Reply, Stop};
@@ -22,7 +23,7 @@ use std::sync::Arc;
 /// be executed are decoded once, when it is loaded. Clones share those that may not be written. The others are dropped by a store
 /// and decoded again when fetched.
 pub struct Machine {
-    pub(crate) hart: Hart,
+    pub(crate) architectural: ArchitecturalState,
     pub(crate) count: u64,
     pub(crate) tables: Arc<Vec<Table>>,
     pub(crate) runs: Arc<Vec<Run>>,
@@ -34,7 +35,7 @@ pub struct Machine {
 impl Drop for Machine {
     fn drop(self) {
         let Machine {
-            hart: _hart,
+            architectural: _architectural,
             count: _,
             tables: _tables,
             runs: _runs,
@@ -45,7 +46,7 @@ impl Drop for Machine {
 }
 
 impl Model for Machine {
-    ghost use Rattle.machine_model.specs.States.{State, state_code, state, hart as hart_of};
+    ghost use Rattle.machine_model.specs.States.{State, state_code, state, architectural as architectural_of};
 
     ghost Value = { State };
 
@@ -53,23 +54,23 @@ impl Model for Machine {
 
     ghost use Rattle.interpreter.specs.Tables.{AllFixed, AllMatch};
 
-    ghost view = { λ m. state (hart_of m.hart.regs.x m.hart.regs.pc m.hart.space) m.count };
+    ghost view = { λ m. state (architectural_of m.architectural.regs.x m.architectural.regs.pc m.architectural.space) m.count };
 
-    ghost invariant = { λ m. AllMatch m.tables.value.items m.hart.space × AllFixed m.tables.value.items m.hart.space × AllMatch m.own.items m.hart.space };
+    ghost invariant = { λ m. AllMatch m.tables.value.items m.architectural.space × AllFixed m.tables.value.items m.architectural.space × AllMatch m.own.items m.architectural.space };
 }
 
 impl Machine {
     /// The machine in which a program begins. It decodes the words that may be executed.
     pub fn load(alloc: Global, image: &Image) -> Result<Machine, AllocError>
         ensures first { IfOk result (λ m. m ≡ first_state image.now) }
-        ensures bytes { IfOk result (λ m. HoldsBytes m.hart.memory) }
+        ensures bytes { IfOk result (λ m. HoldsBytes m.architectural.memory) }
     {
         let space = space_of(alloc, image.segments())?;
         let tables = tables_of(alloc, &space, image.segments())?;
         let runs = runs_of(alloc, image.segments())?;
         let own = own_tables_of(alloc, &space, &runs)?;
         Ok(Machine {
-            hart: Hart {
+            architectural: ArchitecturalState {
                 regs: first_regs(image.entry()),
                 space,
             },
@@ -85,10 +86,10 @@ impl Machine {
     /// rights of its pages.
     pub fn with_space(alloc: Global, entry: u32, space: Space) -> Result<Machine, AllocError>
         requires { entry % 4 ≡ 0 }
-        ensures { IfOk result (λ m. m ≡ state (hart first_registers entry space) 0) }
+        ensures { IfOk result (λ m. m ≡ state (architectural first_registers entry space) 0) }
     {
         Ok(Machine {
-            hart: Hart {
+            architectural: ArchitecturalState {
                 regs: first_regs(entry),
                 space,
             },
@@ -107,44 +108,49 @@ impl Machine {
         ensures within { result.0 ≤ max }
         ensures count { self.new.count ≡ self.old.count + result.0 }
         ensures limit { (result.1 ≡ Stop.Limit) ↔ (result.0 ≡ max) }
-        ensures standing { result.1 ≢ Stop.Limit → stands_at self.new ≡ Some result.1 }
+        ensures standing { result.1 ≢ Stop.Limit → stopped_at self.new ≡ Some result.1 }
     {
-        let (done, stop) = run_tables(&mut self.hart, self.tables.as_slice(), &mut self.own, max);
+        let (done, stop) = run_tables(
+            &mut self.architectural,
+            self.tables.as_slice(),
+            &mut self.own,
+            max,
+        );
         self.count += u64::from(done);
         (done, stop)
     }
 
     /// The call or trap at which the machine stands. None where an instruction would be done.
     pub fn stopped(&self) -> Option<Stop>
-        ensures { result ≡ stands_at self.now }
+        ensures { result ≡ stopped_at self.now }
     {
-        stop_at(&self.hart)
+        stop_at(&self.architectural)
     }
 
     /// Answers the call at which the machine stands by a reply without an image. It sets a0 and places the bytes, and the call
     /// counts as one instruction.
     pub fn reply(&mut self, reply: &Reply)
-        requires stands { stands_at self.old ≡ Some Stop.Call }
+        requires stands { stopped_at self.old ≡ Some Stop.Call }
         requires budget { self.old.count < 2 ^ 40 }
         requires none { reply.now.image ≡ None }
-        requires place { is_writable self.old.hart.memory reply.now.at (length reply.now.bytes) ≡ true }
+        requires place { is_writable self.old.architectural.memory reply.now.at (length reply.now.bytes) ≡ true }
         ensures { self.new ≡ replied self.old reply.now }
     {
         place(
-            &mut self.hart.space,
+            &mut self.architectural.space,
             &mut self.own,
             reply.at,
             reply.bytes.as_slice(),
         );
-        self.hart.regs.x[10] = reply.a0;
-        self.hart.regs.pc = self.hart.regs.pc.wrapping_add(4);
+        self.architectural.regs.x[10] = reply.a0;
+        self.architectural.regs.pc = self.architectural.regs.pc.wrapping_add(4);
         self.count += 1;
     }
 
     /// The machine after the call at which this one stands, where the reply has an image. It is the image's first state, but the
     /// count goes on by the call.
     pub fn entered(&self, alloc: Global, image: &Image) -> Result<Machine, AllocError>
-        requires stands { stands_at self.now ≡ Some Stop.Call }
+        requires stands { stopped_at self.now ≡ Some Stop.Call }
         requires budget { self.now.count < 2 ^ 40 }
         ensures { IfOk result (λ m. m ≡ in_image self.now image.now) }
     {
@@ -156,7 +162,7 @@ impl Machine {
     /// Answers the call at which the machine stands by a reply with an image: it becomes the machine of `entered`. An error leaves
     /// it as it is.
     pub fn enter(&mut self, alloc: Global, image: &Image) -> Result<(), AllocError>
-        requires stands { stands_at self.old ≡ Some Stop.Call }
+        requires stands { stopped_at self.old ≡ Some Stop.Call }
         requires budget { self.old.count < 2 ^ 40 }
         ensures entered { OnOk result (self.new ≡ in_image self.old image.now) }
         ensures kept { OnErr result (self.new ≡ self.old) }
@@ -167,18 +173,18 @@ impl Machine {
 
     /// A register's value.
     pub fn reg(&self, r: Reg) -> u32
-        ensures value { result ≡ register self.now.hart r }
+        ensures value { result ≡ register self.now.architectural r }
         ensures zero { r ≡ 0 → result ≡ 0 }
     {
-        self.hart.regs.x[r.number() as usize]
+        self.architectural.regs.x[r.number() as usize]
     }
 
     /// The program counter, a multiple of 4.
     pub fn pc(&self) -> u32
-        ensures value { result ≡ self.now.hart.pc }
+        ensures value { result ≡ self.now.architectural.pc }
         ensures aligned { result % 4 ≡ 0 }
     {
-        self.hart.regs.pc
+        self.architectural.regs.pc
     }
 
     /// How many instructions were done, calls with a reply among them.
@@ -190,22 +196,22 @@ impl Machine {
 
     /// The memory.
     pub fn space(&self) -> &Space
-        ensures { result.now ≡ self.now.hart.memory }
+        ensures { result.now ≡ self.now.architectural.memory }
     {
-        &self.hart.space
+        &self.architectural.space
     }
 
     /// Its memory, and nothing else of it.
     pub(crate) fn into_space(self) -> Space {
         let Machine {
-            hart,
+            architectural,
             count: _,
             tables: _tables,
             runs: _runs,
             own: _own,
             spare: _spare,
         } = self;
-        hart.into_space()
+        architectural.into_space()
     }
 
     /// Whether two machines are in the same state: registers, memory with rights, and count.
@@ -213,8 +219,8 @@ impl Machine {
         ensures { IsTrue result ↔ (self.now ≡ other.now) }
     {
         self.count == other.count
-            && self.hart.regs == other.hart.regs
-            && self.hart.space.is_same(&other.hart.space)
+            && self.architectural.regs == other.architectural.regs
+            && self.architectural.space.is_same(&other.architectural.space)
     }
 
     /// A machine in the same state, as a fork needs it. Pages and decoded words that may not be written are shared with it.
@@ -232,9 +238,9 @@ impl Machine {
         ensures { IfOk result (λ m. m ≡ self.now) }
     {
         Ok(Machine {
-            hart: Hart {
-                regs: self.hart.regs,
-                space: self.hart.space.try_clone(alloc)?,
+            architectural: ArchitecturalState {
+                regs: self.architectural.regs,
+                space: self.architectural.space.try_clone(alloc)?,
             },
             count: self.count,
             tables: Arc::try_clone(&self.tables)?,

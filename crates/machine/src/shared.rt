@@ -1,7 +1,7 @@
 //! Machines that others may look at while they stand still.
 ghost use Rattle.std.specs.Prelude.{◌≡◌, ◌≢◌, ◌↔◌, ◌+◌, ◌<◌, ◌≤◌, ◌^◌, true, length, Some, None, IfOk, IsTrue, OnOk};
 ghost use Rattle.memory_model.specs.Access.{is_writable};
-ghost use Rattle.machine_model.specs.States.{run as run_from, reached_at, stands_at};
+ghost use Rattle.machine_model.specs.States.{run as run_from, reached_at, stopped_at};
 ghost use Rattle.machine_model.specs.Replies.{replied};
 ghost use Rattle.machine.specs.Shared.{state_of, is_there, is_whole, is_still};
 
@@ -84,7 +84,7 @@ impl Form {
 }
 
 /// A machine that others may look at while it stands still. Before it goes on it is copied, if others still look. The copy takes no
-/// memory: `stand` takes the room for it. It stands in a box, since it goes from hand to hand with each loan.
+/// memory: `share` takes the room for it. It stands in a box, since it goes from hand to hand with each loan.
 pub struct SharedMachine {
     form: Box<Form>,
 }
@@ -135,7 +135,7 @@ impl SharedMachine {
 
     /// The machine as it stands now, for others to look at. The room for a copy is that of an earlier state (`reuse`). Where there is
     /// none of the same pages, they are copied here. Nothing is done where others may look already.
-    pub fn stand(&mut self, alloc: Global) -> Result<Arc<Machine>, AllocError>
+    pub fn share(&mut self, alloc: Global) -> Result<Arc<Machine>, AllocError>
         ensures same { self.new ≡ self.old }
         ensures share { IfOk result (λ m. m.value ≡ self.old) }
     {
@@ -162,7 +162,7 @@ impl SharedMachine {
         ensures within { result.0 ≤ max }
         ensures count { self.new.count ≡ self.old.count + result.0 }
         ensures limit { (result.1 ≡ Stop.Limit) ↔ (result.0 ≡ max) }
-        ensures standing { result.1 ≢ Stop.Limit → stands_at self.new ≡ Some result.1 }
+        ensures standing { result.1 ≢ Stop.Limit → stopped_at self.new ≡ Some result.1 }
     {
         if max > 0 && self.form.is_still() {
             if let Some(stop) = self.stopped() {
@@ -178,17 +178,17 @@ impl SharedMachine {
 
     /// As `Machine::stopped`.
     pub fn stopped(&self) -> Option<Stop>
-        ensures { result ≡ stands_at self.now }
+        ensures { result ≡ stopped_at self.now }
     {
         self.machine().stopped()
     }
 
     /// As `Machine::reply`.
     pub fn reply(&mut self, reply: &Reply)
-        requires stands { stands_at self.old ≡ Some Stop.Call }
+        requires stands { stopped_at self.old ≡ Some Stop.Call }
         requires budget { self.old.count < 2 ^ 40 }
         requires none { reply.now.image ≡ None }
-        requires place { is_writable self.old.hart.memory reply.now.at (length reply.now.bytes) ≡ true }
+        requires place { is_writable self.old.architectural.memory reply.now.at (length reply.now.bytes) ≡ true }
         ensures { self.new ≡ replied self.old reply.now }
     {
         self.form.make_whole();

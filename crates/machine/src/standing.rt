@@ -3,7 +3,7 @@ ghost use Rattle.std.specs.Prelude.{◌≡◌, IfOk, IfErr};
 ghost use Rattle.interpreter.specs.Tables.{AllFixed, AllMatch};
 
 use crate::machine::Machine;
-use interpreter::{Hart, Run, Table};
+use interpreter::{ArchitecturalState, Run, Table};
 use memory::Space;
 use std::alloc::{AllocError, Global};
 use std::marker::Model;
@@ -42,7 +42,7 @@ impl Model for StillMachine {
 
     ghost view = { λ m. m.from.value };
 
-    ghost invariant = { λ m. IsRoomFor m.room m.from.value.hart.memory × AllMatch m.tables.value.items m.from.value.hart.memory × AllFixed m.tables.value.items m.from.value.hart.memory × AllMatch m.own.items m.from.value.hart.memory };
+    ghost invariant = { λ m. IsRoomFor m.room m.from.value.architectural.memory × AllMatch m.tables.value.items m.from.value.architectural.memory × AllFixed m.tables.value.items m.from.value.architectural.memory × AllMatch m.own.items m.from.value.architectural.memory };
 }
 
 impl Machine {
@@ -91,8 +91,8 @@ impl Machine {
 
     /// Its decoded words that may not be written, shared.
     fn decoded(&self) -> Result<(Arc<Vec<Table>>, Arc<Vec<Run>>), AllocError>
-        ensures matches { IfOk result (λ r. AllMatch r.0.value.items self.now.hart.memory) }
-        ensures fixed { IfOk result (λ r. AllFixed r.0.value.items self.now.hart.memory) }
+        ensures matches { IfOk result (λ r. AllMatch r.0.value.items self.now.architectural.memory) }
+        ensures fixed { IfOk result (λ r. AllFixed r.0.value.items self.now.architectural.memory) }
     {
         let tables = Arc::try_clone(&self.tables)?;
         let runs = Arc::try_clone(&self.runs)?;
@@ -102,13 +102,13 @@ impl Machine {
     /// Takes its decoded words that may be written out of it.
     fn take_own(&mut self, alloc: Global) -> Vec<Table>
         ensures same { self.new ≡ self.old }
-        ensures matches { AllMatch result.items self.old.hart.memory }
+        ensures matches { AllMatch result.items self.old.architectural.memory }
     {
         mem::replace(&mut self.own, Vec::new(alloc))
     }
 
     fn put_own(&mut self, own: Vec<Table>)
-        requires { AllMatch own.items self.old.hart.memory }
+        requires { AllMatch own.items self.old.architectural.memory }
         ensures { self.new ≡ self.old }
     {
         self.own = own;
@@ -122,15 +122,15 @@ impl Machine {
         runs: Arc<Vec<Run>>,
         own: Vec<Table>,
     ) -> Machine
-        requires space { space ≡ self.now.hart.memory }
-        requires matches { AllMatch tables.value.items self.now.hart.memory }
-        requires fixed { AllFixed tables.value.items self.now.hart.memory }
-        requires own { AllMatch own.items self.now.hart.memory }
+        requires space { space ≡ self.now.architectural.memory }
+        requires matches { AllMatch tables.value.items self.now.architectural.memory }
+        requires fixed { AllFixed tables.value.items self.now.architectural.memory }
+        requires own { AllMatch own.items self.now.architectural.memory }
         ensures { result ≡ self.now }
     {
         Machine {
-            hart: Hart {
-                regs: self.hart.regs,
+            architectural: ArchitecturalState {
+                regs: self.architectural.regs,
                 space,
             },
             count: self.count,

@@ -18,7 +18,7 @@ impl Machine {
         ensures within { result.0 ≤ max }
         ensures count { self.new.count ≡ self.old.count + result.0 }
     {
-        let (done, stop) = run_to(&mut self.hart, &mut self.own, stops, max);
+        let (done, stop) = run_to(&mut self.architectural, &mut self.own, stops, max);
         self.count += u64::from(done);
         (done, stop)
     }

@@ -5,7 +5,7 @@ use Rattle.formats.specs.declared.instr.Instr.{Instr}
 use Rattle.formats.specs.declared.instr.Instr.TheVariants as instr
 use Rattle.formats.specs.Table.{instr_of}
 use Rattle.memory_model.specs.Access.{fetched}
-use Rattle.machine_model.specs.Effects.{Hart, Effect, Becomes, Stands, effect, load_effect, store_effect}
+use Rattle.machine_model.specs.Effects.{ArchitecturalState, InstructionEffect, Becomes, Stops, effect, load_effect, store_effect}
 use Rattle.memory_model.specs.Memory.{Memory}
 use Rattle.machine_model.specs.States.{State, Halts, counted, by_instr, by_fetch, next}
 use Rattle.memory_model.specs.declared.access.BusFault.{BusFault}
@@ -17,41 +17,41 @@ use Rattle.machine_model.specs.declared.stop.Stop.TheVariants.{Limit, Call, Trap
 pub same_stop : (a b : Stop) → Halts a ≡ Halts b → a ≡ b
 same_stop a b e = cc
 
-becomes_not : (h : Hart) → Becomes h ≡ Stands Limit → ⊥
+becomes_not : (h : ArchitecturalState) → Becomes h ≡ Stops Limit → ⊥
 becomes_not h e = cc
 
-stands_not : (stop : Stop) → (stop ≡ Limit → ⊥) → Stands stop ≡ Stands Limit → ⊥
+stands_not : (stop : Stop) → (stop ≡ Limit → ⊥) → Stops stop ≡ Stops Limit → ⊥
 stands_not stop apart e = apart (inner stop e)
   where
-    inner : (stop : Stop) → Stands stop ≡ Stands Limit → stop ≡ Limit
+    inner : (stop : Stop) → Stops stop ≡ Stops Limit → stop ≡ Limit
     inner stop e = cc
 
-trap_not : (c : Cause) → Stands (Trap c) ≡ Stands Limit → ⊥
+trap_not : (c : Cause) → Stops (Trap c) ≡ Stops Limit → ⊥
 trap_not c e = stands_not (Trap c) (apart c) e
   where
     apart : (c : Cause) → Trap c ≡ Limit → ⊥
     apart c e = cc
 
-call_not : Stands Call ≡ Stands Limit → ⊥
+call_not : Stops Call ≡ Stops Limit → ⊥
 call_not e = stands_not Call apart e
   where
     apart : Call ≡ Limit → ⊥
     apart e = cc
 
-jump_not : (b : Bool) (h : Hart) → cond b (Becomes h) (Stands (Trap cause.MisalignedTarget)) ≡ Stands Limit → ⊥
+jump_not : (b : Bool) (h : ArchitecturalState) → cond b (Becomes h) (Stops (Trap cause.MisalignedTarget)) ≡ Stops Limit → ⊥
 jump_not true h e = becomes_not h e
 jump_not false h e = trap_not cause.MisalignedTarget e
 
-load_not : (h : Hart) (rd : ℕ) (extended : ℕ → ℕ) (r : Result ℕ BusFault) → load_effect h rd extended r ≡ Stands Limit → ⊥
+load_not : (h : ArchitecturalState) (rd : ℕ) (extended : ℕ → ℕ) (r : Result ℕ BusFault) → load_effect h rd extended r ≡ Stops Limit → ⊥
 load_not h rd extended (Ok value) e = becomes_not _ e
 load_not h rd extended (Err fault) e = trap_not _ e
 
-store_not : (h : Hart) (m : Memory) (f : Option BusFault) → store_effect h m f ≡ Stands Limit → ⊥
+store_not : (h : ArchitecturalState) (m : Memory) (f : Option BusFault) → store_effect h m f ≡ Stops Limit → ⊥
 store_not h m None e = becomes_not _ e
 store_not h m (Some fault) e = trap_not _ e
 
 -- no instruction stands at the limit
-pub effect_not : (i : Instr) (h : Hart) → effect i h ≡ Stands Limit → ⊥
+pub effect_not : (i : Instr) (h : ArchitecturalState) → effect i h ≡ Stops Limit → ⊥
 unfolding effect
 effect_not (instr.Lui rd imm) h e = becomes_not _ e
 effect_not (instr.Auipc rd imm) h e = becomes_not _ e
@@ -105,15 +105,15 @@ effect_not instr.Ebreak h e = trap_not _ e
 
 pub next-not_limit : (s : State) → next s ≢ Halts Limit
 unfolding next
-next-not_limit s = by-fetch (fetched s.hart.memory s.hart.pc)
+next-not_limit s = by-fetch (fetched s.architectural.memory s.architectural.pc)
   where
-    by-effect : (e : Effect) → (e ≡ Stands Limit → ⊥) → counted s.count e ≢ Halts Limit
+    by-effect : (e : InstructionEffect) → (e ≡ Stops Limit → ⊥) → counted s.count e ≢ Halts Limit
     by-effect (Becomes h) apart e = cc
-    by-effect (Stands why) apart e = apart (ap (λ (x : Stop). Stands x) (same_stop why Limit e))
+    by-effect (Stops why) apart e = apart (ap (λ (x : Stop). Stops x) (same_stop why Limit e))
 
     by-instruction : (x : Option Instr) → by_instr s x ≢ Halts Limit
     by-instruction None e = cc
-    by-instruction (Some i) e = by-effect (effect i s.hart) (effect_not i s.hart) e
+    by-instruction (Some i) e = by-effect (effect i s.architectural) (effect_not i s.architectural) e
 
     by-fetch : (r : Result ℕ BusFault) → by_fetch s r ≢ Halts Limit
     by-fetch (Err fault) e = cc

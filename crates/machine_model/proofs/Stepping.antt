@@ -5,8 +5,8 @@ use Rattle.formats.specs.declared.instr.Instr.{Instr}
 use Rattle.formats.specs.Meaning.{Means}
 use Rattle.formats.specs.Table.{instr_of}
 use Rattle.memory_model.specs.Access.{fetched}
-use Rattle.machine_model.specs.Effects.{Effect, Becomes, Stands, effect}
-use Rattle.machine_model.specs.States.{State, state, Stepped, Goes, Halts, Ran, reached_at, counted, by_instr, by_fetch, next, after, by_step, run, stands_at}
+use Rattle.machine_model.specs.Effects.{InstructionEffect, Becomes, Stops, effect}
+use Rattle.machine_model.specs.States.{State, state, Stepped, Goes, Halts, Ran, reached_at, counted, by_instr, by_fetch, next, after, by_step, run, stopped_at}
 use Rattle.machine_model.specs.Steps.{Step, StandsAt, ByFetch, ByWord, ByInstruction, Runs, NextIsStep, RunIsSteps}
 use Rattle.memory_model.specs.declared.access.BusFault.{BusFault}
 use Rattle.machine_model.specs.declared.stop.Cause.{Cause}
@@ -29,23 +29,23 @@ halts_not t stop e = cc
 same_goal : (s t : State) → Goes s ≡ Goes t → s ≡ t
 same_goal s t e = cc
 
-effect-goes : (s t : State) (w : ℕ) (i : Instr) (e : Effect) → fetched s.hart.memory s.hart.pc ≡ Ok w → Means w i → effect i s.hart ≡ e → counted s.count e ≡ Goes t → Step s t
+effect-goes : (s t : State) (w : ℕ) (i : Instr) (e : InstructionEffect) → fetched s.architectural.memory s.architectural.pc ≡ Ok w → Means w i → effect i s.architectural ≡ e → counted s.count e ≡ Goes t → Step s t
 effect-goes s t w i (Becomes h) f m is g =
     let same = same_goal (state h (s.count + 1)) t g in
-    record { word = w; instruction = i; fetch = f; means = m; does = is ∙ ap (λ (x : State). Becomes x.hart) same; counts = ap (λ (x : State). x.count) (sym same) }
-effect-goes s t w i (Stands stop) f m is g = absurd (goes_not stop t g)
+    record { word = w; instruction = i; fetch = f; means = m; does = is ∙ ap (λ (x : State). Becomes x.architectural) same; counts = ap (λ (x : State). x.count) (sym same) }
+effect-goes s t w i (Stops stop) f m is g = absurd (goes_not stop t g)
 
-instr-goes : Agree → (s t : State) (w : ℕ) (o : Option Instr) → fetched s.hart.memory s.hart.pc ≡ Ok w → instr_of w ≡ o → by_instr s o ≡ Goes t → Step s t
+instr-goes : Agree → (s t : State) (w : ℕ) (o : Option Instr) → fetched s.architectural.memory s.architectural.pc ≡ Ok w → instr_of w ≡ o → by_instr s o ≡ Goes t → Step s t
 instr-goes agree s t w None f is g = absurd (goes_not (Trap cause.Illegal) t g)
-instr-goes agree s t w (Some i) f is g = effect-goes s t w i (effect i s.hart) f ((agree w i).1 is) refl g
+instr-goes agree s t w (Some i) f is g = effect-goes s t w i (effect i s.architectural) f ((agree w i).1 is) refl g
 
-fetch-goes : Agree → (s t : State) (r : Result ℕ BusFault) → fetched s.hart.memory s.hart.pc ≡ r → by_fetch s r ≡ Goes t → Step s t
+fetch-goes : Agree → (s t : State) (r : Result ℕ BusFault) → fetched s.architectural.memory s.architectural.pc ≡ r → by_fetch s r ≡ Goes t → Step s t
 fetch-goes agree s t (Err fault) f g = absurd (goes_not (Trap cause.FetchFault) t g)
 fetch-goes agree s t (Ok w) f g = instr-goes agree s t w (instr_of w) f refl g
 
 next-goes : Agree → (s t : State) → next s ≡ Goes t → Step s t
 unfolding next
-next-goes agree s t g = fetch-goes agree s t (fetched s.hart.memory s.hart.pc) refl g
+next-goes agree s t g = fetch-goes agree s t (fetched s.architectural.memory s.architectural.pc) refl g
 
 step-next : Agree → (s t : State) → Step s t → next s ≡ Goes t
 unfolding next
@@ -53,12 +53,12 @@ step-next agree s t step =
     ap (by_fetch s) step.fetch
     ∙ ap (by_instr s) ((agree step.word step.instruction).0 step.means)
     ∙ ap (counted s.count) step.does
-    ∙ ap (λ (k : ℕ). Goes (state t.hart k)) (sym step.counts)
+    ∙ ap (λ (k : ℕ). Goes (state t.architectural k)) (sym step.counts)
 
-effect-halts : (s : State) (stop : Stop) (w : ℕ) (i : Instr) (e : Effect) → fetched s.hart.memory s.hart.pc ≡ Ok w → Means w i → effect i s.hart ≡ e → counted s.count e ≡ Halts stop → StandsAt s stop
+effect-halts : (s : State) (stop : Stop) (w : ℕ) (i : Instr) (e : InstructionEffect) → fetched s.architectural.memory s.architectural.pc ≡ Ok w → Means w i → effect i s.architectural ≡ e → counted s.count e ≡ Halts stop → StandsAt s stop
 effect-halts s stop w i (Becomes h) f m is g = absurd (halts_not (state h (s.count + 1)) stop g)
-effect-halts s stop w i (Stands own) f m is g =
-    ByInstruction (record { word = w; instruction = i; fetch = f; means = m; does = is ∙ ap (λ (x : Stop). Stands x) (same_stop own stop g) })
+effect-halts s stop w i (Stops own) f m is g =
+    ByInstruction (record { word = w; instruction = i; fetch = f; means = m; does = is ∙ ap (λ (x : Stop). Stops x) (same_stop own stop g) })
 
 no_instr : Agree → (w : ℕ) → instr_of w ≡ None → (i : Instr) → Means w i → ⊥
 no_instr agree w none i means = clash (sym none ∙ (agree w i).0 means)
@@ -66,18 +66,18 @@ no_instr agree w none i means = clash (sym none ∙ (agree w i).0 means)
     clash : None ≡ Some i → ⊥
     clash e = cc
 
-instr-halts : Agree → (s : State) (stop : Stop) (w : ℕ) (o : Option Instr) → fetched s.hart.memory s.hart.pc ≡ Ok w → instr_of w ≡ o → by_instr s o ≡ Halts stop → StandsAt s stop
+instr-halts : Agree → (s : State) (stop : Stop) (w : ℕ) (o : Option Instr) → fetched s.architectural.memory s.architectural.pc ≡ Ok w → instr_of w ≡ o → by_instr s o ≡ Halts stop → StandsAt s stop
 instr-halts agree s stop w None f is g =
     ByWord (sym (same_stop (Trap cause.Illegal) stop g)) (record { word = w; fetch = f; means_none = no_instr agree w is })
-instr-halts agree s stop w (Some i) f is g = effect-halts s stop w i (effect i s.hart) f ((agree w i).1 is) refl g
+instr-halts agree s stop w (Some i) f is g = effect-halts s stop w i (effect i s.architectural) f ((agree w i).1 is) refl g
 
-fetch-halts : Agree → (s : State) (stop : Stop) (r : Result ℕ BusFault) → fetched s.hart.memory s.hart.pc ≡ r → by_fetch s r ≡ Halts stop → StandsAt s stop
+fetch-halts : Agree → (s : State) (stop : Stop) (r : Result ℕ BusFault) → fetched s.architectural.memory s.architectural.pc ≡ r → by_fetch s r ≡ Halts stop → StandsAt s stop
 fetch-halts agree s stop (Err fault) f g = ByFetch (sym (same_stop (Trap cause.FetchFault) stop g)) (record { fault = fault; fetch = f })
 fetch-halts agree s stop (Ok w) f g = instr-halts agree s stop w (instr_of w) f refl g
 
 next-halts : Agree → (s : State) (stop : Stop) → next s ≡ Halts stop → StandsAt s stop
 unfolding next
-next-halts agree s stop g = fetch-halts agree s stop (fetched s.hart.memory s.hart.pc) refl g
+next-halts agree s stop g = fetch-halts agree s stop (fetched s.architectural.memory s.architectural.pc) refl g
 
 illegal_none : Agree → (w : ℕ) → ((i : Instr) → Means w i → ⊥) → (o : Option Instr) → instr_of w ≡ o → o ≡ None
 illegal_none agree w none None is = refl
@@ -98,7 +98,7 @@ next-is-step agree s = ((λ t. (next-goes agree s t, step-next agree s t)), (λ 
 
 -- what the law says of one run
 abbrev IsRun : ℕ → State → Ran → Type 0
-IsRun max s r = Runs r.count s r.state × ((r.stop ≡ Limit) ↔ (r.count ≡ max)) × (r.stop ≢ Limit → (r.count < max) × (stands_at r.state ≡ Some r.stop))
+IsRun max s r = Runs r.count s r.state × ((r.stop ≡ Limit) ↔ (r.count ≡ max)) × (r.stop ≢ Limit → (r.count < max) × (stopped_at r.state ≡ Some r.stop))
 
 one_more : (n : ℕ) (s t : State) (r : Ran) → Step s t → IsRun n t r → IsRun (suc n) s (after 1 r)
 one_more n s t r step is =
@@ -118,9 +118,9 @@ trap_limit c stop is e = clash c (sym is ∙ e)
 stands_limit : (s : State) (stop : Stop) → StandsAt s stop → stop ≡ Limit → ⊥
 stands_limit s stop (ByFetch is fails) e = trap_limit cause.FetchFault stop is e
 stands_limit s stop (ByWord is illegal) e = trap_limit cause.Illegal stop is e
-stands_limit s stop (ByInstruction own) e = effect_not own.instruction s.hart (own.does ∙ ap (λ (x : Stop). Stands x) e)
+stands_limit s stop (ByInstruction own) e = effect_not own.instruction s.architectural (own.does ∙ ap (λ (x : Stop). Stops x) e)
 
-stands-here : (s : State) (stop : Stop) → next s ≡ Halts stop → stands_at s ≡ Some stop
+stands-here : (s : State) (stop : Stop) → next s ≡ Halts stop → stopped_at s ≡ Some stop
 stands-here s stop e = ap (λ (x : Stepped). by_step {A = Option Stop} x (λ t. None) (λ stop. Some stop)) e
 
 halted : (n : ℕ) (s : State) (stop : Stop) → (stop ≡ Limit → ⊥) → next s ≡ Halts stop → IsRun (suc n) s (reached_at 0 s stop)

@@ -2,7 +2,7 @@
 use Rattle.std.specs.Prelude.{ℕ, ◌-◌, ◌/◌, ◌&&◌, Bool, true, false, nat_le, nat_lt, if◌then◌else◌, List, [], ◌∷◌, replicate, slice_index, slice_set, Option, Some, None}
 use Rattle.memory_model.specs.Access.{cell_with}
 use Rattle.memory_model.specs.Memory.{Cell, memory_of}
-use Rattle.machine_model.specs.States.{State, hart, state}
+use Rattle.machine_model.specs.States.{State, architectural, state}
 use Rattle.machine_model.specs.declared.image.Segment.{Segment}
 use Rattle.machine_model.specs.Images.{Program, first_page, last_page}
 
@@ -27,4 +27,4 @@ abbrev pub first_registers : List ℕ
 first_registers = slice_set (replicate 32 0) 2 0x80000000
 
 abbrev pub first_state : Program → State
-first_state p = state (hart first_registers p.entry (memory_of (first_cell p.segments))) 0
+first_state p = state (architectural first_registers p.entry (memory_of (first_cell p.segments))) 0

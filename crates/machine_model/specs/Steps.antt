@@ -3,40 +3,40 @@ use Rattle.std.specs.Prelude.{◌≡◌, ℕ, zero, suc, ◌+◌, ◌<◌, ◌�
 use Rattle.formats.specs.declared.instr.Instr.{Instr}
 use Rattle.formats.specs.Meaning.{Means}
 use Rattle.memory_model.specs.Access.{fetched}
-use Rattle.machine_model.specs.Effects.{Becomes, Stands, effect}
-use Rattle.machine_model.specs.States.{State, next, run, stands_at, Goes, Halts}
+use Rattle.machine_model.specs.Effects.{Becomes, Stops, effect}
+use Rattle.machine_model.specs.States.{State, next, run, stopped_at, Goes, Halts}
 use Rattle.memory_model.specs.declared.access.BusFault.{BusFault}
 use Rattle.machine_model.specs.declared.stop.Cause.TheVariants as cause
 use Rattle.machine_model.specs.declared.stop.Stop.{Stop}
 use Rattle.machine_model.specs.declared.stop.Stop.TheVariants.{Limit, Trap}
 
--- One step: the word at the program counter means an instruction, whose effect is the next hart, and it counts.
+-- One step: the word at the program counter means an instruction, whose effect is the next architectural state, and it counts.
 pub record Step (s t : State) : Type 0 where
   pub word : ℕ
   pub instruction : Instr
-  pub fetch : fetched s.hart.memory s.hart.pc ≡ Ok word
+  pub fetch : fetched s.architectural.memory s.architectural.pc ≡ Ok word
   pub means : Means word instruction
-  pub does : effect instruction s.hart ≡ Becomes t.hart
+  pub does : effect instruction s.architectural ≡ Becomes t.architectural
   pub counts : t.count ≡ s.count + 1
 
 -- the word at the program counter may not be fetched
 pub record FetchFails (s : State) : Type 0 where
   pub fault : BusFault
-  pub fetch : fetched s.hart.memory s.hart.pc ≡ Err fault
+  pub fetch : fetched s.architectural.memory s.architectural.pc ≡ Err fault
 
 -- the word at the program counter means no instruction
 pub record IsIllegal (s : State) : Type 0 where
   pub word : ℕ
-  pub fetch : fetched s.hart.memory s.hart.pc ≡ Ok word
+  pub fetch : fetched s.architectural.memory s.architectural.pc ≡ Ok word
   pub means_none : (i : Instr) → Means word i → ⊥
 
 -- the word at the program counter means an instruction that stands there, at a call or a trap of its own
 pub record InstructionStands (s : State) (stop : Stop) : Type 0 where
   pub word : ℕ
   pub instruction : Instr
-  pub fetch : fetched s.hart.memory s.hart.pc ≡ Ok word
+  pub fetch : fetched s.architectural.memory s.architectural.pc ≡ Ok word
   pub means : Means word instruction
-  pub does : effect instruction s.hart ≡ Stands stop
+  pub does : effect instruction s.architectural ≡ Stops stop
 
 -- A state stands at a stop, by one of three rules.
 pub data StandsAt (s : State) (stop : Stop) : Type 0 where
@@ -58,4 +58,4 @@ abbrev pub RunIsSteps : Type 0
 RunIsSteps = (max : ℕ) (s : State) →
     Runs (run max s).count s (run max s).state
     × (((run max s).stop ≡ Limit) ↔ ((run max s).count ≡ max))
-    × ((run max s).stop ≢ Limit → ((run max s).count < max) × (stands_at (run max s).state ≡ Some (run max s).stop))
+    × ((run max s).stop ≢ Limit → ((run max s).count < max) × (stopped_at (run max s).state ≡ Some (run max s).stop))

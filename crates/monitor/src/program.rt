@@ -7,7 +7,7 @@ use crate::script_files::{
 };
 use clap::Error;
 use clap::error::ErrorKind;
-use command_line::{Asked, Task, parse};
+use command_line::{Arguments, Task, parse};
 use explanations::explain;
 use faults::{Fault, write_line};
 use host_files::{assemble_file, check_file, image_file, list_file, symbols_file};
@@ -25,7 +25,7 @@ fn perform<
     I: Read + Send,
     O: Write,
     E: Write,
->(rt: &R, asked: &Asked<'_>, input: &mut I, out: &mut O, err: &mut E) -> Result<u8, Fault> {
+>(rt: &R, asked: &Arguments<'_>, input: &mut I, out: &mut O, err: &mut E) -> Result<u8, Fault> {
     let done = match &asked.task {
         Task::ReplayInput => replay_input(rt, input, out),
         Task::ReplayFile(path) => replay_file(rt, path, out),
@@ -61,7 +61,7 @@ fn run<
     I: Read + Send,
     O: Write,
     E: Write,
->(rt: &R, asked: &Asked<'_>, input: &mut I, out: &mut O, err: &mut E) -> Result<u8, Fault> {
+>(rt: &R, asked: &Arguments<'_>, input: &mut I, out: &mut O, err: &mut E) -> Result<u8, Fault> {
     let done = perform(rt, asked, input, out, err);
     let flushed = out.flush();
     let status = done?;
@@ -72,7 +72,7 @@ fn run<
 /// The end of what was asked for: a fault's line, and where it is to be explained a line more that says why.
 fn end_asked<R: Files<File = File> + AllocGlobal, E: Write>(
     rt: &R,
-    asked: &Asked<'_>,
+    asked: &Arguments<'_>,
     done: Result<u8, Fault>,
     err: &mut E,
 ) -> u8 {

@@ -86,8 +86,8 @@ module _ (n : ℕ) where
         terminals = silent (label_in s (Turn r n)).output l.output own.output;
       })
 
-  turn_behind : (s u : Seen) (r : ℕ) (e : Event) → is_among (Proc r) (label_in u e).reads ≡ false → are_independent (label_in u e) (label_in s (Turn r n)) ≡ true
-  turn_behind s u r e off =
+  turn_later : (s u : Seen) (r : ℕ) (e : Event) → is_among (Proc r) (label_in u e).reads ≡ false → are_independent (label_in u e) (label_in s (Turn r n)) ≡ true
+  turn_later s u r e off =
       let own = own_turn s.sync r n in
       let l = label_in u e in
       from_parts l (label_in s (Turn r n)) (record {
@@ -121,13 +121,13 @@ module _ (n : ℕ) where
     pub same : go (run s (turns n rs)) e ≡ run (go s e) (turns n rs)
 
   -- the event, known where it stands before the Turns
-  pub turns_behind : (rs : List ℕ) (s : Seen) (e : Event) → IsNumbered s → AreOff rs (label_in s e).reads → Past s rs e
-  turns_behind [] s e are off = record { label = refl; same = refl }
-  turns_behind (r ∷ rs) s e are off =
-      let independent = turn_behind (go s e) s r e off.0 in
-      let label : label_in (go s (Turn r n)) e ≡ label_in s e = law.behind s e (Turn r n) are independent in
+  pub turns_later : (rs : List ℕ) (s : Seen) (e : Event) → IsNumbered s → AreOff rs (label_in s e).reads → Past s rs e
+  turns_later [] s e are off = record { label = refl; same = refl }
+  turns_later (r ∷ rs) s e are off =
+      let independent = turn_later (go s e) s r e off.0 in
+      let label : label_in (go s (Turn r n)) e ≡ label_in s e = law.afterwards s e (Turn r n) are independent in
       let same : go (go s (Turn r n)) e ≡ go (go s e) (Turn r n) = law.same s e (Turn r n) are independent in
-      let rest = turns_behind rs (go s (Turn r n)) e (step_numbered s.sync (Turn r n) are) (subst (λ (l : Label). AreOff rs l.reads) (sym label) off.1) in
+      let rest = turns_later rs (go s (Turn r n)) e (step_numbered s.sync (Turn r n) are) (subst (λ (l : Label). AreOff rs l.reads) (sym label) off.1) in
       record { label = rest.label ∙ label; same = rest.same ∙ ap (λ (u : Seen). run u (turns n rs)) same }
 
   -- the event, known where it stands after the Turns
@@ -148,7 +148,7 @@ module _ (n : ℕ) where
 
   turn_past : (rs : List ℕ) (s : Seen) (q : ℕ) → IsNumbered s → AllByRecursion (λ (r : ℕ). (r == q) ≡ false) rs
       → go (run s (turns n rs)) (Turn q n) ≡ run (go s (Turn q n)) (turns n rs)
-  turn_past rs s q are off = (turns_behind rs s (Turn q n) are (subst (λ (cs : List Carrier). AreOff rs cs) (sym (own_turn s.sync q n).reads) (each rs off))).same
+  turn_past rs s q are off = (turns_later rs s (Turn q n) are (subst (λ (cs : List Carrier). AreOff rs cs) (sym (own_turn s.sync q n).reads) (each rs off))).same
     where
       each : (rs : List ℕ) → AllByRecursion (λ (r : ℕ). (r == q) ≡ false) rs → AreOff rs (Proc q ∷ [])
       each [] h = tt
@@ -239,18 +239,18 @@ module _ (n : ℕ) where
       before = law.before s (Enter p) (Enter q) are together ∙ sym first.label
 
       -- p's call stands so after q's, and after q's Turns
-      behind_one : label two p ≡ l
-      behind_one = law.behind s (Enter p) (Enter q) are together
+      later_one : label two p ≡ l
+      later_one = law.afterwards s (Enter p) (Enter q) are together
 
       second : Past two qs (Enter p)
-      second = turns_behind qs two (Enter p) two_numbered
-          (subst (λ (m : Label). AreOff qs m.reads) (sym behind_one) (off_each k.writes l.reads qs known.back (wrote_each k (q ∷ option_to_list k.child))))
+      second = turns_later qs two (Enter p) two_numbered
+          (subst (λ (m : Label). AreOff qs m.reads) (sym later_one) (off_each k.writes l.reads qs known.back (wrote_each k (q ∷ option_to_list k.child))))
 
       abbrev after_q : Label → Seen
       after_q m = run two (turns n (goers m q))
 
-      pub behind : label (call_after n s q) p ≡ l
-      behind = ap (λ (m : Label). label (after_q m) p) before ∙ second.label ∙ behind_one
+      pub afterwards : label (call_after n s q) p ≡ l
+      afterwards = ap (λ (m : Label). label (after_q m) p) before ∙ second.label ∙ later_one
 
       abbrev both : Seen
       both = go one (Enter q)
@@ -258,7 +258,7 @@ module _ (n : ℕ) where
       pub same : call_after n (call_after n s q) p ≡ call_after n next q
       same =
           ap (λ (m : Label). call_after n (after_q m) p) before
-          ∙ ap (λ (m : Label). run (go (after_q k) (Enter p)) (turns n (goers m p))) (second.label ∙ behind_one)
+          ∙ ap (λ (m : Label). run (go (after_q k) (Enter p)) (turns n (goers m p))) (second.label ∙ later_one)
           ∙ ap (λ (u : Seen). run u (turns n rs)) (second.same ∙ ap (λ (u : Seen). run u (turns n qs)) (law.same s (Enter p) (Enter q) are together))
           ∙ sym (turns_past qs rs both (step_numbered one.sync (Enter q) one_numbered)
           (others_each l.writes k.reads rs qs first_off (wrote_read next (Enter q) qs (wrote_each k (q ∷ option_to_list k.child)))))
@@ -284,6 +284,6 @@ module _ (n : ℕ) where
     keeps = λ s p are. run_numbered (call_of n (label s p) p) s are;
     idle = idle_call;
     before = before;
-    behind = behind;
+    afterwards = afterwards;
     same = same;
   }

@@ -68,7 +68,7 @@ module _ {S M L : Type 0} (y : System S M L) (P : S → Type 0) (law : Commutes 
     pub is : ms ≡ ahead ++ m ∷ later
     pub aside : AreAside s ahead (y.label (reached y s ahead) m)
 
-  -- what becomes of moves behind which it was
+  -- what becomes of moves after which it was
   pub record Past (s : S) (m : M) (ahead : List M) : Type 0 where
     pub label : y.label s m ≡ y.label (reached y s ahead) m
     pub same : reached y (y.go s m) ahead ≡ y.go (reached y s ahead) m
@@ -82,7 +82,7 @@ module _ {S M L : Type 0} (y : System S M L) (P : S → Type 0) (law : Commutes 
       record {
         label = law.before s x m p independent ∙ rest.label;
         same = ap (λ z. reached y z ahead) (law.same s x m p independent) ∙ rest.same;
-        work = λ h. (ap y.works (law.behind s x m p independent) ∙ h.0, subst (λ z. AllWork y z ahead) (sym (law.same s x m p independent)) (rest.work h.1));
+        work = λ h. (ap y.works (law.afterwards s x m p independent) ∙ h.0, subst (λ z. AllWork y z ahead) (sym (law.same s x m p independent)) (rest.work h.1));
       }
 
   -- what is left to be made, once it came first

@@ -4,11 +4,11 @@ use Rattle.std.specs.Prelude.{if◌then◌else◌, option_to_list}
 use Rattle.std.specs.List.{AllByRecursion}
 use Rattle.std.proofs.lemmas.Bool.{eqb-true, ne_eqb, false≢true}
 use Rattle.std.proofs.lemmas.List.{length-map}
-use Rattle.machine_model.specs.States.{stands_at}
+use Rattle.machine_model.specs.States.{stopped_at}
 use Rattle.machine_model.specs.declared.reply.Reply.{Reply}
 use Rattle.kernel_model.specs.Entries.{is_among}
 use Rattle.kernel_model.specs.Limits.{AreNumbered}
-use Rattle.kernel_model.specs.Rows.{Effect}
+use Rattle.kernel_model.specs.Rows.{CallEffect}
 use Rattle.kernel_model.specs.State.{SyncState, Process, PipeState, shared, process_at, put_process, with_process, all_stepped}
 use Rattle.kernel_model.specs.Steps.{Transition, impossible, after_run, after_reply, after_end, after_effect, after_turn, is_collected, step}
 use Rattle.kernel_model.specs.declared.carrier.Carrier.{Carrier}
@@ -84,7 +84,7 @@ module _ (c : Claim) where
           going false is = turned_claimed s pid n z claimed at is
 
   -- ---- an effect
-  module _ (s : SyncState) (pid : ℕ) (z : Process) (e : Effect) (other : (pid == c.owner) ≡ false) (claimed : IsClaimed c s)
+  module _ (s : SyncState) (pid : ℕ) (z : Process) (e : CallEffect) (other : (pid == c.owner) ≡ false) (claimed : IsClaimed c s)
       (at : process_at s.processes pid ≡ Some z) (lives : is_some z.status ≡ false) (clear : IsClear c e)
       (next : IfSome e.child (λ k. k ≡ length s.processes + 1)) where
     old : LeavesAlone c z
@@ -148,9 +148,9 @@ module _ (c : Claim) where
       let old = claimed.others pid z other at lives in
       let count : length (shared s).statuses ≡ length s.processes = length-map s.processes (λ (p : Process). p.status) in
       let most = claimed.owner in
-      let clear = effect_clear c (shared s) pid z (stands_at z.state) e (claimed.pipes (length s.pipes) (let same : length s.pipes ≤ length s.pipes = omega arith in same))
+      let clear = effect_clear c (shared s) pid z (stopped_at z.state) e (claimed.pipes (length s.pipes) (let same : length s.pipes ≤ length s.pipes = omega arith in same))
       (ne_eqb (length (shared s).statuses + 1) c.owner (λ (same : length (shared s).statuses + 1 ≡ c.owner). omega (arith, same, count, most))) old.descriptors old.children is in
-      effect_spares s pid z e other claimed at lives clear (next e.writes e.child (effect_keeps s pid z (stands_at z.state) e are is).child) e.verdict))
+      effect_spares s pid z e other claimed at lives clear (next e.writes e.child (effect_keeps s pid z (stopped_at z.state) e are is).child) e.verdict))
     where
       next : (writes : List Carrier) (o : Option ℕ) → IfSome o (λ k. (k ≡ length s.processes + 1) × (is_among Tasks writes ≡ true) × (is_among (Proc k) writes ≡ true))
           → IfSome o (λ k. k ≡ length s.processes + 1)

@@ -3,7 +3,7 @@ use Rattle.std.proofs.Common.{◌≡◌, ℕ, ◌&&◌, not, Bool, true, false, 
 use Rattle.std.proofs.lemmas.Bool.{false≢true, and_parts}
 use Rattle.kernel_model.specs.Entries.{Entry, is_among, meets}
 use Rattle.kernel_model.specs.Limits.{AreNumbered}
-use Rattle.kernel_model.specs.Rows.{Effect}
+use Rattle.kernel_model.specs.Rows.{CallEffect}
 use Rattle.kernel_model.specs.Shown.{bytes_for}
 use Rattle.kernel_model.specs.State.{SyncState, Process}
 use Rattle.kernel_model.specs.Steps.{Transition, after_effect, step}
@@ -25,7 +25,7 @@ record IsIdle (e : Entry) : Type 0 where
   pub writes : e.writes ≡ []
   pub output : e.output ≡ None
 
-idle_effect : (s : SyncState) (pid : ℕ) (p : Process) (e : Effect) (v : Verdict) → writes_some (label_of (after_effect s pid p e v).entry) ≡ false → IsIdle (after_effect s pid p e v).entry
+idle_effect : (s : SyncState) (pid : ℕ) (p : Process) (e : CallEffect) (v : Verdict) → writes_some (label_of (after_effect s pid p e v).entry) ≡ false → IsIdle (after_effect s pid p e v).entry
 idle_effect s pid p e Waits h = record { writes = refl; output = refl }
 idle_effect s pid p e (Replies r) h = absurd (false≢true (sym h))
 idle_effect s pid p e (Ends status) h = absurd (false≢true (sym h))
@@ -98,6 +98,6 @@ events_commute = record {
   keeps = λ s e are. step_numbered s.sync e are;
   idle = idle;
   before = λ s e f are h. sym (f_same s e f are h);
-  behind = λ s e f are h. sym (e_same s e f are h);
+  afterwards = λ s e f are h. sym (e_same s e f are h);
   same = same_after;
 }

@@ -5,7 +5,7 @@ use Rattle.std.specs.Prelude.{option_map}
 use Rattle.std.proofs.lemmas.Bool.{false≢true}
 use Rattle.std.proofs.lemmas.List.{map-append}
 use Rattle.disk_model.specs.Numbers.{Numbered}
-use Rattle.machine_model.specs.States.{run, stands_at}
+use Rattle.machine_model.specs.States.{run, stopped_at}
 use Rattle.kernel_model.specs.Entries.{Entry}
 use Rattle.kernel_model.specs.Limits.{AreNumbered}
 use Rattle.kernel_model.specs.Shown.{Given, given_by, each_from, printed, bytes_for, shown}
@@ -91,7 +91,7 @@ module _ (n : ℕ) (b : Boot) (chosen : Seen → ℕ → Bool) (good : IsChoice 
 
   -- so each process stops there
   stops : (ps : List ℕ) (s : Seen) → reached (calls n) start ps ≡ settled n s → AllStop n s.sync
-  stops ps s is p z at lives = elim (is_some (stands_at (run n z.state).state)) as (λ t. is_some (stands_at (run n z.state).state) ≡ t → t ≡ true) [
+  stops ps s is p z at lives = elim (is_some (stopped_at (run n z.state).state)) as (λ t. is_some (stopped_at (run n z.state).state) ≡ t → t ≡ true) [
     | true ↦ λ e. refl
     | false ↦ λ e.
         let a = above ps s is in

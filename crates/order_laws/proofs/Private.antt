@@ -19,7 +19,7 @@ use Rattle.kernel_laws.proofs.Selected.{passed, step_numbered}
 use Rattle.kernel_laws.proofs.Written.{step_reads}
 use Rattle.order_laws.specs.Moves.{Seen, Label, label_in, is_one_terminal, are_independent, writes_some, seen_after, wrote, turns, call_after, calls}
 use Rattle.order_laws.specs.Privacy.{Claim, is_claimed, IsClaimed, IsPrivate}
-use Rattle.order_laws.proofs.Calls.{run, Past, AreOff, turns_behind}
+use Rattle.order_laws.proofs.Calls.{run, Past, AreOff, turns_later}
 use Rattle.order_laws.proofs.Choosing.{StaysPrivate}
 use Rattle.order_laws.proofs.Claims.{Spares, enter_spares, turn_claimed}
 use Rattle.order_laws.proofs.Commuting.{from_parts}
@@ -96,7 +96,7 @@ module _ (n : ℕ) where
         ] refl
 
     past : Past n one rs (Enter m)
-    past = turns_behind n rs one (Enter m) one_numbered (subst (λ (l : Label). AreOff n rs l.reads) (sym after_enter_same) (rs_off (x ∷ option_to_list (label s x).child)))
+    past = turns_later n rs one (Enter m) one_numbered (subst (λ (l : Label). AreOff n rs l.reads) (sym after_enter_same) (rs_off (x ∷ option_to_list (label s x).child)))
 
     stands : label (call_after n s x) m ≡ label s m
     stands = past.label ∙ after_enter_same

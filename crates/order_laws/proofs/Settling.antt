@@ -3,13 +3,13 @@ use Rattle.std.proofs.Common.{◌≡◌, ℕ, zero, suc, ◌+◌, ◌==◌, Bool
 use Rattle.std.specs.Prelude.{if◌then◌else◌, option_map, option_to_list}
 use Rattle.std.proofs.lemmas.Bool.{eq-eqb, false≢true, or_left, or_right}
 use Rattle.std.proofs.lemmas.List.{length-map, map-append}
-use Rattle.machine_model.specs.States.{State, by_step, next, Goes, Halts, run, stands_at}
+use Rattle.machine_model.specs.States.{State, by_step, next, Goes, Halts, run, stopped_at}
 use Rattle.machine_model.specs.Replies.{replied}
 use Rattle.machine_model.specs.declared.reply.Reply.{Reply}
 use Rattle.machine_model.specs.declared.stop.Stop.{Stop}
 use Rattle.kernel_model.specs.Entries.{is_among}
 use Rattle.kernel_model.specs.Limits.{AreNumbered}
-use Rattle.kernel_model.specs.Rows.{Effect}
+use Rattle.kernel_model.specs.Rows.{CallEffect}
 use Rattle.kernel_model.specs.Shown.{bytes_for}
 use Rattle.kernel_model.specs.State.{SyncState, Process, shared, process_at, put_process, with_process}
 use Rattle.kernel_model.specs.Steps.{Transition, impossible, own_entry, after_run, after_turn, after_reply, after_end, after_effect, after_enter, effect_at, forked, zero_reply, step}
@@ -35,10 +35,10 @@ use Rattle.order_laws.proofs.Commuting.{same_seen}
 
 -- each process that has not ended comes to a call or a trap within n instructions
 abbrev pub AllStop : ℕ → SyncState → Type 0
-AllStop n s = (p : ℕ) (z : Process) → process_at s.processes p ≡ Some z → is_some z.status ≡ false → is_some (stands_at (run n z.state).state) ≡ true
+AllStop n s = (p : ℕ) (z : Process) → process_at s.processes p ≡ Some z → is_some z.status ≡ false → is_some (stopped_at (run n z.state).state) ≡ true
 
 -- ---- machines
-stands_halts : (s : State) → is_some (stands_at s) ≡ true → (stop : Stop) × (next s ≡ Halts stop)
+stands_halts : (s : State) → is_some (stopped_at s) ≡ true → (stop : Stop) × (next s ≡ Halts stop)
 stands_halts s h = by (next s) refl h
   where
     by : (o : _) → next s ≡ o → is_some (by_step o (λ t. None) (λ stop. Some stop)) ≡ true → (stop : Stop) × (next s ≡ Halts stop)
@@ -46,11 +46,11 @@ stands_halts s h = by (next s) refl h
     by (Halts stop) is k = (stop, is)
 
 -- a machine that stands stays
-stays : (n : ℕ) (s : State) → is_some (stands_at s) ≡ true → (run n s).state ≡ s
+stays : (n : ℕ) (s : State) → is_some (stopped_at s) ≡ true → (run n s).state ≡ s
 stays n s h = let halts = stands_halts s h in run_halted n s halts.0 halts.1
 
 -- where it comes to a stop within n, some instructions before make no difference
-no_matter : (n k : ℕ) (s : State) → is_some (stands_at (run n s).state) ≡ true → (run n (run k s).state).state ≡ (run n s).state
+no_matter : (n k : ℕ) (s : State) → is_some (stopped_at (run n s).state) ≡ true → (run n (run k s).state).state ≡ (run n s).state
 no_matter n k s h =
     sym (run-add k n s)
     ∙ ap (λ (m : ℕ). (run m s).state) (let is : k + n ≡ n + k = omega arith in is)
@@ -61,13 +61,13 @@ no_matter n k s h =
 pub after_run_rested : (n : ℕ) (z : Process) → is_some z.status ≡ false → rested n z ≡ after_run n z
 after_run_rested n z lives = ap (λ (b : Bool). if b then z else after_run n z) lives
 
-rested_after : (n k : ℕ) (z : Process) → is_some z.status ≡ false → is_some (stands_at (run n z.state).state) ≡ true → rested n (after_run k z) ≡ rested n z
+rested_after : (n k : ℕ) (z : Process) → is_some z.status ≡ false → is_some (stopped_at (run n z.state).state) ≡ true → rested n (after_run k z) ≡ rested n z
 rested_after n k z lives h =
     after_run_rested n (after_run k z) lives
     ∙ ap (λ (s : State). record z { state = s }) (no_matter n k z.state h)
     ∙ sym (after_run_rested n z lives)
 
-rested_stands : (n : ℕ) (z : Process) → is_some z.status ≡ false → is_some (stands_at z.state) ≡ true → rested n z ≡ z
+rested_stands : (n : ℕ) (z : Process) → is_some z.status ≡ false → is_some (stopped_at z.state) ≡ true → rested n z ≡ z
 rested_stands n z lives h = after_run_rested n z lives ∙ ap (λ (s : State). record z { state = s }) (stays n z.state h)
 
 pub map_at : (f : Process → Process) (ps : List Process) (p : ℕ) → process_at (map f ps) p ≡ option_map f (process_at ps p)
@@ -150,7 +150,7 @@ turn_at s r n y at lives = rw (at, lives) refl
 turn_ended : (s : SyncState) (r n : ℕ) (y : Process) → process_at s.processes r ≡ Some y → is_some y.status ≡ true → (step s (Turn r n)).state ≡ s
 turn_ended s r n y at ended = rw (at, ended) refl
 
-enter_at : (s : SyncState) (p : ℕ) (z : Process) (e : Effect) → process_at s.processes p ≡ Some z → is_some z.status ≡ false → effect_at (shared s) p z (stands_at z.state) ≡ Some e
+enter_at : (s : SyncState) (p : ℕ) (z : Process) (e : CallEffect) → process_at s.processes p ≡ Some z → is_some z.status ≡ false → effect_at (shared s) p z (stopped_at z.state) ≡ Some e
     → step s (Enter p) ≡ after_effect s p z e e.verdict
 enter_at s p z e at lives is = rw (at, lives, is) refl
 
@@ -209,7 +209,7 @@ module _ (n : ℕ) (s : SyncState) (p : ℕ) (z x : Process) (at : process_at s.
       ∙ ap (λ (ps : List Process). ps ++ map (rested n) ys) (map_put (rested n) s.processes p x ∙ ap (λ (w : Process). put_process rest p w) (after_run_rested n x lives))
 
 -- the state after a reply to process p, where each process has run on
-module _ (n : ℕ) (s : SyncState) (p : ℕ) (z : Process) (e : Effect) (r : Reply) (at : process_at s.processes p ≡ Some z) where
+module _ (n : ℕ) (s : SyncState) (p : ℕ) (z : Process) (e : CallEffect) (r : Reply) (at : process_at s.processes p ≡ Some z) where
   abbrev pub reply_state : SyncState → SyncState
   reply_state t = (after_effect t p z e (Replies r)).state
 
@@ -251,10 +251,10 @@ module _ (n : ℕ) where
       ap (λ (b : Bool). if b then p ∷ (if is_among (Proc k) l.writes then k ∷ [] else []) else (if is_among (Proc k) l.writes then k ∷ [] else [])) own
       ∙ ap (λ (b : Bool). p ∷ (if b then k ∷ [] else [])) made
 
-  module _ (s : Seen) (p : ℕ) (z : Process) (e : Effect) (at : process_at s.sync.processes p ≡ Some z) (lives : is_some z.status ≡ false)
-      (is : effect_at (shared s.sync) p z (stands_at z.state) ≡ Some e) where
-    stopped : is_some (stands_at z.state) ≡ true
-    stopped = by (stands_at z.state) is
+  module _ (s : Seen) (p : ℕ) (z : Process) (e : CallEffect) (at : process_at s.sync.processes p ≡ Some z) (lives : is_some z.status ≡ false)
+      (is : effect_at (shared s.sync) p z (stopped_at z.state) ≡ Some e) where
+    stopped : is_some (stopped_at z.state) ≡ true
+    stopped = by (stopped_at z.state) is
       where
         by : (o : Option Stop) → effect_at (shared s.sync) p z o ≡ Some e → is_some o ≡ true
         by None k = absurd (let none : ⊥ = cc in none)
@@ -267,7 +267,7 @@ module _ (n : ℕ) where
     at_settled = map_at (rested n) s.sync.processes p ∙ ap (option_map (rested n)) at ∙ ap (λ (w : Process). Some w) still
 
     enters : step (settle n s.sync) (Enter p) ≡ after_effect (settle n s.sync) p z e e.verdict
-    enters = enter_at (settle n s.sync) p z e at_settled lives (ap (λ x. effect_at x p z (stands_at z.state)) (shared_same n s.sync) ∙ is)
+    enters = enter_at (settle n s.sync) p z e at_settled lives (ap (λ x. effect_at x p z (stopped_at z.state)) (shared_same n s.sync) ∙ is)
 
     -- the call, where its Turns are those of these processes
     called : (t : Transition) (rs : List ℕ) → step (settle n s.sync) (Enter p) ≡ t → wrote (label_of t.entry) (p ∷ option_to_list (label_of t.entry).child) ≡ rs
@@ -332,11 +332,11 @@ module _ (n : ℕ) where
         where
           going : (b : Bool) → is_some z.status ≡ b → Covers s (seen_after s (Enter p))
           going true is = none_covers s (seen_after s (Enter p)) (ap (λ (t : Transition). seen_by s t) (let same : step s.sync (Enter p) ≡ impossible p s.sync = rw (at, is) refl in same) ∙ nothing)
-          going false is = serving (effect_at (shared s.sync) p z (stands_at z.state)) refl
+          going false is = serving (effect_at (shared s.sync) p z (stopped_at z.state)) refl
             where
-              serving : (o : Option Effect) → effect_at (shared s.sync) p z (stands_at z.state) ≡ o → Covers s (seen_after s (Enter p))
+              serving : (o : Option CallEffect) → effect_at (shared s.sync) p z (stopped_at z.state) ≡ o → Covers s (seen_after s (Enter p))
               serving None no_effect = none_covers s (seen_after s (Enter p)) (ap (λ (t : Transition). seen_by s t) (let same : step s.sync (Enter p) ≡ impossible p s.sync = rw (at, is, no_effect) refl in same) ∙ nothing)
-              serving (Some e) some_effect = enter_covers s p z e at is some_effect e.verdict refl (made e.child (effect_keeps s.sync p z (stands_at z.state) e are some_effect).child)
+              serving (Some e) some_effect = enter_covers s p z e at is some_effect e.verdict refl (made e.child (effect_keeps s.sync p z (stopped_at z.state) e are some_effect).child)
                 where
                   made : (o : Option ℕ) → IfSome o (λ k. (k ≡ length s.sync.processes + 1) × (is_among Tasks e.writes ≡ true) × (is_among (Proc k) e.writes ≡ true))
                       → IfSome o (λ k. (k ≡ length s.sync.processes + 1) × (is_among (Proc k) (Proc p ∷ e.writes) ≡ true))

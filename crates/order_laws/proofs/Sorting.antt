@@ -121,7 +121,7 @@ module _ {S M L : Type 0} (y : System S M L) where
           ap (λ l. y.independent l (y.label (y.go x p.move) d.move)) h.1.0 ∙ ap (λ l. y.independent p.label l) h.0 ∙ (goes d p past is).independent in
           let rest = same d past (law.before x p.move d.move (stays past) independent ∙ h.0, h.1.1) in
           record {
-            history = (ap (λ z. y.label z p.move) rest.ends ∙ law.behind x p.move d.move (stays past) independent ∙ h.1.0, rest.history);
+            history = (ap (λ z. y.label z p.move) rest.ends ∙ law.afterwards x p.move d.move (stays past) independent ∙ h.1.0, rest.history);
             ends = ap (λ z. y.go z p.move) rest.ends ∙ law.same x p.move d.move (stays past) independent;
           }
     ] refl

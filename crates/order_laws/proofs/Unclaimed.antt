@@ -12,7 +12,7 @@ use Rattle.machine_model.specs.declared.stop.Stop.TheVariants.{Limit, Call, Trap
 use Rattle.image_model.specs.declared.fault.ElfFault.{ElfFault}
 use Rattle.image_model.specs.Checks.{first_fault}
 use Rattle.kernel_model.specs.Requests.{most_bytes, request_of}
-use Rattle.kernel_model.specs.Rows.{Effect, only, looking_at, Directory, directory, number_named, is_bad_length, row_seek, row_unlink, unlink_named, unlink_file, row_rename, rename_read, rename_file, loser_carriers, row_exec, exec_named, exec_file, exec_found, exec_image, EndedChild, carrier_of, ends_of, row, row_end, row_write, may_write, write_read, write_to, write_pipe, row_read, may_read, read_from, read_file, read_tape, read_pipe, row_close, row_open, open_named, open_free, open_file, row_pipe, pipe_free, row_fork, row_wait, wait_ended, first_ended, free_descriptor, free_after, descriptor_at, most_pipes, most_processes, pipe_size}
+use Rattle.kernel_model.specs.Rows.{CallEffect, only, looking_at, Directory, directory, number_named, is_bad_length, row_seek, row_unlink, unlink_named, unlink_file, row_rename, rename_read, rename_file, loser_carriers, row_exec, exec_named, exec_file, exec_found, exec_image, EndedChild, carrier_of, ends_of, row, row_end, row_write, may_write, write_read, write_to, write_pipe, row_read, may_read, read_from, read_file, read_tape, read_pipe, row_close, row_open, open_named, open_free, open_file, row_pipe, pipe_free, row_fork, row_wait, wait_ended, first_ended, free_descriptor, free_after, descriptor_at, most_pipes, most_processes, pipe_size}
 use Rattle.kernel_model.specs.State.{Process, Shared, PipeState, TapeState, unread}
 use Rattle.kernel_model.specs.Steps.{effect_at}
 use Rattle.kernel_model.specs.declared.carrier.Carrier.{Carrier}
@@ -38,7 +38,7 @@ module _ (c : Claim) where
   AreFree cs = AllByRecursion (λ (x : Carrier). is_claimed c x ≡ false) cs
 
   -- an effect reads nothing that is claimed, writes to no such terminal, and gives no descriptor of it
-  pub record IsClear (e : Effect) : Type 0 where
+  pub record IsClear (e : CallEffect) : Type 0 where
     pub reads : AreFree e.reads
     pub output : is_claimed_output c e.output ≡ false
     pub slots : AllByRecursion (λ (slot : Slot). stands_for_claimed c slot.holds ≡ false) e.slots
@@ -46,11 +46,11 @@ module _ (c : Claim) where
   none : (v : Verdict) → IsClear (only v)
   none v = record { reads = tt; output = refl; slots = tt }
 
-  either : (b : Bool) (x y : Effect) → IsClear x → IsClear y → IsClear (if b then x else y)
+  either : (b : Bool) (x y : CallEffect) → IsClear x → IsClear y → IsClear (if b then x else y)
   either true x y f g = f
   either false x y f g = g
 
-  look : (d : Option Descriptor) (e : Effect) → IsClear e → IsClear (looking_at d e)
+  look : (d : Option Descriptor) (e : CallEffect) → IsClear e → IsClear (looking_at d e)
   look None e h = h
   look (Some (descriptor.Tape t)) e h = h
   look (Some (descriptor.Terminal t)) e h = h
@@ -252,9 +252,9 @@ module _ (c : Claim) where
   row_clear s p ds children (request.Exec n name) pipes next hs hc = row_exec_clear s.files n name
   row_clear s p ds children request.Unknown pipes next hs hc = none _
 
-  pub effect_clear : (s : Shared) (pid : ℕ) (z : Process) (stop : Option Stop) (e : Effect) → c.pipes (length s.pipes) ≡ false → (length s.statuses + 1 == c.owner) ≡ false
+  pub effect_clear : (s : Shared) (pid : ℕ) (z : Process) (stop : Option Stop) (e : CallEffect) → c.pipes (length s.pipes) ≡ false → (length s.statuses + 1 == c.owner) ≡ false
       → NoneClaimed z.descriptors → AllByRecursion (λ (q : ℕ). (q == c.owner) ≡ false) z.children → effect_at s pid z stop ≡ Some e → IsClear e
-  effect_clear s pid z stop e pipes next hs hc is = subst (λ (o : Option Effect). IfSome o IsClear) is (by stop)
+  effect_clear s pid z stop e pipes next hs hc is = subst (λ (o : Option CallEffect). IfSome o IsClear) is (by stop)
     where
       by : (stop : Option Stop) → IfSome (effect_at s pid z stop) IsClear
       by (Some Call) = row_clear s pid z.descriptors z.children (request_of z.state) pipes next hs hc

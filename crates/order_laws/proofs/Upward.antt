@@ -6,13 +6,13 @@ use Rattle.std.proofs.lemmas.Bool.{false≢true, eqb-true}
 use Rattle.disk_model.proofs.Lists.{each_more}
 use Rattle.machine_model.specs.Images.{Program}
 use Rattle.machine_model.specs.Replies.{replied, replied_by}
-use Rattle.machine_model.specs.States.{State, Goes, Halts, next, run, stands_at}
+use Rattle.machine_model.specs.States.{State, Goes, Halts, next, run, stopped_at}
 use Rattle.machine_model.specs.declared.reply.Reply.{Reply}
 use Rattle.machine_model.specs.declared.stop.Stop.{Stop}
 use Rattle.machine_model.proofs.Running.{next-count}
 use Rattle.kernel_model.specs.Entries.{is_among}
 use Rattle.kernel_model.specs.Limits.{AreNumbered}
-use Rattle.kernel_model.specs.Rows.{Effect}
+use Rattle.kernel_model.specs.Rows.{CallEffect}
 use Rattle.kernel_model.specs.Shown.{bytes_for}
 use Rattle.kernel_model.specs.State.{SyncState, Process, shared, process_at, put_process, with_process}
 use Rattle.kernel_model.specs.Steps.{Transition, impossible, own_entry, after_turn, after_run, after_reply, after_end, after_effect, after_effect_if, after_enter, effect_at, forked, step}
@@ -39,7 +39,7 @@ use Rattle.order_laws.proofs.Swapping.{at_one}
 pub record IsBelow (s t : Seen) : Type 0 where
   pub files : t.sync.files ≡ s.sync.files
   pub texts : (k : ℕ) → IsBeginningOf (s.texts k) (t.texts k)
-  pub stuck : (p : ℕ) (z : Process) → process_at s.sync.processes p ≡ Some z → is_some (stands_at z.state) ≡ false → process_at t.sync.processes p ≡ Some z
+  pub stuck : (p : ℕ) (z : Process) → process_at s.sync.processes p ≡ Some z → is_some (stopped_at z.state) ≡ false → process_at t.sync.processes p ≡ Some z
 
 pub begins_through : (xs ys zs : List ℕ) → IsBeginningOf xs ys → IsBeginningOf ys zs → IsBeginningOf xs zs
 begins_through xs ys zs a b = record { rest = a.rest ++ b.rest; is = b.is ∙ ap (λ us. us ++ b.rest) a.is ∙ append_assoc xs a.rest b.rest }
@@ -50,28 +50,28 @@ module _ (s : SyncState) (p : ℕ) where
   abbrev IfWorks : (SyncState → Type 0) → Transition → Type 0
   IfWorks Q t = writes_some (label_of t.entry) ≡ true → Q t.state
 
-  caller : (Q : SyncState → Type 0) → ((z : Process) (e : Effect) → process_at s.processes p ≡ Some z → is_some z.status ≡ false → effect_at (shared s) p z (stands_at z.state) ≡ Some e
+  caller : (Q : SyncState → Type 0) → ((z : Process) (e : CallEffect) → process_at s.processes p ≡ Some z → is_some z.status ≡ false → effect_at (shared s) p z (stopped_at z.state) ≡ Some e
       → IfWorks Q (after_effect s p z e e.verdict)) → IfWorks Q (step s (Enter p))
   caller Q of = found (process_at s.processes p) refl
     where
-      effected : (z : Process) → process_at s.processes p ≡ Some z → is_some z.status ≡ false → (o : Option Effect) → effect_at (shared s) p z (stands_at z.state) ≡ o → IfWorks Q (after_effect_if s p z o)
+      effected : (z : Process) → process_at s.processes p ≡ Some z → is_some z.status ≡ false → (o : Option CallEffect) → effect_at (shared s) p z (stopped_at z.state) ≡ o → IfWorks Q (after_effect_if s p z o)
       effected z at lives None is h = absurd (false≢true h)
       effected z at lives (Some e) is h = of z e at lives is h
 
       living : (z : Process) → process_at s.processes p ≡ Some z → (b : Bool) → is_some z.status ≡ b
-          → IfWorks Q (if b then impossible p s else after_effect_if s p z (effect_at (shared s) p z (stands_at z.state)))
+          → IfWorks Q (if b then impossible p s else after_effect_if s p z (effect_at (shared s) p z (stopped_at z.state)))
       living z at true ended h = absurd (false≢true h)
-      living z at false lives h = effected z at lives (effect_at (shared s) p z (stands_at z.state)) refl h
+      living z at false lives h = effected z at lives (effect_at (shared s) p z (stopped_at z.state)) refl h
 
       found : (o : Option Process) → process_at s.processes p ≡ o → IfWorks Q (after_enter s p o)
       found None at h = absurd (false≢true h)
       found (Some z) at h = living z at (is_some z.status) refl h
 
-  caller_stands : (z : Process) → process_at s.processes p ≡ Some z → writes_some (label_of (step s (Enter p)).entry) ≡ true → is_some (stands_at z.state) ≡ true
-  caller_stands z at = caller (λ t. is_some (stands_at z.state) ≡ true) (λ x e there lives is h.
-      let same : x ≡ z = cc in subst (λ (y : Process). is_some (stands_at y.state) ≡ true) same (stands x e (stands_at x.state) is))
+  caller_stands : (z : Process) → process_at s.processes p ≡ Some z → writes_some (label_of (step s (Enter p)).entry) ≡ true → is_some (stopped_at z.state) ≡ true
+  caller_stands z at = caller (λ t. is_some (stopped_at z.state) ≡ true) (λ x e there lives is h.
+      let same : x ≡ z = cc in subst (λ (y : Process). is_some (stopped_at y.state) ≡ true) same (stands x e (stopped_at x.state) is))
     where
-      stands : (x : Process) (e : Effect) (o : Option Stop) → effect_at (shared s) p x o ≡ Some e → is_some o ≡ true
+      stands : (x : Process) (e : CallEffect) (o : Option Stop) → effect_at (shared s) p x o ≡ Some e → is_some o ≡ true
       stands x e None is = absurd (let none : ⊥ = cc in none)
       stands x e (Some stop) is = refl
 
@@ -235,7 +235,7 @@ call_counts s p = caller s p (λ t. total s.processes + 1 ≤ total t.processes)
     alive : (z : Process) → is_some z.status ≡ false → weight z ≡ z.state.count
     alive z lives = let none : one_if (is_some z.status) ≡ 0 = ap one_if lives in omega (arith, none)
 
-    by : (z : Process) (e : Effect) → process_at s.processes p ≡ Some z → is_some z.status ≡ false → (v : Verdict)
+    by : (z : Process) (e : CallEffect) → process_at s.processes p ≡ Some z → is_some z.status ≡ false → (v : Verdict)
         → writes_some (label_of (after_effect s p z e v).entry) ≡ true → total s.processes + 1 ≤ total (after_effect s p z e v).state.processes
     by z e at lives Waits h = absurd (false≢true h)
     by z e at lives (Replies r) h =

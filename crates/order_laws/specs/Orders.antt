@@ -21,7 +21,7 @@ pub record Commutes {S M L : Type 0} (y : System S M L) (P : S → Type 0) : Typ
   pub keeps : (s : S) (m : M) → P s → P (y.go s m)
   pub idle : (s : S) (m : M) → P s → y.works (y.label s m) ≡ false → y.go s m ≡ s
   pub before : (s : S) (m n : M) → P s → y.independent (y.label s m) (y.label (y.go s m) n) ≡ true → y.label s n ≡ y.label (y.go s m) n
-  pub behind : (s : S) (m n : M) → P s → y.independent (y.label s m) (y.label (y.go s m) n) ≡ true → y.label (y.go s n) m ≡ y.label s m
+  pub afterwards : (s : S) (m n : M) → P s → y.independent (y.label s m) (y.label (y.go s m) n) ≡ true → y.label (y.go s n) m ≡ y.label s m
   pub same : (s : S) (m n : M) → P s → y.independent (y.label s m) (y.label (y.go s m) n) ≡ true → y.go (y.go s n) m ≡ y.go (y.go s m) n
 
 -- ---- one order for all that come to the same

@@ -2,7 +2,7 @@
 use Rattle.std.specs.Prelude.{◌≡◌, ℕ, Bool, true, false, if◌then◌else◌, List, map, take, Some, is_some}
 use Rattle.std.specs.List.{Contains}
 use Rattle.disk_model.specs.Files.{files_after}
-use Rattle.machine_model.specs.States.{stands_at}
+use Rattle.machine_model.specs.States.{stopped_at}
 use Rattle.kernel_model.specs.Paths.{changes_in_log}
 use Rattle.kernel_model.specs.Shown.{printed, shown}
 use Rattle.kernel_model.specs.State.{Process, process_at}
@@ -43,7 +43,7 @@ WasFound found s = (f : Found Seen) × Contains found f × (f.state ≡ s)
 -- each process of each state that was found stands at a call or a trap, or has ended
 abbrev pub AllStand : List (Found Seen) → Type 0
 AllStand found = (f : Found Seen) → Contains found f → (p : ℕ) (z : Process) → process_at f.state.sync.processes p ≡ Some z → is_some z.status ≡ false
-    → is_some (stands_at z.state) ≡ true
+    → is_some (stopped_at z.state) ≡ true
 
 -- What was found holds the outcomes of the run of these events, whatever they are.
 pub record HasOutcomes (n : ℕ) (b : Boot) (found : List (Found Seen)) (es : List Event) : Type 0 where

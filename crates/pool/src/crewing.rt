@@ -6,7 +6,7 @@ use crate::fault::CrewFault;
 use crate::seats::Seat;
 use crate::turning::Pooled;
 use bursts::{Gate, Naming, Rejected, WorkFault};
-use idle::Rest;
+use idle::Backoff;
 use std::slice::IterMut;
 use std::sync::atomic::{AtomicBool, Ordering};
 use std::sync::{Mutex, Wait};
@@ -204,7 +204,7 @@ fn work_on<N: Naming, G: Gate, R: Wait>(
 ) -> Option<WorkFault>
     ensures { WorksUntil quantum seat.old seat.new result }
 {
-    let mut rest = Rest::up_to(MOST_PAUSES);
+    let mut rest = Backoff::up_to(MOST_PAUSES);
     for _ in rt.forever() {
         if rest.is_asleep() && !seat.is_lock_free() {
             rest.take(rt);

@@ -6,7 +6,7 @@ use Rattle.std.proofs.lemmas.List.{map-set, map-append, append-nil}
 use Rattle.std.proofs.lemmas.Bool.Decides.{nat_tests}
 use Rattle.std.proofs.lemmas.Option.{slice_get-map}
 use Rattle.machine_model.specs.declared.reply.Reply.{Reply}
-use Rattle.kernel_model.specs.Rows.{Effect, most_processes, row_fork}
+use Rattle.kernel_model.specs.Rows.{CallEffect, most_processes, row_fork}
 use Rattle.kernel_model.specs.State.{Process, process_at, put_process}
 use Rattle.kernel_model.specs.Steps.{after_reply, children_after, is_collected, forked, set_slots}
 use Rattle.kernel_model.specs.declared.descriptor.Descriptor.{Descriptor}
@@ -26,20 +26,20 @@ kept-none [] = refl
 kept-none (child ∷ children) = ap (λ (cs : List ℕ). child ∷ cs) (kept-none children)
 
 -- the children after a call that makes none
-children_after-none : (children : List ℕ) (e : Effect) (collects : Option ℕ) → e.collects ≡ collects → e.child ≡ None
+children_after-none : (children : List ℕ) (e : CallEffect) (collects : Option ℕ) → e.collects ≡ collects → e.child ≡ None
     → filter (λ (child : ℕ). not (is_collected collects child)) children ≡ children_after children e
 children_after-none children e collects same none =
     rw (none, same) (sym (append-nil (filter (λ (child : ℕ). not (is_collected collects child)) children)))
 
 -- a call that edits descriptors alone
-pub part_of-slots : (p : Process) (e : Effect) (r : Reply) (slots : List Slot) → p.status ≡ None → e.slots ≡ slots → e.collects ≡ None → e.child ≡ None
+pub part_of-slots : (p : Process) (e : CallEffect) (r : Reply) (slots : List Slot) → p.status ≡ None → e.slots ≡ slots → e.collects ≡ None → e.child ≡ None
     → with_slots slots (part_of p) ≡ part_of (after_reply p e r)
 part_of-slots p e r slots lives edits collects none =
     same_part (with_slots slots (part_of p)) (part_of (after_reply p e r)) (ap (λ (ss : List Slot). set_slots p.descriptors ss) (sym edits))
     (sym (kept-none p.children) ∙ children_after-none p.children e None collects none) lives
 
 -- a call that collects a child
-pub part_of-collects : (p : Process) (e : Effect) (r : Reply) (child : ℕ) → p.status ≡ None → e.slots ≡ [] → e.collects ≡ Some child → e.child ≡ None
+pub part_of-collects : (p : Process) (e : CallEffect) (r : Reply) (child : ℕ) → p.status ≡ None → e.slots ≡ [] → e.collects ≡ Some child → e.child ≡ None
     → without_child child (part_of p) ≡ part_of (after_reply p e r)
 part_of-collects p e r child lives edits collects none =
     same_part (without_child child (part_of p)) (part_of (after_reply p e r)) (ap (λ (ss : List Slot). set_slots p.descriptors ss) (sym edits))

@@ -2,7 +2,7 @@
 ghost use Rattle.std.specs.Prelude.{◌≡◌, ◌+◌, ◌<◌, ◌≤◌, ◌++◌, ◌∷◌, [], List, length, map, OnOk, OnErr, IfSome, Some, None};
 ghost use Rattle.std.specs.Option.{option_copied, option_map};
 ghost use Rattle.machine_model.specs.declared.reply.Reply.{Reply};
-ghost use Rattle.kernel_model.specs.Rows.{Effect, descriptor_at, first_ended, most_processes, row_fork, status_in};
+ghost use Rattle.kernel_model.specs.Rows.{CallEffect, descriptor_at, first_ended, most_processes, row_fork, status_in};
 ghost use Rattle.kernel_model.specs.State.{Process, process_at, put_process};
 ghost use Rattle.kernel_model.specs.Steps.{after_end, after_reply, forked};
 ghost use Rattle.processes.specs.Parts.{Part, part_of, part_at, place_in, with_part, descriptors_in, children_in, statuses_of, boot_part, with_slots, without_child, ended_part, after_fork};
@@ -160,7 +160,7 @@ impl ProcTable {
     /// process.
     pub fn set(&mut self, pid: u32, slot: Slot)
         ensures exact { self.new.parts ≡ with_part self.old.parts pid (part_at self.old.parts pid) (with_slots (slot ∷ [])) }
-        ensures replied { (ps : List Process) (p : Process) (e : Effect) (r : Reply) → self.old.parts ≡ map part_of ps
+        ensures replied { (ps : List Process) (p : Process) (e : CallEffect) (r : Reply) → self.old.parts ≡ map part_of ps
             → process_at ps pid ≡ Some p → p.status ≡ None → e.slots ≡ slot ∷ [] → e.collects ≡ None → e.child ≡ None
             → self.new.parts ≡ map part_of (put_process ps pid (after_reply p e r)) }
     {
@@ -186,7 +186,7 @@ impl ProcTable {
     /// Takes a child off those that a process has left to collect.
     pub fn collect(&mut self, pid: u32, child: u32)
         ensures exact { self.new.parts ≡ with_part self.old.parts pid (part_at self.old.parts pid) (without_child child) }
-        ensures replied { (ps : List Process) (p : Process) (e : Effect) (r : Reply) → self.old.parts ≡ map part_of ps
+        ensures replied { (ps : List Process) (p : Process) (e : CallEffect) (r : Reply) → self.old.parts ≡ map part_of ps
             → process_at ps pid ≡ Some p → p.status ≡ None → e.slots ≡ [] → e.collects ≡ Some child → e.child ≡ None
             → self.new.parts ≡ map part_of (put_process ps pid (after_reply p e r)) }
     {

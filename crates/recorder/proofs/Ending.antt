@@ -3,7 +3,7 @@ use Rattle.std.proofs.Common.{◌≡◌, ℕ, zero, suc, ◌+◌, ◌≤◌, ◌
 use Rattle.kernel_model.specs.Answers.{Kernel, changes, committed, has_ended, now, process_of}
 use Rattle.kernel_model.specs.Drains.{IsAllCommitted}
 use Rattle.kernel_model.specs.Entries.{Entry, Item, Got, End}
-use Rattle.kernel_model.specs.Rows.{Effect}
+use Rattle.kernel_model.specs.Rows.{CallEffect}
 use Rattle.kernel_model.specs.Shown.{Given, end_in, given_by, handed, is_made, items_for, told}
 use Rattle.kernel_model.specs.State.{Process, SyncState, process_at, put_process}
 use Rattle.kernel_model.specs.Steps.{Transition, after_effect, after_end, after_reply, after_run, forked, impossible, step, unchanged, zero_reply}
@@ -122,7 +122,7 @@ not-made : (count p child : ℕ) → child ≡ count + 1 → p ≤ count → is_
 not-made count p child next le = ne_eqb child p (λ (same : child ≡ p). omega arith)
 
 -- a reply that makes a process, which is told what its parent was, and 0
-fork-ends : (before : ℕ → List Item) (s : SyncState) (pid child : ℕ) (x : Process) (e : Effect) (r : Reply) → HasEnds before s.processes
+fork-ends : (before : ℕ → List Item) (s : SyncState) (pid child : ℕ) (x : Process) (e : CallEffect) (r : Reply) → HasEnds before s.processes
     → process_at s.processes pid ≡ Some x → x.status ≡ None → e.child ≡ Some child → child ≡ length s.processes + 1
     → KeepsEnds before (after_effect s pid x e (Replies r))
 fork-ends before s pid child x e r h there runs made next p y at = by (process_at (put_process s.processes pid (after_reply x e r)) p) refl
@@ -161,7 +161,7 @@ fork-ends before s pid child x e r h there runs made next p y at = by (process_a
         h there refl refl refl (sym (end-got (before pid) r ∙ parent)) p y (was ∙ ap (λ (z : Process). Some z) one)
         ∙ sym (told false none)
 
-reply-ends : (before : ℕ → List Item) (s : SyncState) (pid : ℕ) (x : Process) (e : Effect) (r : Reply) (o : Option ℕ) → HasEnds before s.processes
+reply-ends : (before : ℕ → List Item) (s : SyncState) (pid : ℕ) (x : Process) (e : CallEffect) (r : Reply) (o : Option ℕ) → HasEnds before s.processes
     → process_at s.processes pid ≡ Some x → x.status ≡ None → e.child ≡ o → IsNoneOrNextProcess (length s.processes) o
     → KeepsEnds before (after_effect s pid x e (Replies r))
 reply-ends before s pid x e r None h there runs made next =
@@ -170,13 +170,13 @@ reply-ends before s pid x e r None h there runs made next =
     refl made (sym (end-got (before pid) r ∙ sym (h pid x there) ∙ runs))
 reply-ends before s pid x e r (Some child) h there runs made next = fork-ends before s pid child x e r h there runs made next.0
 
-end-ends : (before : ℕ → List Item) (s : SyncState) (pid : ℕ) (x : Process) (e : Effect) (status : ℕ) → HasEnds before s.processes
+end-ends : (before : ℕ → List Item) (s : SyncState) (pid : ℕ) (x : Process) (e : CallEffect) (status : ℕ) → HasEnds before s.processes
     → process_at s.processes pid ≡ Some x → x.status ≡ None → KeepsEnds before (after_effect s pid x e (Ends status))
 end-ends before s pid x e status h there runs =
     put-ends before s.processes (after_effect s pid x e (Ends status)) pid x (after_end x status) h there refl refl refl
     (sym (end-last (before pid) status (sym (h pid x there) ∙ runs)))
 
-effect-ends : (before : ℕ → List Item) (s : SyncState) (pid : ℕ) (x : Process) (e : Effect) (v : Verdict) → HasEnds before s.processes
+effect-ends : (before : ℕ → List Item) (s : SyncState) (pid : ℕ) (x : Process) (e : CallEffect) (v : Verdict) → HasEnds before s.processes
     → process_at s.processes pid ≡ Some x → x.status ≡ None → IsNoneOrNextProcess (length s.processes) e.child → KeepsEnds before (after_effect s pid x e v)
 effect-ends before s pid x e Waits h there runs next = still-ends before s.processes (after_effect s pid x e Waits) h refl refl refl
 effect-ends before s pid x e (Replies r) h there runs next = reply-ends before s pid x e r e.child h there runs refl next

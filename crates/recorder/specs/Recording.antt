@@ -57,8 +57,8 @@ Lengthens old new process =
     is_some (process_of old process) ≡ true → (more : List Reply) × (trace_of new process ≡ trace_of old process ++ more)
 
 -- no process is lendable, and one is out on loan: else the core would rest
-abbrev pub StandsStill : Kernel → Type 0
-StandsStill k = (pick k quantum ≡ None) × (is_over k quantum ≡ false)
+abbrev pub AwaitsLoans : Kernel → Type 0
+AwaitsLoans k = (pick k quantum ≡ None) × (is_over k quantum ≡ false)
 
 -- What a recorder finds that was one and is now another, by how many replies were taken before. The replies are exactly those of the
 -- trace that were not taken, and at least one. An end or a wait is found only where each reply was taken.
@@ -123,7 +123,7 @@ GoesNoFurther r refused.Budget = (Rests r.kernel × (standing_of r.kernel r.proc
 GoesNoFurther r refused.DiskFailed = HasNoFailure (now r.kernel) → ⊥
 GoesNoFurther r refused.OutOfMemory = Unit {0}
 GoesNoFurther r refused.NoProcess = (process_of r.kernel r.process ≡ None) × Rests r.kernel
-GoesNoFurther r refused.Lent = StandsStill r.kernel
+GoesNoFurther r refused.Lent = AwaitsLoans r.kernel
 GoesNoFurther r refused.Ended = ⊥
 GoesNoFurther r refused.NotStopped = ⊥
 GoesNoFurther r refused.GroupInFlight = ⊥

@@ -2,10 +2,10 @@
 ghost use Rattle.std.specs.Prelude.{◌≡◌, option_map};
 ghost use Rattle.run_threads.specs.Committing.{CompletesFirst, Completes, TellsNothing, DoesStages};
 
+use crate::backoff::Backoff;
 use crate::board_reader::BoardReader;
 use crate::fault::RunFault;
 use crate::locked_core::LockedCore;
-use crate::rest::Rest;
 use crate::watch::Watch;
 use bursts::Naming;
 use durable_disk::{Completions, DiskFile, commit_stage, tell_end};
@@ -128,7 +128,7 @@ impl<'r, 'a, 'b, 'c, N: Naming, R: Wait, F: DiskFile> CommitThread<'r, 'a, 'b, '
     pub fn serve<W: Wait>(&mut self, rt: &W, watch: &Watch)
         ensures { DoesStages self.old self.new }
     {
-        let mut rest = Rest::new();
+        let mut rest = Backoff::new();
         for _ in rt.forever() {
             if watch.is_over() {
                 return;

@@ -4,11 +4,11 @@
 //! but by stages. Of the others only safety is proved.
 #![tactic(auto)]
 
+mod backoff;
 mod board_reader;
 mod committing;
 mod fault;
 mod locked_core;
-mod rest;
 mod screen;
 mod transcript;
 mod watch;

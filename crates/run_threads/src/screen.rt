@@ -2,8 +2,8 @@
 ghost use Rattle.std.specs.Prelude.{◌<◌, IfSome};
 ghost use Rattle.kernel_model.specs.World.{terminal_count};
 
+use crate::backoff::Backoff;
 use crate::fault::RunFault;
-use crate::rest::Rest;
 use crate::transcript::Transcript;
 use crate::watch::Watch;
 use bursts::{Bench, Naming};
@@ -72,7 +72,7 @@ impl<'o, O: Write> Screen<'o, O> {
         bench: &Mutex<Bench<'_, N>>,
         watch: &Watch,
     ) {
-        let mut rest = Rest::new();
+        let mut rest = Backoff::new();
         for _ in rt.forever() {
             let is_over = watch.is_over();
             match self.refresh(rt, alloc, bench) {

@@ -17,27 +17,27 @@ use Rattle.assembler.specs.Listed.{AreListed, IsListedFirst}
 use Rattle.assembler.specs.Instructions.{AreInstructions, IsListedInstruction, ListsInstructions, instructions_of}
 use Rattle.asm_statements.specs.declared.mnemonic.Mnemonic.{Mnemonic}
 use Rattle.asm_statements.specs.declared.operands.Operands.{Operands}
-use Rattle.assembler.specs.declared.listing.Row.{Row}
+use Rattle.assembler.specs.declared.listing.ListingRow.{ListingRow}
 use Rattle.source_laws.specs.Loaded.{IsFetched, AreFetched, FetchesInstructions}
 
 -- ---- a word that stands in a memory is fetched
 
 -- bytes stand in a memory one after the other from an address on, with these rights
-abbrev Stands : Memory → Rights → ℕ → List ℕ → Type 0
-Stands memory rights at [] = Unit {0}
-Stands memory rights at (b ∷ bytes) = (get memory at ≡ Some (cell_with rights b)) × Stands memory rights (at + 1) bytes
+abbrev HasBytes : Memory → Rights → ℕ → List ℕ → Type 0
+HasBytes memory rights at [] = Unit {0}
+HasBytes memory rights at (b ∷ bytes) = (get memory at ≡ Some (cell_with rights b)) × HasBytes memory rights (at + 1) bytes
 
 -- each byte stands at its own address
-abbrev EachStands : Memory → Rights → ℕ → List ℕ → Type 0
-EachStands memory rights at bytes = (k : ℕ) → k < length bytes → get memory (at + k) ≡ Some (cell_with rights (slice_index bytes k))
+abbrev EachHasByte : Memory → Rights → ℕ → List ℕ → Type 0
+EachHasByte memory rights at bytes = (k : ℕ) → k < length bytes → get memory (at + k) ≡ Some (cell_with rights (slice_index bytes k))
 
-each-next : (memory : Memory) (rights : Rights) (at b : ℕ) (bytes : List ℕ) → EachStands memory rights at (b ∷ bytes) → EachStands memory rights (at + 1) bytes
+each-next : (memory : Memory) (rights : Rights) (at b : ℕ) (bytes : List ℕ) → EachHasByte memory rights at (b ∷ bytes) → EachHasByte memory rights (at + 1) bytes
 each-next memory rights at b bytes each k below =
     let place : at + suc k ≡ at + 1 + k = omega arith in
     let inside : suc k < length (b ∷ bytes) = omega (arith, below) in
     subst (λ (n : ℕ). get memory n ≡ Some (cell_with rights (slice_index bytes k))) place (each (suc k) inside)
 
-stands-each : (memory : Memory) (rights : Rights) (bytes : List ℕ) (at : ℕ) → EachStands memory rights at bytes → Stands memory rights at bytes
+stands-each : (memory : Memory) (rights : Rights) (bytes : List ℕ) (at : ℕ) → EachHasByte memory rights at bytes → HasBytes memory rights at bytes
 stands-each memory rights [] at each = tt
 stands-each memory rights (b ∷ bytes) at each =
     let place : at + 0 ≡ at = omega arith in
@@ -45,7 +45,7 @@ stands-each memory rights (b ∷ bytes) at each =
     (subst (λ (n : ℕ). get memory n ≡ Some (cell_with rights b)) place (each 0 inside), stands-each memory rights bytes (at + 1) (each-next memory rights at b bytes each))
 
 -- the bytes of a number may be executed
-no-fault : (memory : Memory) (rights : Rights) (n value : ℕ) (rest : List ℕ) (at : ℕ) → rights.execute ≡ true → Stands memory rights at (low_bytes n value ++ rest) → range_fault to_execute memory at n ≡ None
+no-fault : (memory : Memory) (rights : Rights) (n value : ℕ) (rest : List ℕ) (at : ℕ) → rights.execute ≡ true → HasBytes memory rights at (low_bytes n value ++ rest) → range_fault to_execute memory at n ≡ None
 no-fault memory rights zero value rest at right stands = refl
 no-fault memory rights (suc n) value rest at right stands =
     ap (λ (c : Option Cell). fault_at to_execute c (range_fault to_execute memory (at + 1) n)) stands.0
@@ -64,14 +64,14 @@ joined : (value : ℕ) → value % 2 ^ 8 + 2 ^ 8 * (value / 2 ^ 8) ≡ value
 joined value = omega arith
 
 -- and spell it
-spells : (memory : Memory) (rights : Rights) (n value : ℕ) (rest : List ℕ) (at : ℕ) → value < bytes_end n → Stands memory rights at (low_bytes n value ++ rest) → value_at memory at n ≡ value
+spells : (memory : Memory) (rights : Rights) (n value : ℕ) (rest : List ℕ) (at : ℕ) → value < bytes_end n → HasBytes memory rights at (low_bytes n value ++ rest) → value_at memory at n ≡ value
 spells memory rights zero value rest at small stands = let none : value < 1 = small in omega (arith, none)
 spells memory rights (suc n) value rest at small stands =
     ap (λ (c : Option Cell). byte_of c + 2 ^ 8 * value_at memory (at + 1) n) stands.0
     ∙ ap (λ (m : ℕ). value % 2 ^ 8 + 2 ^ 8 * m) (spells memory rights n (value / 2 ^ 8) rest (at + 1) (shorter value (bytes_end n) small) stands.1)
     ∙ joined value
 
-word-fetched : (memory : Memory) (rights : Rights) (at word : ℕ) (rest : List ℕ) → rights.execute ≡ true → at % 4 ≡ 0 → word < 2 ^ 32 → Stands memory rights at (low_bytes 4 word ++ rest) → fetched memory at ≡ Ok word
+word-fetched : (memory : Memory) (rights : Rights) (at word : ℕ) (rest : List ℕ) → rights.execute ≡ true → at % 4 ≡ 0 → word < 2 ^ 32 → HasBytes memory rights at (low_bytes 4 word ++ rest) → fetched memory at ≡ Ok word
 word-fetched memory rights at word rest right aligned small stands =
     let access : access_fault to_execute memory at Word ≡ None =
     ap (λ (n : ℕ). if n == 0 then range_fault to_execute memory at 4 else Some Misaligned) aligned ∙ no-fault memory rights 4 word rest at right stands in
@@ -79,16 +79,16 @@ word-fetched memory rights at word rest right aligned small stands =
 
 -- ---- the rows of a listing
 
-abbrev IsWord : Row → Type 0
+abbrev IsWord : ListingRow → Type 0
 IsWord row = row.word < 2 ^ 32
 
-rows-fetched : (memory : Memory) (rights : Rights) (rows : List Row) (at : ℕ) (bytes : List ℕ) → rights.execute ≡ true → at % 4 ≡ 0 → All IsWord rows → AreListed at bytes rows → Stands memory rights at bytes → All (IsFetched memory) rows
+rows-fetched : (memory : Memory) (rights : Rights) (rows : List ListingRow) (at : ℕ) (bytes : List ℕ) → rights.execute ≡ true → at % 4 ≡ 0 → All IsWord rows → AreListed at bytes rows → HasBytes memory rights at bytes → All (IsFetched memory) rows
 rows-fetched memory rights [] at bytes right aligned small listed stands = All-nil (IsFetched memory)
 rows-fetched memory rights (row ∷ rows) at bytes right aligned small listed stands =
     let rest : List ℕ = listed.0 in
-    let here : Stands memory rights at (low_bytes 4 row.word ++ rest) = subst (λ (x : List ℕ). Stands memory rights at x) listed.1 stands in
+    let here : HasBytes memory rights at (low_bytes 4 row.word ++ rest) = subst (λ (x : List ℕ). HasBytes memory rights at x) listed.1 stands in
     let next : at + 1 + 1 + 1 + 1 ≡ at + 4 = omega arith in
-    let further : Stands memory rights (at + 4) rest = subst (λ (n : ℕ). Stands memory rights n rest) next here.1.1.1.1 in
+    let further : HasBytes memory rights (at + 4) rest = subst (λ (n : ℕ). HasBytes memory rights n rest) next here.1.1.1.1 in
     let aligned_next : (at + 4) % 4 ≡ 0 = omega (arith, aligned) in
     All-cons (IsFetched memory) row rows
     (ap (λ (n : ℕ). fetched memory n) listed.2 ∙ word-fetched memory rights at row.word rest right aligned (All-head IsWord row rows small) here)
@@ -99,12 +99,12 @@ abbrev IsLoaded : Memory → Segment → Type 0
 IsLoaded memory s = (k : ℕ) → k < s.memsz → get memory (s.vaddr + k) ≡ Some (cell_with s.rights (slice_index s.bytes k))
 
 -- the rows of an image whose first segment is text
-pub text-fetched : (memory : Memory) (segments : List Segment) (listing : List Row) (text : List ℕ) (others : List Segment) → segments ≡ text_segment text ∷ others → IsListedFirst segments listing → All IsWord listing → All (IsLoaded memory) segments
+pub text-fetched : (memory : Memory) (segments : List Segment) (listing : List ListingRow) (text : List ℕ) (others : List Segment) → segments ≡ text_segment text ∷ others → IsListedFirst segments listing → All IsWord listing → All (IsLoaded memory) segments
     → All (IsFetched memory) listing
 text-fetched memory segments listing text others is listed small loaded =
     let rows : AreListed 65536 text listing = subst (λ (ss : List Segment). IsListedFirst ss listing) is listed in
     let all : All (IsLoaded memory) (text_segment text ∷ others) = subst (λ (ss : List Segment). All (IsLoaded memory) ss) is loaded in
-    let first : EachStands memory (text_segment text).rights 65536 text = All-head (IsLoaded memory) (text_segment text) others all in
+    let first : EachHasByte memory (text_segment text).rights 65536 text = All-head (IsLoaded memory) (text_segment text) others all in
     rows-fetched memory (text_segment text).rights listing 65536 text refl refl small rows (stands-each memory (text_segment text).rights text 65536 first)
 
 -- ---- instructions
@@ -117,21 +117,21 @@ all-after : {X : Type 0} (P : X → Type 0) (xs ys : List X) → All P (xs ++ ys
 all-after P [] ys all = all
 all-after P (x ∷ xs) ys all = all-after P xs ys (All-tail P x (xs ++ ys) all)
 
-rows-mean : (memory : Memory) (at number : ℕ) (instructions : List Instr) (rows : List Row) → AreInstructions at number instructions rows → All (IsFetched memory) rows → AreFetched memory at instructions
+rows-mean : (memory : Memory) (at number : ℕ) (instructions : List Instr) (rows : List ListingRow) → AreInstructions at number instructions rows → All (IsFetched memory) rows → AreFetched memory at instructions
 rows-mean memory at number [] rows listed all = tt
 rows-mean memory at number (i ∷ instructions) [] listed all = absurd listed
 rows-mean memory at number (i ∷ instructions) (row ∷ rows) listed all =
     let here : fetched memory at ≡ Ok row.word = ap (λ (n : ℕ). fetched memory n) (sym listed.0) ∙ All-head (IsFetched memory) row rows all in
     (row.word, here, listed.2, rows-mean memory (at + 4) number instructions rows listed.3 (All-tail (IsFetched memory) row rows all))
 
-listed-fetched : (source : List ℕ) (lines : List Line) (line : Line) (words : ℕ) (m : Mnemonic) (o : Operands) (listing : List Row) (memory : Memory) → All (IsFetched memory) listing
+listed-fetched : (source : List ℕ) (lines : List Line) (line : Line) (words : ℕ) (m : Mnemonic) (o : Operands) (listing : List ListingRow) (memory : Memory) → All (IsFetched memory) listing
     → (x : IsListedInstruction source lines line words m o listing) → AreFetched memory (65536 + 4 * words) (instructions_of x.expansion)
 listed-fetched source lines line words m o listing memory all x =
-    let parts : All (IsFetched memory) ((x.above ++ x.rows) ++ x.below) = subst (λ (rows : List Row). All (IsFetched memory) rows) x.parted all in
+    let parts : All (IsFetched memory) ((x.above ++ x.rows) ++ x.below) = subst (λ (rows : List ListingRow). All (IsFetched memory) rows) x.parted all in
     let rows : All (IsFetched memory) x.rows = all-after (IsFetched memory) x.above x.rows (all-before (IsFetched memory) (x.above ++ x.rows) x.below parts) in
     rows-mean memory (65536 + 4 * words) line.number (instructions_of x.expansion) x.rows x.instructions rows
 
-pub instructions-fetched : (source : List ℕ) (listing : List Row) (memory : Memory) → ListsInstructions source listing → All (IsFetched memory) listing → FetchesInstructions source listing memory
+pub instructions-fetched : (source : List ℕ) (listing : List ListingRow) (memory : Memory) → ListsInstructions source listing → All (IsFetched memory) listing → FetchesInstructions source listing memory
 instructions-fetched source listing memory lists all before line after words m o text instruction =
     let x : IsListedInstruction source (before ++ line ∷ after) line words m o listing = lists before line after words m o text instruction in
     (x, listed-fetched source (before ++ line ∷ after) line words m o listing memory all x)

@@ -14,7 +14,7 @@ use Rattle.asm_text.specs.declared.token.Line.{Line}
 use Rattle.assembler.specs.Instructions.{IsInstruction, IsListedInstruction, instructions_of}
 use Rattle.asm_statements.specs.declared.mnemonic.Mnemonic.{Mnemonic}
 use Rattle.asm_statements.specs.declared.operands.Operands.{Operands}
-use Rattle.assembler.specs.declared.listing.Row.{Row}
+use Rattle.assembler.specs.declared.listing.ListingRow.{ListingRow}
 use Rattle.machine_model.specs.First.{first_state}
 
 -- a file names this program and no other, and is refused for want of memory alone
@@ -24,7 +24,7 @@ pub record NamesAlone (file : List ℕ) (program : Program) : Type 0 where
   pub refused : (why : ElfFault) → IsRefused file why → why ≡ OutOfMemory
 
 -- a row's word is fetched at the row's address
-abbrev pub IsFetched : Memory → Row → Type 0
+abbrev pub IsFetched : Memory → ListingRow → Type 0
 IsFetched memory row = fetched memory row.address ≡ Ok row.word
 
 -- the words that are fetched one after the other from an address on mean these instructions, in order
@@ -34,7 +34,7 @@ AreFetched memory at (i ∷ instructions) = (word : ℕ) × (fetched memory at �
 
 -- Each instruction in the text of a source, with so many words of text before it, is listed; and the words that are fetched from
 -- its address on mean the instructions that it stands for.
-abbrev pub FetchesInstructions : List ℕ → List Row → Memory → Type 0
+abbrev pub FetchesInstructions : List ℕ → List ListingRow → Memory → Type 0
 FetchesInstructions source listing memory =
     (before : List Line) (line : Line) (after : List Line) (words : ℕ) (m : Mnemonic) (o : Operands)
     → IsText source (before ++ line ∷ after) → IsInstruction source before line words m o
@@ -43,8 +43,8 @@ FetchesInstructions source listing memory =
 
 -- What a source assembles to may be loaded, and its file names it alone. In the first state of a machine that is loaded from it
 -- each listed word is fetched at its address, and so is each instruction in text, word by word.
-pub record IsLoadedAsListed (source : List ℕ) (image : Program) (listing : List Row) : Type 0 where
+pub record IsLoadedAsListed (source : List ℕ) (image : Program) (listing : List ListingRow) : Type 0 where
   pub profile : IsProfile image
   pub file : NamesAlone (file_of image) image
-  pub rows : All (IsFetched (first_state image).hart.memory) listing
-  pub instructions : FetchesInstructions source listing (first_state image).hart.memory
+  pub rows : All (IsFetched (first_state image).architectural.memory) listing
+  pub instructions : FetchesInstructions source listing (first_state image).architectural.memory

@@ -6,7 +6,7 @@
 ghost use Rattle.std.specs.Prelude.{List, ℕ};
 ghost use Rattle.machine_model.specs.Images.{Program};
 ghost use Rattle.assembler.specs.Assembly.{Assembles};
-ghost use Rattle.assembler.specs.declared.listing.Row.{Row};
+ghost use Rattle.assembler.specs.declared.listing.ListingRow.{ListingRow};
 ghost use Rattle.source_laws.specs.Loaded.{IsLoadedAsListed};
 
 use assembler::{assembled_is_listed, images_are_by_lines};
@@ -20,7 +20,7 @@ use machine::segments_are_loaded;
 /// `assembler::assemble` ensures `Assembles` of what it gives, and `elf32::write` that it writes this file. `elf32::parse` ensures
 /// that what it reads is what the file names, and `machine::Machine::load` that what it loads is this first state.
 pub fn sources_are_loaded()
-    ensures { (source : List ℕ) (image : Program) (listing : List Row) → Assembles source image listing
+    ensures { (source : List ℕ) (image : Program) (listing : List ListingRow) → Assembles source image listing
         → IsLoadedAsListed source image listing }
 {
     assembled_is_listed();

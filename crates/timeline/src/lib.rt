@@ -12,7 +12,7 @@ mod timeline;
 
 pub use ahead::{After, Way};
 pub use fault::SessionFault;
-pub use live::Live;
+pub use live::LiveKernel;
 pub use points::SetPoint;
 pub use stop::{End, Stop};
 pub use timeline::{Origin, Timeline};

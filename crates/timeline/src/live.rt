@@ -9,16 +9,16 @@ use recorder::{Recorded, Recorder};
 
 /// A kernel that answers the calls of a process, and how much of what each terminal shows was told.
 #[derive(Drop)]
-pub struct Live {
+pub struct LiveKernel {
     recorder: Recorder,
     process: u32,
     told: [Cursor; TERMINALS],
 }
 
-impl Live {
+impl LiveKernel {
     /// A kernel of which nothing was told.
-    pub(crate) fn new(recorder: Recorder, process: u32) -> Live {
-        Live {
+    pub(crate) fn new(recorder: Recorder, process: u32) -> LiveKernel {
+        LiveKernel {
             recorder,
             process,
             told: [Cursor::new(); TERMINALS],

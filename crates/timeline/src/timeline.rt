@@ -1,6 +1,6 @@
 //! A program's run, forwards and back.
 use crate::fault::SessionFault;
-use crate::live::Live;
+use crate::live::LiveKernel;
 use debugger::{Debugger, Image, Machine, Reply, Watch};
 use recorder::Recorder;
 use std::alloc::{AllocError, Global};
@@ -22,7 +22,7 @@ pub struct Timeline {
     /// The program at one of its states, with its breakpoints. It goes back by itself, and on by `ahead`.
     pub debugger: Debugger,
     /// The kernel that answers, if one does.
-    pub live: Option<Live>,
+    pub live: Option<LiveKernel>,
     pub(crate) watches: Vec<Watch>,
     /// Replies that no call got yet.
     pub(crate) replies: VecDeque<Reply>,
@@ -47,7 +47,10 @@ impl Timeline {
         let (replies, live) = match origin {
             Origin::Trace(replies) => (queue_of(alloc, replies)?, None),
             Origin::Kernel(recorder, process) => {
-                (VecDeque::new(alloc), Some(Live::new(recorder, process)))
+                (
+                    VecDeque::new(alloc),
+                    Some(LiveKernel::new(recorder, process)),
+                )
             }
         };
         Ok(Timeline {

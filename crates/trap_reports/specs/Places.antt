@@ -4,7 +4,7 @@ use Rattle.std.specs.FinMap.{get}
 use Rattle.memory_model.specs.Access.{access_fault, fetched, loaded, to_write}
 use Rattle.memory_model.specs.Memory.{Memory}
 use Rattle.memory_model.specs.declared.access.Width.TheVariants.{Byte}
-use Rattle.machine_model.specs.Effects.{Hart, reg}
+use Rattle.machine_model.specs.Effects.{ArchitecturalState, reg}
 use Rattle.machine_model.specs.declared.stop.Cause.{Cause}
 use Rattle.machine_model.specs.declared.stop.Cause.TheVariants as cause
 use Rattle.trap_reports.specs.declared.report.TrapReport.{TrapReport}
@@ -31,7 +31,7 @@ abbrev pub lowest_of_stack : ℕ
 lowest_of_stack = 2 ^ 31 - 2 ^ 14
 
 -- the stack pointer, x2, where it stands below the stack and no page is there
-abbrev pub below_stack : Hart → Option ℕ
+abbrev pub below_stack : ArchitecturalState → Option ℕ
 below_stack h = if nat_lt (reg h 2) lowest_of_stack && is_none (byte_there h.memory (reg h 2)) then Some (reg h 2) else None
 
 -- a trap of this cause is about the address that the instruction names

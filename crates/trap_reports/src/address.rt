@@ -8,7 +8,7 @@ use machine::Machine;
 
 /// The address that a register and an immediate name.
 fn beside(machine: &Machine, register: Reg, imm: Immediate) -> u32
-    ensures { result ≡ beside machine.now.hart register imm }
+    ensures { result ≡ beside machine.now.architectural register imm }
 {
     moved(machine.reg(register), imm.value())
 }
@@ -16,7 +16,7 @@ fn beside(machine: &Machine, register: Reg, imm: Immediate) -> u32
 /// The address that an instruction of a machine names: that of a load or a store, or of the instruction to which a jump or a branch
 /// goes. None for any other.
 pub fn named_by(machine: &Machine, instr: Instr) -> Option<u32>
-    ensures { result ≡ named_by instr machine.now.hart }
+    ensures { result ≡ named_by instr machine.now.architectural }
 {
     match instr {
         Instr::Lb { rs1, imm, .. }

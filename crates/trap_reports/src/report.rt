@@ -1,7 +1,7 @@
 //! What is reported of a machine that stands at a trap.
 ghost use Rattle.std.specs.Prelude.{◌≡◌, is_some, IfSome};
 ghost use Rattle.std.specs.Option.{option_map};
-ghost use Rattle.machine_model.specs.States.{stands_at};
+ghost use Rattle.machine_model.specs.States.{stopped_at};
 ghost use Rattle.memory_model.specs.Access.{value_at};
 ghost use Rattle.trap_reports.specs.Named.{named_in};
 ghost use Rattle.trap_reports.specs.Places.{below_stack, is_word_there, place_of, there_at};
@@ -53,8 +53,8 @@ impl TrapReport {
 
 /// The four bytes at the pc as a word, whatever the rights of their page.
 fn word_of(machine: &Machine) -> Option<u32>
-    ensures there { is_some result ≡ is_word_there machine.now.hart.memory machine.now.hart.pc }
-    ensures word { IfSome result (λ word. word ≡ value_at machine.now.hart.memory machine.now.hart.pc 4) }
+    ensures there { is_some result ≡ is_word_there machine.now.architectural.memory machine.now.architectural.pc }
+    ensures word { IfSome result (λ word. word ≡ value_at machine.now.architectural.memory machine.now.architectural.pc 4) }
 {
     let space = machine.space();
     let at = machine.pc();
@@ -68,8 +68,8 @@ fn word_of(machine: &Machine) -> Option<u32>
 
 /// The address that the instruction at the pc names, if it names one, and what is there.
 fn named_at(machine: &Machine, word: Option<u32>) -> Option<(u32, There)>
-    ensures address { option_map (λ n. n.0) result ≡ named_in word machine.now.hart }
-    ensures there { IfSome result (λ n. n.1 ≡ there_at machine.now.hart.memory n.0) }
+    ensures address { option_map (λ n. n.0) result ≡ named_in word machine.now.architectural }
+    ensures there { IfSome result (λ n. n.1 ≡ there_at machine.now.architectural.memory n.0) }
 {
     let at = named_by(machine, decode(word?)?)?;
     Some((at, There::at(machine.space(), at)))
@@ -77,7 +77,7 @@ fn named_at(machine: &Machine, word: Option<u32>) -> Option<(u32, There)>
 
 /// The stack pointer, where it stands below the stack and no page is there.
 fn below_stack(machine: &Machine) -> Option<u32>
-    ensures { result ≡ below_stack machine.now.hart }
+    ensures { result ≡ below_stack machine.now.architectural }
 {
     let at = machine.reg(Reg::new(SP));
     if at < STACK && machine.space().byte(at).is_none() {
@@ -90,13 +90,13 @@ fn below_stack(machine: &Machine) -> Option<u32>
 /// The report of a machine that stands at a trap of this cause.
 fn report(machine: &Machine, cause: Cause) -> TrapReport
     ensures cause { result.cause ≡ cause }
-    ensures pc { result.pc ≡ machine.now.hart.pc }
-    ensures told { is_some result.word ≡ is_word_there machine.now.hart.memory machine.now.hart.pc }
-    ensures word { IfSome result.word (λ word. word ≡ value_at machine.now.hart.memory machine.now.hart.pc 4) }
-    ensures named { option_map (λ n. n.0) result.named ≡ named_in result.word machine.now.hart }
-    ensures named_there { IfSome result.named (λ n. n.1 ≡ there_at machine.now.hart.memory n.0) }
-    ensures there { result.there ≡ there_at machine.now.hart.memory machine.now.hart.pc }
-    ensures below_stack { result.below_stack ≡ below_stack machine.now.hart }
+    ensures pc { result.pc ≡ machine.now.architectural.pc }
+    ensures told { is_some result.word ≡ is_word_there machine.now.architectural.memory machine.now.architectural.pc }
+    ensures word { IfSome result.word (λ word. word ≡ value_at machine.now.architectural.memory machine.now.architectural.pc 4) }
+    ensures named { option_map (λ n. n.0) result.named ≡ named_in result.word machine.now.architectural }
+    ensures named_there { IfSome result.named (λ n. n.1 ≡ there_at machine.now.architectural.memory n.0) }
+    ensures there { result.there ≡ there_at machine.now.architectural.memory machine.now.architectural.pc }
+    ensures below_stack { result.below_stack ≡ below_stack machine.now.architectural }
 {
     let pc = machine.pc();
     let word = word_of(machine);
@@ -112,14 +112,14 @@ fn report(machine: &Machine, cause: Cause) -> TrapReport
 
 /// What is reported of a machine. None where it stands at no trap.
 pub fn trap_report(machine: &Machine) -> Option<TrapReport>
-    ensures cause { option_map (λ r. r.cause) result ≡ cause_in (stands_at machine.now) }
-    ensures pc { IfSome result (λ r. r.pc ≡ machine.now.hart.pc) }
-    ensures told { IfSome result (λ r. is_some r.word ≡ is_word_there machine.now.hart.memory machine.now.hart.pc) }
-    ensures word { IfSome result (λ r. IfSome r.word (λ word. word ≡ value_at machine.now.hart.memory machine.now.hart.pc 4)) }
-    ensures named { IfSome result (λ r. option_map (λ n. n.0) r.named ≡ named_in r.word machine.now.hart) }
-    ensures named_there { IfSome result (λ r. IfSome r.named (λ n. n.1 ≡ there_at machine.now.hart.memory n.0)) }
-    ensures there { IfSome result (λ r. r.there ≡ there_at machine.now.hart.memory machine.now.hart.pc) }
-    ensures below_stack { IfSome result (λ r. r.below_stack ≡ below_stack machine.now.hart) }
+    ensures cause { option_map (λ r. r.cause) result ≡ cause_in (stopped_at machine.now) }
+    ensures pc { IfSome result (λ r. r.pc ≡ machine.now.architectural.pc) }
+    ensures told { IfSome result (λ r. is_some r.word ≡ is_word_there machine.now.architectural.memory machine.now.architectural.pc) }
+    ensures word { IfSome result (λ r. IfSome r.word (λ word. word ≡ value_at machine.now.architectural.memory machine.now.architectural.pc 4)) }
+    ensures named { IfSome result (λ r. option_map (λ n. n.0) r.named ≡ named_in r.word machine.now.architectural) }
+    ensures named_there { IfSome result (λ r. IfSome r.named (λ n. n.1 ≡ there_at machine.now.architectural.memory n.0)) }
+    ensures there { IfSome result (λ r. r.there ≡ there_at machine.now.architectural.memory machine.now.architectural.pc) }
+    ensures below_stack { IfSome result (λ r. r.below_stack ≡ below_stack machine.now.architectural) }
 {
     match machine.stopped() {
         Some(Stop::Trap(cause)) => Some(report(machine, cause)),

@@ -12,7 +12,7 @@ use Rattle.source_laws.proofs.sources_are_loaded.Goals as goal
 
 pub returns : goal.returns
 returns c = λ source image listing assembles.
-    let memory : Memory = (first_state image).hart.memory in
+    let memory : Memory = (first_state image).architectural.memory in
     let profile : IsProfile image = c.assembled_is_listed.ensures.profile source image listing assembles in
     let by_lines : IsByLines source image = c.images_are_by_lines.ensures source image listing assembles in
     let rows : All (IsFetched memory) listing =

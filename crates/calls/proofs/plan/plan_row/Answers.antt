@@ -1,7 +1,7 @@
 -- Of the requests a write alone edits a file with bytes.
 use Rattle.std.proofs.Common.{◌≡◌, List, ℕ, Option, Some, IfOk, IfSome, Result, sym, subst}
 use Rattle.std.specs.declared.alloc.AllocError.{AllocError}
-use Rattle.kernel_model.specs.Rows.{Effect, row}
+use Rattle.kernel_model.specs.Rows.{CallEffect, row}
 use Rattle.kernel_model.specs.State.{Shared}
 use Rattle.kernel_model.specs.declared.descriptor.Descriptor.{Descriptor}
 use Rattle.kernel_model.specs.declared.request.Request.{Request}
@@ -9,7 +9,7 @@ use Rattle.kernel_model.specs.declared.request.Request.TheVariants as request
 use Rattle.kernel_model.proofs.Cases.{of_row}
 use Rattle.calls.specs.Plans.{IsRow, CarriesBytes}
 use Rattle.calls.specs.Shares.{shared_of}
-use Rattle.calls.specs.declared.row.Row.{Row}
+use Rattle.calls.specs.declared.row.CallRow.{CallRow}
 use Rattle.calls.specs.declared.tables.KernelTables.{KernelTables}
 use Rattle.processes.specs.Parts.{part_at, children_in, statuses_of}
 use Rattle.calls.proofs.Planned.{if_found}
@@ -18,7 +18,7 @@ use Rattle.calls.proofs.plan.plan_row.Goals as goal
 -- a row of a request that is no write carries no bytes
 no-bytes : (s : Shared) (ds : List (Option Descriptor)) (children : List ℕ) (r : Request) → ((fd n : ℕ) (bytes : List ℕ) → r ≡ request.Write fd n (Some bytes) → ⊥)
     → IfSome (row s 0 ds children r).edit CarriesBytes
-no-bytes s ds children r other = of_row (λ (e : Effect). IfSome e.edit CarriesBytes) s ds children r (record {
+no-bytes s ds children r other = of_row (λ (e : CallEffect). IfSome e.edit CarriesBytes) s ds children r (record {
   told = λ _ _ _. tt;
   waits = λ _ _. tt;
   shown = λ _ _. tt;
@@ -42,16 +42,16 @@ no-bytes s ds children r other = of_row (λ (e : Effect). IfSome e.edit CarriesB
 }) 0
 
 -- the same of what is found for it
-carried : (found : Result Row AllocError) (t : KernelTables) (pid : ℕ) (ds : List (Option Descriptor)) (r : Request)
+carried : (found : Result CallRow AllocError) (t : KernelTables) (pid : ℕ) (ds : List (Option Descriptor)) (r : Request)
     → ((fd n : ℕ) (bytes : List ℕ) → r ≡ request.Write fd n (Some bytes) → ⊥)
-    → IfOk found (λ (x : Row). IsRow x (row (shared_of (statuses_of t.processes.now.parts) t.files.now t.pipes.now t.tapes.now) 0 ds
+    → IfOk found (λ (x : CallRow). IsRow x (row (shared_of (statuses_of t.processes.now.parts) t.files.now t.pipes.now t.tapes.now) 0 ds
     (children_in (part_at t.processes.now.parts pid)) r))
-    → IfOk found (λ (x : Row). IfSome x.edit CarriesBytes)
+    → IfOk found (λ (x : CallRow). IfSome x.edit CarriesBytes)
 carried found t pid ds r other h =
     let s = shared_of (statuses_of t.processes.now.parts) t.files.now t.pipes.now t.tapes.now in
     let children = children_in (part_at t.processes.now.parts pid) in
-    if_found found (λ (x : Row). IsRow x (row s 0 ds children r)) (λ (x : Row). IfSome x.edit CarriesBytes)
-    (λ (x : Row) is. subst (λ edit. IfSome edit CarriesBytes) (sym is.edit) (no-bytes s ds children r other)) h
+    if_found found (λ (x : CallRow). IsRow x (row s 0 ds children r)) (λ (x : CallRow). IfSome x.edit CarriesBytes)
+    (λ (x : CallRow) is. subst (λ edit. IfSome edit CarriesBytes) (sym is.edit) (no-bytes s ds children r other)) h
 
 pub returns-in-Exit-clause-carries : goal.returns-in-Exit-clause-carries
 returns-in-Exit-clause-carries c =

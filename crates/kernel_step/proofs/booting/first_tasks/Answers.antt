@@ -20,7 +20,7 @@ loop-place-preserved c =
     (record {
       number = c.in_ok-task.ensures.pid;
       machine = c.in_ok-task.ensures.machine ∙ c.in_ok-machine.ensures.first;
-      bytes = subst (λ (s : State). HoldsBytes s.hart.memory) (sym c.in_ok-task.ensures.machine) c.in_ok-machine.ensures.bytes;
+      bytes = subst (λ (s : State). HoldsBytes s.architectural.memory) (sym c.in_ok-task.ensures.machine) c.in_ok-machine.ensures.bytes;
       trace = c.in_ok-task.ensures.trace;
       waited = c.in_ok-task.ensures.waited;
       loans = c.in_ok-task.ensures.loans;

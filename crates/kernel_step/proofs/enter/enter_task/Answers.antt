@@ -2,7 +2,7 @@
 use Rattle.std.proofs.Common.{◌≡◌, ◌∙◌, ◌++◌, [], ◌∷◌, ℕ, List, refl, sym, ap, subst, arith}
 use Rattle.kernel_model.specs.declared.event.Event.{Event}
 use Rattle.kernel_model.specs.declared.event.Event.TheVariants.{Enter}
-use Rattle.machine_model.specs.States.{State, stands_at}
+use Rattle.machine_model.specs.States.{State, stopped_at}
 use Rattle.kernel_step.specs.Ready.{MayEnter}
 use Rattle.kernel_step.specs.Tasks.{machine_of}
 use Rattle.kernel_step.specs.declared.task.Task.{Task}
@@ -15,7 +15,7 @@ prepare-requires-clause-fine c =
     subst (λ (x : State). MayEnter c.args.system.now c.args.pid x c.args.task.now.trace) (sym c.machine-machine.ensures) c.requires.fine
 
 pub prepare-requires-clause-stands : goal.prepare-requires-clause-stands
-prepare-requires-clause-stands c = ap (λ (x : State). stands_at x) c.machine-machine.ensures ∙ c.requires.stands
+prepare-requires-clause-stands c = ap (λ (x : State). stopped_at x) c.machine-machine.ensures ∙ c.requires.stands
 
 pub carry_out-requires-clause-ready : goal.carry_out-requires-clause-ready
 carry_out-requires-clause-ready c =

@@ -1,7 +1,7 @@
 -- The machine that is looked at is the result's.
 use Rattle.std.proofs.Common.{◌≡◌, ◌∙◌, sym, ap, subst}
 use Rattle.std.specs.Prelude.{IfOk}
-use Rattle.machine_model.specs.States.{State, stands_at}
+use Rattle.machine_model.specs.States.{State, stopped_at}
 use Rattle.kernel_step.specs.Ready.{MayEnter, IsPrepared}
 use Rattle.kernel_step.proofs.settle.prepare_done.Goals as goal
 
@@ -10,7 +10,7 @@ prepare-requires-clause-fine c =
     subst (λ (x : State). MayEnter c.args.system.now c.args.done.now.pid x c.args.trace.now) (sym c.machine-machine.ensures) c.requires.fine
 
 pub prepare-requires-clause-stands : goal.prepare-requires-clause-stands
-prepare-requires-clause-stands c = ap (λ (x : State). stands_at x) c.machine-machine.ensures ∙ c.requires.stands
+prepare-requires-clause-stands c = ap (λ (x : State). stopped_at x) c.machine-machine.ensures ∙ c.requires.stands
 
 pub returns-clause-prepared : goal.returns-clause-prepared
 returns-clause-prepared c =

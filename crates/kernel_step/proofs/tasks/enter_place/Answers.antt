@@ -1,6 +1,6 @@
 -- The stop and the refusal are those of the task at the process's place.
 use Rattle.std.proofs.Common.{◌≡◌, sym, ◌∙◌, Some, slice_get, subst}
-use Rattle.machine_model.specs.States.{stands_at}
+use Rattle.machine_model.specs.States.{stopped_at}
 use Rattle.kernel_step.specs.Tasks.{machine_of}
 use Rattle.kernel_step.specs.declared.task.Task.{Task}
 use Rattle.kernel_step.proofs.Lists.{get-there}
@@ -20,7 +20,7 @@ returns-in-Ok-clause-stop c = λ u at.
     let there : slice_get c.args.tasks.now c.in-Some.place ≡ Some t = get-there c.args.tasks.now c.in-Some.place t c.in-Some.ensures.there c.index-tasks-place.is in
     let twice : Some t ≡ Some u = sym there ∙ at in
     let same : t ≡ u = cc in
-    subst (λ (v : Task). stands_at (machine_of v) ≡ Some c.in-Ok.stop) same c.in-Ok.ensures.stop
+    subst (λ (v : Task). stopped_at (machine_of v) ≡ Some c.in-Ok.stop) same c.in-Ok.ensures.stop
 
 pub returns-in-Err-clause-refused : goal.returns-in-Err-clause-refused
 returns-in-Err-clause-refused c =

@@ -1,7 +1,7 @@
 -- The parts follow the event.
 use Rattle.std.proofs.Common.{subst}
 use Rattle.kernel_model.specs.Answers.{Kernel, Applies}
-use Rattle.kernel_step.specs.Stands.{kernel_in}
+use Rattle.kernel_step.specs.Represents.{kernel_in}
 use Rattle.kernel.specs.Booting.{boot_of}
 use Rattle.kernel.proofs.Parts.{applied-core, applied-ran}
 use Rattle.kernel.proofs.cores.Core.apply.Goals as goal

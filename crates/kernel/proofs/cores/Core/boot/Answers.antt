@@ -9,7 +9,7 @@ use Rattle.kernel_model.specs.Answers.{AllAccepted, at_boot}
 use Rattle.kernel_model.specs.World.{BootProgram, Boot, HoldsItsFiles, tape_count, terminal_count}
 use Rattle.kernel_model.specs.declared.event.Event.{Event}
 use Rattle.kernel_step.specs.Booting.{program_of, boot_with, nothing_lent}
-use Rattle.kernel_step.specs.Stands.{Stands}
+use Rattle.kernel_step.specs.Represents.{Represents}
 use Rattle.kernel_step.specs.declared.booting.Program.{Program}
 use Rattle.kernel.specs.Booting.{boot_of}
 use Rattle.kernel_model.specs.Rows.{most_processes}
@@ -63,7 +63,7 @@ invariant_of-result c =
         terminals = terminals-are c.args.programs.items c.requires.terminals;
         tapes = tapes-few c;
       };
-      stands = subst (λ (b : Boot). Stands b c.in_ok-running.running) (boot-is c) (c.in_ok-running.ensures.stands c.args.device.disk c.in_ok-files.gate c.new-committer.ensures);
+      stands = subst (λ (b : Boot). Represents b c.in_ok-running.running) (boot-is c) (c.in_ok-running.ensures.stands c.args.device.disk c.in_ok-files.gate c.new-committer.ensures);
       accepted = subst (λ (es : List Event). AllAccepted (at_boot (boot_of (booted c))) es) (sym none) tt;
       turns = ap sum_of_turns (sym none);
       enters = ap sum_of_enters (sym none);

@@ -2,7 +2,7 @@
 use Rattle.std.proofs.Common.{◌≡◌, length, subst}
 use Rattle.kernel_model.specs.Answers.{Kernel, now}
 use Rattle.kernel.specs.Booting.{boot_of}
-use Rattle.kernel_step.specs.Stands.{kernel_in}
+use Rattle.kernel_step.specs.Represents.{kernel_in}
 use Rattle.kernel.proofs.KnownLoans.{lendings-each}
 use Rattle.kernel.proofs.cores.Core.has_lendings.Goals as goal
 

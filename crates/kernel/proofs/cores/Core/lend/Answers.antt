@@ -3,7 +3,7 @@ use Rattle.std.proofs.Common.{subst}
 use Rattle.kernel_model.specs.Answers.{Kernel}
 use Rattle.kernel_model.specs.Loans.{Lends}
 use Rattle.kernel_step.specs.Loaned.{lent_out}
-use Rattle.kernel_step.specs.Stands.{kernel_in}
+use Rattle.kernel_step.specs.Represents.{kernel_in}
 use Rattle.kernel.specs.Booting.{boot_of}
 use Rattle.kernel.proofs.Parts.{lent-core}
 use Rattle.kernel.proofs.cores.Core.lend.Goals as goal

@@ -2,7 +2,7 @@
 use Rattle.std.proofs.Common.{subst}
 use Rattle.kernel_model.specs.Answers.{Kernel}
 use Rattle.kernel_step.specs.Loaned.{Settles}
-use Rattle.kernel_step.specs.Stands.{kernel_in}
+use Rattle.kernel_step.specs.Represents.{kernel_in}
 use Rattle.kernel.specs.Booting.{boot_of}
 use Rattle.kernel.proofs.Parts.{settled-core}
 use Rattle.kernel.proofs.cores.Core.settle.Goals as goal

@@ -2,7 +2,7 @@
 use Rattle.std.proofs.Common.{refl, subst, sym}
 use Rattle.kernel_model.specs.declared.event.Event.TheVariants.{Cut}
 use Rattle.kernel_model.specs.World.{run_of}
-use Rattle.kernel_step.specs.Stands.{KeepsRun}
+use Rattle.kernel_step.specs.Represents.{KeepsRun}
 use Rattle.kernel_step.specs.declared.system.System.{System}
 use Rattle.kernel_step.proofs.Counting.{counted-other}
 use Rattle.kernel_step.proofs.Writing.{cut-core, cut-applies, changes-formed, files-made}

@@ -9,7 +9,7 @@ use Rattle.kernel_step.proofs.EnterFine.{none-some}
 use Rattle.kernel_step.proofs.FewLoans.{few-here}
 use Rattle.kernel_step.proofs.LendKept.{fits, lent-core, lent-more, lends-one, lends-none, lends-wanting}
 use Rattle.kernel_step.proofs.LendNext.{IsFitThere, fit-there}
-use Rattle.kernel_step.specs.Stands.{KeepsRun, kernel_in}
+use Rattle.kernel_step.specs.Represents.{KeepsRun, kernel_in}
 use Rattle.kernel_step.proofs.running.Running.lend.Goals as goal
 use Rattle.kernel_step.proofs.running.Running.lend.Goals.{After-index_mut, In_ok-loan, In_err-loan}
 

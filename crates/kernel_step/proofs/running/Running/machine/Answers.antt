@@ -4,7 +4,7 @@ use Rattle.std.specs.Prelude.{IsSomeAnd}
 use Rattle.kernel_model.specs.Answers.{process_of}
 use Rattle.kernel_model.specs.State.{Process}
 use Rattle.machine_model.specs.States.{State}
-use Rattle.kernel_step.specs.Stands.{kernel_in}
+use Rattle.kernel_step.specs.Represents.{kernel_in}
 use Rattle.kernel_step.proofs.Releasing.{machine-is}
 use Rattle.kernel_step.proofs.running.Running.machine.Goals as goal
 

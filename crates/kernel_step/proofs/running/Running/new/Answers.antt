@@ -4,7 +4,7 @@ use Rattle.std.specs.List.{AllByRecursion}
 use Rattle.kernel_model.specs.declared.event.Event.{Event}
 use Rattle.kernel_step.specs.Booting.{boot_with}
 use Rattle.kernel_step.specs.Counted.{IsCounted}
-use Rattle.kernel_step.specs.Stands.{KeepsRun}
+use Rattle.kernel_step.specs.Represents.{KeepsRun}
 use Rattle.kernel_step.specs.declared.system.System.{System}
 use Rattle.kernel_step.proofs.Counting.{first-counted}
 use Rattle.kernel_step.proofs.Beginning.{first-core, first-out, lendings-first, programs-hold}

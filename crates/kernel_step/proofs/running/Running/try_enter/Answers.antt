@@ -1,6 +1,6 @@
 -- The parts do what the run says.
 use Rattle.std.proofs.Common.{◌≡◌, ◌∙◌, ℕ, ◌^◌, ◌≤◌, refl, ap, sym, subst, ◌++◌, List, Option, None, Some, length, slice_get, slice_set, map, option_to_list, Bool, arith}
-use Rattle.machine_model.specs.States.{stands_at}
+use Rattle.machine_model.specs.States.{stopped_at}
 use Rattle.kernel_model.specs.Answers.{with_child}
 use Rattle.kernel_model.specs.Answers.{entered as answer_to}
 use Rattle.kernel_model.specs.World.{World, happens}
@@ -56,7 +56,7 @@ enter_task-requires-clause-fine c =
 
 pub enter_task-requires-clause-stands : goal.enter_task-requires-clause-stands
 enter_task-requires-clause-stands c =
-    subst (λ (ts : List Task). (t : Task) → slice_get ts c.in_ok-place.place ≡ Some t → stands_at (machine_of t) ≡ Some c.in_ok-place.stop) c.deref.ensures.value
+    subst (λ (ts : List Task). (t : Task) → slice_get ts c.in_ok-place.place ≡ Some t → stopped_at (machine_of t) ≡ Some c.in_ok-place.stop) c.deref.ensures.value
     c.in_ok-place.ensures.stop c.index_mut-task.result.now (there (goal.at.enter_task-requires-clause-stands c).After-index_mut-task)
 
 -- the run after it

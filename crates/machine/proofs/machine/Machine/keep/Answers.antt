@@ -8,7 +8,7 @@ use Rattle.machine.proofs.machine.Machine.keep.Goals as goal
 pub invariant_of-result : goal.invariant_of-result
 invariant_of-result c = (
   subst (λ (m : Memory). AllMatch c.in_ok-try_clone.field-0.value.items m) (sym c.in_ok-keep.ensures)
-      (subst (λ (tables : List Table). AllMatch tables c.self.inside.hart.space) (sym (ap (λ v. v.items) c.in_ok-try_clone.ensures)) c.self.invariant.0),
+      (subst (λ (tables : List Table). AllMatch tables c.self.inside.architectural.space) (sym (ap (λ v. v.items) c.in_ok-try_clone.ensures)) c.self.invariant.0),
   subst (λ (m : Memory). AllFixed c.in_ok-try_clone.field-0.value.items m) (sym c.in_ok-keep.ensures)
-      (subst (λ (tables : List Table). AllFixed tables c.self.inside.hart.space) (sym (ap (λ v. v.items) c.in_ok-try_clone.ensures)) c.self.invariant.1),
+      (subst (λ (tables : List Table). AllFixed tables c.self.inside.architectural.space) (sym (ap (λ v. v.items) c.in_ok-try_clone.ensures)) c.self.invariant.1),
 )

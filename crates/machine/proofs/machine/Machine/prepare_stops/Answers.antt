@@ -8,9 +8,9 @@ use Rattle.machine.proofs.machine.Machine.prepare_stops.Goals as goal
 pub invariant_of-self-then-len : goal.invariant_of-self-then-len
 invariant_of-self-then-len c =
     let same : c.self.inside.tables.value.items ≡ c.deref-then-len-2.result.now = sym (c.deref-then-len-2.ensures.value ∙ ap (λ v. v.items) c.deref-then-len.ensures) in
-    let copied = c.in_ok-copies.ensures c.self.inside.hart.space (subst (λ (tables : List Table). AllMatch tables c.self.inside.hart.space) same c.self.invariant.0) in (
+    let copied = c.in_ok-copies.ensures c.self.inside.architectural.space (subst (λ (tables : List Table). AllMatch tables c.self.inside.architectural.space) same c.self.invariant.0) in (
       c.self.invariant.0,
       c.self.invariant.1,
-      subst (λ (tables : List Table). AllMatch tables c.self.inside.hart.space) (sym c.in_ok-append.ensures.items)
-          (both-match c.self.inside.own.items c.in_ok-copies.copies.items c.self.inside.hart.space c.self.invariant.2 copied),
+      subst (λ (tables : List Table). AllMatch tables c.self.inside.architectural.space) (sym c.in_ok-append.ensures.items)
+          (both-match c.self.inside.own.items c.in_ok-copies.copies.items c.self.inside.architectural.space c.self.invariant.2 copied),
     )

@@ -6,7 +6,7 @@ use Rattle.interpreter.specs.Tables.{AllMatch}
 use Rattle.machine.proofs.machine.Machine.reply.Goals as goal
 
 pub place-requires-clause-own : goal.place-requires-clause-own
-place-requires-clause-own c = subst (λ (ts : List Table). AllMatch ts c.self.inside.hart.space) (sym c.deref_mut.ensures.value) c.self.invariant.2
+place-requires-clause-own c = subst (λ (ts : List Table). AllMatch ts c.self.inside.architectural.space) (sym c.deref_mut.ensures.value) c.self.invariant.2
 
 pub invariant_of-self : goal.invariant_of-self
 invariant_of-self c =

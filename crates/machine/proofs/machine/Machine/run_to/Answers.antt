@@ -6,7 +6,7 @@ use Rattle.interpreter.specs.declared.table.Table.{Table}
 use Rattle.machine.proofs.machine.Machine.run_to.Goals as goal
 
 pub run_to-done-requires : goal.run_to-done-requires
-run_to-done-requires c = record { own = subst (λ (ts : List Table). AllMatch ts c.self.inside.hart.space) (sym c.deref_mut.ensures.value) c.self.invariant.2 }
+run_to-done-requires c = record { own = subst (λ (ts : List Table). AllMatch ts c.self.inside.architectural.space) (sym c.deref_mut.ensures.value) c.self.invariant.2 }
 
 pub invariant_of-self : goal.invariant_of-self
 invariant_of-self c =

@@ -8,6 +8,6 @@ use Rattle.machine.proofs.machine.Machine.try_clone.Goals as goal
 
 pub invariant_of-copy : goal.invariant_of-copy
 invariant_of-copy c =
-    let same : c.copy.inside.hart.space ≡ c.self.inside.hart.space = ap (λ (s : State). s.hart.memory) (c.copy.view_is ∙ c.in_ok-copy.ensures ∙ sym c.self.view_is) in
-    let own = c.in_ok-copy-inside.ensures c.self.inside.hart.space (subst (λ (tables : List Table). AllMatch tables c.self.inside.hart.space) (sym c.deref.ensures.value) c.self.invariant.2) in
+    let same : c.copy.inside.architectural.space ≡ c.self.inside.architectural.space = ap (λ (s : State). s.architectural.memory) (c.copy.view_is ∙ c.in_ok-copy.ensures ∙ sym c.self.view_is) in
+    let own = c.in_ok-copy-inside.ensures c.self.inside.architectural.space (subst (λ (tables : List Table). AllMatch tables c.self.inside.architectural.space) (sym c.deref.ensures.value) c.self.invariant.2) in
     (c.copy.invariant.0, c.copy.invariant.1, subst (λ (m : Memory). AllMatch c.in_ok-copy-inside.field-0.items m) (sym same) own)

@@ -1,7 +1,7 @@
 -- A machine that stands does no instruction.
 use Rattle.std.proofs.Common.{◌≡◌, ◌<◌, sym, arith}
 use Rattle.std.specs.Prelude.{Some}
-use Rattle.machine_model.specs.States.{stands_at}
+use Rattle.machine_model.specs.States.{stopped_at}
 use Rattle.machine.proofs.Limits.{reached_at-is_run, standing-run}
 use Rattle.machine.proofs.shared.SharedMachine.run.Goals as goal
 

@@ -1,2 +1,2 @@
 //! What a thread does that finds nothing to do.
-pub(crate) use idle::Rest;
+pub(crate) use idle::Backoff;

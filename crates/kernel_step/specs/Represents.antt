@@ -33,17 +33,17 @@ pub record KeepsRun (b : Boot) (history : List Event) (tasks : List Task) (syste
   pub loans : AreFewLoans (length history) (map lending_of tasks)
 
 -- the parts are those of the run that was booted from this, and count its instructions and the tasks that are out on loan
-pub record Stands (b : Boot) (r : Running) : Type 0 where
+pub record Represents (b : Boot) (r : Running) : Type 0 where
   pub parts : KeepsRun b r.history.items r.tasks.items r.system
   pub counted : IsCounted b r.history.items r.ran
   pub out : r.out ≡ count_out r.tasks.items
 
 -- After an event the parts stand for the run with it, and the answer is its own; where it is refused, nothing has changed.
 pub record Steps (b : Boot) (e : Event) (old new : Running) (result : Result Answer Refused) : Type 0 where
-  pub stands : Stands b new
+  pub stands : Represents b new
   pub applies : Applies (kernel_in b old) e (kernel_in b new) result
 
 -- After a loan's result is taken back the parts stand for the run with its events; where it is refused, nothing has changed.
 pub record TakesBack (b : Boot) (done : Done) (old new : Running) (result : Result Answer Rejected) : Type 0 where
-  pub stands : Stands b new
+  pub stands : Represents b new
   pub settles : Settles (kernel_in b old) done (kernel_in b new) result
