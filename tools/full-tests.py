@@ -37,6 +37,9 @@ TELL, GROWTH = 60, 8
 PATIENCE = 900
 # What a package gives: a command, or a file.
 PACKAGES = {
+    "chromium": "chromium",
+    "chromium-driver": "chromedriver",
+    "python3-selenium": "/usr/lib/python3/dist-packages/selenium/*",
     "gcc": "cc",
     "gcc-12-source": f"{os.environ.get('TESTS', '/usr/src/gcc-12')}/*",
     "gcc-riscv64-unknown-elf": os.environ.get("CC", "riscv64-unknown-elf-gcc"),
@@ -69,6 +72,7 @@ def refusals(what, wanted):
 REFUSED = r"(\d+) runs: \d+ refused, \d+ undisturbed, (\d+) wrong"
 PARTS = {
     "pages": Part("links, sentences and blocks of the pages", "python3 tools/check-pages.py"),
+    "texts": Part("the texts of bench page, as they stand in the code", "python3 tools/page-texts.py --check"),
     "mutants": Part(
         "the edits of the second tier, over the proofs that are kept", "python3 tools/mutants.py {lanes}", ("the toolchain's command rt",),
         says=r"in all +(\d+) +\d+ +(\d+) +(\d+) +(\d+) ",
@@ -77,6 +81,8 @@ PARTS = {
         "random histories, by --cone and by a model", "python3 tools/random-cones.py --first {seed} --lanes {jobs} {count}", (), 200
     ),
     "crashes": Part("random scripts, by crashes, replay and a model", "python3 tools/random-crashes.py {count} {seed} {jobs}", (), 50),
+    "records": Part("random programs, by exec and by replay of the record", "python3 tools/random-records.py {count} {seed} {jobs}", (), 200),
+    "orders": Part("random programs, by explore and by all orders", "python3 tools/random-orders.py {count} {seed} {jobs}", (), 20),
     "many-runs": Part("each example again and again, by 1 to 16 workers", "tools/many-runs.sh {count}", (), 16),
     "killed-runs": Part("runs that are killed, and the disk after each", "tools/killed-runs.sh {count}", (), 20),
     "killed-durable-runs": Part(
@@ -98,13 +104,17 @@ PARTS = {
         "damaged packets, sent to bench gdb",
         "python3 tools/gdb-streams.py --bench {bench} --streams {count} --seed {seed} --jobs {jobs}", ("time",), 200,
     ),
+    "walks": Part(
+        "pages of examples and of random scripts, walked in a browser", "env BENCH={bench} tools/try-pages.py --random {count}",
+        ("chromium", "chromium-driver", "python3-selenium"), 10, says=r"(\d+) pages, (\d+) faults",
+    ),
     "compilers": Part(
         "GCC's execution tests, beside qemu", "tools/torture.sh --bench {bench} --sample {count} --seed {seed} --jobs {jobs}",
         ("gcc-12-source", "gcc-riscv64-unknown-elf", "picolibc-riscv64-unknown-elf", "qemu-user"), 20,
     ),
 }
 # The parts that run no program.
-ALONE = ("pages", "mutants")
+ALONE = ("pages", "texts", "mutants")
 
 
 def say(text):

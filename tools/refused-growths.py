@@ -25,6 +25,8 @@ DISK = 2 * 1024 * 1024
 # What may be refused: the variable of `refuse.c` with its other variables, the place of its count, and the end that stands for it.
 MEMORY = (5, b"bench: out of memory\n")
 HOST = (6, b"bench: input or output failed\n")
+# The status of `exec` for either.
+EXEC_REFUSED = 125
 REFUSALS = {
     "growth": ("REFUSE_GROWTH", {}, 0, MEMORY),
     "growths": ("REFUSE_GROWTHS", {}, 0, MEMORY),
@@ -50,6 +52,9 @@ FILES = {
     + b"cut\ncomplete 65\ncomplete 64\ntrace 1\nturn 1 100\nenter 1\ndrain\ntrace 1\nshown 0\nfiles\ncrash 01\nfiles\ntrace 1\nfail 64\n",
     "space.s": b"_start: ecall\n.data\n.space 4294967295\n",
     "allowed.files": b"files -\n",
+    "allowed.outcomes": b"ends 1:0 shown - files -\n",
+    "one.log": b"core   0: 3 0x00010000 (0x00500513) x10 0x00000005\n",
+    "other.log": b"core   0: 3 0x00010000 (0x00500513) x10 0x00000006\n",
 }
 SOURCES = ["first.s", "printer.s", "reader.s", "waiter.s", "three_files.s", "linkers/gnu.elf"]
 IMAGES = {"first": "first.s", "printer": "printer.s", "reader": "reader.s", "waiter": "waiter.s", "primes": "primes.s", "init": "init.s"}
@@ -93,6 +98,12 @@ COMMANDS = [
     ("image refused", 2, "image short out", b""),
     ("list", 0, "list primes", b""),
     ("list refused", 2, "list short", b""),
+    ("explore", 0, "explore init", b""),
+    ("explore expected", 7, "explore --expect allowed.outcomes init", b""),
+    ("explore a part", 8, "explore --most-states 2 init", b""),
+    ("diff", 0, "diff one.log one.log", b""),
+    ("diff of two logs", 7, "diff one.log other.log", b""),
+    ("diff refused", 2, "diff bad.s one.log", b""),
     ("replay", 0, "replay first-run.script", b""),
     ("replay with crashes", 0, "replay crash.script", b""),
     ("replay of every line", 0, "replay every-line.script", b""),
@@ -102,6 +113,8 @@ COMMANDS = [
     ("replay of no cone", 2, "replay --cone 9 first-run.script", b""),
     ("picture", 0, "picture first-run.script", b""),
     ("picture of a cone", 0, "picture --cone 8 first-run.script", b""),
+    ("page", 0, "page first-run.script", b""),
+    ("page of crashes", 0, "page --json crash.script", b""),
     ("crashes", 0, "crashes first-run.script", b""),
     ("crashes expected", 7, "crashes --expect allowed.files first-run.script", b""),
     ("debug", 0, "debug first --trace trace", COMMANDS_OF_DEBUG),
@@ -137,6 +150,9 @@ COMMANDS = [
     ("faulty option", 1, "run --worker 3 x", b""),
     ("nine images", 1, "run" + 9 * " a", b""),
     ("help", 0, "--help", b""),
+    ("exec", 0, "exec first.s", b""),
+    ("exec with a record", 0, "exec --calls --json --record out first.s", b""),
+    ("exec refused", 125, "exec bad.s", b""),
     ("help of run", 0, "run --help", b""),
     ("help of asm", 0, "help asm", b""),
 ]
@@ -256,6 +272,8 @@ class Sweep:
         (status, out, err), (changed, gone) = found[:2]
         (status_wanted, out_wanted, err_wanted), (changed_wanted, _) = wanted[:2]
         status_of_end, line = self.end
+        if self.is_exec and status == EXEC_REFUSED:
+            status_of_end = EXEC_REFUSED
         is_told = out != out_wanted and out == out_wanted.replace(KEPT, NOT_KEPT)
         if status not in (status_of_end, status_wanted) or gone or not (is_told or out_wanted.startswith(out)):
             return False
@@ -268,7 +286,7 @@ class Sweep:
         if self.end == HOST:
             # A host that fails may cut short what is said, the image of `asm`, and the new file beside a disk.
             return not is_run or all(name.endswith((".new", ".lck")) for name in torn)
-        return not torn and (err.endswith(line) if is_run else err == line)
+        return not torn and (err.endswith(line) if is_run or self.is_exec else err == line)
 
     def kind_of_command(self, found, wanted, is_run):
         if self.is_same(found, wanted, is_run):
@@ -295,6 +313,7 @@ class Sweep:
             self.kinds["wrong"] += 1
         # In a run by workers the number of growths differs from run to run.
         is_run = words[:1] == ["run"]
+        self.is_exec = words[:1] == ["exec"]
         last = wanted[2] + (10 if is_run else 1)
         numbers = range(first, last + 1)
         kinds = collections.Counter()

@@ -16,12 +16,12 @@ import time
 TOP = os.path.realpath(f"{os.path.dirname(os.path.realpath(__file__))}/..")
 # How many of the words of a command name files, aside from its options.
 MOST_FILES = {
-    "replay": 1, "picture": 1, "crashes": 1, "asm": 2, "check": 1, "image": 2, "symbols": 2, "list": 1, "debug": 8, "gdb": 8, "disk": 1, "run": 8,
+    "replay": 1, "picture": 1, "page": 1, "crashes": 1, "explore": 8, "asm": 2, "check": 1, "image": 2, "symbols": 2, "list": 1, "diff": 2, "debug": 8, "gdb": 8, "disk": 1, "run": 8, "exec": 8,
 }
 # The commands whose file is a script.
-SCRIPT_COMMANDS = ("replay", "picture", "crashes")
-FILE_OPTIONS = ("--trace", "--disk", "--tape", "--tape-of", "--expect", "--source", "--symbols")
-NUMBER_OPTIONS = ("--workers", "--quantum", "--term", "--fail", "--status", "--cone", "--process", "--history")
+SCRIPT_COMMANDS = ("replay", "picture", "page", "crashes", "explore")
+FILE_OPTIONS = ("--trace", "--disk", "--tape", "--tape-of", "--expect", "--source", "--symbols", "--save")
+NUMBER_OPTIONS = ("--workers", "--quantum", "--term", "--fail", "--status", "--cone", "--process", "--history", "--limit", "--seed", "--most-states")
 IMAGE_LINE = re.compile(rb"^(image [0-9]+ )(?=[^/\s])", re.MULTILINE)
 # The longest that the program may run, and how long nothing is said, in seconds.
 LONGEST_RUN, SILENCE = 1800, 30
@@ -69,7 +69,8 @@ class Room:
         """Returns the place of such a script for the one that a word names; of a file that cannot be read, its own."""
         try:
             with open(word, "rb") as file:
-                return self.keep_script(file.read())
+                content = file.read()
+            return self.place_of(word) if content.startswith(b"\x7fELF") else self.keep_script(content)
         except OSError:
             return self.place_of(word)
 
@@ -100,7 +101,7 @@ class Room:
 
     def input_of(self, words):
         """Returns the place of what the program reads from standard input."""
-        is_tape = words and words[0] == "run" and any(word in ("-", "--tape=-") or word.endswith("=-") for word in words)
+        is_tape = words and words[0] in ("run", "exec") and any(word in ("-", "--tape=-") or word.endswith("=-") for word in words)
         if words and words[0] not in ("debug", "gdb") and not is_tape:
             return os.devnull
         with open(0, "rb", closefd=False) as file:

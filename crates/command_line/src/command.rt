@@ -1,10 +1,13 @@
 //! The commands, as rows. Those with options of their own stand with these.
 use crate::debug_options::DEBUG;
+use crate::exec_options::EXEC;
+use crate::explore_options::EXPLORE;
 use crate::gdb_options::GDB;
+use crate::page_command::PAGE;
 use crate::rows::{ArgumentRow, CommandKind, CommandRow, Form, NumberRow};
 use crate::run_options::RUN;
 
-const SCRIPT: ArgumentRow = ArgumentRow {
+pub const SCRIPT: ArgumentRow = ArgumentRow {
     name: "SCRIPT",
     help: "the script's file",
     form: Form::File,
@@ -152,6 +155,26 @@ const LIST: CommandRow = CommandRow {
     }],
 };
 
+const DIFF: CommandRow = CommandRow {
+    kind: CommandKind::Diff,
+    name: "diff",
+    whole: "bench diff",
+    about: "Say where two logs of instructions differ first",
+    example: "Example: bench diff /tmp/a.log /tmp/b.log",
+    arguments: &[
+        ArgumentRow {
+            name: "A",
+            help: "a log's file, in the form of Spike's commit log",
+            form: Form::File,
+        },
+        ArgumentRow {
+            name: "B",
+            help: "the other's",
+            form: Form::File,
+        },
+    ],
+};
+
 const DISK: CommandRow = CommandRow {
     kind: CommandKind::Disk,
     name: "disk",
@@ -165,17 +188,47 @@ const DISK: CommandRow = CommandRow {
     }],
 };
 
-/// The commands, in the order of the help.
-const COMMANDS: &[CommandRow] = &[
-    REPLAY, PICTURE, CRASHES, ASSEMBLE, CHECK, IMAGE, SYMBOLS, LIST, DEBUG, GDB, DISK, RUN,
-];
+const OF_SCRIPTS: &[CommandRow] = &[REPLAY, PICTURE, PAGE, CRASHES, EXPLORE];
 
-/// These rows. All else calls this, since each function that names such a table is typed with all of it.
-pub fn command_rows() -> &'static [CommandRow] {
-    COMMANDS
+const OF_FILES: &[CommandRow] = &[ASSEMBLE, CHECK, IMAGE, SYMBOLS, LIST, DIFF];
+
+const OF_SESSIONS: &[CommandRow] = &[DEBUG, GDB, DISK];
+
+const OF_RUNS: &[CommandRow] = &[RUN, EXEC];
+
+fn rows_of_scripts() -> &'static [CommandRow] {
+    OF_SCRIPTS
+}
+
+fn rows_of_files() -> &'static [CommandRow] {
+    OF_FILES
+}
+
+fn rows_of_sessions() -> &'static [CommandRow] {
+    OF_SESSIONS
+}
+
+fn rows_of_runs() -> &'static [CommandRow] {
+    OF_RUNS
+}
+
+/// The commands, in the order of the help. They stand in several tables, and each is named by one function alone, since a function that
+/// names a table is typed with all of it.
+pub fn command_rows() -> [&'static [CommandRow]; 4] {
+    [
+        rows_of_scripts(),
+        rows_of_files(),
+        rows_of_sessions(),
+        rows_of_runs(),
+    ]
 }
 
 /// The row of the command of this name, if there is one.
 pub fn row_named(name: &str) -> Option<&'static CommandRow> {
-    command_rows().iter().find(|row| row.name == name)
+    for rows in command_rows() {
+        if let Some(row) = rows.iter().find(|row| row.name == name) {
+            return Some(row);
+        }
+    }
+    None
 }

@@ -5,8 +5,11 @@
 
 mod command;
 mod debug_options;
+mod exec_options;
+mod explore_options;
 mod gdb_options;
 mod numbers;
+mod page_command;
 mod parsing;
 mod refusing;
 mod rows;
@@ -15,6 +18,8 @@ mod tapes;
 mod task;
 
 pub use debug_options::LiveOptions;
+pub use exec_options::ExecOptions;
+pub use explore_options::ExploreOptions;
 pub use gdb_options::GdbOptions;
 pub use parsing::{Arguments, parse};
 pub use run_options::{ImagePaths, RunNumbers, RunOptions};

@@ -11,6 +11,9 @@ use std::alloc::{AllocError, Global};
 const ABOUT: &str =
     "A RISC-V bench on an externally synchronous kernel; without a command, the script on standard input is replayed";
 
+/// Which bench it is: the day of the newest step in CHANGES.md.
+const VERSION: &str = "of 28 November 2026";
+
 /// The option of every command that has reasons told.
 const EXPLAIN: &str = "explain";
 
@@ -41,6 +44,7 @@ fn program<'a>(alloc: Global) -> Result<Command<'a>, AllocError> {
         Command::new(alloc, "bench")
             .bin_name("bench")?
             .about(ABOUT)
+            .version(VERSION)
             .override_usage("bench < SCRIPT\n       bench <COMMAND>")
             .no_binary_name(true)
             .subcommand_required(true)
@@ -49,7 +53,7 @@ fn program<'a>(alloc: Global) -> Result<Command<'a>, AllocError> {
 }
 
 fn commands<'a>(alloc: Global) -> Result<Command<'a>, AllocError> {
-    let commands = commands_of(alloc, command_rows())?;
+    let commands = commands_of(alloc, &command_rows())?;
     program(alloc)?.subcommands(commands)
 }
 

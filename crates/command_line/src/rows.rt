@@ -43,16 +43,20 @@ pub struct ArgumentRow {
 pub enum CommandKind {
     Replay,
     Picture,
+    Page,
     Crashes,
+    Explore,
     Assemble,
     Check,
     Image,
     Symbols,
     List,
+    Diff,
     Debug,
     Gdb,
     Disk,
     Run,
+    Exec,
 }
 
 /// A command.
@@ -126,11 +130,16 @@ pub fn command_of<'a>(alloc: Global, row: &CommandRow) -> Result<Command<'a>, Al
     )
 }
 
-/// The commands of rows, with their arguments.
-pub fn commands_of<'a>(alloc: Global, rows: &[CommandRow]) -> Result<Vec<Command<'a>>, AllocError> {
+/// The commands of tables of rows, with their arguments.
+pub fn commands_of<'a>(
+    alloc: Global,
+    tables: &[&[CommandRow]],
+) -> Result<Vec<Command<'a>>, AllocError> {
     let mut commands = Vec::new(alloc);
-    for row in rows {
-        commands.push(command_of(alloc, row)?)?;
+    for rows in tables {
+        for row in *rows {
+            commands.push(command_of(alloc, row)?)?;
+        }
     }
     Ok(commands)
 }

@@ -162,7 +162,7 @@ fn is_terminal(terminal: Option<u32>) -> bool
 }
 
 /// A run's numbers. None where one is out of range.
-fn run_numbers(
+pub fn run_numbers(
     workers: u32,
     quantum: u32,
     terminal: Option<u32>,
@@ -191,7 +191,7 @@ pub fn asks_one_and_all(matches: &ArgMatches<'_>) -> bool {
 }
 
 /// The terminal that is printed. None where all are.
-fn terminal_of(matches: &ArgMatches<'_>) -> Option<u32> {
+pub fn terminal_of(matches: &ArgMatches<'_>) -> Option<u32> {
     if matches.get_flag("all-terms") {
         return None;
     }
@@ -210,7 +210,16 @@ pub fn images_of<'a>(
     alloc: Global,
     matches: &ArgMatches<'a>,
 ) -> Result<Option<ImagePaths<'a>>, AllocError> {
-    let Some(paths) = matches.get_strs("IMAGE") else {
+    paths_named(alloc, matches, "IMAGE")
+}
+
+/// The paths that an argument of this name gives, where they are 1 to 8.
+pub fn paths_named<'a>(
+    alloc: Global,
+    matches: &ArgMatches<'a>,
+    name: &str,
+) -> Result<Option<ImagePaths<'a>>, AllocError> {
+    let Some(paths) = matches.get_strs(name) else {
         return Ok(None);
     };
     if paths.is_empty() || paths.len() > MOST_PROGRAMS {

@@ -1,8 +1,11 @@
 //! What the command line asks for.
 use crate::command::{ASSEMBLE, IMAGE, SYMBOLS};
 use crate::debug_options::{DEBUG, LiveOptions, debug_conflict, live_options};
+use crate::exec_options::{EXEC, ExecOptions, exec_conflict, exec_options};
+use crate::explore_options::{EXPLORE, ExploreOptions, explore_options};
 use crate::gdb_options::{GDB, GdbOptions, gdb_conflict, gdb_options};
 use crate::numbers::number_of;
+use crate::page_command::page_task;
 use crate::refusing::refusal;
 use crate::rows::{CommandKind, CommandRow};
 use crate::run_options::{RUN, RunOptions, asks_one_and_all, run_options};
@@ -28,11 +31,18 @@ pub enum Task<'a> {
         script: &'a str,
         cone: Option<u64>,
     },
+    /// Make a page of the run of the script of a file, or print what the page has of it as JSON.
+    Page {
+        script: &'a str,
+        json: bool,
+    },
     /// Try the crashes of the script of a file, whose outcomes are among those of another, if one is given.
     Crashes {
         script: &'a str,
         expect: Option<&'a str>,
     },
+    /// Find all outcomes of programs, whatever the order of their calls.
+    Explore(ExploreOptions<'a>),
     /// Assemble the source in a file to the image in another.
     Assemble {
         source: &'a str,
@@ -52,6 +62,11 @@ pub enum Task<'a> {
     },
     /// List the words of the image in a file.
     List(&'a str),
+    /// Compare the logs in two files.
+    Diff {
+        first: &'a str,
+        second: &'a str,
+    },
     /// Debug the image in a file, with the replies of the trace in another, or none, and beside its source, if it is given.
     Debug {
         image: &'a str,
@@ -66,6 +81,8 @@ pub enum Task<'a> {
     Disk(&'a str),
     /// Run images.
     Run(RunOptions<'a>),
+    /// Run programs for people.
+    Exec(ExecOptions<'a>),
 }
 
 /// What the arguments of the command `asm` ask for. An image that would be written over its own source is refused.
@@ -111,39 +128,75 @@ fn symbols_task<'a>(alloc: Global, matches: &ArgMatches<'a>) -> Result<Option<Ta
 }
 
 /// Refuses the first tape that is not given as it has to be.
-fn test_tapes(alloc: Global, matches: &ArgMatches<'_>) -> Result<(), Error> {
+fn test_tapes(alloc: Global, row: &CommandRow, matches: &ArgMatches<'_>) -> Result<(), Error> {
     match faulty_tape(matches) {
         None => Ok(()),
         Some(fault) => {
             let message = format!(in alloc; "{fault}")?;
-            Err(refusal(alloc, &RUN, ErrorKind::ValueValidation, message.as_str())?)
+            Err(refusal(alloc, row, ErrorKind::ValueValidation, message.as_str())?)
         }
     }
 }
 
 /// Refuses one terminal beside all of them.
-fn test_terminals(alloc: Global, matches: &ArgMatches<'_>) -> Result<(), Error> {
+fn test_terminals(alloc: Global, row: &CommandRow, matches: &ArgMatches<'_>) -> Result<(), Error> {
     if !asks_one_and_all(matches) {
         return Ok(());
     }
     Err(refusal(
         alloc,
-        &RUN,
+        row,
         ErrorKind::ArgumentConflict,
         "the argument '--all-terms' cannot be used with '--term <T>'",
     )?)
 }
 
-fn run_task<'a>(alloc: Global, matches: &ArgMatches<'a>) -> Result<Option<Task<'a>>, Error> {
-    test_tapes(alloc, matches)?;
-    test_terminals(alloc, matches)?;
-    match run_options(alloc, matches)? {
-        Some(options) if options.is_durable && options.disk.is_none() => Err(refusal(
+/// The refusal of a durable run without a disk.
+fn no_disk(alloc: Global, row: &CommandRow) -> Result<Error, AllocError> {
+    refusal(
+        alloc,
+        row,
+        ErrorKind::MissingRequiredArgument,
+        "'--durable' needs '--disk <FILE>'",
+    )
+}
+
+/// Refuses two options of `exec` that cannot be used together.
+fn test_together(alloc: Global, matches: &ArgMatches<'_>) -> Result<(), Error> {
+    match exec_conflict(matches) {
+        None => Ok(()),
+        Some((one, other)) => {
+            let message = format!(in alloc; "the argument '{one}' cannot be used with '{other}'")?;
+            Err(refusal(alloc, &EXEC, ErrorKind::ArgumentConflict, message.as_str())?)
+        }
+    }
+}
+
+fn exec_task<'a>(alloc: Global, matches: &ArgMatches<'a>) -> Result<Option<Task<'a>>, Error> {
+    test_tapes(alloc, &EXEC, matches)?;
+    test_terminals(alloc, &EXEC, matches)?;
+    test_together(alloc, matches)?;
+    match exec_options(alloc, matches)? {
+        Some(options) if options.run.is_durable && options.run.disk.is_none() => {
+            Err(no_disk(alloc, &EXEC)?)
+        }
+        Some(options) => Ok(Some(Task::Exec(options))),
+        None => Err(refusal(
             alloc,
-            &RUN,
-            ErrorKind::MissingRequiredArgument,
-            "'--durable' needs '--disk <FILE>'",
+            &EXEC,
+            ErrorKind::TooManyValues,
+            "there are more than 8 programs",
         )?),
+    }
+}
+
+fn run_task<'a>(alloc: Global, matches: &ArgMatches<'a>) -> Result<Option<Task<'a>>, Error> {
+    test_tapes(alloc, &RUN, matches)?;
+    test_terminals(alloc, &RUN, matches)?;
+    match run_options(alloc, matches)? {
+        Some(options) if options.is_durable && options.disk.is_none() => {
+            Err(no_disk(alloc, &RUN)?)
+        }
         Some(options) => Ok(Some(Task::Run(options))),
         // All else is refused by the command itself; but it does not count images before and after an option together.
         None => Err(too_many_images(alloc, &RUN)?),
@@ -172,6 +225,13 @@ fn crashes_task<'a>(matches: &ArgMatches<'a>) -> Option<Task<'a>> {
     })
 }
 
+fn diff_task<'a>(matches: &ArgMatches<'a>) -> Option<Task<'a>> {
+    Some(Task::Diff {
+        first: matches.get_str("A")?,
+        second: matches.get_str("B")?,
+    })
+}
+
 /// The refusal of more than eight images.
 fn too_many_images(alloc: Global, row: &CommandRow) -> Result<Error, AllocError> {
     refusal(
@@ -180,6 +240,14 @@ fn too_many_images(alloc: Global, row: &CommandRow) -> Result<Error, AllocError>
         ErrorKind::TooManyValues,
         "there are more than 8 images",
     )
+}
+
+/// What the arguments of the command `explore` ask for.
+fn explore_task<'a>(alloc: Global, matches: &ArgMatches<'a>) -> Result<Option<Task<'a>>, Error> {
+    match explore_options(alloc, matches)? {
+        Some(options) => Ok(Some(Task::Explore(options))),
+        None => Err(too_many_images(alloc, &EXPLORE)?),
+    }
 }
 
 /// What the arguments of the command `debug` without `--live` ask for.
@@ -226,15 +294,19 @@ pub fn task_of<'a>(
     match kind {
         CommandKind::Replay => Ok(replay_task(matches)),
         CommandKind::Picture => Ok(picture_task(matches)),
+        CommandKind::Page => Ok(page_task(matches)),
         CommandKind::Crashes => Ok(crashes_task(matches)),
+        CommandKind::Explore => explore_task(alloc, matches),
         CommandKind::Assemble => assemble_task(alloc, matches),
         CommandKind::Check => Ok(matches.get_str("SOURCE").map(Task::Check)),
         CommandKind::Image => image_task(alloc, matches),
         CommandKind::Symbols => symbols_task(alloc, matches),
         CommandKind::List => Ok(matches.get_str("IMAGE").map(Task::List)),
+        CommandKind::Diff => Ok(diff_task(matches)),
         CommandKind::Debug => debug_task(alloc, matches),
         CommandKind::Gdb => gdb_task(alloc, matches),
         CommandKind::Disk => Ok(matches.get_str("FILE").map(Task::Disk)),
         CommandKind::Run => run_task(alloc, matches),
+        CommandKind::Exec => exec_task(alloc, matches),
     }
 }

@@ -84,10 +84,15 @@ fn are_files(words: &str) -> bool {
     words.split(' ').count() <= MOST_FILES && words.split(' ').all(is_file)
 }
 
+/// Whether words are files as an outcome lists them, or `-`.
+pub fn are_listed(words: &str) -> bool {
+    words == "-" || are_files(words)
+}
+
 /// Whether a line has the form of an outcome, as `outcome_of` writes it.
 pub fn is_outcome(line: &str) -> bool {
     match line.strip_prefix("files ") {
-        Some(words) => words == "-" || are_files(words),
+        Some(words) => are_listed(words),
         None => false,
     }
 }

@@ -1,6 +1,8 @@
 //! The commands of a session.
 use crate::aids::Aids;
+use crate::registers::register_named;
 use crate::showing::MOST_SHOWN;
+use formats::Reg;
 use input_reading::{decimal, hexadecimal};
 
 /// What moves the machine.
@@ -12,6 +14,18 @@ pub enum Motion {
     Run,
     /// Back to the state after so many instructions.
     Rewind(u64),
+}
+
+/// What `print` prints.
+#[derive(Clone, Copy)]
+pub enum Printed {
+    Register(Reg),
+    /// The address of the next instruction.
+    Pc,
+    /// The word at an address.
+    Word(u32),
+    /// An address itself, as that of a label.
+    Address(u32),
 }
 
 /// A command that is answered.
@@ -26,6 +40,8 @@ pub enum Command {
     Show { at: u32, count: u32 },
     /// All registers are printed.
     State,
+    Print(Printed),
+    Help,
     Quit,
 }
 
@@ -36,6 +52,7 @@ pub enum CommandFault {
     Number,
     Address,
     Count,
+    Printed,
 }
 
 impl CommandFault {
@@ -45,9 +62,14 @@ impl CommandFault {
             CommandFault::Unknown => {
                 "unknown command; there are: step N, run, break ADDR, clear N, rewind N, state, quit"
             }
-            CommandFault::Number => "faulty number: N is decimal",
-            CommandFault::Address => "faulty address: ADDR is eight hexadecimal digits",
+            CommandFault::Number => "faulty number: N is decimal, or hexadecimal after 0x",
+            CommandFault::Address => {
+                "faulty address: ADDR is eight hexadecimal digits, or up to eight after 0x"
+            }
             CommandFault::Count => "faulty number: N is decimal, from 1 to 4096",
+            CommandFault::Printed => {
+                "nothing of this name: print takes a register, pc, *ADDR, or a label of the source"
+            }
         }
     }
 
@@ -58,25 +80,57 @@ impl CommandFault {
                 "unknown command; there are: step N, run, break ADDR, break LABEL, clear N, rewind N, state, show ADDR N, quit"
             }
             CommandFault::Address => {
-                "faulty address: ADDR is eight hexadecimal digits, LABEL a label in the text of the source"
+                "faulty address: ADDR is eight hexadecimal digits, or up to eight after 0x, LABEL a label in the text of the source"
             }
             fault => fault.text(),
         }
     }
 }
 
+/// The number of a word that begins with 0x.
+fn prefixed(word: &str) -> Option<u64> {
+    let digits = word.strip_prefix("0x")?;
+    if digits.bytes().all(|byte| byte.is_ascii_hexdigit()) {
+        u64::from_str_radix(digits, 16).ok()
+    } else {
+        None
+    }
+}
+
 fn number_of(word: &str) -> Result<u64, CommandFault> {
-    match decimal(word) {
-        Some(number) => Ok(number),
-        None => Err(CommandFault::Number),
+    decimal(word).or(prefixed(word)).ok_or(CommandFault::Number)
+}
+
+/// The address that a word says in digits.
+fn address_in_digits(word: &str) -> Option<u32> {
+    match prefixed(word) {
+        Some(number) => u32::try_from(number).ok(),
+        None => hexadecimal(word),
     }
 }
 
 /// The address of a word, which may be a label.
 fn address_of(word: &str, aids: &Aids) -> Result<u32, CommandFault> {
-    match hexadecimal(word) {
+    match address_in_digits(word) {
         Some(at) => Ok(at),
         None => aids.address_of(word).ok_or(CommandFault::Address),
+    }
+}
+
+/// What a word names that is printed.
+fn value_named(word: &str, aids: &Aids) -> Result<Printed, CommandFault> {
+    if word == "pc" {
+        return Ok(Printed::Pc);
+    }
+    if let Some(place) = word.strip_prefix("*") {
+        return Ok(Printed::Word(address_of(place, aids)?));
+    }
+    if let Some(register) = register_named(word) {
+        return Ok(Printed::Register(register));
+    }
+    match aids.address_of(word) {
+        Some(at) => Ok(Printed::Address(at)),
+        None => Err(CommandFault::Printed),
     }
 }
 
@@ -86,7 +140,10 @@ fn plain(name: &str, aids: &Aids) -> Result<Command, CommandFault> {
         "run" => Ok(Command::Move(Motion::Run)),
         "state" => Ok(Command::State),
         "quit" => Ok(Command::Quit),
-        "step" | "clear" | "rewind" => Err(CommandFault::Number),
+        "help" | "?" => Ok(Command::Help),
+        "step" => Ok(Command::Move(Motion::Step(1))),
+        "print" => Err(CommandFault::Printed),
+        "clear" | "rewind" => Err(CommandFault::Number),
         "break" => Err(CommandFault::Address),
         "show" if aids.some() => Err(CommandFault::Address),
         _ => Err(CommandFault::Unknown),
@@ -95,7 +152,7 @@ fn plain(name: &str, aids: &Aids) -> Result<Command, CommandFault> {
 
 /// How many bytes are to be printed.
 fn count_of(word: &str) -> Result<u32, CommandFault> {
-    match decimal(word) {
+    match number_of(word).ok() {
         Some(count) if 1 <= count && count <= u64::from(MOST_SHOWN) => Ok(count as u32),
         _ => Err(CommandFault::Count),
     }
@@ -122,6 +179,7 @@ fn with_word(name: &str, word: &str, aids: &Aids) -> Result<Command, CommandFaul
         "rewind" => Ok(Command::Move(Motion::Rewind(number_of(word)?))),
         "clear" => Ok(Command::Clear(number_of(word)?)),
         "break" => Ok(Command::Break(address_of(word, aids)?)),
+        "print" => Ok(Command::Print(value_named(word, aids)?)),
         "show" if aids.some() => show(word, aids),
         _ => Err(CommandFault::Unknown),
     }

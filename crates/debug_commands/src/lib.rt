@@ -4,6 +4,7 @@
 mod aids;
 mod changes;
 mod command;
+mod help;
 mod moving;
 mod quoted;
 mod refusal;
@@ -13,6 +14,7 @@ mod session;
 mod showing;
 mod standing;
 mod traps;
+mod values;
 mod writable;
 
 pub use session::debug;

@@ -1,9 +1,11 @@
 //! A session: commands line by line, and their answers.
 use crate::aids::Aids;
 use crate::command::{Command, CommandFault, command_of};
+use crate::help::print_help;
 use crate::refusal::print_refusal;
 use crate::registers::print_registers;
 use crate::showing::print_memory;
+use crate::values::print_value;
 use crate::writable::Writable;
 use debug_info::SourceLines;
 use debugger::Image;
@@ -43,6 +45,8 @@ impl Session {
                 print_memory(self.timeline.machine().space(), at, count, out)?;
             }
             Command::State => self.print_state(out)?,
+            Command::Print(what) => print_value(self.timeline.machine(), what, out)?,
+            Command::Help => print_help(&self.aids, out)?,
             Command::Quit => return Ok(false),
         }
         Ok(true)
@@ -110,7 +114,7 @@ impl Session {
 
 /// A session with a program at its first state, whose calls get the replies of a trace or of a kernel. The commands are read from the
 /// input, a line each, and what one gives is flushed before the next is read. They are `step N`, `run`, `break ADDR`, `clear N`,
-/// `rewind N`, `state` and `quit`. A run goes to a breakpoint, a trap, the end of the trace, or 2^40 instructions. The end of the
+/// `rewind N`, `state`, `print WHAT`, `help` and `quit`. A run goes to a breakpoint, a trap, the end of the trace, or 2^40 instructions. The end of the
 /// input is `quit`.
 ///
 /// With a kernel the trace ends only where that has no more replies: what terminals show is printed as it shows, and a line says

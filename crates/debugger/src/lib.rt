@@ -17,7 +17,7 @@ mod running;
 mod stops;
 mod watching;
 
-pub use access::{Access, AccessKind};
+pub use access::{Access, AccessKind, access_at};
 pub use debugger::{Debugger, MOST_INSTRUCTIONS};
 pub use fault::DebugFault;
 pub use machine::{Cause, Image, Machine, Reply};

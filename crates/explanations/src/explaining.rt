@@ -5,7 +5,7 @@ use crate::lines::line_reason;
 use crate::task_files::{Role, TaskFile, files_of};
 use command_line::Task;
 use elf32::ElfFault;
-use faults::{ExpectationFault, Fault, write_line};
+use faults::{ExpectationFault, ExplorationFault, Fault, write_line};
 use host_files::{FileFault, source_reason};
 use input_reading::{bytes_in, image_file_in};
 use simdisk::SIZE;
@@ -191,6 +191,7 @@ fn file_fault<R: Files<File = File> + AllocGlobal>(
             path_of(files, Role::Source),
             "it assembles to another image than the one given",
         ),
+        FileFault::Log => Ok(None),
         FileFault::DiskLength => disk_length(rt, files),
         FileFault::DiskInUse => said_of(
             rt,
@@ -218,13 +219,33 @@ fn said_of<R: AllocGlobal>(rt: &R, path: Option<&str>, why: &str) -> Result<Opti
     }
 }
 
+fn exploration_fault<R: Files<File = File> + AllocGlobal>(
+    rt: &R,
+    files: &[TaskFile<'_>],
+    fault: ExplorationFault,
+) -> Result<Option<Reason>, Fault> {
+    match fault {
+        ExplorationFault::NotExpected { .. } => said_of(
+            rt,
+            path_of(files, Role::Expectations),
+            "it has no line that is this outcome",
+        ),
+        ExplorationFault::Cut { .. } => about(rt, "", "more states were found than --most-states"),
+        ExplorationFault::RunsOn { .. } => about(
+            rt,
+            "",
+            "it ran as many instructions as --limit says, and came to no call",
+        ),
+    }
+}
+
 fn reason_of<R: Files<File = File> + AllocGlobal>(
     rt: &R,
     files: &[TaskFile<'_>],
     fault: Fault,
 ) -> Result<Option<Reason>, Fault> {
     match fault {
-        Fault::Argument => Ok(None),
+        Fault::Argument | Fault::Logs { .. } => Ok(None),
         Fault::Script { line } => line_at(
             rt,
             files,
@@ -251,6 +272,7 @@ fn reason_of<R: Files<File = File> + AllocGlobal>(
             path_of(files, Role::Expectations),
             "it has no list of files that is the one that this crash leaves",
         ),
+        Fault::Exploration(fault) => exploration_fault(rt, files, fault),
         Fault::Disk { fault, .. } => {
             let why = format!(in rt.alloc(); "{fault}")?;
             said_of(rt, disk_path(files), why.as_str())

@@ -1,5 +1,5 @@
 //! The files that a task names.
-use command_line::{LiveOptions, RunOptions, Task};
+use command_line::{ExecOptions, ExploreOptions, LiveOptions, RunOptions, Task};
 use std::alloc::{AllocError, Global};
 
 /// What a file is for.
@@ -11,6 +11,7 @@ pub enum Role {
     /// An executable that a linker wrote.
     Linked,
     Trace,
+    Log,
     Tape,
     Expectations,
     /// A disk that is read.
@@ -61,6 +62,15 @@ fn push_run<'a>(
     push(files, role, options.disk)
 }
 
+fn push_exec<'a>(
+    files: &mut Vec<TaskFile<'a>>,
+    options: &'a ExecOptions<'a>,
+) -> Result<(), AllocError> {
+    push_run(files, &options.run)?;
+    push(files, Role::Written, options.record)?;
+    push(files, Role::Written, options.picture)
+}
+
 fn push_live<'a>(
     files: &mut Vec<TaskFile<'a>>,
     options: &'a LiveOptions<'a>,
@@ -73,12 +83,29 @@ fn push_live<'a>(
     push(files, Role::Source, options.source)
 }
 
+fn push_explored<'a>(
+    files: &mut Vec<TaskFile<'a>>,
+    options: &'a ExploreOptions<'a>,
+) -> Result<(), AllocError> {
+    let programs = options.programs.as_slice();
+    let role = match programs {
+        [_] => Role::Script,
+        _ => Role::Image,
+    };
+    for path in programs {
+        push(files, role, Some(*path))?;
+    }
+    push(files, Role::Expectations, options.expect)
+}
+
 /// Adds the files of the options of a session or a run, if the task is one.
 fn push_options<'a>(files: &mut Vec<TaskFile<'a>>, task: &'a Task<'a>) -> Result<(), AllocError> {
     match task {
         Task::DebugLive(options) => push_live(files, options),
         Task::Gdb(options) => push_live(files, &options.live),
         Task::Run(options) => push_run(files, options),
+        Task::Exec(options) => push_exec(files, options),
+        Task::Explore(options) => push_explored(files, options),
         _ => Ok(()),
     }
 }
@@ -97,7 +124,8 @@ fn one(role: Role, path: Option<&str>) -> Named<'_> {
 /// The files of a task beside those of `push_options`, in the same order.
 fn named<'a>(task: &'a Task<'a>) -> Named<'a> {
     match task {
-        Task::ReplayInput | Task::DebugLive(_) | Task::Run(_) => one(Role::Script, None),
+        Task::ReplayInput | Task::DebugLive(_) | Task::Run(_) | Task::Exec(_) | Task::Explore(_) =>
+            { one(Role::Script, None) }
         Task::ReplayFile(script) | Task::ReplayCone { script, .. } | Task::Picture { script, .. } =>
             one(Role::Script, Some(*script)),
         Task::Crashes { script, expect } => {
@@ -112,7 +140,9 @@ fn named<'a>(task: &'a Task<'a>) -> Named<'a> {
         Task::Symbols { source, symbols } => {
             two(Role::Source, Some(*source), Role::Written, Some(*symbols))
         }
+        Task::Page { script, .. } => one(Role::Script, Some(*script)),
         Task::Check(source) => one(Role::Source, Some(*source)),
+        Task::Diff { first, second } => two(Role::Log, Some(*first), Role::Log, Some(*second)),
         Task::List(image) => one(Role::Image, Some(*image)),
         Task::Debug {
             image,

@@ -1,5 +1,6 @@
 //! Why the program ends early.
 use crate::expectation::ExpectationFault;
+use crate::exploration::ExplorationFault;
 use host_files::FileFault;
 use journal::DiskFault;
 use std::alloc::{AllocError, AllocFailed};
@@ -27,6 +28,12 @@ pub enum Fault {
     /// Expected outcomes of crashes that cannot be read, or a crash with another.
     #[error("bench: {0}")]
     Expectation(ExpectationFault),
+    /// Two logs that differ at the instruction of this number.
+    #[error("bench: logs differ at instruction {instruction}")]
+    Logs { instruction: u64 },
+    /// An outcome of some order that is not expected, or orders that were not explored.
+    #[error("bench: {0}")]
+    Exploration(ExplorationFault),
     /// A disk that cannot be read, and its first fault.
     #[error("bench: disk refused: {number} {fault:?}")]
     Disk { number: u8, fault: DiskFault },
@@ -47,7 +54,8 @@ fn file_status(fault: &FileFault) -> u8 {
         | FileFault::Image { .. }
         | FileFault::Linked(_)
         | FileFault::SameFile
-        | FileFault::Trace { .. } => 2,
+        | FileFault::Trace { .. }
+        | FileFault::Log => 2,
         FileFault::DiskLength => 3,
         FileFault::OutOfMemory => 5,
         FileFault::OwnSource | FileFault::DiskInUse | FileFault::InputOutput => 6,
@@ -55,13 +63,15 @@ fn file_status(fault: &FileFault) -> u8 {
 }
 
 impl Fault {
-    /// The exit status, 1 to 7.
+    /// The exit status, 1 to 8.
     pub fn status(&self) -> u8 {
         match self {
             Fault::Argument => 1,
             Fault::Script { .. } | Fault::Event { .. } | Fault::Process { .. } => 2,
             Fault::File(fault) => file_status(fault),
             Fault::Expectation(fault) => fault.status(),
+            Fault::Logs { .. } => 7,
+            Fault::Exploration(fault) => fault.status(),
             Fault::Disk { .. } => 3,
             Fault::DiskFailed => 4,
             Fault::OutOfMemory => 5,

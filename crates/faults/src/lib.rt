@@ -3,9 +3,11 @@
 #![tactic(auto)]
 
 mod expectation;
+mod exploration;
 mod fault;
 mod whole_line;
 
 pub use expectation::ExpectationFault;
+pub use exploration::ExplorationFault;
 pub use fault::Fault;
 pub use whole_line::write_line;

@@ -30,6 +30,9 @@ pub enum FileFault {
     /// The first line of a trace that is no reply.
     #[error("trace refused at line {line}")]
     Trace { line: usize },
+    /// A file that is to be a log of instructions, and has none.
+    #[error("log refused: no line of it says an instruction")]
+    Log,
     /// A disk of another length than a disk's.
     #[error("disk refused: 4 BadLength")]
     DiskLength,

@@ -3,8 +3,16 @@
 #![tactic(auto)]
 
 mod debugging;
+mod exec_keeping;
+mod exec_running;
+mod executables;
+mod executing;
+mod exploring;
 mod fault;
 mod gdb;
+mod logs;
+mod observing;
+mod page_files;
 mod program;
 mod running;
 mod script_files;

@@ -1,6 +1,10 @@
 //! The whole program.
 use crate::debugging::{debug_file, debug_live};
+use crate::executing::{REFUSED, execute};
+use crate::exploring::explore_programs;
 use crate::gdb::answer_gdb;
+use crate::logs::diff_files;
+use crate::page_files::page_file;
 use crate::running::run_images;
 use crate::script_files::{
     explore_file, picture_file, replay_cone_file, replay_file, replay_input,
@@ -31,7 +35,9 @@ fn perform<
         Task::ReplayFile(path) => replay_file(rt, path, out),
         Task::ReplayCone { script, event } => replay_cone_file(rt, script, *event, out),
         Task::Picture { script, cone } => picture_file(rt, script, *cone, out),
+        Task::Page { script, json } => page_file(rt, script, *json, out),
         Task::Crashes { script, expect } => explore_file(rt, script, *expect, out),
+        Task::Explore(options) => explore_programs(rt, options, out),
         Task::Assemble { source, image } => assemble_file(rt, source, image, out).map_err(
             Fault::File,
         ),
@@ -49,7 +55,9 @@ fn perform<
         Task::DebugLive(options) => debug_live(rt, options, input, out),
         Task::Gdb(options) => answer_gdb(rt, options, input, out),
         Task::Disk(path) => list_files(rt, path, out),
+        Task::Diff { first, second } => diff_files(rt, first, second, out),
         Task::Run(options) => return run_images(rt, options, asked.explain, input, out, err),
+        Task::Exec(options) => return Ok(execute(rt, &asked.task, options, input, out, err)),
     };
     done?;
     Ok(0)
@@ -65,7 +73,10 @@ fn run<
     let done = perform(rt, asked, input, out, err);
     let flushed = out.flush();
     let status = done?;
-    flushed?;
+    // The status of `exec` says already where its output did not go out.
+    if !matches!(asked.task, Task::Exec(_)) {
+        flushed?;
+    }
     Ok(status)
 }
 
@@ -102,14 +113,22 @@ fn print_help<O: Write>(help: &Error, out: &mut O) -> Result<(), Fault> {
     Ok(())
 }
 
+/// The status at a faulty command line, by its command: another one for `exec`, whose programs have a status of their own.
+fn usage_status(words: &[String]) -> u8 {
+    match words.iter().find(|word| !word.starts_with('-')) {
+        Some(name) if name.as_str() == "exec" => REFUSED,
+        _ => 1,
+    }
+}
+
 /// The end at a faulty command line, or at help that was asked for.
-fn end_usage<O: Write, E: Write>(error: &Error, out: &mut O, err: &mut E) -> u8 {
+fn end_usage<O: Write, E: Write>(words: &[String], error: &Error, out: &mut O, err: &mut E) -> u8 {
     if error.kind() == ErrorKind::OutOfMemory {
         return end(Fault::OutOfMemory, err);
     }
     if error.use_stderr() {
         let _ = write!(err, "{error}");
-        return 1;
+        return usage_status(words);
     }
     match print_help(error, out) {
         Ok(()) => 0,
@@ -134,7 +153,7 @@ fn obey<
     E: Write,
 >(rt: &R, words: &[String], input: &mut I, out: &mut O, err: &mut E) -> u8 {
     match parse(rt.alloc(), words) {
-        Err(error) => end_usage(&error, out, err),
+        Err(error) => end_usage(words, &error, out, err),
         Ok(asked) => {
             let done = run(rt, &asked, input, out, err);
             end_asked(rt, &asked, done, err)

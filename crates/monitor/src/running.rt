@@ -12,7 +12,7 @@ use std::rt::Files;
 use std::sync::Wait;
 use std::thread::Threads;
 
-fn settings_of(numbers: RunNumbers) -> Settings {
+pub fn settings_of(numbers: RunNumbers) -> Settings {
     Settings {
         workers: numbers.workers,
         quantum: numbers.quantum,
@@ -27,7 +27,7 @@ fn has_failed(core: &Core) -> bool {
 }
 
 /// Runs the core of a run, on the file that holds its disk, if the run is durable.
-fn run_core<R: Threads + Wait + Sync + AllocGlobal, O: Write>(
+pub fn run_core<R: Threads + Wait + Sync + AllocGlobal, O: Write>(
     rt: &R,
     core: Core,
     file: Option<HostFile>,

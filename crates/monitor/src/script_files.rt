@@ -7,7 +7,8 @@ use std::io::{Read, Write};
 use std::rt::Files;
 use std::{fs, io};
 
-fn script_in<R: Files + AllocGlobal>(rt: &R, path: &str) -> Result<Script, Fault> {
+/// The script in a file.
+pub fn script_in<R: Files + AllocGlobal>(rt: &R, path: &str) -> Result<Script, Fault> {
     let text = fs::read_to_string(rt, path)?;
     Script::parse(rt.alloc(), text.as_str())
 }

@@ -265,6 +265,11 @@ impl PictureBuilder {
         Ok(self.picture.rows.push(row)?)
     }
 
+    /// Goes on past an event that the core accepted last and that changed nothing, as one that waits.
+    pub fn pass(&mut self, event: Event) -> Result<(), AllocError> {
+        follow(&mut self.follower, event)
+    }
+
     /// Ends in the next row what has not ended yet: changes that are not committed, writes in flight, outputs that are held back. Gives
     /// how many changes and outputs there were.
     pub fn cut_off(&mut self) -> (u64, u64) {

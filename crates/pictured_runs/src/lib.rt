@@ -3,7 +3,6 @@
 #![tactic(auto)]
 
 mod builder;
-mod call_texts;
 mod cones;
 mod crashes;
 mod paths;

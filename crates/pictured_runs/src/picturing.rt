@@ -1,8 +1,8 @@
 //! The picture of a script's run.
 use crate::builder::PictureBuilder;
-use crate::call_texts::{call_text, reply_text};
 use crate::cones::show_cone;
 use crate::crashes::{push_crash, push_files};
+use call_lines::{call_text, reply_text};
 use faults::Fault;
 use kernel::{Answer, Core, Event, Machine};
 use pictures::{Deed, Picture, Row, draw};
@@ -11,6 +11,9 @@ use std::alloc::{AllocError, Global};
 use std::io::Write;
 use std::mem;
 use std::rt::Files;
+
+/// The most bytes that a call shows of what it writes or of a name.
+const MOST_BYTES: usize = 8;
 
 /// How many processes a core has.
 fn processes_of(core: &Core) -> u32 {
@@ -38,7 +41,7 @@ fn machine_of(core: &Core, event: Event) -> Option<&Machine> {
 /// What the call or the trap of an event says that is to be applied; nothing where the event is no Enter.
 fn call_before(alloc: Global, core: &Core, event: Event) -> Result<String, AllocError> {
     match machine_of(core, event) {
-        Some(machine) => call_text(alloc, machine),
+        Some(machine) => call_text(alloc, machine, MOST_BYTES),
         None => Ok(String::new(alloc)),
     }
 }
@@ -78,6 +81,8 @@ struct Pictured<'a, R> {
     builder: PictureBuilder,
     /// What the call says of the event that is to be applied.
     call: String,
+    /// The processes whose last call waits.
+    waiting: Vec<u32>,
 }
 
 impl<'a, R: Files + AllocGlobal> Pictured<'a, R> {
@@ -91,7 +96,24 @@ impl<'a, R: Files + AllocGlobal> Pictured<'a, R> {
             alone,
             builder: PictureBuilder::new(alloc, follower)?,
             call: String::new(alloc),
+            waiting: Vec::new(alloc),
         })
+    }
+
+    /// Whether an event is not drawn: it waits, and so does the last call of its process. In a cone each event is drawn.
+    fn is_folded(&mut self, event: Event, answer: Answer) -> Result<bool, AllocError> {
+        let Event::Enter { pid } = event else {
+            return Ok(false);
+        };
+        let was_waiting = self.waiting.iter().any(|it| *it == pid);
+        if !matches!(answer, Answer::Waits) {
+            self.waiting.retain(|it| *it != pid);
+            return Ok(false);
+        }
+        if !was_waiting {
+            self.waiting.push(pid)?;
+        }
+        Ok(was_waiting && !self.alone)
     }
 
     /// The row of an event that was accepted last.
@@ -114,6 +136,7 @@ impl<'a, R: Files + AllocGlobal> Pictured<'a, R> {
     /// Goes on with the next boot: below what there is, with the files that this boot found, or alone.
     fn boot_again(&mut self, next: &Core) -> Result<(), Fault> {
         let follower = self.start.boot()?;
+        self.waiting.clear();
         if self.alone {
             self.builder = PictureBuilder::new(self.start.alloc(), follower)?;
             return Ok(());
@@ -143,6 +166,9 @@ impl<R: Files + AllocGlobal> Visitor for Pictured<'_, R> {
     }
 
     fn after(&mut self, core: &Core, event: Event, answer: Answer) -> Result<(), Fault> {
+        if self.is_folded(event, answer)? {
+            return Ok(self.builder.pass(event)?);
+        }
         let row = self.row_of(core, event, answer)?;
         Ok(
             self.builder
@@ -160,7 +186,7 @@ impl<R: Files + AllocGlobal> Visitor for Pictured<'_, R> {
 }
 
 /// Runs a script, and draws its events as SVG text: what each does, and from when on its changes are on the disk and its output is
-/// shown. Each boot has its part, and a note between two parts says what the crash cut off, and which files the next boot finds. A
+/// shown. A call that waits is drawn once, however often it is tried again. Each boot has its part, and a note between two parts says what the crash cut off, and which files the next boot finds. A
 /// refused event is not drawn, nor is a line that applies none. With the number of an event it draws the run since the last boot
 /// alone, pale where that event does not rest on it, with arrows for the paths between processes. `Fault::Event`: there is no such
 /// event, or it is a Cut, a Complete or a Fail. The script is run before anything is written.

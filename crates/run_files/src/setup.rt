@@ -51,7 +51,7 @@ fn tape_in<R: Files + AllocGlobal, I: Read>(
 }
 
 /// The tapes of a run, in order; one without a file is empty.
-fn tapes_in<R: Files + AllocGlobal, I: Read>(
+pub fn tapes_in<R: Files + AllocGlobal, I: Read>(
     rt: &R,
     paths: &[Option<&str>],
     input: &mut I,
@@ -166,6 +166,21 @@ pub fn boot<R: Files<File = File> + AllocGlobal, I: Read>(
 ) -> Result<Setup, Fault> {
     let tapes = tapes_in(rt, options.tapes.as_slice(), input)?;
     let programs = programs_in(rt, options.images.as_slice())?;
+    boot_on(rt, options, programs, tapes)
+}
+
+/// Boots the core of a run of these programs with these tapes. All goes on as by `boot` where these are read.
+pub fn boot_on<R: Files<File = File> + AllocGlobal>(
+    rt: &R,
+    options: &RunOptions<'_>,
+    programs: Vec<Program>,
+    tapes: Vec<Bytes>,
+) -> Result<Setup, Fault>
+    requires tapes { length tapes.items ≤ tape_count }
+    requires some { 1 ≤ length programs.items }
+    requires programs { length programs.items ≤ most_programs }
+    requires terminals { AllByRecursion (λ p. p.terminal < terminal_count) programs.items }
+{
     match options.disk {
         Some(path) => setup_at(rt, path, options.is_durable, programs, tapes),
         None => {

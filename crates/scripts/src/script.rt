@@ -64,13 +64,22 @@ impl Script {
         Ok(())
     }
 
+    /// What it sets up, without its steps.
+    pub fn into_setup(self) -> Setup {
+        let Script {
+            setup,
+            steps: _steps,
+        } = self;
+        setup
+    }
+
     /// Reads a script whole. Refused is the first line of these:
     /// - it has no form;
-    /// - it is a set-up line (`program`, `image` or `tape`) after a line that is none;
-    /// - it is a ninth `program` or `image` line, or a second line for one tape.
+    /// - it is a set-up line (`program`, `image`, `binary` or `tape`) after a line that is none;
+    /// - it is a ninth `program`, `image` or `binary` line, or a second line for one tape.
     ///
     /// Lines are counted from 1 and end at a line feed; empty ones and those that begin with `#` are skipped. A script without a
-    /// `program` or an `image` line is refused when it is booted.
+    /// `program`, an `image` or a `binary` line is refused when it is booted.
     pub fn parse(alloc: Global, text: &str) -> Result<Script, Fault> {
         let mut script = Script {
             setup: Setup::new(alloc),

@@ -99,6 +99,7 @@ impl Drop for Setup {
 pub enum SetupLine {
     Program,
     Image,
+    Binary,
     Tape,
 }
 
@@ -108,6 +109,7 @@ impl SetupLine {
         match word {
             "program" => Some(SetupLine::Program),
             "image" => Some(SetupLine::Image),
+            "binary" => Some(SetupLine::Binary),
             "tape" => Some(SetupLine::Tape),
             _ => None,
         }
@@ -135,6 +137,14 @@ fn path_of(alloc: Global, texts: &[&str]) -> Result<Option<Source>, AllocError> 
     match texts {
         [path] if is_path(path) => Ok(Some(Source::Path(String::from_str(alloc, path)?))),
         _ => Ok(None),
+    }
+}
+
+/// The file of a binary line, by its bytes. None where these have no form.
+fn file_of(alloc: Global, texts: &[&str]) -> Result<Option<Source>, AllocError> {
+    match only_bytes_of(alloc, texts)? {
+        Some(bytes) => Ok(Some(Source::File(Vec::from_slice(alloc, bytes.as_slice())?))),
+        None => Ok(None),
     }
 }
 
@@ -179,6 +189,15 @@ impl Setup {
         }
     }
 
+    /// Adds the image in a file, for the terminal of its place. Whether there is room for it: it is not a ninth one.
+    pub fn push_image(&mut self, alloc: Global, path: &str) -> Result<bool, AllocError> {
+        let terminal = u32::try_from(self.programs.len())
+            .ok()
+            .and_then(terminal_of);
+        let path = String::from_str(alloc, path)?;
+        self.push_program(terminal, Some(Source::Path(path)))
+    }
+
     /// Before the first line.
     pub fn new(alloc: Global) -> Setup {
         Setup {
@@ -204,6 +223,9 @@ impl Setup {
             }
             SetupLine::Image => {
                 self.push_program(number.and_then(terminal_of), path_of(alloc, rest)?)
+            }
+            SetupLine::Binary => {
+                self.push_program(number.and_then(terminal_of), file_of(alloc, rest)?)
             }
             SetupLine::Tape => self.push_tape(number, only_bytes_of(alloc, rest)?),
         }

@@ -1,0 +1,7 @@
+//! The call or the trap at which a machine stands, and the reply to a call, as texts with the bytes of what is written and of names.
+//! Read `call_text` first. Only safety is proved.
+#![tactic(auto)]
+
+mod calls_at;
+
+pub use calls_at::{call_at, call_text, reply_text};

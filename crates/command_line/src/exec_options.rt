@@ -1,0 +1,232 @@
+//! The command `exec`, and its options.
+use crate::numbers::number_of;
+use crate::rows::{ArgumentRow, CommandKind, CommandRow, Form, NumberRow};
+use crate::run_options::{
+    RunNumbers, RunOptions, paths_named, run_numbers, small_number, terminal_of,
+};
+use crate::tapes::TapePaths;
+use clap::ArgMatches;
+use std::alloc::{AllocError, Global};
+
+/// What is to be run for people, and how.
+#[derive(Drop)]
+pub struct ExecOptions<'a> {
+    /// What it has in common with `run`; the images are programs of any kind.
+    pub run: RunOptions<'a>,
+    /// Whether workers are to run it, in threads.
+    pub is_threaded: bool,
+    /// How many instructions may be run, if not any number.
+    pub limit: Option<u64>,
+    /// What decides which process runs next and how long, if chance is to.
+    pub seed: Option<u64>,
+    /// Whether each call is told.
+    pub tells_calls: bool,
+    /// Whether the run is told as an object of JSON, in place of what terminals show.
+    pub is_json: bool,
+    /// The path of the file that is to have the run as a script, if one is.
+    pub record: Option<&'a str>,
+    /// The path of the file that is to have the run's picture, if one is.
+    pub picture: Option<&'a str>,
+}
+
+/// How many instructions, any number of them.
+const LIMIT: NumberRow = NumberRow {
+    value: "N",
+    least: 0,
+    most: u64::MAX,
+    default: None,
+};
+
+/// What chance begins with, any number.
+const SEED: NumberRow = NumberRow {
+    value: "S",
+    least: 0,
+    most: u64::MAX,
+    default: None,
+};
+
+/// The command `exec`.
+pub const EXEC: CommandRow = CommandRow {
+    kind: CommandKind::Exec,
+    name: "exec",
+    whole: "bench exec",
+    about: "Run programs: images, executables or sources; the status is that of the first",
+    example: "Example: echo 1 2 3 | bench exec --tape - --limit 1000000 examples/first.s",
+    arguments: &[
+        ArgumentRow {
+            name: "limit",
+            help: "the most instructions of all processes together; status 124 where they are reached",
+            form: Form::Number(LIMIT),
+        },
+        ArgumentRow {
+            name: "seed",
+            help: "have chance decide which process runs next and how long; a seed, one order",
+            form: Form::Number(SEED),
+        },
+        ArgumentRow {
+            name: "calls",
+            help: "tell of each call on standard error: its process, what it is given and replied",
+            form: Form::Flag,
+        },
+        ArgumentRow {
+            name: "record",
+            help: "write the run as a script, which bench replay runs again",
+            form: Form::Option("FILE"),
+        },
+        ArgumentRow {
+            name: "picture",
+            help: "draw the run as an SVG, as bench picture does",
+            form: Form::Option("FILE"),
+        },
+        ArgumentRow {
+            name: "json",
+            help: "print at the end one object of JSON, in place of what terminals show",
+            form: Form::Flag,
+        },
+        ArgumentRow {
+            name: "workers",
+            help: "run by so many worker threads, 1 to 16; without it by turns, on one",
+            form: Form::Number(NumberRow {
+                value: "N",
+                least: 1,
+                most: 16,
+                default: None,
+            }),
+        },
+        ArgumentRow {
+            name: "disk",
+            help: "the disk's file, zeros if there is none; it is written at the end",
+            form: Form::Option("FILE"),
+        },
+        ArgumentRow {
+            name: "durable",
+            help: "have the disk's file hold each change before what rests on it is printed",
+            form: Form::Flag,
+        },
+        ArgumentRow {
+            name: "tape",
+            help: "what the first program may read; - is standard input",
+            form: Form::Option("FILE"),
+        },
+        ArgumentRow {
+            name: "tape-of",
+            help: "what the program of terminal T may read; may be given for each T",
+            form: Form::Options("T=FILE"),
+        },
+        ArgumentRow {
+            name: "term",
+            help: "the terminal that is printed, 0 to 7",
+            form: Form::Number(NumberRow {
+                value: "T",
+                least: 0,
+                most: 7,
+                default: Some("0"),
+            }),
+        },
+        ArgumentRow {
+            name: "all-terms",
+            help: "print all terminals, each part after a line that names its terminal",
+            form: Form::Flag,
+        },
+        ArgumentRow {
+            name: "PROGRAM",
+            help: "the files of 1 to 8 programs, for the terminals 0, 1, ..",
+            form: Form::Images,
+        },
+    ],
+};
+
+/// How many workers there are where none are asked for, and how many instructions a worker runs at a time.
+const WORKERS: u32 = 4;
+
+const QUANTUM: u32 = 10_000;
+
+fn numbers_of(matches: &ArgMatches<'_>) -> Option<RunNumbers> {
+    let workers = small_number(matches, "workers").unwrap_or(WORKERS);
+    run_numbers(workers, QUANTUM, terminal_of(matches), None)
+}
+
+/// What a run has in common with `run`. None where there are more than 8 programs.
+fn common<'a>(
+    alloc: Global,
+    matches: &ArgMatches<'a>,
+) -> Result<Option<RunOptions<'a>>, AllocError> {
+    let Some(numbers) = numbers_of(matches) else {
+        return Ok(None);
+    };
+    let Some(images) = paths_named(alloc, matches, "PROGRAM")? else {
+        return Ok(None);
+    };
+    Ok(Some(RunOptions {
+        numbers,
+        disk: matches.get_str("disk"),
+        is_durable: matches.get_flag("durable"),
+        tapes: TapePaths::of(matches),
+        images,
+        status: None,
+    }))
+}
+
+/// The options with a value that have the run go by turns, and how each is written.
+static VALUES: [(&str, &str); 4] = [
+    ("limit", "--limit <N>"),
+    ("seed", "--seed <S>"),
+    ("record", "--record <FILE>"),
+    ("picture", "--picture <FILE>"),
+];
+
+/// Those without one.
+static FLAGS: [(&str, &str); 2] = [("calls", "--calls"), ("json", "--json")];
+
+/// The first of the options that have the run go by turns, if one is given.
+fn by_turns(matches: &ArgMatches<'_>) -> Option<&'static str> {
+    for (name, written) in &VALUES {
+        if matches.get_str(*name).is_some() {
+            return Some(*written);
+        }
+    }
+    for (name, written) in &FLAGS {
+        if matches.get_flag(*name) {
+            return Some(*written);
+        }
+    }
+    None
+}
+
+/// Two options that cannot be used together, if they are: a durable run is one of threads, and a record begins with an empty disk.
+pub fn exec_conflict(matches: &ArgMatches<'_>) -> Option<(&'static str, &'static str)> {
+    if matches.get_flag("durable")
+        && let Some(option) = by_turns(matches)
+    {
+        return Some(("--durable", option));
+    }
+    matches.get_str("disk")?;
+    if matches.get_str("record").is_some() {
+        Some(("--disk <FILE>", "--record <FILE>"))
+    } else if matches.get_str("picture").is_some() {
+        Some(("--disk <FILE>", "--picture <FILE>"))
+    } else {
+        None
+    }
+}
+
+/// What the arguments of the command ask for. None where there are more than 8 programs.
+pub fn exec_options<'a>(
+    alloc: Global,
+    matches: &ArgMatches<'a>,
+) -> Result<Option<ExecOptions<'a>>, AllocError> {
+    let Some(run) = common(alloc, matches)? else {
+        return Ok(None);
+    };
+    let is_asked = run.is_durable || matches.get_str("workers").is_some();
+    Ok(Some(ExecOptions {
+        run,
+        is_threaded: is_asked && by_turns(matches).is_none(),
+        limit: number_of(matches, "limit"),
+        seed: number_of(matches, "seed"),
+        tells_calls: matches.get_flag("calls"),
+        is_json: matches.get_flag("json"),
+        record: matches.get_str("record"),
+        picture: matches.get_str("picture"),
+    }))
+}

@@ -1,0 +1,46 @@
+//! The registers that a log tells of.
+use crate::line::Written;
+use formats::Reg;
+use std::io;
+use std::io::Write;
+
+const REGISTERS: usize = 32;
+
+/// What the registers hold, by all lines so far; 0 before one is written.
+#[derive(Clone, Copy)]
+pub struct Registers {
+    values: [u32; REGISTERS],
+}
+
+/// What stands after a register of this number, of which four stand in a line.
+fn end_of(number: usize) -> &'static str {
+    if number % 4 == 3 { "\n" } else { "  " }
+}
+
+impl Registers {
+    pub fn new() -> Registers {
+        Registers {
+            values: [0; REGISTERS],
+        }
+    }
+
+    /// Notes what an instruction wrote.
+    pub fn note(&mut self, written: Option<Written>) {
+        if let Some(Written { register, value }) = written {
+            if let Some(place) = self.values.get_mut(register as usize) {
+                *place = value;
+            }
+        }
+    }
+
+    /// Prints all of them, four in a line.
+    pub fn print<O: Write>(&self, out: &mut O) -> io::Result<()> {
+        for number in 0..REGISTERS {
+            let register = Reg::new(number as u8);
+            let value = self.values[number];
+            let end = end_of(number);
+            write!(out, "x{number:<2} {register} {value:08x}{end}")?;
+        }
+        Ok(())
+    }
+}

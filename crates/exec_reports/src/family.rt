@@ -1,0 +1,119 @@
+//! Which program each process runs.
+use call_forms::Call;
+use call_lines::call_at;
+use exec_files::LoadedProgram;
+use formats::Reg;
+use kernel::{Answer, Core, Event};
+use std::alloc::{AllocError, Global};
+
+/// The programs of a run, and which of them each process runs, as far as that is known.
+pub struct Family {
+    programs: Vec<LoadedProgram>,
+    /// For process 1 and up the place of its program. None where it executed a file since.
+    runs: Vec<Option<usize>>,
+    /// The process that stands at a fork or an exec, which is the next event, and whether it is a fork.
+    standing: Option<(u32, bool)>,
+}
+
+impl Drop for Family {
+    fn drop(self) {
+        let Family {
+            programs: _programs,
+            runs: _runs,
+            standing: _,
+        } = self;
+    }
+}
+
+/// The place of a process in a list.
+fn place_of(pid: u32) -> Option<usize> {
+    usize::try_from(pid.checked_sub(1)?).ok()
+}
+
+/// The call at which a process stands.
+fn call_of(core: &Core, pid: u32) -> Option<Call> {
+    call_at(core.machine(pid).ok()?)
+}
+
+/// Whether a process that called exec goes on in another program: else its a0 has an error, which is negative.
+fn has_entered(core: &Core, pid: u32) -> bool {
+    match core.machine(pid) {
+        Ok(machine) => machine.reg(Reg::new(10)) == 0,
+        Err(_) => true,
+    }
+}
+
+impl Family {
+    /// Before the run: each program is that of a process.
+    pub fn new(alloc: Global, programs: Vec<LoadedProgram>) -> Result<Family, AllocError> {
+        let mut runs = Vec::new(alloc);
+        for place in 0..programs.len() {
+            runs.push(Some(place))?;
+        }
+        Ok(Family {
+            programs,
+            runs,
+            standing: None,
+        })
+    }
+
+    /// The programs with which the run began, in order.
+    pub fn programs(&self) -> &[LoadedProgram] {
+        self.programs.as_slice()
+    }
+
+    /// The place of the program that a process runs, where it is known.
+    fn run_by(&self, pid: u32) -> Option<usize> {
+        *self.runs.as_slice().get(place_of(pid)?)?
+    }
+
+    /// The program that a process runs, where it is known.
+    pub fn program_of(&self, pid: u32) -> Option<&LoadedProgram> {
+        self.programs.as_slice().get(self.run_by(pid)?)
+    }
+
+    /// Is told of an event that is to be applied.
+    pub fn before(&mut self, core: &Core, event: Event) {
+        self.standing = None;
+        if let Event::Enter { pid } = event {
+            self.standing = match call_of(core, pid) {
+                Some(Call::Fork) => Some((pid, true)),
+                Some(Call::Exec) => Some((pid, false)),
+                _ => None,
+            };
+        }
+    }
+
+    /// The program of a process is no longer known.
+    fn forget(&mut self, pid: u32) {
+        if let Some(place) = place_of(pid)
+            && let Some(runs) = self.runs.as_mut_slice().get_mut(place)
+        {
+            *runs = None;
+        }
+    }
+
+    /// A process that was made runs the program of its parent.
+    fn join(&mut self, core: &Core, parent: u32) -> Result<(), AllocError> {
+        let next = u32::try_from(self.runs.len().saturating_add(1)).unwrap_or(u32::MAX);
+        if core.standing(next).is_err() {
+            return Ok(());
+        }
+        let of_parent = self.run_by(parent);
+        Ok(self.runs.push(of_parent)?)
+    }
+
+    /// Is told of the same event after it was applied.
+    pub fn after(&mut self, core: &Core, answer: Answer) -> Result<(), AllocError> {
+        match (self.standing, answer) {
+            (Some((pid, true)), Answer::Entered) => self.join(core, pid),
+            (Some((pid, false)), Answer::Entered) => {
+                if has_entered(core, pid) {
+                    self.forget(pid);
+                }
+                Ok(())
+            }
+            _ => Ok(()),
+        }
+    }
+}

@@ -1,0 +1,10 @@
+//! Runs by turns: one thread has the processes of a core run in an order that a seed decides, up to a limit of instructions. Read
+//! `Turns` first. Only safety is proved.
+#![tactic(auto)]
+
+mod choosing;
+mod random;
+mod turns;
+
+pub use choosing::Order;
+pub use turns::{Ending, Turns};

@@ -1,0 +1,73 @@
+//! All bytes that were ever written to pipes. The core keeps those alone that are not read yet.
+use kernel::KernelTables;
+use std::alloc::{AllocError, Global};
+
+/// What was written to a pipe.
+#[derive(Drop)]
+struct PipeText {
+    written: Vec<u8>,
+    /// How many bytes the pipe held when it was last looked at.
+    held: usize,
+}
+
+/// What was written to each pipe.
+#[derive(Drop)]
+pub struct PipeTexts {
+    alloc: Global,
+    texts: Vec<PipeText>,
+}
+
+impl PipeTexts {
+    /// No pipes.
+    pub fn new(alloc: Global) -> PipeTexts {
+        PipeTexts {
+            alloc,
+            texts: Vec::new(alloc),
+        }
+    }
+
+    /// One more pipe, to which nothing was written.
+    fn open(&mut self) -> Result<(), AllocError> {
+        self.texts.push(PipeText {
+            written: Vec::new(self.alloc),
+            held: 0,
+        })?;
+        Ok(())
+    }
+
+    /// Looks at a pipe after one call, which either wrote to its end or read from its beginning.
+    fn look(&mut self, number: usize, held: &[u8]) -> Result<(), AllocError> {
+        let Some(text) = self.texts.get_mut(number) else {
+            return Ok(());
+        };
+        let new = held.get(text.held..).unwrap_or(&[]);
+        text.written.extend_from_slice(new)?;
+        text.held = held.len();
+        Ok(())
+    }
+
+    /// Looks at all pipes, after each call.
+    pub fn note(&mut self, tables: KernelTables<'_>) -> Result<(), AllocError> {
+        for number in 0..tables.pipes.len() {
+            if number >= self.texts.len() {
+                self.open()?;
+            }
+            if let Some(pipe) = u32::try_from(number)
+                .ok()
+                .and_then(|it| tables.pipes.get(it))
+            {
+                let held = pipe.prefix(self.alloc, pipe.held())?;
+                self.look(number, held.as_slice())?;
+            }
+        }
+        Ok(())
+    }
+
+    /// What was written to the pipe of a number.
+    pub fn written(&self, number: usize) -> &[u8] {
+        match self.texts.get(number) {
+            Some(text) => text.written.as_slice(),
+            None => &[],
+        }
+    }
+}

@@ -1,0 +1,50 @@
+//! A digest that is fed number by number.
+use byteorder::{BigEndian, ByteOrder};
+use sha2::{Digest, Sha256};
+use state_search::Key;
+
+/// A digest of numbers and lists of bytes, of which each stands with its length.
+#[derive(Drop)]
+pub struct StateDigest {
+    hasher: Sha256,
+}
+
+impl StateDigest {
+    /// Of nothing yet.
+    pub fn new() -> StateDigest {
+        StateDigest {
+            hasher: Sha256::new(),
+        }
+    }
+
+    pub fn number(&mut self, number: u64) {
+        let bytes = number.to_be_bytes();
+        self.hasher.update(bytes.as_slice());
+    }
+
+    pub fn bytes(&mut self, bytes: &[u8]) {
+        self.number(bytes.len() as u64);
+        self.hasher.update(bytes);
+    }
+
+    /// A number that may be missing.
+    pub fn option(&mut self, number: Option<u64>) {
+        match number {
+            Some(number) => {
+                self.number(1);
+                self.number(number);
+            }
+            None => self.number(0),
+        }
+    }
+
+    /// The first 128 bits of the digest.
+    pub fn key(self) -> Key {
+        let StateDigest { hasher } = self;
+        let digest = hasher.finalize();
+        Key {
+            high: BigEndian::read_u64(&digest[0..8]),
+            low: BigEndian::read_u64(&digest[8..16]),
+        }
+    }
+}

@@ -1,0 +1,134 @@
+//! Runs of programs for people.
+use crate::exec_keeping::test_records;
+use crate::exec_running::run_to_end;
+use crate::executables::{Known, copies_of, programs_in};
+use crate::observing::Watching;
+use command_line::{ExecOptions, Task};
+use exec_files::LoadFault;
+use exec_reports::Family;
+use explanations::explain;
+use faults::{Fault, write_line};
+use run_files::{boot_on, tapes_in};
+use std::fs::File;
+use std::io::{Read, Write};
+use std::rt::Files;
+use std::sync::Wait;
+use std::thread::Threads;
+
+/// The exit status where the command line or a file is refused.
+pub const REFUSED: u8 = 125;
+
+/// Why nothing was run to its end.
+#[derive(Drop)]
+enum ExecFault {
+    Program(LoadFault),
+    Other(Fault),
+}
+
+impl From<Fault> for ExecFault {
+    fn from(fault: Fault) -> ExecFault {
+        ExecFault::Other(fault)
+    }
+}
+
+impl From<LoadFault> for ExecFault {
+    fn from(fault: LoadFault) -> ExecFault {
+        ExecFault::Program(fault)
+    }
+}
+
+fn try_execute<
+    R: Files<File = File> + AllocGlobal + Threads + Wait + Sync,
+    I: Read,
+    O: Write,
+    E: Write,
+>(
+    rt: &R,
+    options: &ExecOptions<'_>,
+    input: &mut I,
+    out: &mut O,
+    err: &mut E,
+) -> Result<u8, ExecFault> {
+    test_records(rt.alloc(), options)?;
+    let (programs, loaded) = programs_in(rt, options.run.images.as_slice())?;
+    let tapes = tapes_in(rt, options.run.tapes.as_slice(), input)?;
+    let family = Family::new(rt.alloc(), loaded).map_err(Fault::from)?;
+    let mut known = Known {
+        watching: Watching::new(rt.alloc(), options, family),
+        tapes: copies_of(rt.alloc(), tapes.as_slice())?,
+    };
+    let (core, lock, file) = boot_on(rt, &options.run, programs, tapes)?;
+    let done = run_to_end(rt, options, core, file, &mut known, out, err);
+    if let Some(lock) = lock {
+        lock.release(rt);
+    }
+    Ok(done?)
+}
+
+/// Prints the reason of a fault, or the fault where none is found.
+fn print_fault<R: Files<File = File> + AllocGlobal, E: Write>(
+    rt: &R,
+    task: &Task<'_>,
+    fault: Fault,
+    err: &mut E,
+) -> Result<(), Fault> {
+    let mut reason: Vec<u8> = Vec::new(rt.alloc());
+    if !matches!(fault, Fault::OutOfMemory) {
+        // Where there is no memory for the reason, the fault is told.
+        let _ = explain(rt, task, fault, &mut reason);
+    }
+    if reason.is_empty() {
+        write_line(err, fault)?;
+    } else {
+        err.write_all(reason.as_slice())?;
+    }
+    Ok(())
+}
+
+fn print_refusal<R: Files<File = File> + AllocGlobal, E: Write>(
+    rt: &R,
+    task: &Task<'_>,
+    fault: &ExecFault,
+    err: &mut E,
+) -> Result<(), Fault> {
+    match fault {
+        ExecFault::Program(LoadFault::Refused(why)) => {
+            let why = why.as_str();
+            write_line(err, format_args!("bench: {why}"))?;
+            Ok(())
+        }
+        ExecFault::Program(LoadFault::OutOfMemory) => print_fault(
+            rt,
+            task,
+            Fault::OutOfMemory,
+            err,
+        ),
+        ExecFault::Other(fault) => print_fault(rt, task, *fault, err),
+    }
+}
+
+/// Runs programs to their end, as `run_images` does, but by turns unless threads are asked for. Gives the exit status: that of the first
+/// program, or why the run ended; 125 where the run was refused, or cut short. Then a line on `err` has the reason.
+pub fn execute<
+    R: Files<File = File> + AllocGlobal + Threads + Wait + Sync,
+    I: Read,
+    O: Write,
+    E: Write,
+>(
+    rt: &R,
+    task: &Task<'_>,
+    options: &ExecOptions<'_>,
+    input: &mut I,
+    out: &mut O,
+    err: &mut E,
+) -> u8 {
+    match try_execute(rt, options, input, out, err) {
+        Ok(status) => status,
+        Err(fault) => {
+            let _ = out.flush();
+            // Where the line cannot be written either, the status still tells.
+            let _ = print_refusal(rt, task, &fault, err);
+            REFUSED
+        }
+    }
+}

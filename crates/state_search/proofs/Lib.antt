@@ -1,0 +1,4 @@
+mod KeySets
+mod AddingStates
+mod GoingOn
+mod Closing

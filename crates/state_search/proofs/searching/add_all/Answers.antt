@@ -1,0 +1,17 @@
+-- A state that was reached is added where its key was not known.
+use Rattle.std.proofs.Common.{rules, ◌≡◌, true, refl}
+use Rattle.state_search.specs.Keys.{has}
+use Rattle.state_search.proofs.AddingStates.{adds-new, adds-none}
+use Rattle.state_search.proofs.searching.add_all.Goals as goal
+
+pub loop-key-preserved-in-Continue-branch-2 : goal.loop-key-preserved-in-Continue-branch-2
+loop-key-preserved-in-Continue-branch-2 g c =
+    rw c.in_ok-push.ensures.items (adds-new c.args.known.now.set c.loop-key.known.set c.add.new.self.set c.loop-key.yielded c.in-Some.field-0 c.loop-key.added.items c.args.moves
+    (record { key = c.in-Some.field-0.key; state = c.in-Some.field-0.state; moves = c.args.moves }) c.loop-key.invariant refl refl refl
+    c.in_ok-is_new.ensures.there c.in_ok-is_new.ensures.kept c.in_ok-is_new.ensures.others)
+
+pub loop-key-preserved : goal.loop-key-preserved
+loop-key-preserved g c =
+    let was : has c.loop-key.known.set c.in-Some.field-0.key ≡ true = rw c.if-is_new.false at c.in_ok-is_new.ensures.known in
+    adds-none c.args.known.now.set c.loop-key.known.set c.add.new.self.set c.loop-key.yielded c.in-Some.field-0 c.loop-key.added.items c.args.moves
+    c.loop-key.invariant was c.in_ok-is_new.ensures.there c.in_ok-is_new.ensures.kept c.in_ok-is_new.ensures.others

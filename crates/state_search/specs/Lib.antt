@@ -1,0 +1,5 @@
+pub mod Adding
+pub mod Going
+pub mod Keys
+pub mod Searches
+pub mod Whole

@@ -1,0 +1,43 @@
+//! The keys of the states that were found.
+ghost use Rattle.std.specs.Prelude.{◌≡◌, ◌⊎◌, true, false, IfOk, OnOk};
+ghost use Rattle.std.specs.Bool.{OnFalse};
+ghost use Rattle.std.specs.HashSet.{IsEmpty};
+ghost use Rattle.state_search.specs.declared.key.Key.{Key};
+ghost use Rattle.state_search.specs.Keys.{has};
+
+use crate::key::Key;
+use std::alloc::{AllocError, Global};
+use std::collections::HashSet;
+
+/// Keys, each once.
+pub struct Keys {
+    pub set: HashSet<Key>,
+}
+
+impl Drop for Keys {
+    fn drop(self) {
+        let Keys { set: _set } = self;
+    }
+}
+
+impl Keys {
+    /// No keys. Takes no memory.
+    pub fn new(alloc: Global) -> Keys
+        ensures { IsEmpty result.set }
+    {
+        Keys {
+            set: HashSet::new(alloc),
+        }
+    }
+
+    /// Adds a key that is not there yet, and says whether it was new.
+    pub fn add(&mut self, key: Key) -> Result<bool, AllocError>
+        ensures known { IfOk result (λ is_new. OnFalse is_new (has self.old.set key ≡ true)) }
+        ensures there { OnOk result (has self.new.set key ≡ true) }
+        ensures kept { OnOk result ((k : Key) → has self.old.set k ≡ true → has self.new.set k ≡ true) }
+        ensures others { OnOk result ((k : Key) → has self.new.set k ≡ true → (has self.old.set k ≡ true) ⊎ (key ≡ k)) }
+    {
+        let is_new = self.set.insert(key)?;
+        Ok(is_new)
+    }
+}

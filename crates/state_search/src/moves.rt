@@ -1,0 +1,49 @@
+//! What a search is of: states, and which are next to others.
+ghost use Rattle.std.specs.Prelude.{IfOk};
+
+use crate::key::Key;
+use std::alloc::AllocError;
+
+/// A state to which a move leads, with its key.
+#[derive(Drop)]
+pub struct Reached<S> {
+    pub key: Key,
+    pub state: S,
+}
+
+/// A state that a search found, and by how many moves.
+#[derive(Drop)]
+pub struct Found<S> {
+    pub key: Key,
+    pub state: S,
+    pub moves: u64,
+}
+
+/// States, and the moves that lead from each to those next to it.
+pub trait Moves {
+    ghost use Rattle.std.specs.Prelude.{List};
+    ghost use Rattle.state_search.specs.declared.moves.Found.{Found};
+    ghost use Rattle.state_search.specs.declared.moves.Reached.{Reached};
+
+    type State: Drop;
+
+    /// Why a search ends before its end.
+    type Fault: From<AllocError> + Drop;
+
+    // What may be answered for the first state.
+    ghost begins: { Reached Self.State → Type 0 };
+
+    // What may be answered for the states that are next to those of a level.
+    ghost expands: { List (Found Self.State) → List (Reached Self.State) → Type 0 };
+
+    /// The first state.
+    fn first(&mut self) -> Result<Reached<Self::State>, Self::Fault>
+        ensures { IfOk result begins };
+
+    /// All states that are next to some of a level, all of which were found by as many moves, in an order that depends on these alone.
+    fn expand(
+        &mut self,
+        level: &[Found<Self::State>],
+    ) -> Result<Vec<Reached<Self::State>>, Self::Fault>
+        ensures { IfOk result (λ next. expands level.now next.items) };
+}

@@ -1,0 +1,140 @@
+//! The search.
+ghost use Rattle.std.specs.Prelude.{◌≡◌, ◌∷◌, [], ◌<◌, ◌^◌, ◌-◌, IfOk};
+ghost use Rattle.std.specs.Bool.{OnFalse};
+ghost use Rattle.state_search.specs.Adding.{AreAdded};
+ghost use Rattle.state_search.specs.Going.{IsGoing};
+ghost use Rattle.state_search.specs.Searches.{IsSearched};
+
+use crate::keys::Keys;
+use crate::moves::{Found, Moves, Reached};
+use std::alloc::{AllocError, Global};
+
+/// What a search found.
+#[derive(Drop)]
+pub struct Searched<S> {
+    /// The states from which it went on, in the order in which it found them.
+    pub gone_on: Vec<Found<S>>,
+    /// Those that it left, since a bound cut it: all that it found by the most moves. None where it is complete.
+    pub left: Vec<Found<S>>,
+    /// How many moves lead to each state that it left, and more than lead to each of the others.
+    pub depth: u64,
+    /// How many moves it tried that lead somewhere.
+    pub moves: u64,
+}
+
+/// A search that goes on.
+#[derive(Drop)]
+struct Going<S> {
+    known: Keys,
+    searched: Searched<S>,
+}
+
+/// Those of the states that were reached by so many moves whose keys are not known. Now they are.
+fn add_all<S: Drop>(
+    alloc: Global,
+    known: &mut Keys,
+    reached: Vec<Reached<S>>,
+    moves: u64,
+) -> Result<Vec<Found<S>>, AllocError>
+    ensures { IfOk result (λ added. AreAdded known.old.set known.new.set reached.items added.items moves) }
+{
+    let mut added = Vec::new(alloc);
+    for Reached { key, state } in reached {
+        let is_new = known.add(key)?;
+        if is_new {
+            added.push(Found { key, state, moves })?;
+        }
+    }
+    Ok(added)
+}
+
+fn alone<S: Drop>(alloc: Global, first: Reached<S>) -> Result<Vec<Reached<S>>, AllocError>
+    ensures { IfOk result (λ reached. reached.items ≡ first ∷ []) }
+{
+    let mut reached = Vec::new(alloc);
+    reached.push(first)?;
+    Ok(reached)
+}
+
+/// The first state alone.
+fn begin<M: Moves>(alloc: Global, moves: &mut M) -> Result<Going<M::State>, M::Fault>
+    ensures { IfOk result (λ going. IsGoing M.begins M.expands going.known.set going.searched.gone_on.items going.searched.left.items going.searched.depth) }
+{
+    let reached = alone(alloc, moves.first()?)?;
+    let mut known = Keys::new(alloc);
+    let left = add_all(alloc, &mut known, reached, 0)?;
+    let searched = Searched {
+        gone_on: Vec::new(alloc),
+        left,
+        depth: 0,
+        moves: 0,
+    };
+    Ok(Going { known, searched })
+}
+
+impl<S: Drop> Going<S> {
+    /// Whether no state is left, or as many are found as there may be.
+    fn is_done(&self, most: u64) -> bool
+        ensures { OnFalse result (self.now.searched.depth < 2 ^ 64 - 1) }
+    {
+        let searched = &self.searched;
+        let found = (searched.gone_on.len() as u64).saturating_add(searched.left.len() as u64);
+        searched.left.is_empty() || found > most || searched.depth == u64::MAX
+    }
+}
+
+/// One level more.
+fn go_on<M: Moves>(
+    alloc: Global,
+    moves: &mut M,
+    going: Going<M::State>,
+) -> Result<Going<M::State>, M::Fault>
+    requires room { going.searched.depth < 2 ^ 64 - 1 }
+    requires going { IsGoing M.begins M.expands going.known.set going.searched.gone_on.items going.searched.left.items going.searched.depth }
+    ensures { IfOk result (λ next. IsGoing M.begins M.expands next.known.set next.searched.gone_on.items next.searched.left.items next.searched.depth) }
+{
+    let Going {
+        mut known,
+        searched,
+    } = going;
+    let Searched {
+        mut gone_on,
+        mut left,
+        depth,
+        moves: tried,
+    } = searched;
+    let reached = moves.expand(left.as_slice())?;
+    let tried = tried.saturating_add(reached.len() as u64);
+    let next = add_all(alloc, &mut known, reached, depth + 1)?;
+    gone_on.append(&mut left)?;
+    let searched = Searched {
+        gone_on,
+        left: next,
+        depth: depth + 1,
+        moves: tried,
+    };
+    Ok(Going { known, searched })
+}
+
+/// Searches all states that moves lead to from the first one, those nearest to it first, each once. It goes on level by level while no
+/// more states are found than `most`, and leaves the last level where they are: then it is cut.
+pub fn search<M: Moves>(
+    alloc: Global,
+    moves: &mut M,
+    most: u64,
+) -> Result<Searched<M::State>, M::Fault>
+    ensures { IfOk result (λ found. IsSearched M.begins M.expands found.gone_on.items found.left.items found.depth) }
+{
+    let mut going = begin(alloc, moves)?;
+    for _ in 0..u64::MAX {
+        if going.is_done(most) {
+            break;
+        }
+        going = go_on(alloc, moves, going)?;
+    }
+    let Going {
+        known: _known,
+        searched,
+    } = going;
+    Ok(searched)
+}

@@ -1,0 +1,34 @@
+"""A format of tests for LLVM's lit: a program in C, which is built for bench, and has to end with status 0.
+
+FLAGS has flags of the compiler, as `-O2 -w`. BENCH and BUILD name the program and the script that builds; by themselves they are those of
+the package."""
+import os
+import shlex
+
+import lit.formats
+import lit.Test
+import lit.util
+
+BENCH = os.environ.get("BENCH", "bench")
+BUILD = os.environ.get("BUILD", "/usr/share/bench/build.sh")
+FLAGS = shlex.split(os.environ.get("FLAGS", "-O2"))
+SECONDS = 60
+
+
+class Program(lit.formats.FileBasedTest):
+    """A program that is built and run."""
+
+    def execute(self, test, lit_config):
+        image = test.getExecPath() + ".image"
+        os.makedirs(os.path.dirname(image), exist_ok=True)
+        for command in (
+            [BUILD, "--picolibc", *FLAGS, test.getSourcePath(), "-lm", image],
+            [BENCH, "run", "--status", "1", image],
+        ):
+            try:
+                out, err, status = lit.util.executeCommand(command, timeout=SECONDS)
+            except lit.util.ExecuteCommandTimeoutException:
+                return lit.Test.TIMEOUT, f"{shlex.join(command)}: no end in {SECONDS} seconds"
+            if status:
+                return lit.Test.FAIL, f"{shlex.join(command)}: status {status}\n{out}{err}"
+        return lit.Test.PASS, ""

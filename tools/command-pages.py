@@ -1,0 +1,212 @@
+#!/usr/bin/env python3
+"""Prints what a system has of a command beside the program: its man page, or how a shell completes its words.
+
+    command-pages.py man|bash|zsh
+
+All three are made of what `bench --help` and `bench COMMAND --help` print. These texts stand in help.sessions, whose cases the merge gate
+compares with the program: so no build is needed here. The man page is dated by SOURCE_DATE_EPOCH, if that is set."""
+import os
+import re
+import sys
+import time
+from typing import NamedTuple
+
+TOP = os.path.realpath(f"{os.path.dirname(os.path.realpath(__file__))}/..")
+CASES = f"{TOP}/crates/test_runner/data/help.sessions"
+ROW = re.compile(r"  +(?:-h, +)?(\S+(?: <[^>]*>)?(?:\.\.\.)?)  +(.*)")
+# What each exit status says, in short; docs/SCRIPTS.md has all.
+STATUSES = (
+    ("0", "Done."),
+    ("1", "The command line is faulty."),
+    ("2", "A script, a source, an image, an executable, a trace or a file of expected outcomes is refused, or there is no such event or process."),
+    ("3", "A file is no disk."),
+    ("4", "A write of the disk has failed."),
+    ("5", "Out of memory."),
+    ("6", "Input or output failed."),
+    ("7", "A crash leaves files that are not expected."),
+    ("other", "With --status P, that of process P."),
+)
+SHORT = "run RISC-V programs on a kernel whose output waits for the disk"
+DESCRIPTION = (
+    "bench runs programs for RISC-V (RV32IM) on a kernel of its own with a simulated disk. A program never waits for the disk. What it writes "
+    "to a terminal is held back until every change of a file on which it depends is on the disk. A script says event by event what runs.",
+    "Without a command, the script on standard input is replayed.",
+)
+
+
+class Row(NamedTuple):
+    """An argument or an option: how it is written, and what it is."""
+
+    form: str
+    about: str
+
+    @property
+    def name(self):
+        return self.form.split(" ")[0]
+
+    @property
+    def value(self):
+        return re.sub(r"^\S+ ?", "", self.form).strip("<>. ")
+
+
+class Help(NamedTuple):
+    """What a help says."""
+
+    about: str
+    usage: list
+    rows: dict
+    example: str
+
+
+def printed():
+    """Returns, by its words, what each case prints."""
+    cases, words = {}, None
+    with open(CASES, encoding="utf-8") as file:
+        for line in file.read().split("\n"):
+            if line.startswith("$ "):
+                words = line[2:]
+                cases[words] = []
+            elif line.startswith(">") and words is not None:
+                cases[words].append(line[1:].removeprefix(" "))
+    return cases
+
+
+def help_of(lines):
+    """Reads a help: its first line, its usage, and the rows of each of its parts."""
+    usage, rows, part, example = [], {}, None, ""
+    for line in lines[1:]:
+        if line.startswith("Usage: "):
+            part, usage = "Usage", [line.removeprefix("Usage: ")]
+        elif line.startswith("Example: "):
+            example = line.removeprefix("Example: ")
+        elif re.fullmatch(r"[A-Z][a-z]+:", line):
+            part = line[:-1]
+            rows[part] = []
+        elif part == "Usage" and line.strip():
+            usage.append(line.strip())
+        elif ROW.fullmatch(line):
+            rows[part].append(Row(*ROW.fullmatch(line).groups()))
+    return Help(lines[0], usage, rows, example)
+
+
+def helps():
+    """Returns the program's help, and by name those of its commands."""
+    cases = printed()
+    program = help_of(cases["--help"])
+    names = [row.name for row in program.rows["Commands"] if row.name != "help"]
+    return program, {name: help_of(cases[f"{name} --help"]) for name in names}
+
+
+def roff(text):
+    text = text.replace("\\", "\\e").replace("-", "\\-").replace("'", "\\(aq")
+    return "\\&" + text if text[:1] in (".", "'") else text
+
+
+def sentence(text):
+    return text[:1].upper() + text[1:] + ("" if text[-1:] in ".:" else ".")
+
+
+def man_rows(rows):
+    lines = []
+    for row in rows:
+        lines += [".TP", f".B {roff(row.form)}", roff(sentence(row.about))]
+    return lines
+
+
+def man_command(name, it):
+    lines = [f".SS {name}", *(f".B {roff(use)}\n.br" for use in it.usage), ".PP", roff(sentence(it.about))]
+    own = [row for row in it.rows.get("Options", ()) if row.name not in ("--explain", "--help")]
+    lines += man_rows(it.rows.get("Arguments", [])) + man_rows(own)
+    return lines + ([".PP", "Example:", f".B {roff(it.example)}"] if it.example else [])
+
+
+def man(program, commands):
+    version = open(f"{TOP}/VERSION", encoding="ascii").read().strip()
+    date = time.strftime("%Y-%m-%d", time.gmtime(int(os.environ.get("SOURCE_DATE_EPOCH", "0")))) if "SOURCE_DATE_EPOCH" in os.environ else ""
+    lines = [f'.TH BENCH 1 "{date}" "bench {version}" "bench"', ".SH NAME", f"bench \\- {roff(SHORT)}", ".SH SYNOPSIS"]
+    lines += [f".B {roff(use)}\n.br" for use in program.usage] + [".SH DESCRIPTION", roff(DESCRIPTION[0]), ".PP", roff(DESCRIPTION[1]), ".SH COMMANDS"]
+    for name, it in commands.items():
+        lines += man_command(name, it)
+    lines += [".SH OPTIONS", "Each command has these too.", *man_rows(program.rows["Options"]), ".SH EXIT STATUS"]
+    lines += man_rows(Row(status, says) for status, says in STATUSES)
+    lines += [".SH FILES", "In share/bench stand examples, and what builds programs in C; in share/doc/bench the documents and what was proved.",
+              ".SH SEE ALSO", ".BR gdb (1),", ".BR qemu\\-user (1)"]
+    return "\n".join(lines) + "\n"
+
+
+def words_of(rows):
+    return " ".join(row.name for row in rows if row.name.startswith("--"))
+
+
+def bash(program, commands):
+    cases = "\n".join(f"        {name}) options='{words_of(it.rows['Options'])}' ;;" for name, it in commands.items())
+    return f"""# Completes the words of bench.
+_bench() {{
+    local current=${{COMP_WORDS[COMP_CWORD]}} command= options= word
+    for word in "${{COMP_WORDS[@]:1:COMP_CWORD-1}}"; do
+        case $word in
+            -*) ;;
+            *) command=$word; break ;;
+        esac
+    done
+    case $command in
+        '') COMPREPLY=($(compgen -W '{' '.join(commands)} help {words_of(program.rows["Options"])}' -- "$current")); return ;;
+        help) COMPREPLY=($(compgen -W '{' '.join(commands)}' -- "$current")); return ;;
+{cases}
+    esac
+    case $current in
+        -*) COMPREPLY=($(compgen -W "$options" -- "$current")) ;;
+        *) compopt -o filenames 2>/dev/null; COMPREPLY=($(compgen -f -- "$current")) ;;
+    esac
+}}
+complete -F _bench bench
+"""
+
+
+def zsh_text(text):
+    return text.replace("'", "").replace("[", "(").replace("]", ")").replace(":", ",")
+
+
+def zsh_option(row):
+    value = f":{zsh_text(row.value)}:_files" if row.value else ""
+    return f"'{row.name}[{zsh_text(row.about)}]{value}'"
+
+
+def zsh(program, commands):
+    described = "\n".join(f"        '{name}:{zsh_text(it.about)}'" for name, it in commands.items())
+    cases = "\n".join(
+        f"        {name}) _arguments {' '.join(zsh_option(row) for row in it.rows['Options'])} '*:file:_files' ;;" for name, it in commands.items()
+    )
+    return f"""#compdef bench
+# Completes the words of bench.
+_bench() {{
+    local -a commands
+    commands=(
+{described}
+    )
+    if (( CURRENT == 2 )); then
+        _describe command commands
+        _arguments {' '.join(zsh_option(row) for row in program.rows['Options'])}
+        return
+    fi
+    local command=$words[2]
+    shift words
+    (( CURRENT-- ))
+    case $command in
+{cases}
+        *) _files ;;
+    esac
+}}
+_bench "$@"
+"""
+
+
+def main(words):
+    makers = {"man": man, "bash": bash, "zsh": zsh}
+    if len(words) != 1 or words[0] not in makers:
+        sys.exit(__doc__)
+    sys.stdout.write(makers[words[0]](*helps()))
+
+
+if __name__ == "__main__":
+    main(sys.argv[1:])
