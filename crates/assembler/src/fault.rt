@@ -1,4 +1,4 @@
-//! Why a source is refused, and where.
+//! `AsmFault`: why a source is refused, and where. `Cause` has the seven reasons.
 ghost use Rattle.std.specs.Prelude.{◌≡◌};
 ghost use Rattle.assembler.specs.Faults.{number_of, out_of_memory, whole, fault_at, of_text};
 
@@ -7,24 +7,25 @@ use std::alloc::{AllocError, AllocFailed};
 use std::fmt;
 use thiserror::Error;
 
-/// What is wrong.
+/// Why a source is refused.
 #[derive(Clone, Copy, Debug, PartialEq, Eq, Error)]
 pub enum Cause {
-    /// The source has no line, statement or operand of this form.
+    /// What stands at this place has not the form of a line, a statement or an operand.
     Syntax = 1,
-    /// No label has this name.
+    /// An operand names a label that the source does not have.
     UnknownName = 2,
-    /// A label of this name stands further up.
+    /// A label has the name of one further up.
     DoubleLabel = 3,
-    /// A number does not fit where it stands. The first pass finds a `.space` of a negative size, or in text of a size that is no
-    /// multiple of 4. The second finds, after all faults of the first:
+    /// A number does not fit where it stands. The first pass over the source finds a `.space` whose size is negative, or in text is
+    /// no multiple of 4. The second pass is made where the first finds no fault. It finds:
     ///
     /// - a byte outside -128 to 255, or upper bits outside 0 to 0xFFFFF;
     /// - an immediate, or the offset of a load or a store, outside -2048 to 2047;
     /// - a shift outside 0 to 31;
-    /// - a distance of a target that is no multiple of 4, or outside -4096 to 4092 of a branch, -1048576 to 1048572 of a jump.
+    /// - a target whose distance is no multiple of 4, or lies outside -4096 to 4092 for a branch, or outside -1048576 to 1048572
+    ///   for a jump.
     Range = 4,
-    /// No label `_start` stands before a word of text.
+    /// No label `_start` stands before a word of text. The source as a whole has this fault, and the next two.
     NoStart = 5,
     /// The source has over 1,048,576 bytes, or the image over 60 pages.
     TooLarge = 6,
@@ -59,7 +60,8 @@ impl fmt::Display for Cause {
     }
 }
 
-/// Why a source is refused, and where. Lines and columns count from 1, columns in bytes. A fault of no place stands at 1:1.
+/// Why a source is refused, and where. Lines and columns count from 1, columns in bytes. A fault of the source as a whole stands at
+/// 1:1.
 #[derive(Clone, Copy, Debug, PartialEq, Eq, Error)]
 #[error("{why} at {line}:{column}")]
 pub struct AsmFault {

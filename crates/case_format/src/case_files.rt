@@ -26,7 +26,7 @@ impl<'a> Case<'a> {
         Case { title, lines }
     }
 
-    /// Refused where the title is empty, or another title may be meant by a line, or no line says what is done.
+    /// Refuses a case whose title is empty, one of whose lines may be meant as a title, or none of whose lines says what is done.
     fn check(&self) -> Result<(), Error> {
         if self.title.is_empty() || self.title.trim() != self.title {
             return Err(refused("no title: ==", self.title));
@@ -129,8 +129,8 @@ impl<'a> Choice<'a> {
         }
     }
 
-    /// The chosen cases, of which there is one at least; the text is the file's. Where no case has the title, standard error lists
-    /// those in whose titles it stands, or all.
+    /// The chosen cases of a file's text, at least one. Where no case has the title, standard error lists the cases in whose titles
+    /// it stands, or else all.
     pub fn cases<'t, R: AllocGlobal + Eprint>(
         &self,
         rt: &R,

@@ -1,4 +1,4 @@
-//! Command lines as a program is given them, as words of its own.
+//! Parts a command line into words, as a program is given them.
 use std::alloc::{AllocError, Global};
 
 /// The words of a command line, which are parted by blanks.

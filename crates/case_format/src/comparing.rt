@@ -1,7 +1,7 @@
-//! What came beside what was wanted.
+//! Compares what a run gave with what is wanted of it, as texts and as a status.
 use anyhow::{Error, anyhow, bail};
 
-/// How a text differs from the one that was wanted: by the first line that is another one.
+/// The error of a text that is not the wanted one: its first line that differs.
 fn difference(came: &str, wanted: &str) -> Error {
     let mut lines = came.lines();
     for line in wanted.lines() {
@@ -13,7 +13,7 @@ fn difference(came: &str, wanted: &str) -> Error {
     Error::msg("the lines came, and more of them or other ends than were wanted")
 }
 
-/// Refused with the first line that differs.
+/// Compares two texts. The error has the first line that differs.
 pub fn compare(came: &str, wanted: &str) -> Result<(), Error> {
     if came == wanted {
         Ok(())
@@ -22,7 +22,7 @@ pub fn compare(came: &str, wanted: &str) -> Result<(), Error> {
     }
 }
 
-/// Refused where a status came that is not the one that is wanted.
+/// Compares an exit status with the wanted one.
 pub fn compare_status(came: u8, wanted: u8) -> Result<(), Error> {
     if came == wanted {
         Ok(())

@@ -1,4 +1,4 @@
-//! Cases of programs that call the kernel, in a notation that has beside each call what it replies.
+//! The notation of `.calls`: cases of programs that call the kernel, with the wanted reply beside each call.
 //!
 //! A case has a line `== TITLE` before it (`case_files`). It sets up tapes as a script does, their bytes as below, and programs:
 //! after a line `program T` come the lines of a source. They come after `image T` too, but that program stands in a file, with three
@@ -125,7 +125,7 @@ impl CallsCase {
         Ok(())
     }
 
-    /// Adds that a process enters the kernel, once for each word that is wanted.
+    /// Adds to the script that a process enters the kernel, once for each wanted outcome.
     fn enters(&mut self, pid: &str, wanted: &str) -> Result<(), Error> {
         for word in wanted.split_whitespace() {
             let (line, times) = entering(self.programs.as_slice(), pid, word)?;
@@ -143,7 +143,7 @@ impl CallsCase {
         }
     }
 
-    /// Does a line of these words that has what is wanted beside it.
+    /// Reads a line that does something, with what is wanted beside it.
     fn do_words(
         &mut self,
         alloc: Global,
@@ -177,7 +177,7 @@ impl CallsCase {
         }
     }
 
-    /// Reads a line of these words that sets up.
+    /// Reads a line that sets something up.
     fn read_words(&mut self, alloc: Global, line: &str, words: &[&str]) -> Result<(), Error> {
         match words {
             [] => Ok(()),
@@ -211,7 +211,7 @@ fn replies_of<'a>(programs: &'a [Replies], pid: &str) -> Result<&'a Replies, Err
     }
 }
 
-/// What is printed each time that a process enters the kernel, and how often it does, as a word says.
+/// What is to be printed each time that a process enters the kernel, and how often it enters, by a word such as `entered*3`.
 fn entering<'a>(programs: &[Replies], pid: &str, word: &'a str) -> Result<(&'a str, u32), Error> {
     if word == "calls" {
         Ok(("entered", replies_of(programs, pid)?.count))

@@ -1,4 +1,4 @@
-//! Lines of a case, and what they are parted into.
+//! Parts a line of a case into words, or into two parts, and joins texts to lines.
 use anyhow::{Error, anyhow};
 use std::alloc::{AllocError, Global};
 
@@ -25,7 +25,7 @@ pub fn words_of<'a>(alloc: Global, line: &'a str) -> Result<Vec<&'a str>, AllocE
     line.split_whitespace().collect(alloc)
 }
 
-/// The two parts of a text, before and after a mark. Where the mark is not there, it is refused for this reason.
+/// The two parts of a text, before and after a mark. Where the mark is not there, `why` is the error.
 pub fn two_parts<'a>(text: &'a str, mark: &str, why: &str) -> Result<(&'a str, &'a str), Error> {
     match text.split_once(mark) {
         Some(parts) => Ok(parts),

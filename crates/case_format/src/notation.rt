@@ -1,4 +1,4 @@
-//! Programs that call the kernel, in the notation of `kernel_calls`: their sources, and the replies beside their calls.
+//! The programs of a `.calls` case: makes their sources and images of the notation, and keeps the replies beside their calls.
 use crate::hex_parts::push_parts_line;
 use crate::lines::{push_line, push_texts, refused, two_parts, words_of};
 use anyhow::Error;
@@ -114,7 +114,7 @@ fn push_number(out: &mut String, number: &str, text: &str) -> Result<(), Error> 
     Ok(write!(out, "{number:08x} {text}")?)
 }
 
-/// Adds the line that prints of a reply, by the words of its text.
+/// Adds the line that a trace prints of a reply, by the words of the reply's text.
 fn push_reply(out: &mut String, reply: &str, words: &[&str]) -> Result<(), Error> {
     match words {
         [a0] => push_number(out, a0, "-\n"),
@@ -186,7 +186,7 @@ impl Replies {
         self.push_range(first.parse::<u32>()?, last.parse::<u32>()?)
     }
 
-    /// Adds what a trace of them prints.
+    /// Adds what a trace of these replies prints.
     pub fn push_trace(&self, out: &mut String, pid: &str) -> Result<(), Error> {
         let count = self.count;
         let lines = self.printed.as_str();

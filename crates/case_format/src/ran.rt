@@ -1,4 +1,4 @@
-//! What came of a run.
+//! `Ran`: what a run of the program wrote, and its exit status.
 
 /// What a run of the program wrote, and its exit status.
 pub struct Ran {

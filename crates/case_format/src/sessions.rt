@@ -1,4 +1,4 @@
-//! Cases of the program by its command line, as one has it at a terminal.
+//! The notation of `.sessions`: cases of the program by its command line, as a person types it at a terminal.
 //!
 //! A line begins with its mark:
 //! - `$ WORDS`: the program is run with these words; lines after it say more of the run:
@@ -22,7 +22,7 @@ use crate::ran::Ran;
 use anyhow::{Error, bail};
 use std::alloc::{AllocError, Global};
 
-/// What stands after a backslash, with the byte for which it does.
+/// The escapes: what stands after a backslash, and the byte that it means.
 const ESCAPES: &[(&str, u8)] = &[
     ("t", b'\t'),
     ("r", b'\r'),
@@ -31,7 +31,7 @@ const ESCAPES: &[(&str, u8)] = &[
     ("xff", 0xFF),
 ];
 
-/// Adds what stands after a backslash: a byte that a line does not show, and a text.
+/// Adds the byte of an escape, and the text after it. `text` begins after the backslash.
 fn push_escaped(input: &mut Vec<u8>, text: &str) -> Result<(), Error> {
     for &(mark, byte) in ESCAPES {
         if let Some(rest) = text.strip_prefix(mark) {
@@ -42,7 +42,7 @@ fn push_escaped(input: &mut Vec<u8>, text: &str) -> Result<(), Error> {
     Err(refused("no such byte: \\", text))
 }
 
-/// Adds a text, with the bytes that it does not show.
+/// Adds a text, in which escapes stand for their bytes.
 fn push_text(input: &mut Vec<u8>, text: &str) -> Result<(), Error> {
     let mut parts = text.split('\\');
     input.extend_from_slice(parts.next().unwrap_or("").as_bytes())?;
@@ -52,7 +52,7 @@ fn push_text(input: &mut Vec<u8>, text: &str) -> Result<(), Error> {
     Ok(())
 }
 
-/// Adds a line, with the bytes that it does not show.
+/// Adds a line, in which escapes stand for their bytes.
 fn push_input(input: &mut Vec<u8>, text: &str) -> Result<(), Error> {
     push_text(input, text)?;
     Ok(input.extend_from_slice(b"\n")?)
@@ -88,7 +88,8 @@ fn push_times(input: &mut Vec<u8>, line: &str) -> Result<(), Error> {
     Ok(())
 }
 
-/// Compares what a run wrote with what is wanted of it. Where something is wanted and nothing came, it is refused for this reason.
+/// Compares what a run wrote with what is wanted of it. Where anything at all is wanted and nothing was written, `why` is the
+/// error.
 fn compare_output(
     came: &[u8],
     wanted: &str,
@@ -110,12 +111,12 @@ pub struct Run {
     input: Vec<u8>,
     /// What it prints.
     out: String,
-    /// Whether anything that it prints will do; but it has to print something.
+    /// Whether any output will do, as long as there is some.
     prints_something: bool,
     status: u8,
-    /// What it says on standard error.
+    /// What is wanted on standard error.
     err: String,
-    /// Whether anything that it says will do; but it has to say something.
+    /// Whether any text on standard error will do, as long as there is some.
     says_something: bool,
 }
 
@@ -146,7 +147,7 @@ impl Run {
         })
     }
 
-    /// The run is to end as `STATUS TEXT` or `STATUS` says.
+    /// Notes how the run is to end, by `STATUS TEXT` or `STATUS`.
     fn want_end(&mut self, line: &str) -> Result<(), Error> {
         let (status, text) = parted(line);
         self.status = status.parse::<u8>()?;
@@ -155,7 +156,7 @@ impl Run {
         push_line(&mut self.err, text)
     }
 
-    /// Reads a line that says more of the run, by its mark. False where it says nothing of it.
+    /// Reads a line that says more of the run, by its mark. False where the line does not.
     fn read(&mut self, alloc: Global, mark: &str, text: &str) -> Result<bool, Error> {
         let read = match mark {
             "<" => push_input(&mut self.input, text),
@@ -181,7 +182,7 @@ impl Run {
         self.words.as_str()
     }
 
-    /// What stands on its input.
+    /// What stands on the input of the run.
     pub fn input(&self) -> &[u8] {
         self.input.as_slice()
     }
@@ -276,7 +277,7 @@ pub enum Step {
 }
 
 impl Step {
-    /// Reads a line that says more of the step, by its mark. False where it says nothing of it.
+    /// Reads a line that says more of the step, by its mark. False where the line does not.
     fn goes_on(&mut self, alloc: Global, mark: &str, text: &str) -> Result<bool, Error> {
         match self {
             Step::Run(run) => run.read(alloc, mark, text),
@@ -289,7 +290,7 @@ impl Step {
     }
 }
 
-/// Refused where a file is there that is to be missing.
+/// Refuses that a file is there which is to be missing.
 pub fn check_missing(is_missing: bool) -> Result<(), Error> {
     if is_missing {
         Ok(())
@@ -344,7 +345,7 @@ fn parted(line: &str) -> (&str, &str) {
     line.split_once(' ').unwrap_or((line, ""))
 }
 
-/// Whether a line goes on with the last step, which then has read it.
+/// Has the last step read a line, if the line goes on with it. Says whether it does.
 fn goes_on(alloc: Global, steps: &mut [Step], line: &str) -> Result<bool, Error> {
     let (mark, text) = parted(line);
     match steps.last_mut() {
@@ -360,7 +361,7 @@ fn read_line(alloc: Global, steps: &mut Vec<Step>, line: &str) -> Result<(), Err
     Ok(())
 }
 
-/// The steps that the lines of a case say.
+/// The steps of a case, by its lines.
 pub fn session_steps(alloc: Global, lines: &str) -> Result<Vec<Step>, Error> {
     let mut steps = Vec::new(alloc);
     for line in lines.lines() {

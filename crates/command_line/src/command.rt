@@ -1,4 +1,4 @@
-//! The commands, as rows. Those with options of their own stand with these.
+//! The table of the commands, a row each. The rows of `run`, `debug` and `gdb` stand in files of their own, with their options.
 use crate::debug_options::DEBUG;
 use crate::exec_options::EXEC;
 use crate::explore_options::EXPLORE;

@@ -4,12 +4,12 @@ use crate::run_options::{ImagePaths, images_of, small_number};
 use clap::ArgMatches;
 use std::alloc::{AllocError, Global};
 
-/// What is debugged while a kernel answers its calls.
+/// A session of the debugger in which a kernel answers the calls: the images, the process, and their files.
 #[derive(Drop)]
 pub struct LiveOptions<'a> {
     /// The number of the process that is debugged, from 1.
     pub process: u32,
-    /// The path of what stands on tape 0, if anything does.
+    /// The path of the file that stands on tape 0, if one does.
     pub tape: Option<&'a str>,
     /// The path of the disk's file, if there is one.
     pub disk: Option<&'a str>,
@@ -72,7 +72,7 @@ pub const DEBUG: CommandRow = CommandRow {
     ],
 };
 
-/// Why the options do not go together with `--live`, if they do not.
+/// Why the other options do not go together with `--live`, if they do not.
 fn live_conflict(matches: &ArgMatches<'_>) -> Option<&'static str> {
     if matches.get_str("trace").is_some() {
         return Some("the argument '--live' cannot be used with '--trace <FILE>'");
@@ -83,7 +83,7 @@ fn live_conflict(matches: &ArgMatches<'_>) -> Option<&'static str> {
     None
 }
 
-/// Why the options of the command do not go together, if they do not.
+/// Why the options of `debug` do not go together, if they do not.
 pub fn debug_conflict(matches: &ArgMatches<'_>, images: usize) -> Option<&'static str> {
     if matches.get_flag("live") {
         return live_conflict(matches);

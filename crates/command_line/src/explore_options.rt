@@ -26,7 +26,7 @@ pub const EXPLORE: CommandRow = CommandRow {
     name: "explore",
     whole: "bench explore",
     about: "Find all outcomes of programs, whatever the order of their calls",
-    example: "Example: bench explore examples/counter.script",
+    example: "Example: bench explore /tmp/lost-update.image",
     arguments: &[
         ArgumentRow {
             name: "PROGRAM",

@@ -5,7 +5,7 @@ use crate::run_options::small_number;
 use clap::ArgMatches;
 use std::alloc::{AllocError, Global};
 
-/// What gdb debugs.
+/// The options of `gdb`: what is debugged, and how.
 #[derive(Drop)]
 pub struct GdbOptions<'a> {
     /// The images, and how a kernel answers their calls. With a trace the first image alone counts.
@@ -69,7 +69,7 @@ pub const GDB: CommandRow = CommandRow {
     ],
 };
 
-/// Why the options of the command do not go together, if they do not.
+/// Why the options of `gdb` do not go together, if they do not.
 pub fn gdb_conflict(matches: &ArgMatches<'_>) -> Option<&'static str> {
     matches.get_str("trace")?;
     if matches.get_str("process").is_some() {
@@ -89,7 +89,7 @@ pub fn gdb_conflict(matches: &ArgMatches<'_>) -> Option<&'static str> {
     }
 }
 
-/// The options of the command. None where there are more than 8 images, or an argument is missing.
+/// The options of `gdb`. None where there are more than 8 images, or an argument is missing.
 pub fn gdb_options<'a>(
     alloc: Global,
     matches: &ArgMatches<'a>,

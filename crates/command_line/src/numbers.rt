@@ -1,4 +1,4 @@
-//! The numbers among the options of a command.
+//! Reads the numbers among the options of a command, and finds the first that is out of range.
 use crate::rows::{ArgumentRow, Form, NumberRow};
 use clap::ArgMatches;
 use input_reading::decimal;
@@ -35,7 +35,7 @@ fn is_in_range(value: &str, row: NumberRow) -> bool {
     }
 }
 
-/// The fault of an argument of this row, if it is a number and a faulty one is given.
+/// The fault of an argument that has to be a number, if a faulty one is given.
 fn fault_of<'a>(matches: &ArgMatches<'a>, row: &ArgumentRow) -> Option<FaultyNumber<'a>> {
     let Form::Number(wanted) = row.form else {
         return None;
@@ -51,7 +51,7 @@ fn fault_of<'a>(matches: &ArgMatches<'a>, row: &ArgumentRow) -> Option<FaultyNum
     })
 }
 
-/// The first number of these rows, in their order, that is faulty where it is given.
+/// The first faulty number that is given for these rows, in their order.
 pub fn faulty_number<'a>(
     matches: &ArgMatches<'a>,
     rows: &[ArgumentRow],
@@ -59,7 +59,7 @@ pub fn faulty_number<'a>(
     rows.iter().find_map(|row| fault_of(matches, row))
 }
 
-/// The number of an option. None where none is given, or a faulty one.
+/// The number of an option. None where the option is not given, or its number is faulty.
 pub fn number_of(matches: &ArgMatches<'_>, option: &str) -> Option<u64> {
     decimal(matches.get_str(option)?)
 }

@@ -1,4 +1,4 @@
-//! The words of the command line, read.
+//! `parse`: reads the words of the command line as a task.
 use crate::command::{command_rows, row_named};
 use crate::refusing::{test_numbers, with_usage};
 use crate::rows::commands_of;
@@ -17,7 +17,7 @@ const VERSION: &str = "of 28 November 2026";
 /// The option of every command that has reasons told.
 const EXPLAIN: &str = "explain";
 
-/// Where that option stands in a help: after all others but `--help`, whose place is 999.
+/// Where `--explain` stands in a help: after all options but `--help`, whose place is 999.
 const BEFORE_HELP: usize = 998;
 
 /// What the words of a command line ask for.
@@ -100,8 +100,8 @@ fn read<'a>(
     }
 }
 
-/// What the words, the program's name aside, ask for; without words it is the script on standard input. An error prints as what is
-/// wrong and the usage of its command, or as the help that was asked for.
+/// The task that the words ask for, the program's name aside. Without words it is to replay the script on standard input. An error
+/// prints as what is wrong and the usage of its command, or as the help that was asked for.
 pub fn parse<'a>(alloc: Global, words: &'a [String]) -> Result<Arguments<'a>, Error> {
     if words.is_empty() {
         return Ok(Arguments {

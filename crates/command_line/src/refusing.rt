@@ -31,13 +31,13 @@ pub fn test_numbers(
     }
 }
 
-/// What is wrong, by the text of a refusal.
+/// The message in the text of a refusal, without what stands round it.
 fn message_of(text: &str) -> Option<&str> {
     let (message, _rest) = text.strip_prefix("error: ")?.split_once("\n\n")?;
     Some(message)
 }
 
-/// The same refusal with the usage of the command of this row.
+/// A refusal made anew, with the usage of a command.
 fn again(alloc: Global, row: &CommandRow, error: Error) -> Result<Error, AllocError> {
     let text = format!(in alloc; "{error}")?;
     match message_of(text.as_str()) {
@@ -46,7 +46,7 @@ fn again(alloc: Global, row: &CommandRow, error: Error) -> Result<Error, AllocEr
     }
 }
 
-/// The same refusal, with the usage of its command where that is left out. It is left out where an option has no value.
+/// A refusal with the usage of its command. Where an option has no value, the library leaves the usage out, and it is added here.
 pub fn with_usage(alloc: Global, words: &[String], error: Error) -> Result<Error, AllocError> {
     if error.kind() != ErrorKind::InvalidValue {
         return Ok(error);

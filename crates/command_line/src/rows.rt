@@ -1,4 +1,4 @@
-//! Commands as rows of a table: what is said of each, and the arguments that it takes.
+//! The types of the table of commands: a row is what the help says of a command, and the arguments that it takes.
 use clap::{Arg, ArgAction, Command};
 use kernel_model::MOST_PROGRAMS;
 use std::alloc::{AllocError, Global};
@@ -10,14 +10,14 @@ pub struct NumberRow {
     pub value: &'static str,
     pub least: u64,
     pub most: u64,
-    /// The number where none is given, if there is one.
+    /// The number that holds where none is given, if there is one.
     pub default: Option<&'static str>,
 }
 
 /// How an argument is given.
 #[derive(Clone, Copy)]
 pub enum Form {
-    /// By its place; it has to be there.
+    /// By its place. The argument has to be there.
     File,
     /// By its place, 1 to 8 times.
     Images,
@@ -63,15 +63,15 @@ pub enum CommandKind {
 pub struct CommandRow {
     pub kind: CommandKind,
     pub name: &'static str,
-    /// The name as its usage gives it.
+    /// The name as the usage gives it: `bench` and then `name`.
     pub whole: &'static str,
     pub about: &'static str,
-    /// How it is used, as its help says at its end.
+    /// An example, which stands at the end of the help.
     pub example: &'static str,
     pub arguments: &'static [ArgumentRow],
 }
 
-/// The argument of a row, as one that may be given once.
+/// The argument of a row, with at most one value.
 fn once<'a>(alloc: Global, row: &ArgumentRow) -> Arg<'a> {
     Arg::new(alloc, row.name)
         .help(row.help)

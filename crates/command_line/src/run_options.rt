@@ -56,7 +56,7 @@ pub struct RunOptions<'a> {
     pub is_durable: bool,
     pub tapes: TapePaths<'a>,
     pub images: ImagePaths<'a>,
-    /// The process whose status is to be the program's, if one is.
+    /// The process whose status is to be the program's (`--status`), if one is given.
     pub status: Option<u32>,
 }
 
@@ -229,8 +229,8 @@ pub fn paths_named<'a>(
     Ok(Some(ImagePaths { paths }))
 }
 
-/// What the arguments of the command ask for. None where there are more than 8 images. None too where an argument is missing or out
-/// of range, which the command itself refuses.
+/// The options of `run`. None where there are more than 8 images. None too where an argument is missing or out of range, which was
+/// refused before.
 pub fn run_options<'a>(
     alloc: Global,
     matches: &ArgMatches<'a>,

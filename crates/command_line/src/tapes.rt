@@ -16,7 +16,7 @@ pub struct TapePaths<'a> {
     paths: [Option<&'a str>; TAPES],
 }
 
-/// A tape that is given twice, or in no form. It prints as what is wrong.
+/// Why the options of tapes are refused. It prints as what is wrong.
 #[derive(Clone, Copy, Drop)]
 pub enum FaultyTape<'a> {
     /// A value of `--tape-of` that is no number of a tape, `=` and a path.
@@ -52,7 +52,7 @@ fn tape_of(value: &str) -> Option<(usize, &str)> {
 }
 
 impl<'a> TapePaths<'a> {
-    /// Puts a file on a tape, or says why it cannot be put there.
+    /// Puts a file on a tape, or says why the file cannot be put there.
     fn put(&mut self, tape: usize, path: &'a str) -> Result<(), FaultyTape<'a>> {
         let is_second = path == STANDARD_INPUT && self.paths.iter().any(|it| *it == Some(path));
         let Some(place) = self.paths.get_mut(tape) else {
@@ -68,7 +68,7 @@ impl<'a> TapePaths<'a> {
         Ok(())
     }
 
-    /// The tapes that a command line gives, up to the first that is faulty, and that fault.
+    /// The tapes that a command line gives, up to the first that is faulty, and its fault.
     fn read(matches: &ArgMatches<'a>) -> (TapePaths<'a>, Option<FaultyTape<'a>>) {
         let mut tapes = TapePaths {
             paths: [None; TAPES],
@@ -88,7 +88,7 @@ impl<'a> TapePaths<'a> {
         (tapes, None)
     }
 
-    /// The tapes that a command line gives; those before the first faulty one.
+    /// The tapes that a command line gives, up to the first that is faulty.
     pub(crate) fn of(matches: &ArgMatches<'a>) -> TapePaths<'a> {
         let (tapes, _fault) = TapePaths::read(matches);
         tapes
@@ -102,7 +102,7 @@ impl<'a> TapePaths<'a> {
     }
 }
 
-/// The first tape that is not given as it has to be.
+/// The fault of the first tape that is not given as it has to be.
 pub(crate) fn faulty_tape<'a>(matches: &ArgMatches<'a>) -> Option<FaultyTape<'a>> {
     let (_tapes, fault) = TapePaths::read(matches);
     fault

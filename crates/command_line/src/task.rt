@@ -1,4 +1,4 @@
-//! What the command line asks for.
+//! `Task`: what the command line asks for.
 use crate::command::{ASSEMBLE, IMAGE, SYMBOLS};
 use crate::debug_options::{DEBUG, LiveOptions, debug_conflict, live_options};
 use crate::exec_options::{EXEC, ExecOptions, exec_conflict, exec_options};
@@ -14,7 +14,7 @@ use clap::error::ErrorKind;
 use clap::{ArgMatches, Error};
 use std::alloc::{AllocError, Global};
 
-/// What the program is to do.
+/// What the program is to do, a variant for each command.
 #[derive(Drop)]
 pub enum Task<'a> {
     /// Replay the script on standard input.
@@ -50,12 +50,12 @@ pub enum Task<'a> {
     },
     /// Say what is wrong with the source in a file.
     Check(&'a str),
-    /// Make an image, in a file, of the executable in another that a linker wrote.
+    /// Make an image of an executable that a linker wrote. Each is in a file of its own.
     Image {
         linked: &'a str,
         image: &'a str,
     },
-    /// Write what gdb is told of the source in a file to another.
+    /// Write what gdb is told of the source in a file, to another file.
     Symbols {
         source: &'a str,
         symbols: &'a str,

@@ -1,4 +1,4 @@
-//! Cases of cores, in a notation that has beside each line what it comes to.
+//! Runs the cases of a `.cores` file. Beside each line of a case stands what the line has to come to.
 //!
 //! Each case begins with a line `== TITLE` (`case_files` of `case_format`). Its lines are run one after the other. Each is a command
 //! and, after ` => `, what it has to come to, as `{:?}` prints it; without that it has to come to `Ok(())`. What stands after `#`
@@ -86,7 +86,7 @@ fn text<T: Debug + Drop>(alloc: Global, answer: T) -> Result<String, Error> {
     Ok(format!(in alloc; "{answer:?}")?)
 }
 
-/// The same of what succeeds, whose error would be the case's own.
+/// What a line comes to that has to succeed. An error ends the case.
 fn text_ok<T: Debug + Drop>(alloc: Global, answer: T) -> Result<String, Error> {
     text(alloc, Ok::<T, Refused>(answer))
 }
@@ -134,19 +134,19 @@ fn last_events(core: &TestCore, count: usize) -> &[Event] {
     &history[history.len().saturating_sub(count)..]
 }
 
-/// What a line comes to by which a core runs a script.
+/// What a line `script` comes to.
 fn run_script(alloc: Global, core: &mut TestCore, commands: &str) -> Result<String, Error> {
     let events = events_of(alloc, commands)?;
     text(alloc, core.run_script(events.as_slice()))
 }
 
-/// The same by two scripts.
+/// What a line `scripts` comes to.
 fn run_scripts(alloc: Global, core: &mut TestCore, commands: &str) -> Result<String, Error> {
     let events = events_of(alloc, commands)?;
     text(alloc, core.run_scripts(events.as_slice()))
 }
 
-/// What a line comes to by which a core applies events.
+/// What a line comes to that applies an event or events.
 fn apply(alloc: Global, core: &mut TestCore, command: &str) -> Result<String, Error> {
     match word(command, 0) {
         "script" => run_script(alloc, core, after_word(command)),
@@ -161,7 +161,7 @@ fn apply(alloc: Global, core: &mut TestCore, command: &str) -> Result<String, Er
     }
 }
 
-/// What a line comes to by which a core runs.
+/// What a line comes to that has a core go on; another line is `apply`'s.
 fn run(alloc: Global, core: &mut TestCore, command: &str) -> Result<String, Error> {
     let first = number(command, 1);
     match word(command, 0) {
@@ -196,7 +196,7 @@ fn machine_text(alloc: Global, core: &TestCore, pid: u32) -> Result<String, Erro
     }
 }
 
-/// What a line comes to that looks at the disk or a machine; another one is `run`'s.
+/// What a line comes to that looks at the disk or a machine; another line is `run`'s.
 fn see_or_run(alloc: Global, core: &mut TestCore, command: &str) -> Result<String, Error> {
     match word(command, 0) {
         "writes" => writes_text(alloc, core),
@@ -205,7 +205,7 @@ fn see_or_run(alloc: Global, core: &mut TestCore, command: &str) -> Result<Strin
     }
 }
 
-/// What a line comes to that looks at what a core shows; another one runs it.
+/// What a line comes to that looks at what a core shows; another line is `see_or_run`'s.
 fn look_or_run(alloc: Global, core: &mut TestCore, command: &str) -> Result<String, Error> {
     let first = number(command, 1);
     match word(command, 0) {
@@ -217,7 +217,7 @@ fn look_or_run(alloc: Global, core: &mut TestCore, command: &str) -> Result<Stri
     }
 }
 
-/// What a line comes to that counts what a core did; another one is `look_or_run`'s.
+/// What a line comes to that counts what a core did; another line is `look_or_run`'s.
 fn count_or_look(alloc: Global, core: &mut TestCore, command: &str) -> Result<String, Error> {
     match word(command, 0) {
         "history" => text(alloc, core.history()),
@@ -333,7 +333,7 @@ impl Case {
         Ok(())
     }
 
-    /// The other core comes in the place of this one.
+    /// Swaps the two cores of the case, for `other`.
     fn swap(&mut self) {
         mem::swap(&mut self.core, &mut self.other);
     }
@@ -428,7 +428,7 @@ impl Case {
         self.part(at, count).iter().all(|byte| *byte == 0)
     }
 
-    /// What a line comes to that is about results of loans; another one is about the core.
+    /// What a line comes to that is about results of loans; another line is `count_or_look`'s.
     fn lend_or_look(&mut self, command: &str) -> Result<String, Error> {
         let alloc = self.alloc;
         match word(command, 0) {
@@ -438,7 +438,7 @@ impl Case {
         }
     }
 
-    /// What a line comes to that is about the disk; another one is `lend_or_look`'s.
+    /// What a line comes to that is about the disk; another line is `lend_or_look`'s.
     fn recover_or_lend(&mut self, command: &str) -> Result<String, Error> {
         let alloc = self.alloc;
         let first = number(command, 1);
@@ -453,7 +453,7 @@ impl Case {
         }
     }
 
-    /// What a line comes to that sets up a tape or a disk, or another core; another one is `recover_or_lend`'s.
+    /// What a line comes to that sets up a tape or a disk, or another core; another line is `recover_or_lend`'s.
     fn set_or_recover(&mut self, command: &str) -> Result<String, Error> {
         let alloc = self.alloc;
         let first = word(command, 1);
@@ -482,7 +482,7 @@ impl Case {
         }
     }
 
-    /// Runs a line. Refused where it comes to something else than what is wanted.
+    /// Runs a line, and compares what it comes to with what is wanted.
     fn check<R: Files + AllocGlobal + Eprint>(&mut self, rt: &R, line: &str) -> Result<(), Error> {
         let (command, wanted) = parts_of(line);
         if command.is_empty() {
@@ -493,12 +493,12 @@ impl Case {
     }
 }
 
-/// An answer may be longer than the text of an error.
+/// Prints a line that failed on standard error. What it came to may be longer than the text of an error.
 fn tell<R: Eprint>(rt: &R, command: &str, wanted: &str, answer: &str) -> io::Result<()> {
     eprintln!(rt; "{command} => {wanted}\nit comes to: {answer}")
 }
 
-/// Refuses an answer that is not the one that is wanted, and says what it is.
+/// Compares what a line came to with what is wanted. Where they differ, prints both and gives an error.
 fn compare<R: Eprint>(rt: &R, command: &str, wanted: &str, answer: &str) -> Result<(), Error> {
     if answer == wanted {
         return Ok(());

@@ -1,4 +1,4 @@
-//! The changes that programs make, from which a plain fold makes the files that they leave.
+//! The changes that the tested programs make, and the files after so many of these changes, by a plain fold.
 use crate::plain_files::{PlainFile, has, make, remove, rename, write};
 use files::FileList;
 use std::alloc::{AllocError, Global};

@@ -1,4 +1,4 @@
-//! Cores of the programs and tapes that a case gives.
+//! `TestCore`: boots a core of the programs and tapes of a case, and calls it.
 ghost use Rattle.std.specs.Prelude.{◌≡◌, ◌<◌, IfOk, length};
 ghost use Rattle.std.specs.List.{AllByRecursion};
 ghost use Rattle.kernel_model.specs.World.{terminal_count};
@@ -61,7 +61,7 @@ fn recover_once(alloc: Global, device: &SimDisk) -> Result<FileTable, DiskFault>
     journal::recover(alloc, device)
 }
 
-/// The same, once more where it is refused for want of memory.
+/// As `recover_once`, once more where it is refused for want of memory.
 pub fn recover(alloc: Global, device: &SimDisk) -> Result<FileTable, DiskFault> {
     match recover_once(alloc, device) {
         Err(DiskFault::OutOfMemory) => recover_once(alloc, device),

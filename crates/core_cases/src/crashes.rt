@@ -49,7 +49,7 @@ pub struct Run {
 }
 
 impl Run {
-    /// Where it begins: on a disk of zeros, which this is.
+    /// The beginning of this run, on a disk of zeros, which is `device`.
     pub fn origin<'a>(self, sources: &'a [Source], device: &'a SimDisk) -> Origin<'a> {
         Origin {
             changer: self.changer,
@@ -106,7 +106,7 @@ fn boot(
     TestCore::boot(alloc, sources, tapes.as_slice(), device)
 }
 
-/// Where runs of a program begin: on this disk, after so many changes, with this group.
+/// The beginning of runs of a program: the disk, how many changes the program made before, and the number of the first group.
 #[derive(Clone, Copy)]
 pub struct Origin<'a> {
     changer: Changer,
@@ -119,7 +119,7 @@ pub struct Origin<'a> {
 }
 
 impl Origin<'_> {
-    /// A core that has committed all groups before this one and has cut it, and how many writes commit it.
+    /// A core that has committed all groups before `group` and has cut this one, and how many writes commit it.
     pub fn cut(&self, alloc: Global, group: u32) -> Result<(TestCore, u64), Error> {
         let mut core = boot(alloc, self.sources, self.tape, self.device)?;
         for before in self.group..group {
@@ -129,18 +129,19 @@ impl Origin<'_> {
         Ok((core, writes))
     }
 
-    /// How many changes of the program there are when the core of this run has so many.
+    /// How many changes the program has made in all when the core of this run has `changes`.
     fn after(&self, changes: u64) -> Result<u32, Error> {
         Ok(self.before.saturating_add(u32::try_from(changes)?))
     }
 
-    /// Whether a disk has the files after so many changes, at least these and at most those.
+    /// Whether a disk has the files after some number of changes from `least` to `most`.
     fn is_left(&self, alloc: Global, disk: &SimDisk, least: u32, most: u32) -> Result<bool, Error> {
         let found = recover(alloc, disk)?;
         Ok(self.changer.leaves(alloc, found.list(), least, most)?)
     }
 
-    /// The disk that a crash of this core with this fill leaves. Refused where its files are not right.
+    /// The disk that a crash of this core with this fill leaves. Its files have to be those after some number of changes, at least
+    /// the committed ones.
     pub fn crash(&self, alloc: Global, core: TestCore, fill: &[u8]) -> Result<SimDisk, Error> {
         let least = self.after(core.committed())?;
         let most = self.after(core.changes())?;

@@ -1,9 +1,9 @@
-//! Tests of cores.
+//! Tests of cores: cases in files, and runs that crash or whose writes fail.
 //!
 //! Read `cases` first: it runs the cases of a file, each line compared with what stands there beside it. `crashes` crashes a writer
 //! and a program that removes and renames its files, and compares what is left with a plain fold of the changes. `failures` does so
 //! after each write of a group has failed. `watching` makes a call once more that is refused for want of memory. Each function
-//! gives a line that says what was tried, and refuses what comes out otherwise, with a text that says which.
+//! gives a line that says what was tried, or an error that says what came out otherwise.
 #![tactic(auto)]
 
 mod cases;

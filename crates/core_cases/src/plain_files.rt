@@ -1,4 +1,4 @@
-//! Files by a plain fold of changes, to compare with those that a disk holds.
+//! The plain fold of changes to files, whose result is compared with the files that a disk holds.
 use files::FileList;
 use std::alloc::{AllocError, Global};
 
@@ -64,8 +64,8 @@ pub fn remove(files: &mut Vec<PlainFile>, name: u8) {
     files.retain(|file| file.name != name);
 }
 
-/// Gives the file of an old name a new one, and takes away the file that had it. It knows no places of files: so what the changes
-/// say by places is compared with what programs say by names.
+/// Gives the file of an old name a new one, and takes away the file that had the new name. No place of a file is used here: so what
+/// changes say by places is compared with what programs say by names.
 pub fn rename(files: &mut Vec<PlainFile>, old: u8, new: u8) {
     remove(files, new);
     if let Some(file) = file_named(files, old) {

@@ -1,4 +1,4 @@
-//! Runs of a core by many events: process 1 makes changes, groups commit them, and processes are lent.
+//! Lines of a case that are many events of a core: rounds of changes and commits, calls, and loans.
 use crate::cores::TestCore;
 use anyhow::{Error, bail};
 use kernel::{Answer, Event, Refused};

@@ -1,4 +1,4 @@
-//! All that is seen of a core, as one number. It takes no memory, so it can be asked for where a growth is refused.
+//! `seen`: all that is seen of a core, as one number. Taking it needs no memory, so it can be asked for where a growth is refused.
 use crate::cores::TestCore;
 use kernel::{Event, Refused, Standing};
 use kernel_model::TERMINALS;
@@ -26,7 +26,7 @@ fn add_events(state: &mut DefaultHasher, events: &[Event]) {
     }
 }
 
-/// Of events, as one number.
+/// Events as one number.
 pub fn seen_events(events: &[Event]) -> u64 {
     let mut state = DefaultHasher::new();
     add_events(&mut state, events);
@@ -84,8 +84,8 @@ fn add_processes(state: &mut DefaultHasher, core: &TestCore) {
     }
 }
 
-/// Its history, its counts and the writes in flight; what its terminals show; and of each process the replies and the end that are
-/// handed out, how it stands, and how many instructions it did.
+/// A core as one number: its history, its counts, its writes in flight, and what its terminals show. Of each process the number has
+/// the replies and the end that are handed out, how the process stands, and how many instructions it did.
 pub fn seen(core: &TestCore) -> u64 {
     let mut state = DefaultHasher::new();
     add_events(&mut state, core.history());

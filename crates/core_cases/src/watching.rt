@@ -1,6 +1,6 @@
-//! Calls of a core of which a growth may be refused. Such a call is made once more, and gives then what it gives where nothing is
-//! refused. Between the two all that is seen of the core has to be as before the first; where it is not, the call is an error.
-//! `tools/refused-growths.py` refuses the growths. Where none is, each call is made once.
+//! Makes calls of a core in which the host may refuse memory. A refused call is made once more, and then has to give what it gives
+//! where nothing is refused. Between the two calls all that is seen of the core has to be as before the first; else the call is an
+//! error. `tools/refused-growths.py` refuses the growths of memory. Where none is refused, each call is made once.
 use crate::cores::TestCore;
 use crate::seen::{seen, seen_events};
 use anyhow::{Error, bail};
@@ -14,7 +14,7 @@ fn check_seen(core: &TestCore, before: u64) -> Result<(), Error> {
     bail!("a call that was refused changed what is seen of the core")
 }
 
-/// Checks that the events before, so many, are still there.
+/// Checks that the first `count` events are still those that were there before.
 fn check_events(core: &TestCore, count: usize, before: u64) -> Result<(), Error> {
     match core.history().get(..count) {
         Some(events) if seen_events(events) == before => Ok(()),

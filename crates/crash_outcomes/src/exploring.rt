@@ -1,4 +1,4 @@
-//! The run of a script, with a crash at each moment.
+//! `explore`: plays a script, and tries a crash with each fill after each boot and after each event of the disk.
 ghost use Rattle.std.specs.Prelude.{◌≡◌, true, IfSome};
 ghost use Rattle.disk_model.specs.Storage.{is_quiet};
 
@@ -22,7 +22,7 @@ fn moment_of(boot: u64, core: &Core) -> Moment {
     }
 }
 
-/// A script whose crashes are tried while it is played.
+/// The visitor that tries crashes while a script is played.
 #[derive(Drop)]
 struct Explorer<'r, 's, 'e, 'o, R, O> {
     rt: &'r R,
@@ -58,7 +58,7 @@ impl<'r, 's, 'e, 'o, R: Files + AllocGlobal, O: Write> Explorer<'r, 's, 'e, 'o, 
         Ok(findings.print_sums(out)?)
     }
 
-    /// Finds what a crash with this fill leaves. The core goes on as if there were none.
+    /// Finds what a crash with this fill would leave. The core itself goes on.
     fn try_crash(&mut self, core: &Core, moment: Moment, fill: Fill) -> Result<(), Fault> {
         let left = core.after_crash(fill.bytes())?;
         let next = self.setup.boot(self.rt, Some(left))?;
@@ -68,7 +68,7 @@ impl<'r, 's, 'e, 'o, R: Files + AllocGlobal, O: Write> Explorer<'r, 's, 'e, 'o, 
             .add(alloc, moment, fill, outcome.as_str(), self.out)
     }
 
-    /// Finds what a crash now leaves, with each fill.
+    /// Finds what a crash now would leave, with each fill.
     fn try_crashes(&mut self, core: &Core) -> Result<(), Fault> {
         let moment = moment_of(self.boots, core);
         for fill in FILLS {
@@ -77,7 +77,7 @@ impl<'r, 's, 'e, 'o, R: Files + AllocGlobal, O: Write> Explorer<'r, 's, 'e, 'o, 
         Ok(())
     }
 
-    /// Boots on the disk that a crash of the script left, or on one of zeros, and tries crashes at once.
+    /// Boots on the disk that a `crash` line left, or on one of zeros, and tries crashes right after the boot.
     fn boot(&mut self, left: Option<SimDisk>) -> Result<Core, Fault>
         requires { IfSome left (λ device. is_quiet device ≡ true) }
     {
@@ -91,7 +91,7 @@ impl<'r, 's, 'e, 'o, R: Files + AllocGlobal, O: Write> Explorer<'r, 's, 'e, 'o, 
 impl<R: Files + AllocGlobal, O: Write> Visitor for Explorer<'_, '_, '_, '_, R, O> {
     type Fault = Fault;
 
-    /// Tries crashes where the event may have changed the disk or its writes in flight.
+    /// Tries crashes after each event of the disk. No other event changes the disk or its writes in flight.
     fn after(&mut self, core: &Core, event: Event, _answer: Answer) -> Result<(), Fault> {
         match process_of(event) {
             Some(_) => Ok(()),

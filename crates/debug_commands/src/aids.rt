@@ -1,7 +1,7 @@
-//! What a session may have beside a program and its trace.
+//! The aids of a session of `debug`: a kernel that answers the calls, and the program's source.
 use debug_info::SourceLines;
 
-/// What a session has beside a program and its trace. With either of these it has more commands, and says more of a trap.
+/// What a session has beside a program and its trace. With either aid a session has more commands, and says more of a trap.
 #[derive(Drop)]
 pub struct Aids {
     /// Whether a kernel answers the program's calls.
@@ -11,7 +11,7 @@ pub struct Aids {
 }
 
 impl Aids {
-    /// Whether there is any.
+    /// Whether the session has an aid.
     pub fn some(&self) -> bool {
         self.is_live || self.source.is_some()
     }

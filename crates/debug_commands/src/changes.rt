@@ -1,4 +1,4 @@
-//! What changed in memory.
+//! Prints which words of memory a command changed.
 use crate::writable::{Words, Writable, words_of};
 use memory::Space;
 use std::io::Write;
@@ -7,7 +7,7 @@ use std::{fmt, io};
 /// The most words that are printed at a stop.
 const MOST: u32 = 8;
 
-/// 0 where there is none.
+/// The byte at an address, or 0 where no memory is.
 fn byte_at(space: &Space, at: u32) -> u8 {
     space.byte(at).unwrap_or(0)
 }
@@ -44,7 +44,8 @@ fn print_bytes<O: Write>(
     writeln!(out, "  {at:08x}:{before} ->{after}")
 }
 
-/// Prints the words of these that changed, where fewer than eight were printed before. Gives how many changed, with those before.
+/// Prints those of some words that changed, while no more than eight are printed in all. `changed` is how many changed before; the
+/// result is how many changed with these.
 fn print_changed_words<O: Write>(
     before: &Space,
     after: &Space,
@@ -65,7 +66,7 @@ fn print_changed_words<O: Write>(
     Ok(changed)
 }
 
-/// Prints at most eight, and gives how many changed.
+/// Prints the first eight words that changed, and gives how many changed in all.
 fn print_first_words<O: Write>(
     before: &Space,
     after: &Space,

@@ -1,11 +1,11 @@
-//! The commands of a session.
+//! `command_of`: reads a line as a command of `debug`.
 use crate::aids::Aids;
 use crate::registers::register_named;
 use crate::showing::MOST_SHOWN;
 use formats::Reg;
 use input_reading::{decimal, hexadecimal};
 
-/// What moves the machine.
+/// The commands that move the machine.
 #[derive(Clone, Copy)]
 pub enum Motion {
     /// So many instructions on.
@@ -73,7 +73,7 @@ impl CommandFault {
         }
     }
 
-    /// The same where it has some.
+    /// The answer to such a line where a session has aids.
     pub fn aided_text(self) -> &'static str {
         match self {
             CommandFault::Unknown => {
@@ -150,7 +150,7 @@ fn plain(name: &str, aids: &Aids) -> Result<Command, CommandFault> {
     }
 }
 
-/// How many bytes are to be printed.
+/// The number of bytes to print, of the second word of `show`.
 fn count_of(word: &str) -> Result<u32, CommandFault> {
     match number_of(word).ok() {
         Some(count) if 1 <= count && count <= u64::from(MOST_SHOWN) => Ok(count as u32),

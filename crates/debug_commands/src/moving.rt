@@ -1,4 +1,4 @@
-//! Motions of the machine: why it stops, where it stands then, and what changed.
+//! Does the commands that move the machine, `step`, `run` and `rewind`. Prints why the machine stopped, where, and what changed.
 ghost use Rattle.std.specs.Prelude.{◌<◌};
 ghost use Rattle.kernel_model.specs.World.{terminal_count};
 
@@ -16,7 +16,7 @@ use std::io;
 use std::io::Write;
 use timeline::{After, End, SessionFault, Stop, Way};
 
-/// How many loans of the kernel are done before a command gives up for the time being.
+/// How many loans the kernel runs for a reply before a command gives up for the time being.
 const LOANS: u32 = 4096;
 
 impl Session {
@@ -46,7 +46,7 @@ impl Session {
         Ok(())
     }
 
-    /// Goes on up to a count, by a part. Prints what terminals show then. Gives how it stops, if it does.
+    /// Goes on by one part, at most up to a count, and prints what terminals show then. Gives the stop, if the program stops.
     fn go_part<O: Write>(
         &mut self,
         limit: u64,
@@ -108,7 +108,7 @@ impl Session {
         Ok(self.print_stop(stop, out)?)
     }
 
-    /// Prints why the machine stopped, where that is to be said.
+    /// Prints why the machine stopped, unless it went as far as it was to.
     fn print_stop<O: Write>(&self, stop: Stop, out: &mut O) -> io::Result<()> {
         match stop {
             Stop::Break(number) => writeln!(out, "break {number}"),
@@ -120,7 +120,7 @@ impl Session {
         }
     }
 
-    /// Moves the machine, and prints why it stopped, where the command does not say it.
+    /// Moves the machine. Prints why it stopped, unless it went as far as the command says.
     fn go<O: Write>(&mut self, motion: Motion, out: &mut O) -> Result<(), SessionFault> {
         match motion {
             Motion::Step(n) => self.step(n, out),
@@ -142,7 +142,7 @@ impl Session {
         print_changed_memory(before.space(), after.space(), &self.writable, out)
     }
 
-    /// Moves the machine, and prints what that comes to.
+    /// Moves the machine, and prints why it stopped, where, and what changed.
     pub fn show_motion<O: Write>(
         &mut self,
         motion: Motion,

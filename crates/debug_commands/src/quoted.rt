@@ -1,8 +1,8 @@
-//! Bytes as text between quotes.
+//! Prints bytes as text between quotes.
 use std::io;
 use std::io::Write;
 
-/// Prints a byte as a string of a source has it. Other bytes print as `\x` and two hexadecimal digits.
+/// Prints a byte as a string of a source spells it. A byte that no string has prints as `\x` and two hexadecimal digits.
 fn print_byte<O: Write>(byte: u8, out: &mut O) -> io::Result<()> {
     match byte {
         b'\n' => out.write_all(b"\\n"),

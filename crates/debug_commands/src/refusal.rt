@@ -1,4 +1,4 @@
-//! What the debugger refuses.
+//! Prints why the debugger refuses a command.
 use debugger::DebugFault;
 use std::io;
 use std::io::Write;

@@ -1,4 +1,4 @@
-//! Registers by their names.
+//! Prints registers by their names: all of them, or those that changed.
 use debugger::Machine;
 use formats::Reg;
 use std::alloc::Global;
@@ -43,7 +43,7 @@ pub fn print_changed_registers<O: Write>(
     Ok(())
 }
 
-/// What stands after a register of this number, of which four stand in a line.
+/// What is printed after the register of this number: the end of the line after each fourth one, else blanks.
 fn end_of(number: u8) -> &'static str {
     if number % 4 == 3 { "\n" } else { "  " }
 }

@@ -1,4 +1,4 @@
-//! The rights of memory.
+//! The rights of a page as text.
 use memory::Space;
 use memory_model::{Bus, Width};
 

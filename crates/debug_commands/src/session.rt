@@ -1,4 +1,4 @@
-//! A session: commands line by line, and their answers.
+//! `debug`: a session, which reads commands line by line and answers each.
 use crate::aids::Aids;
 use crate::command::{Command, CommandFault, command_of};
 use crate::help::print_help;
@@ -117,9 +117,9 @@ impl Session {
 /// `rewind N`, `state`, `print WHAT`, `help` and `quit`. A run goes to a breakpoint, a trap, the end of the trace, or 2^40 instructions. The end of the
 /// input is `quit`.
 ///
-/// With a kernel the trace ends only where that has no more replies: what terminals show is printed as it shows, and a line says
-/// why there are no more. With a source the line of the next instruction is printed, and `break LABEL` is a command. With either
-/// the address of a trap is printed, and `show ADDR N` is a command.
+/// With a kernel the trace ends only where the kernel has no more replies: what terminals show is printed as it shows, and a line
+/// says why there are no more replies. With a source the line of the next instruction is printed, and `break LABEL` is a command.
+/// With either aid the address of a trap is printed, and `show ADDR N` is a command.
 ///
 /// OutOfMemory and InputOutput end a session.
 pub fn debug<I: Read, O: Write>(

@@ -1,4 +1,4 @@
-//! Memory as it stands.
+//! Prints bytes of memory, for `show ADDR N`.
 use crate::rights::rights_at;
 use memory::Space;
 use std::io;
@@ -26,7 +26,7 @@ fn print_byte<O: Write>(space: &Space, at: u32, out: &mut O) -> io::Result<()> {
     }
 }
 
-/// Prints so many bytes from an address on, at least one, in lines with the rights of their page. None stands past the greatest
+/// Prints `count` bytes from an address on, at least one, in lines with the rights of their page. No byte stands past the greatest
 /// address.
 pub fn print_memory<O: Write>(space: &Space, at: u32, count: u32, out: &mut O) -> io::Result<()> {
     begin_row(space, at, out)?;

@@ -1,4 +1,4 @@
-//! Where a machine stands.
+//! Prints where a machine stands: the count, the program counter, the instruction there, and its line of the source.
 use debug_info::SourceLines;
 use debugger::Machine;
 use formats::decode;
@@ -13,7 +13,7 @@ fn print_place<O: Write>(machine: &Machine, out: &mut O) -> io::Result<()> {
     print_word_at(machine, pc, out)
 }
 
-/// Prints the line of the source that the word at an address is of, if there is one.
+/// Prints the source's line for the word at an address, if there is one.
 fn print_line<O: Write>(source: &SourceLines, at: u32, out: &mut O) -> io::Result<()> {
     match source.line_at(at) {
         Some((number, text)) => writeln!(out, "  line {number}: {text}"),

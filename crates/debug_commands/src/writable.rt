@@ -1,4 +1,4 @@
-//! Which memory may be written by the programs of a trace.
+//! `Writable`: which memory the programs of a trace may write, so that only this memory is compared.
 use debugger::{Image, Reply};
 use machine_model::Segment;
 use std::alloc::{AllocError, Global};
@@ -9,11 +9,11 @@ const PAGE_WORDS: u32 = 1024;
 /// The first of the four pages of the stack, and one past the last.
 const STACK: (u32, u32) = (0x7FFFC, 0x80000);
 
-/// Words of memory in a row, by their addresses over four.
+/// Words of memory in a row. A word's number is its address divided by four.
 #[derive(Clone, Copy)]
 pub struct Words {
     pub first: u32,
-    /// One past the last.
+    /// The number after the last word.
     pub end: u32,
 }
 
@@ -57,7 +57,7 @@ pub struct Writable {
 }
 
 impl Writable {
-    /// That of a program alone.
+    /// What one program may write.
     pub fn new(alloc: Global, image: &Image) -> Result<Writable, AllocError> {
         let mut pages = Vec::new(alloc);
         for page in STACK.0..STACK.1 {
@@ -75,7 +75,8 @@ impl Writable {
         Ok(())
     }
 
-    /// Adds that of the programs that the replies of a trace bring, which has grown since it was looked at.
+    /// Adds what the programs may write that the replies of a trace bring. Only the replies are looked at that came since the last
+    /// time.
     pub fn add_replies(&mut self, trace: &[Reply]) -> Result<(), AllocError> {
         for reply in trace.get(self.replies..).unwrap_or_default() {
             if let Some(image) = &reply.image {

@@ -1,4 +1,4 @@
-//! The run of a core.
+//! `run` and `run_durable`: make the pool, the seats and the threads of a run, one after the other, and wait for the threads' end.
 ghost use Rattle.std.specs.Prelude.{◌≡◌, ◌≤◌, ◌<◌};
 ghost use Rattle.kernel_model.specs.Answers.{now, committed as committed_in, changes as changes_in};
 
@@ -46,11 +46,11 @@ struct Threading<'x, 'r, 'p, 'b, 'c, N: Naming, R: Wait, F: DiskFile> {
 /// thread commits what output waits for, and what a terminal shows, or what all show, is written out at once. Then all changes are
 /// committed, and the rest is written. Gives the core as it then stands.
 ///
-/// Where `settings.fail` says so, one completion of the run is a failure in its place. Those at the run's end count too. The run
-/// goes on to its end all the same: then some changes are not committed, just where a write has failed.
+/// Where `settings.fail` says so, one completion of the run is a failure in its place. Completions at the run's end count too. The
+/// run goes on to its end all the same. Some changes are then not committed, exactly where a write has failed.
 ///
-/// OutOfMemory: memory, a thread, or room in the history could not be had. Output: what terminals show could not be written.
-/// Either ends the run. DiskFailed: a write of the core had failed before the run, and `settings.fail` is None; it comes after the
+/// OutOfMemory: memory, a thread, or room in the history could not be had. Output: what terminals show could not be written. Either
+/// ends the run. DiskFailed: a write of the core had failed before the run, and `settings.fail` is None; this is found after the
 /// workers have ended. What was written stays.
 pub fn run<R: Threads + Wait + Sync, O: Write>(
     rt: &R,
@@ -70,11 +70,12 @@ pub fn run<R: Threads + Wait + Sync, O: Write>(
 }
 
 /// Runs a core as `run` does, and has a file hold its disk: each write that was in flight is written to the file and synced before it
-/// is complete. So what is shown rests on changes that the file holds. On the file stands the disk with which the core was booted.
+/// is complete. So what is shown rests on changes that the file holds. At the start the file has to hold the disk with which the
+/// core was booted.
 ///
-/// Where the file refuses a write or a sync, the writes in flight have failed, and the run goes on to its end: then some changes are
-/// not committed. It is so too where `settings.fail` has a completion fail. The faults are those of `run`. The core is one of which
-/// no write has failed.
+/// Where the file refuses a write or a sync, the writes in flight have failed, and the run goes on to its end: then some changes
+/// are not committed. The same holds where `settings.fail` has a completion fail. The faults are those of `run`. No write of the
+/// core may have failed before.
 pub fn run_durable<R: Threads + Wait + Sync, F: DiskFile + Send + Drop, O: Write>(
     rt: &R,
     alloc: Global,
@@ -89,7 +90,7 @@ pub fn run_durable<R: Threads + Wait + Sync, F: DiskFile + Send + Drop, O: Write
     Ok(core)
 }
 
-/// The run up to where no worker works any more, on a file that holds its disk, if one does.
+/// Runs a core until no worker works any more, on a file that holds its disk, if one is given.
 fn run_on<R: Threads + Wait + Sync, F: DiskFile + Send + Drop, O: Write>(
     rt: &R,
     alloc: Global,
@@ -101,7 +102,7 @@ fn run_on<R: Threads + Wait + Sync, F: DiskFile + Send + Drop, O: Write>(
     run_named::<Brand, R, F, O>(rt, alloc, core, Blanks::new(), settings, file, screen)
 }
 
-/// The run up to where no worker works any more, with the names of its ledgers and its board.
+/// As `run_on`; `N` has the names of the run's ledgers and of its board. Makes the board, the bench and the pool.
 fn run_named<
     N: Naming + Send + Sync,
     R: Threads + Wait + Sync,
@@ -134,7 +135,7 @@ fn run_named<
     run_pool(rt, alloc, pool, share, reader, settings, file, screen)
 }
 
-/// The run of a pool, and the core that it leaves.
+/// Runs a pool, and takes the core out of it at the end.
 fn run_pool<N: Naming + Send + Sync, R: Threads + Wait + Sync, F: DiskFile + Send + Drop, O: Write>(
     rt: &R,
     alloc: Global,
@@ -151,8 +152,8 @@ fn run_pool<N: Naming + Send + Sync, R: Threads + Wait + Sync, F: DiskFile + Sen
     Ok(gather(pool.end(), Vec::new(alloc)))
 }
 
-/// The run of a pool by a worker at each of its seats. In a durable run, and where a completion is to fail, the other
-/// changes are committed too.
+/// Runs a pool by a worker at each of its seats, beside the thread that commits. In a durable run, and where a completion is to
+/// fail, the changes that are left are committed at the end.
 fn run_seats<
     N: Naming + Send + Sync,
     R: Threads + Wait + Sync,
@@ -249,7 +250,7 @@ fn lead<N: Naming + Send + Sync, R: Threads + Wait + Sync, F: DiskFile + Drop>(
     threading.watch.end();
 }
 
-/// The workers, the first time.
+/// Takes the workers out; None if they were taken before.
 fn workers_in<'x, 'p, 'b, N: Naming, R: Wait>(
     rt: &R,
     crew: &Mutex<Crew<'x, 'p, 'b, N>>,
@@ -285,7 +286,7 @@ impl<'r, 'p, 'b, 'c, N: Naming, R: Wait, F: DiskFile + Drop> Threading<
     R,
     F,
 > {
-    /// What the thread that commits has, or the first fault, if one came. What else the threads shared goes.
+    /// Takes the part of the thread that commits out of what the threads shared. The first fault, if one came, is the error.
     fn end(self) -> Result<CommitThread<'r, 'p, 'b, 'c, N, R, F>, RunFault> {
         let Threading {
             committing,

@@ -1,4 +1,4 @@
-//! Which file a refusal is about, and the reason.
+//! `explain`: finds the file that a refusal is about, and the reason, and writes the line.
 use crate::image_reason::image_reason;
 use crate::input_output::{file_reason, may_open_again};
 use crate::lines::line_reason;
@@ -13,7 +13,7 @@ use std::fs::{self, File};
 use std::io::Write;
 use std::rt::Files;
 
-/// A file, and the reason for which it is refused. The path is empty where it is no file.
+/// A file, and the reason for which it is refused. The path is empty where no file is refused.
 #[derive(Drop)]
 struct Reason {
     path: String,
@@ -57,7 +57,7 @@ fn image_at<R: Files + AllocGlobal>(rt: &R, path: &str) -> Result<Option<Reason>
     }
 }
 
-/// The first image of a script that is none.
+/// The first file of a script's `image` lines that holds no image, with the reason.
 fn script_image<R: Files + AllocGlobal>(rt: &R, script: &str) -> Result<Option<Reason>, Fault> {
     if !may_open_again(rt, script) {
         return Ok(None);
@@ -73,7 +73,7 @@ fn script_image<R: Files + AllocGlobal>(rt: &R, script: &str) -> Result<Option<R
     Ok(None)
 }
 
-/// The first image that is none.
+/// The first file of a task that is to hold an image and holds none, with the reason.
 fn first_image<R: Files + AllocGlobal>(
     rt: &R,
     files: &[TaskFile<'_>],
@@ -91,7 +91,7 @@ fn first_image<R: Files + AllocGlobal>(
     Ok(None)
 }
 
-/// The line of a file that is refused.
+/// The line of a file that is refused, quoted, with the reason.
 fn line_at<R: Files + AllocGlobal>(
     rt: &R,
     files: &[TaskFile<'_>],
@@ -211,7 +211,7 @@ fn no_room<R: AllocGlobal>(rt: &R) -> Result<Option<Reason>, Fault> {
     )
 }
 
-/// What is said of a file of this role.
+/// A reason, with the path of the file if there is one.
 fn said_of<R: AllocGlobal>(rt: &R, path: Option<&str>, why: &str) -> Result<Option<Reason>, Fault> {
     match path {
         Some(path) => about(rt, path, why),
@@ -287,8 +287,8 @@ fn reason_of<R: Files<File = File> + AllocGlobal>(
     }
 }
 
-/// Writes a line that names the file of a task that a fault is about, and the reason. No line is written where none is found, as for
-/// a file that is another by then, or a pipe.
+/// Writes a line that names the file of a task that a fault is about, and the reason. No line is written where no reason is found,
+/// as for a file that has changed by then, or a pipe.
 pub fn explain<R: Files<File = File> + AllocGlobal, E: Write>(
     rt: &R,
     task: &Task<'_>,

@@ -94,7 +94,7 @@ fn is_text(file: &[u8]) -> bool {
         && start.iter().all(|byte| matches!(*byte, b'\t' | b'\n' | b'\r' | b' '..=b'~'))
 }
 
-/// What makes an image of the text in a file, by its name.
+/// The reason of a file that is text: which command makes an image of it, by the file's name.
 fn of_text(alloc: Global, path: &str) -> Result<String, AllocError> {
     let said = if path.ends_with(".c") {
         "it begins as text; of C a compiler makes an image first, as examples/c/build.sh does"
@@ -104,7 +104,7 @@ fn of_text(alloc: Global, path: &str) -> Result<String, AllocError> {
     String::from_str(alloc, said)
 }
 
-/// What is said of a file that does not begin as an image does.
+/// The reason of a file that does not begin as an image does.
 fn beginning(alloc: Global, path: &str, file: &[u8]) -> Result<String, AllocError> {
     if is_text(file) {
         return of_text(alloc, path);
@@ -150,7 +150,7 @@ fn short_table(alloc: Global, file: &[u8]) -> Result<String, AllocError> {
     )
 }
 
-/// What is wrong with a program header by itself, if anything is.
+/// The reason of a program header that is wrong by itself; None where it is not.
 fn segment(alloc: Global, header: Header<'_>) -> Result<Option<String>, AllocError> {
     let number = header.number;
     if let Some(fault) = faulty_field(&PROGRAM_HEADER, header.bytes) {
@@ -203,7 +203,7 @@ fn range(alloc: Global, header: Header<'_>) -> Result<Option<String>, AllocError
     Ok(None)
 }
 
-/// The first thing that is said of some headers, each by itself.
+/// The reason of the first program header for which `say` gives one.
 fn first_said<F: Fn(Header<'_>) -> Result<Option<String>, AllocError>>(
     headers: &[Header<'_>],
     say: F,
@@ -250,7 +250,7 @@ fn entry(alloc: Global, file: &[u8]) -> Result<String, AllocError> {
     )
 }
 
-/// What is said of the program headers.
+/// The reason of a fault in the program headers.
 fn table(alloc: Global, file: &[u8], fault: ElfFault) -> Result<Option<String>, AllocError> {
     let headers = headers_of(alloc, file)?;
     let headers = headers.as_slice();

@@ -26,8 +26,8 @@ pub fn may_open_again<R: Files>(rt: &R, path: &str) -> bool {
     }
 }
 
-/// Why a file that has to be text cannot be read, if it cannot. No more than `most` + 1 of its bytes are read, since it may have no
-/// end. Where it has more, its last character may be cut short.
+/// Why a file that has to be text cannot be read, if it cannot. At most `most` + 1 of its bytes are read, since a file may have no
+/// end. Where the file has more bytes, the last character that is read may be cut short.
 fn text_reason<R: Files + AllocGlobal>(
     rt: &R,
     path: &str,
@@ -82,7 +82,7 @@ fn made_reason<R: Files + AllocGlobal>(rt: &R, path: &str) -> Result<Option<Stri
     reason
 }
 
-/// Why the file beside a disk's cannot be made and removed.
+/// Why the file `.new` beside a disk's cannot be made and removed.
 fn beside_reason<R: Files + AllocGlobal>(rt: &R, path: &str) -> Result<String, AllocError> {
     let beside = format!(in rt.alloc(); "{path}.new")?;
     match made_reason(rt, beside.as_str())? {
@@ -107,7 +107,7 @@ fn live_disk_reason<R: Files + AllocGlobal>(
     }
 }
 
-/// Why the file beside a disk's cannot be made and locked by which one run at a time has the disk.
+/// Why the file `.lck` beside a disk's cannot be made and locked. By this file one run at a time has the disk.
 fn lock_reason<R: Files + AllocGlobal>(rt: &R, path: &str) -> Result<String, AllocError> {
     let lock = format!(in rt.alloc(); "{path}.lck")?;
     match written_reason(rt, lock.as_str())? {
@@ -119,8 +119,8 @@ fn lock_reason<R: Files + AllocGlobal>(rt: &R, path: &str) -> Result<String, All
     }
 }
 
-/// Why the file beside a disk's cannot be made and removed, if it cannot. To be asked under the disk's lock: what has this file's path
-/// is removed, and may else be what another run has written, which would then lose its disk.
+/// Why the file `.new` beside a disk's cannot be made and removed, if it cannot. To be asked under the disk's lock alone: what
+/// stands at this path is removed, and without the lock another run may have just written its disk there.
 fn place_reason<R: Files + AllocGlobal>(rt: &R, path: &str) -> Result<Option<String>, AllocError> {
     match test_place(rt, path) {
         Ok(()) => Ok(None),
@@ -128,7 +128,7 @@ fn place_reason<R: Files + AllocGlobal>(rt: &R, path: &str) -> Result<Option<Str
     }
 }
 
-/// Why a disk cannot be read and kept in a file, if it cannot. Where a run has it, that run could keep it.
+/// Why a disk cannot be read and kept in a file, if it cannot. None where a run has the disk, since that run could keep it.
 fn kept_disk_reason<R: Files<File = File> + AllocGlobal>(
     rt: &R,
     path: &str,
@@ -162,7 +162,7 @@ fn durable_disk_reason<R: Files<File = File> + AllocGlobal>(
     }
 }
 
-/// Why a file cannot be written, if it cannot. One that is there keeps its bytes.
+/// Why a file cannot be written, if it cannot. A file that is there keeps its bytes.
 fn written_reason<R: Files + AllocGlobal>(
     rt: &R,
     path: &str,
@@ -173,7 +173,7 @@ fn written_reason<R: Files + AllocGlobal>(
     }
 }
 
-/// Why a file of a task cannot be read or written, if it cannot. Nothing is said of what is not opened again.
+/// Why a file of a task cannot be read or written, if it cannot. None for a pipe or a terminal, which is not opened again.
 pub fn file_reason<R: Files<File = File> + AllocGlobal>(
     rt: &R,
     file: TaskFile<'_>,

@@ -1,10 +1,10 @@
-//! A line of a file, as what is wrong with it.
+//! `line_reason`: quotes the line of a file that is refused.
 use std::alloc::{AllocError, Global};
 
 /// The most characters of a line that are told.
 const MOST_TOLD: usize = 80;
 
-/// What is said of the line of this number of a text: its first characters as they stand there.
+/// The reason for which a line of a text is refused: its number, its first characters as they stand there, and `why`.
 pub fn line_reason(
     alloc: Global,
     text: &str,

@@ -16,9 +16,9 @@ pub enum Role {
     Expectations,
     /// A disk that is read.
     Disk,
-    /// A disk that is read, also where it is not there yet, and not kept.
+    /// A disk that is read and not kept. Its file may not be there yet.
     LiveDisk,
-    /// A disk that is kept, also where it is not there yet.
+    /// A disk that is kept. Its file may not be there yet.
     KeptDisk,
     /// A disk that is kept while its run goes on.
     DurableDisk,
@@ -110,7 +110,7 @@ fn push_options<'a>(files: &mut Vec<TaskFile<'a>>, task: &'a Task<'a>) -> Result
     }
 }
 
-/// At most three files, each with what it is for, if it is named.
+/// At most three files, each with what it is for. None stands for a file that is not named.
 type Named<'a> = [(Role, Option<&'a str>); 3];
 
 fn two<'a>(role: Role, path: Option<&'a str>, next: Role, other: Option<&'a str>) -> Named<'a> {

@@ -1,4 +1,4 @@
-//! System calls that were done, as a text.
+//! `Calls`: the system calls that took a reply, and the lines of `monitor calls`.
 use call_forms::{Call, CallText, Style};
 use formats::Reg;
 use machine::{Image, Machine, Reply};
@@ -20,7 +20,7 @@ struct RepliedCall {
 }
 
 impl RepliedCall {
-    /// How many bytes it wrote.
+    /// How many bytes the call wrote.
     fn written(&self) -> u64 {
         match (Call::of(self.number), self.reply.cast_signed()) {
             (Some(Call::Write), 0..) => u64::from(self.reply),
@@ -28,7 +28,7 @@ impl RepliedCall {
         }
     }
 
-    /// Prints it, with a star where it lies before a count.
+    /// Prints the call, with a star where it lies before a count.
     fn print<O: Write>(&self, now: u64, out: &mut O) -> io::Result<()> {
         let mark = if self.count < now { '*' } else { ' ' };
         let count = self.count;
@@ -45,7 +45,7 @@ impl RepliedCall {
 /// The calls that took a reply, in order.
 pub struct Calls {
     calls: Vec<RepliedCall>,
-    /// How many bytes they moved.
+    /// How many bytes the calls moved.
     moved: u64,
 }
 
@@ -58,7 +58,7 @@ impl Drop for Calls {
     }
 }
 
-/// How many bytes of memory the program takes that a reply enters.
+/// How many bytes of memory a program takes that is entered by a reply.
 fn entered(reply: &Reply) -> u64 {
     match &reply.image {
         Some(image) => bytes_of(image),
@@ -75,7 +75,7 @@ fn bytes_of(image: &Image) -> u64 {
 }
 
 impl Calls {
-    /// None.
+    /// A list without calls.
     pub fn new(alloc: Global) -> Calls {
         Calls {
             calls: Vec::new(alloc),
@@ -83,12 +83,12 @@ impl Calls {
         }
     }
 
-    /// How many there are.
+    /// How many calls there are.
     pub fn count(&self) -> usize {
         self.calls.len()
     }
 
-    /// How many bytes they moved: what replies stored, what was written, and the memory of the programs that were entered.
+    /// How many bytes the calls moved: what replies stored, what was written, and the memory of the programs that were entered.
     pub fn moved(&self) -> u64 {
         self.moved
     }
@@ -115,7 +115,7 @@ impl Calls {
         Ok(())
     }
 
-    /// Prints the last of them, a line each, with a star at those that lie before a count.
+    /// Prints the last thousand calls, a line each, with a star at those that lie before a count.
     pub fn print<O: Write>(&self, now: u64, out: &mut O) -> io::Result<()> {
         let before = self.calls.len().saturating_sub(MOST_PRINTED);
         if before > 0 {

@@ -1,7 +1,7 @@
-//! The commands that a person gives by `monitor`.
+//! `command_of`: reads a command that a person gives by gdb's `monitor`.
 use input_reading::decimal;
 
-/// What a person can ask for.
+/// The line that lists the commands.
 pub const COMMANDS: &str = "monitor count, calls, trace, files, until N, keep\n";
 
 /// A command that a person gives.
@@ -11,13 +11,13 @@ pub enum Command {
     Count,
     /// The calls that it made.
     Calls,
-    /// The replies that they took, as a trace.
+    /// The replies that the calls took, as a trace.
     Trace,
     /// The files on the disk.
     Files,
-    /// That the next run on stops at a count.
+    /// To have the next run on stop at a count.
     Until(u64),
-    /// That the disk is kept in its file.
+    /// To keep the disk in its file.
     Keep,
     /// What is no command.
     Other,

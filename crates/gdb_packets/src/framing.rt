@@ -1,4 +1,4 @@
-//! Packets that go out.
+//! `framed`: makes a packet of a payload. It escapes bytes, and adds the checksum.
 ghost use Rattle.std.specs.Prelude.{◌≡◌, [], ◌∷◌, ◌++◌, IfOk, OnOk};
 ghost use Rattle.std.specs.List.{flat_map};
 ghost use Rattle.gdb_packets.specs.Framing.{escape_of, first_digit, framed as frame_of, last_digit};
@@ -7,7 +7,7 @@ use crate::numbers::digit_of;
 use crate::text::{ESCAPE, FLIP, sum_of};
 use std::alloc::{AllocError, Global};
 
-/// Adds what stands for a byte.
+/// Adds a byte of the payload, escaped where it has to be.
 fn push_escaped(out: &mut Vec<u8>, byte: u8) -> Result<(), AllocError>
     ensures { OnOk result (out.new.items ≡ out.old.items ++ escape_of byte) }
 {
@@ -17,7 +17,7 @@ fn push_escaped(out: &mut Vec<u8>, byte: u8) -> Result<(), AllocError>
     }
 }
 
-/// The text of a payload.
+/// The text of a payload, with its bytes escaped.
 fn text_of(alloc: Global, payload: &[u8]) -> Result<Vec<u8>, AllocError>
     ensures { IfOk result (λ text. text.items ≡ flat_map escape_of payload.now) }
 {
@@ -28,7 +28,7 @@ fn text_of(alloc: Global, payload: &[u8]) -> Result<Vec<u8>, AllocError>
     Ok(text)
 }
 
-/// The two digits of a text's sum.
+/// The two digits of a text's checksum.
 fn digits_of(text: &[u8]) -> [u8; 2]
     ensures { result ≡ first_digit text.now ∷ last_digit text.now ∷ [] }
 {

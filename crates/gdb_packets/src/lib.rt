@@ -1,7 +1,7 @@
-//! gdb's remote protocol: packets in and out, byte by byte, and what they say. No machine moves here. Read `Reader` first, of which a
-//! packet, a refused packet, an interrupt or an acknowledgement comes, whatever its bytes and wherever they are cut. Then read `framed`,
-//! which writes a packet, and `request_of`, what one asks for. What is told of registers, of memory and of a stop is the definitions';
-//! of most else that packets say only safety is proved.
+//! gdb's remote protocol: packets in and out, byte by byte, and what they say. No machine moves here. Read `Reader` first, which
+//! makes packets, refused packets, interrupts and acknowledgements of any bytes, wherever the input is cut. Then read `framed`,
+//! which writes a packet, and `request_of`, which says what one asks for. What is told of registers, of memory and of a stop is the
+//! definitions'; of most else that packets say only safety is proved.
 #![tactic(auto)]
 
 mod arrival;

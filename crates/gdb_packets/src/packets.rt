@@ -1,4 +1,4 @@
-//! Packets that go out.
+//! `Packets`: the payloads of packets that are to go out.
 use crate::numbers::push_bytes;
 use std::alloc::{AllocError, Global};
 
@@ -13,7 +13,7 @@ pub struct Packets {
 }
 
 impl Packets {
-    /// None.
+    /// A list without packets.
     pub fn new(alloc: Global) -> Packets {
         Packets {
             alloc,
@@ -21,12 +21,12 @@ impl Packets {
         }
     }
 
-    /// Their payloads.
+    /// The payloads, in order.
     pub fn payloads(&self) -> &[Vec<u8>] {
         self.payloads.as_slice()
     }
 
-    /// Forgets them, since they went out.
+    /// Forgets the packets, since they went out.
     pub fn clear(&mut self) {
         self.payloads.clear();
     }

@@ -1,4 +1,4 @@
-//! Where a reader is in the bytes that come in.
+//! `Phase`: in which part of a packet the next byte from gdb stands.
 
 /// Where the next byte stands.
 #[derive(Clone, Copy)]
@@ -7,8 +7,8 @@ pub enum Phase {
     Outside,
     /// In the text of a packet, or at the `#` after it.
     Text,
-    /// At the first digit of the sum.
+    /// At the first digit of the checksum.
     FirstDigit,
-    /// At the last digit of the sum, after this one.
+    /// At the last digit of the checksum, after this first one.
     LastDigit(u8),
 }

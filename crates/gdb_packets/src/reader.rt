@@ -1,4 +1,4 @@
-//! Packets that come in.
+//! `Reader`: reads packets byte by byte, and tests their checksums.
 ghost use Rattle.std.specs.Prelude.{◌≡◌, [], ◌++◌, IfOk, OnOk, OnErr};
 ghost use Rattle.std.specs.Option.{option_to_list};
 ghost use Rattle.gdb_packets.specs.Reading.{after, after_in, arrival_of, arrivals, brought, brought_in, grown, is_sound, outside, reading_after};
@@ -11,7 +11,7 @@ use byte_list::Bytes;
 use std::alloc::{AllocError, Global};
 use std::marker::Model;
 
-/// The longest text of a packet that is taken, in bytes, from `$` to `#`, both aside.
+/// The longest text of a packet that is taken: the bytes between `$` and `#`.
 const MOST_TEXT: usize = 16_384;
 
 /// Reads packets byte by byte. It keeps at most 16,385 bytes.
@@ -40,7 +40,7 @@ impl Model for Reader {
     ghost invariant = { λ r. length r.text.items ≤ most_text + 1 };
 }
 
-/// Whether the text of a packet is taken, with these digits of its sum.
+/// Whether the text of a packet is taken, with these digits of its checksum.
 fn is_sound(text: &[u8], first: u8, last: u8) -> bool
     ensures { result ≡ is_sound text.now first last }
 {
@@ -51,7 +51,7 @@ fn is_sound(text: &[u8], first: u8, last: u8) -> bool
     digit_of(sum / 16) == first && digit_of(sum % 16) == last && !is_cut(text)
 }
 
-/// What a packet is, by its text and the digits of its sum.
+/// What a packet is, by its text and the digits of its checksum.
 fn arrival(alloc: Global, text: &[u8], first: u8, last: u8) -> Result<Arrival, AllocError>
     ensures { IfOk result (λ came. came ≡ arrival_of text.now first last) }
 {
@@ -63,7 +63,7 @@ fn arrival(alloc: Global, text: &[u8], first: u8, last: u8) -> Result<Arrival, A
 }
 
 impl Reader {
-    /// A reader that no byte came to.
+    /// A reader before its first byte.
     pub fn new(alloc: Global) -> Reader
         ensures { result ≡ outside }
     {
@@ -81,7 +81,7 @@ impl Reader {
         self.phase = Phase::Text;
     }
 
-    /// Adds a byte to the text, unless that is too long already.
+    /// Adds a byte to the text, unless the text is too long already.
     fn grow(&mut self, byte: u8) -> Result<(), AllocError>
         ensures ok { OnOk result (self.new ≡ record { phase = self.old.phase; text = grown self.old.text byte }) }
         ensures err { OnErr result (self.new ≡ self.old) }
@@ -92,7 +92,7 @@ impl Reader {
         Ok(())
     }
 
-    /// Reads a byte in a text.
+    /// Reads a byte within a packet's text.
     fn take_text(&mut self, byte: u8) -> Result<Option<Arrival>, AllocError>
         ensures came { IfOk result (λ came. came ≡ brought_in Phase.Text self.old.text byte) }
         ensures ok { self.old.phase ≡ Phase.Text → OnOk result (self.new ≡ after_in Phase.Text self.old.text byte) }
@@ -114,7 +114,7 @@ impl Reader {
         }
     }
 
-    /// Reads a byte in no packet.
+    /// Reads a byte outside a packet.
     fn take_outside(&mut self, byte: u8) -> Option<Arrival>
         ensures came { result ≡ brought_in Phase.Outside self.old.text byte }
         ensures after { self.old.phase ≡ Phase.Outside → self.new ≡ after_in Phase.Outside self.old.text byte }

@@ -1,4 +1,4 @@
-//! The state of a machine, as gdb is told of it.
+//! The registers and the memory of a machine, in the digits that gdb reads.
 ghost use Rattle.std.specs.Prelude.{◌≡◌, ◌≢◌, [], IfOk, IfSome, IsNone, IsSome};
 ghost use Rattle.gdb_packets.specs.Answers.{machine_bytes, registers, told};
 ghost use Rattle.gdb_packets.specs.Digits.{hex_of};
@@ -9,10 +9,10 @@ use machine::Machine;
 use memory::Space;
 use std::alloc::{AllocError, Global};
 
-/// How many registers there are, of which the pc is none.
+/// How many registers there are beside the pc.
 const REGISTERS: u8 = 32;
 
-/// The most bytes of memory that are told at once.
+/// The most bytes of memory in one answer.
 const MOST_BYTES: u32 = 4096;
 
 /// The digits of bytes.
@@ -55,7 +55,7 @@ pub fn registers_of(alloc: Global, machine: &Machine) -> Result<Vec<u8>, AllocEr
     hex_text(alloc, &bytes)
 }
 
-/// So many bytes from an address on, or as many as are there.
+/// `length` bytes from an address on, or as many as are there.
 fn bytes_at(alloc: Global, space: &Space, at: u32, length: u32) -> Result<Vec<u8>, AllocError>
     ensures { IfOk result (λ bytes. bytes.items ≡ told space.now at length) }
 {
@@ -70,7 +70,7 @@ fn bytes_at(alloc: Global, space: &Space, at: u32, length: u32) -> Result<Vec<u8
     Ok(bytes)
 }
 
-/// Memory from an address on: so many bytes, or as many as are there. None where none is.
+/// The digits of `length` bytes from an address on, or of as many as are there. None where no byte is there.
 pub fn memory_at(
     alloc: Global,
     space: &Space,

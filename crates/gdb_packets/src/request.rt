@@ -1,12 +1,12 @@
-//! What gdb asks for.
+//! `request_of`: reads what gdb asks for by a packet.
 use crate::numbers::{bytes_of, little_endian, range};
 use debugger::{Watch, WatchKind};
 use std::alloc::{AllocError, Global};
 
-/// What is read in parts.
+/// A document that gdb reads in parts.
 #[derive(Clone, Copy)]
 pub enum Document {
-    /// The registers of the machine.
+    /// The description of the machine's registers.
     Target,
     /// The path of the file of symbols.
     Symbols,
@@ -20,7 +20,7 @@ pub enum Point {
     Watch(Watch),
 }
 
-/// How a machine is to go.
+/// How the machine is to go.
 #[derive(Clone, Copy)]
 pub enum Motion {
     /// An instruction on.
@@ -36,9 +36,9 @@ pub enum Motion {
 /// What gdb asks for.
 #[derive(Drop)]
 pub enum Request {
-    /// What is supported.
+    /// What the session supports.
     Supported,
-    /// That no packet is acknowledged.
+    /// That packets are acknowledged no more.
     NoAcks,
     /// A part of a document.
     Part {
@@ -53,7 +53,7 @@ pub enum Request {
         at: u32,
         length: u32,
     },
-    /// That the machine goes to a count.
+    /// To go to a count.
     Travel(u64),
     /// A change of what the program does.
     Change,
@@ -62,15 +62,15 @@ pub enum Request {
     Go(Motion),
     /// A command that a person gave.
     Monitor(Vec<u8>),
-    /// That the session ends, with an answer.
+    /// To end the session, with an answer.
     Detach,
-    /// That the session ends.
+    /// To end the session without an answer.
     Kill,
-    /// What is not supported.
+    /// A packet that is not supported.
     Other,
 }
 
-/// What is asked for, if it has a form.
+/// The request, or `Other` where its words have no form.
 fn known(request: Option<Request>) -> Request {
     request.unwrap_or(Request::Other)
 }
@@ -89,7 +89,7 @@ fn memory_request(words: &str) -> Option<Request> {
     Some(Request::Memory { at, length })
 }
 
-/// The breakpoint or the watch of `KIND,AT,N`, where more may follow after a `;`.
+/// The breakpoint or the watch of `KIND,AT,N`. What follows after a `;` is passed over.
 fn point_of(words: &str) -> Option<Point> {
     let words = match words.split_once(';') {
         Some((words, _)) => words,
@@ -107,7 +107,7 @@ fn point_of(words: &str) -> Option<Point> {
     }
 }
 
-/// A write of the register `count`; one of any other is a change.
+/// The request of a write to a register: a travel where the register is `count`, else a change.
 fn written(alloc: Global, words: &str) -> Result<Request, AllocError> {
     let Some(("21", value)) = words.split_once('=') else {
         return Ok(Request::Change);

@@ -1,4 +1,4 @@
-//! Why a machine stops.
+//! `stop_text`: the packet by which gdb is told why the machine stops.
 ghost use Rattle.std.specs.Prelude.{◌≡◌, IfOk};
 ghost use Rattle.gdb_packets.specs.Stopping.{name_of as watch_named, signal_of as signal_named, stop_text as text_of_stop, watch_text as text_of_watch};
 
@@ -9,23 +9,23 @@ use std::alloc::{AllocError, Global};
 /// Why a machine stops.
 #[derive(Clone, Copy)]
 pub enum Stop {
-    /// It went as far as it was to.
+    /// The machine went as far as it was to.
     Done,
-    /// gdb interrupted it.
+    /// gdb interrupted the machine.
     Interrupted,
-    /// It stands at a breakpoint.
+    /// The machine stands at a breakpoint.
     Break,
-    /// On the way on it stands before what meets a watch; on the way back, after it.
+    /// An instruction or a reply meets a watch. The machine stands before it on the way on, and after it on the way back.
     Watch(Watch),
-    /// It stands at a trap.
+    /// The machine stands at a trap.
     Trap(Cause),
-    /// It stands at its first state.
+    /// The machine stands at its first state.
     Begin,
-    /// It stands where the program goes no further.
+    /// The program goes no further.
     End,
 }
 
-/// The number that gdb gives to the signal of a trap.
+/// The packet of a stop at a trap, with gdb's number of its signal.
 fn signal_of(cause: Cause) -> &'static str
     ensures { result.now ≡ signal_named cause }
 {
@@ -37,7 +37,7 @@ fn signal_of(cause: Cause) -> &'static str
     }
 }
 
-/// What a watch is called in the packet of a stop.
+/// The name of a watch in the packet of a stop.
 fn name_of(kind: WatchKind) -> &'static str
     ensures { result.now ≡ watch_named kind }
 {

@@ -1,4 +1,4 @@
-//! What a session tells of itself and of its machine, in parts.
+//! The documents that gdb reads in parts, of which one describes the machine's registers.
 ghost use Rattle.std.specs.Prelude.{◌≡◌, min, drop, IfOk};
 ghost use Rattle.gdb_packets.specs.Answers.{part};
 
@@ -45,7 +45,7 @@ pub fn description(alloc: Global) -> Result<String, AllocError> {
     Ok(text)
 }
 
-/// A part of a document from an offset on: `l` before the last part of it, `m` before another.
+/// A part of a document from an offset on. Before the last part of the document stands `l`, before any other `m`.
 pub fn part_of(
     alloc: Global,
     document: &[u8],

@@ -1,4 +1,4 @@
-//! The text of a packet, between `$` and `#`.
+//! The text of a packet, between `$` and `#`: its checksum, and the payload that it stands for.
 ghost use Rattle.std.specs.Prelude.{◌≡◌, ◌%◌, ◌++◌, false, IfOk, OnOk, sum};
 ghost use Rattle.gdb_packets.specs.Reading.{ends_escaped, escapes, spelled, unescaped};
 
@@ -10,7 +10,7 @@ pub const ESCAPE: u8 = b'}';
 /// By this bit an escaped byte differs from the one that stands for it.
 pub const FLIP: u8 = 32;
 
-/// The sum of bytes, modulo 256.
+/// The checksum of a text: the sum of its bytes, modulo 256.
 pub fn sum_of(text: &[u8]) -> u8
     ensures { result ≡ sum text.now % 256 }
 {
@@ -21,7 +21,7 @@ pub fn sum_of(text: &[u8]) -> u8
     sum
 }
 
-/// Whether a byte of a text escapes the next one, where it is escaped itself, or is not.
+/// Whether a byte of a text escapes the next one. A byte that is escaped itself does not.
 fn escapes(is_escaped: bool, byte: u8) -> bool
     ensures { result ≡ escapes is_escaped byte }
 {
@@ -39,7 +39,7 @@ pub fn is_cut(text: &[u8]) -> bool
     is_escaped
 }
 
-/// Adds what a byte of a text stands for, where it is escaped, or is not.
+/// Adds what a byte of a text stands for. An escaped byte has a bit flipped; one that escapes the next stands for nothing.
 fn push_spelled(payload: &mut Vec<u8>, is_escaped: bool, byte: u8) -> Result<(), AllocError>
     ensures { OnOk result (payload.new.items ≡ payload.old.items ++ spelled is_escaped byte) }
 {

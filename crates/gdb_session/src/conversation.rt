@@ -1,4 +1,4 @@
-//! The answers to gdb, by the thread that computes.
+//! `Conversation`: takes what arrives from gdb, has the session answer, and sends the packets. This is the thread that computes.
 use crate::inbox::Inbox;
 use crate::keeper::Keeper;
 use crate::session::{Next, Session};
@@ -8,8 +8,8 @@ use std::io::Write;
 use std::sync::Wait;
 use timeline::SessionFault;
 
-/// The most slices that the machine goes on after the input has ended. All packets that came before are answered, and yet the session
-/// ends where gdb has gone.
+/// The most slices that the machine goes on after the input has ended. So all packets that came before are answered, and yet the
+/// session ends soon after gdb has gone.
 const LAST_SLICES: u32 = 1024;
 
 /// A session, and gdb at its other end.
@@ -40,7 +40,7 @@ impl<K, O> Drop for Conversation<'_, K, O> {
 }
 
 impl<'x, K: Keeper, O: Write> Conversation<'x, K, O> {
-    /// Nothing was said.
+    /// A conversation before its first packet.
     pub fn new(
         alloc: Global,
         session: Session,
@@ -86,7 +86,7 @@ impl<'x, K: Keeper, O: Write> Conversation<'x, K, O> {
         Ok(self.last > LAST_SLICES)
     }
 
-    /// A slice of a run, unless gdb interrupts it, or has gone for long. Says whether the machine goes on.
+    /// Runs the machine for a slice, unless gdb interrupts it, or has gone for long. Says whether the machine goes on.
     fn slice<R: Wait>(&mut self, rt: &R, inbox: &Inbox) -> Result<bool, SessionFault> {
         if inbox.is_interrupted(rt) {
             self.session.interrupt(&mut self.packets)?;

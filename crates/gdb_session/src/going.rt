@@ -1,4 +1,4 @@
-//! How a program goes, a slice at a time: after a slice it is looked whether gdb interrupts it.
+//! Moves the program for gdb, on or back, a slice at a time. Between two slices the conversation looks for an interrupt.
 use crate::session::Session;
 use gdb_packets::Stop as Told;
 use std::alloc::AllocError;
@@ -8,7 +8,7 @@ use trap_reports::trap_report;
 /// How many parts a slice of the way on has at most.
 const PARTS: u32 = 1 << 10;
 
-/// The same where watches are looked at: a part is an instruction then.
+/// How many parts a slice of the way on has at most while watches are set: a part is then one instruction.
 const WATCHED_PARTS: u32 = 1 << 16;
 
 /// After so many events of the kernel a slice ends, since other processes may have run long between them.
@@ -17,16 +17,16 @@ const EVENTS: usize = 64;
 /// How many loans of the kernel a part has at most.
 const LOANS: u32 = 16;
 
-/// The most instructions on at once, where gdb waits two seconds for the answer.
+/// The most instructions that `travel` goes on: gdb waits two seconds for the answer.
 const FAR: u64 = 1 << 24;
 
-/// How many slices it is tried then, since a kernel may take long for a reply.
+/// The most slices that `travel` takes, since a kernel may take long for a reply.
 const SLICES: u32 = 64;
 
 /// How a program goes on, between two slices.
 #[derive(Clone, Copy)]
 pub enum Going {
-    /// On to a count. Of a step gdb wants to know no breakpoint.
+    /// On to a count. After a step gdb is told of no breakpoint.
     Ahead { limit: u64, is_step: bool },
     /// Back, from above the breakpoints that were looked at.
     Back,
@@ -34,7 +34,7 @@ pub enum Going {
     StepBack,
 }
 
-/// What gdb is told of a stop; of a step it wants to know no breakpoint.
+/// What gdb is told of a stop. After a step gdb is told of no breakpoint.
 fn told_of(stop: Stop, is_step: bool) -> Told {
     match stop {
         Stop::Break(_) if is_step => Told::Done,
@@ -83,7 +83,7 @@ impl Session {
         Ok(())
     }
 
-    /// A part of the way on to a count, as far as the history has room, with a loan of the kernel at most.
+    /// Goes on to a count by a part, as far as the history has room, with one loan of the kernel at most.
     fn part_of_way(&mut self, limit: u64, stops: bool) -> Result<After, SessionFault> {
         let left = limit.saturating_sub(self.timeline.count());
         if left == 0 {
@@ -101,7 +101,7 @@ impl Session {
         self.timeline.ahead(way)
     }
 
-    /// A part of the way on to a count.
+    /// Goes on to a count by a part, with up to 16 loans of the kernel, and notes what came of it.
     fn part(&mut self, limit: u64, stops: bool) -> Result<After, SessionFault> {
         let mut after = self.part_of_way(limit, stops)?;
         for _ in 1..LOANS {
@@ -113,7 +113,7 @@ impl Session {
         Ok(after)
     }
 
-    /// A slice of the way on to a count. None where it goes on.
+    /// Goes on to a count by a slice. None where nothing stopped the machine, and the way goes on.
     fn ahead(&mut self, limit: u64, stops: bool) -> Result<Option<Stop>, SessionFault> {
         let parts = if stops && self.timeline.watches() {
             WATCHED_PARTS
@@ -134,8 +134,8 @@ impl Session {
         Ok((self.timeline.count() >= limit).then_some(Stop::Done))
     }
 
-    /// Goes to the state after so many instructions, past breakpoints and watches: back, or on as far as the program goes. Says whether
-    /// it went: it does not go on farther than gdb waits.
+    /// Goes to the state after `count` instructions, past breakpoints and watches: back, or on as far as the program goes. False,
+    /// and the machine stays, where the way on is longer than gdb waits.
     pub fn travel(&mut self, count: u64) -> Result<bool, SessionFault> {
         let now = self.timeline.count();
         if count <= now {
@@ -153,7 +153,7 @@ impl Session {
         Ok(true)
     }
 
-    /// A slice of a way. Gives what gdb is told where the machine stops.
+    /// Moves the machine by a slice. Where the machine stops, gives what gdb is told.
     pub fn slice(&mut self, going: Going) -> Result<Option<Told>, SessionFault> {
         let (stop, is_step) = match going {
             Going::Ahead { limit, is_step } => (self.ahead(limit, true)?, is_step),

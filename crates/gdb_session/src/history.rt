@@ -1,4 +1,4 @@
-//! How much memory a program's history takes, and where it ends for that.
+//! `History`: how many bytes of memory a program's history counts as taking, and when it has no more room (`--history`).
 ghost use Rattle.std.specs.Prelude.{◌<◌};
 ghost use Rattle.kernel_model.specs.World.{terminal_count};
 
@@ -12,19 +12,21 @@ use timeline::{End, Timeline};
 /// The instructions between two kept states.
 const SPAN: u64 = 1024;
 
-/// As what a call counts, which stands in the trace and in the list of calls.
+/// The bytes that a call counts as. A call stands in the trace and in the list of calls.
 const BYTES_OF_CALL: u64 = 1024;
 
 /// How often each byte that a call moves is kept at most.
 const TIMES_MOVED: u64 = 4;
 
-/// As what an event of the kernel counts.
+/// The bytes that an event of the kernel counts as.
 const BYTES_OF_EVENT: u64 = 512;
 
-/// As what a reply counts in the kernel beside the bytes that it brings. It stands in a list that doubles, with its mark in another one.
+/// The bytes that a reply counts as in the kernel, beside those that it brings. A reply stands in a list that doubles, with its
+/// mark in another one.
 const BYTES_OF_REPLY: u64 = 256;
 
-/// As what a byte counts that a terminal shows. It stands in a list that doubles, with its mark of eight bytes in another one.
+/// The bytes that each byte counts as that a terminal shows. The byte stands in a list that doubles, with its mark of eight bytes
+/// in another one.
 const BYTES_OF_SHOWN: u64 = 32;
 
 /// The most processes of a run.
@@ -41,7 +43,7 @@ fn memory_of(image: &Image) -> u64 {
     bytes
 }
 
-/// As how many bytes a reply counts in the kernel.
+/// The bytes that a reply counts as in the kernel.
 fn bytes_of(reply: &Reply) -> u64 {
     let entered = match &reply.image {
         Some(image) => memory_of(image),
@@ -61,24 +63,24 @@ fn shown_by(core: &Core) -> u64 {
     shown
 }
 
-/// As how many bytes the history of a program counts, with what a kernel keeps: events, the replies of all processes, and what
-/// terminals show.
+/// The history of a program, whose bytes are counted: its kept states and its calls, and of a kernel the events, the replies of all
+/// processes, and what terminals show.
 #[derive(Drop)]
 pub struct History {
-    /// How many bytes it may take.
+    /// How many bytes the history may take.
     room: u64,
     /// The program's calls that got a reply.
     calls: Calls,
     /// How many replies of each process are counted, by its number less one.
     counted: Vec<usize>,
-    /// As how many bytes these replies count.
+    /// The bytes that these replies count as.
     replies: u64,
-    /// How many events the kernel had when they were counted.
+    /// How many events the kernel had when its replies were counted last.
     events: usize,
 }
 
 impl History {
-    /// One that may take so many bytes.
+    /// An empty history, which may take `room` bytes.
     pub fn new(alloc: Global, room: u64) -> History {
         History {
             room,
@@ -94,7 +96,7 @@ impl History {
         &self.calls
     }
 
-    /// That it has no more room.
+    /// The end of a program whose history has no more room.
     pub fn full(&self) -> End {
         End::Full {
             mib: self.room / MIB,
@@ -124,8 +126,8 @@ impl History {
         }
     }
 
-    /// Counts what processes were told since it counted last. A child that a fork made was told all that its parent was, and the
-    /// kernel keeps that a second time.
+    /// Counts what processes were told since the last count. A child that a fork made was told all that its parent was told, and
+    /// the kernel keeps this a second time.
     fn count(&mut self, core: &Core) -> Result<(), AllocError> {
         let events = core.history().len();
         if self.events == events {
@@ -141,7 +143,7 @@ impl History {
         Ok(())
     }
 
-    /// As how many bytes the program's own states and calls count.
+    /// The bytes that the program's own states and calls count as.
     fn of_program(&self, timeline: &Timeline) -> u64 {
         let calls = (self.calls.count() as u64).saturating_mul(BYTES_OF_CALL);
         let moved = self.calls.moved().saturating_mul(TIMES_MOVED);
@@ -152,7 +154,7 @@ impl History {
             .saturating_add(moved)
     }
 
-    /// As how many bytes count what the kernel keeps.
+    /// The bytes that the kernel's events, replies and output count as.
     fn of_kernel(&mut self, core: &Core) -> Result<u64, AllocError> {
         self.count(core)?;
         Ok(
@@ -163,7 +165,7 @@ impl History {
         )
     }
 
-    /// As how many bytes it counts.
+    /// The bytes that the whole history counts as.
     fn held(&mut self, timeline: &Timeline) -> Result<u64, AllocError> {
         let kernel = match &timeline.live {
             Some(live) => self.of_kernel(live.core())?,
@@ -172,8 +174,8 @@ impl History {
         Ok(self.of_program(timeline).saturating_add(kernel))
     }
 
-    /// How many instructions may be done until it is looked again how much it takes. They end at the next state that is kept. Where
-    /// there is no more room they end at what was reached.
+    /// How many instructions may be done before the bytes are counted again: up to the next state that is kept. Where there is no
+    /// more room, up to the greatest count that was reached.
     pub fn room_ahead(&mut self, timeline: &Timeline) -> Result<u64, AllocError> {
         let count = timeline.count();
         if self.held(timeline)? < self.room {

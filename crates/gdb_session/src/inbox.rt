@@ -1,4 +1,4 @@
-//! What arrived, for the thread that answers.
+//! `Inbox`: the packets and interrupts that one thread reads from gdb, and another takes to answer them.
 use gdb_packets::{Arrival, Reader};
 use idle::Backoff;
 use std::alloc::{AllocError, Global};
@@ -10,10 +10,10 @@ use timeline::SessionFault;
 /// How many bytes of a packet are its frame.
 const BYTES_OF_FRAME: usize = 4;
 
-/// Where the arrivals that wait were more bytes of the input, the thread that reads waits too.
+/// The most bytes of the input that may wait to be taken. Beyond this the thread that reads waits too.
 const MOST_WAITING: usize = 1 << 20;
 
-/// How many bytes of the input an arrival was, without those that an escape adds.
+/// How many bytes of the input an arrival took, without those that an escape adds.
 fn size_of(arrival: &Arrival) -> usize {
     match arrival {
         Arrival::Packet(payload) => payload.as_slice().len().saturating_add(BYTES_OF_FRAME),
@@ -21,7 +21,7 @@ fn size_of(arrival: &Arrival) -> usize {
     }
 }
 
-/// Whether gdb leaves by a packet. It sends nothing after that.
+/// Whether gdb leaves by this packet, and sends nothing after it.
 fn is_last(arrival: &Arrival) -> bool {
     match arrival {
         Arrival::Packet(payload) => matches!(payload.as_slice().first(), Some(b'k' | b'D')),
@@ -33,11 +33,11 @@ fn is_last(arrival: &Arrival) -> bool {
 #[derive(Drop)]
 struct Waiting {
     arrivals: VecDeque<Arrival>,
-    /// How many bytes of the input they were.
+    /// How many bytes of the input the arrivals took.
     size: usize,
     /// How the input ended, if it has.
     end: Option<Result<(), SessionFault>>,
-    /// Whether nothing is taken any more.
+    /// Whether the thread that answers takes no more.
     is_closed: bool,
 }
 
@@ -53,7 +53,7 @@ impl Waiting {
         Ok(())
     }
 
-    /// Takes the first.
+    /// Takes the first arrival.
     fn take(&mut self) -> Option<Arrival> {
         let arrival = self.arrivals.pop_front()?;
         self.size = self.size.saturating_sub(size_of(&arrival));
@@ -61,14 +61,14 @@ impl Waiting {
     }
 }
 
-/// What arrives from gdb: a thread reads and frames it, and another one takes it.
+/// What arrives from gdb. One thread reads it and parts it into arrivals; another takes these.
 #[derive(Drop)]
 pub struct Inbox {
     waiting: Mutex<Waiting>,
 }
 
 impl Inbox {
-    /// Nothing arrived.
+    /// An empty inbox.
     pub fn new(alloc: Global) -> Inbox {
         Inbox {
             waiting: Mutex::new(Waiting {
@@ -85,12 +85,12 @@ impl Inbox {
         self.waiting.lock(rt).end
     }
 
-    /// Says that nothing is taken any more.
+    /// Closes the inbox: nothing is taken from it any more, so the thread that reads ends.
     pub fn close<R: Wait>(&self, rt: &R) {
         self.waiting.lock(rt).is_closed = true;
     }
 
-    /// Takes what arrived next. Where nothing waits, it says how the input ended, or nothing where more may come.
+    /// Takes what arrived next. Where nothing waits, gives how the input ended, or None where more may come.
     fn look<R: Wait>(&self, rt: &R) -> Option<Result<Option<Arrival>, SessionFault>> {
         let mut waiting = self.waiting.lock(rt);
         match waiting.take() {
@@ -102,7 +102,7 @@ impl Inbox {
         }
     }
 
-    /// Takes what arrived next, and waits for it. None where nothing more will come.
+    /// Waits for the next arrival, and takes it. None where nothing more will come.
     pub fn next<R: Wait>(&self, rt: &R) -> Result<Option<Arrival>, SessionFault> {
         let mut rest = Backoff::new();
         for _ in rt.forever() {
@@ -114,7 +114,7 @@ impl Inbox {
         unreachable!()
     }
 
-    /// Whether an interrupt is next, which is then taken.
+    /// Whether the next arrival is an interrupt. If so it is taken.
     pub fn is_interrupted<R: Wait>(&self, rt: &R) -> bool {
         let mut waiting = self.waiting.lock(rt);
         let is_next = matches!(waiting.arrivals.front(), Some(Arrival::Interrupt));
@@ -124,7 +124,7 @@ impl Inbox {
         is_next
     }
 
-    /// Whether more is taken; None where there is no room for it yet.
+    /// Whether the inbox is open; None where it has no room yet for more.
     fn has_room<R: Wait>(&self, rt: &R) -> Option<bool> {
         let waiting = self.waiting.lock(rt);
         if waiting.is_closed {
@@ -133,7 +133,7 @@ impl Inbox {
         (waiting.size < MOST_WAITING).then_some(true)
     }
 
-    /// Waits until there is room for more. Says whether more is taken.
+    /// Waits until there is room for more. Says whether the inbox is open.
     fn is_open<R: Wait>(&self, rt: &R) -> bool {
         let mut rest = Backoff::new();
         for _ in rt.forever() {

@@ -1,7 +1,7 @@
-//! Where a disk is kept.
+//! `Keeper`: keeps the disk in its file, for `monitor keep`.
 use simdisk::SimDisk;
 
-/// Whoever keeps a disk where gdb's user asks for it.
+/// Keeps a disk where gdb's user asks for it.
 pub trait Keeper {
     /// Keeps a disk, and gives the line that says what came of it.
     fn keep(&mut self, disk: &SimDisk) -> &'static str;

@@ -1,5 +1,5 @@
-//! A session with gdb over a reader and a writer. A thread reads, and this one answers, and looks at what came in between slices of a
-//! run. Read `converse` first, then `Session`, which is a packet in and packets out. Only safety is proved.
+//! A session with gdb over a reader and a writer. One thread reads; another answers, and between the slices of a run looks at what
+//! came in. Read `converse` first, then `Session`, which is a packet in and packets out. Only safety is proved.
 #![tactic(auto)]
 
 mod conversation;

@@ -1,4 +1,4 @@
-//! What gdb is to print.
+//! `Messages`: text that gdb is to print, as what terminals show.
 ghost use Rattle.std.specs.Prelude.{◌<◌};
 ghost use Rattle.kernel_model.specs.World.{terminal_count};
 
@@ -9,7 +9,7 @@ use std::io;
 use std::io::Write;
 use timeline::LiveKernel;
 
-/// What gdb is to print: what terminals show, and lines of our own.
+/// What gdb is to print: what terminals show, and lines about the program.
 #[derive(Drop)]
 pub struct Messages {
     text: Vec<u8>,
@@ -18,7 +18,7 @@ pub struct Messages {
 }
 
 impl Messages {
-    /// Nothing.
+    /// No messages.
     pub fn new(alloc: Global) -> Messages {
         Messages {
             text: Vec::new(alloc),
@@ -26,12 +26,12 @@ impl Messages {
         }
     }
 
-    /// Its bytes.
+    /// The text that gdb is to print.
     pub fn text(&self) -> &[u8] {
         self.text.as_slice()
     }
 
-    /// Forgets them, since gdb was told.
+    /// Forgets the text, since gdb was told it.
     pub fn clear(&mut self) {
         self.is_line_open = self.is_line_open();
         self.text.clear();
@@ -53,7 +53,7 @@ impl Messages {
         writeln!(self.text, "bench: {line}")
     }
 
-    /// Adds what terminals show and was not told, by rising number of the terminal.
+    /// Adds the bytes that terminals show and that were not told before, by rising number of the terminal.
     pub fn add_shown(&mut self, live: &mut LiveKernel) -> Result<(), AllocError> {
         for terminal in 0..TERMINALS as u32 {
             self.text.extend_from_slice(live.tell(terminal))?;

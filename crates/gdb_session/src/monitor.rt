@@ -1,4 +1,4 @@
-//! What answers the commands that a person gives by `monitor`.
+//! `print_answer`: answers the commands that a person gives by gdb's `monitor`.
 use crate::session::Session;
 use elf32::write;
 use files::FileList;
@@ -94,7 +94,7 @@ fn set_limit<O: Write>(session: &mut Session, count: u64, out: &mut O) -> io::Re
     writeln!(out, "the next run on stops at count {count}")
 }
 
-/// Prints what answers a command; that the disk is kept is said elsewhere.
+/// Prints the answer to a command. `keep` comes here only where no kernel runs.
 pub fn print_answer(
     session: &mut Session,
     command: Command,

@@ -1,4 +1,4 @@
-//! A session: what answers each packet.
+//! `Session`: answers each packet of gdb's, and moves the program.
 use crate::going::Going;
 use crate::history::History;
 use crate::messages::Messages;
@@ -11,20 +11,20 @@ use simdisk::SimDisk;
 use std::alloc::{AllocError, Global};
 use timeline::{SessionFault, SetPoint, Timeline};
 
-/// What is supported.
+/// The answer to `qSupported`.
 const SUPPORTED: &str =
     "PacketSize=4000;QStartNoAckMode+;qXfer:features:read+;ReverseStep+;ReverseContinue+;swbreak+";
 
-/// That the path of a file of symbols can be read.
+/// What `qSupported` adds where gdb can read the path of a file of symbols.
 const TELLS_SYMBOLS: &str = ";qXfer:exec-file:read+";
 
-/// A change of what the program does.
+/// The error of a packet that would change what the program does.
 const NO_CHANGE: &str = "E01";
-/// Too many breakpoints or watches.
+/// The error of too many breakpoints or watches.
 const FULL: &str = "E02";
-/// A count that is too far on.
+/// The error of a count that is too far on.
 const TOO_FAR: &str = "E03";
-/// Memory that is not there.
+/// The error of memory that is not there.
 const NO_MEMORY: &str = "E0e";
 
 /// What comes after a packet was answered.
@@ -36,7 +36,7 @@ pub enum Next {
     NoAcks,
     /// The machine goes: `Session::go_on` is called until it says that the machine stopped.
     Go,
-    /// The disk is to be kept in its file; `Session::tell_kept` says what came of that.
+    /// The disk is to be kept in its file; then `Session::tell_kept` tells gdb what came of this.
     Keep,
     /// The session is over.
     End,
@@ -57,7 +57,7 @@ pub struct Session {
     going: Option<Going>,
 }
 
-/// What is said of a breakpoint or a watch that was to be set.
+/// The answer to a packet that sets a breakpoint or a watch.
 fn answer_of(set: SetPoint) -> &'static str {
     match set {
         SetPoint::Set => "OK",
@@ -150,12 +150,12 @@ impl Session {
         out.push_text("OK")
     }
 
-    /// Has the next run on stop at a count, if it is above that of the machine.
+    /// Has the next run on stop at a count, if the count is above that of the machine.
     pub(crate) fn stop_at(&mut self, count: u64) {
         self.until = Some(count);
     }
 
-    /// The count at which a run on stops, which is asked for once.
+    /// The count at which this run on stops. It holds for one run alone.
     fn take_limit(&mut self) -> u64 {
         match self.until.take() {
             Some(until) if until > self.timeline.count() => until,
@@ -163,7 +163,7 @@ impl Session {
         }
     }
 
-    /// Has the machine go; `go_on` does it.
+    /// Begins a motion, which `go_on` does slice by slice.
     fn begin(&mut self, motion: Motion) -> Next {
         let going = match motion {
             Motion::Step => Going::Ahead {
@@ -201,7 +201,7 @@ impl Session {
         Ok(out.push_text("OK")?)
     }
 
-    /// Answers what only looks.
+    /// Answers a packet that only looks at the program or the session.
     fn answer_look(&self, request: &Request, out: &mut Packets) -> Result<(), AllocError> {
         match request {
             Request::Supported => self.answer_supported(out),
@@ -219,7 +219,7 @@ impl Session {
         }
     }
 
-    /// Answers a packet of this payload. What goes out is added. Says what comes next.
+    /// Answers a packet of this payload: adds the packets that go out, and says what comes next.
     pub fn answer(&mut self, payload: &[u8], out: &mut Packets) -> Result<Next, SessionFault> {
         match request_of(self.alloc, payload)? {
             Request::Go(motion) => return Ok(self.begin(motion)),
@@ -248,7 +248,7 @@ impl Session {
         out.push(stop_text(self.alloc, stop)?)
     }
 
-    /// Goes on by a slice. Says whether the machine goes on after that; where it does not, gdb is told why.
+    /// Goes on by a slice. Says whether the machine goes on after this slice; if not, gdb is told why.
     pub fn go_on(&mut self, out: &mut Packets) -> Result<bool, SessionFault> {
         let Some(going) = self.going else {
             return Ok(false);

@@ -1,4 +1,4 @@
-//! The threads of a conversation.
+//! `converse`: starts the two threads of a conversation, of which one reads from gdb, and one answers.
 use crate::conversation::Conversation;
 use crate::inbox::Inbox;
 use crate::keeper::Keeper;
@@ -23,13 +23,13 @@ struct Desk<'x, K, O> {
     ended: Result<(), SessionFault>,
 }
 
-/// What the thread does that reads.
+/// What the thread that reads does.
 fn read<R: Wait, I: Read>(rt: &R, alloc: Global, inbox: &Inbox, source: &Mutex<Source<'_, I>>) {
     let mut source = source.lock(rt);
     inbox.fill(rt, alloc, source.input);
 }
 
-/// What the thread does that computes.
+/// What the thread that computes does.
 fn compute<R: Wait, K: Keeper, O: Write>(rt: &R, inbox: &Inbox, desk: &Mutex<Desk<'_, K, O>>) {
     let mut desk = desk.lock(rt);
     let ended = desk.conversation.answer_all(rt, inbox);
@@ -37,7 +37,7 @@ fn compute<R: Wait, K: Keeper, O: Write>(rt: &R, inbox: &Inbox, desk: &Mutex<Des
     desk.ended = ended;
 }
 
-/// Both threads. Nothing is answered where the one that reads cannot be had.
+/// Runs both threads. Where the thread that reads cannot be had, nothing is answered.
 fn run_both<R: Threads + Wait + Sync, I: Read + Send, K: Keeper, O: Write>(
     rt: &R,
     alloc: Global,
@@ -52,9 +52,9 @@ fn run_both<R: Threads + Wait + Sync, I: Read + Send, K: Keeper, O: Write>(
     });
 }
 
-/// Answers gdb, whose packets are read from `input`, and what answers them is written to `out`. A thread reads, so that a run is
-/// interrupted where gdb asks for it. It ends where gdb leaves, or the input ends: the packets before that are answered, for which the
-/// machine goes on for no more than 1,024 slices. An input that cannot be read is no end of it, but a fault.
+/// Answers gdb: reads its packets from `input`, and writes the answers to `out`. A thread reads, so that a run is interrupted where
+/// gdb asks for it. The conversation ends where gdb leaves, or the input ends. The packets before the end are answered, for which
+/// the machine goes on for no more than 1,024 slices. An input that cannot be read is a fault, and no end of the input.
 pub fn converse<R: Threads + Wait + Sync, I: Read + Send, K: Keeper, O: Write>(
     rt: &R,
     alloc: Global,

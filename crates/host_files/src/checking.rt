@@ -1,4 +1,4 @@
-//! Sources checked.
+//! `check_file`: checks a source, and prints what is found (`bench check`).
 use crate::fault::FileFault;
 use crate::source::{MOST_SOURCE_BYTES, text_of};
 use input_reading::bytes_in;
@@ -7,7 +7,7 @@ use std::alloc::Global;
 use std::io::Write;
 use std::rt::Files;
 
-/// Prints what was found of a source. A fault of it is the fault here.
+/// Prints what was found of a source. The source's fault, if it has one, is given.
 fn end<O: Write>(
     alloc: Global,
     source: &str,
@@ -21,7 +21,7 @@ fn end<O: Write>(
     }
 }
 
-/// Checks the source in a file, and prints what is found. The fault is that of `assemble_file`.
+/// Checks the source in a file, and prints what is found. Fails where `assemble_file` does, with the same fault.
 pub fn check_file<R: Files + AllocGlobal, O: Write>(
     rt: &R,
     path: &str,
@@ -37,7 +37,7 @@ pub fn check_file<R: Files + AllocGlobal, O: Write>(
     }
 }
 
-/// What is said in one line of the fault of the source in a file. None where it has none now.
+/// The fault of the source in a file, in one line. None where the source has no fault.
 pub fn source_reason<R: Files + AllocGlobal>(
     rt: &R,
     path: &str,

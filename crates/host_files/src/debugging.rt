@@ -1,4 +1,4 @@
-//! What an image is debugged with: the replies of a trace, and its source.
+//! Reads what an image is debugged with: the replies of a trace, and the image's source.
 use crate::fault::FileFault;
 use crate::source::source_text;
 use crate::trace::read_trace;
@@ -23,7 +23,7 @@ pub fn replies_in<R: Files + AllocGlobal>(
     }
 }
 
-/// The source in a file, beside the image that it has to assemble to.
+/// The source in a file, beside the image to which it has to assemble.
 fn lines_in<R: Files + AllocGlobal>(
     rt: &R,
     path: &str,

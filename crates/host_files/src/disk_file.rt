@@ -1,4 +1,4 @@
-//! Disks in files of the host.
+//! Reads a disk from a file of the host, and keeps it in one that is whole whenever the program is killed.
 ghost use Rattle.std.specs.Prelude.{◌≡◌, true, IfOk};
 ghost use Rattle.disk_model.specs.Storage.{is_quiet};
 
@@ -44,12 +44,12 @@ pub fn disk_or_zeros<R: Files + AllocGlobal>(rt: &R, path: &str) -> Result<SimDi
     }
 }
 
-/// The path of the file beside a disk's, in which the disk is written before it takes the name of the other.
+/// The path of the file `.new` beside a disk's. The disk is written to this file, which then takes the name of the disk's file.
 fn beside(alloc: Global, path: &str) -> Result<String, AllocError> {
     format!(in alloc; "{path}.new")
 }
 
-/// Removes what has a path, if anything has. A link is removed, and not what it leads to.
+/// Removes what stands at a path, if anything does. A link is removed, and not what it leads to.
 fn remove_if_there<R: Files>(rt: &R, path: &str) -> io::Result<()> {
     match fs::remove_file(rt, path) {
         Err(error) if error.kind() == ErrorKind::NotFound => Ok(()),
@@ -57,7 +57,8 @@ fn remove_if_there<R: Files>(rt: &R, path: &str) -> io::Result<()> {
     }
 }
 
-/// Makes a file anew, in the place of what has its path. No link is followed. The file has these rights, or those of any new file.
+/// Makes a file anew, in the place of what stands at its path. No link is followed. The file has these rights, or those of any new
+/// file.
 fn make_anew<R: Files>(rt: &R, path: &str, rights: Option<Permissions>) -> io::Result<R::File> {
     remove_if_there(rt, path)?;
     let mut options = OpenOptions::new();
@@ -81,8 +82,8 @@ fn rights_of<R: Files>(rt: &R, path: &str) -> io::Result<Option<Permissions>> {
     }
 }
 
-/// Tests whether a disk can be kept in a file: whether the file beside it can be made, which is then removed. InputOutput where it
-/// cannot, and where the path is empty, which no file has.
+/// Tests whether a disk can be kept in a file: the file beside it is made, and removed again. InputOutput where this fails, and
+/// where the path is empty, which no file has.
 pub fn test_place<R: Files + AllocGlobal>(rt: &R, path: &str) -> Result<(), FileFault> {
     if path.is_empty() {
         return Err(FileFault::InputOutput);
@@ -92,7 +93,7 @@ pub fn test_place<R: Files + AllocGlobal>(rt: &R, path: &str) -> Result<(), File
     Ok(fs::remove_file(rt, beside.as_str())?)
 }
 
-/// Writes a file anew and whole, with the rights of another, if that is there, and syncs it to the host's disk.
+/// Writes a file anew and whole, with the rights of the file at `path`, if there is one, and syncs it to the host's disk.
 fn write_through<R: Files>(rt: &R, path: &str, beside: &str, bytes: &[u8]) -> io::Result<()> {
     let rights = rights_of(rt, path)?;
     let mut file = make_anew(rt, beside, rights)?;
@@ -100,7 +101,7 @@ fn write_through<R: Files>(rt: &R, path: &str, beside: &str, bytes: &[u8]) -> io
     file.sync_all()
 }
 
-/// Writes a file whole beside another one, whose place and rights it then takes.
+/// Writes a file whole beside another one, and then puts it in the other's place, with the same rights.
 fn replace<R: Files>(rt: &R, path: &str, beside: &str, bytes: &[u8]) -> io::Result<()> {
     write_through(rt, path, beside, bytes)?;
     fs::rename(rt, beside, path)

@@ -5,8 +5,8 @@ use std::io;
 use std::os::unix::fs::MetadataExt;
 use std::rt::Files;
 
-/// The lock of a path at which a disk is kept: a file beside it, of the same path with `.lck` after it, which is locked. It goes by
-/// the path, since the disk's file may not be there yet, and since another file takes its place where a disk is kept.
+/// The lock of a disk: a file beside the disk's, of the same path with `.lck` after it, which is locked. This lock goes by the
+/// path, since the disk's file may not be there yet, and since another file takes its place where a disk is kept.
 #[derive(Drop)]
 pub struct DiskLock {
     path: String,
@@ -22,7 +22,7 @@ pub fn lock_file(file: &File) -> Result<(), FileFault> {
     }
 }
 
-/// Whether a path, no link of which is followed at its end, leads to this open file.
+/// Whether a path leads to this open file. A link at the path itself is not followed.
 fn leads_to<R: Files>(rt: &R, path: &str, file: &File) -> io::Result<bool> {
     let there = fs::symlink_metadata(rt, path)?;
     let open = file.metadata()?;
@@ -52,8 +52,8 @@ impl DiskLock {
         }
     }
 
-    /// Lets another run have the disk's file. The file beside it is removed before it is unlocked. Where it cannot be, or holds
-    /// anything, it stays.
+    /// Lets another run have the disk's file. The file beside the disk's is removed, and then unlocked. It stays where it holds
+    /// anything, or cannot be removed.
     pub fn release<R: Files>(self, rt: &R) {
         let DiskLock { path, file } = self;
         if matches!(file.metadata(), Ok(metadata) if metadata.len() == 0) {

@@ -1,4 +1,4 @@
-//! The file of a disk that is written while a run goes on.
+//! `open_durable`: opens the file of a disk that is written while a run goes on.
 ghost use Rattle.std.specs.Prelude.{◌≡◌, true, IfOk};
 ghost use Rattle.disk_model.specs.Storage.{is_quiet};
 
@@ -20,7 +20,7 @@ fn sync_folder<R: Files<File = File> + AllocGlobal>(rt: &R, path: &str) -> io::R
     }
 }
 
-/// Opens the file of a disk, and makes it as zeros first, where there is none. It is then locked, until it is closed.
+/// Opens the file of a disk. Where there is none, a file of zeros is made first. The file is then locked, until it is closed.
 fn open_or_make<R: Files<File = File> + AllocGlobal>(
     rt: &R,
     path: &str,
@@ -33,8 +33,8 @@ fn open_or_make<R: Files<File = File> + AllocGlobal>(
     Ok(file)
 }
 
-/// The file at this path, open, and the disk that it holds. Where there is none, it is made as zeros first, by way of a file beside it.
-/// What the file holds, and its name, are synced: a run before may have left them to the host.
+/// The file at this path, open, and the disk that it holds. Where there is none, a file of zeros is made first, by way of a file
+/// beside it. The file's bytes and its name are synced, since a run before may not have synced them.
 ///
 /// DiskLength where the file has not a disk's 2,097,152 bytes. DiskInUse where a run has the file by another path.
 pub fn open_durable<R: Files<File = File> + AllocGlobal>(

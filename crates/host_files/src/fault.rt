@@ -1,4 +1,4 @@
-//! Why a file is refused.
+//! `FileFault`: why a file is refused.
 use assembler::{AsmFault, Cause};
 use elf32::{ElfFault, LinkFault};
 use simdisk::DiskRefusal;
@@ -6,7 +6,7 @@ use std::alloc::{AllocError, AllocFailed};
 use std::io;
 use thiserror::Error;
 
-/// Why what a file is read for cannot be done.
+/// Why a file is refused.
 #[derive(Clone, Copy, Debug, Error)]
 pub enum FileFault {
     /// The first fault of a source.
@@ -15,7 +15,7 @@ pub enum FileFault {
     /// A source that would be written over by what is made of it.
     #[error("input or output failed")]
     OwnSource,
-    /// A source that assembles to another image than the one beside which it is given.
+    /// A source that assembles to another image than the one that is given with it.
     #[error("source refused: OtherImage: it assembles to another image than the one given")]
     OtherImage,
     /// A file that holds no image, and the first check that it fails.
@@ -91,7 +91,7 @@ impl From<LinkFault> for FileFault {
     }
 }
 
-/// The disks that are made here are zeros, or those of a file.
+/// A disk is made of a file's bytes, or of zeros: so it is refused for its length, or for want of memory.
 impl From<DiskRefusal> for FileFault {
     fn from(refusal: DiskRefusal) -> FileFault {
         match refusal {

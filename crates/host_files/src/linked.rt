@@ -1,4 +1,4 @@
-//! Executables of stock linkers made to images.
+//! `image_file`: makes an image of an executable that a stock linker wrote (`bench image`).
 use crate::disk_file::write_whole;
 use crate::fault::FileFault;
 use crate::same_file::is_same_file;
@@ -31,7 +31,7 @@ fn print_size<O: Write>(image: &Image, out: &mut O) -> Result<(), FileFault> {
     Ok(())
 }
 
-/// Writes an image to a file, whole. What is there and is no file, as a device or a link, is written to, and stays.
+/// Writes an image to a file, whole. A device or a link that stands at the path is written to, and stays.
 fn write_image<R: Files + AllocGlobal>(rt: &R, path: &str, bytes: &[u8]) -> Result<(), FileFault> {
     match fs::symlink_metadata(rt, path) {
         Ok(there) if !there.is_file() => Ok(fs::write(rt, path, bytes)?),

@@ -1,4 +1,4 @@
-//! Listings of images.
+//! `list_file`: prints the words of an image, a line each (`bench list`).
 use crate::fault::FileFault;
 use crate::reading::image_in;
 use byteorder::{ByteOrder, LittleEndian};

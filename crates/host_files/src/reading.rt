@@ -1,4 +1,4 @@
-//! Images in files of the host.
+//! `image_in`: reads the image in a file of the host.
 use crate::fault::FileFault;
 use input_reading::image_file_in;
 use machine_model::Image;

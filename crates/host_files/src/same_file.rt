@@ -1,11 +1,11 @@
-//! What paths lead to.
+//! Whether two paths lead to one file.
 use std::fs::Metadata;
 use std::io::ErrorKind;
 use std::os::unix::fs::MetadataExt;
 use std::rt::Files;
 use std::{fs, io};
 
-/// What has a path, if anything has. Links are followed.
+/// The metadata of what stands at a path, if anything does. Links are followed.
 fn metadata_of<R: Files>(rt: &R, path: &str) -> io::Result<Option<Metadata>> {
     match fs::metadata(rt, path) {
         Ok(metadata) => Ok(Some(metadata)),

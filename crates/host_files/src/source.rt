@@ -1,4 +1,4 @@
-//! Sources assembled to files of images, and of symbols for gdb.
+//! Assembles a source to a file: an image (`bench asm`), or symbols for gdb (`bench symbols`).
 use crate::fault::FileFault;
 use crate::same_file::is_same_file;
 use assembler::{AsmFault, Cause, assemble};
@@ -13,7 +13,7 @@ use std::rt::Files;
 /// The longest source that is assembled, in bytes.
 pub const MOST_SOURCE_BYTES: usize = 1_048_576;
 
-/// What comes of a source: the bytes of a file, and the line that is printed.
+/// What a source is made to: the bytes of a file, and the line that is printed.
 struct Assembled {
     file: Vec<u8>,
     line: String,
@@ -35,7 +35,7 @@ fn size_of(segment: Option<&Segment>) -> usize {
     }
 }
 
-/// The sizes of text and data, and where the program begins.
+/// The line with the sizes of text and data, and the entry.
 fn line_of(alloc: Global, image: &Image) -> Result<String, FileFault> {
     let text = size_of(image.segments().first());
     let data = size_of(image.segments().get(1));
@@ -62,13 +62,13 @@ pub fn text_of(bytes: &[u8]) -> Result<&str, FileFault> {
     }
 }
 
-/// The text of the source in a file. Of one that is too long no more is read than shows it.
+/// The text of the source in a file. A source that is too long is read one byte past the longest, and no further.
 pub fn source_text<R: Files + AllocGlobal>(rt: &R, path: &str) -> Result<String, FileFault> {
     let bytes = bytes_in(rt, path, MOST_SOURCE_BYTES)?;
     Ok(String::from_str(rt.alloc(), text_of(&bytes)?)?)
 }
 
-/// Writes what came of the source in a file to another, and prints the line. Where both paths lead to one file nothing is written.
+/// Writes to a file what a source was made to, and prints the line. Where both paths lead to one file nothing is written.
 fn write_assembled<R: Files, O: Write>(
     rt: &R,
     assembled: &Assembled,
@@ -85,8 +85,8 @@ fn write_assembled<R: Files, O: Write>(
     Ok(())
 }
 
-/// Assembles the source in a file, writes its image to another, and prints the sizes of its text and data, and its entry. Of a source
-/// that is too long no more is read than shows it.
+/// Assembles the source in a file, writes its image to another, and prints the sizes of its text and data, and its entry. A source
+/// that is too long is read one byte past the longest, and no further.
 pub fn assemble_file<R: Files + AllocGlobal, O: Write>(
     rt: &R,
     source: &str,

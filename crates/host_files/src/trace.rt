@@ -1,4 +1,4 @@
-//! Traces: the replies that a program's calls take.
+//! `read_trace`: reads a trace, the replies that a debugged program's calls take.
 use crate::fault::FileFault;
 use byte_list::Bytes;
 use elf32::{ElfFault, parse};
@@ -6,7 +6,7 @@ use input_reading::{bytes_of, hexadecimal};
 use machine_model::Reply;
 use std::alloc::{AllocError, Global};
 
-/// The reply of a number with bytes for a place, of which these are the digits. None where these have no such form.
+/// The reply of a number, with bytes for a place. None where `digits` are not those of bytes.
 fn plain_reply(alloc: Global, a0: u32, at: u32, digits: &str) -> Result<Option<Reply>, AllocError> {
     match bytes_of(alloc, digits)? {
         Some(bytes) => Ok(Some(Reply {
@@ -19,7 +19,7 @@ fn plain_reply(alloc: Global, a0: u32, at: u32, digits: &str) -> Result<Option<R
     }
 }
 
-/// The reply of a call that entered a program, of whose file these are the digits. None where these are no file of an image.
+/// The reply of a call that entered a program. None where `digits` are not those of an image's file.
 fn image_reply(alloc: Global, digits: &str) -> Result<Option<Reply>, AllocError> {
     let Some(file) = bytes_of(alloc, digits)? else {
         return Ok(None);
@@ -36,7 +36,7 @@ fn image_reply(alloc: Global, digits: &str) -> Result<Option<Reply>, AllocError>
     }
 }
 
-/// None where it has no such form.
+/// The reply of a number, with bytes for a place, as `AT HEX`. None where `stored` has no such form.
 fn placed_reply(alloc: Global, a0: u32, stored: &str) -> Result<Option<Reply>, AllocError> {
     match stored.split_once(' ') {
         Some(("image", digits)) if a0 == 0 => image_reply(alloc, digits),
@@ -48,7 +48,7 @@ fn placed_reply(alloc: Global, a0: u32, stored: &str) -> Result<Option<Reply>, A
     }
 }
 
-/// The reply of a line. None where it has no form of one.
+/// The reply of a line. None where the line has no form of a reply.
 fn reply_of(alloc: Global, line: &str) -> Result<Option<Reply>, AllocError> {
     let Some((a0, stored)) = line.split_once(' ') else {
         return Ok(None);
@@ -73,9 +73,9 @@ fn push_reply(
 }
 
 /// Reads a trace, a line for each reply. `A0 -` and `A0 AT HEX` are replies of a number, without and with bytes. `00000000 image
-/// HEX` is that of a call which entered a program, with the bytes of its file. A0 and AT are eight hexadecimal digits; HEX is pairs
-/// of them, or `-` for none. Lines are counted from 1 and end at a line feed. Empty ones and those that begin with `#` are skipped.
-/// Refused is the first line that has no such form, or whose file is no image; or OutOfMemory.
+/// HEX` is the reply of a call which entered a program, with the bytes of the program's file. A0 and AT are eight hexadecimal
+/// digits; HEX is pairs of such digits, or `-` for no bytes. Lines are counted from 1 and end at a line feed. Empty lines and those
+/// that begin with `#` are skipped. Refused is the first line that has no such form, or whose file is no image; or OutOfMemory.
 pub fn read_trace(alloc: Global, text: &str) -> Result<Vec<Reply>, FileFault> {
     let mut replies = Vec::new(alloc);
     let mut number = 0usize;

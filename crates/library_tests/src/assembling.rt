@@ -1,4 +1,4 @@
-//! Sources with their words, their images and their faults.
+//! Tests of `assembler`: sources with their words, their images and their faults.
 use crate::asserting::assert_row;
 use crate::image_files::is_one_call;
 use crate::tokens::{Repeated, push_repeated};
@@ -51,7 +51,7 @@ const NUMBERS: &[(&str, &[u32])] = &[
     ("_start: jal ra,-1048576", &[0x800000EF]),
 ];
 
-/// The same of pseudo-instructions that compute and branch.
+/// Sources and their words: pseudo-instructions that compute and branch.
 const PSEUDO: &[(&str, &[u32])] = &[
     ("_start: nop", &[0x00000013]),
     ("_start: mv a0,a1", &[0x00058513]),
@@ -69,7 +69,7 @@ const PSEUDO: &[(&str, &[u32])] = &[
     ("_start: bgtz a0,8", &[0x00A04463]),
 ];
 
-/// The same of pseudo-instructions of two registers, and of jumps.
+/// Sources and their words: pseudo-instructions of two registers, and jumps.
 const JUMPS: &[(&str, &[u32])] = &[
     ("_start: bgt a0,a1,8", &[0x00A5C463]),
     ("_start: ble a0,a1,8", &[0x00A5D463]),
@@ -83,7 +83,7 @@ const JUMPS: &[(&str, &[u32])] = &[
     ("_start: ret", &[0x00008067]),
 ];
 
-/// The same of instructions.
+/// Sources and their words: instructions.
 const INSTRUCTIONS: &[(&str, &[u32])] = &[
     ("_start: add a0,a0,a1", &[0x00B50533]),
     ("_start: mul a0 , a0,\ta1 # a comment \u{e9}", &[0x02B50533]),
@@ -102,7 +102,7 @@ const INSTRUCTIONS: &[(&str, &[u32])] = &[
     ("_start: .word 0xFFFFFFFF", &[0xFFFFFFFF]),
 ];
 
-/// The same of labels, and of whole programs.
+/// Sources and their words: labels, and whole programs.
 const PROGRAMS: &[(&str, &[u32])] = &[
     (
         "_start: nop\nla a0,_start",
@@ -181,7 +181,7 @@ const FAULTS: &[(&str, Cause, usize, usize)] = &[
     ("_start: jal ra,1048576", Range, 1, 16),
 ];
 
-/// Further ones: programs with no start, and lines with no form.
+/// Further sources that are refused: programs with no start, and lines with no form.
 const FORM_FAULTS: &[(&str, Cause, usize, usize)] = &[
     ("", NoStart, 1, 1),
     ("_start:", NoStart, 1, 1),
@@ -211,7 +211,7 @@ const FORM_FAULTS: &[(&str, Cause, usize, usize)] = &[
     ("_start: fence .i", Syntax, 1, 15),
 ];
 
-/// Further ones: second labels, sizes and ranges.
+/// Further sources that are refused: second labels, sizes and ranges.
 const SIZE_FAULTS: &[(&str, Cause, usize, usize)] = &[
     ("_start: nop\n\n_start: foo", DoubleLabel, 3, 1),
     ("_start: .space 2", Range, 1, 16),

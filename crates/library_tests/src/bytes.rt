@@ -1,4 +1,4 @@
-//! Bytes that grow and are overwritten.
+//! Tests of `byte_list`: bytes that grow and are overwritten.
 use crate::asserting::assert_row;
 use byte_list::Bytes;
 use std::alloc::AllocError;

@@ -1,4 +1,4 @@
-//! The bytes of a record, and the changes of a checkpoint.
+//! Tests of `journal`: the bytes of a record, and the changes of a checkpoint.
 use crate::asserting::assert_row;
 use byte_list::Bytes;
 use files::FileTable;

@@ -1,4 +1,4 @@
-//! A machine that goes along a trace and back.
+//! Tests of `debugger`: a machine that goes along a trace and back.
 ghost use Rattle.std.specs.Prelude.{◌<◌, ◌≤◌, length};
 
 use crate::asserting::assert_row;

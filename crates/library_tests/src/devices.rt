@@ -1,4 +1,4 @@
-//! The device: writes in flight, refusals and a crash.
+//! Tests of `simdisk`: writes in flight, refusals and a crash.
 use crate::asserting::assert_row;
 use simdisk::{DiskRefusal, SimDisk};
 use std::alloc::{AllocError, Global};

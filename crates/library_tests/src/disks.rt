@@ -1,4 +1,4 @@
-//! Disks that were made by hand.
+//! Tests of `journal`: what is recovered from disks that were made by hand.
 use crate::asserting::assert_row;
 use files::FileTable;
 use journal::{DiskFault, open, recover};

@@ -1,4 +1,4 @@
-//! The events on which an event rests.
+//! Tests of `footprints`: the events on which an event rests.
 ghost use Rattle.std.specs.Prelude.{◌≡◌, length, IfOk};
 
 use crate::asserting::assert_row;

@@ -1,4 +1,4 @@
-//! Instructions on a memory of 64 bytes.
+//! Tests of `isa_table`: instructions on a memory of 64 bytes.
 use crate::asserting::assert_row;
 use crate::flat_bus::FlatBus;
 use formats::{Immediate, Instr, Reg, ShiftAmount};

@@ -1,4 +1,4 @@
-//! Changes and writes of files, and the numbers of files.
+//! Tests of `files`: changes and writes of files, and the numbers of files.
 use crate::asserting::assert_row;
 use byte_list::Bytes;
 use disk_model::Change;

@@ -1,4 +1,4 @@
-//! A debugger that goes back to breakpoints, and what its next step loads or stores.
+//! Tests of `debugger`: the way back to breakpoints, and what the next step loads or stores.
 ghost use Rattle.std.specs.Prelude.{◌<◌, ◌≤◌, length};
 
 use crate::asserting::assert_row;

@@ -1,4 +1,4 @@
-//! A group on a worked disk.
+//! Tests of `group_commit`: a group that is cut and committed, and one whose write fails.
 ghost use Rattle.std.specs.Prelude.{◌≡◌, IfOk, OnOk, [], ◌∷◌};
 ghost use Rattle.std.specs.List.{AllByRecursion};
 ghost use Rattle.disk_model.specs.declared.change.Change.TheVariants.{Create, Write};

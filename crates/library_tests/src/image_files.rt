@@ -1,4 +1,4 @@
-//! A small program's file, that file with a fault in each place, and files of two segments.
+//! Tests of `elf32`: a small program's file, the file with a fault in each place, and files of two segments.
 ghost use Rattle.std.specs.Prelude.{◌≡◌, IfOk, length};
 
 use crate::asserting::{assert_row, assert_shown};
@@ -71,7 +71,7 @@ const FAULTS: &[Changed] = &[
     (4101, &[(76, 4)], 12),
 ];
 
-/// Further ones: addresses, the most pages, and faults one after the other.
+/// Further changes of the small file: addresses, the most pages, and faults one after the other.
 const FAULTS_IN_TURN: &[Changed] = &[
     // The physical address says nothing.
     (4101, &[(66, 0x44)], 0),
@@ -339,8 +339,8 @@ fn a_last_segment_of_no_bytes_is_kept(rt: HostRuntime) -> Result<(), ElfFault> {
     assert_rewritten(&rt, &file)
 }
 
-/// Of a file of four segments that counts so many how many are read, and of the file that is written then its length and
-/// how many it has.
+/// Reads a file of four segments that says it has `count`. Gives how many segments are read, the length of the file that is then
+/// written, and how many segments that one has.
 fn counts_of_four(alloc: Global, count: u8) -> Result<(usize, usize, usize), ElfFault> {
     let file = four_segments(alloc, count)?;
     let written = rewritten(alloc, &file)?;

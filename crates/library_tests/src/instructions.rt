@@ -1,4 +1,4 @@
-//! Words with their texts, words that mean nothing, and the ends of fields.
+//! Tests of `formats`: words with their texts, words that mean nothing, and the ends of fields.
 use crate::asserting::{assert_row, assert_shown};
 use formats::{Instr, Reg, decode, encode};
 use std::alloc::AllocError;

@@ -1,4 +1,4 @@
-//! Programs, loaded and run.
+//! Tests of `machine`: programs that are loaded and run.
 ghost use Rattle.std.specs.Prelude.{◌≡◌, ◌<◌, ◌≤◌, IfOk, None, length};
 
 use crate::asserting::assert_row;

@@ -1,4 +1,4 @@
-//! On how many changes an event rests.
+//! Tests of `commit_deps`: on how many changes an event rests.
 ghost use Rattle.std.specs.Prelude.{◌+◌, ◌<◌, ◌^◌};
 ghost use Rattle.std.specs.Option.{ForSome};
 

@@ -1,4 +1,4 @@
-//! The numbers of refusals and faults, and what an assembler's fault is called.
+//! Tests of the numbers of refusals and faults, and of the names of an assembler's faults.
 use crate::asserting::{assert_row, assert_shown};
 use assembler::Cause;
 use formats::FieldFault;

@@ -1,4 +1,4 @@
-//! A ring that wraps round, a full pipe, and ends that are gone.
+//! Tests of `pipes`: a ring that wraps round, a full pipe, and ends that are gone.
 use crate::asserting::assert_row;
 use byte_list::Bytes;
 use kernel_model::PipeEnd;

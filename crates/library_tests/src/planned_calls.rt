@@ -1,4 +1,4 @@
-//! Each exported function once: what small machines ask for, what that comes to, an end, and tapes.
+//! Tests of `calls`: what small machines ask for, what their calls come to, an end, and tapes.
 ghost use Rattle.std.specs.Prelude.{◌≡◌, ◌≤◌, length, IfOk, IfSome};
 ghost use Rattle.std.specs.List.{AllByRecursion};
 ghost use Rattle.disk_model.specs.Limits.{longest_file};

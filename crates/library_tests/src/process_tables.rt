@@ -1,4 +1,4 @@
-//! Processes, their forks, and the ends of children.
+//! Tests of `processes`: forks, and the ends of children.
 use crate::asserting::assert_row;
 use processes::{Descriptor, EndedChild, MOST_PROCESSES, ProcTable, Slot};
 use std::alloc::AllocError;

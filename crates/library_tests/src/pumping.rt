@@ -1,4 +1,4 @@
-//! Writers that take all, little or nothing, and fail.
+//! Tests of `console`: writers that take all, little or nothing, and fail.
 ghost use Rattle.std.specs.Prelude.{◌≤◌};
 
 use crate::asserting::assert_row;

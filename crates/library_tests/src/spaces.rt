@@ -1,4 +1,4 @@
-//! Tests over two pages.
+//! Tests of `memory`: accesses, copies and comparisons over two pages.
 ghost use Rattle.std.specs.Prelude.{◌≡◌, ◌+◌, ◌%◌, ◌^◌, ◌≤◌, None, IfOk, length};
 ghost use Rattle.memory_model.specs.Memory.{memory_of};
 ghost use Rattle.memory_model.specs.Access.{mapped};
@@ -184,7 +184,7 @@ fn are_same_as_two(alloc: Global, space: &Space, second: Rights) -> Result<[bool
     Ok([space.is_same(&other), other.is_same(space)])
 }
 
-/// The same of pages of these bytes that are mapped in one cut.
+/// Whether a space is the same as pages of these bytes that are mapped in one cut, and whether those are the same as the space.
 fn are_same_as_one_cut(alloc: Global, space: &Space, bytes: &[u8]) -> Result<[bool; 2], AllocError>
     requires whole { length bytes.now % 4096 ≡ 0 }
     requires range { 4096 + length bytes.now ≤ 2 ^ 32 }

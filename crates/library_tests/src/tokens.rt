@@ -1,4 +1,4 @@
-//! Sources with their tokens, and sources with a fault.
+//! Tests of `asm_text`: sources with their tokens, and sources with a fault.
 use crate::asserting::{assert_row, assert_shown};
 use asm_text::{Cause, Line, TextFault, Token, TokenKind, lines};
 use std::alloc::{AllocError, Global};

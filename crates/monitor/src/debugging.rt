@@ -1,4 +1,4 @@
-//! An image debugged with a trace, and a process while a kernel answers its calls.
+//! The command `debug`: an image is debugged with a trace, or with `--live` a process, whose calls a kernel answers.
 use crate::fault::of_session;
 use command_line::LiveOptions;
 use debug_commands::debug;
@@ -13,7 +13,7 @@ use std::io::{Read, Write};
 use std::rt::Files;
 use timeline::Origin;
 
-/// The most loans of the kernel until the wanted process is there.
+/// The most loans that the kernel runs until the wanted process is there.
 const LOANS: u32 = 4096;
 
 /// The process of the last Enter of a history.
@@ -28,14 +28,14 @@ fn is_there(core: &Core, process: u32) -> bool {
     core.standing(process).is_ok()
 }
 
-/// The place of the image from which each process descends by forks. That of process p stands at place p - 1.
+/// Of each process the place of the image from which it descends by forks. The entry of process p stands at index p - 1.
 #[derive(Drop)]
 struct Ancestors {
     images: Vec<usize>,
 }
 
 impl Ancestors {
-    /// Those of the first processes, one for each image.
+    /// The entries of the first processes, one for each image.
     fn new(alloc: Global, count: usize) -> Result<Ancestors, Fault> {
         let mut images = Vec::new(alloc);
         for image in 0..count {
@@ -93,8 +93,8 @@ fn await_process(
     Err(Fault::Process { process })
 }
 
-/// A process of a run of images, by the image from which it descends and the kernel that answers its calls. Refused is a process that
-/// no fork makes.
+/// The image from which a process of a run of images descends, and the kernel that answers the calls of the process. Refused is a
+/// process that no fork makes.
 pub fn process_in<R: Files + AllocGlobal>(
     rt: &R,
     options: &LiveOptions<'_>,
@@ -111,7 +111,7 @@ pub fn process_in<R: Files + AllocGlobal>(
     Ok((image, Origin::Kernel(recorder, process)))
 }
 
-/// Debugs an image's program. With the source in a file, if one is given, the lines of that are printed too.
+/// Debugs an image's program. Where the path of its source is given, the source's lines are printed too.
 fn debug_image<R: Files + AllocGlobal, I: Read, O: Write>(
     rt: &R,
     image: Image,
@@ -124,8 +124,8 @@ fn debug_image<R: Files + AllocGlobal, I: Read, O: Write>(
     debug(rt.alloc(), image, origin, source, input, out).map_err(of_session)
 }
 
-/// Debugs the image in a file, by the commands on the input. Its calls get the replies of the trace in another file, or none. With
-/// its source the lines of that are printed too.
+/// Debugs the image in a file, by the commands on the input. The program's calls get the replies of the trace in another file, or
+/// none. Where the path of its source is given, the source's lines are printed too.
 pub fn debug_file<R: Files + AllocGlobal, I: Read, O: Write>(
     rt: &R,
     image: &str,

@@ -1,9 +1,9 @@
-//! Why what a command does ends early, as the program's own fault.
+//! Makes the program's `Fault` of the fault of a run, or of a session with the debugger.
 use executor::RunFault;
 use faults::Fault;
 use timeline::SessionFault;
 
-/// That of a run by worker threads.
+/// The program's fault where a run by worker threads ends early.
 pub fn of_run(fault: RunFault) -> Fault {
     match fault {
         RunFault::OutOfMemory => Fault::OutOfMemory,
@@ -12,7 +12,7 @@ pub fn of_run(fault: RunFault) -> Fault {
     }
 }
 
-/// That of a session with the debugger, or with gdb.
+/// The program's fault where a session of `debug` or `gdb` ends early.
 pub fn of_session(fault: SessionFault) -> Fault {
     match fault {
         SessionFault::OutOfMemory => Fault::OutOfMemory,

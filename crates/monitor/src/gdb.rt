@@ -1,4 +1,4 @@
-//! A program debugged by gdb.
+//! The command `gdb`: answers gdb, which debugs a program.
 use crate::debugging::process_in;
 use crate::fault::of_session;
 use command_line::GdbOptions;
@@ -22,7 +22,7 @@ struct DiskFile<'x, R> {
     path: Option<&'x str>,
 }
 
-/// Keeps a disk in its file, which no run may have meanwhile.
+/// Keeps a disk in its file, under the file's lock, so that no run has the file meanwhile.
 fn keep_locked<R: Files<File = File> + AllocGlobal>(
     rt: &R,
     path: &str,

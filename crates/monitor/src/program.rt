@@ -1,4 +1,4 @@
-//! The whole program.
+//! `bench`, the whole program: reads the command line, does its task, and gives the exit status.
 use crate::debugging::{debug_file, debug_live};
 use crate::executing::{REFUSED, execute};
 use crate::exploring::explore_programs;
@@ -23,7 +23,7 @@ use std::rt::Files;
 use std::sync::Wait;
 use std::thread::Threads;
 
-/// Does what is asked for, and gives the exit status where all went well.
+/// Does the task, and gives the exit status where all went well.
 fn perform<
     R: Files<File = File> + AllocGlobal + Threads + Wait + Sync,
     I: Read + Send,
@@ -63,7 +63,7 @@ fn perform<
     Ok(0)
 }
 
-/// Does what is asked for. What it printed goes out, also where a fault ends it early.
+/// Does the task. What it printed goes out, also where a fault ends it early.
 fn run<
     R: Files<File = File> + AllocGlobal + Threads + Wait + Sync,
     I: Read + Send,
@@ -80,7 +80,7 @@ fn run<
     Ok(status)
 }
 
-/// The end of what was asked for: a fault's line, and where it is to be explained a line more that says why.
+/// The end of a task. Writes a fault's line, and with `--explain` another line that says why. Gives the exit status.
 fn end_asked<R: Files<File = File> + AllocGlobal, E: Write>(
     rt: &R,
     asked: &Arguments<'_>,
@@ -99,7 +99,7 @@ fn end_asked<R: Files<File = File> + AllocGlobal, E: Write>(
     status
 }
 
-/// The end of a run that a fault cut short: prints its line, and gives its status.
+/// The end of a task that a fault cut short: writes the fault's line, and gives the fault's status.
 fn end<E: Write>(fault: Fault, err: &mut E) -> u8 {
     let status = fault.status();
     // Where the line cannot be written either, the status still tells.
@@ -145,7 +145,7 @@ pub fn end_without_arguments<E: Write>(error: &io::Error, err: &mut E) -> u8 {
     end(fault, err)
 }
 
-/// Does what the words ask for, and gives the exit status.
+/// Does what the words ask for, or writes why they ask for nothing. Gives the exit status.
 fn obey<
     R: Files<File = File> + AllocGlobal + Threads + Wait + Sync,
     I: Read + Send,
@@ -161,9 +161,9 @@ fn obey<
     }
 }
 
-/// The whole program: it does what the words, the program's name aside, ask for, and gives the exit status. Without words it
-/// replays the script on the input. What it prints goes to `out` through a buffer, which has gone out before anything is written to
-/// `err` and before the status is given. One line on `err` says why it ended early.
+/// The whole program: does what the words ask for, the program's name aside, and gives the exit status. Without words it replays
+/// the script on the input. What it prints goes to `out` through a buffer. The buffer is flushed before anything is written to
+/// `err`, and before the status is given. One line on `err` says why the program ended early.
 pub fn bench<
     R: Files<File = File> + AllocGlobal + Threads + Wait + Sync,
     I: Read + Send,

@@ -1,4 +1,4 @@
-//! Runs of images by many workers.
+//! The command `run`: runs images by many workers, prints how processes stand, keeps the disk, and gives the exit status.
 use crate::fault::of_run;
 use command_line::{RunNumbers, RunOptions};
 use durable_disk::HostFile;
@@ -21,7 +21,8 @@ pub fn settings_of(numbers: RunNumbers) -> Settings {
     }
 }
 
-/// Whether a write of the disk has failed, by the core of a run that has ended: only then are there changes that are not committed.
+/// Whether a write of the disk has failed. The core is that of a run that has ended: only a failed write leaves changes in it that
+/// are not committed.
 fn has_failed(core: &Core) -> bool {
     core.committed() < core.changes()
 }
@@ -65,11 +66,11 @@ fn run_to_end<R: Files<File = File> + AllocGlobal + Threads + Wait + Sync, O: Wr
     Ok(status)
 }
 
-/// Runs images to their end. What the terminal shows, or all do, is printed as it is shown. Then `err` gets a line about each
+/// Runs images to their end. What one terminal shows, or all show, is printed as it is shown. Then `err` gets a line about each
 /// process. Then the disk is kept, if it is to be, also where `err` took no line; the file of a durable run holds it already.
-/// DiskFailed where a write of the disk has failed: it comes after all this, and the disk is kept as a crash would leave it that
-/// keeps nothing of what was in flight. Gives the exit status where all went well: that of a process, if the options name one, else
-/// 0.
+/// DiskFailed where a write of the disk has failed. This is told after all else, and the disk is kept as a crash would leave it
+/// that keeps nothing of the writes in flight. Gives the exit status where all went well: that of a process, if the options name
+/// one, else 0.
 pub fn run_images<
     R: Files<File = File> + AllocGlobal + Threads + Wait + Sync,
     I: Read,

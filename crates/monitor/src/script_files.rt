@@ -1,4 +1,4 @@
-//! Scripts in files of the host, and on the input, each read whole before anything runs.
+//! The commands that read a script: `replay`, `picture` and `crashes`. Each script is read whole before anything runs.
 use crash_outcomes::explore;
 use faults::Fault;
 use pictured_runs::picture;

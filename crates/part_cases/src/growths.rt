@@ -1,7 +1,8 @@
-//! Calls beside the core of which a growth may be refused: those that make an image and a machine (`images`), the debugger's
+//! Makes calls in which the host may refuse memory: those that make an image and a machine (`images`), the debugger's
 //! (`debugging`), and the dependencies' (`marks`). A call that is refused for want of memory is made once more, and has to come to
-//! what it comes to where nothing is refused. What is seen of a debugger, or of the marks, has to be as before the first; a run
-//! keeps its steps. `tools/refused-growths.py` refuses the growths. Where none is, each call is made once.
+//! what it comes to where nothing is refused. Between the two calls, what is seen of a debugger or of the marks has to be as before
+//! the first; a run keeps the steps that it did. `tools/refused-growths.py` refuses the growths of memory. Where none is refused,
+//! each call is made once.
 mod debugging;
 mod images;
 mod marks;

@@ -1,4 +1,4 @@
-//! Images run to their first limits, and in longer and longer runs.
+//! Tests machines of images: runs to their first limits, and longer and longer runs.
 use crate::limits::{check_each, check_growing};
 use crate::replies::Calls;
 use anyhow::Error;

@@ -1,4 +1,4 @@
-//! One program run to many limits. Each run has to end where as many single instructions do.
+//! Runs a program to many limits. Each run has to end where as many single instructions do.
 use crate::replies::Calls;
 use anyhow::{Error, bail};
 use machine::{Machine, Stop};

@@ -24,7 +24,7 @@ impl Numbers {
         state
     }
 
-    /// One of these.
+    /// One of the values of a list.
     pub fn choose<T: Copy>(&mut self, from: &[T]) -> T
         requires { 0 < length from.now }
     {

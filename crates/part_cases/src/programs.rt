@@ -1,4 +1,4 @@
-//! Programs of one segment.
+//! Makes programs of one segment.
 use anyhow::{Error, bail};
 use byte_list::Bytes;
 use machine::{Image, Segment};

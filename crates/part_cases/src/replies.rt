@@ -1,4 +1,4 @@
-//! What a program's calls get.
+//! `Calls`: how the calls of a tested program are answered.
 use crate::numbers::Numbers;
 use crate::overwriting::{FIRST, PATTERNS, SIZE};
 use anyhow::{Error, bail};
@@ -6,12 +6,12 @@ use byte_list::Bytes;
 use machine::{Machine, Reply, Stop};
 use std::alloc::{AllocError, Global};
 
-/// What a program's calls get.
+/// How a program's calls are answered.
 #[derive(Clone, Copy)]
 pub enum Calls {
-    /// Nothing: the program ends at a call.
+    /// Not at all: the program ends at a call.
     End,
-    /// Bytes over the program's own words, as a read or a pipe places them. They follow from this number and the count of
+    /// By bytes over the program's own words, as a read or a pipe places them. The bytes follow from this number and the count of
     /// instructions, so that each run of a program gets the same.
     Overwrite(u32),
 }

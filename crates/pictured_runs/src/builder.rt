@@ -1,4 +1,4 @@
-//! A picture that grows by what the events of a run do.
+//! `PictureBuilder`: a picture to which each event of a run adds a row, with what the event did.
 ghost use Rattle.std.specs.Prelude.{◌<◌};
 ghost use Rattle.kernel_model.specs.World.{terminal_count};
 
@@ -26,8 +26,8 @@ struct Held {
     ghost there: { terminal < terminal_count },
 }
 
-/// The picture of a run so far, and what of its last boot has not ended yet. What an event does is noted in the next row, and then
-/// that row is added.
+/// The picture of a run so far. The changes, writes and outputs of the last boot that have not ended yet are kept beside it. What
+/// an event does is noted for the next row, and then the row is added.
 pub struct PictureBuilder {
     pub picture: Picture,
     /// A second core. It applies the events of processes too, and commits every change at once, so it shows each output in the
@@ -75,12 +75,12 @@ fn empty_picture(alloc: Global) -> Result<Picture, AllocError> {
     })
 }
 
-/// Whether an output is held back still.
+/// Whether an output is still held back.
 fn is_held(core: &Core, held: &Held) -> bool {
     core.shown(held.terminal).len() < held.end
 }
 
-/// Gives an output this fate.
+/// Ends an output with this fate.
 fn end_output(picture: &mut Picture, held: &Held, fate: Fate) {
     if let Some(output) = picture.outputs.get_mut(held.output) {
         output.fate = fate;
@@ -96,7 +96,7 @@ fn follow(follower: &mut Core, event: Event) -> Result<(), AllocError> {
 }
 
 impl PictureBuilder {
-    /// Before the first event of the first boot. The follower has just been booted too.
+    /// A builder before the first event of the first boot. The follower has just been booted too.
     pub fn new(alloc: Global, follower: Core) -> Result<PictureBuilder, AllocError> {
         Ok(PictureBuilder {
             picture: empty_picture(alloc)?,
@@ -157,7 +157,7 @@ impl PictureBuilder {
             .any(|flight| flight.until.is_none())
     }
 
-    /// Notes the writes that are in flight now. They are new, since a stage's writes are submitted once none is in flight.
+    /// Notes the writes that are in flight now. They are new, since a stage's writes are submitted when no write is in flight.
     fn note_takeoffs(&mut self, core: &Core) -> Result<(), AllocError> {
         let row = self.next_row();
         let pieces = core.writes_in_flight();
@@ -188,7 +188,7 @@ impl PictureBuilder {
         self.note_takeoffs(core)
     }
 
-    /// Notes what an event wrote to a terminal, if it wrote anything. It is shown at once, or held back.
+    /// Notes what an event wrote to a terminal, if anything. The output is shown at once, or held back.
     fn note_output(&mut self, alloc: Global, core: &Core, terminal: u32) -> Result<(), AllocError>
         requires { terminal < terminal_count }
     {
@@ -283,7 +283,7 @@ impl PictureBuilder {
         (changes, self.held.len() as u64)
     }
 
-    /// Goes on with the next boot, of which this is the follower.
+    /// Goes on with the next boot, whose second core is `follower`.
     pub fn boot(&mut self, follower: Core) {
         self.follower = follower;
         self.first_change = self.picture.changes.len();

@@ -11,7 +11,7 @@ fn row_of(event: u64) -> usize {
     event.saturating_sub(1) as usize
 }
 
-/// Makes each row pale that is of no event of a cone.
+/// Makes the rows of all events pale that are not in a cone.
 fn make_pale(picture: &mut Picture, cone: &[u64]) {
     for row in picture.rows.iter_mut() {
         row.pale = true;
@@ -45,7 +45,7 @@ fn process_at(picture: &Picture, event: u64) -> Option<u32> {
     }
 }
 
-/// Adds arrows to an event from those of other processes that are directly before it.
+/// Adds arrows to an event, from the events of other processes that are directly before it.
 fn push_arrows(
     alloc: Global,
     picture: &mut Picture,
@@ -64,8 +64,8 @@ fn push_arrows(
     Ok(())
 }
 
-/// Shows in the picture of a run on what the event of this number rests. Refused as an event where there is none, or
-/// it is one of the disk.
+/// Shows in the picture of a run on what event number `event` rests. `Fault::Event`: there is no such event, or it is one of the
+/// disk.
 pub fn show_cone(
     alloc: Global,
     core: &Core,

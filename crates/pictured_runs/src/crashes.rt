@@ -1,4 +1,4 @@
-//! Notes of a crash: what it cuts off, and what the next boot finds.
+//! The rows of a crash in a picture: what it cuts off, and which files the next boot finds.
 ghost use Rattle.std.specs.Prelude.{◌<◌, length};
 
 use crate::builder::PictureBuilder;
@@ -23,13 +23,13 @@ fn note_row(label: String, answer: String, note: String) -> Row {
     }
 }
 
-/// Adds a note that goes on with the one above it.
+/// Adds a note that continues the note above.
 fn push_note(alloc: Global, picture: &mut Picture, note: String) -> Result<(), AllocError> {
     let row = note_row(String::new(alloc), String::new(alloc), note);
     Ok(picture.rows.push(row)?)
 }
 
-/// So many of a thing.
+/// A count and the name of what is counted, as a text.
 fn count_text(alloc: Global, count: u64, thing: &str) -> Result<String, AllocError> {
     match count {
         0 => format!(in alloc; "no {thing}"),

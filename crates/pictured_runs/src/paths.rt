@@ -1,4 +1,4 @@
-//! The paths between the events of a cone: from which events one leads to another with none between.
+//! The paths between the events of a cone: which events are directly before another, with no event between.
 use faults::Fault;
 use kernel::Core;
 use pictures::MOST_ROWS;
@@ -21,12 +21,12 @@ impl Drop for Past {
     }
 }
 
-/// The number above which an event is among the last that one picture can have, where the last event has this number.
+/// The number of the last event that no longer fits into a picture which ends with event `last`.
 fn floor_of(last: u64) -> u64 {
     last.saturating_sub(MOST_ROWS as u64)
 }
 
-/// The past of an event, from the event after this number on.
+/// The past of an event, without the events up to number `floor`.
 fn past_of(alloc: Global, core: &Core, event: u64, floor: u64) -> Result<Past, Fault> {
     let cone = cone_numbers(core, event)?;
     let events = cone
@@ -37,7 +37,7 @@ fn past_of(alloc: Global, core: &Core, event: u64, floor: u64) -> Result<Past, F
     Ok(Past { event, events })
 }
 
-/// The pasts of the events of a cone, of as many of the last ones as a picture can have.
+/// The pasts of the last events of a cone, of as many as a picture can have.
 pub fn pasts_of(alloc: Global, core: &Core, cone: &[u64]) -> Result<Vec<Past>, Fault> {
     let floor = floor_of(cone.last().copied().unwrap_or(0));
     let mut pasts = Vec::new(alloc);
@@ -49,8 +49,8 @@ pub fn pasts_of(alloc: Global, core: &Core, cone: &[u64]) -> Result<Vec<Past>, F
     Ok(pasts)
 }
 
-/// The events of a past from which a path leads to its event with no event between, the last one first. An event is between
-/// where it is in the past too, and rests on the earlier one.
+/// The events of `past` that are directly before its event, the last one first. Left out is an event on which another one of this
+/// past rests.
 pub fn directly_before(alloc: Global, pasts: &[Past], past: &Past) -> Result<Vec<u64>, AllocError> {
     let mut direct = Vec::new(alloc);
     let mut behind = BTreeSet::new(alloc);

@@ -1,4 +1,4 @@
-//! The picture of a script's run.
+//! `picture`: plays a script, and draws its run.
 use crate::builder::PictureBuilder;
 use crate::cones::show_cone;
 use crate::crashes::{push_crash, push_files};
@@ -25,12 +25,12 @@ fn processes_of(core: &Core) -> u32 {
     u32::MAX
 }
 
-/// Notes how many processes there are, where there are more than before.
+/// Raises the picture's number of processes to that of a core.
 fn note_processes(picture: &mut Picture, core: &Core) {
     picture.processes = picture.processes.max(processes_of(core));
 }
 
-/// The machine of the process that an event has enter the kernel.
+/// The machine of the process of an Enter; None for another event.
 fn machine_of(core: &Core, event: Event) -> Option<&Machine> {
     match event {
         Event::Enter { pid } => core.machine(pid).ok(),
@@ -38,7 +38,7 @@ fn machine_of(core: &Core, event: Event) -> Option<&Machine> {
     }
 }
 
-/// What the call or the trap of an event says that is to be applied; nothing where the event is no Enter.
+/// The text of the call or the trap of an event that is to be applied; empty where the event is no Enter.
 fn call_before(alloc: Global, core: &Core, event: Event) -> Result<String, AllocError> {
     match machine_of(core, event) {
         Some(machine) => call_text(alloc, machine, MOST_BYTES),
@@ -46,7 +46,7 @@ fn call_before(alloc: Global, core: &Core, event: Event) -> Result<String, Alloc
     }
 }
 
-/// What came of the call of an event that was applied.
+/// What the call of an applied event came to, as a text.
 fn outcome_after(
     alloc: Global,
     core: &Core,
@@ -73,13 +73,13 @@ fn deed_of(event: Event, call: String, outcome: String) -> Deed {
     }
 }
 
-/// A script whose picture is made while it is played: of the whole run, or `alone` of that since the last boot.
+/// The visitor that makes the picture while a script is played: of the whole run, or `alone` of the run since the last boot.
 #[derive(Drop)]
 struct Pictured<'a, R> {
     start: Start<'a, R>,
     alone: bool,
     builder: PictureBuilder,
-    /// What the call says of the event that is to be applied.
+    /// The text of the call of the event that is to be applied.
     call: String,
     /// The processes whose last call waits.
     waiting: Vec<u32>,
@@ -133,7 +133,7 @@ impl<'a, R: Files + AllocGlobal> Pictured<'a, R> {
         })
     }
 
-    /// Goes on with the next boot: below what there is, with the files that this boot found, or alone.
+    /// Goes on with the next boot: below the rows so far, after the files that this boot found, or in a picture of its own.
     fn boot_again(&mut self, next: &Core) -> Result<(), Fault> {
         let follower = self.start.boot()?;
         self.waiting.clear();

@@ -1,4 +1,4 @@
-//! Further runs from the boots of a script.
+//! `TestRun`: further runs from the boot of a script, as that of a cone.
 use anyhow::Error;
 use files::FileTable;
 use kernel::{Answer, ConeFault, Core, Event, Refused};

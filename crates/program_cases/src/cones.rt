@@ -1,6 +1,6 @@
-//! What each event of a process tells, in a run and in that of its cone alone. At the first event that rests on more than its cone
-//! has, the runs are refused, with a text that says which. The contracts of `Core::cone` and the law `cones` promise this of the
-//! definitions. The table that says what a call reads and writes is one of them. So here the calls themselves are run.
+//! Compares what each event of a process tells in a run, and in the run of its cone alone. The first event that rests on more than
+//! its cone has is an error, which says the event. The contracts of `Core::cone` and the law `cones` promise that there is none, by
+//! the definitions. One of these is the table that says what a call reads and writes. So here the calls themselves are run.
 use crate::cone_runs::TestRun;
 use crate::cone_told::told_by;
 use crate::cone_visible::check_visible;
@@ -28,8 +28,8 @@ fn told_alone<R: Files + AllocGlobal>(
     told_by(alloc, &mut alone, *last, pid)
 }
 
-/// Whether a run of so many events compares the one of this number: each, or where they are too many, each ninth, seventeenth, ..
-/// back from the last. A Turn and its Enter come one after the other, so that an odd step comes to both.
+/// Whether the event of this number is compared in a run of `count` events: each, or where there are too many, each ninth,
+/// seventeenth, .. back from the last. A Turn and its Enter come one after the other, so that an odd step comes to both.
 fn is_compared(number: u64, count: usize) -> bool {
     let step = count / MOST_COMPARED * 8 + 1;
     (count as u64).saturating_sub(number) % step as u64 == 0
@@ -69,7 +69,7 @@ fn check_moments<R: Files + AllocGlobal>(
     check_visible(start, events)
 }
 
-/// Checks the runs of a script that is played.
+/// The visitor that checks the runs of a script while it is played.
 #[derive(Drop)]
 struct Checker<'a, R> {
     start: Start<'a, R>,

@@ -1,11 +1,11 @@
-//! The line of a disk that cannot be read.
+//! Tests what the program says of a disk that cannot be read.
 use anyhow::{Error, ensure};
 use case_format::compare;
 use kernel::DiskFault;
 use monitor::Fault;
 use std::alloc::Global;
 
-/// It names the first fault, and the status is 3.
+/// Of a disk that cannot be read the line names the first fault, and the status is 3.
 pub fn check_damaged_disk(alloc: Global) -> Result<String, Error> {
     let fault = Fault::from(DiskFault::PastHalf);
     let status = fault.status();

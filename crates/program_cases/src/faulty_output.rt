@@ -1,5 +1,5 @@
-//! Outputs that take few writes, and inputs that cannot be read: what the program printed goes out at once, and its status says
-//! where it could not, and whether memory ran out there.
+//! Tests outputs that take few writes, and inputs that cannot be read. What the program printed goes out at once. Its status says
+//! where a write or a read failed, and whether memory ran out there.
 use crate::running::check_status;
 use anyhow::{Error, ensure};
 use case_format::arguments;
@@ -113,8 +113,8 @@ fn check_input<R: Files<File = File> + AllocGlobal + Threads + Wait + Sync>(
     compare_end(ended, &out, err.as_slice(), end)
 }
 
-/// One write is enough for all output, of a script and of help; where there is none, the status is 6, or 5 where memory runs out.
-/// It is the same where the input cannot be read.
+/// One write is enough for all output, of a script and of help. Where no write is taken, the status is 6, or 5 where memory runs
+/// out. The same holds where the input cannot be read.
 pub fn check_faulty_output<R: Files<File = File> + AllocGlobal + Threads + Wait + Sync>(
     rt: &R,
 ) -> Result<String, Error> {

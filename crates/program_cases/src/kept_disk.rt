@@ -1,5 +1,5 @@
-//! The file in which a run keeps its disk: what it is beside, which rights it has, what no link leads to, and which run has it. And an
-//! image that is written through a link.
+//! Tests the file in which a run keeps its disk: the files beside it, its rights, links at its path, and the lock by which one run
+//! has it. An image that is written through a link is tested too.
 use crate::faulty_output::{Output, check_output};
 use crate::running::{ENDS, check_status};
 use anyhow::{Error, ensure};
@@ -10,7 +10,7 @@ use std::rt::Files;
 use std::sync::Wait;
 use std::thread::Threads;
 
-/// The file with `.new` after its name is made anew: what a link of that name leads to stays as it was.
+/// The file `.new` beside the disk's is made anew: what a link of that name leads to stays as it was.
 fn check_link<R: Files<File = File> + AllocGlobal + Threads + Wait + Sync>(
     rt: &R,
 ) -> Result<(), Error> {
@@ -108,7 +108,7 @@ fn check_durable_link<R: Files<File = File> + AllocGlobal + Threads + Wait + Syn
     Ok(fs::remove_file(rt, "linked")?)
 }
 
-/// What is said where no file is to blame.
+/// The lines where no file is to blame.
 const NO_FILE: &str = "bench: input or output failed
 bench: standard input could not be read as text, standard output not be written, or a file system is full
 ";
@@ -152,7 +152,7 @@ fn check_image_link<R: Files<File = File> + AllocGlobal + Threads + Wait + Sync>
     Ok(())
 }
 
-/// The file of a kept disk is no link's, and has the rights that it had. An image's link leads to the image.
+/// All these tests: the file of a kept disk with its links, rights and locks, and an image that is written through a link.
 pub fn check_kept_disk<R: Files<File = File> + AllocGlobal + Threads + Wait + Sync>(
     rt: &R,
 ) -> Result<String, Error> {

@@ -1,4 +1,4 @@
-//! The ends where the host does not give the arguments, to which no case comes.
+//! Tests how the program ends where the host does not give the arguments, which no case can have.
 use anyhow::{Error, ensure};
 use case_format::compare;
 use std::alloc::Global;

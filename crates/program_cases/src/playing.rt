@@ -1,4 +1,4 @@
-//! Cases done step by step, each beside what is wanted of it.
+//! Plays a case of `.calls` or `.sessions`, and compares what comes of each step with what is wanted.
 use crate::cones::check_cones;
 use crate::running::run;
 use anyhow::Error;

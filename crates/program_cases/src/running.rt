@@ -1,4 +1,4 @@
-//! Runs of the whole program, over text in memory.
+//! Runs the whole program, over text in memory.
 use anyhow::{Error, ensure};
 use case_format::{Ran, arguments};
 use std::alloc::AllocError;

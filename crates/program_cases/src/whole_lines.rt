@@ -1,4 +1,4 @@
-//! Standard error: each line goes out whole, by one write.
+//! Tests standard error: each line goes out whole, by one write.
 use crate::running::ENDS;
 use anyhow::{Error, ensure};
 use case_format::arguments;

@@ -1,4 +1,4 @@
-//! Copies of replies.
+//! Copies replies.
 ghost use Rattle.std.specs.Prelude.{◌≡◌, IfOk};
 
 use machine_model::Reply;

@@ -1,4 +1,4 @@
-//! What a recorder finds.
+//! `Recorded`: what a recorder finds of its process: replies, its end, that it waits, or nothing yet.
 use machine_model::Reply;
 
 /// What a recorder finds of its process.
@@ -6,10 +6,10 @@ use machine_model::Reply;
 pub enum Recorded {
     /// The replies of its trace that were not taken before, in order. There is at least one.
     Replies(Vec<Reply>),
-    /// It ended with this status. Each reply was taken.
+    /// The process ended with this status. Each reply was taken.
     Ended(u32),
-    /// It waits for what nobody will do: no process runs on. Each reply was taken.
+    /// The process waits for what nobody will do: no process runs on. Each reply was taken.
     Waits,
-    /// As many loans were done as were asked for, each with an event at least.
+    /// Nothing yet: as many loans were done as were asked for, each with an event at least.
     Going,
 }

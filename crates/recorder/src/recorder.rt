@@ -1,4 +1,4 @@
-//! Recorders.
+//! `Recorder`: runs a core on until one process has further replies, and hands these over.
 ghost use Rattle.std.specs.Prelude.{◌≡◌, ◌+◌, ◌<◌, ◌≤◌, true, false, None, Some, is_some, IfOk, IfErr, IfSome, OnOk, OnErr, MatchOption, length};
 ghost use Rattle.kernel_model.specs.Answers.{Kernel, now, process_of};
 ghost use Rattle.kernel_model.specs.Drains.{IsAllCommitted};
@@ -22,7 +22,7 @@ pub struct Recorder {
     alloc: Global,
     core: Core,
     process: u32,
-    /// How many replies of its trace were taken.
+    /// How many replies of the process's trace were taken.
     taken: usize,
 }
 
@@ -48,7 +48,7 @@ impl Model for Recorder {
 }
 
 impl Recorder {
-    /// A recorder of a process, which may be made later. No reply of it is taken. Takes no memory.
+    /// A recorder of a process, before any of its replies is taken. A fork may make the process later. Takes no memory.
     pub fn new(alloc: Global, core: Core, process: u32) -> Recorder
         ensures { result ≡ record { kernel = core; process = process; taken = 0 } }
     {
@@ -67,10 +67,10 @@ impl Recorder {
         &self.core
     }
 
-    /// Runs the core on until the process has replies that were not taken, and takes them; at most so many loans of 65,536
-    /// instructions each. The trace of a process that a fork made begins with its parent's up to then, and a 0. A trace only grows at
-    /// its end. So a debugger that has the replies so far goes on with those that are taken, and what it reached before stays. What
-    /// the process has when it is asked is found at once, if a loan may be done.
+    /// Runs the core on until the process has replies that were not taken, and takes them. Runs at most `loans` loans, of 65,536
+    /// instructions each. The trace of a process that a fork made begins with its parent's trace up to the fork, and a reply of 0.
+    /// A trace only grows at its end. So a debugger that has the replies so far goes on with those that are taken, and what it
+    /// reached before stays. What the process has already, replies or its end, is found without a loan, if `loans` is not 0.
     ///
     /// Refused, where what ran stays, and no reply is taken:
     /// - NoProcess: there is no such process, and none runs on;

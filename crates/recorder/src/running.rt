@@ -1,4 +1,4 @@
-//! Cores that run on.
+//! Runs a core on: lends the next process, runs the loan, takes it back, and commits.
 ghost use Rattle.std.specs.Prelude.{◌≡◌, ◌+◌, ◌<◌, ◌≤◌, true, false, None, IfOk, IfSome, IfErr, OnOk, OnErr, length};
 ghost use Rattle.kernel_model.specs.Answers.{Kernel, now};
 ghost use Rattle.kernel_model.specs.Drains.{IsAllCommitted};
@@ -44,7 +44,7 @@ fn lend(core: &mut Core) -> Result<Option<Loan>, Refused>
     core.lend(QUANTUM)
 }
 
-/// Runs a lent machine, and hands in what came of it, once. Where memory runs out the process stays out on loan.
+/// Runs a loan, and hands its result in, once. Where memory runs out the process stays out on loan.
 fn settle(core: &mut Core, loan: Loan) -> Result<(), Refused>
     requires out { IsOut core.old (loan_out loan) }
     ensures ran { OnOk result (length core.old.history < length core.new.history) }

@@ -1,4 +1,4 @@
-//! What a trace keeps, and what it ends with.
+//! Laws of traces: they grow only at their ends, and where every change is committed they have the ends of processes.
 ghost use Rattle.kernel_model.specs.Answers.{Kernel, has_ended, now, process_of};
 ghost use Rattle.kernel_model.specs.Drains.{IsAllCommitted};
 ghost use Rattle.kernel_model.specs.Shown.{end_in, handed};
@@ -16,7 +16,7 @@ pub fn traces_only_grow()
     counts_never_fall();
 }
 
-/// A law: what a recorder has for its caller it still has after more events. So where it has nothing now it had nothing before.
+/// A law: what a recorder has to hand over stays there through more events. So one that has nothing now had nothing before.
 pub(crate) fn nothing_is_lost()
     ensures { (old new : Recording) → Grows old.kernel new.kernel → new.process ≡ old.process → new.taken ≡ old.taken
         → HasNone new → HasNone old }

@@ -1,4 +1,4 @@
-//! The status of a process as that of the program.
+//! `status_of`: the exit status of `bench run --status P`, by how process P ended.
 ghost use Rattle.std.specs.Prelude.{◌≡◌, ◌+◌, ◌<◌, ◌≤◌, ℕ};
 
 use kernel::Core;
@@ -23,8 +23,8 @@ fn exit_status(status: u32) -> u8
     }
 }
 
-/// The exit status of a run by that of a process: 127 where there is no such process, and 126 where it has not ended, or its end is
-/// held back.
+/// The exit status of a run by the status of a process: 127 where there is no such process, and 126 where the process has not
+/// ended, or its end is held back.
 pub fn status_of(core: &Core, pid: u32) -> u8 {
     match core.ended(pid) {
         Ok(Some(status)) => exit_status(status),

@@ -1,4 +1,4 @@
-//! A line for each file on a disk.
+//! `bench disk`: prints a line for each file on a disk.
 use faults::Fault;
 use host_files::disk_in;
 use scripts::write_files;

@@ -1,5 +1,5 @@
-//! What a run of images begins with and leaves in files of the host, and the lines about files and processes. Read `boot` first.
-//! Only safety is proved.
+//! The beginning and the end of `bench run`: its core from files of the host, the disk that it leaves, the lines about files and
+//! processes, and the exit status by a process. Read `boot` first. Only safety is proved.
 #![tactic(auto)]
 
 mod exit_status;

@@ -1,10 +1,10 @@
-//! How processes stand at the end of a run.
+//! Prints how processes stand at the end of a run, a line each.
 use faults::{Fault, write_line};
 use kernel::{Core, Refused, Standing};
 use std::io::Write;
 use trap_reports::trap_report;
 
-/// Prints of a process that ended by a trap what that was about. An end that is held back tells nothing.
+/// Prints a line about the trap by which a process ended, if it ended by one. An end that is held back tells nothing.
 fn print_trap<E: Write>(core: &Core, pid: u32, err: &mut E) -> Result<(), Fault> {
     if let Ok(Some(_)) = core.ended(pid)
         && let Ok(machine) = core.machine(pid)
@@ -44,8 +44,8 @@ fn print_process<E: Write>(
     }
 }
 
-/// Prints a line for each process, each at once, by rising number, up to the first number without a process. Where it is to be
-/// explained, a line about its trap follows that of a process that ended by one.
+/// Prints a line for each process, by rising number, each by one write. With `explain` a line about its trap follows where a
+/// process ended by one.
 pub fn print_processes<E: Write>(core: &Core, explain: bool, err: &mut E) -> Result<(), Fault> {
     for pid in 1..=u32::MAX {
         match core.standing(pid) {

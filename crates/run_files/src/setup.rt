@@ -1,4 +1,4 @@
-//! The core with which a run of images begins, from files of the host, and the disk that it leaves.
+//! `boot`: the core of a run of images, from files of the host. `keep_disk`: the disk that a run leaves, in its file.
 ghost use Rattle.std.specs.Prelude.{◌≡◌, ◌≤◌, ◌<◌, true, length, IfOk};
 ghost use Rattle.std.specs.List.{AllByRecursion};
 ghost use Rattle.disk_model.specs.Storage.{is_quiet};
@@ -29,7 +29,7 @@ fn tape_bytes<I: Read>(alloc: Global, input: &mut I) -> io::Result<Vec<u8>> {
     Ok(bytes)
 }
 
-/// A tape of these bytes. InputOutput where they are more than a tape may have.
+/// A tape of these bytes. InputOutput where there are more bytes than a tape may have.
 fn tape_of(bytes: Vec<u8>) -> Result<Bytes, Fault> {
     if bytes.len() > MOST_TAPE_BYTES {
         return Err(Fault::InputOutput);
@@ -88,8 +88,8 @@ fn programs_in<R: Files + AllocGlobal>(rt: &R, paths: &[&str]) -> Result<Vec<Pro
 /// What a run begins with: its core; the lock of its disk's file, if the disk is kept; and that file, of a durable run.
 pub type Setup = (Core, Option<DiskLock>, Option<HostFile>);
 
-/// The disk of a path, with its file, where the run is durable. Else it is at last tested whether the disk can be kept, so that no
-/// long run is lost at its end.
+/// Boots the core on the disk at a path. A durable run gets the disk's open file beside it. Else the last test is whether the disk
+/// can be kept, so that no long run is lost at its end.
 fn core_at<R: Files<File = File> + AllocGlobal>(
     rt: &R,
     path: &str,
@@ -113,14 +113,14 @@ fn core_at<R: Files<File = File> + AllocGlobal>(
     Ok((core, None))
 }
 
-/// Tests whether the disk of a path can be read.
+/// Tests whether the disk at a path can be read.
 fn test_disk<R: Files + AllocGlobal>(rt: &R, path: &str) -> Result<(), Fault> {
     let device = disk_or_zeros(rt, path)?;
     journal::recover(rt.alloc(), &device)?;
     Ok(())
 }
 
-/// Why a disk whose file cannot be locked is refused: by its own first fault, if it has one.
+/// Why a disk is refused whose file cannot be locked: the disk's own first fault, if it has one.
 fn refusal_at<R: Files + AllocGlobal>(rt: &R, path: &str, fault: FileFault) -> Fault {
     if matches!(fault, FileFault::DiskInUse) {
         return Fault::from(fault);
@@ -131,7 +131,7 @@ fn refusal_at<R: Files + AllocGlobal>(rt: &R, path: &str, fault: FileFault) -> F
     }
 }
 
-/// The core on the disk of a path, which is locked. The lock goes where a fault ends the run.
+/// Locks the disk at a path, and boots the core on it. Where the boot fails the lock is released.
 fn setup_at<R: Files<File = File> + AllocGlobal>(
     rt: &R,
     path: &str,
@@ -157,8 +157,8 @@ fn setup_at<R: Files<File = File> + AllocGlobal>(
     }
 }
 
-/// Boots the core of a run. The tapes are read first, in order, then the images in order, then the disk, which no other run may have.
-/// At last it is tested whether the disk can be kept. The first fault ends it.
+/// Boots the core of a run. Reads the tapes in order, then the images in order, then the disk, which no other run may have. The
+/// last test is whether the disk can be kept. The first fault ends the run.
 pub fn boot<R: Files<File = File> + AllocGlobal, I: Read>(
     rt: &R,
     options: &RunOptions<'_>,
@@ -215,7 +215,7 @@ fn session_tapes<R: Files + AllocGlobal>(rt: &R, path: Option<&str>) -> Result<V
     }
 }
 
-/// The images of programs once more.
+/// Copies of the programs' images.
 fn images_of(alloc: Global, programs: &[Program]) -> Result<Vec<Image>, Fault> {
     let mut images = Vec::new(alloc);
     for program in programs {
@@ -224,7 +224,7 @@ fn images_of(alloc: Global, programs: &[Program]) -> Result<Vec<Image>, Fault> {
     Ok(images)
 }
 
-/// Boots the core of a session that is debugged, and gives the images too. All is read as by `boot`, and nothing is written.
+/// Boots the core of a session with the debugger, and gives the images too. Reads all as `boot` does, and writes nothing.
 pub fn boot_live<R: Files + AllocGlobal>(
     rt: &R,
     options: &LiveOptions<'_>,

@@ -1,2 +1,2 @@
-//! What a thread does that finds nothing to do.
+//! The wait of a thread that finds nothing to do: `Backoff` of the crate `idle`.
 pub(crate) use idle::Backoff;

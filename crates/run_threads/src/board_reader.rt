@@ -1,10 +1,10 @@
-//! What a thread sees of the board.
+//! `BoardReader`: reads the board without the lock.
 ghost use Rattle.std.specs.Prelude.{◌≡◌};
 
 use bursts::{Board, Naming, Pass};
 use std::sync::Wait;
 
-/// The board with a pass, by which it is seen without the lock.
+/// The board with a pass, by which a thread reads the board without the lock.
 #[derive(Drop)]
 pub struct BoardReader<'a, N: Naming> {
     board: &'a Board<N>,
@@ -13,7 +13,7 @@ pub struct BoardReader<'a, N: Naming> {
 }
 
 impl<'a, N: Naming> BoardReader<'a, N> {
-    /// The board, seen by this pass of it.
+    /// A reader of this board, by this pass.
     pub fn new(board: &'a Board<N>, pass: Pass) -> BoardReader<'a, N>
         requires { pass.table_id ≡ board.now.cell.table.shared.table_id }
     {

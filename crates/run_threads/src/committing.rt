@@ -1,4 +1,4 @@
-//! The thread that commits.
+//! `CommitThread`: the thread that commits what output waits for.
 ghost use Rattle.std.specs.Prelude.{◌≡◌, option_map};
 ghost use Rattle.run_threads.specs.Committing.{CompletesFirst, Completes, TellsNothing, DoesStages};
 
@@ -34,8 +34,8 @@ impl<'r, 'a, 'b, 'c, N: Naming, R: Wait, F: DiskFile> Model
 }
 
 impl<'r, 'a, 'b, 'c, N: Naming, R: Wait, F: DiskFile> CommitThread<'r, 'a, 'b, 'c, N, R, F> {
-    /// A thread that commits at this core. Where a file is given, it holds each write before that is complete. One of the completions
-    /// fails, if one is to.
+    /// A thread that commits at this core. Where a file is given, the file holds each write before the write is complete.
+    /// `completions` says which completion fails, if one is to.
     pub fn new(
         reader: BoardReader<'c, N>,
         core: LockedCore<'r, 'a, 'b, N, R>,
@@ -60,8 +60,8 @@ impl<'r, 'a, 'b, 'c, N: Naming, R: Wait, F: DiskFile> CommitThread<'r, 'a, 'b, '
         committed == changes
     }
 
-    /// Completes the write in flight that begins first on the disk, or has it fail, where this is the completion that is to. Says
-    /// whether one is in flight.
+    /// Completes the write in flight that begins first on the disk, or has the write fail, where this is the completion that is to
+    /// fail. False where no write is in flight.
     fn complete_first(&mut self) -> Result<bool, Refused>
         ensures { CompletesFirst self.old self.new result }
     {
@@ -72,8 +72,8 @@ impl<'r, 'a, 'b, 'c, N: Naming, R: Wait, F: DiskFile> CommitThread<'r, 'a, 'b, '
         Ok(true)
     }
 
-    /// Completes writes in flight: in a durable run all of them, once the file holds them; else the first one. Says whether one is
-    /// in flight.
+    /// Completes writes in flight: in a durable run all of them, once the file holds them; else the first one. False where no write
+    /// is in flight.
     fn complete(&mut self) -> Result<bool, Refused>
         ensures { Completes self.old self.new result }
     {
@@ -91,7 +91,7 @@ impl<'r, 'a, 'b, 'c, N: Naming, R: Wait, F: DiskFile> CommitThread<'r, 'a, 'b, '
         Ok(())
     }
 
-    /// Cuts a group, if output waits for one. Says whether it does.
+    /// Cuts a group, if output waits for one. False where none does.
     fn cut_if_wanted(&mut self) -> Result<bool, Refused>
         ensures { TellsNothing self.old self.new }
     {
@@ -109,8 +109,8 @@ impl<'r, 'a, 'b, 'c, N: Naming, R: Wait, F: DiskFile> CommitThread<'r, 'a, 'b, '
         self.core.stop();
     }
 
-    /// Completes writes in flight. Where there are none it cuts a group, if output waits for one. Says whether there was something
-    /// to do.
+    /// One turn of the thread: completes writes in flight, or where there are none cuts a group, if output waits for one. False
+    /// where there was nothing to do.
     fn turn<W: Wait>(&mut self, rt: &W) -> Result<bool, Refused>
         ensures { DoesStages self.old self.new }
     {
@@ -123,8 +123,8 @@ impl<'r, 'a, 'b, 'c, N: Naming, R: Wait, F: DiskFile> CommitThread<'r, 'a, 'b, '
         self.cut_if_wanted()
     }
 
-    /// Commits what output waits for, until no worker works any more. A refusal is kept as the run's fault, and makes the workers
-    /// stop.
+    /// Commits what output waits for, until no worker works any more, and waits (`Backoff`) where there is nothing to do. A refusal
+    /// is kept as the run's fault, and makes the workers stop.
     pub fn serve<W: Wait>(&mut self, rt: &W, watch: &Watch)
         ensures { DoesStages self.old self.new }
     {
@@ -145,8 +145,8 @@ impl<'r, 'a, 'b, 'c, N: Naming, R: Wait, F: DiskFile> CommitThread<'r, 'a, 'b, '
         }
     }
 
-    /// Commits the other changes too, whether output waits for them or not. It ends where all are committed, or where a write has
-    /// failed and no other one is in flight. No worker works any more.
+    /// Commits the changes that are left, whether output waits for them or not, after the workers have ended. Stops where all are
+    /// committed, or where a write has failed and no other write is in flight.
     pub fn finish<W: Wait>(&mut self, rt: &W) -> Result<(), RunFault>
         ensures { DoesStages self.old self.new }
     {

@@ -1,4 +1,4 @@
-//! Why a run ends early.
+//! `RunFault`: why a run ends early.
 use kernel::Refused;
 use std::alloc::{AllocError, AllocFailed};
 use thiserror::Error;

@@ -1,7 +1,7 @@
 //! Two threads of a run beside its workers: one commits what output waits for, and one writes out what terminals show. Read
-//! `CommitThread` and `Screen`. A `Watch` tells them when the work is over, and keeps the first fault. Of `LockedCore` it is proved
-//! that what its core is told stands in the notes of its desk, and of a `CommitThread` with a file that it tells its core of no write
-//! but by stages. Of the others only safety is proved.
+//! `CommitThread` and `Screen`. A `Watch` tells them when the work is over, and keeps the first fault. Two things are proved beside
+//! safety. What a `LockedCore` tells its core stands in the notes of its desk. A `CommitThread` with a file tells its core of no
+//! write but by stages.
 #![tactic(auto)]
 
 mod backoff;

@@ -1,4 +1,4 @@
-//! The core under the lock, as its stages are committed.
+//! `LockedCore`: the core under its lock, as the thread that commits asks it.
 ghost use Rattle.std.specs.Prelude.{◌≡◌, [], ◌∷◌, ◌++◌};
 ghost use Rattle.kernel_model.specs.declared.event.Event.{Event};
 ghost use Rattle.desks.specs.declared.note.Note.TheVariants as note_of;
@@ -13,8 +13,8 @@ use std::alloc::Global;
 use std::marker::Model;
 use std::sync::{Mutex, Wait};
 
-/// A desk of the thread that commits. Contracts see the desk's record. Each call may wait for the lock, and lets it go before it
-/// answers.
+/// The desk of the thread that commits. Contracts see the desk's record. Each call may wait for the lock, and lets the lock go
+/// before it answers.
 #[derive(Drop)]
 pub struct LockedCore<'r, 'a, 'b, N: Naming, R: Wait> {
     alloc: Global,
@@ -30,7 +30,7 @@ impl<'r, 'a, 'b, N: Naming, R: Wait> Model for LockedCore<'r, 'a, 'b, N, R> {
 }
 
 impl<'r, 'a, 'b, N: Naming, R: Wait> LockedCore<'r, 'a, 'b, N, R> {
-    /// The core of this bench, with a share of its books, of which nothing was asked yet.
+    /// The core of this bench, with a share of the bench's books. Nothing was asked of it yet.
     pub fn new(
         rt: &'r R,
         alloc: Global,
@@ -45,7 +45,7 @@ impl<'r, 'a, 'b, N: Naming, R: Wait> LockedCore<'r, 'a, 'b, N, R> {
         }
     }
 
-    /// Where the write in flight begins that begins first on the disk, if one is in flight.
+    /// The first place on the disk at which a write in flight begins, if one is in flight.
     pub fn first_in_flight(&mut self) -> Option<u32>
         ensures noted { self.new ≡ noted self.old (note_of.First result) }
         ensures calls { calls_in self.new.notes ≡ calls_in self.old.notes }

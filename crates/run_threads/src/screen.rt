@@ -1,4 +1,4 @@
-//! What terminals show, written out.
+//! `Screen`: writes out what one terminal shows, or all show.
 ghost use Rattle.std.specs.Prelude.{◌<◌, IfSome};
 ghost use Rattle.kernel_model.specs.World.{terminal_count};
 
@@ -21,7 +21,7 @@ pub struct Screen<'o, O> {
 }
 
 impl<'o, O: Write> Screen<'o, O> {
-    /// A screen on which nothing stands, for this terminal, or for all where none is given.
+    /// An empty screen, for this terminal, or for all where none is given.
     pub fn new(out: &'o mut O, terminal: Option<u32>) -> Screen<'o, O>
         requires { IfSome terminal (λ t. t < terminal_count) }
     {
@@ -37,7 +37,7 @@ impl<'o, O: Write> Screen<'o, O> {
         self.out.flush().map_err(|_| RunFault::Output)
     }
 
-    /// What is shown more, copied under the lock.
+    /// The bytes that are shown and were not written yet, copied under the lock.
     fn more<N: Naming, R: Wait>(
         &mut self,
         rt: &R,
@@ -48,7 +48,7 @@ impl<'o, O: Write> Screen<'o, O> {
         self.transcript.more(alloc, bench.core())
     }
 
-    /// Writes what is shown more, and says whether there was something. The lock is free meanwhile.
+    /// Writes the bytes that are shown and were not written yet. The lock is free meanwhile. False where there were no such bytes.
     fn refresh<N: Naming, R: Wait>(
         &mut self,
         rt: &R,
@@ -63,8 +63,8 @@ impl<'o, O: Write> Screen<'o, O> {
         Ok(true)
     }
 
-    /// Writes what is shown, until no worker works any more. A fault, of the output or for want of memory, is kept, and makes the
-    /// workers stop.
+    /// Writes what is shown, until no worker works any more, and waits (`Backoff`) where nothing new is shown. A fault, of the
+    /// output or for want of memory, is kept, and makes the workers stop.
     pub fn serve<N: Naming, R: Wait>(
         &mut self,
         rt: &R,
@@ -88,7 +88,7 @@ impl<'o, O: Write> Screen<'o, O> {
         }
     }
 
-    /// Writes what this core shows more, which is the run's at its end.
+    /// Writes what was not written yet of what the run's core shows at its end.
     pub fn finish(&mut self, alloc: Global, core: &Core) -> Result<(), RunFault> {
         let bytes = self.transcript.more(alloc, core)?;
         self.write(bytes.as_slice())

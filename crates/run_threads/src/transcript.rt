@@ -1,4 +1,4 @@
-//! What of the terminals is to be written out, and how far it was.
+//! `Transcript`: which bytes of the terminals are to be written out next.
 ghost use Rattle.std.specs.Prelude.{◌<◌, IfSome};
 ghost use Rattle.kernel_model.specs.World.{terminal_count};
 
@@ -24,15 +24,15 @@ pub struct AllTerminals {
     is_line_ended: bool,
 }
 
-/// What is written out of a run: the bytes of one terminal, or of all. Of all, each part of one terminal comes after a line that names
-/// the terminal. A part ends where bytes of another terminal come next. Each terminal's bytes keep their order.
+/// What is written out of a run: the bytes of one terminal, or of all. Where it is all, a line that names the terminal stands
+/// before each part of one terminal. A part ends where bytes of another terminal come next. Each terminal's bytes keep their order.
 #[derive(Clone, Copy)]
 pub enum Transcript {
     One(OneTerminal),
     All(AllTerminals),
 }
 
-/// A copy of the bytes after the first so many.
+/// A copy of the bytes after the first `taken`.
 fn copy_after(alloc: Global, shown: &[u8], taken: usize) -> Result<Vec<u8>, AllocError> {
     match shown.get(taken..) {
         Some(bytes) => Vec::from_slice(alloc, bytes),
@@ -50,7 +50,7 @@ impl OneTerminal {
 }
 
 impl AllTerminals {
-    /// Nothing was taken.
+    /// All terminals, before any byte is taken.
     fn new() -> AllTerminals {
         AllTerminals {
             taken: [0; TERMINALS],
@@ -59,7 +59,7 @@ impl AllTerminals {
         }
     }
 
-    /// Adds the line that names a terminal, where other bytes came last. It stands on a line of its own.
+    /// Adds the line that names a terminal, unless bytes of this terminal came last. The line begins at the beginning of a line.
     fn turn_to(
         &mut self,
         alloc: Global,
@@ -98,7 +98,7 @@ impl AllTerminals {
         text.extend_from_slice(bytes)
     }
 
-    /// What the terminals show and was not taken, by rising number.
+    /// The bytes that the terminals show and that were not taken, by rising number of the terminal.
     fn more(&mut self, alloc: Global, core: &Core) -> Result<Vec<u8>, AllocError> {
         let mut text = Vec::new(alloc);
         for terminal in 0..TERMINALS as u32 {
@@ -109,7 +109,7 @@ impl AllTerminals {
 }
 
 impl Transcript {
-    /// Of this terminal, or of all where none is given. Nothing was taken.
+    /// The transcript of this terminal, or of all where none is given, before any byte is taken.
     pub fn of(terminal: Option<u32>) -> Transcript
         requires { IfSome terminal (λ t. t < terminal_count) }
     {
@@ -119,8 +119,8 @@ impl Transcript {
         }
     }
 
-    /// What is to be written out next: what is shown and was not taken. It is taken now. Where memory is wanting, no more is to be asked
-    /// for.
+    /// Takes the bytes that are shown and were not taken before: they are to be written out next. Not to be called again after
+    /// memory ran out.
     pub fn more(&mut self, alloc: Global, core: &Core) -> Result<Vec<u8>, AllocError> {
         match self {
             Transcript::One(one) => one.more(alloc, core),

@@ -1,9 +1,9 @@
-//! What the threads of a run tell one another.
+//! `Watch`: whether the work of a run is over, and its first fault. The threads of the run share it.
 use crate::fault::RunFault;
 use std::sync::atomic::{AtomicBool, Ordering};
 use std::sync::{Mutex, Wait};
 
-/// Whether the work is over, and the first fault that came.
+/// Whether the work of a run is over, and the first fault that came.
 #[derive(Drop)]
 pub struct Watch {
     over: AtomicBool,

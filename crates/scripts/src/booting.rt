@@ -1,4 +1,4 @@
-//! The boot of what a script sets up, and each further one, on the disk that a crash leaves.
+//! Boots the programs and tapes that a script sets up: first on a disk of zeros, and after a `crash` line on the disk that is left.
 ghost use Rattle.std.specs.Prelude.{◌≡◌, ◌<◌, true, length, IfOk, IfSome};
 ghost use Rattle.std.specs.List.{AllByRecursion};
 ghost use Rattle.disk_model.specs.Storage.{is_quiet};
@@ -16,7 +16,7 @@ use std::alloc::{AllocError, Global};
 use std::rt::Files;
 
 impl Source {
-    /// The image. Where it is in a file, that is read at the first boot, and never again.
+    /// The program's image. A file that holds it is read at the first boot alone.
     fn image<R: Files + AllocGlobal>(&mut self, rt: &R) -> Result<Image, FileFault> {
         match self {
             Source::Words(words) => Ok(Image::from_text(rt.alloc(), words.as_slice())?),
@@ -43,8 +43,8 @@ impl ScriptProgram {
     }
 }
 
-/// Programs, to be booted once. The files of images are read at the first boot, one after the other, each with its checks before
-/// the next.
+/// Programs, to be booted once. At the first boot the files of images are read one after the other. Each is checked before the next
+/// is read.
 fn programs_of<R: Files + AllocGlobal>(
     rt: &R,
     programs: &mut [ScriptProgram],

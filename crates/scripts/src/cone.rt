@@ -1,4 +1,4 @@
-//! The cone of an event, run alone: the events on which it rests, and what it tells.
+//! `replay --cone N`: runs the cone of event N alone, and prints the events on which event N rests, and what it tells.
 use crate::playing::play_all;
 use crate::printing::{bytes_text, print_answer, print_reply};
 use crate::script::Script;
@@ -14,8 +14,8 @@ use std::io;
 use std::io::Write;
 use std::rt::Files;
 
-/// The numbers of the events in the cone of the event of this number, in order. Refused as an event where there is no such event, or
-/// it is one of the disk.
+/// The numbers of the events in the cone of event number `event`, in order. `Fault::Event`: there is no such event, or it is a Cut,
+/// a Complete or a Fail.
 pub fn cone_numbers(core: &Core, event: u64) -> Result<Vec<u64>, Fault> {
     match core.cone(event) {
         Ok(numbers) => Ok(numbers),
@@ -102,7 +102,7 @@ fn print_told<O: Write>(
     }
 }
 
-/// Commits all changes of a run in which no write fails. Only want of memory, and of room in the history, keeps it from that.
+/// Commits all changes of a run in which no write fails. Only want of memory or of room in the history is a fault.
 fn drain(core: &mut Core) -> Result<(), Fault> {
     match core.drain() {
         Ok(()) => Ok(()),
@@ -124,7 +124,8 @@ fn print_events<R: Files + AllocGlobal, O: Write>(
     Ok(core)
 }
 
-/// The process of the last of some events, and the events before it. None where there is none, or it is one of the disk.
+/// The process of the last event of a list, and the events before that event. None where the list is empty, or its last event is
+/// one of the disk.
 fn last_of(events: &[Event]) -> Option<(u32, &[Event])> {
     let (last, before) = events.split_last()?;
     Some((process_of(*last)?, before))
@@ -157,13 +158,14 @@ fn cone_of<R: Files + AllocGlobal>(
     cone_events(start.alloc(), &core, event)
 }
 
-/// Runs a script without printing, takes the events since its last boot, and prints the cone of the event of this number, counted
-/// from 1: the events on which it rests, and the event itself. They are run alone, on the disk of that boot. It prints
+/// Runs a script without printing, and takes the events since its last boot. Of these it prints the cone of event number `event`,
+/// counted from 1: the events on which that event rests, and the event itself. The cone is run alone, on the disk of that boot. It
+/// prints
 /// - `cone C events D changes`: how many events the cone has, and how many changes they make;
 /// - each of these events as a line of a script, and its answer in the run of the cone alone;
-/// - what the event itself tells: `reply` and a line of a trace, where it was replied to; `output T HEX`, where it wrote to a terminal;
-///   `ended S`, where its process ended by it. That is what the run of the cone has, all its changes committed, that the same run
-///   without the event has not.
+/// - what the event itself tells: `reply` and a line of a trace, where it was replied to; `output T HEX`, where it wrote to a
+///   terminal; `ended S`, where its process ended by it. This is the difference between the run of the cone and the same run
+///   without the event, each with all its changes committed.
 ///
 /// `Fault::Event`: there is no such event, or it is a Cut, a Complete or a Fail.
 pub fn replay_cone<R: Files + AllocGlobal, O: Write>(

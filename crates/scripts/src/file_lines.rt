@@ -1,4 +1,4 @@
-//! Lists of files.
+//! Prints a list of files, a line each.
 use files::FileList;
 use std::io;
 use std::io::Write;

@@ -1,8 +1,8 @@
 //! Scripts: programs to be booted, and what is done with them line by line.
 //!
-//! Read `script` first: a script is read whole, by its set-up lines (`setup`) and its `steps`. Then `playing`, whose player does the
-//! steps with a `Visitor` beside it, and `replay`, which boots a script (`booting`), and prints what each line gives. Only safety is
-//! proved.
+//! Read `script` first: a script is read whole, by its set-up lines (`setup`) and its `steps`. Then read `playing`, whose player
+//! does the steps and tells a `Visitor` what happens. `replaying` boots a script (`booting`), has it played, and prints what each
+//! line gives. Only safety is proved.
 #![tactic(auto)]
 
 mod booting;

@@ -3,7 +3,7 @@ use crate::steps::{Action, Question, Step};
 use kernel::{Answer, Core, Event, Refused};
 use std::alloc::AllocError;
 
-/// What came of a line that is no `crash` line. Nothing is refused for want of memory here, since that ends the run.
+/// What a line came to that is no `crash` line. A refusal here is never for want of memory, which ends the run.
 #[derive(Clone, Copy)]
 pub enum LineAnswer {
     Applied(Result<Answer, Refused>),
@@ -11,27 +11,28 @@ pub enum LineAnswer {
     Asked(Question),
 }
 
-/// What is done beside the run of a script: before and after each event, after each line, and at each crash.
+/// What a caller has done while a script is played: before and after each event, after each line, and at each crash.
 pub trait Visitor {
     /// Why the run ends before its end.
     type Fault: From<AllocError> + Drop;
 
-    /// Before an event, which may be refused. It is that of a line, or one of a drain.
+    /// Called before each event, of a line or of a drain. The event may then be refused.
     fn before(&mut self, _core: &Core, _event: Event) -> Result<(), Self::Fault> {
         Ok(())
     }
 
-    /// After an event that was accepted.
+    /// Called after each event that was accepted.
     fn after(&mut self, _core: &Core, _event: Event, _answer: Answer) -> Result<(), Self::Fault> {
         Ok(())
     }
 
-    /// After a line that is no `crash` line, and all its events.
+    /// Called after each line that is no `crash` line, once all its events are done.
     fn answered(&mut self, _core: &Core, _answer: LineAnswer) -> Result<(), Self::Fault> {
         Ok(())
     }
 
-    /// Boots again after a crash, which leaves these bytes in the ranges of writes in flight or failed.
+    /// Called at a `crash` line. Ends the core with these bytes in the ranges of writes in flight or failed, and boots the next
+    /// one.
     fn crash(&mut self, core: Core, fill: &[u8]) -> Result<Core, Self::Fault>;
 }
 
@@ -56,7 +57,7 @@ impl<V: Visitor> Player<'_, V> {
         Ok(answer)
     }
 
-    /// Applies the events of `Core::drain` one by one, and is refused as that is.
+    /// Applies the events of `Core::drain` one by one, and is refused where `Core::drain` is.
     fn drain(&mut self, core: &mut Core) -> Result<Result<(), Refused>, V::Fault> {
         if core.has_failed() {
             return Ok(Err(Refused::DiskFailed));
@@ -81,7 +82,7 @@ impl<V: Visitor> Player<'_, V> {
         self.visitor.answered(core, answer)
     }
 
-    /// After a crash the core that comes back is another one.
+    /// Does a step. A `crash` line gives another core than the one that was handed in.
     fn step(&mut self, mut core: Core, step: &Step) -> Result<Core, V::Fault> {
         match step {
             Step::Act(action) => {

@@ -1,4 +1,4 @@
-//! Answers, refusals, bytes and replies, as they are printed.
+//! Prints answers, refusals, bytes and replies, as `replay` shows them.
 use crate::texts::AnswerText;
 use elf32::write;
 use kernel::{Answer, Refused};

@@ -1,4 +1,4 @@
-//! The run of a script, and what each of its lines gives.
+//! `replay`: runs a script, and prints what each of its lines gives, as `shown 0 41`.
 use crate::file_lines::write_files;
 use crate::playing::{LineAnswer, Visitor, play_all};
 use crate::printing::{bytes_text, print_answer, print_refusal, print_reply};
@@ -36,7 +36,7 @@ fn print_boot_files<O: Write>(files: &FileList, out: &mut O) -> io::Result<()> {
     write_files(files, out)
 }
 
-/// Prints what a line asks for.
+/// Prints what a line asks of the core: what a terminal shows, a trace, or the files at the boot.
 fn print_asked<O: Write>(
     alloc: Global,
     core: &Core,
@@ -72,7 +72,7 @@ fn print_drained<O: Write>(
     }
 }
 
-/// Prints what each line gives.
+/// The visitor of `replay`, which prints what each line gives.
 #[derive(Drop)]
 struct Printer<'a, R, O> {
     rt: &'a R,

@@ -1,4 +1,4 @@
-//! What a script sets up, and its set-up lines.
+//! The set-up lines of a script, `program`, `image` and `tape`, and what they set up.
 ghost use Rattle.std.specs.Prelude.{◌≡◌, ◌<◌, ◌≤◌, true, length, vec_len};
 ghost use Rattle.kernel_model.specs.World.{tape_count};
 
@@ -154,7 +154,7 @@ pub fn tape_numbered(tapes: &[ScriptTape], number: u32) -> Option<&ScriptTape> {
 }
 
 impl Setup {
-    /// Adds a program, if it has a terminal and a source, and is not a ninth one.
+    /// Adds a program. False where its terminal or its source is missing, or where there are eight programs already.
     fn push_program(
         &mut self,
         terminal: Option<Terminal>,
@@ -169,7 +169,7 @@ impl Setup {
         }
     }
 
-    /// Whether a tape of this number may have these bytes: there is such a number, no tape has it yet, and they are not too many.
+    /// Whether a script may still set up this tape: it has a number from 0 to 7, which no other tape has, and not too many bytes.
     fn takes_tape(&self, number: u32, bytes: &[u8]) -> bool
         ensures { result ≡ true → (number < tape_count) × (length bytes.now ≤ 65536) }
     {
@@ -178,7 +178,7 @@ impl Setup {
             && tape_numbered(self.tapes.as_slice(), number).is_none()
     }
 
-    /// Adds a tape, if it has a number and bytes that it may have.
+    /// Adds a tape. False where its number or its bytes are missing, or where `takes_tape` says no.
     fn push_tape(&mut self, number: Option<u32>, bytes: Option<Bytes>) -> Result<bool, AllocError> {
         match (number, bytes) {
             (Some(number), Some(bytes)) if self.takes_tape(number, bytes.as_slice()) => {

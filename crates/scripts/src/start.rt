@@ -1,4 +1,4 @@
-//! The boots of a script whose runs are repeated.
+//! `Start`: boots a script again and again on one disk, as for the runs of a cone.
 ghost use Rattle.std.specs.Prelude.{◌≡◌, true, IfOk, IfSome};
 ghost use Rattle.disk_model.specs.Storage.{is_quiet};
 
@@ -9,7 +9,8 @@ use kernel::{Core, SimDisk};
 use std::alloc::{AllocError, Global};
 use std::rt::Files;
 
-/// What a script sets up, and the disk of its last boot, None for one of zeros. It can be booted there any number of times.
+/// What a script sets up, and the disk of its last boot, None for one of zeros. A core can be booted on this disk any number of
+/// times.
 pub struct Start<'a, R> {
     rt: &'a R,
     setup: &'a mut Setup,
@@ -57,7 +58,7 @@ impl<'a, R: Files + AllocGlobal> Start<'a, R> {
     }
 }
 
-/// The script is run, and nothing is done beside that.
+/// The visitor that plays a script up to its last boot, and does nothing beside.
 impl<R: Files + AllocGlobal> Visitor for Start<'_, R> {
     type Fault = Fault;
 

@@ -15,7 +15,7 @@ pub enum Question {
     Files,
 }
 
-/// What a line does with the core that outlives it.
+/// What a line that is no `crash` line does with the core, which goes on.
 #[derive(Clone, Copy)]
 pub enum Action {
     /// An event is applied.
@@ -34,7 +34,7 @@ pub enum Step {
     Crash(Bytes),
 }
 
-/// What a line of this word alone does with the core, if it has the form of that.
+/// The action of a line that is this word alone, if there is one.
 fn plain_action(name: &str) -> Option<Action> {
     match name {
         "cut" => Some(Action::Apply(Event::Cut)),
@@ -44,7 +44,7 @@ fn plain_action(name: &str) -> Option<Action> {
     }
 }
 
-/// What a line of this word and a number does with the core, if it has the form of that.
+/// The action of a line of this word and a number, if there is one.
 fn numbered_action(name: &str, number: u32) -> Option<Action> {
     match name {
         "enter" => Some(Action::Apply(Event::Enter { pid: number })),
@@ -56,7 +56,7 @@ fn numbered_action(name: &str, number: u32) -> Option<Action> {
     }
 }
 
-/// What a line does with the core, if it has the form of that: its first word, and those after it.
+/// The action of a line, by its first word and the words after that, if there is one.
 fn action_of(name: &str, words: &[&str]) -> Option<Action> {
     match words {
         [] => plain_action(name),
@@ -69,7 +69,7 @@ fn action_of(name: &str, words: &[&str]) -> Option<Action> {
     }
 }
 
-/// The step of a line that is no set-up line, if it has a form: its first word, and those after it.
+/// The step of a line that is no set-up line, by its first word and the words after that. None where the line has no form.
 pub fn step_of(alloc: Global, name: &str, words: &[&str]) -> Result<Option<Step>, AllocError> {
     match name {
         "crash" => Ok(only_bytes_of(alloc, words)?.map(Step::Crash)),

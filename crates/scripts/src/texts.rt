@@ -1,4 +1,4 @@
-//! Events and answers, as they are written.
+//! The texts of events and of answers, as scripts and `replay` write them.
 use kernel::{Answer, Event};
 use machine_model::Stop;
 use std::fmt;

@@ -1,4 +1,4 @@
-//! The words that there are.
+//! Lists the words that name trials.
 use anyhow::Error;
 use std::alloc::Global;
 

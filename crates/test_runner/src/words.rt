@@ -1,4 +1,4 @@
-//! What each word names.
+//! `report`: does the trial that a word names, and gives its lines.
 use crate::usage;
 use anyhow::{Error, bail};
 use case_format::Choice;
@@ -8,7 +8,7 @@ use std::sync::Wait;
 use std::thread::Threads;
 use std::time::Clock;
 
-/// What a word comes to that names no file, in lines.
+/// Does the trial of a word that names no file, and gives its lines.
 fn named<R: AllocGlobal + Clock + Eprint + Files<File = File> + Threads + Wait + Sync>(
     rt: &R,
     word: &str,
@@ -36,8 +36,8 @@ fn named<R: AllocGlobal + Clock + Eprint + Files<File = File> + Threads + Wait +
     }
 }
 
-/// What a word comes to, in lines, the last without a line feed. A word is the name of a file, by what it ends with, or such a name
-/// and a case's title, or it names a computation or a measurement.
+/// Does the trial that a word names, and gives its lines, the last without a line feed. A word is the name of a file, by what it
+/// ends with, or such a name and a case's title, or it names a computation or a measurement.
 pub fn report<R: AllocGlobal + Clock + Eprint + Files<File = File> + Threads + Wait + Sync>(
     rt: &R,
     word: &str,

@@ -1,4 +1,4 @@
-//! The way on.
+//! `Timeline::ahead`: moves a program on, up to a breakpoint, a watch, or a call that has no reply.
 use crate::fault::SessionFault;
 use crate::stop::{End, Stop};
 use crate::timeline::Timeline;
@@ -13,11 +13,11 @@ pub struct Way {
     pub most: u64,
     /// Whether breakpoints and watches stop it.
     pub stops: bool,
-    /// The most loans of the kernel until that has a reply.
+    /// The most loans that the kernel runs to find a reply.
     pub loans: u32,
 }
 
-/// What came of a part of the way on.
+/// What a part of the way on came to.
 #[derive(Clone, Copy)]
 pub enum After {
     /// The program stops.
@@ -26,7 +26,7 @@ pub enum After {
     Part,
     /// The kernel was asked, and has replies.
     Asked,
-    /// The call at which the machine stands got its reply, which it takes next: the last one of the debugger's trace.
+    /// The call at which the machine stands got its reply, the last one of the debugger's trace. The machine takes it next.
     Replied,
     /// The kernel has no reply yet for this process.
     NoReply { process: u32 },
@@ -38,7 +38,7 @@ fn ended(end: End) -> Result<After, SessionFault> {
 }
 
 impl Timeline {
-    /// The watch that the next instruction, or the reply of a call, meets. Of those that it meets the one that was set first.
+    /// The watch that the next instruction, or the next reply, meets; where there are several, the one that was set first.
     pub(crate) fn next_met(&self) -> Option<Watch> {
         let access = self.debugger.next_access()?;
         self.watches
@@ -47,7 +47,7 @@ impl Timeline {
             .copied()
     }
 
-    /// Has the kernel run on for more replies.
+    /// Has the kernel run on until it has more replies, for at most so many loans.
     fn ask(&mut self, loans: u32) -> Result<After, SessionFault> {
         let Some(live) = &mut self.live else {
             return ended(End::Trace);
@@ -100,8 +100,8 @@ impl Timeline {
         }
     }
 
-    /// A part of the way on: instructions up to a call that has no reply, or a call that is answered. Where a watch is to stop the
-    /// program, it is an instruction alone.
+    /// Goes on by a part: instructions up to a call that has no reply, or the reply to a call. Where a watch is to stop the
+    /// program, a part is one instruction.
     pub fn ahead(&mut self, way: Way) -> Result<After, SessionFault> {
         if self.count() == MOST_INSTRUCTIONS {
             return ended(End::Budget);

@@ -1,4 +1,4 @@
-//! The way back.
+//! `Timeline::back` and `step_back`: move a program back, to a breakpoint or a watch, or by one instruction.
 use crate::fault::SessionFault;
 use crate::stop::Stop;
 use crate::timeline::Timeline;
@@ -7,14 +7,15 @@ use debugger::Watch;
 /// How many instructions are gone back at most between two looks at gdb's interrupts.
 const SLICE: u64 = 1 << 16;
 
-/// The instructions between two kept states: so many are gone through again at once, where watches are looked at.
+/// The instructions between two kept states, a span. Where watches are set, one span is run again at a time.
 const SPAN: u64 = 1024;
 
-/// How many such parts are gone through between two looks at gdb's interrupts.
+/// How many spans are run again between two looks at gdb's interrupts.
 const SPANS: u32 = 64;
 
 impl Timeline {
-    /// An instruction back, unless it meets a watch: then the machine stays after it.
+    /// Goes back by one instruction. Where that instruction meets a watch, the machine stays after the instruction. It gives that
+    /// watch then.
     pub fn step_back(&mut self) -> Result<Stop, SessionFault> {
         let Some(before) = self.count().checked_sub(1) else {
             return Ok(Stop::Begin);
@@ -29,7 +30,8 @@ impl Timeline {
         }
     }
 
-    /// Goes on along what was reached, up to a count, and finds the last watch that is met, with the count after it.
+    /// Runs again up to a count, and finds the last watch that is met on this way, with the count after the instruction that meets
+    /// it.
     fn last_met(&mut self, end: u64) -> Result<Option<(u64, Watch)>, SessionFault> {
         let mut last = None;
         for _ in self.count()..end {
@@ -40,7 +42,8 @@ impl Timeline {
         Ok(last)
     }
 
-    /// A part of the way back, down to the next kept state. None where it goes on, from lower down.
+    /// Goes back to the next kept state below, or to where a watch or a breakpoint stops the machine. None where nothing did, and
+    /// the way goes on from there.
     fn back_span(&mut self) -> Result<Option<Stop>, SessionFault> {
         let end = self.count();
         let low = end.saturating_sub(1) / SPAN * SPAN;
@@ -80,7 +83,7 @@ impl Timeline {
         }
     }
 
-    /// The least count of a slice of the way back: the first one, where nothing stops the machine before.
+    /// The least count of a slice of the way back: 0 where no breakpoint is set.
     fn least_of_slice(&self) -> u64 {
         if self.debugger.has_no_break() {
             0
@@ -89,8 +92,8 @@ impl Timeline {
         }
     }
 
-    /// A slice of the way back, to the greatest count below at which a breakpoint stands or after which a watch was met, else to the
-    /// first state. None where it goes on, from lower down.
+    /// Goes back by a slice. It ends at the greatest count below at which a breakpoint stands, or right after an instruction that
+    /// meets a watch, else at the first state. None where the way back goes on from where the slice ended.
     pub fn back(&mut self) -> Result<Option<Stop>, SessionFault> {
         if self.watches() {
             self.back_watched()

@@ -1,4 +1,4 @@
-//! Why a session ends early.
+//! Why a session of `debug` or `gdb` ends early.
 use debugger::DebugFault;
 use std::alloc::{AllocError, AllocFailed};
 use std::io;
@@ -8,7 +8,7 @@ use std::io;
 pub enum SessionFault {
     /// Memory ran out.
     OutOfMemory,
-    /// The commands could not be read, or what they give could not be written.
+    /// The input could not be read, or the output could not be written.
     InputOutput,
 }
 

@@ -1,4 +1,4 @@
-//! A kernel that answers the calls of the program.
+//! `LiveKernel`: a kernel that answers the calls of the program.
 ghost use Rattle.std.specs.Prelude.{◌<◌};
 ghost use Rattle.kernel_model.specs.World.{terminal_count};
 
@@ -16,7 +16,7 @@ pub struct LiveKernel {
 }
 
 impl LiveKernel {
-    /// A kernel of which nothing was told.
+    /// A kernel, before anything was told of its terminals.
     pub(crate) fn new(recorder: Recorder, process: u32) -> LiveKernel {
         LiveKernel {
             recorder,
@@ -40,7 +40,7 @@ impl LiveKernel {
         self.recorder.more(loans)
     }
 
-    /// What a terminal shows and was not told. It is told now.
+    /// The bytes that a terminal shows and that were not told before. They count as told from now on.
     pub fn tell(&mut self, terminal: u32) -> &[u8]
         requires { terminal < terminal_count }
     {

@@ -1,4 +1,4 @@
-//! Breakpoints and watches by what they stop at.
+//! Sets and clears breakpoints and watches, named by their addresses, as gdb names them.
 use crate::timeline::Timeline;
 use debugger::Watch;
 use std::alloc::AllocError;
@@ -10,9 +10,9 @@ const MOST_WATCHES: usize = 64;
 #[derive(Clone, Copy)]
 pub enum SetPoint {
     Set,
-    /// There are too many.
+    /// There are too many breakpoints or watches.
     Full,
-    /// Nothing is there.
+    /// No memory is at the address.
     NoMemory,
 }
 

@@ -1,4 +1,4 @@
-//! Why a program stops.
+//! `Stop` and `End`: why a program stops, and why it goes no further.
 use debugger::{Cause, Watch};
 use kernel_model::Refused;
 use std::fmt;
@@ -48,16 +48,16 @@ impl Display for End {
 /// Why a program stops.
 #[derive(Clone, Copy)]
 pub enum Stop {
-    /// It went as far as it was to.
+    /// The program went as far as it was to.
     Done,
-    /// It stands at the breakpoint of a number.
+    /// The program stands at the breakpoint of a number.
     Break(usize),
-    /// On the way on it stands before what meets a watch; on the way back, after it.
+    /// An instruction or a reply meets a watch. The machine stands before it on the way on, and after it on the way back.
     Watch(Watch),
-    /// It stands at a trap.
+    /// The program stands at a trap.
     Trap(Cause),
-    /// It stands at its first state.
+    /// The program stands at its first state.
     Begin,
-    /// It stands where the program goes no further.
+    /// The program goes no further.
     End(End),
 }

@@ -1,4 +1,4 @@
-//! A program's run, forwards and back.
+//! `Timeline`: a program's run, forwards and back.
 use crate::fault::SessionFault;
 use crate::live::LiveKernel;
 use debugger::{Debugger, Image, Machine, Reply, Watch};
@@ -11,15 +11,14 @@ use std::collections::VecDeque;
 pub enum Origin {
     /// From a trace, in order.
     Trace(Vec<Reply>),
-    /// From a kernel, of which the program is a process of this number.
+    /// From a kernel, where the program is the process of this number.
     Kernel(Recorder, u32),
 }
 
-/// A program's run, forwards and back. Replies are handed to the debugger one by one, at the call that takes them, so that each call is
-/// seen.
+/// A program's run, forwards and back. The debugger gets each reply only at the call that takes it, so that each call is seen.
 #[derive(Drop)]
 pub struct Timeline {
-    /// The program at one of its states, with its breakpoints. It goes back by itself, and on by `ahead`.
+    /// The program at one of its states, with its breakpoints. Its own calls go back; `ahead` goes on.
     pub debugger: Debugger,
     /// The kernel that answers, if one does.
     pub live: Option<LiveKernel>,

@@ -1,4 +1,4 @@
-//! How a case is set up: a core of both programs, its board, its bench, and a pool over it with its workers.
+//! Sets up and plays a case: a core of both programs, its board, its bench, and a pool over the bench with its workers.
 ghost use Rattle.std.specs.Prelude.{◌≡◌, ◌≤◌, ◌<◌};
 ghost use Rattle.kernel_model.specs.Answers.{now, committed as committed_in, changes as changes_in};
 
@@ -20,7 +20,7 @@ use std::thread::Threads;
 /// How many instructions a loan has at most.
 pub const QUANTUM: u32 = 100;
 
-/// What is done at a pool, or at a desk.
+/// A case: what is done at a pool, or at a desk.
 #[derive(Clone, Copy)]
 pub enum Case {
     /// Two workers run both programs to their ends; then a third desk commits.
@@ -33,7 +33,7 @@ pub enum Case {
     Turns,
     /// A result of another core is handed in before two workers begin.
     Stranger,
-    /// The same, but the work is to stop before they begin.
+    /// A result of another core is handed in, and the work is to stop before two workers begin.
     Idle,
     /// Two results of another core, by each of which a turn fails.
     Faults,
@@ -46,7 +46,7 @@ pub enum Case {
 }
 
 impl Case {
-    /// For how many workers its pool is.
+    /// For how many workers the pool of the case is.
     fn workers(self) -> u32
         ensures { (1 ≤ result) × (result ≤ 16) }
     {

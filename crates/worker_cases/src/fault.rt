@@ -31,7 +31,7 @@ pub enum Fault {
     Run(RunFault),
 }
 
-/// What a fault without a number is.
+/// The text of a fault without a number.
 fn text_of(fault: Fault) -> &'static str {
     match fault {
         Fault::OutOfMemory => "out of memory",

@@ -61,7 +61,7 @@ fn free_once_stopped<N: Naming, R: Wait>(rt: &R, bench: &Mutex<Bench<'_, N>>, ga
     gate.free();
 }
 
-/// Of which process the result is by which a crew stopped. 0 where it did not stop so.
+/// The process of the result by which a crew stopped. 0 where the crew stopped otherwise or not at all.
 fn rejected_process(crew: &Result<(), CrewFault>) -> u32 {
     match crew {
         Err(CrewFault::Work(WorkFault::Settle(rejected))) => rejected.done.pid,

@@ -1,4 +1,4 @@
-//! What stands between a worker's loan and its run: nothing, or a gate that holds one worker until the other is at work.
+//! The gates of workers between a loan and its run: one that holds nobody, and one that holds a worker until the other is at work.
 use bursts::Gate;
 use std::sync::atomic::{AtomicBool, AtomicU64, Ordering};
 use std::thread;
@@ -11,7 +11,7 @@ impl Gate for Open {
     fn hold(&mut self, _pid: u32) {}
 }
 
-/// How often process 2 was lent, whether that came late, and whether who is held until then was freed.
+/// What gates share: how often process 2 was lent, whether the second time was late, and whether those who are held were freed.
 #[derive(Drop)]
 pub struct Lendings {
     twos: AtomicU64,
@@ -20,7 +20,7 @@ pub struct Lendings {
 }
 
 impl Lendings {
-    /// None as yet.
+    /// Before the first loan.
     pub fn none() -> Lendings {
         Lendings {
             twos: AtomicU64::new(0),
@@ -59,7 +59,7 @@ impl<'a> CaseGate<'a> {
         CaseGate { lendings, holds }
     }
 
-    /// The same, but it holds its worker until `free` is called.
+    /// A gate with the same count, which holds its worker until `free` is called.
     pub fn until_freed(&self) -> CaseGate<'a> {
         CaseGate {
             lendings: self.lendings,
@@ -67,7 +67,7 @@ impl<'a> CaseGate<'a> {
         }
     }
 
-    /// Nobody is held until this any more.
+    /// Frees each worker that is held until this call, now and later.
     pub fn free(&self) {
         self.lendings.freed.store(true, Ordering::SeqCst);
     }

@@ -1,4 +1,4 @@
-//! The cases, one after the other, each in a line.
+//! `play_cases`: plays the cases one after the other, and gives a line for each.
 use crate::case::{Case, play};
 use crate::{failing, quanta, refusing};
 use anyhow::{Error, bail};

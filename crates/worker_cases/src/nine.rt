@@ -1,4 +1,4 @@
-//! What one seat fetches among nine processes.
+//! One seat fetches loans among nine processes.
 use crate::case::QUANTUM;
 use crate::desk::turn;
 use crate::fault::Fault;

@@ -1,4 +1,4 @@
-//! The two programs.
+//! The two programs, others, and cores that are booted with them.
 ghost use Rattle.std.specs.Prelude.{◌≡◌, ◌<◌, true, length, IfOk};
 ghost use Rattle.std.specs.List.{AllByRecursion};
 ghost use Rattle.disk_model.specs.Storage.{is_quiet};

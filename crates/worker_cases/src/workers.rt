@@ -1,4 +1,4 @@
-//! The workers at the seats of a pool.
+//! Makes the workers at the seats of a pool, and has them work.
 ghost use Rattle.std.specs.Prelude.{◌<◌};
 
 use crate::case::QUANTUM;
@@ -40,7 +40,7 @@ pub fn seat_at<'w, 'p, 'b, N: Naming>(
     }
 }
 
-/// The workers work in threads of their own until the work is over.
+/// Has the workers work in threads of their own until the work is over.
 pub fn crew_result<N: Naming + Send + Sync, R: Threads + Wait + Sync>(
     rt: &R,
     workers: &mut [Worker<'_, '_, '_, N>],
@@ -48,7 +48,7 @@ pub fn crew_result<N: Naming + Send + Sync, R: Threads + Wait + Sync>(
     pool_crew(rt, workers, QUANTUM)
 }
 
-/// The same. The number of the fault with which they stop, 0 for none.
+/// As `crew_result`, with the number of the fault with which the workers stop, 0 for none.
 pub fn crew_fault<N: Naming + Send + Sync, R: Threads + Wait + Sync>(
     rt: &R,
     workers: &mut [Worker<'_, '_, '_, N>],

@@ -1,4 +1,4 @@
-//! A debugger over states that are kept, back, and over a call that enters another program.
+//! Calls of a debugger that goes over kept states, back, and over a call that enters another program.
 use crate::growths::images::{LOOP, assembled};
 use anyhow::{Error, ensure};
 use byte_list::Bytes;
@@ -62,12 +62,12 @@ impl Call {
         }
     }
 
-    /// Whether it keeps a part of what it did where it is refused.
+    /// Whether the call, where it is refused, keeps a part of what it did.
     fn keeps_steps(self) -> bool {
         matches!(self, Call::Run(_, _))
     }
 
-    /// The same after a refusal, which may have left some of its instructions done.
+    /// The call after a refusal, which may have left `done` of its instructions done.
     fn rest(self, done: u64) -> Call {
         match self {
             Call::Run(most, stopped) => Call::Run(most.saturating_sub(done), stopped),

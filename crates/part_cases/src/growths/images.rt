@@ -1,4 +1,4 @@
-//! A source, its image, the image's file, and a machine.
+//! Calls that make an image of a source, a file of the image, and a machine.
 use anyhow::{Error, ensure};
 use assembler::{AsmFault, Cause, assemble};
 use elf32::{ElfFault, parse, write};

@@ -1,4 +1,4 @@
-//! Events that are noted, and what rests on them.
+//! Calls that note events in `Dependencies`, and what rests on these events.
 use anyhow::{Error, ensure};
 use commit_deps::{Carrier, Dependencies, Mark};
 use std::alloc::{AllocError, Global};
