@@ -7,7 +7,7 @@ A page is README.md, CHANGES.md or a file docs/*.md. Of each it finds links to f
 heading has, and sentences of more than 35 words. Of the pages that show the commands it also finds blocks ```text that no case of
 crates/test_runner/data/*.sessions has, and no example: what is shown there is what the merge gate compares. A form, with words that stand
 for others, is in a plain block. Of the map in docs/ARCHITECTURE.md it finds rows that are not by crates.txt: another group, or another
-list of direct dependencies. Of README.md and docs/DEFINITIONS.md it finds wrong numbers of lines of definitions. With --comments it also
+list of direct dependencies. Of README.md and docs/DEFINITIONS.md it finds wrong numbers of lines of definitions. It finds a VERSION that the program does not print. With --comments it also
 finds such sentences in the comments `//!` and `///` of crates/*/src. With file names, it checks these alone: pages, and comments of
 files `.rt`.
 
@@ -35,6 +35,8 @@ CRATES = "crates.txt"
 LEFT_OUT = "byte_list"
 # The pages that say how many lines the definitions have.
 COUNTING = ("README.md", "docs/DEFINITIONS.md")
+# The cases of what the program says of itself.
+CASES_OF_HELP = "crates/test_runner/data/help.sessions"
 
 FENCE = re.compile(r"\s*(```+|~~~+)")
 HEADING = re.compile(r" {0,3}#{1,6}\s+(.*?)(?:\s+#+)?\s*$")
@@ -308,6 +310,15 @@ class Pages:
             yield from Definitions().findings(page)
 
 
+def finding_of_version():
+    """Says where the file VERSION and what the program prints are not the same."""
+    with open("VERSION", encoding="utf-8") as file:
+        version = file.read().strip()
+    with open(CASES_OF_HELP, encoding="utf-8") as file:
+        told = f"> bench {version}\n" in file.read()
+    return [] if told else [f"VERSION:1: {version}, which no case of {CASES_OF_HELP} prints"]
+
+
 def findings_of_comments(path):
     """Yields the long sentences in the comments of a source."""
     comments = ((number, DOC_COMMENT.match(line)) for number, line in numbered_lines(path))
@@ -333,6 +344,9 @@ def main():
         for line, what in sorted(findings_of_comments(path) if path.endswith(".rt") else pages.findings(path)):
             print(f"{path}:{line}: {what}")
             count += 1
+    for finding in [] if words.files else finding_of_version():
+        print(finding)
+        count += 1
     return 1 if count else 0
 
 

@@ -3,7 +3,7 @@
 
     try-pages.py [--shots FOLDER] [--random N] [--long] [SCRIPT ..]
 
-Without a script it takes those of examples/, and one whose names and outputs look like HTML. It has no model of its own: what it expects
+Without a script it takes those of examples/ whose images are there, and one whose names and outputs look like HTML. It has no model of its own: what it expects
 of a step is what `replay` prints of the script up to there, with questions and crashes after it, and for the cone what
 `picture --cone` draws. With --random there are N random scripts too, made of the programs of examples/. With --long a run of 2,000 events
 is walked, and the time of a step is printed. With --shots pictures of the pages are put into a folder, to be looked at.
@@ -112,6 +112,17 @@ def script_lines(path):
         return [line for line in file.read().split("\n") if line and line[0] != "#"]
 
 
+def has_images(path):
+    """Whether the images that a script names are there."""
+    named = [line.split(" ")[2] for line in script_lines(path) if line.startswith("image ")]
+    return all(os.path.exists(os.path.join(TOP, it)) for it in named)
+
+
+def examples():
+    """The scripts of examples/ whose images are there."""
+    return [*filter(has_images, sorted(glob.glob(f"{TOP}/examples/*.script")))]
+
+
 def is_setup(line):
     return line.split(" ")[0] in SETUP
 
@@ -144,12 +155,17 @@ def expected_step(done, boot, number, line, answer, terminals):
     }
 
 
+def events(lines):
+    """The rows of the picture of a run, with each call that waits: a picture with a cone folds none. Event 1 is one of a process as a rule."""
+    return drawn(bench(["picture", "--cone", "1"], lines)) or drawn(bench(["picture"], lines))
+
+
 def expected(lines):
     """What each step of the page has to show: the boot, and then each event and each crash."""
     setup = [line for line in lines if is_setup(line)]
     terminals = sorted({int(line.split(" ")[1]) for line in setup if not line.startswith("tape")})
     steps, done, boot = [], list(setup), 1
-    for label, answer, _ in [("0  boot", "", False)] + drawn(bench(["picture"], lines)):
+    for label, answer, _ in [("0  boot", "", False)] + events(lines):
         is_crash = label.startswith("crash ")
         number, line = ("0", label) if is_crash else label.split("  ", 1)
         boot += is_crash
@@ -347,7 +363,7 @@ def random_line(source, lines, processes):
 def random_script(number):
     """A script of 30 random lines over the programs of one of examples/."""
     source = random.Random(number)
-    lines = [line for line in script_lines(source.choice(sorted(glob.glob(f"{TOP}/examples/*.script")))) if is_setup(line)]
+    lines = [line for line in script_lines(source.choice(examples())) if is_setup(line)]
     processes = sum(not line.startswith("tape") for line in lines) + 1
     for _ in range(30):
         lines.append(random_line(source, lines, processes))
@@ -409,7 +425,7 @@ def value_of(words, option):
 def main(words):
     folder, count = value_of(words, "--shots"), int(value_of(words, "--random") or 0)
     is_long = "--long" in words
-    scripts = [os.path.abspath(word) for word in words if word != "--long"] or sorted(glob.glob(f"{TOP}/examples/*.script")) + [nasty_script()]
+    scripts = [os.path.abspath(word) for word in words if word != "--long"] or [*examples(), nasty_script()]
     scripts += [random_script(number) for number in range(count)]
     driver, faults = new_driver(), 0
     try:

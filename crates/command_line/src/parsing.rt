@@ -11,8 +11,8 @@ use std::alloc::{AllocError, Global};
 const ABOUT: &str =
     "A RISC-V bench on an externally synchronous kernel; without a command, the script on standard input is replayed";
 
-/// Which bench it is: the day of the newest step in CHANGES.md.
-const VERSION: &str = "of 28 November 2026";
+/// Which bench it is, as the file VERSION at the root says.
+const VERSION: &str = "0.1.0";
 
 /// The option of every command that has reasons told.
 const EXPLAIN: &str = "explain";

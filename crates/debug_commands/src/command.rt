@@ -1,6 +1,5 @@
 //! `command_of`: reads a line as a command of `debug`.
 use crate::aids::Aids;
-use crate::registers::register_named;
 use crate::showing::MOST_SHOWN;
 use formats::Reg;
 use input_reading::{decimal, hexadecimal};
@@ -125,7 +124,7 @@ fn value_named(word: &str, aids: &Aids) -> Result<Printed, CommandFault> {
     if let Some(place) = word.strip_prefix("*") {
         return Ok(Printed::Word(address_of(place, aids)?));
     }
-    if let Some(register) = register_named(word) {
+    if let Some(register) = aids.register_of(word) {
         return Ok(Printed::Register(register));
     }
     match aids.address_of(word) {

@@ -1,7 +1,7 @@
 //! Prints registers by their names: all of them, or those that changed.
 use debugger::Machine;
 use formats::Reg;
-use std::alloc::Global;
+use std::alloc::{AllocError, Global};
 use std::io;
 use std::io::Write;
 use timeline::SessionFault;
@@ -9,16 +9,13 @@ use timeline::SessionFault;
 const REGISTERS: u8 = 32;
 
 /// The names of the registers, by their numbers.
-const NAMES: [&str; REGISTERS as usize] = [
-    "zero", "ra", "sp", "gp", "tp", "t0", "t1", "t2", "s0", "s1", "a0", "a1", "a2", "a3", "a4",
-    "a5", "a6", "a7", "s2", "s3", "s4", "s5", "s6", "s7", "s8", "s9", "s10", "s11", "t3", "t4",
-    "t5", "t6",
-];
-
-/// The register of a name, if there is one.
-pub fn register_named(name: &str) -> Option<Reg> {
-    let number = NAMES.iter().position(|it| *it == name)?;
-    Some(Reg::new(number as u8))
+pub fn register_names(alloc: Global) -> Result<Vec<String>, AllocError> {
+    let mut names = Vec::new(alloc);
+    for number in 0..REGISTERS {
+        let register = Reg::new(number);
+        names.push(format!(in alloc; "{register}")?)?;
+    }
+    Ok(names)
 }
 
 /// Prints a register that changed, with the value before and the value after.

@@ -3,7 +3,7 @@ use crate::aids::Aids;
 use crate::command::{Command, CommandFault, command_of};
 use crate::help::print_help;
 use crate::refusal::print_refusal;
-use crate::registers::print_registers;
+use crate::registers::{print_registers, register_names};
 use crate::showing::print_memory;
 use crate::values::print_value;
 use crate::writable::Writable;
@@ -138,6 +138,7 @@ pub fn debug<I: Read, O: Write>(
     let aids = Aids {
         is_live: timeline.live.is_some(),
         source,
+        registers: register_names(alloc)?,
     };
     let mut session = Session {
         alloc,

@@ -20,8 +20,8 @@ const TRAPPED: u32 = 256;
 pub enum How {
     /// No process may go on.
     Over,
-    /// This many instructions were run, which is the limit, and a process of this number would run another one.
-    Limited { limit: u64, pid: u32 },
+    /// This many instructions were run, which is the limit.
+    Limited { limit: u64 },
 }
 
 /// How many processes have not ended.
@@ -68,11 +68,9 @@ pub fn print_ending<E: Write>(
     let left = count_left(core);
     let status = status_of_run(core, how);
     match how {
-        How::Limited { limit, pid } => write_line(
+        How::Limited { limit } => write_line(
             err,
-            format_args!(
-                "bench: the limit of {limit} instructions is reached; process {pid} would go on"
-            ),
+            format_args!("bench: the limit of {limit} instructions is reached"),
         )?,
         How::Over if left > 0 => write_line(
             err,

@@ -43,6 +43,14 @@ fn has_entered(core: &Core, pid: u32) -> bool {
     }
 }
 
+/// Whether a process executed a file, by what it was told.
+fn has_executed(core: &Core, pid: u32) -> bool {
+    match core.trace(pid) {
+        Ok(replies) => replies.iter().any(|reply| reply.image.is_some()),
+        Err(_) => false,
+    }
+}
+
 impl Family {
     /// Before the run: each program is that of a process.
     pub fn new(alloc: Global, programs: Vec<LoadedProgram>) -> Result<Family, AllocError> {
@@ -90,6 +98,16 @@ impl Family {
             && let Some(runs) = self.runs.as_mut_slice().get_mut(place)
         {
             *runs = None;
+        }
+    }
+
+    /// Forgets the program of each process that executed a file: after a run of whose events nothing was told here.
+    pub fn forget_executed(&mut self, core: &Core) {
+        for place in 0..self.runs.len() {
+            let pid = u32::try_from(place.saturating_add(1)).unwrap_or(u32::MAX);
+            if has_executed(core, pid) {
+                self.forget(pid);
+            }
         }
     }
 

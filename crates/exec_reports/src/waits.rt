@@ -1,8 +1,8 @@
 //! On what a process waits.
-use call_forms::{Call, CallText, Style};
+use call_forms::{CallText, Style};
+use call_lines::{Awaited, awaited_at, could_end};
 use formats::Reg;
 use kernel::{Core, KernelTables, Machine};
-use kernel_model::{Descriptor, PipeEnd};
 use std::fmt;
 
 /// The call at which a process stands, and on what it waits there.
@@ -13,7 +13,7 @@ pub struct WaitText<'a> {
 }
 
 /// The call at which a machine stands, as its registers have it.
-fn call_at(machine: &Machine) -> CallText<'static> {
+fn words_at(machine: &Machine) -> CallText<'static> {
     CallText {
         number: machine.reg(Reg::new(17)),
         arguments: [
@@ -25,70 +25,29 @@ fn call_at(machine: &Machine) -> CallText<'static> {
     }
 }
 
-/// Whether a process has an end of a pipe.
-fn has_end(tables: KernelTables<'_>, pid: u32, end: PipeEnd) -> bool {
-    match tables.processes.descriptors(pid) {
-        Some(descriptors) => descriptors
-            .as_slice()
-            .iter()
-            .any(|it| *it == Some(Descriptor::Pipe(end))),
-        None => false,
-    }
-}
-
-/// Writes which processes have an end of a pipe.
-fn write_holders<W: fmt::Write>(
+/// Writes which processes could end what a process waits on.
+fn write_enders<W: fmt::Write>(
     f: &mut fmt::Formatter<W>,
     tables: KernelTables<'_>,
-    end: PipeEnd,
+    pid: u32,
+    awaited: Awaited,
 ) -> fmt::Result {
     let mut before = " process ";
-    for pid in 1..u32::MAX {
-        if tables.processes.descriptors(pid).is_none() {
-            break;
-        }
-        if has_end(tables, pid, end) {
-            write!(f, "{before}{pid}")?;
+    for other in 1..=tables.processes.len() as u32 {
+        if could_end(tables, pid, awaited, other) {
+            write!(f, "{before}{other}")?;
             before = ", ";
         }
     }
     Ok(())
 }
 
-/// Writes which children of a process have not ended, of those that it has left to collect.
-fn write_children<W: fmt::Write>(
-    f: &mut fmt::Formatter<W>,
-    tables: KernelTables<'_>,
-    pid: u32,
-) -> fmt::Result {
-    let mut before = "none of its children has ended: process ";
-    for child in tables.processes.children(pid) {
-        write!(f, "{before}{child}")?;
-        before = ", ";
-    }
-    Ok(())
-}
-
-/// Writes what keeps a process from going on at this call.
-fn write_cause<W: fmt::Write>(
-    f: &mut fmt::Formatter<W>,
-    tables: KernelTables<'_>,
-    pid: u32,
-    call: CallText<'_>,
-) -> fmt::Result {
-    if Call::of(call.number) == Some(Call::Wait) {
-        return write_children(f, tables, pid);
-    }
-    match tables.processes.descriptor(pid, call.arguments[0]) {
-        Some(Descriptor::Pipe(PipeEnd::Read(pipe))) => {
-            write!(f, "pipe {pipe} is empty, and may still be written by")?;
-            write_holders(f, tables, PipeEnd::Write(pipe))
-        }
-        Some(Descriptor::Pipe(PipeEnd::Write(pipe))) => {
-            write!(f, "pipe {pipe} is full, and may still be read by")?;
-            write_holders(f, tables, PipeEnd::Read(pipe))
-        }
-        _ => Ok(()),
+/// Writes what keeps a process from going on.
+fn write_cause<W: fmt::Write>(f: &mut fmt::Formatter<W>, awaited: Awaited) -> fmt::Result {
+    match awaited {
+        Awaited::Bytes(pipe) => write!(f, "pipe {pipe} is empty, and may still be written by"),
+        Awaited::Room(pipe) => write!(f, "pipe {pipe} is full, and may still be read by"),
+        Awaited::Child => f.write_str("none of its children has ended:"),
     }
 }
 
@@ -97,8 +56,15 @@ impl fmt::Display for WaitText<'_> {
         let Ok(machine) = self.core.machine(self.pid) else {
             return Ok(());
         };
-        let call = call_at(machine);
+        let call = words_at(machine);
         write!(f, "{call}: ")?;
-        write_cause(f, self.core.tables(), self.pid, call)
+        let tables = self.core.tables();
+        match awaited_at(tables, self.pid, machine) {
+            Some(awaited) => {
+                write_cause(f, awaited)?;
+                write_enders(f, tables, self.pid, awaited)
+            }
+            None => Ok(()),
+        }
     }
 }

@@ -7,8 +7,8 @@ use kernel::{Core, Event};
 pub enum Ending {
     /// No process may go on: each has ended, or waits.
     Over,
-    /// The limit of instructions is reached, and the process of this number would run another one.
-    Limit(u32),
+    /// The limit of instructions is reached, and some process would run another one.
+    Limit,
 }
 
 /// What says which event comes next. Whoever runs a core asks for it and applies it, again and again. The same core and order give the
@@ -70,7 +70,7 @@ impl Turns {
         }
         let n = allowed(core, self.limit, turn.most);
         if n == 0 {
-            self.ending = Some(Ending::Limit(pid));
+            self.ending = Some(Ending::Limit);
             return None;
         }
         self.running = pid;

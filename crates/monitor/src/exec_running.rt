@@ -11,10 +11,11 @@ use exec_reports::{How, print_ending, status_of_run};
 use exec_runs::{Ending, Order, Turns};
 use executor::RunFault;
 use faults::Fault;
-use kernel::{Core, Event};
+use kernel::{Answer, Core, Event};
 use kernel_model::TERMINALS;
 use run_files::keep_disk;
 use run_threads::Screen;
+use std::alloc::Global;
 use std::fs::File;
 use std::io::Write;
 use std::rt::Files;
@@ -30,16 +31,9 @@ fn count_shown(core: &Core) -> usize {
     count
 }
 
-/// Applies an event, and does what is done beside it.
-fn step<E: Write>(
-    core: &mut Core,
-    event: Event,
-    watching: &mut Watching,
-    err: &mut E,
-) -> Result<(), Fault> {
-    watching.before(core, event)?;
+fn applied(core: &mut Core, event: Event) -> Result<Answer, Fault> {
     match core.apply(event) {
-        Ok(answer) => watching.after(core, event, answer, err),
+        Ok(answer) => Ok(answer),
         Err(why) => Err(of_run(RunFault::from(why))),
     }
 }
@@ -47,7 +41,7 @@ fn step<E: Write>(
 /// How a run ended that has this limit.
 fn how_of(ending: Ending, limit: Option<u64>) -> How {
     match (ending, limit) {
-        (Ending::Limit(pid), Some(limit)) => How::Limited { limit, pid },
+        (Ending::Limit, Some(limit)) => How::Limited { limit },
         _ => How::Over,
     }
 }
@@ -71,12 +65,14 @@ fn run_in_turns<O: Write, E: Write>(
         let Some(event) = turns.next(core) else {
             break;
         };
-        step(core, event, watching, err)?;
+        watching.before(core, event)?;
+        let answer = applied(core, event)?;
         let count = count_shown(core);
         if count != shown && !options.is_json {
             shown = count;
             screen.finish(watching.alloc, core).map_err(of_run)?;
         }
+        watching.after(core, event, answer, err)?;
     }
     Ok(how_of(turns.ending(), options.limit))
 }
@@ -94,13 +90,28 @@ fn run_whole<R: Threads + Wait + Sync + AllocGlobal, O: Write, E: Write>(
     if options.is_threaded {
         let settings = settings_of(options.run.numbers);
         let core = run_core(rt, core, file, settings, out).map_err(of_run)?;
+        watching.family.forget_executed(&core);
         return Ok((core, How::Over));
     }
     let how = run_in_turns(options, &mut core, watching, out, err)?;
     Ok((core, how))
 }
 
-/// Says why a run ended, and keeps its disk, if it is to be kept at the end.
+/// Writes the run as an object of JSON, if that is asked for, and what has not gone out.
+fn write_out<O: Write>(
+    alloc: Global,
+    core: &Core,
+    watching: &Watching,
+    how: How,
+    out: &mut O,
+) -> Result<(), Fault> {
+    if let Some(counts) = &watching.counts {
+        write_json(alloc, core, counts, how, out)?;
+    }
+    Ok(out.flush()?)
+}
+
+/// Says why a run ended, also where its output did not go out, and keeps its disk, if it is to be kept at the end.
 fn finish<R: Files + AllocGlobal, O: Write, E: Write>(
     rt: &R,
     options: &ExecOptions<'_>,
@@ -110,11 +121,9 @@ fn finish<R: Files + AllocGlobal, O: Write, E: Write>(
     out: &mut O,
     err: &mut E,
 ) -> Result<u8, Fault> {
-    if let Some(counts) = &watching.counts {
-        write_json(rt.alloc(), &core, counts, how, out)?;
-    }
-    out.flush()?;
+    let written = write_out(rt.alloc(), &core, watching, how, out);
     let told = print_ending(&core, &watching.family, how, err);
+    written?;
     let has_failed = core.has_failed();
     let status = status_of_run(&core, how);
     if !options.run.is_durable {

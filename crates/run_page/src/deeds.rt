@@ -153,7 +153,7 @@ pub fn deed_of(
         }
         Answer::Entered => replied(alloc, machine, before),
         Answer::Waits => {
-            let waits = wait_of(alloc, core, &before)?;
+            let waits = wait_of(alloc, core, before.pid())?;
             let call = before.into_call();
             Ok(EventDeed::Waits { call, waits })
         }
