@@ -1,22 +1,24 @@
 -- What events add to the totals of a history.
 use Rattle.std.proofs.Common.{◌≡◌, ◌+◌, ◌∙◌, refl, sym, ap, subst, List, [], ◌∷◌, ◌++◌, length, Bool, true, false, is_some, Some, None, arith}
-use Rattle.std.proofs.lemmas.Bool.{false≢true}
 use Rattle.std.specs.Prelude.{if◌then◌else◌}
 use Rattle.std.proofs.lemmas.List.{length-append}
 use Rattle.std.proofs.lemmas.List.Sums.{sum_by-append}
 use Rattle.kernel_model.proofs.Runs.{history-with_events}
 use Rattle.machine_model.specs.States.{stopped_at}
-use Rattle.kernel_model.specs.Answers.{Kernel, answer, with_event}
+use Rattle.kernel_model.specs.Answers.{Kernel, answer, entered, now, outcome_of, with_event}
 use Rattle.kernel_model.specs.Loans.{LoanResult, returned, events_of, settled, settled_answer, outcome_after}
 use Rattle.kernel_model.specs.Ran.{ran_by_turns, ran_in}
+use Rattle.kernel_model.specs.Steps.{step}
 use Rattle.kernel_model.specs.declared.answer.Answer.{Answer}
 use Rattle.kernel_model.specs.declared.answer.Answer.TheVariants.{Settled}
+use Rattle.kernel_model.specs.declared.answer.Outcome.{Outcome}
+use Rattle.kernel_model.specs.declared.answer.Outcome.TheVariants as outcome
 use Rattle.kernel_model.specs.declared.event.Event.{Event}
 use Rattle.kernel_model.specs.declared.event.Event.TheVariants.{Turn, Enter, Cut, Complete, Fail}
 use Rattle.kernel.specs.Keeping.{KeepsLimits}
 use Rattle.kernel.specs.Sums.{process_of_turn, process_of_enter, sum_of_turns, sum_of_enters}
 use Rattle.bursts.specs.declared.totals.Totals.{Totals}
-use Rattle.bursts.specs.Totals.{plus, history_totals, settled_totals, is_of_disk, one_event, Fit}
+use Rattle.bursts.specs.Totals.{plus, history_totals, settled_totals, event_totals, one_event, Fit}
 
 -- these events add so much, where they ran so many instructions
 adds : (k new : Kernel) (es : List Event) (by : Totals) → new.history ≡ k.history ++ es → length es ≡ by.events → sum_of_turns es ≡ by.turns
@@ -53,25 +55,33 @@ result_adds k new r a books by here is answered ran sum =
     (λ i. plus (here i) ((sum ∙ ap (settled_totals r.process) answered) i))
     ∙ events_add k new r (is_some (stopped_at r.reached.state)) refl (ap (λ (x : Kernel). x.history) is ∙ history-with_events (returned k r.process) (events_of r)) ran
 
--- an event that ran nothing and in which no process took part
-silent_adds : (k new : Kernel) (e : Event) (a : Answer) → process_of_turn e ≡ 0 → process_of_enter e ≡ 0 → ran_in (answer k e) ≡ 0 → a ≡ answer k e → new ≡ with_event k e
-    → ran_by_turns new ≡ ran_by_turns k + ran_in a → plus (history_totals k) one_event ≡ history_totals new
-silent_adds k new e a turn enter still answered is ran =
-    adds k new (e ∷ []) one_event (ap (λ (x : Kernel). x.history) is) refl (omega (arith, turn)) (omega (arith, enter))
-    (ran ∙ ap (λ n. ran_by_turns k + n) (ap ran_in answered ∙ still))
+-- an Enter runs nothing
+entered_ran : (o : Outcome) → ran_in (entered o) ≡ 0
+entered_ran outcome.Entered = refl
+entered_ran outcome.Waits = refl
+entered_ran outcome.Ended = refl
 
-disk_event : (k new : Kernel) (e : Event) (a : Answer) → is_of_disk e ≡ true → a ≡ answer k e → new ≡ with_event k e → ran_by_turns new ≡ ran_by_turns k + ran_in a
-    → plus (history_totals k) one_event ≡ history_totals new
-disk_event k new (Turn pid n) a of_disk answered is ran = absurd (false≢true of_disk)
-disk_event k new (Enter pid) a of_disk answered is ran = absurd (false≢true of_disk)
-disk_event k new Cut a of_disk answered is ran = silent_adds k new Cut a refl refl refl answered is ran
-disk_event k new (Complete at) a of_disk answered is ran = silent_adds k new (Complete at) a refl refl refl answered is ran
-disk_event k new (Fail at) a of_disk answered is ran = silent_adds k new (Fail at) a refl refl refl answered is ran
+-- an event that ran nothing
+silent_adds : (k new : Kernel) (e : Event) (a : Answer) (by : Totals) → by.events ≡ 1 → by.ran ≡ 0 → process_of_turn e ≡ by.turns → process_of_enter e ≡ by.enters
+    → ran_in (answer k e) ≡ 0 → a ≡ answer k e → new ≡ with_event k e → ran_by_turns new ≡ ran_by_turns k + ran_in a → plus (history_totals k) by ≡ history_totals new
+silent_adds k new e a by one none turn enter still answered is ran =
+    adds k new (e ∷ []) by (ap (λ (x : Kernel). x.history) is) (sym one) (omega (arith, turn)) (omega (arith, enter))
+    (ran ∙ ap (λ n. ran_by_turns k + n) (ap ran_in answered ∙ still ∙ sym none))
 
--- an event of the disk adds one event
-pub disk_event_adds : (k new : Kernel) (e : Event) (a : Answer) (books by : Totals) → is_of_disk e ≡ true → books ≡ history_totals k → a ≡ answer k e → new ≡ with_event k e
-    → ran_by_turns new ≡ ran_by_turns k + ran_in a → by ≡ one_event → plus books by ≡ history_totals new
-disk_event_adds k new e a books by of_disk here answered is ran sum = (λ i. plus (here i) (sum i)) ∙ disk_event k new e a of_disk answered is ran
+one_more : (k new : Kernel) (e : Event) (a : Answer) → a ≡ answer k e → new ≡ with_event k e → ran_by_turns new ≡ ran_by_turns k + ran_in a
+    → plus (history_totals k) (event_totals e a) ≡ history_totals new
+one_more k new (Turn pid n) a answered is ran =
+    adds k new (Turn pid n ∷ []) (event_totals (Turn pid n) a) (ap (λ (x : Kernel). x.history) is) refl (omega arith) (omega arith) ran
+one_more k new (Enter pid) a answered is ran =
+    silent_adds k new (Enter pid) a (event_totals (Enter pid) a) refl refl refl refl (entered_ran (outcome_of (step (now k).sync (Enter pid)).entry.item)) answered is ran
+one_more k new Cut a answered is ran = silent_adds k new Cut a one_event refl refl refl refl refl answered is ran
+one_more k new (Complete at) a answered is ran = silent_adds k new (Complete at) a one_event refl refl refl refl refl answered is ran
+one_more k new (Fail at) a answered is ran = silent_adds k new (Fail at) a one_event refl refl refl refl refl answered is ran
+
+-- an event that is accepted adds what its answer says
+pub event_adds : (k new : Kernel) (e : Event) (a : Answer) (books by : Totals) → books ≡ history_totals k → a ≡ answer k e → new ≡ with_event k e
+    → ran_by_turns new ≡ ran_by_turns k + ran_in a → by ≡ event_totals e a → plus books by ≡ history_totals new
+event_adds k new e a books by here answered is ran sum = (λ i. plus (here i) (sum i)) ∙ one_more k new e a answered is ran
 
 history_fits : (k : Kernel) → KeepsLimits k → Fit (history_totals k)
 history_fits k h =

@@ -1,11 +1,14 @@
 -- A core's pair never falls.
-use Rattle.std.proofs.Common.{◌≡◌, ℕ, ◌≤◌, List, [], ◌∷◌, sym, ap, subst}
+use Rattle.std.proofs.Common.{◌≡◌, ℕ, ◌≤◌, List, [], ◌∷◌, Option, Some, None, Result, Ok, Err, sym, ap, subst, ◌∙◌}
 use Rattle.kernel_model.specs.Answers.{Kernel, now, committed, changes, with_event, with_events}
-use Rattle.kernel_model.specs.Loans.{LoanResult, returned, events_of, settled}
+use Rattle.kernel_model.specs.Loans.{LoanOut, LoanResult, Lends, returned, events_of, settled}
 use Rattle.kernel_model.specs.World.{World}
+use Rattle.kernel_model.specs.declared.answer.Refused.{Refused}
 use Rattle.kernel_model.specs.declared.event.Event.{Event}
 use Rattle.board.specs.declared.board.View.{View}
 use Rattle.board.specs.Pairs.{pair_of}
+use Rattle.bursts.specs.declared.totals.Totals.{Totals}
+use Rattle.bursts.specs.Totals.{history_totals}
 
 -- the pair of a later core is no less than the one published
 rises : (v : View) (old new : Kernel) → pair_of v ≡ (committed (now old), changes (now old)) → committed (now old) ≤ committed (now new) → changes (now old) ≤ changes (now new)
@@ -33,3 +36,17 @@ result_rises c n v old new r shown is =
     let k = returned old r.process in
     subst (λ (k : Kernel). (v.committed ≤ committed (now k)) × (v.changes ≤ changes (now k))) (sym is)
     (rises v old (settled old r) shown (c k (events_of r)) (n k (events_of r)))
+
+-- a loan moves neither what is committed nor the totals
+pub lend_keeps : (v : View) (books : Totals) (old new : Kernel) (quantum : ℕ) (result : Result (Option LoanOut) Refused) → Lends old quantum new result
+    → pair_of v ≡ (committed (now old), changes (now old)) → books ≡ history_totals old
+    → (pair_of v ≡ (committed (now new), changes (now new))) × (books ≡ history_totals new)
+lend_keeps v books old new quantum result h shown here =
+    let same = same_run old new quantum result h in
+    (shown ∙ sym (ap (λ (w : World). (committed w, changes w)) same.0), here ∙ sym same.1)
+  where
+    same_run : (old new : Kernel) (quantum : ℕ) (result : Result (Option LoanOut) Refused) → Lends old quantum new result
+        → (now new ≡ now old) × (history_totals new ≡ history_totals old)
+    same_run old new quantum (Ok (Some loan)) h = (ap now h.1.noted, ap history_totals h.1.noted)
+    same_run old new quantum (Ok None) h = (ap now h.1.1, ap history_totals h.1.1)
+    same_run old new quantum (Err why) h = (ap now h.2, ap history_totals h.2)

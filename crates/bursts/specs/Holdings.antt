@@ -2,11 +2,12 @@
 use Rattle.std.specs.Prelude.{◌≡◌, ℕ, ◌+◌, List, [], ◌∷◌, ◌++◌, Option, Result, MatchResult, MatchOption}
 use Rattle.kernel_model.specs.declared.answer.Answer.{Answer}
 use Rattle.kernel_model.specs.declared.answer.Refused.{Refused}
+use Rattle.kernel_model.specs.declared.event.Event.{Event}
 use Rattle.kernel_step.specs.declared.loan.Loan.{Loan}
 use Rattle.bursts.specs.declared.loan_id.LoanId.{LoanId}
 use Rattle.bursts.specs.declared.totals.Totals.{Totals}
 use Rattle.bursts.specs.LoanIds.{id_of_loan}
-use Rattle.bursts.specs.Totals.{none, plus, settled_totals, one_event}
+use Rattle.bursts.specs.Totals.{none, plus, settled_totals, event_totals}
 
 -- a share: how many of the 64 parts, its four numbers, and the loans that its holder was lent, in order
 pub record Holding : Type 0 where
@@ -57,6 +58,6 @@ GrowsByLend old new result = MatchResult result (λ given. MatchOption given (ne
 abbrev pub GrowsBySettle : {E : Type 0} → ℕ → Holding → Holding → Result Answer E → Type 0
 GrowsBySettle pid old new result = MatchResult result (λ a. new ≡ grown old (settled_totals pid a)) (λ _. new ≡ old)
 
--- a share grows by one event, where it was accepted
-abbrev pub GrowsByOne : Holding → Holding → Result Answer Refused → Type 0
-GrowsByOne old new result = MatchResult result (λ _. new ≡ grown old one_event) (λ _. new ≡ old)
+-- a share grows by what an event adds, where it was accepted
+abbrev pub GrowsByEvent : Event → Holding → Holding → Result Answer Refused → Type 0
+GrowsByEvent event old new result = MatchResult result (λ a. new ≡ grown old (event_totals event a)) (λ _. new ≡ old)

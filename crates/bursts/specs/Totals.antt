@@ -1,7 +1,7 @@
 -- The four numbers of a history, and what events add to them.
-use Rattle.std.specs.Prelude.{ℕ, ◌+◌, ◌<◌, ◌^◌, Bool, true, false, length, Some, None}
+use Rattle.std.specs.Prelude.{ℕ, ◌+◌, ◌<◌, ◌^◌, length, Some, None}
 use Rattle.kernel_model.specs.Answers.{Kernel}
-use Rattle.kernel_model.specs.Ran.{ran_by_turns}
+use Rattle.kernel_model.specs.Ran.{ran_by_turns, ran_in}
 use Rattle.kernel_model.specs.declared.answer.Answer.{Answer}
 use Rattle.kernel_model.specs.declared.answer.Answer.TheVariants.{Settled}
 use Rattle.kernel_model.specs.declared.event.Event.{Event}
@@ -27,17 +27,17 @@ settled_totals pid (Settled count stop None) = record { events = 1; ran = count;
 settled_totals pid (Settled count stop (Some outcome)) = record { events = 2; ran = count; turns = pid; enters = pid }
 settled_totals pid _ = none
 
--- the event is one of the disk
-abbrev pub is_of_disk : Event → Bool
-is_of_disk (Turn pid n) = false
-is_of_disk (Enter pid) = false
-is_of_disk Cut = true
-is_of_disk (Complete at) = true
-is_of_disk (Fail at) = true
-
--- what a Cut, a completion or a failure adds
+-- one event that ran nothing, and in which no process took part
 abbrev pub one_event : Totals
 one_event = record { events = 1; ran = 0; turns = 0; enters = 0 }
+
+-- what an event adds that was accepted with this answer: a Cut, a completion or a failure adds one event alone
+abbrev pub event_totals : Event → Answer → Totals
+event_totals (Turn pid n) a = record { events = 1; ran = ran_in a; turns = pid; enters = 0 }
+event_totals (Enter pid) a = record { events = 1; ran = 0; turns = 0; enters = pid }
+event_totals Cut a = one_event
+event_totals (Complete at) a = one_event
+event_totals (Fail at) a = one_event
 
 -- each of them is a u64
 abbrev pub Fit : Totals → Type 0

@@ -1,30 +1,35 @@
-//! The core that many workers share, with its board and its books.
+//! `Bench`: the core that many workers share, with its log of loans, its board and its books.
 ghost use Rattle.std.specs.Prelude.{◌≡◌, ◌≤◌, ◌||◌, true, false, []};
 ghost use Rattle.crossbeam_utils.specs.Seq.{cell_view};
 ghost use Rattle.kernel_model.specs.Answers.{now, committed as committed_in, changes as changes_in, Applies};
 ghost use Rattle.kernel_model.specs.Loans.{Lends, is_over};
-ghost use Rattle.kernel_model.specs.declared.event.Event.{Event};
 ghost use Rattle.kernel_step.specs.Loaned.{lent_out, Settles};
 ghost use Rattle.board.specs.Pairs.{publisher, pair_of};
-ghost use Rattle.bursts.specs.Totals.{none, history_totals, settled_totals, one_event as one_event_more, is_of_disk};
-ghost use Rattle.bursts.specs.Holdings.{parts_in, sum_of, GrowsByLend, GrowsBySettle, GrowsByOne};
+ghost use Rattle.bursts.specs.Totals.{history_totals};
+ghost use Rattle.bursts.specs.Holdings.{parts_in, sum_of, GrowsByLend, GrowsBySettle, GrowsByEvent};
 
-use crate::lender::Lender;
+use crate::added_totals::{totals_of_event, totals_of_result};
 use crate::naming::Naming;
 use crate::share::{Blanks, Books, Share};
-use crate::ticket::{TicketedDone, TicketedLoan};
-use crate::totals::{Totals, totals_of};
+use crate::ticket::{LentLoan, OfLoan, TicketedDone, TicketedLoan};
+use crate::ticketed::settle_by_ticket;
+use crate::totals::totals_of;
 use board::{Board, Writer};
-use kernel::{Answer, Core, Done, Event, Loan, Refused, Rejected, counts_never_fall};
+use kernel::{
+    Answer, Core, Done, Event, Loan, Refused, Rejected, counts_never_fall, known_loans_stay,
+};
+use notes::Log;
 use std::marker::Model;
 use std::sync::Wait;
 
-/// A core to be put under a lock, the pass that publishes on its board, and the books of what all shares add up to. Contracts see
-/// the core, and whether `stop` was called. The type keeps three facts. The pair published last is the core's, the books are the
-/// totals of the core's history, and by its ticket a loan is known that this bench gave.
+/// A core to be put under a lock, a log of the loans that it gave, the pass that publishes on its board, and the books of what all
+/// shares add up to. Contracts see the core, and whether `stop` was called. The type keeps three facts. The pair published last is
+/// the core's. The books are the totals of the core's history. Each loan of the log, which exists in proofs alone, is known: where
+/// its process is out on it, the core keeps the state from which it began.
 #[derive(Drop)]
 pub struct Bench<'a, N: Naming> {
-    lender: Lender<N>,
+    core: Core,
+    loans: Log<LentLoan, N>,
     board: &'a Board<N>,
     writer: Writer,
     books: Books<N>,
@@ -43,13 +48,15 @@ impl<'a, N: Naming> Model for Bench<'a, N> {
     ghost use Rattle.kernel_model.specs.Answers.{now, committed, changes};
     ghost use Rattle.board.specs.Pairs.{pair_of};
     ghost use Rattle.bursts.specs.Totals.{history_totals};
+    ghost use Rattle.bursts.specs.Tickets.{AreKnown};
 
-    ghost view = { λ b. record { core = b.lender; stopped = b.stopped } };
+    ghost view = { λ b. record { core = b.core; stopped = b.stopped } };
 
     ghost invariant = { λ b. (b.writer.pass.table_id ≡ b.board.now.cell.table.shared.table_id)
         × ((cell_view b.writer.pass).publishes ≡ true)
-        × (pair_of (cell_view b.writer.pass) ≡ (committed (now b.lender), changes (now b.lender)))
-        × (b.books ≡ history_totals b.lender) };
+        × (pair_of (cell_view b.writer.pass) ≡ (committed (now b.core), changes (now b.core)))
+        × (b.books ≡ history_totals b.core)
+        × AreKnown b.core b.loans };
 }
 
 impl<'a, N: Naming> Bench<'a, N> {
@@ -81,7 +88,8 @@ impl<'a, N: Naming> Bench<'a, N> {
         } = blanks;
         let (books, share) = Books::open(events, ran, turns, enters, totals);
         let bench = Bench {
-            lender: Lender::new(core, loans),
+            core,
+            loans: Log::open(loans),
             board,
             writer,
             books,
@@ -94,7 +102,7 @@ impl<'a, N: Naming> Bench<'a, N> {
     pub fn core(&self) -> &Core
         ensures { result.now ≡ self.now.core }
     {
-        self.lender.core()
+        &self.core
     }
 
     /// Lends, as `Core::lend` does. A loan that is given is noted in the share. Neither the board nor the books change, so nothing
@@ -110,7 +118,7 @@ impl<'a, N: Naming> Bench<'a, N> {
         }
     }
 
-    /// As `lend`. The loan may have a ticket, by which this bench knows its result again.
+    /// As `lend`. The loan has a ticket, by which this bench knows its result again, unless it could not be noted.
     pub fn lend_ticketed(
         &mut self,
         quantum: u32,
@@ -120,11 +128,14 @@ impl<'a, N: Naming> Bench<'a, N> {
         ensures share { GrowsByLend share.old share.new result }
         ensures stopped { self.new.stopped ≡ self.old.stopped }
     {
-        let given = self.lender.lend(quantum)?;
-        if let Some(loan) = &given {
-            share.note(loan.loan());
-        }
-        Ok(given)
+        known_loans_stay();
+        self.core.has_lendings();
+        let Some(loan) = self.core.lend(quantum)? else {
+            return Ok(None);
+        };
+        share.note(&loan);
+        let ticket = self.loans.note::<Loan, OfLoan>(&loan);
+        Ok(Some(TicketedLoan::new(loan, ticket)))
     }
 
     /// Takes a loan's result back, as `Core::settle` does. The share grows by what its Turn and its Enter add, and the board shows
@@ -156,69 +167,31 @@ impl<'a, N: Naming> Bench<'a, N> {
     {
         counts_never_fall();
         let pid = done.pid();
-        let answer = self.lender.settle(done)?;
+        let answer = settle_by_ticket(&mut self.core, &self.loans, done)?;
         self.books
-            .enter(share, totals_of_answer(pid, &answer), self.lender.core());
-        publish(rt, self.board, &mut self.writer, self.lender.core());
+            .enter(share, totals_of_result(pid, &answer), &self.core);
+        publish(rt, self.board, &mut self.writer, &self.core);
         Ok(answer)
     }
 
-    /// A Cut, as `Core::apply` does it: a group of changes is submitted to the disk. The share grows by one event. May wait for a
-    /// load of the board.
-    pub fn cut<R: Wait>(&mut self, rt: &R, share: &mut Share<N>) -> Result<Answer, Refused>
-        ensures applies { Applies self.old.core Event.Cut self.new.core result }
-        ensures stopped { self.new.stopped ≡ self.old.stopped }
-        ensures share { GrowsByOne share.old share.new result }
-    {
-        self.apply(rt, Event::Cut, share)
-    }
-
-    /// The write in flight that begins at this offset of the disk is complete, as `Core::apply` does it. The share grows by one
-    /// event. May wait for a load of the board.
-    pub fn complete<R: Wait>(
-        &mut self,
-        rt: &R,
-        at: u32,
-        share: &mut Share<N>,
-    ) -> Result<Answer, Refused>
-        ensures applies { Applies self.old.core (Event.Complete at) self.new.core result }
-        ensures stopped { self.new.stopped ≡ self.old.stopped }
-        ensures share { GrowsByOne share.old share.new result }
-    {
-        self.apply(rt, Event::Complete { at }, share)
-    }
-
-    /// The write in flight that begins at this offset of the disk has failed, as `Core::apply` does it. The share grows by one
-    /// event. May wait for a load of the board.
-    pub fn fail<R: Wait>(
-        &mut self,
-        rt: &R,
-        at: u32,
-        share: &mut Share<N>,
-    ) -> Result<Answer, Refused>
-        ensures applies { Applies self.old.core (Event.Fail at) self.new.core result }
-        ensures stopped { self.new.stopped ≡ self.old.stopped }
-        ensures share { GrowsByOne share.old share.new result }
-    {
-        self.apply(rt, Event::Fail { at }, share)
-    }
-
-    /// Applies an event of the disk, and brings the books and the board up to it.
-    fn apply<R: Wait>(
+    /// Applies an event, as `Core::apply` does. The share grows by what the event adds, and the board shows what is committed after
+    /// it. May wait for a load of the board.
+    pub fn apply<R: Wait>(
         &mut self,
         rt: &R,
         event: Event,
         share: &mut Share<N>,
     ) -> Result<Answer, Refused>
-        requires { is_of_disk event ≡ true }
         ensures applies { Applies self.old.core event self.new.core result }
         ensures stopped { self.new.stopped ≡ self.old.stopped }
-        ensures share { GrowsByOne share.old share.new result }
+        ensures share { GrowsByEvent event share.old share.new result }
     {
         counts_never_fall();
-        let answer = self.lender.apply(event)?;
-        self.books.enter(share, one_event(), self.lender.core());
-        publish(rt, self.board, &mut self.writer, self.lender.core());
+        known_loans_stay();
+        let answer = self.core.apply(event)?;
+        self.books
+            .enter(share, totals_of_event(event, &answer), &self.core);
+        publish(rt, self.board, &mut self.writer, &self.core);
         Ok(answer)
     }
 }
@@ -228,7 +201,7 @@ impl<'a, N: Naming> Bench<'a, N> {
     pub fn over(&self, quantum: u32) -> bool
         ensures { result ≡ (self.now.stopped || is_over self.now.core quantum) }
     {
-        self.stopped || self.lender.core().over(quantum)
+        self.stopped || self.core.over(quantum)
     }
 
     /// From now on `over` answers true.
@@ -252,59 +225,9 @@ pub fn gather<'a, N: Naming>(bench: Bench<'a, N>, shares: Vec<Share<N>>) -> Core
     ensures core { result ≡ bench.entry.core }
     ensures shares { parts_in shares.items ≡ 64 → sum_of shares.items ≡ history_totals result }
 {
-    let Bench { lender, books, .. } = bench;
+    let Bench { core, books, .. } = bench;
     books.close(shares);
-    lender.into_core()
-}
-
-/// What the result of process `pid` adds that was taken back with this answer.
-fn totals_of_answer(pid: u32, answer: &Answer) -> Totals
-    ensures { result ≡ settled_totals pid answer.now }
-{
-    match answer {
-        Answer::Settled {
-            count,
-            outcome: None,
-            ..
-        } => Totals {
-            events: 1,
-            ran: u64::from(*count),
-            turns: u64::from(pid),
-            enters: 0,
-        },
-        Answer::Settled {
-            count,
-            outcome: Some(_),
-            ..
-        } => Totals {
-            events: 2,
-            ran: u64::from(*count),
-            turns: u64::from(pid),
-            enters: u64::from(pid),
-        },
-        _ => no_events(),
-    }
-}
-
-fn no_events() -> Totals
-    ensures { result ≡ none }
-{
-    Totals {
-        events: 0,
-        ran: 0,
-        turns: 0,
-        enters: 0,
-    }
-}
-
-/// One event, in which no process took part.
-fn one_event() -> Totals
-    ensures { result ≡ one_event_more }
-{
-    Totals {
-        events: 1,
-        ..no_events()
-    }
+    core
 }
 
 /// Publishes the core's pair, neither number of which ever falls.

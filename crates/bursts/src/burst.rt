@@ -1,4 +1,4 @@
-//! The run of a loan.
+//! `run_loan`: runs a loan apart from the core.
 ghost use Rattle.std.specs.Prelude.{◌≡◌};
 
 use kernel::{Done, Loan};

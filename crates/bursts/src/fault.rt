@@ -1,4 +1,4 @@
-//! Why a worker's turn fails, at a desk as at a seat of a pool.
+//! `WorkFault`: why a worker's turn fails, at a desk as at a seat of a pool.
 use kernel::{Refused, Rejected};
 
 /// Why a worker's turn failed.

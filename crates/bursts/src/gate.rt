@@ -1,4 +1,4 @@
-//! What may hold a worker in its turn, at a desk as at a seat of a pool.
+//! `Gate`: what may hold a worker in its turn, at a desk as at a seat of a pool.
 ghost use Rattle.std.specs.Prelude.{ℕ};
 
 /// What stands between a loan and its run. A test holds workers there, to have them at work at the same time.

@@ -3,16 +3,17 @@
 //! of the core's history.
 #![tactic(auto)]
 
+mod added_totals;
 mod bench;
 mod burst;
 mod core_board;
 mod fault;
 mod gate;
-mod lender;
 mod loan_id;
 mod naming;
 mod share;
 mod ticket;
+mod ticketed;
 mod totals;
 
 pub use bench::{Bench, gather};

@@ -1,4 +1,4 @@
-//! Which loan it is.
+//! `LoanId`: which loan it is, of what is lent and of its result.
 
 /// Which loan: of which process, its number among that process's loans, and for how many instructions.
 #[derive(Clone, Copy)]

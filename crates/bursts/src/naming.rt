@@ -1,4 +1,4 @@
-//! The names of a run's ledgers, its board and its log of loans.
+//! `Naming`: the names of a run's ledgers, its board and its log of loans, which exist in proofs alone.
 ghost use Rattle.std.specs.Prelude.{ℕ};
 
 use board::Opening;

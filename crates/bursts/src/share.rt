@@ -1,4 +1,4 @@
-//! Shares of what the workers did, and the books in which they add up.
+//! `Share`: what one worker did, in numbers. `Books`: what all shares of a bench add up to. `Blanks`: what both are made of.
 ghost use Rattle.std.specs.Prelude.{◌≡◌, ◌+◌, ◌<◌, ◌≤◌, [], ◌∷◌, IfSome, IfNone};
 ghost use Rattle.bursts.specs.Totals.{none, plus, history_totals, Fit};
 ghost use Rattle.bursts.specs.LoanIds.{loan_id};

@@ -1,4 +1,4 @@
-//! Loans with tickets. By its ticket a bench knows a loan as its own.
+//! `TicketedLoan`, `TicketedDone`: a loan and its result, with the ticket by which their bench knows them as its own.
 ghost use Rattle.std.specs.Prelude.{◌≡◌, IfSome};
 ghost use Rattle.bursts.specs.Tickets.{IsTicketOf};
 
@@ -64,12 +64,6 @@ impl<N: Naming> TicketedLoan<N> {
         ensures { result ≡ self.now.pid }
     {
         self.loan.pid
-    }
-
-    pub(crate) fn loan(&self) -> &Loan
-        ensures { result.now ≡ self.now }
-    {
-        &self.loan
     }
 
     /// The loan alone.

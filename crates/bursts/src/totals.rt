@@ -1,4 +1,4 @@
-//! The four numbers of a history.
+//! `Totals`: the four numbers of a history. `totals_of`: those of a core's.
 ghost use Rattle.std.specs.Prelude.{◌≡◌, length};
 ghost use Rattle.kernel_model.specs.Ran.{ran_by_turns};
 ghost use Rattle.kernel.specs.Sums.{sum_of_turns, sum_of_enters};

@@ -2,7 +2,7 @@
 use Rattle.std.proofs.Common.{◌≡◌, ℕ, ◌+◌, ◌<◌, ◌≤◌, Bool, List, [], ◌∷◌, ◌++◌, length, drop, get_or, append-nil, append_assoc, refl, sym, ap, ◌∙◌, zero, suc, arith}
 use Rattle.std.proofs.lemmas.List.{drop_more}
 use Rattle.disk_model.specs.declared.change.Piece.{Piece}
-use Rattle.durable_disk.specs.Stages.{end_of, left_after, ends_of, left_after_all, IsToldAll, IsToldSome}
+use Rattle.durable_disk.specs.Stages.{completes, call_of_end, end_of, left_after, ends_of, left_after_all, IsToldAll, IsToldSome}
 use Rattle.durable_disk.specs.declared.core_call.CoreCall.{CoreCall}
 
 past_end : (all : List Piece) (i : ℕ) → length all ≤ i → drop i all ≡ []
@@ -22,10 +22,11 @@ pub none_told : (is_stored : Bool) (all : List Piece) (old : List CoreCall) (lef
 none_told is_stored all old left = record { told = []; now_is = sym (append-nil old); whole = refl; last = refl }
 
 module _ (is_stored : Bool) (all : List Piece) (old : List CoreCall) (left : ℕ) (now : List CoreCall) (left_now : ℕ) (i : ℕ) where
-  pub one_more : (new : List CoreCall) (left_new : ℕ) (p : Piece) → i < length all → get_or all i p ≡ p
-      → Telling is_stored all old left now left_now i → new ≡ now ++ end_of is_stored left_now p.at ∷ [] → left_new ≡ left_after is_stored left_now
-      → Telling is_stored all old left new left_new (i + 1)
-  one_more new left_new p lt at h is less =
+  pub one_more : (new : List CoreCall) (left_new : ℕ) (p : Piece) (is_complete : Bool) → i < length all → get_or all i p ≡ p
+      → Telling is_stored all old left now left_now i → is_complete ≡ completes is_stored left_now → new ≡ now ++ call_of_end is_complete p.at ∷ []
+      → left_new ≡ left_after is_stored left_now → Telling is_stored all old left new left_new (i + 1)
+  one_more new left_new p is_complete lt at h by told_it less =
+      let is : new ≡ now ++ end_of is_stored left_now p.at ∷ [] = told_it ∙ ap (λ (b : Bool). now ++ call_of_end b p.at ∷ []) by in
       let rest : drop i all ≡ p ∷ drop (i + 1) all = drop_more all i p lt ∙ ap (λ (x : Piece). x ∷ drop (i + 1) all) at in
       let end : CoreCall = end_of is_stored left_now p.at in
       record {

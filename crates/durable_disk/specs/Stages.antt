@@ -5,10 +5,17 @@ use Rattle.durable_disk.specs.FileRecords.{FileRecord, stored, refused_at}
 use Rattle.durable_disk.specs.declared.core_call.CoreCall.{CoreCall}
 use Rattle.durable_disk.specs.declared.core_call.CoreCall.TheVariants.{InFlight, Complete, Fail}
 
--- What the core is told of a write that begins here, where the completion of number `left` from now on is to fail, if any is: that it
--- is complete, where the file holds it and it is not that one; else that it has failed.
+-- a write is complete, where the completion of number `left` from now on is to fail, if any is: the file holds it, and it is not that one
+abbrev pub completes : Bool → ℕ → Bool
+completes is_stored left = is_stored && not (left == 1)
+
+-- what the core is told of the write that begins here: that it is complete, or that it has failed
+abbrev pub call_of_end : Bool → ℕ → CoreCall
+call_of_end is_complete at = if is_complete then Complete at else Fail at
+
+-- the same by whether the file holds it
 abbrev pub end_of : Bool → ℕ → ℕ → CoreCall
-end_of is_stored left at = if is_stored && not (left == 1) then Complete at else Fail at
+end_of is_stored left at = call_of_end (completes is_stored left) at
 
 -- the number of the one that is to fail after that: where the file does not hold the write, no completion is counted
 abbrev pub left_after : Bool → ℕ → ℕ

@@ -1,5 +1,6 @@
-//! The completions of a run, one of which may fail.
-ghost use Rattle.std.specs.Prelude.{◌≡◌, ◌-◌, ◌==◌, unwrap_or};
+//! `Completions`: counts the completions of a run, one of which may have to fail.
+ghost use Rattle.std.specs.Prelude.{◌≡◌, unwrap_or};
+ghost use Rattle.durable_disk.specs.Stages.{completes, left_after};
 
 use std::marker::Model;
 
@@ -27,13 +28,16 @@ impl Completions {
         }
     }
 
-    /// Counts one more, and says whether it is the one that fails.
-    pub fn next_fails(&mut self) -> bool
-        ensures fails { result ≡ (self.old == 1) }
-        ensures left { self.new ≡ self.old - 1 }
+    /// Whether a write that ends is complete: it is stored, and its completion is not the one that fails. One that is stored counts.
+    pub fn is_complete(&mut self, is_stored: bool) -> bool
+        ensures complete { result ≡ completes is_stored self.old }
+        ensures left { self.new ≡ left_after is_stored self.old }
     {
+        if !is_stored {
+            return false;
+        }
         let fails = self.fails == 1;
         self.fails = self.fails.saturating_sub(1);
-        fails
+        !fails
     }
 }

@@ -1,4 +1,4 @@
-//! What a stage and its core say to each other.
+//! `CoreCall`: what a stage asks its core, and tells it.
 
 /// A call of a core that it did not refuse.
 #[derive(Clone, Copy)]

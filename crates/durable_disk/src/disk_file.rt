@@ -1,4 +1,4 @@
-//! Files that hold a disk, whatever the host gives.
+//! `DiskFile`: a file that holds a disk, whatever the host gives.
 ghost use Rattle.std.specs.Prelude.{◌≡◌, is_ok};
 ghost use Rattle.durable_disk.specs.FileRecords.{FileRecord, wrote, synced};
 

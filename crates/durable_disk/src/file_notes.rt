@@ -1,4 +1,4 @@
-//! The record of a file, as whoever implements `DiskFile` keeps it.
+//! `FileNotes`: the record of a file, as whoever implements `DiskFile` keeps it.
 ghost use Rattle.std.specs.Prelude.{◌≡◌, []};
 ghost use Rattle.durable_disk.specs.FileRecords.{record_in, wrote, synced};
 

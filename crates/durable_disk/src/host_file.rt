@@ -1,4 +1,4 @@
-//! A file of the host that holds a disk.
+//! `HostFile`: a file of the host that holds a disk.
 ghost use Rattle.std.specs.Prelude.{◌≡◌, ℕ, List, Bool, is_ok};
 ghost use Rattle.durable_disk.specs.FileRecords.{record_in, wrote, synced};
 

@@ -17,7 +17,6 @@ pub use core_call::CoreCall;
 pub use disk_file::{DiskFile, FileCall, HostRefused};
 pub use file_notes::FileNotes;
 pub use host_file::{HostCalls, HostFile, PlacedFile};
-pub use report::tell_end;
 pub use stage::commit_stage;
 pub use staged_core::StagedCore;
 pub use storing::store;

@@ -1,30 +1,13 @@
-//! What a core is told of a stage.
-ghost use Rattle.std.specs.Prelude.{◌≡◌, [], ◌∷◌, ◌++◌, OnOk, OnErr};
-ghost use Rattle.durable_disk.specs.Stages.{end_of, left_after, IsToldAll, IsToldSome};
+//! `report`: tells a core what came of the writes of a stage.
+ghost use Rattle.std.specs.Prelude.{OnOk, OnErr};
+ghost use Rattle.durable_disk.specs.Stages.{IsToldAll, IsToldSome};
 
 use crate::completions::Completions;
 use crate::staged_core::StagedCore;
 use disk_model::Piece;
 
-/// Tells the core that a write is complete, if it is stored and is not the one that fails all the same; else that it has failed.
-pub fn tell_end<C: StagedCore>(
-    core: &mut C,
-    at: u32,
-    is_stored: bool,
-    completions: &mut Completions,
-) -> Result<(), C::Refusal>
-    ensures ok { OnOk result (C.calls_of core.new ≡ C.calls_of core.old ++ end_of is_stored completions.old at ∷ []) }
-    ensures err { OnErr result (C.calls_of core.new ≡ C.calls_of core.old) }
-    ensures left { completions.new ≡ left_after is_stored completions.old }
-{
-    if is_stored && !completions.next_fails() {
-        core.complete(at)
-    } else {
-        core.fail(at)
-    }
-}
-
-/// Tells the core of each piece of a stage, in order, up to the first that it refuses.
+/// Tells the core of each piece of a stage, in order, up to the first that it refuses. One is complete if it is stored, and is not the
+/// one that fails all the same. Else it has failed.
 #[tactic(auto, using(crate::proofs::TellingSteps::one_more, crate::proofs::TellingSteps::some_told, crate::proofs::TellingSteps::all_told))]
 pub fn report<C: StagedCore>(
     core: &mut C,
@@ -36,7 +19,7 @@ pub fn report<C: StagedCore>(
     ensures err { OnErr result (IsToldSome is_stored pieces.now (C.calls_of core.old) completions.old (C.calls_of core.new)) }
 {
     for piece in pieces {
-        tell_end(core, piece.at, is_stored, completions)?;
+        core.tell(piece.at, completions.is_complete(is_stored))?;
     }
     Ok(())
 }

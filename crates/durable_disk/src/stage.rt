@@ -1,4 +1,4 @@
-//! The commit of a stage.
+//! `commit_stage`: stores the writes in flight in a file, and then tells the core.
 ghost use Rattle.std.specs.Prelude.{◌≡◌};
 ghost use Rattle.durable_disk.specs.Stages.{staging, CommitsStage};
 
@@ -19,7 +19,7 @@ pub fn commit_stage<C: StagedCore, F: DiskFile>(
 ) -> Result<bool, C::Refusal>
     ensures { CommitsStage C.submitted (staging (C.calls_of core.old) (F.record_of file.old) completions.old) (staging (C.calls_of core.new) (F.record_of file.new) completions.new) result }
 {
-    let pieces = core.in_flight()?;
+    let pieces = core.stage()?;
     if pieces.is_empty() {
         return Ok(false);
     }

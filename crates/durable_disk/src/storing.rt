@@ -1,4 +1,4 @@
-//! The writes of a stage, stored in a file.
+//! `store`: stores the writes of a stage in a file.
 ghost use Rattle.durable_disk.specs.Stages.{IsAsked};
 
 use crate::disk_file::DiskFile;

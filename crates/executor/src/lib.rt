@@ -1,10 +1,10 @@
-//! Runs a core to its end: worker threads, a thread that commits, and a console for one of its terminals, or for all. Read `run`
+//! Runs a core to its end: worker threads, a thread that commits, and a console for one of its terminals, or for all. Read `Run`
 //! first, and then `pool` and `run_threads`, whose threads it starts. Only safety is proved of it.
 #![tactic(auto)]
 
+mod run;
 mod settings;
-mod threading;
 
+pub use run::Run;
 pub use run_threads::RunFault;
 pub use settings::Settings;
-pub use threading::{run, run_durable};

@@ -1,4 +1,4 @@
-//! A crew: a thread for each seat and its gate.
+//! `pool_crew`: a crew, which is a thread for each seat and its gate.
 ghost use Rattle.std.specs.Prelude.{◌≡◌};
 ghost use Rattle.pool.specs.Crews.{earlier, next_after as next_of, AsksThen, TakesTurn, WorksUntil};
 

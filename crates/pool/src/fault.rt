@@ -1,4 +1,4 @@
-//! Why a crew stopped.
+//! `CrewFault`: why a crew stopped.
 ghost use Rattle.std.specs.Prelude.{◌≡◌};
 ghost use Rattle.pool.specs.Faults.{number_of};
 

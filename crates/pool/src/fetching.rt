@@ -1,4 +1,4 @@
-//! How a worker comes to a loan.
+//! How a seat comes to a loan: one to spare, one of its own deque, one of another's, or one that the core lends.
 ghost use Rattle.std.specs.Prelude.{◌≡◌, ◌⊎◌, [], ◌∷◌, true, false, Ok, None, is_some, option_map, map, IfErr, MatchOption, MatchResult};
 ghost use Rattle.kernel_model.specs.Answers.{Refuses};
 ghost use Rattle.kernel_model.specs.Loans.{pick, loan_refusal};

@@ -1,4 +1,4 @@
-//! What a pass of the queue of results, or of a deque of loans, shows.
+//! `Hand`: what a pass of the queue of results, or of a deque of loans, shows.
 use bursts::LoanId;
 use std::collections::LinkedList;
 

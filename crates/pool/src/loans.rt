@@ -1,4 +1,4 @@
-//! The deques of loans as one worker has them: its own, and those of the others.
+//! `Own`, `Other`: the deques of loans as one worker has them, its own and those of the others.
 ghost use Rattle.std.specs.Prelude.{◌≡◌, [], ◌∷◌, IfOk, MatchOption, MatchResult};
 ghost use Rattle.bursts.specs.LoanIds.{id_of_loan};
 ghost use Rattle.pool.specs.Deques.{new_at, put_in, took_from, missed_at};

@@ -1,4 +1,4 @@
-//! How a worker comes to the lock.
+//! `lock_soon`: how a worker comes to the lock.
 use crate::seats::Seat;
 use bursts::{Bench, Naming};
 use std::hint::spin_loop;

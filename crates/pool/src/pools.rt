@@ -1,4 +1,4 @@
-//! A pool: a bench under a lock, and the queue of results.
+//! `Pool`: a bench under a lock, and the queue of results.
 ghost use Rattle.std.specs.Prelude.{◌≡◌, ◌≤◌, IfOk, IfErr};
 ghost use Rattle.crossbeam_queue.specs.Passes.{ruled_capacity};
 

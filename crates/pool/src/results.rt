@@ -1,4 +1,4 @@
-//! The queue of results, and its rule.
+//! `ResultQueue`: the queue of results as one worker has it, and the queue's rule.
 ghost use Rattle.std.specs.Prelude.{◌≡◌, IfOk, MatchOption, MatchResult};
 ghost use Rattle.crossbeam_queue.specs.Passes.{ruled_capacity};
 ghost use Rattle.pool.specs.Queues.{new_at_queue, with_put, with_taken, found_full, found_empty};

@@ -1,4 +1,4 @@
-//! A worker's seat at a pool.
+//! `Seat`: a worker's place at a pool.
 ghost use Rattle.std.specs.Prelude.{◌≡◌, ◌+◌, ◌≤◌, length, MatchResult};
 ghost use Rattle.bursts.specs.LoanIds.{id_of_result};
 ghost use Rattle.pool.specs.Queues.{with_put, found_full};

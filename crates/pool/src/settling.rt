@@ -1,4 +1,4 @@
-//! Results that are settled together, under the lock.
+//! `settle_all`: settles the results of the queue together, under the lock.
 ghost use Rattle.std.specs.Prelude.{◌≡◌, ◌+◌, ◌≤◌, ◌<◌, ◌^◌, ℕ, length, Some, IfOk, IfErr, IfNone, IfSome, MatchResult};
 ghost use Rattle.std.specs.declared.option.Option.{Option};
 ghost use Rattle.machine_model.specs.declared.stop.Stop.{Stop};

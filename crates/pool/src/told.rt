@@ -1,4 +1,4 @@
-//! What the bench told a worker. It exists in proofs alone.
+//! `Told`: what the bench told a worker. It exists in proofs alone.
 use kernel::Refused;
 
 /// One answer of the bench, by which a worker had no loan, or to whether the work is over.

@@ -1,4 +1,4 @@
-//! What a worker does at its seat.
+//! `Seat::turn`: what a worker does at its seat.
 ghost use Rattle.std.specs.Prelude.{◌≡◌, ◌∷◌, ◌≤◌, ◌||◌, [], MatchResult};
 ghost use Rattle.kernel_model.specs.Loans.{is_over};
 ghost use Rattle.bursts.specs.Benches.{OnBench};

@@ -1,8 +1,8 @@
 -- The thread that commits.
 use Rattle.std.specs.Prelude.{◌≡◌, ◌-◌, ℕ, Bool, true, false, List, [], ◌∷◌, ◌++◌, Option, Some, None, Result, Ok, Err}
 use Rattle.kernel_model.specs.declared.answer.Refused.{Refused}
-use Rattle.desks.specs.Records.{SomeCoreHasInFlight}
-use Rattle.desks.specs.declared.note.Note.{Note}
+use Rattle.run_threads.specs.Records.{SomeCoreHasInFlight}
+use Rattle.run_threads.specs.declared.note.Note.{Note}
 use Rattle.durable_disk.specs.FileRecords.{FileRecord}
 use Rattle.durable_disk.specs.Stages.{Staging, staging, end_of, CommitsStage}
 use Rattle.run_threads.specs.CoreCalls.{calls_in}

@@ -1,3 +1,6 @@
 -- The definitions.
+pub mod Records
+pub mod Asked
+pub mod Work
 pub mod CoreCalls
 pub mod Committing

@@ -1,24 +1,24 @@
 //! `CommitThread`: the thread that commits what output waits for.
 ghost use Rattle.std.specs.Prelude.{◌≡◌, option_map};
-ghost use Rattle.run_threads.specs.Committing.{CompletesFirst, Completes, TellsNothing, DoesStages};
+ghost use Rattle.run_threads.specs.Committing.{Completes, TellsNothing, DoesStages};
 
 use crate::backoff::Backoff;
 use crate::board_reader::BoardReader;
+use crate::desk::{Desk, LockedDesk};
 use crate::fault::RunFault;
-use crate::locked_core::LockedCore;
 use crate::watch::Watch;
 use bursts::Naming;
-use durable_disk::{Completions, DiskFile, commit_stage, tell_end};
-use kernel::Refused;
+use durable_disk::{Completions, DiskFile, StagedCore, commit_stage};
+use kernel::{Event, Refused};
 use std::marker::Model;
 use std::sync::Wait;
 
-/// What the thread that commits has: a reader of the board, the core under its lock, and a count of its completions. In a durable
+/// What the thread that commits has: a reader of the board, a desk, and a count of its completions. In a durable
 /// run it also has the file that holds the disk. Contracts see the notes of its desk, the file's record, and which completion fails.
 #[derive(Drop)]
 pub struct CommitThread<'r, 'a, 'b, 'c, N: Naming, R: Wait, F: DiskFile> {
     reader: BoardReader<'c, N>,
-    core: LockedCore<'r, 'a, 'b, N, R>,
+    desk: LockedDesk<'r, 'a, 'b, N, R>,
     file: Option<F>,
     completions: Completions,
 }
@@ -30,23 +30,23 @@ impl<'r, 'a, 'b, 'c, N: Naming, R: Wait, F: DiskFile> Model
 
     ghost Value = { Committing };
 
-    ghost view = { λ t. record { notes = t.core.notes; file = option_map F.record_of t.file; left = t.completions } };
+    ghost view = { λ t. record { notes = t.desk.notes; file = option_map F.record_of t.file; left = t.completions } };
 }
 
 impl<'r, 'a, 'b, 'c, N: Naming, R: Wait, F: DiskFile> CommitThread<'r, 'a, 'b, 'c, N, R, F> {
-    /// A thread that commits at this core. Where a file is given, the file holds each write before the write is complete.
-    /// `completions` says which completion fails, if one is to.
+    /// A thread that commits at this desk. Where a file is given, it holds each write before that is complete. One of the completions
+    /// fails, if one is to.
     pub fn new(
         reader: BoardReader<'c, N>,
-        core: LockedCore<'r, 'a, 'b, N, R>,
+        desk: LockedDesk<'r, 'a, 'b, N, R>,
         file: Option<F>,
         completions: Completions,
     ) -> CommitThread<'r, 'a, 'b, 'c, N, R, F>
-        ensures { result ≡ record { notes = core.entry.notes; file = option_map F.record_of file; left = completions } }
+        ensures { result ≡ record { notes = desk.entry.notes; file = option_map F.record_of file; left = completions } }
     {
         CommitThread {
             reader,
-            core,
+            desk,
             file,
             completions,
         }
@@ -60,34 +60,27 @@ impl<'r, 'a, 'b, 'c, N: Naming, R: Wait, F: DiskFile> CommitThread<'r, 'a, 'b, '
         committed == changes
     }
 
-    /// Completes the write in flight that begins first on the disk, or has the write fail, where this is the completion that is to
-    /// fail. False where no write is in flight.
-    fn complete_first(&mut self) -> Result<bool, Refused>
-        ensures { CompletesFirst self.old self.new result }
-    {
-        let Some(at) = self.core.first_in_flight() else {
-            return Ok(false);
-        };
-        tell_end(&mut self.core, at, true, &mut self.completions)?;
-        Ok(true)
-    }
-
-    /// Completes writes in flight: in a durable run all of them, once the file holds them; else the first one. False where no write
-    /// is in flight.
+    /// Completes writes in flight: in a durable run all of them, once the file holds them. Else it completes the one that begins first
+    /// on the disk, or has it fail, where this is the completion that is to. Says whether one is in flight.
     fn complete(&mut self) -> Result<bool, Refused>
         ensures { Completes self.old self.new result }
     {
-        match &mut self.file {
-            Some(file) => commit_stage(&mut self.core, file, &mut self.completions),
-            None => self.complete_first(),
+        if let Some(file) = &mut self.file {
+            return commit_stage(&mut self.desk, file, &mut self.completions);
         }
+        let Some(at) = self.desk.in_flight() else {
+            return Ok(false);
+        };
+        let is_complete = self.completions.is_complete(true);
+        self.desk.tell(at, is_complete)?;
+        Ok(true)
     }
 
     /// Cuts a group.
     fn cut(&mut self) -> Result<(), Refused>
         ensures { TellsNothing self.old self.new }
     {
-        self.core.cut()?;
+        self.desk.apply(Event::Cut)?;
         Ok(())
     }
 
@@ -95,10 +88,10 @@ impl<'r, 'a, 'b, 'c, N: Naming, R: Wait, F: DiskFile> CommitThread<'r, 'a, 'b, '
     fn cut_if_wanted(&mut self) -> Result<bool, Refused>
         ensures { TellsNothing self.old self.new }
     {
-        if !self.core.wants_cut() {
+        if !self.desk.wants_cut() {
             return Ok(false);
         }
-        self.core.cut()?;
+        self.cut()?;
         Ok(true)
     }
 
@@ -106,7 +99,7 @@ impl<'r, 'a, 'b, 'c, N: Naming, R: Wait, F: DiskFile> CommitThread<'r, 'a, 'b, '
     fn stop(&mut self)
         ensures { TellsNothing self.old self.new }
     {
-        self.core.stop();
+        self.desk.stop();
     }
 
     /// One turn of the thread: completes writes in flight, or where there are none cuts a group, if output waits for one. False

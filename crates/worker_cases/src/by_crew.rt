@@ -3,7 +3,7 @@ use crate::desk::commit;
 use crate::fault::Fault;
 use crate::workers::{Worker, crew};
 use bursts::{Bench, Naming};
-use desks::Desk;
+use run_threads::Desk;
 use std::sync::{Mutex, Wait};
 use std::thread::Threads;
 

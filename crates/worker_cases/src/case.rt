@@ -8,10 +8,9 @@ use crate::programs::{boot, boot_forkers};
 use crate::workers::{Worker, shares_of, workers_of};
 use crate::{by_crew, desk, faults, gated, late, nine, stealing, stranger, turns};
 use bursts::{Bench, Blanks, Naming, Share, board_of, gather, totals_of};
-use desks::{Desk, LockedDesk};
 use kernel::Core;
 use pool::Pool;
-use run_threads::BoardReader;
+use run_threads::{BoardReader, Desk, LockedDesk};
 use std::alloc::{AllocError, Global};
 use std::marker::Brand;
 use std::sync::{Mutex, Wait};
@@ -146,7 +145,7 @@ fn play_at<N: Naming + Send + Sync, R: Threads + Wait + Sync>(
     let gate = CaseGate::new(&lendings, matches!(case, Case::Gated));
     let mut share = share;
     let mut workers = workers_of(alloc, pool, &mut share, gate)?;
-    let mut desk = LockedDesk::new(rt, pool.bench(), share);
+    let mut desk = LockedDesk::new(rt, alloc, pool.bench(), share);
     let played = play_by(
         rt,
         alloc,

@@ -5,9 +5,8 @@ use crate::case::QUANTUM;
 use crate::fault::Fault;
 use crate::gates::Open;
 use bursts::{Gate, Naming, WorkFault};
-use desks::{Desk, Turned, worker_turn};
-use kernel::Answer;
-use run_threads::BoardReader;
+use kernel::{Answer, Event};
+use run_threads::{BoardReader, Desk, Turned, worker_turn};
 use std::alloc::AllocError;
 use std::sync::Wait;
 
@@ -52,21 +51,21 @@ fn turns<D: Desk>(desk: &mut D) -> u32 {
 
 /// A Cut and the completion of its two writes.
 pub fn commit<D: Desk>(desk: &mut D) -> Result<(), Fault> {
-    desk.cut()?;
+    desk.apply(Event::Cut)?;
     for _ in 0..2 {
         let at = first_in_flight(desk)?;
-        desk.complete(at)?;
+        desk.apply(Event::Complete { at })?;
     }
     Ok(())
 }
 
 /// A Cut, the completion of its record, and the failure of its gate, which is written last. Gives the failure's answer.
 fn fail_to_commit<D: Desk>(desk: &mut D) -> Result<Answer, Fault> {
-    desk.cut()?;
+    desk.apply(Event::Cut)?;
     let record = first_in_flight(desk)?;
-    desk.complete(record)?;
+    desk.apply(Event::Complete { at: record })?;
     let gate = first_in_flight(desk)?;
-    Ok(desk.fail(gate)?)
+    Ok(desk.apply(Event::Fail { at: gate })?)
 }
 
 fn first_in_flight<D: Desk>(desk: &mut D) -> Result<u32, Fault> {

@@ -2,7 +2,7 @@
 use crate::case::QUANTUM;
 use crate::fault::Fault;
 use crate::programs::{boot, boot_quiet};
-use executor::{Settings, run};
+use executor::{Run, Settings};
 use kernel::Core;
 use std::alloc::Global;
 use std::sync::Wait;
@@ -44,7 +44,7 @@ fn play_one<R: Threads + Wait + Sync>(
         fail: Some(fail),
     };
     let mut out = Vec::new(alloc);
-    let core = run(rt, alloc, core, settings, &mut out)?;
+    let core = Run::new(alloc, settings, &mut out).to_end(rt, core)?;
     say(alloc, &core, fail, out.as_slice(), line)
 }
 

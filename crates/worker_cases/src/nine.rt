@@ -6,8 +6,8 @@ use crate::gates::Open;
 use crate::looks::is_lent;
 use crate::workers::{Worker, seat_at};
 use bursts::{Bench, Naming};
-use desks::Desk;
 use pool::Seat;
+use run_threads::Desk;
 use std::sync::{Mutex, Wait};
 
 /// How many processes there are, once the first of eight has forked.

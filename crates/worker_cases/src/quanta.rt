@@ -3,7 +3,7 @@ ghost use Rattle.std.specs.Prelude.{◌≤◌};
 
 use crate::fault::Fault;
 use crate::programs::boot;
-use executor::{Settings, run};
+use executor::{Run, Settings};
 use kernel::{Core, Event};
 use std::alloc::Global;
 use std::sync::Wait;
@@ -42,7 +42,7 @@ fn play_one<R: Threads + Wait + Sync>(
         fail: None,
     };
     let mut out = Vec::new(alloc);
-    let core = run(rt, alloc, core, settings, &mut out)?;
+    let core = Run::new(alloc, settings, &mut out).to_end(rt, core)?;
     let longest = longest_turn(&core);
     Ok(write!(line, "; {quantum}: {longest}")?)
 }

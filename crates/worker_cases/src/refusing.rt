@@ -7,7 +7,7 @@ use crate::case::QUANTUM;
 use crate::fault::Fault;
 use crate::programs::{boot, boot_on, zeros};
 use durable_disk::{DiskFile, FileNotes, HostRefused};
-use executor::{Settings, run_durable};
+use executor::{Run, Settings};
 use kernel::{Core, Piece};
 use std::alloc::Global;
 use std::sync::Wait;
@@ -112,6 +112,24 @@ pub fn play<R: Threads + Wait + Sync>(
     Ok(())
 }
 
+/// Runs a core by two workers on a file. What its terminal shows goes out.
+fn run_on<R: Threads + Wait + Sync, F: DiskFile + Send + Drop>(
+    rt: &R,
+    alloc: Global,
+    core: Core,
+    file: F,
+    out: &mut Vec<u8>,
+) -> Result<Core, Fault> {
+    let settings = Settings {
+        workers: 2,
+        quantum: QUANTUM,
+        terminal: Some(0),
+        fail: None,
+    };
+    let mut run = Run::new(alloc, settings, out).on_file(Some(file));
+    Ok(run.to_end(rt, core)?)
+}
+
 /// Runs both programs over a file that refuses a call.
 fn play_one<R: Threads + Wait + Sync>(
     rt: &R,
@@ -119,16 +137,10 @@ fn play_one<R: Threads + Wait + Sync>(
     refused: u32,
     line: &mut String,
 ) -> Result<(), Fault> {
-    let settings = Settings {
-        workers: 2,
-        quantum: QUANTUM,
-        terminal: Some(0),
-        fail: None,
-    };
     let mut held = zeros(alloc)?;
     let mut out = Vec::new(alloc);
     let file = MemoryFile::new(alloc, &mut held, refused);
-    let core = run_durable(rt, alloc, boot(alloc)?, settings, file, &mut out)?;
+    let core = run_on(rt, alloc, boot(alloc)?, file, &mut out)?;
     let written = hex::encode(alloc, out.as_slice())?;
     say(&core, refused, written.as_str(), line)?;
     let files = boot_on(alloc, held.as_slice())?.boot_files().count();

@@ -5,8 +5,8 @@ use crate::fault::Fault;
 use crate::looks::Looks;
 use crate::workers::{Worker, crew, seat_at};
 use bursts::{Bench, Gate, Naming, WorkFault};
-use desks::Desk;
 use pool::{Pooled, Seat};
+use run_threads::Desk;
 use std::sync::{Mutex, Wait};
 use std::thread::Threads;
 

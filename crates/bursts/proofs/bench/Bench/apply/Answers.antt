@@ -1,13 +1,15 @@
--- The books grow by one event, and the pair does not fall.
+-- The books grow by what the event adds, the pair does not fall, and what was known stays known.
+use Rattle.std.proofs.Common.{rules}
 use Rattle.crossbeam_utils.specs.Seq.{cell_view}
-use Rattle.bursts.proofs.Adding.{disk_event_adds}
+use Rattle.bursts.proofs.Adding.{event_adds}
 use Rattle.bursts.proofs.Publishing.{event_rises}
+use Rattle.bursts.proofs.Tickets.{known_stay}
 use Rattle.bursts.proofs.bench.Bench.apply.Goals as goal
 
 pub enter-requires : goal.enter-requires
 enter-requires g c =
     let e = c.in_ok-answer.ensures in
-    rw c.core.ensures (disk_event_adds c.self.inside.lender _ c.args.event _ _ _ c.requires c.self.invariant.3 e.applies.1 e.applies.2 e.ran c.one_event.ensures)
+    event_adds c.self.inside.core _ c.args.event _ _ _ c.self.invariant.3 e.applies.1 e.applies.2 e.ran c.totals_of_event.ensures
 
 pub publish-requires : goal.publish-requires
 publish-requires g c =
@@ -16,5 +18,25 @@ publish-requires g c =
     record {
       board = c.self.invariant.0;
       publishes = c.self.invariant.1;
-      rises = rw c.core-2.ensures (event_rises law.committed law.changes (cell_view c.self.inside.writer.pass) c.self.inside.lender _ c.args.event c.self.invariant.2 e.applies.2);
+      rises = event_rises law.committed law.changes (cell_view c.self.inside.writer.pass) c.self.inside.core _ c.args.event c.self.invariant.2 e.applies.2;
     }
+
+pub invariant_of-self : goal.invariant_of-self
+invariant_of-self g c = (
+  c.self.invariant.0,
+  c.self.invariant.1,
+  search rules,
+  search rules,
+  known_stay c.self.inside.core c.apply.new.self (c.known_loans_stay.ensures.applies c.self.inside.core c.apply.new.self c.args.event c.apply.result c.apply.ensures.applies)
+      c.self.inside.loans c.self.invariant.4,
+)
+
+pub invariant_of-self-2 : goal.invariant_of-self-2
+invariant_of-self-2 g c = (
+  search rules,
+  search rules,
+  search rules,
+  search rules,
+  known_stay c.self.inside.core c.apply.new.self (c.known_loans_stay.ensures.applies c.self.inside.core c.apply.new.self c.args.event c.apply.result c.apply.ensures.applies)
+      c.self.inside.loans c.self.invariant.4,
+)

@@ -7,17 +7,20 @@ use Rattle.bursts.proofs.Adding.{result_adds}
 use Rattle.bursts.proofs.Publishing.{result_rises}
 use Rattle.bursts.proofs.bench.Bench.settle_ticketed.Goals as goal
 
+pub settle_by_ticket-requires : goal.settle_by_ticket-requires
+settle_by_ticket-requires g c = c.self.invariant.4
+
 pub enter-requires : goal.enter-requires
 enter-requires g c =
-    let e = c.in_ok-answer.ensures in
-    rw c.core.ensures (result_adds c.self.inside.lender _ (loan_result c.args.done) _ _ _ c.self.invariant.3 e.events e.answer e.ran (c.totals_of_answer.ensures ∙ ap (λ (p : ℕ). settled_totals p c.in_ok-answer.answer) c.pid-pid.ensures))
+    let e = c.in_ok-answer.ensures.settles in
+    result_adds c.self.inside.core _ (loan_result c.args.done) _ _ _ c.self.invariant.3 e.events e.answer e.ran (c.totals_of_result.ensures ∙ ap (λ (p : ℕ). settled_totals p c.in_ok-answer.answer) c.pid-pid.ensures)
 
 pub publish-requires : goal.publish-requires
 publish-requires g c =
     let law = c.counts_never_fall.ensures in
-    let e = c.in_ok-answer.ensures in
+    let e = c.in_ok-answer.ensures.settles in
     record {
       board = c.self.invariant.0;
       publishes = c.self.invariant.1;
-      rises = rw c.core-2.ensures (result_rises law.committed law.changes (cell_view c.self.inside.writer.pass) c.self.inside.lender _ (loan_result c.args.done) c.self.invariant.2 e.events);
+      rises = result_rises law.committed law.changes (cell_view c.self.inside.writer.pass) c.self.inside.core _ (loan_result c.args.done) c.self.invariant.2 e.events;
     }
