@@ -1,78 +1,74 @@
-//! All runs of what a script sets up.
+//! All outcomes of programs: the search, and what it prints.
 ghost use Rattle.std.specs.Prelude.{⊤};
 
+use crate::call_search::search_calls;
+use crate::crew::after_each;
 use crate::findings::{Findings, Wanted, print_outcome};
-use crate::outcome::{Outcome, outcome_of};
-use crate::replay::{Called, Replay};
+use crate::outcome::Outcome;
+use crate::programs::{ProgramSource, Programs};
+use crate::progress::Progress;
+use crate::runs::{After, Runs};
 use crate::saved::script_of;
-use crate::state_key::key_of;
 use faults::{ExplorationFault, Fault};
-use scripts::{Setup, Start};
-use state_search::{Found, Moves, Reached, Searched, search};
+use state_search::{Found, Moves, Reached, Searched};
 use std::alloc::{AllocError, Global};
-use std::fs;
 use std::io::Write;
 use std::rt::Files;
+use std::thread::Threads;
+use std::{fs, thread};
 
-/// How far is searched.
+/// How many states each thread takes of a level before what they came to is put together.
+const TAKEN: usize = 64;
+
+/// How far is searched, and by how many threads.
 #[derive(Clone, Copy)]
 pub struct Limits {
     /// How many instructions a process runs at most to its next call.
     pub instructions: u32,
     /// No further level is searched where more states were found.
     pub states: u64,
+    /// None: by as many as the host has processors for.
+    pub threads: Option<u32>,
 }
 
-/// Runs as a search sees them. A state is a run, by the processes whose calls lead to it.
-struct Runs<'a, 'e, 'o, R, O> {
-    start: Start<'a, R>,
-    rt: &'e R,
-    instructions: u32,
-    wanted: Wanted<'e>,
-    findings: Findings<'e>,
+/// A search of runs, which prints their outcomes.
+struct Exploring<'r, 'p, 'w, 'o, 'e, R, O, E> {
+    rt: &'r R,
+    runs: &'r Runs<'p>,
+    threads: usize,
+    wanted: Wanted<'w>,
+    findings: Findings<'w>,
     out: &'o mut O,
+    progress: Progress<'e, E>,
 }
 
-impl<R, O> Drop for Runs<'_, '_, '_, R, O> {
+impl<R, O, E> Drop for Exploring<'_, '_, '_, '_, '_, R, O, E> {
     fn drop(self) {
-        let Runs {
-            start: _start,
+        let Exploring {
             rt: _,
-            instructions: _,
+            runs: _,
+            threads: _,
             wanted: _,
             findings: _findings,
             out: _,
+            progress: _progress,
         } = self;
     }
 }
 
-/// These calls, and one more.
-fn with_call(alloc: Global, calls: &[u32], pid: u32) -> Result<Vec<u32>, AllocError> {
-    let mut more = Vec::with_capacity(alloc, calls.len().saturating_add(1))?;
-    more.extend_from_slice(calls)?;
-    more.push(pid)?;
-    Ok(more)
-}
-
-fn reached_by(
-    alloc: Global,
-    calls: &[u32],
-    pid: u32,
-    replay: &mut Replay,
-) -> Result<Reached<Vec<u32>>, Fault> {
-    Ok(Reached {
-        key: key_of(alloc, replay)?,
-        state: with_call(alloc, calls, pid)?,
-    })
-}
-
-/// What comes after a run.
-#[derive(Drop)]
-enum After {
-    /// Others, by one call more.
-    More(Vec<Reached<Vec<u32>>>),
-    /// None: no process can go on.
-    Over(Outcome),
+/// Sorts out the runs that go on, and the outcomes of those that are over.
+fn sort_out(
+    answers: Vec<After>,
+    next: &mut Vec<Reached<Vec<u32>>>,
+    over: &mut Vec<Outcome>,
+) -> Result<(), AllocError> {
+    for after in answers {
+        match after {
+            After::More(mut reached) => next.append(&mut reached)?,
+            After::Over(outcome) => over.push(outcome)?,
+        }
+    }
+    Ok(())
 }
 
 /// The path of the script of an outcome.
@@ -80,25 +76,25 @@ fn script_path(alloc: Global, folder: &str, number: u64) -> Result<String, Alloc
     format!(in alloc; "{folder}/outcome-{number}.script")
 }
 
-impl<R: Files + AllocGlobal, O: Write> Runs<'_, '_, '_, R, O> {
-    /// Boots, and makes these calls.
-    fn replay(&mut self, calls: &[u32]) -> Result<Replay, Fault> {
-        let alloc = self.rt.alloc();
-        let core = self.start.boot()?;
-        let mut replay = Replay::begin(alloc, core, self.instructions)?;
-        for pid in calls {
-            replay.call(*pid)?;
-        }
-        Ok(replay)
+/// How many threads search.
+fn threads_of<R: Threads>(rt: &R, wanted: Option<u32>) -> usize {
+    match wanted {
+        Some(threads) => threads as usize,
+        None => match thread::available_parallelism(rt) {
+            Ok(processors) => processors.get(),
+            Err(_) => 4,
+        },
     }
+}
 
+impl<R: Files + AllocGlobal, O: Write, E: Write> Exploring<'_, '_, '_, '_, '_, R, O, E> {
     /// Writes the script of an outcome, if it is wanted.
     fn save(&mut self, number: u64, calls: &[u32]) -> Result<(), Fault> {
         let Some(folder) = self.wanted.folder else {
             return Ok(());
         };
         let alloc = self.rt.alloc();
-        let replay = self.replay(calls)?;
+        let replay = self.runs.replay(calls)?;
         let script = script_of(alloc, self.wanted.setup, &replay)?;
         let path = script_path(alloc, folder, number)?;
         fs::write(self.rt, path.as_str(), script.as_str())?;
@@ -115,29 +111,22 @@ impl<R: Files + AllocGlobal, O: Write> Runs<'_, '_, '_, R, O> {
         self.findings.judge(number, outcome)
     }
 
-    /// The runs after one more call: after a private one alone, if there is one, or after each that can be made.
-    fn after_each(&mut self, calls: &[u32]) -> Result<After, Fault> {
-        let alloc = self.rt.alloc();
-        let mut reached = Vec::new(alloc);
-        let mut replay = self.replay(calls)?;
-        for pid in 1..=replay.last_process() {
-            let called = replay.call(pid)?;
-            if called == Called::Idle {
-                continue;
-            }
-            if called == Called::MadePrivately {
-                reached.clear();
-            }
-            reached.push(reached_by(alloc, calls, pid, &mut replay)?)?;
-            if called == Called::MadePrivately {
-                return Ok(After::More(reached));
-            }
-            replay = self.replay(calls)?;
+    /// Tells how far it has come, where so many states of a level are done.
+    fn tell(&mut self, done: usize, level: usize) {
+        let left = level.saturating_sub(done);
+        self.progress.tell(self.rt, self.out, done, left);
+        if left == 0 {
+            self.progress.end_level(level);
         }
-        if !reached.is_empty() {
-            return Ok(After::More(reached));
+    }
+
+    /// Prints the outcomes of a level that are new, in their order.
+    fn find_all(&mut self, mut outcomes: Vec<Outcome>) -> Result<(), Fault> {
+        outcomes.sort()?;
+        for outcome in &outcomes {
+            self.find(outcome)?;
         }
-        Ok(After::Over(outcome_of(alloc, calls, &mut replay)?))
+        Ok(())
     }
 
     /// Prints how many states, calls and outcomes there were. Refused where not all was explored.
@@ -161,7 +150,7 @@ impl<R: Files + AllocGlobal, O: Write> Runs<'_, '_, '_, R, O> {
     }
 }
 
-impl<R: Files + AllocGlobal, O: Write> Moves for Runs<'_, '_, '_, R, O> {
+impl<R: Files + AllocGlobal, O: Write, E: Write> Moves for Exploring<'_, '_, '_, '_, '_, R, O, E> {
     type State = Vec<u32>;
 
     type Fault = Fault;
@@ -171,53 +160,58 @@ impl<R: Files + AllocGlobal, O: Write> Moves for Runs<'_, '_, '_, R, O> {
     ghost expands = { λ _ _. ⊤ };
 
     fn first(&mut self) -> Result<Reached<Vec<u32>>, Fault> {
-        let alloc = self.rt.alloc();
-        let mut replay = self.replay(&[])?;
-        Ok(Reached {
-            key: key_of(alloc, &mut replay)?,
-            state: Vec::new(alloc),
-        })
+        self.runs.first()
     }
 
-    fn expand(&mut self, level: &[Found<Vec<u32>>]) -> Result<Vec<Reached<Vec<u32>>>, Fault> {
+    fn expand<T: Threads + Sync>(
+        &mut self,
+        rt: &T,
+        level: &[Found<Vec<u32>>],
+    ) -> Result<Vec<Reached<Vec<u32>>>, Fault> {
         let mut next = Vec::new(self.rt.alloc());
         let mut over = Vec::new(self.rt.alloc());
-        for found in level {
-            match self.after_each(found.state.as_slice())? {
-                After::More(mut reached) => next.append(&mut reached)?,
-                After::Over(outcome) => over.push(outcome)?,
-            }
+        let mut done = 0usize;
+        for part in level.chunks(self.threads.saturating_mul(TAKEN).max(1)) {
+            let answers = after_each(rt, self.runs, self.threads, part)?;
+            sort_out(answers, &mut next, &mut over)?;
+            done = done.saturating_add(part.len());
+            self.tell(done, level.len());
         }
-        over.sort()?;
-        for outcome in &over {
-            self.find(outcome)?;
-        }
+        self.find_all(over)?;
         Ok(next)
     }
 }
 
-/// Finds all outcomes of what a script sets up, whatever the order of its processes' calls, each by as few calls as lead to it, and
-/// prints each once, and then how many states, calls and outcomes there were. Where the limits leave something unexplored, that is
-/// a fault.
+/// Finds all outcomes of programs, whatever the order of their calls, each by as few calls as lead to it, and prints each once, and then
+/// how many states, calls and outcomes there were. Where the limits leave something unexplored, that is a fault. How far it has come is
+/// told to `err`, if that is wanted.
 ///
-/// Where outcomes are expected, the first that is not among them ends the search. The expectations are read first, and then the
-/// images that the script names; the first fault ends it.
-pub fn explore_orders<R: Files + AllocGlobal, O: Write>(
+/// Where outcomes are expected, the first that is not among them ends the search. The expectations are read first, and then the programs;
+/// the first fault ends it. What is printed is the same, however many threads search.
+pub fn explore_orders<R: Files + AllocGlobal + Threads + Sync, O: Write, E: Write>(
     rt: &R,
-    setup: &mut Setup,
+    source: ProgramSource<'_>,
     limits: Limits,
     wanted: Wanted<'_>,
     out: &mut O,
+    err: &mut E,
 ) -> Result<(), Fault> {
     let findings = Findings::new(rt.alloc(), wanted.expected)?;
-    let mut runs = Runs {
-        start: Start::new(rt, setup),
-        rt,
+    let programs = Programs::read_from(rt, source)?;
+    let runs = Runs {
+        alloc: rt.alloc(),
+        programs: &programs,
         instructions: limits.instructions,
+    };
+    let mut exploring = Exploring {
+        rt,
+        runs: &runs,
+        threads: threads_of(rt, limits.threads),
         wanted,
         findings,
         out,
+        progress: Progress::new(rt, err, wanted.progress),
     };
-    let searched = search(rt.alloc(), &mut runs, limits.states)?;
-    runs.end(&searched)
+    let searched = search_calls(rt, rt.alloc(), &mut exploring, limits.states)?;
+    exploring.end(&searched)
 }

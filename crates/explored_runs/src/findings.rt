@@ -16,6 +16,8 @@ pub struct Wanted<'a> {
     pub expected: Option<&'a str>,
     /// The folder into which a script of each is written, if one is given.
     pub folder: Option<&'a str>,
+    /// Whether it is told how far the search has come.
+    pub progress: bool,
 }
 
 /// The outcomes that were found, each once.

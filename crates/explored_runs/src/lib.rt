@@ -1,10 +1,13 @@
 //! All outcomes of programs, whatever the order of their calls.
 //!
-//! Read `explore_orders` first. `Runs` says to `state_search` which runs a call leads to: `exploring` has its moves, `replay` does them on a
-//! core, `private` finds calls that may be tried alone, and `state_key` tells runs apart. What a run comes to is an `outcome`, kept
-//! once by `findings`. Only safety is proved.
+//! Read `explore_orders` first. `runs` says to `state_search` which runs a call leads to: `programs` are booted, `replay` does the calls of a
+//! run on a core by `core_calls`, `private` finds calls that may be tried alone, and `state_key` tells runs apart. A `crew` of threads shares each level of
+//! the search. What a run comes to is an `outcome`, kept once by `findings`. `call_search` says of any such search what it finds.
 #![tactic(auto)]
 
+mod call_search;
+mod core_calls;
+mod crew;
 mod ends;
 mod expectations;
 mod exploring;
@@ -12,11 +15,16 @@ mod findings;
 mod outcome;
 mod pipe_texts;
 mod private;
+mod programs;
+mod progress;
 mod replay;
+mod runs;
 mod saved;
 mod state_digest;
 mod state_key;
 
+pub use call_search::search_calls;
 pub use exploring::{Limits, explore_orders};
 pub use findings::Wanted;
+pub use programs::ProgramSource;
 pub use saved::setup_lines;

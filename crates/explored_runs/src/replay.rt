@@ -1,13 +1,20 @@
 //! A run that is replayed, call by call.
+ghost use Rattle.std.specs.Prelude.{◌≡◌, [], true, length, IfOk, OnOk};
+ghost use Rattle.kernel_model.specs.Answers.{now};
+ghost use Rattle.order_laws.specs.Moves.{calls};
+ghost use Rattle.explored_runs.specs.CallSearches.{start};
+ghost use Rattle.explored_runs.specs.Replays.{does_something, seen_of};
+
+use crate::core_calls::{enter, last_process, run_all, run_on_after};
 use crate::pipe_texts::PipeTexts;
 use crate::private::is_private;
 use faults::Fault;
-use kernel::{Answer, Core, Event, Refused};
+use kernel::Core;
 use kernel_model::TERMINALS;
 use std::alloc::Global;
 
 /// What came of a call.
-#[derive(Clone, Copy, PartialEq, Eq)]
+#[derive(Clone, Copy)]
 pub enum Called {
     /// Its process cannot make it now: it waits, has ended, or did not come to a call.
     Idle,
@@ -49,43 +56,32 @@ pub struct Replay {
 
 impl Replay {
     /// A core that has just been booted, where each process runs to where it first stops.
-    pub fn begin(alloc: Global, core: Core, limit: u32) -> Result<Replay, Fault> {
-        let mut replay = Replay {
+    pub fn begin(alloc: Global, core: Core, limit: u32) -> Result<Replay, Fault>
+        requires { core.history ≡ [] }
+        ensures seen { IfOk result (λ replay. seen_of replay.core ≡ start limit core.boot) }
+        ensures boot { IfOk result (λ replay. replay.core.boot ≡ core.boot) }
+        ensures limit { IfOk result (λ replay. replay.limit ≡ limit) }
+    {
+        let mut core = core;
+        run_all(&mut core, limit)?;
+        Ok(Replay {
             core,
             pipes: PipeTexts::new(alloc),
             limit,
-        };
-        for pid in 1..=replay.last_process() {
-            replay.run_on(pid)?;
-        }
-        Ok(replay)
+        })
     }
 
     /// The number of the last process; they begin at 1.
-    pub fn last_process(&self) -> u32 {
-        u32::try_from(self.core.tables().processes.len()).unwrap_or(0)
-    }
-
-    /// A process runs to where it stops, unless it has ended.
-    fn run_on(&mut self, pid: u32) -> Result<(), Fault> {
-        let n = self.limit;
-        match self.core.apply(Event::Turn { pid, n }) {
-            Err(Refused::OutOfMemory) => Err(Fault::OutOfMemory),
-            _ => Ok(()),
-        }
-    }
-
-    /// A process enters the kernel. Whether something came of it.
-    fn enter(&mut self, pid: u32) -> Result<bool, Fault> {
-        match self.core.apply(Event::Enter { pid }) {
-            Ok(Answer::Entered | Answer::Ended) => Ok(true),
-            Err(Refused::OutOfMemory) => Err(Fault::OutOfMemory),
-            _ => Ok(false),
-        }
+    pub fn last_process(&self) -> u32
+        ensures { result ≡ length (now self.now.core).sync.processes }
+    {
+        last_process(&self.core)
     }
 
     /// What was just called, before its process runs on.
-    fn kind_of(&self, pid: u32, before: &Lengths) -> Called {
+    fn kind_of(&self, pid: u32, before: &Lengths) -> Called
+        ensures { does_something result ≡ true }
+    {
         let terminal = written_since(&self.core, before);
         if is_private(&self.core, pid, terminal) {
             Called::MadePrivately
@@ -95,19 +91,20 @@ impl Replay {
     }
 
     /// The call at which a process stands, or its end by a trap. It then runs on, and so does a process that it made.
-    pub fn call(&mut self, pid: u32) -> Result<Called, Fault> {
+    pub fn call(&mut self, pid: u32) -> Result<Called, Fault>
+        ensures moved { OnOk result (seen_of self.new.core ≡ (calls self.old.limit).go (seen_of self.old.core) pid) }
+        ensures made { IfOk result (λ called. does_something called ≡ (calls self.old.limit).works ((calls self.old.limit).label (seen_of self.old.core) pid)) }
+        ensures boot { OnOk result (self.new.core.boot ≡ self.old.core.boot) }
+        ensures limit { self.new.limit ≡ self.old.limit }
+    {
         let last = self.last_process();
         let lengths = lengths_of(&self.core);
-        if !self.enter(pid)? {
+        if !enter(&mut self.core, pid)? {
             return Ok(Called::Idle);
         }
         self.pipes.note(self.core.tables())?;
         let called = self.kind_of(pid, &lengths);
-        self.run_on(pid)?;
-        let child = self.last_process();
-        if child != last {
-            self.run_on(child)?;
-        }
+        run_on_after(&mut self.core, pid, last, self.limit)?;
         Ok(called)
     }
 }

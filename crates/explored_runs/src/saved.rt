@@ -8,7 +8,7 @@ use std::alloc::{AllocError, Global};
 
 /// Whether a line of a script sets something up.
 fn sets_up(line: &str) -> bool {
-    ["program ", "image ", "tape "]
+    ["program ", "image ", "binary ", "tape "]
         .iter()
         .any(|word| line.starts_with(*word))
 }

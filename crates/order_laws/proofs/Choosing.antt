@@ -1,12 +1,12 @@
--- Chosen moves alone come to all that complete orders come to, and above each state on the way.
+-- Chosen moves alone come to all that complete orders come to. A search by such moves finds their ends, and a state above each on the way.
 use Rattle.std.proofs.Common.{◌≡◌, ℕ, zero, suc, ◌+◌, ◌<◌, ◌≤◌, ◌⊎◌, inl, inr, Bool, true, false, List, [], ◌∷◌, ◌++◌, length, refl, sym, ap, subst, ◌∙◌, arith}
 use Rattle.std.specs.List.{All, Contains}
 use Rattle.std.specs.Prelude.{max}
 use Rattle.std.proofs.lemmas.Bool.{false≢true}
 use Rattle.std.proofs.lemmas.List.{length-append}
 use Rattle.std.proofs.lemmas.List.Elements.{All-nil, All-cons, All-weaker, All-contains}
-use Rattle.order_laws.specs.Orders.{System, reached, Commutes, IsOver, AllWork, IsComplete, IsChoice, AreChosen, HasChosen, IsAfter}
-use Rattle.order_laws.specs.Searches.{Found, HasKey, IsSearched, LeftNone}
+use Rattle.order_laws.specs.Orders.{System, reached, Commutes, IsOver, AllWork, IsComplete, IsChoice, HasChosen}
+use Rattle.order_laws.specs.Searches.{Found, HasState, IsSearched, LeftNone}
 
 -- What makes a move a private one, where V says of which moves it is said: it does something, and whatever other move is made, the two
 -- are independent, and it stays private.
@@ -170,111 +170,114 @@ module _ {S M L : Type 0} (y : System S M L) (P : S → Type 0) (law : Commutes 
             as_many = let k = rest.as_many in omega (arith, k, size_less);
           }
 
-      -- ---- states on the way
-      -- chosen moves come to a state above this one
-      pub record HasAbove (Below : S → S → Type 0) (s x : S) : Type 0 where
-        pub moves : List M
-        pub chosen_each : AreChosen y chosen s moves
-        pub work_each : AllWork y s moves
-        pub above : Below x (reached y s moves)
+    -- ---- what a search found, which went on from each state by a private move, or by each
+    module _ (first : S) (found : List (Found S)) (depth : ℕ) (searched : IsSearched y V first found depth) where
+      -- how it went on from a state to which so many moves lead at most
+      abbrev FromHere : S → ℕ → Type 0
+      FromHere r k = ((m : M) × V r m × HasState found (y.go r m) (k + 1)) ⊎ ((m : M) → y.works (y.label r m) ≡ true → HasState found (y.go r m) (k + 1))
 
-      -- at most so many chosen moves can be made one after the other
-      abbrev pub EndsWithin : ℕ → S → Type 0
-      EndsWithin zero s = (m : M) → chosen s m ≡ true → y.works (y.label s m) ≡ true → ⊥
-      EndsWithin (suc k) s = (m : M) → chosen s m ≡ true → y.works (y.label s m) ≡ true → EndsWithin k (y.go s m)
+      -- deep enough to go on
+      abbrev GoesOn : ℕ → Type 0
+      GoesOn k = LeftNone found depth ⊎ (k < depth)
 
-      module _ (Below : S → S → Type 0) (up : LeadsUp y P V Below) where
-        one_more : (s : S) (m : M) (x : S) → chosen s m ≡ true → y.works (y.label s m) ≡ true → HasAbove Below (y.go s m) x → HasAbove Below s x
-        one_more s m x picked works h = record { moves = m ∷ h.moves; chosen_each = (picked, h.chosen_each); work_each = (works, h.work_each); above = h.above }
+      from_here : (r : S) (k : ℕ) → HasState found r k → GoesOn k → FromHere r k
+      from_here r k h deep =
+          let near = h.near in
+          let less : h.one.moves < depth = elim deep as (λ _. h.one.moves < depth) [ inl none ↦ none h.one h.is_found | inr within ↦ omega (arith, within, near) ] in
+          let farther : (t : S) → HasState found t (h.one.moves + 1) → HasState found t (k + 1) =
+          λ t there. record { one = there.one; is_found = there.is_found; same = there.same; near = let most = there.near in omega (arith, most, near) } in
+          subst (λ (z : S). FromHere z k) h.same (elim (searched.goes_on h.one h.is_found less) as (λ _. FromHere h.one.state k) [
+            | inl own ↦ inl (own.0, own.1, farther (y.go h.one.state own.0) own.2)
+            | inr each ↦ inr (λ m works. farther (y.go h.one.state m) (each m works))
+          ])
 
-        pub has_above : (size : ℕ) (s : S) (ms : List M) → P s → EndsWithin size s → AllWork y s ms → HasAbove Below s (reached y s ms)
-        has_above size s [] p ends all = record { moves = []; chosen_each = tt; work_each = tt; above = up.itself s }
-        has_above zero s (m ∷ ms) p ends all = elim (good s) as (λ _. HasAbove Below s (reached y s (m ∷ ms))) [
-          | inl own ↦ absurd (ends own.0 own.1 (stays.works s own.0 p own.2))
-          | inr each ↦ absurd (ends m (each m all.0) all.0)
-        ]
-        has_above (suc size) s (m ∷ ms) p ends all = elim (good s) as (λ _. HasAbove Below s (reached y s (m ∷ ms))) [
-          | inr each ↦ one_more s m (reached y s (m ∷ ms)) (each m all.0) all.0 (has_above size (y.go s m) ms (law.keeps s m p) (ends m (each m all.0) all.0) all.1)
-          | inl own ↦
-              let x = own.0 in
-              let works = stays.works s x p own.2 in
-              let next = law.keeps s x p in
-              let fewer = ends x own.1 works in
-              elim (walk (m ∷ ms) s x p own.2 all) as (λ _. HasAbove Below s (reached y s (m ∷ ms))) [
-                | inl found ↦
-                    let l = left s x (m ∷ ms) p found in
-                    one_more s x (reached y s (m ∷ ms)) own.1 works (subst (λ z. HasAbove Below (y.go s x) z) l.ends (has_above size (y.go s x) l.rest next fewer (l.work all)))
-                | inr beyond ↦
-                    let r = reached y s (m ∷ ms) in
-                    let moved = past (m ∷ ms) s x p beyond.aside in
-                    let h = one_more s x (reached y (y.go s x) (m ∷ ms)) own.1 works (has_above size (y.go s x) (m ∷ ms) next fewer (moved.work all)) in
-                    record {
-                      moves = h.moves;
-                      chosen_each = h.chosen_each;
-                      work_each = h.work_each;
-                      above = up.through r (y.go r x) (reached y s h.moves) (up.up r x (reached_holds (m ∷ ms) s p) beyond.still) (subst (λ z. Below z (reached y s h.moves)) moved.same h.above);
-                    }
-              ]
-        ]
+      -- the end of each complete order, in as many moves at most
+      ends_there : (size : ℕ) (r : S) (k : ℕ) (ms : List M) → P r → length ms ≡ size → IsComplete y r ms → HasState found r k → LeftNone found depth ⊎ (k + length ms ≤ depth)
+          → HasState found (reached y r ms) (k + length ms)
+      ends_there size r k [] p long complete h deep = record { one = h.one; is_found = h.is_found; same = h.same; near = let near = h.near in omega (arith, near) }
+      ends_there zero r k (m ∷ ms) p long complete h deep = absurd (let none : ⊥ = omega (arith, long) in none)
+      ends_there (suc size) r k (m ∷ ms) p long complete h deep =
+          let here : GoesOn k = elim deep as (λ _. GoesOn k) [ inl none ↦ inl none | inr within ↦ inr (omega (arith, within)) ] in
+          elim (from_here r k h here) as (λ _. HasState found (reached y r (m ∷ ms)) (k + length (m ∷ ms))) [
+            | inl own ↦
+                let l = left r own.0 (m ∷ ms) p (private_first (m ∷ ms) r own.0 p own.1 complete) in
+                let size_less = l.one_less in
+                let over : IsOver y (reached y (y.go r own.0) l.rest) = subst (λ z. IsOver y z) (sym l.ends) complete.over in
+                let there : LeftNone found depth ⊎ (k + 1 + length l.rest ≤ depth) =
+                elim deep as (λ _. LeftNone found depth ⊎ (k + 1 + length l.rest ≤ depth)) [ inl none ↦ inl none | inr within ↦ inr (omega (arith, within, size_less)) ] in
+                let end = ends_there size (y.go r own.0) (k + 1) l.rest (law.keeps r own.0 p) (omega (arith, size_less, long)) (record { all = l.work complete.all; over = over }) own.2 there in
+                let most = end.near in
+                record { one = end.one; is_found = end.is_found; same = end.same ∙ l.ends; near = omega (arith, most, size_less) }
+            | inr each ↦
+                let there : LeftNone found depth ⊎ (k + 1 + length ms ≤ depth) =
+                elim deep as (λ _. LeftNone found depth ⊎ (k + 1 + length ms ≤ depth)) [ inl none ↦ inl none | inr within ↦ inr (omega (arith, within)) ] in
+                let end = ends_there size (y.go r m) (k + 1) ms (law.keeps r m p) (omega (arith, long)) (record { all = complete.all.1; over = complete.over }) (each m complete.all.0) there in
+                let most = end.near in
+                record { one = end.one; is_found = end.is_found; same = end.same; near = omega (arith, most) }
+          ]
 
-      -- ---- what a search found
-      module _ (first : S) (found : List (Found S)) (depth : ℕ) (searched : IsSearched (λ (s : S). s) (IsAfter y chosen) first found depth) where
-        one_after : (r : S) (k : ℕ) (m : M) → HasKey (λ (s : S). s) found r k → LeftNone found depth ⊎ (k < depth) → chosen r m ≡ true → y.works (y.label r m) ≡ true
-            → HasKey (λ (s : S). s) found (y.go r m) (k + 1)
-        one_after r k m h deep picked works =
-            let near = h.near in
-            let less : h.one.moves < depth = elim deep as (λ _. h.one.moves < depth) [ inl none ↦ none h.one h.is_found | inr within ↦ omega (arith, within, near) ] in
-            let next = searched.goes_on h.one h.is_found less (y.go r m) (subst (λ (z : S). IsAfter y chosen z (y.go r m)) (sym h.same_key) (m, picked, works, refl)) in
-            let most = next.near in
-            record { one = next.one; is_found = next.is_found; same_key = next.same_key; near = omega (arith, most, near) }
+      pub found_end : (ms : List M) → P first → IsComplete y first ms → LeftNone found depth ⊎ (length ms ≤ depth) → HasState found (reached y first ms) (length ms)
+      found_end ms p complete deep =
+          let within : LeftNone found depth ⊎ (0 + length ms ≤ depth) = elim deep as (λ _. LeftNone found depth ⊎ (0 + length ms ≤ depth)) [ inl none ↦ inl none | inr most ↦ inr (omega (arith, most)) ] in
+          let end = ends_there (length ms) first 0 ms p refl complete searched.begins within in
+          let most = end.near in
+          record { one = end.one; is_found = end.is_found; same = end.same; near = omega (arith, most) }
 
-        all_after : (ms : List M) (r : S) (k : ℕ) → HasKey (λ (s : S). s) found r k → LeftNone found depth ⊎ (k + length ms ≤ depth) → AreChosen y chosen r ms → AllWork y r ms
-            → HasKey (λ (s : S). s) found (reached y r ms) (k + length ms)
-        all_after [] r k h deep picked all = record { one = h.one; is_found = h.is_found; same_key = h.same_key; near = let near = h.near in omega (arith, near) }
-        all_after (m ∷ ms) r k h deep picked all =
-            let here : LeftNone found depth ⊎ (k < depth) = elim deep as (λ _. LeftNone found depth ⊎ (k < depth)) [ inl none ↦ inl none | inr within ↦ inr (omega (arith, within)) ] in
-            let there : LeftNone found depth ⊎ (k + 1 + length ms ≤ depth) = elim deep as (λ _. LeftNone found depth ⊎ (k + 1 + length ms ≤ depth)) [ inl none ↦ inl none | inr within ↦ inr (omega (arith, within)) ] in
-            let rest = all_after ms (y.go r m) (k + 1) (one_after r k m h here picked.0 all.0) there picked.1 all.1 in
-            let near = rest.near in
-            record { one = rest.one; is_found = rest.is_found; same_key = rest.same_key; near = omega (arith, near) }
+      -- where it left none, and states grow by moves, it found a state above each that moves come to
+      module _ (none : LeftNone found depth) (size : S → ℕ) (grows : (s : S) (m : M) → P s → y.works (y.label s m) ≡ true → size s < size (y.go s m)) where
+        abbrev greatest : List (Found S) → ℕ
+        greatest [] = 0
+        greatest (f ∷ fs) = max (size f.state) (greatest fs)
 
-        -- the end of each complete order, in as many moves at most
-        pub found_end : (ms : List M) → P first → IsComplete y first ms → LeftNone found depth ⊎ (length ms ≤ depth) → HasKey (λ (s : S). s) found (reached y first ms) (length ms)
-        found_end ms p complete deep =
-            let h = has_chosen (length ms) first ms p refl complete in
-            let count = h.as_many in
-            let within : LeftNone found depth ⊎ (0 + length h.moves ≤ depth) = elim deep as (λ _. LeftNone found depth ⊎ (0 + length h.moves ≤ depth)) [ inl none ↦ inl none | inr most ↦ inr (omega (arith, most, count)) ] in
-            let end = all_after h.moves first 0 searched.begins within h.chosen_each h.complete.all in
-            let near = end.near in
-            record { one = end.one; is_found = end.is_found; same_key = end.same_key ∙ h.same; near = omega (arith, near, count) }
+        none_greater : (fs : List (Found S)) → All (λ (f : Found S). size f.state ≤ greatest fs) fs
+        none_greater [] = All-nil (λ (f : Found S). size f.state ≤ 0)
+        none_greater (f ∷ fs) =
+            All-cons (λ (g : Found S). size g.state ≤ max (size f.state) (greatest fs)) f fs (let most : size f.state ≤ max (size f.state) (greatest fs) = omega arith in most)
+            (All-weaker (λ (g : Found S). size g.state ≤ greatest fs) (λ (g : Found S). size g.state ≤ max (size f.state) (greatest fs)) (λ g le. omega (arith, le)) fs (none_greater fs))
 
-        -- where it left none, and states grow by moves, it found a state above each that moves come to
-        module _ (none : LeftNone found depth) (size : S → ℕ) (grows : (s : S) (m : M) → P s → y.works (y.label s m) ≡ true → size s < size (y.go s m)) where
-          abbrev greatest : List (Found S) → ℕ
-          greatest [] = 0
-          greatest (f ∷ fs) = max (size f.state) (greatest fs)
+        most : (r : S) (k : ℕ) → HasState found r k → size r ≤ greatest found
+        most r k h = subst (λ (z : S). size z ≤ greatest found) h.same (All-contains (λ (f : Found S). size f.state ≤ greatest found) found h.one (none_greater found) h.is_found)
 
-          none_greater : (fs : List (Found S)) → All (λ (f : Found S). size f.state ≤ greatest fs) fs
-          none_greater [] = All-nil (λ (f : Found S). size f.state ≤ 0)
-          none_greater (f ∷ fs) =
-              All-cons (λ (g : Found S). size g.state ≤ max (size f.state) (greatest fs)) f fs (let most : size f.state ≤ max (size f.state) (greatest fs) = omega arith in most)
-              (All-weaker (λ (g : Found S). size g.state ≤ greatest fs) (λ (g : Found S). size g.state ≤ max (size f.state) (greatest fs)) (λ g le. omega (arith, le)) fs (none_greater fs))
+        module _ (Below : S → S → Type 0) (up : LeadsUp y P V Below) where
+          -- a state above this one was found
+          abbrev HasAbove : S → Type 0
+          HasAbove x = (f : Found S) × Contains found f × Below x f.state
 
-          most : (r : S) (k : ℕ) → HasKey (λ (s : S). s) found r k → size r ≤ greatest found
-          most r k h = subst (λ (z : S). size z ≤ greatest found) h.same_key (All-contains (λ (f : Found S). size f.state ≤ greatest found) found h.one (none_greater found) h.is_found)
+          above_from : (fewer : ℕ) (r : S) (k : ℕ) (ms : List M) → P r → HasState found r k → greatest found ≤ size r + fewer → AllWork y r ms → HasAbove (reached y r ms)
+          above_from fewer r k [] p h le all = (h.one, h.is_found, subst (λ z. Below z h.one.state) h.same (up.itself h.one.state))
+          above_from zero r k (m ∷ ms) p h le all = elim (from_here r k h (inl none)) as (λ _. HasAbove (reached y r (m ∷ ms))) [
+            | inl own ↦
+                let more = grows r own.0 p (stays.works r own.0 p own.1) in
+                let at_most = most (y.go r own.0) (k + 1) own.2 in
+                absurd (let no : ⊥ = omega (arith, le, more, at_most) in no)
+            | inr each ↦
+                let more = grows r m p all.0 in
+                let at_most = most (y.go r m) (k + 1) (each m all.0) in
+                absurd (let no : ⊥ = omega (arith, le, more, at_most) in no)
+          ]
+          above_from (suc fewer) r k (m ∷ ms) p h le all = elim (from_here r k h (inl none)) as (λ _. HasAbove (reached y r (m ∷ ms))) [
+            | inr each ↦
+                let more = grows r m p all.0 in
+                above_from fewer (y.go r m) (k + 1) ms (law.keeps r m p) (each m all.0) (omega (arith, le, more)) all.1
+            | inl own ↦
+                let x = own.0 in
+                let more = grows r x p (stays.works r x p own.1) in
+                let next = law.keeps r x p in
+                let le' : greatest found ≤ size (y.go r x) + fewer = omega (arith, le, more) in
+                elim (walk (m ∷ ms) r x p own.1 all) as (λ _. HasAbove (reached y r (m ∷ ms))) [
+                  | inl could ↦
+                      let l = left r x (m ∷ ms) p could in
+                      subst (λ z. HasAbove z) l.ends (above_from fewer (y.go r x) (k + 1) l.rest next own.2 le' (l.work all))
+                  | inr beyond ↦
+                      let end = reached y r (m ∷ ms) in
+                      let moved = past (m ∷ ms) r x p beyond.aside in
+                      let a = above_from fewer (y.go r x) (k + 1) (m ∷ ms) next own.2 le' (moved.work all) in
+                      (a.0, a.1, up.through end (y.go end x) a.0.state (up.up end x (reached_holds (m ∷ ms) r p) beyond.still) (subst (λ z. Below z a.0.state) moved.same a.2))
+                ]
+          ]
 
-          ends_within : (fewer : ℕ) (r : S) (k : ℕ) → P r → HasKey (λ (s : S). s) found r k → greatest found ≤ size r + fewer → EndsWithin fewer r
-          ends_within zero r k p h le = λ m picked works.
-              let more = grows r m p works in
-              let at_most = most (y.go r m) (k + 1) (one_after r k m h (inl none) picked works) in
-              omega (arith, le, more, at_most)
-          ends_within (suc fewer) r k p h le = λ m picked works.
-              let more = grows r m p works in
-              ends_within fewer (y.go r m) (k + 1) (law.keeps r m p) (one_after r k m h (inl none) picked works) (omega (arith, le, more))
-
-          pub found_above : (Below : S → S → Type 0) → LeadsUp y P V Below → (ms : List M) → P first → (f : Found S) × Contains found f × Below (reached y first ms) f.state
-          found_above Below up ms p =
+          pub found_above : (ms : List M) → P first → HasAbove (reached y first ms)
+          found_above ms p =
               let working = those_that_work ms first p in
-              let h = has_above Below up (greatest found) first working.0 p (ends_within (greatest found) first 0 p searched.begins (let le : greatest found ≤ size first + greatest found = omega arith in le)) working.1 in
-              let end = all_after h.moves first 0 searched.begins (inl none) h.chosen_each h.work_each in
-              (end.one, end.is_found, subst (λ z. Below z end.one.state) working.2 (subst (λ z. Below (reached y first working.0) z) (sym end.same_key) h.above))
+              subst (λ z. HasAbove z) working.2
+              (above_from (greatest found) first 0 working.0 p searched.begins (let le : greatest found ≤ size first + greatest found = omega arith in le) working.1)

@@ -1,5 +1,5 @@
 -- The outcomes of every run are among the states that a complete search of the calls found.
-use Rattle.std.proofs.Common.{◌≡◌, ℕ, inl, Bool, true, false, List, [], ◌∷◌, ◌++◌, append-nil, append_assoc, Some, is_some, refl, sym, ap, subst, ◌∙◌}
+use Rattle.std.proofs.Common.{◌≡◌, ℕ, inl, true, false, List, [], ◌∷◌, ◌++◌, append-nil, append_assoc, Some, is_some, refl, sym, ap, subst, ◌∙◌}
 use Rattle.std.specs.List.{Contains}
 use Rattle.std.specs.Prelude.{option_map}
 use Rattle.std.proofs.lemmas.Bool.{false≢true}
@@ -20,7 +20,7 @@ use Rattle.kernel_laws.proofs.ConeLaws.{visible_suffice}
 use Rattle.kernel_laws.proofs.Selected.{step_numbered}
 use Rattle.kernel_model.proofs.Runs.{after_sync, after_log}
 use Rattle.order_laws.specs.Moves.{Seen, first_seen, seen_after, events, calls}
-use Rattle.order_laws.specs.Orders.{IsChoice, IsOver, reached}
+use Rattle.order_laws.specs.Orders.{IsOver, reached}
 use Rattle.order_laws.specs.Outcomes.{Tells, rested, settled, AreSearched, WasFound, AllStand, HasOutcomes}
 use Rattle.order_laws.specs.Privacy.{IsPrivate}
 use Rattle.order_laws.proofs.Calls.{calls_commute}
@@ -71,8 +71,8 @@ tells b es = record {
 }
 
 -- ---- the outcomes
-module _ (n : ℕ) (b : Boot) (chosen : Seen → ℕ → Bool) (good : IsChoice (calls n) IsPrivate chosen) (found : List (Found Seen)) (depth : ℕ)
-    (searched : AreSearched n b chosen found depth) (none : LeftNone found depth) (stand : AllStand found) where
+module _ (n : ℕ) (b : Boot) (found : List (Found Seen)) (depth : ℕ) (searched : AreSearched n b found depth)
+    (none : LeftNone found depth) (stand : AllStand found) where
   abbrev start : Seen
   start = settled n (first_seen b)
 
@@ -85,7 +85,7 @@ module _ (n : ℕ) (b : Boot) (chosen : Seen → ℕ → Bool) (good : IsChoice 
   -- above each state that calls come to one was found
   above : (ps : List ℕ) (s : Seen) → reached (calls n) start ps ≡ settled n s → (f : Found Seen) × Contains found f × IsBelow (settled n s) f.state
   above ps s is =
-      let a = found_above (calls n) IsNumbered (calls_commute n) IsPrivate (stays_private n) chosen good start found depth searched none
+      let a = found_above (calls n) IsNumbered (calls_commute n) IsPrivate (stays_private n) start found depth searched none
       (λ (u : Seen). total u.sync.processes) (grows n) IsBelow (upward n) ps are in
       (a.0, a.1, subst (λ (u : Seen). IsBelow u a.0.state) is a.2)
 
@@ -116,9 +116,9 @@ module _ (n : ℕ) (b : Boot) (chosen : Seen → ℕ → Bool) (good : IsChoice 
       let c = covers es in
       let working = those_that_work (calls n) IsNumbered (calls_commute n) c.0 start are in
       let same = working.2 ∙ c.1 in
-      let h = found_end (calls n) IsNumbered (calls_commute n) IsPrivate (stays_private n) chosen good start found depth searched working.0 are
+      let h = found_end (calls n) IsNumbered (calls_commute n) IsPrivate (stays_private n) start found depth searched working.0 are
       (record { all = working.1; over = subst (λ (u : Seen). IsOver (calls n) u) (sym same) over }) (inl none) in
-      (h.one, h.is_found, h.same_key ∙ same)
+      (h.one, h.is_found, h.same ∙ same)
 
   -- the run of the visible events
   pub outcomes : (es : List Event) → HasOutcomes n b found es

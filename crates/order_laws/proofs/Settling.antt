@@ -130,7 +130,7 @@ turn_quiet s r n (Some p) = by (is_some p.status)
     by true = refl
     by false = refl
 
-turn_only : (s : Seen) (r n : ℕ) → seen_after s (Turn r n) ≡ with_sync s (step s.sync (Turn r n)).state
+pub turn_only : (s : Seen) (r n : ℕ) → seen_after s (Turn r n) ≡ with_sync s (step s.sync (Turn r n)).state
 turn_only s r n = quiet s (step s.sync (Turn r n)) (turn_quiet s.sync r n (process_at s.sync.processes r))
 
 -- several Turns
@@ -144,10 +144,10 @@ turns_only n (r ∷ rs) s =
 abbrev pub settle : ℕ → SyncState → SyncState
 settle n s = record s { processes = map (rested n) s.processes }
 
-turn_at : (s : SyncState) (r n : ℕ) (y : Process) → process_at s.processes r ≡ Some y → is_some y.status ≡ false → (step s (Turn r n)).state ≡ with_process s r (after_run n y)
+pub turn_at : (s : SyncState) (r n : ℕ) (y : Process) → process_at s.processes r ≡ Some y → is_some y.status ≡ false → (step s (Turn r n)).state ≡ with_process s r (after_run n y)
 turn_at s r n y at lives = rw (at, lives) refl
 
-turn_ended : (s : SyncState) (r n : ℕ) (y : Process) → process_at s.processes r ≡ Some y → is_some y.status ≡ true → (step s (Turn r n)).state ≡ s
+pub turn_ended : (s : SyncState) (r n : ℕ) (y : Process) → process_at s.processes r ≡ Some y → is_some y.status ≡ true → (step s (Turn r n)).state ≡ s
 turn_ended s r n y at ended = rw (at, ended) refl
 
 enter_at : (s : SyncState) (p : ℕ) (z : Process) (e : CallEffect) → process_at s.processes p ≡ Some z → is_some z.status ≡ false → effect_at (shared s) p z (stopped_at z.state) ≡ Some e
@@ -244,7 +244,7 @@ module _ (n : ℕ) where
   none_covers : (s t : Seen) → t ≡ s → Covers s t
   none_covers s t same = ([], ap (settled n) (sym same))
 
-  goers_are : (p : ℕ) (l : Label) (child : Option ℕ) → is_among (Proc p) l.writes ≡ true → IfSome child (λ k. is_among (Proc k) l.writes ≡ true)
+  pub goers_are : (p : ℕ) (l : Label) (child : Option ℕ) → is_among (Proc p) l.writes ≡ true → IfSome child (λ k. is_among (Proc k) l.writes ≡ true)
       → wrote l (p ∷ option_to_list child) ≡ p ∷ option_to_list child
   goers_are p l None own made = ap (λ (b : Bool). if b then p ∷ [] else []) own
   goers_are p l (Some k) own made =

@@ -88,7 +88,3 @@ pub record HasChosen {S M L : Type 0} (y : System S M L) (chosen : S → M → B
   pub complete : IsComplete y s moves
   pub same : reached y s moves ≡ reached y s ms
   pub as_many : length moves ≡ length ms
-
--- a chosen move that does something leads from s to t
-abbrev pub IsAfter : {S M L : Type 0} → System S M L → (S → M → Bool) → S → S → Type 0
-IsAfter {M = M} y chosen s t = (m : M) × (chosen s m ≡ true) × (y.works (y.label s m) ≡ true) × (t ≡ y.go s m)

@@ -1,5 +1,5 @@
 -- The outcomes of every run, among the states that a search of the calls found.
-use Rattle.std.specs.Prelude.{◌≡◌, ℕ, Bool, true, false, if◌then◌else◌, List, map, take, Some, is_some}
+use Rattle.std.specs.Prelude.{◌≡◌, ℕ, true, false, if◌then◌else◌, List, map, take, Some, is_some}
 use Rattle.std.specs.List.{Contains}
 use Rattle.disk_model.specs.Files.{files_after}
 use Rattle.machine_model.specs.States.{stopped_at}
@@ -12,7 +12,8 @@ use Rattle.kernel_model.specs.World.{World, Boot, run_of}
 use Rattle.kernel_model.specs.declared.event.Event.{Event}
 use Rattle.kernel_laws.specs.Cones.{IsBeginningOf}
 use Rattle.order_laws.specs.Moves.{Seen, first_seen, calls, events}
-use Rattle.order_laws.specs.Orders.{IsAfter, IsOver, reached}
+use Rattle.order_laws.specs.Orders.{IsOver, reached}
+use Rattle.order_laws.specs.Privacy.{IsPrivate}
 use Rattle.order_laws.specs.Searches.{Found, IsSearched}
 
 -- what is seen is of this run: its state, and all that it wrote to terminals
@@ -32,9 +33,9 @@ settled n s = record s { sync = record s.sync { processes = map (rested n) s.syn
 
 -- ---- what was found
 
--- The chosen calls were searched to depth `depth`, from where each process of the boot first stops.
-abbrev pub AreSearched : ℕ → Boot → (Seen → ℕ → Bool) → List (Found Seen) → ℕ → Type 0
-AreSearched n b chosen found depth = IsSearched (λ s. s) (IsAfter (calls n) chosen) (settled n (first_seen b)) found depth
+-- The calls were searched to depth `depth`, from where each process of the boot first stops.
+abbrev pub AreSearched : ℕ → Boot → List (Found Seen) → ℕ → Type 0
+AreSearched n b found depth = IsSearched (calls n) IsPrivate (settled n (first_seen b)) found depth
 
 -- this state was found
 abbrev pub WasFound : List (Found Seen) → Seen → Type 0

@@ -8,10 +8,10 @@ ghost use Rattle.kernel_model.specs.declared.event.Event.{Event};
 ghost use Rattle.kernel_model.specs.Limits.{AreNumbered};
 ghost use Rattle.kernel_model.specs.World.{Boot, run_of};
 ghost use Rattle.order_laws.specs.Moves.{Seen, calls, events, first_seen};
-ghost use Rattle.order_laws.specs.Orders.{Commutes, HasChosen, HasSorted, IsAfter, IsChoice, IsComplete, reached};
+ghost use Rattle.order_laws.specs.Orders.{Commutes, HasChosen, HasSorted, IsChoice, IsComplete, reached};
 ghost use Rattle.order_laws.specs.Outcomes.{AllStand, AreSearched, HasOutcomes, Tells};
 ghost use Rattle.order_laws.specs.Privacy.{IsPrivate};
-ghost use Rattle.order_laws.specs.Searches.{Found, HasKey, IsSearched, LeftNone};
+ghost use Rattle.order_laws.specs.Searches.{Found, HasState, IsSearched, LeftNone};
 
 /// A law, the whole of it: every outcome of any run is among those that a complete search of the calls found.
 ///
@@ -22,8 +22,8 @@ ghost use Rattle.order_laws.specs.Searches.{Found, HasKey, IsSearched, LeftNone}
 /// no move could have been made before one of a process with a higher number.
 ///
 /// `chosen`: where a search meets a private call it may try that call alone. Each complete order, after which no call can be made, comes
-/// to the same as one of such calls, of as many. `once`: so a search that comes to each state once finds its end, by as few calls, up to
-/// the depth to which it went.
+/// to the same as one of such calls, of as many. `once`: so a search that comes to each state once, and goes on from it by a private call
+/// or by each, finds its end, by as few calls, up to the depth to which it went.
 ///
 /// `outcomes`: let a search leave no state, and let each process stand or have ended in each that it found. Then take a run of any
 /// events: Turns of any length, Cuts, completions and failures. Where no process can go on, what the run came to was found. And whatever
@@ -40,10 +40,10 @@ pub fn orders()
     ensures calls { (n : ℕ) (s : Seen) (ps : List ℕ) → AreNumbered s.sync.files → HasSorted (calls n) s ps }
     ensures chosen { (n : ℕ) (chosen : Seen → ℕ → Bool) → IsChoice (calls n) IsPrivate chosen → (s : Seen) (ps : List ℕ) → AreNumbered s.sync.files
         → IsComplete (calls n) s ps → HasChosen (calls n) chosen s ps }
-    ensures once { (n : ℕ) (chosen : Seen → ℕ → Bool) → IsChoice (calls n) IsPrivate chosen → (s : Seen) (found : List (Found Seen)) (depth : ℕ)
-        → IsSearched (λ r. r) (IsAfter (calls n) chosen) s found depth → (ps : List ℕ) → AreNumbered s.sync.files → IsComplete (calls n) s ps
-        → LeftNone found depth ⊎ (length ps ≤ depth) → HasKey (λ r. r) found (reached (calls n) s ps) (length ps) }
-    ensures outcomes { (n : ℕ) (b : Boot) (chosen : Seen → ℕ → Bool) → IsChoice (calls n) IsPrivate chosen → (found : List (Found Seen)) (depth : ℕ)
-        → AreSearched n b chosen found depth → LeftNone found depth → AllStand found → (es : List Event) → HasOutcomes n b found es }
+    ensures once { (n : ℕ) (s : Seen) (found : List (Found Seen)) (depth : ℕ) → IsSearched (calls n) IsPrivate s found depth
+        → (ps : List ℕ) → AreNumbered s.sync.files → IsComplete (calls n) s ps → LeftNone found depth ⊎ (length ps ≤ depth)
+        → HasState found (reached (calls n) s ps) (length ps) }
+    ensures outcomes { (n : ℕ) (b : Boot) (found : List (Found Seen)) (depth : ℕ) → AreSearched n b found depth → LeftNone found depth
+        → AllStand found → (es : List Event) → HasOutcomes n b found es }
     ensures tells { (b : Boot) (es : List Event) → Tells (run_of b es) (reached events (first_seen b) es) }
 {}

@@ -1,12 +1,12 @@
 -- How a search begins, and goes on by a level.
-use Rattle.std.proofs.Common.{arith, ◌≡◌, ◌⊎◌, ◌∙◌, ◌++◌, ◌∷◌, [], ◌+◌, ◌<◌, ◌≤◌, ℕ, List, true, false, sym, ap, inl, inr}
+use Rattle.std.proofs.Common.{arith, ◌≡◌, ◌⊎◌, ◌∙◌, ◌++◌, ◌∷◌, [], ◌+◌, ◌<◌, ◌≤◌, ℕ, List, true, false, sym, ap, subst, inl, inr}
 use Rattle.std.specs.List.{Contains}
 use Rattle.std.specs.HashSet.{HashSet}
 use Rattle.std.proofs.lemmas.List.Elements.{Contains-append_left, Contains-append_right, Contains-append_cases, Contains-push, Contains-push_cases}
 use Rattle.state_search.specs.Adding.{AreAdded, HasOne}
 use Rattle.state_search.specs.Going.{IsGoing}
 use Rattle.state_search.specs.Keys.{has}
-use Rattle.state_search.specs.Searches.{Came, HasKey, IsFirst, IsSearched, WasReached, WentOn}
+use Rattle.state_search.specs.Searches.{Answer, Came, ComesOf, HasKey, IsFirst, WentOn}
 use Rattle.state_search.specs.declared.key.Key.{Key}
 use Rattle.state_search.specs.declared.moves.Found.{Found}
 use Rattle.state_search.specs.declared.moves.Reached.{Reached}
@@ -39,13 +39,11 @@ module _ {S Z : Type 0} (begins : Reached S → Type 0) (expands : List (Found S
       let at = adds.near one.one one.is_found in
       record { one = one.one; is_found = one.is_found; same_key = one.same_key; near = omega (arith, at) }
 
-  first-only : (f : Found S) → Contains left f → IsFirst begins f
+  first-only : (f : Found S) → Contains left f → IsFirst r f
   first-only f is =
       let was = adds.sound f is in
       let same = sym (only-one r was.from was.is_reached) in
       record {
-        from = r;
-        is_first = is_first;
         same_state = was.same_state ∙ ap (λ (x : Reached S). x.state) same;
         same_key = was.same_key ∙ ap (λ (x : Reached S). x.key) same;
         here = adds.near f is;
@@ -55,11 +53,19 @@ module _ {S Z : Type 0} (begins : Reached S → Type 0) (expands : List (Found S
   pub begins-with : IsGoing begins expands known [] left 0
   begins-with = record {
     searched = record {
-      first = (r, is_first, first-found);
-      goes_on = λ f is. absurd (none-in f is);
-      nearer = λ f is. absurd (none-in f is);
-      farthest = adds.near;
-      comes = λ f is. inl (first-only f is);
+      first = r;
+      is_first = is_first;
+      answers = [];
+      are_answers = λ a is. absurd (none-in a is);
+      found = record {
+        begins = first-found;
+        levels = λ a is. absurd (none-in a is);
+        each = λ a is. absurd (none-in a is);
+        goes_on = λ f is. absurd (none-in f is);
+        nearer = λ f is. absurd (none-in f is);
+        farthest = adds.near;
+        comes = λ f is. inl (first-only f is);
+      };
     };
     knows = one-first;
   }
@@ -80,12 +86,33 @@ module _ {S Z : Type 0} (begins : Reached S → Type 0) (expands : List (Found S
       by-cases (inl was) = one-before (gone ++ left) added k (going.knows k was)
       by-cases (inr one) = one-after (gone ++ left) added k one
 
-  nearer-now : (f : Found S) → Contains (gone ++ left) f → f.moves < depth + 1
-  nearer-now f is = by-cases (Contains-append_cases gone left f is)
+  abbrev was : ComesOf going.searched.first going.searched.answers gone left depth
+  was = going.searched.found
+
+  abbrev now : Answer S
+  now = record { level = left; next = next }
+
+  abbrev answers : List (Answer S)
+  answers = going.searched.answers ++ now ∷ []
+
+  -- an answer is an earlier one or this one
+  by-answer : (Q : Answer S → Type 0) → ((a : Answer S) → Contains going.searched.answers a → Q a) → Q now → (a : Answer S) → Contains answers a → Q a
+  by-answer Q before here a is = by-cases (Contains-push_cases going.searched.answers now a is)
     where
-      by-cases : Contains gone f ⊎ Contains left f → f.moves < depth + 1
-      by-cases (inl before) = let near = going.searched.nearer f before in omega (arith, near)
-      by-cases (inr late) = let at = going.searched.farthest f late in omega (arith, at)
+      by-cases : Contains going.searched.answers a ⊎ (now ≡ a) → Q a
+      by-cases (inl earlier) = before a earlier
+      by-cases (inr same) = subst Q same here
+
+  -- a state that was found before is one of those from which it went on, or of those that it left
+  by-state : (Q : Found S → Type 0) → ((f : Found S) → Contains gone f → Q f) → ((f : Found S) → Contains left f → Q f) → (f : Found S) → Contains (gone ++ left) f → Q f
+  by-state Q before late f is = by-cases (Contains-append_cases gone left f is)
+    where
+      by-cases : Contains gone f ⊎ Contains left f → Q f
+      by-cases (inl earlier) = before f earlier
+      by-cases (inr last) = late f last
+
+  nearer-now : (f : Found S) → Contains (gone ++ left) f → f.moves < depth + 1
+  nearer-now = by-state (λ f. f.moves < depth + 1) (λ f is. let near = was.nearer f is in omega (arith, near)) (λ f is. let at = was.farthest f is in omega (arith, at))
 
   near-now : (f : Found S) → Contains ((gone ++ left) ++ added) f → f.moves ≤ depth + 1
   near-now f is = by-cases (Contains-append_cases (gone ++ left) added f is)
@@ -95,64 +122,60 @@ module _ {S Z : Type 0} (begins : Reached S → Type 0) (expands : List (Found S
       by-cases (inr late) = let at = adds.near f late in omega (arith, at)
 
   -- each state that was answered for the level is found
-  each-found : (f : Found S) → Contains left f → (r : Reached S) → Contains next r → HasKey ((gone ++ left) ++ added) r.key (f.moves + 1)
-  each-found f is r among =
+  each-now : (f : Found S) → Contains left f → (r : Reached S) → Contains next r → HasKey ((gone ++ left) ++ added) r.key (f.moves + 1)
+  each-now f is r among =
       let one = knows-now r.key (adds.all r among) in
       let near = near-now one.one one.is_found in
-      let at = going.searched.farthest f is in
+      let at = was.farthest f is in
       record { one = one.one; is_found = one.is_found; same_key = one.same_key; near = omega (arith, near, at) }
 
-  still-went : (f : Found S) → WentOn expands (gone ++ left) f → WentOn expands ((gone ++ left) ++ added) f
-  still-went f went = record {
-    level = went.level;
-    next = went.next;
-    is_in = went.is_in;
-    expanded = went.expanded;
-    each = λ r among. still-found (gone ++ left) added r.key (f.moves + 1) (went.each r among);
-  }
+  still-went : (f : Found S) → Contains gone f → WentOn answers f
+  still-went f is = let went = was.goes_on f is in
+      record { answer = went.answer; is_answer = Contains-append_left going.searched.answers (now ∷ []) went.answer went.is_answer; is_in = went.is_in }
 
-  goes-on-now : (f : Found S) → Contains (gone ++ left) f → WentOn expands ((gone ++ left) ++ added) f
-  goes-on-now f is = by-cases (Contains-append_cases gone left f is)
-    where
-      by-cases : Contains gone f ⊎ Contains left f → WentOn expands ((gone ++ left) ++ added) f
-      by-cases (inl before) = still-went f (going.searched.goes_on f before)
-      by-cases (inr late) = record { level = left; next = next; is_in = late; expanded = expanded; each = each-found f late }
-
-  came-added : (f : Found S) → Contains added f → Came expands (gone ++ left) f
+  came-added : (f : Found S) → Contains added f → Came answers f
   came-added f is = record {
-    level = left;
-    next = next;
-    nearer = λ g among.
-        let at = going.searched.farthest g among in
-        let now = adds.near f is in
-        (Contains-append_right gone left g among, omega (arith, at, now));
-    expanded = expanded;
+    answer = now;
+    is_answer = Contains-push going.searched.answers now;
     reached = adds.sound f is;
+    farther = λ g among. let at = was.farthest g among in let here = adds.near f is in omega (arith, at, here);
   }
 
-  still-came : (f : Found S) → IsFirst begins f ⊎ Came expands gone f → IsFirst begins f ⊎ Came expands (gone ++ left) f
+  still-came : (f : Found S) → IsFirst going.searched.first f ⊎ Came going.searched.answers f → IsFirst going.searched.first f ⊎ Came answers f
   still-came f (inl is_first) = inl is_first
   still-came f (inr came) = inr (record {
-    level = came.level;
-    next = came.next;
-    nearer = λ g among. (Contains-append_left gone left g (came.nearer g among).0, (came.nearer g among).1);
-    expanded = came.expanded;
+    answer = came.answer;
+    is_answer = Contains-append_left going.searched.answers (now ∷ []) came.answer came.is_answer;
     reached = came.reached;
+    farther = came.farther;
   })
 
-  comes-now : (f : Found S) → Contains ((gone ++ left) ++ added) f → IsFirst begins f ⊎ Came expands (gone ++ left) f
+  comes-now : (f : Found S) → Contains ((gone ++ left) ++ added) f → IsFirst going.searched.first f ⊎ Came answers f
   comes-now f is = by-cases (Contains-append_cases (gone ++ left) added f is)
     where
-      by-cases : Contains (gone ++ left) f ⊎ Contains added f → IsFirst begins f ⊎ Came expands (gone ++ left) f
-      by-cases (inl before) = still-came f (going.searched.comes f before)
+      by-cases : Contains (gone ++ left) f ⊎ Contains added f → IsFirst going.searched.first f ⊎ Came answers f
+      by-cases (inl before) = still-came f (was.comes f before)
       by-cases (inr late) = inr (came-added f late)
-
-  first-still : (r : Reached S) × begins r × HasKey ((gone ++ left) ++ added) r.key 0
-  first-still = let was = going.searched.first in (was.0, was.1, still-found (gone ++ left) added was.0.key 0 was.2)
 
   -- by one level more
   pub goes-on : IsGoing begins expands new (gone ++ left) added (depth + 1)
   goes-on = record {
-    searched = record { first = first-still; goes_on = goes-on-now; nearer = nearer-now; farthest = adds.near; comes = comes-now };
+    searched = record {
+      first = going.searched.first;
+      is_first = going.searched.is_first;
+      answers = answers;
+      are_answers = by-answer (λ a. expands a.level a.next) going.searched.are_answers expanded;
+      found = record {
+        begins = still-found (gone ++ left) added going.searched.first.key 0 was.begins;
+        levels = by-answer (λ a. (f : Found S) → Contains a.level f → Contains (gone ++ left) f)
+            (λ a is f among. Contains-append_left gone left f (was.levels a is f among)) (λ f among. Contains-append_right gone left f among);
+        each = by-answer (λ a. (f : Found S) → Contains a.level f → (r : Reached S) → Contains a.next r → HasKey ((gone ++ left) ++ added) r.key (f.moves + 1))
+            (λ a is f among r reached. still-found (gone ++ left) added r.key (f.moves + 1) (was.each a is f among r reached)) each-now;
+        goes_on = by-state (λ f. WentOn answers f) still-went (λ f is. record { answer = now; is_answer = Contains-push going.searched.answers now; is_in = is });
+        nearer = nearer-now;
+        farthest = adds.near;
+        comes = comes-now;
+      };
+    };
     knows = knows-now;
   }

@@ -1,4 +1,3 @@
 mod KeySets
 mod AddingStates
 mod GoingOn
-mod Closing

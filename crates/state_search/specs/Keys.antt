@@ -1,5 +1,5 @@
 -- Sets of keys.
-use Rattle.std.specs.Prelude.{ℕ, Bool, ◌==◌, ◌&&◌}
+use Rattle.std.specs.Prelude.{Bool, ◌==◌, ◌&&◌}
 use Rattle.std.specs.HashSet.{HashSet, contains}
 use Rattle.state_search.specs.declared.key.Key.{Key}
 

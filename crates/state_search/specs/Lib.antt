@@ -2,4 +2,3 @@ pub mod Adding
 pub mod Going
 pub mod Keys
 pub mod Searches
-pub mod Whole

@@ -5,6 +5,11 @@ use Rattle.state_search.specs.declared.key.Key.{Key}
 use Rattle.state_search.specs.declared.moves.Found.{Found}
 use Rattle.state_search.specs.declared.moves.Reached.{Reached}
 
+-- the states that are next to a level were asked for, and these were answered
+pub record Answer (S : Type 0) : Type 0 where
+  pub level : List (Found S)
+  pub next : List (Reached S)
+
 -- one of the states that were found has this key, and was found by at most so many moves
 pub record HasKey {S : Type 0} (found : List (Found S)) (k : Key) (most : ℕ) : Type 0 where
   pub one : Found S
@@ -19,36 +24,41 @@ pub record WasReached {S : Type 0} (reached : List (Reached S)) (f : Found S) : 
   pub same_state : f.state ≡ from.state
   pub same_key : f.key ≡ from.key
 
--- The states were asked for that are next to those of a level, of which this is one. Each that was answered is among those that were found,
--- by a move more at most.
-pub record WentOn {S : Type 0} (expands : List (Found S) → List (Reached S) → Type 0) (found : List (Found S)) (f : Found S) : Type 0 where
-  pub level : List (Found S)
-  pub next : List (Reached S)
-  pub is_in : Contains level f
-  pub expanded : expands level next
-  pub each : (r : Reached S) → Contains next r → HasKey found r.key (f.moves + 1)
-
--- a state is the first one
-pub record IsFirst {S : Type 0} (begins : Reached S → Type 0) (f : Found S) : Type 0 where
-  pub from : Reached S
-  pub is_first : begins from
-  pub same_state : f.state ≡ from.state
-  pub same_key : f.key ≡ from.key
+-- a state that was found is the first one
+pub record IsFirst {S : Type 0} (first : Reached S) (f : Found S) : Type 0 where
+  pub same_state : f.state ≡ first.state
+  pub same_key : f.key ≡ first.key
   pub here : f.moves ≡ 0
 
--- a state was answered where those next to a level were asked for, all of which were found by a move fewer
-pub record Came {S : Type 0} (expands : List (Found S) → List (Reached S) → Type 0) (gone_on : List (Found S)) (f : Found S) : Type 0 where
-  pub level : List (Found S)
-  pub next : List (Reached S)
-  pub nearer : (g : Found S) → Contains level g → Contains gone_on g × (f.moves ≡ g.moves + 1)
-  pub expanded : expands level next
-  pub reached : WasReached next f
+-- a state that was found is in one of these answers, and was found by a move more than its level
+pub record Came {S : Type 0} (answers : List (Answer S)) (f : Found S) : Type 0 where
+  pub answer : Answer S
+  pub is_answer : Contains answers answer
+  pub reached : WasReached answer.next f
+  pub farther : (g : Found S) → Contains answer.level g → f.moves ≡ g.moves + 1
 
--- A search went to depth `depth`. It went on from some of the states that it found, and left the others. It found the first state, and
--- each that is next to one from which it went on, the nearest first; and no other. States with the same key count as one.
-pub record IsSearched {S : Type 0} (begins : Reached S → Type 0) (expands : List (Found S) → List (Reached S) → Type 0) (gone_on left : List (Found S)) (depth : ℕ) : Type 0 where
-  pub first : (r : Reached S) × begins r × HasKey (gone_on ++ left) r.key 0
-  pub goes_on : (f : Found S) → Contains gone_on f → WentOn expands (gone_on ++ left) f
+-- this state is in the level of one of these answers
+pub record WentOn {S : Type 0} (answers : List (Answer S)) (f : Found S) : Type 0 where
+  pub answer : Answer S
+  pub is_answer : Contains answers answer
+  pub is_in : Contains answer.level f
+
+-- The states that were found are what comes of a first state and of these answers, to depth `depth`. The search went on from some of them, and
+-- left the others. Each state that was answered is among them, by its key, and by a move more at most than its level; and no other is.
+-- States with the same key count as one.
+pub record ComesOf {S : Type 0} (first : Reached S) (answers : List (Answer S)) (gone_on left : List (Found S)) (depth : ℕ) : Type 0 where
+  pub begins : HasKey (gone_on ++ left) first.key 0
+  pub levels : (a : Answer S) → Contains answers a → (f : Found S) → Contains a.level f → Contains gone_on f
+  pub each : (a : Answer S) → Contains answers a → (f : Found S) → Contains a.level f → (r : Reached S) → Contains a.next r → HasKey (gone_on ++ left) r.key (f.moves + 1)
+  pub goes_on : (f : Found S) → Contains gone_on f → WentOn answers f
   pub nearer : (f : Found S) → Contains gone_on f → f.moves < depth
   pub farthest : (f : Found S) → Contains left f → f.moves ≡ depth
-  pub comes : (f : Found S) → Contains (gone_on ++ left) f → IsFirst begins f ⊎ Came expands gone_on f
+  pub comes : (f : Found S) → Contains (gone_on ++ left) f → IsFirst first f ⊎ Came answers f
+
+-- A search to depth `depth`: the first state was asked for, and those next to each level, and the states that were found are what comes of this.
+pub record IsSearched {S : Type 0} (begins : Reached S → Type 0) (expands : List (Found S) → List (Reached S) → Type 0) (gone_on left : List (Found S)) (depth : ℕ) : Type 0 where
+  pub first : Reached S
+  pub is_first : begins first
+  pub answers : List (Answer S)
+  pub are_answers : (a : Answer S) → Contains answers a → expands a.level a.next
+  pub found : ComesOf first answers gone_on left depth

@@ -8,9 +8,7 @@ mod key;
 mod keys;
 mod moves;
 mod searching;
-mod whole;
 
 pub use key::Key;
 pub use moves::{Found, Moves, Reached};
 pub use searching::{Searched, search};
-pub use whole::{WholeMoves, search_whole};

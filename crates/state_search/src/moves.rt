@@ -3,6 +3,7 @@ ghost use Rattle.std.specs.Prelude.{IfOk};
 
 use crate::key::Key;
 use std::alloc::AllocError;
+use std::thread::Threads;
 
 /// A state to which a move leads, with its key.
 #[derive(Drop)]
@@ -24,6 +25,7 @@ pub trait Moves {
     ghost use Rattle.std.specs.Prelude.{List};
     ghost use Rattle.state_search.specs.declared.moves.Found.{Found};
     ghost use Rattle.state_search.specs.declared.moves.Reached.{Reached};
+    ghost use denote.Param.Send.{IsSync};
 
     type State: Drop;
 
@@ -41,9 +43,12 @@ pub trait Moves {
         ensures { IfOk result begins };
 
     /// All states that are next to some of a level, all of which were found by as many moves, in an order that depends on these alone.
-    fn expand(
+    /// Threads may share the work.
+    fn expand<R: Threads + Sync>(
         &mut self,
+        rt: &R,
         level: &[Found<Self::State>],
     ) -> Result<Vec<Reached<Self::State>>, Self::Fault>
+        requires { IsSync R.row }
         ensures { IfOk result (λ next. expands level.now next.items) };
 }

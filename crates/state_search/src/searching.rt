@@ -8,6 +8,7 @@ ghost use Rattle.state_search.specs.Searches.{IsSearched};
 use crate::keys::Keys;
 use crate::moves::{Found, Moves, Reached};
 use std::alloc::{AllocError, Global};
+use std::thread::Threads;
 
 /// What a search found.
 #[derive(Drop)]
@@ -84,7 +85,8 @@ impl<S: Drop> Going<S> {
 }
 
 /// One level more.
-fn go_on<M: Moves>(
+fn go_on<M: Moves, R: Threads + Sync>(
+    rt: &R,
     alloc: Global,
     moves: &mut M,
     going: Going<M::State>,
@@ -103,7 +105,7 @@ fn go_on<M: Moves>(
         depth,
         moves: tried,
     } = searched;
-    let reached = moves.expand(left.as_slice())?;
+    let reached = moves.expand(rt, left.as_slice())?;
     let tried = tried.saturating_add(reached.len() as u64);
     let next = add_all(alloc, &mut known, reached, depth + 1)?;
     gone_on.append(&mut left)?;
@@ -118,7 +120,8 @@ fn go_on<M: Moves>(
 
 /// Searches all states that moves lead to from the first one, those nearest to it first, each once. It goes on level by level while no
 /// more states are found than `most`, and leaves the last level where they are: then it is cut.
-pub fn search<M: Moves>(
+pub fn search<M: Moves, R: Threads + Sync>(
+    rt: &R,
     alloc: Global,
     moves: &mut M,
     most: u64,
@@ -130,7 +133,7 @@ pub fn search<M: Moves>(
         if going.is_done(most) {
             break;
         }
-        going = go_on(alloc, moves, going)?;
+        going = go_on(rt, alloc, moves, going)?;
     }
     let Going {
         known: _known,

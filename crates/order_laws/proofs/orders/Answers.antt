@@ -18,8 +18,8 @@ returns _ = record {
   calls = λ n s ps are. has_sorted (calls n) (λ (r : Seen). AreNumbered r.sync.files) (calls_commute n) s are ps;
   chosen = λ n chosen good s ps are complete.
       has_chosen (calls n) (λ (r : Seen). AreNumbered r.sync.files) (calls_commute n) IsPrivate (stays_private n) chosen good (length ps) s ps are refl complete;
-  once = λ n chosen good s found depth searched ps are complete deep.
-      found_end (calls n) (λ (r : Seen). AreNumbered r.sync.files) (calls_commute n) IsPrivate (stays_private n) chosen good s found depth searched ps are complete deep;
-  outcomes = λ n b chosen good found depth searched none stand es. outcomes n b chosen good found depth searched none stand es;
+  once = λ n s found depth searched ps are complete deep.
+      found_end (calls n) (λ (r : Seen). AreNumbered r.sync.files) (calls_commute n) IsPrivate (stays_private n) s found depth searched ps are complete deep;
+  outcomes = λ n b found depth searched none stand es. outcomes n b found depth searched none stand es;
   tells = tells;
 }

@@ -1,5 +1,5 @@
 -- A state that was reached is added where its key was not known.
-use Rattle.std.proofs.Common.{rules, ◌≡◌, true, refl}
+use Rattle.std.proofs.Common.{◌≡◌, true, refl}
 use Rattle.state_search.specs.Keys.{has}
 use Rattle.state_search.proofs.AddingStates.{adds-new, adds-none}
 use Rattle.state_search.proofs.searching.add_all.Goals as goal

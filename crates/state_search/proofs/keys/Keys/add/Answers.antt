@@ -1,4 +1,3 @@
-use Rattle.std.proofs.Common.{rules}
 use Rattle.state_search.specs.Keys.{has, is_same}
 use Rattle.state_search.proofs.KeySets.{kept-added, only-added}
 use Rattle.state_search.proofs.keys.Keys.add.Goals as goal

@@ -1,0 +1,64 @@
+-- A search of the calls of programs by keys, and what it finds of the outcomes of all orders.
+use Rattle.std.specs.Prelude.{◌≡◌, ℕ, ◌≤◌, ◌⊎◌, true, List, [], ◌++◌, length, map}
+use Rattle.std.specs.List.{Contains}
+use Rattle.kernel_model.specs.World.{Boot}
+use Rattle.kernel_model.specs.declared.event.Event.{Event}
+use Rattle.order_laws.specs.Moves.{Seen, calls, first_seen}
+use Rattle.order_laws.specs.Orders.{IsComplete, reached}
+use Rattle.order_laws.specs.Outcomes.{AllStand, HasOutcomes, settled}
+use Rattle.order_laws.specs.Privacy.{IsPrivate}
+use Rattle.order_laws.specs.Searches.{Found as FoundSeen, HasState}
+use Rattle.state_search.specs.Searches.{Answer, IsSearched}
+use Rattle.state_search.specs.declared.moves.Found.{Found}
+use Rattle.state_search.specs.declared.moves.Reached.{Reached}
+
+-- ---- what is asked of the moves, where a state stands for what `seen` says of it
+
+-- where each process of the boot first stops
+abbrev pub start : ℕ → Boot → Seen
+start n b = settled n (first_seen b)
+
+-- a state that was answered stands for this
+abbrev pub IsAnswered : {S : Type 0} → (S → Seen) → List (Reached S) → Seen → Type 0
+IsAnswered {S = S} seen next s = (r : Reached S) × Contains next r × (seen r.state ≡ s)
+
+-- For each state of a level this was answered: the state after one private call, or the state after each call that does something.
+abbrev pub AreCalls : {S : Type 0} → ℕ → (S → Seen) → List (Found S) → List (Reached S) → Type 0
+AreCalls {S = S} n seen level next = (f : Found S) → Contains level f →
+    ((p : ℕ) × IsPrivate (seen f.state) p × IsAnswered seen next ((calls n).go (seen f.state) p))
+    ⊎ ((p : ℕ) → (calls n).works ((calls n).label (seen f.state) p) ≡ true → IsAnswered seen next ((calls n).go (seen f.state) p))
+
+-- The first state that was answered is where each process of the boot first stops, and each level was answered with calls.
+pub record AnswersCalls {S : Type 0} (n : ℕ) (b : Boot) (seen : S → Seen) (first : Reached S) (answers : List (Answer S)) : Type 0 where
+  pub begins : seen first.state ≡ start n b
+  pub each : (a : Answer S) → Contains answers a → AreCalls n seen a.level a.next
+
+-- ---- what is asked of the keys
+
+-- A state that was found stands for the same as one that was answered with the same key.
+abbrev pub Tells : {S : Type 0} → (S → Seen) → List (Found S) → Reached S → Type 0
+Tells {S = S} seen found r = (f : Found S) → Contains found f → f.key ≡ r.key → seen f.state ≡ seen r.state
+
+-- Keys told the states of a search apart: the first one, and all that were answered.
+pub record KeysTell {S : Type 0} (seen : S → Seen) (first : Reached S) (answers : List (Answer S)) (found : List (Found S)) : Type 0 where
+  pub begin : Tells seen found first
+  pub each : (a : Answer S) → Contains answers a → (r : Reached S) → Contains a.next r → Tells seen found r
+
+-- ---- what is found
+
+-- what the states that were found stand for
+abbrev pub seen_in : {S : Type 0} → (S → Seen) → List (Found S) → List (FoundSeen Seen)
+seen_in seen found = map (λ f. record { state = seen f.state; moves = f.moves }) found
+
+-- The end of each complete order of at most `depth` calls was found, by no more calls. And where no state was left, in each of which every
+-- process stands at a call or a trap, or has ended, the outcomes of every run were found, whatever its events.
+pub record FindsAll {S : Type 0} (n : ℕ) (b : Boot) (seen : S → Seen) (gone_on left : List (Found S)) (depth : ℕ) : Type 0 where
+  pub ends : (ps : List ℕ) → IsComplete (calls n) (start n b) ps → length ps ≤ depth → HasState (seen_in seen (gone_on ++ left)) (reached (calls n) (start n b) ps) (length ps)
+  pub outcomes : left ≡ [] → AllStand (seen_in seen (gone_on ++ left)) → (es : List Event) → HasOutcomes n b (seen_in seen (gone_on ++ left)) es
+
+-- A search by keys: if it was answered with the calls of a boot, of which each process runs at most n instructions to its next call, and if
+-- its keys told its states apart, it found all.
+pub record FindsByKeys {S : Type 0} (begins : Reached S → Type 0) (expands : List (Found S) → List (Reached S) → Type 0) (gone_on left : List (Found S)) (depth : ℕ) : Type 0 where
+  pub searched : IsSearched begins expands gone_on left depth
+  pub finds : (n : ℕ) (b : Boot) (seen : S → Seen) → AnswersCalls n b seen searched.first searched.answers
+      → KeysTell seen searched.first searched.answers (gone_on ++ left) → FindsAll n b seen gone_on left depth

@@ -1,0 +1,58 @@
+-- A core whose calls are replayed, as a run that is seen.
+use Rattle.std.specs.Prelude.{◌≡◌, ℕ, Bool, true, false, List, [], ◌∷◌, ◌++◌}
+use Rattle.kernel_model.specs.Answers.{Kernel}
+use Rattle.kernel_model.specs.World.{Boot}
+use Rattle.kernel_model.specs.declared.answer.Answer.{Answer}
+use Rattle.kernel_model.specs.declared.answer.Answer.TheVariants as answer
+use Rattle.kernel_model.specs.declared.answer.Refused.{Refused}
+use Rattle.kernel_model.specs.declared.answer.Refused.TheVariants as refused
+use Rattle.order_laws.specs.Moves.{Seen, calls, events, first_seen}
+use Rattle.order_laws.specs.Orders.{reached}
+use Rattle.explored_runs.specs.CallSearches.{start}
+use Rattle.explored_runs.specs.declared.replay.Called.{Called}
+use Rattle.explored_runs.specs.declared.replay.Called.TheVariants.{Idle, Made, MadePrivately}
+use Rattle.explored_runs.specs.declared.runs.Tried.{Tried}
+use Rattle.explored_runs.specs.declared.runs.Tried.TheVariants as tried
+
+-- what is seen of the run of a core
+abbrev pub seen_of : Kernel → Seen
+seen_of k = reached events (first_seen k.boot) k.history
+
+-- the run of a boot where each process has run on, and then these calls were made
+abbrev pub seen_after_calls : ℕ → Boot → List ℕ → Seen
+seen_after_calls n b ps = reached (calls n) (start n b) ps
+
+-- a process cannot have an event that is refused so
+abbrev pub is_gone : Refused → Bool
+is_gone refused.NoProcess = true
+is_gone refused.Ended = true
+is_gone refused.NotStopped = true
+is_gone _ = false
+
+-- something came of an Enter that is answered so
+abbrev pub was_made : Answer → Bool
+was_made answer.Entered = true
+was_made answer.Ended = true
+was_made _ = false
+
+-- the same of a call
+abbrev pub does_something : Called → Bool
+does_something Idle = false
+does_something Made = true
+does_something MadePrivately = true
+
+-- ---- what comes after a run
+
+-- the call of process p does something
+abbrev pub Works : ℕ → Seen → ℕ → Type 0
+Works n s p = (calls n).works ((calls n).label s p) ≡ true
+
+-- what trying the call of process p came to, after a run of calls ps that comes to s
+abbrev pub IsTried : ℕ → Seen → List ℕ → ℕ → Tried → Type 0
+IsTried n s ps p tried.Idle = (calls n).works ((calls n).label s p) ≡ false
+IsTried n s ps p (tried.Made r) = Works n s p × (r.state.items ≡ ps ++ p ∷ [])
+IsTried n s ps p (tried.Private r) = Works n s p × (r.state.items ≡ ps ++ p ∷ [])
+
+abbrev pub is_idle : Tried → Bool
+is_idle tried.Idle = true
+is_idle _ = false
