@@ -7,6 +7,7 @@
 mod comparing;
 mod difference;
 mod line;
+mod line_text;
 mod reading;
 mod registers;
 mod stepping;

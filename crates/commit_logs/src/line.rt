@@ -1,4 +1,5 @@
 //! A line of a log: an instruction that was done, and what it changed.
+use crate::line_text::LineText;
 use std::io;
 use std::io::Write;
 
@@ -30,41 +31,43 @@ pub struct Line {
     pub access: Option<Access>,
 }
 
-/// Writes what a register holds. The register's number takes two places.
-fn write_register<O: Write>(written: Written, out: &mut O) -> io::Result<()> {
-    let Written { register, value } = written;
-    write!(out, " x{register:<2} 0x{value:08x}")
+/// Adds what a register holds.
+fn add_written(text: &mut LineText, written: Written) {
+    text.add(b" x");
+    text.add_register(written.register);
+    text.add(b" ");
+    text.add_hexadecimal(written.value, 8);
 }
 
-/// Writes an access, a value with as many digits as were stored.
-fn write_access<O: Write>(access: Access, out: &mut O) -> io::Result<()> {
+/// Adds an access, a value with as many digits as were stored.
+fn add_access(text: &mut LineText, access: Access) {
+    text.add(b" mem ");
     match access {
-        Access::Load { at } => write!(out, " mem 0x{at:08x}"),
-        Access::Store {
-            at,
-            value,
-            bytes: 1,
-        } => write!(out, " mem 0x{at:08x} 0x{value:02x}"),
-        Access::Store {
-            at,
-            value,
-            bytes: 2,
-        } => write!(out, " mem 0x{at:08x} 0x{value:04x}"),
-        Access::Store { at, value, .. } => write!(out, " mem 0x{at:08x} 0x{value:08x}"),
+        Access::Load { at } => text.add_hexadecimal(at, 8),
+        Access::Store { at, value, bytes } => {
+            text.add_hexadecimal(at, 8);
+            text.add(b" ");
+            text.add_hexadecimal(value, bytes.wrapping_mul(2));
+        }
     }
 }
 
 impl Line {
     /// Writes the line: `core   0: 3 0x00010000 (0x00500513) x10 0x00000005`.
     pub fn write<O: Write>(&self, out: &mut O) -> io::Result<()> {
-        let Line { at, word, .. } = *self;
-        write!(out, "core   0: 3 0x{at:08x} (0x{word:08x})")?;
+        let mut text = LineText::new();
+        text.add(b"core   0: 3 ");
+        text.add_hexadecimal(self.at, 8);
+        text.add(b" (");
+        text.add_hexadecimal(self.word, 8);
+        text.add(b")");
         if let Some(written) = self.written {
-            write_register(written, out)?;
+            add_written(&mut text, written);
         }
         if let Some(access) = self.access {
-            write_access(access, out)?;
+            add_access(&mut text, access);
         }
-        out.write_all(b"\n")
+        text.add(b"\n");
+        out.write_all(text.as_slice())
     }
 }

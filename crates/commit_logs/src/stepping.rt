@@ -5,8 +5,13 @@ use formats::Reg;
 use std::io;
 use std::io::Write;
 
-/// The lowest seven bits of words of instructions that write no register: stores, branches, fences, and calls.
-const WRITES_NONE: [u32; 4] = [0x23, 0x63, 0x0f, 0x73];
+/// The lowest seven bits of words of loads, and of stores.
+const LOADS: u32 = 0x03;
+
+const STORES: u32 = 0x23;
+
+/// Those of instructions that write no register: stores, branches, fences, and calls.
+const WRITES_NONE: [u32; 4] = [STORES, 0x63, 0x0f, 0x73];
 
 /// The word of `ecall`.
 const ECALL: u32 = 0x73;
@@ -35,6 +40,9 @@ fn lowest(value: u32, bytes: u32) -> u32 {
 
 /// What the next instruction does with memory, if it does; the word of a store names the register whose bytes it stores.
 fn access_of(machine: &Machine, word: u32) -> Option<Access> {
+    if word % 128 != LOADS && word % 128 != STORES {
+        return None;
+    }
     let access = access_at(machine)?;
     let at = access.at;
     match access.kind {
@@ -46,6 +54,15 @@ fn access_of(machine: &Machine, word: u32) -> Option<Access> {
             Some(Access::Store { at, value, bytes })
         }
     }
+}
+
+/// The register that an instruction wrote which was just done, if it wrote one.
+fn written_by(machine: &Machine, word: u32) -> Option<Written> {
+    let register = destination(word)?;
+    Some(Written {
+        register: u32::from(register.number()),
+        value: machine.reg(register),
+    })
 }
 
 /// Does the next instruction. None where it cannot be done, since it is a call, traps, or is one too many: then nothing has changed.
@@ -60,17 +77,10 @@ fn step(machine: &mut Machine) -> Option<Line> {
     if done == 0 {
         return None;
     }
-    let written = match destination(word) {
-        Some(register) => Some(Written {
-            register: u32::from(register.number()),
-            value: machine.reg(register),
-        }),
-        None => None,
-    };
     Some(Line {
         at,
         word,
-        written,
+        written: written_by(machine, word),
         access,
     })
 }

@@ -1,9 +1,8 @@
 //! The symbols of an executable.
+use crate::sections::{bytes_to_zero, content, half_at, section_count, section_numbered, word_at};
 use std::alloc::{AllocError, Global};
 
-/// How many bytes a section header has, and a symbol.
-const SECTION_HEADER: usize = 40;
-
+/// How many bytes a symbol has.
 const SYMBOL: usize = 16;
 
 /// The kind of a section that has symbols.
@@ -29,63 +28,19 @@ impl Drop for Function {
     }
 }
 
-/// A section of symbols, or that of their names.
-#[derive(Clone, Copy)]
-struct Section {
-    kind: u32,
-    offset: usize,
-    size: usize,
-    /// The number of the section that has the names.
-    link: u32,
-}
-
-fn word(bytes: &[u8], at: usize) -> Option<u32> {
-    match bytes.get(at..)? {
-        [a, b, c, d, ..] => Some(u32::from_le_bytes([*a, *b, *c, *d])),
-        _ => None,
-    }
-}
-
-fn half(bytes: &[u8], at: usize) -> Option<u16> {
-    match bytes.get(at..)? {
-        [a, b, ..] => Some(u16::from_le_bytes([*a, *b])),
-        _ => None,
-    }
-}
-
-/// The section of a number, by the header of a file.
-fn section_numbered(file: &[u8], number: u32) -> Option<Section> {
-    let table = word(file, 32)? as usize;
-    let at = table.checked_add((number as usize).checked_mul(SECTION_HEADER)?)?;
-    let header = file.get(at..)?;
-    Some(Section {
-        kind: word(header, 4)?,
-        offset: word(header, 16)? as usize,
-        size: word(header, 20)? as usize,
-        link: word(header, 24)?,
-    })
-}
-
-/// The bytes of a section.
-fn content(file: &[u8], section: Section) -> Option<&[u8]> {
-    file.get(section.offset..)?.get(..section.size)
-}
-
-/// The text in a section of names that begins at a place, up to its 0.
+/// The text in a section of names that begins at a place.
 fn name_at(names: &[u8], at: usize) -> Option<&str> {
-    let rest = names.get(at..)?;
-    let end = rest.iter().position(|byte| *byte == 0)?;
-    str::from_utf8(rest.get(..end)?).ok()
+    str::from_utf8(bytes_to_zero(names, at)?).ok()
 }
 
 /// The name and the place of a symbol that may name code.
 fn code_named<'a>(symbol: &[u8], names: &'a [u8]) -> Option<(&'a str, u32)> {
     let kind = *symbol.get(12)? & 15;
-    let is_there = half(symbol, 14)? != 0;
-    let name = name_at(names, word(symbol, 0)? as usize)?;
+    let is_there = half_at(symbol, 14)? != 0;
+    let name = name_at(names, word_at(symbol, 0)? as usize)?;
     let is_named = !name.is_empty() && !name.starts_with('$') && !name.starts_with('.');
     if is_there && is_named && (kind == NO_KIND || kind == FUNCTION) {
-        Some((name, word(symbol, 4)?))
+        Some((name, word_at(symbol, 4)?))
     } else {
         None
     }
@@ -93,7 +48,7 @@ fn code_named<'a>(symbol: &[u8], names: &'a [u8]) -> Option<(&'a str, u32)> {
 
 /// The table of symbols of a file, with their names.
 fn tables(file: &[u8]) -> Option<(&[u8], &[u8])> {
-    for number in 0..u32::from(half(file, 48)?) {
+    for number in 0..section_count(file) {
         let found = section_numbered(file, number)?;
         if found.kind == SYMBOL_TABLE {
             let names = section_numbered(file, found.link)?;

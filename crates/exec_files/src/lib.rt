@@ -1,12 +1,19 @@
 //! Programs in files of the host, of whatever kind: an image, an executable of a stock linker, or a source of the assembler. Read
-//! `load` first. A `LoadedProgram` also says what stands at an address: a line of the source, or a function. Only safety is proved.
+//! `load` first. `Places` say what stands at an address: a line of the source, or a function and a line of the file that it was compiled
+//! of. Only safety is proved.
 #![tactic(auto)]
 
+mod code_lines;
+mod cursor;
 mod fault;
 mod functions;
 mod loading;
+mod parts;
 mod program;
+mod sections;
+mod unit_headers;
 
 pub use fault::LoadFault;
-pub use loading::load;
-pub use program::{LoadedProgram, PlaceText};
+pub use loading::{host_fault, load, load_places};
+pub use parts::{Part, PartName, WordText};
+pub use program::{LoadedProgram, Names, PlaceText, Places};

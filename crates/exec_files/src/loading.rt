@@ -1,7 +1,8 @@
 //! A program's file, read.
+use crate::code_lines::CodeLines;
 use crate::fault::LoadFault;
 use crate::functions::functions_of;
-use crate::program::{LoadedProgram, Names};
+use crate::program::{LoadedProgram, Names, Places};
 use assembler::{AsmFault, Cause, assemble};
 use debug_info::SourceLines;
 use elf32::{ElfFault, LinkFault, MOST_LINKED_BYTES, image_of};
@@ -19,16 +20,20 @@ const ELF_BEGIN: &[u8] = b"\x7fELF";
 const NO_KIND: &str =
     "it is no image, no executable for RISC-V and no source: its bytes are no text (UTF-8)";
 
+/// What is said of an executable that has nothing to name an address by.
+const NO_NAMES: &str = "it has no symbols, and no lines (DWARF), by which a place is named";
+
 fn refused(alloc: Global, path: &str, why: &str) -> Result<LoadFault, AllocError> {
     Ok(LoadFault::Refused(format!(in alloc; "{path}: {why}")?))
 }
 
-fn unreadable(alloc: Global, path: &str, error: &io::Error) -> LoadFault {
+/// The fault where the host does not give a file, or take one.
+pub fn host_fault(alloc: Global, path: &str, error: &io::Error) -> LoadFault {
     if error.kind() == ErrorKind::OutOfMemory {
         return LoadFault::OutOfMemory;
     }
     match format!(in alloc; "{path}: {error}") {
-        Ok(text) => LoadFault::Refused(text),
+        Ok(text) => LoadFault::Host(text),
         Err(_) => LoadFault::OutOfMemory,
     }
 }
@@ -50,10 +55,17 @@ fn linked_image(alloc: Global, path: &str, file: &[u8]) -> Result<Image, LoadFau
     }
 }
 
+/// The symbols and the lines of an executable.
+fn executable_names(alloc: Global, file: &[u8]) -> Result<Names, AllocError> {
+    Ok(Names::Executable {
+        functions: functions_of(alloc, file)?,
+        lines: CodeLines::of(alloc, file)?,
+    })
+}
+
 fn load_linked(alloc: Global, path: &str, file: &[u8]) -> Result<(Image, Names), LoadFault> {
     let image = linked_image(alloc, path, file)?;
-    let functions = functions_of(alloc, file)?;
-    Ok((image, Names::Functions(functions)))
+    Ok((image, executable_names(alloc, file)?))
 }
 
 /// What is said of a source that is refused.
@@ -85,14 +97,18 @@ fn load_source(alloc: Global, path: &str, source: &str) -> Result<(Image, Names)
     let text = String::from_str(alloc, source)?;
     match SourceLines::read(alloc, text, &image) {
         Ok(Some(lines)) => Ok((image, Names::Source(lines))),
-        Ok(None) => Ok((image, Names::Functions(Vec::new(alloc)))),
+        Ok(None) => Ok((image, executable_names(alloc, &[])?)),
         Err(_) => Err(LoadFault::OutOfMemory),
     }
 }
 
+fn is_elf(file: &[u8]) -> bool {
+    file.get(..ELF_BEGIN.len()) == Some(ELF_BEGIN)
+}
+
 /// The image of a program's file, and what is known of it.
 fn read(alloc: Global, path: &str, file: &[u8]) -> Result<(Image, Names), LoadFault> {
-    if file.get(..ELF_BEGIN.len()) == Some(ELF_BEGIN) {
+    if is_elf(file) {
         return load_linked(alloc, path, file);
     }
     match str::from_utf8(file) {
@@ -101,15 +117,46 @@ fn read(alloc: Global, path: &str, file: &[u8]) -> Result<(Image, Names), LoadFa
     }
 }
 
+/// The bytes of a program's file.
+fn file_in<R: Files + AllocGlobal>(rt: &R, path: &str) -> Result<Vec<u8>, LoadFault> {
+    match bytes_in(rt, path, MOST_LINKED_BYTES) {
+        Ok(bytes) => Ok(bytes),
+        Err(error) => Err(host_fault(rt.alloc(), path, &error)),
+    }
+}
+
 /// The program in a file. What it is its bytes say: those of an image or of an executable begin with 7F and the letters ELF, and a text
 /// is a source, which is assembled.
 pub fn load<R: Files + AllocGlobal>(rt: &R, path: &str) -> Result<LoadedProgram, LoadFault> {
+    let file = file_in(rt, path)?;
+    let (image, names) = read(rt.alloc(), path, file.as_slice())?;
+    let path = String::from_str(rt.alloc(), path)?;
+    Ok(LoadedProgram {
+        image,
+        places: Places { path, names },
+    })
+}
+
+/// What an ELF file names, whether it may be run or not. Refused where it names nothing.
+fn names_of_elf(alloc: Global, path: &str, file: &[u8]) -> Result<Names, LoadFault> {
+    let functions = functions_of(alloc, file)?;
+    let lines = CodeLines::of(alloc, file)?;
+    if functions.is_empty() && lines.is_empty() {
+        return Err(refused(alloc, path, NO_NAMES)?);
+    }
+    Ok(Names::Executable { functions, lines })
+}
+
+/// What the file of a program names, as `load` reads it. An ELF file need not be one that may be run, but has to name something.
+pub fn load_places<R: Files + AllocGlobal>(rt: &R, path: &str) -> Result<Places, LoadFault> {
     let alloc = rt.alloc();
-    let bytes = match bytes_in(rt, path, MOST_LINKED_BYTES) {
-        Ok(bytes) => bytes,
-        Err(error) => return Err(unreadable(alloc, path, &error)),
+    let file = file_in(rt, path)?;
+    let names = if is_elf(file.as_slice()) {
+        names_of_elf(alloc, path, file.as_slice())?
+    } else {
+        let (_image, names) = read(alloc, path, file.as_slice())?;
+        names
     };
-    let (image, names) = read(alloc, path, bytes.as_slice())?;
     let path = String::from_str(alloc, path)?;
-    Ok(LoadedProgram { path, image, names })
+    Ok(Places { path, names })
 }

@@ -1,4 +1,5 @@
 //! A program, and what stands at its addresses.
+use crate::code_lines::CodeLines;
 use crate::functions::{Function, function_at};
 use debug_info::SourceLines;
 use machine_model::Image;
@@ -8,53 +9,76 @@ use std::fmt;
 #[derive(Drop)]
 pub enum Names {
     Source(SourceLines),
-    /// The symbols of an executable, none where it has none.
-    Functions(Vec<Function>),
+    /// The symbols of an executable and its lines, none where it has none.
+    Executable {
+        functions: Vec<Function>,
+        lines: CodeLines,
+    },
+}
+
+/// What stands at the addresses of a program.
+#[derive(Drop)]
+pub struct Places {
+    /// The path of the program's file.
+    pub path: String,
+    pub names: Names,
 }
 
 /// A program that was loaded.
 pub struct LoadedProgram {
-    /// The path of its file.
-    pub path: String,
     pub image: Image,
-    pub names: Names,
+    pub places: Places,
 }
 
 impl Drop for LoadedProgram {
     fn drop(self) {
         let LoadedProgram {
-            path: _path,
             image: _image,
-            names: _names,
+            places: _places,
         } = self;
     }
 }
 
-/// What a program has at an address, as a part of a line: the line of its source, or the function and how far it is from its begin.
-/// Nothing where nothing is known of it.
+/// What a program has at an address, as a part of a line: the line of its source; or the function with how far it is from its begin, and
+/// the line of the file that it was compiled of. Nothing where nothing is known of it.
 #[derive(Clone, Copy)]
 pub struct PlaceText<'a> {
-    pub program: &'a LoadedProgram,
+    pub places: &'a Places,
     pub address: u32,
+}
+
+/// Writes the function and the line of an executable's address.
+fn write_code<W: fmt::Write>(
+    f: &mut fmt::Formatter<W>,
+    functions: &[Function],
+    lines: &CodeLines,
+    place: &PlaceText<'_>,
+) -> fmt::Result {
+    let path = place.places.path.as_str();
+    if let Some(function) = function_at(functions, place.address) {
+        let name = function.name.as_str();
+        let beyond = place.address.saturating_sub(function.start);
+        write!(f, ", {name}+0x{beyond:x} of {path}")?;
+    }
+    if let Some((file, line)) = lines.line_at(place.address) {
+        write!(f, ", {file}:{line}")?;
+    }
+    Ok(())
 }
 
 impl fmt::Display for PlaceText<'_> {
     fn fmt<W: fmt::Write>(&self, f: &mut fmt::Formatter<W>) -> fmt::Result {
-        let path = self.program.path.as_str();
-        match &self.program.names {
+        match &self.places.names {
             Names::Source(lines) => {
                 if let Some((number, text)) = lines.line_at(self.address) {
+                    let path = self.places.path.as_str();
                     write!(f, ", {path}:{number}: {text}")?;
                 }
+                Ok(())
             }
-            Names::Functions(functions) => {
-                if let Some(function) = function_at(functions.as_slice(), self.address) {
-                    let name = function.name.as_str();
-                    let beyond = self.address.saturating_sub(function.start);
-                    write!(f, ", {name}+0x{beyond:x} of {path}")?;
-                }
+            Names::Executable { functions, lines } => {
+                write_code(f, functions.as_slice(), lines, self)
             }
         }
-        Ok(())
     }
 }

@@ -4,9 +4,10 @@ use crate::objects::{
     CallObject, DiskObject, FileObject, ProcessObject, RunObject, TerminalObject,
 };
 use call_forms::Call;
-use exec_reports::{How, WaitText, count_left, status_of_run};
+use exec_reports::{WaitText, count_left, status_of_run};
+use exec_runs::Ending;
 use faults::Fault;
-use kernel::{Core, Machine, Standing};
+use kernel::{Core, Standing};
 use kernel_model::TERMINALS;
 use scripts::bytes_text;
 use std::alloc::{AllocError, Global};
@@ -15,6 +16,14 @@ use trap_reports::trap_report;
 
 /// From this status on a process ended by a trap.
 const TRAPPED: u32 = 256;
+
+/// A run that has ended, and how much each of its processes did.
+#[derive(Clone, Copy)]
+pub struct EndedRun<'c, 'n> {
+    pub core: &'c Core,
+    pub counts: &'n Counts,
+    pub ending: Ending,
+}
 
 /// The calls that a process made, by their numbers.
 fn calls_of(alloc: Global, counts: &Counts, pid: u32) -> Result<Vec<CallObject>, AllocError> {
@@ -40,19 +49,26 @@ fn state_of(core: &Core, pid: u32, standing: Standing) -> (&'static str, Option<
     }
 }
 
+/// The report of the trap by which a process ended, if it did.
+fn trap_text(alloc: Global, core: &Core, pid: u32) -> Result<Option<String>, AllocError> {
+    let Ok(machine) = core.machine(pid) else {
+        return Ok(None);
+    };
+    match trap_report(machine) {
+        Some(report) => Ok(Some(format!(in alloc; "{report}")?)),
+        None => Ok(None),
+    }
+}
+
 /// Why a process trapped, or on what it waits.
 fn why_of(
     alloc: Global,
     core: &Core,
     pid: u32,
     standing: Standing,
-    machine: &Machine,
 ) -> Result<Option<String>, AllocError> {
     match standing {
-        Standing::Ended => match trap_report(machine) {
-            Some(report) => Ok(Some(format!(in alloc; "{report}")?)),
-            None => Ok(None),
-        },
+        Standing::Ended => trap_text(alloc, core, pid),
         Standing::Waits => {
             let wait = WaitText { core, pid };
             Ok(Some(format!(in alloc; "{wait}")?))
@@ -63,37 +79,32 @@ fn why_of(
 
 fn process_object(
     alloc: Global,
-    core: &Core,
-    counts: &Counts,
+    run: EndedRun<'_, '_>,
     pid: u32,
     standing: Standing,
 ) -> Result<Option<ProcessObject>, AllocError> {
-    let Ok(machine) = core.machine(pid) else {
+    let Ok(machine) = run.core.machine(pid) else {
         return Ok(None);
     };
     let pc = machine.pc();
-    let (state, status) = state_of(core, pid, standing);
+    let (state, status) = state_of(run.core, pid, standing);
     Ok(Some(ProcessObject {
         process: pid,
         state,
         status,
         pc: format!(in alloc; "{pc:08x}")?,
-        why: why_of(alloc, core, pid, standing, machine)?,
-        instructions: counts.of(pid).instructions,
-        calls: calls_of(alloc, counts, pid)?,
+        why: why_of(alloc, run.core, pid, standing)?,
+        instructions: run.counts.of(pid).instructions,
+        calls: calls_of(alloc, run.counts, pid)?,
     }))
 }
 
-fn processes_of(
-    alloc: Global,
-    core: &Core,
-    counts: &Counts,
-) -> Result<Vec<ProcessObject>, AllocError> {
+fn processes_of(alloc: Global, run: EndedRun<'_, '_>) -> Result<Vec<ProcessObject>, AllocError> {
     let mut processes = Vec::new(alloc);
     for pid in 1..u32::MAX {
-        match core.standing(pid) {
+        match run.core.standing(pid) {
             Ok(standing) => {
-                if let Some(process) = process_object(alloc, core, counts, pid, standing)? {
+                if let Some(process) = process_object(alloc, run, pid, standing)? {
                     processes.push(process)?;
                 }
             }
@@ -140,34 +151,36 @@ fn files_of(alloc: Global, core: &Core) -> Result<Vec<FileObject>, AllocError> {
 }
 
 /// How a run ended, in a word.
-fn ending_of(core: &Core, how: How) -> &'static str {
-    match how {
-        How::Limited { .. } => "limit",
-        How::Over if count_left(core) > 0 => "deadlock",
-        How::Over => "over",
+fn ending_of(core: &Core, ending: Ending) -> &'static str {
+    match ending {
+        Ending::Limit { .. } | Ending::Full { .. } => "limit",
+        Ending::Over if count_left(core) > 0 => "deadlock",
+        Ending::Over => "over",
     }
 }
 
-/// Writes what is to be known of a run that has ended as one object of JSON, in a line.
+fn object_of(alloc: Global, run: EndedRun<'_, '_>) -> Result<RunObject, AllocError> {
+    Ok(RunObject {
+        status: status_of_run(run.core, run.ending),
+        ending: ending_of(run.core, run.ending),
+        instructions: run.core.ran(),
+        processes: processes_of(alloc, run)?,
+        terminals: terminals_of(alloc, run.core)?,
+        files: files_of(alloc, run.core)?,
+        disk: DiskObject {
+            changes: run.core.changes(),
+            committed: run.core.committed(),
+        },
+    })
+}
+
+/// Writes what is to be known of a run as one object of JSON, in a line.
 pub fn write_json<W: Write>(
     alloc: Global,
-    core: &Core,
-    counts: &Counts,
-    how: How,
+    run: EndedRun<'_, '_>,
     out: &mut W,
 ) -> Result<(), Fault> {
-    let object = RunObject {
-        status: status_of_run(core, how),
-        ending: ending_of(core, how),
-        instructions: core.ran(),
-        processes: processes_of(alloc, core, counts)?,
-        terminals: terminals_of(alloc, core)?,
-        files: files_of(alloc, core)?,
-        disk: DiskObject {
-            changes: core.changes(),
-            committed: core.committed(),
-        },
-    };
+    let object = object_of(alloc, run)?;
     let Ok(text) = serde_json::to_string(alloc, &object) else {
         return Err(Fault::OutOfMemory);
     };

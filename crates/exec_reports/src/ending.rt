@@ -1,12 +1,13 @@
 //! Why a run ended.
 use crate::family::Family;
 use crate::lines::print_processes;
+use exec_runs::Ending;
 use faults::{Fault, write_line};
 use kernel::{Core, Standing};
 use run_files::status_of;
 use std::io::Write;
 
-/// The exit status where the limit of instructions is reached.
+/// The exit status where a limit of instructions is reached.
 const LIMITED: u8 = 124;
 
 /// The exit status where some process has not ended, and none may go on.
@@ -14,15 +15,6 @@ const STUCK: u8 = 126;
 
 /// From this status on a process ended by a trap.
 const TRAPPED: u32 = 256;
-
-/// How a run ended.
-#[derive(Clone, Copy, PartialEq, Eq)]
-pub enum How {
-    /// No process may go on.
-    Over,
-    /// This many instructions were run, which is the limit.
-    Limited { limit: u64 },
-}
 
 /// How many processes have not ended.
 pub fn count_left(core: &Core) -> u32 {
@@ -47,14 +39,33 @@ fn has_exited(core: &Core) -> bool {
     matches!(core.ended(1), Ok(Some(status)) if status < TRAPPED)
 }
 
-/// The exit status of a run: 124 at the limit; else 128 and the cause of the first program's trap; else 126 where some process has not
+/// The exit status of a run: 124 at a limit; else 128 and the cause of the first program's trap; else 126 where some process has not
 /// ended; else the first program's own status.
-pub fn status_of_run(core: &Core, how: How) -> u8 {
-    match how {
-        How::Limited { .. } => LIMITED,
-        How::Over if is_trapped(core) || count_left(core) == 0 => status_of(core, 1),
-        How::Over => STUCK,
+pub fn status_of_run(core: &Core, ending: Ending) -> u8 {
+    match ending {
+        Ending::Limit { .. } | Ending::Full { .. } => LIMITED,
+        Ending::Over if is_trapped(core) || count_left(core) == 0 => status_of(core, 1),
+        Ending::Over => STUCK,
     }
+}
+
+/// Prints why a run is over in which no process may go on; nothing where each has ended, and the first by `exit` with status 0, or by
+/// a trap, which has a line of its own.
+fn print_over<E: Write>(core: &Core, err: &mut E) -> Result<(), Fault> {
+    let left = count_left(core);
+    let status = status_of_run(core, Ending::Over);
+    if left > 0 {
+        write_line(
+            err,
+            format_args!("bench: deadlock: nothing can go on; processes that wait: {left}"),
+        )?;
+    } else if status != 0 && has_exited(core) {
+        write_line(
+            err,
+            format_args!("bench: process 1 ended with status {status}"),
+        )?;
+    }
+    Ok(())
 }
 
 /// Prints why a run ended, and a line for each process that trapped or has not ended. Nothing where each process ended by `exit`, and
@@ -62,27 +73,19 @@ pub fn status_of_run(core: &Core, how: How) -> u8 {
 pub fn print_ending<E: Write>(
     core: &Core,
     family: &Family,
-    how: How,
+    ending: Ending,
     err: &mut E,
 ) -> Result<(), Fault> {
-    let left = count_left(core);
-    let status = status_of_run(core, how);
-    match how {
-        How::Limited { limit } => write_line(
+    match ending {
+        Ending::Limit { instructions } => write_line(
             err,
-            format_args!("bench: the limit of {limit} instructions is reached"),
+            format_args!("bench: the limit of {instructions} instructions is reached"),
         )?,
-        How::Over if left > 0 => write_line(
+        Ending::Full { pid } => write_line(
             err,
-            format_args!("bench: deadlock: nothing can go on; processes that wait: {left}"),
+            format_args!("bench: process {pid} has run 2^40 instructions, the most of a process"),
         )?,
-        How::Over if status != 0 && has_exited(core) => {
-            write_line(
-                err,
-                format_args!("bench: process 1 ended with status {status}"),
-            )?
-        }
-        How::Over => {}
+        Ending::Over => print_over(core, err)?,
     }
     print_processes(core, family, err)
 }

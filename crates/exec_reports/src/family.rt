@@ -9,7 +9,9 @@ use std::alloc::{AllocError, Global};
 /// The programs of a run, and which of them each process runs, as far as that is known.
 pub struct Family {
     programs: Vec<LoadedProgram>,
-    /// For process 1 and up the place of its program. None where it executed a file since.
+    /// For each process of the boot the place of its program, where that is known.
+    booted: Vec<Option<usize>>,
+    /// The same for process 1 and up. None also where it executed a file since.
     runs: Vec<Option<usize>>,
     /// The process that stands at a fork or an exec, which is the next event, and whether it is a fork.
     standing: Option<(u32, bool)>,
@@ -19,6 +21,7 @@ impl Drop for Family {
     fn drop(self) {
         let Family {
             programs: _programs,
+            booted: _booted,
             runs: _runs,
             standing: _,
         } = self;
@@ -54,15 +57,33 @@ fn has_executed(core: &Core, pid: u32) -> bool {
 impl Family {
     /// Before the run: each program is that of a process.
     pub fn new(alloc: Global, programs: Vec<LoadedProgram>) -> Result<Family, AllocError> {
-        let mut runs = Vec::new(alloc);
+        let mut booted = Vec::new(alloc);
         for place in 0..programs.len() {
-            runs.push(Some(place))?;
+            booted.push(Some(place))?;
         }
+        Family::of(alloc, programs, booted)
+    }
+
+    /// Before the run, where for each process of the boot the place of its program among these is given, if it is one of them.
+    pub fn of(
+        alloc: Global,
+        programs: Vec<LoadedProgram>,
+        booted: Vec<Option<usize>>,
+    ) -> Result<Family, AllocError> {
+        let runs = Vec::from_slice(alloc, booted.as_slice())?;
         Ok(Family {
             programs,
+            booted,
             runs,
             standing: None,
         })
+    }
+
+    /// The processes of the boot are booted again.
+    pub fn reboot(&mut self, alloc: Global) -> Result<(), AllocError> {
+        self.runs = Vec::from_slice(alloc, self.booted.as_slice())?;
+        self.standing = None;
+        Ok(())
     }
 
     /// The programs with which the run began, in order.
@@ -73,6 +94,11 @@ impl Family {
     /// The place of the program that a process runs, where it is known.
     fn run_by(&self, pid: u32) -> Option<usize> {
         *self.runs.as_slice().get(place_of(pid)?)?
+    }
+
+    /// Whether a process runs the first program: one of its own or of what it forked, until it executes a file.
+    pub fn runs_first(&self, pid: u32) -> bool {
+        self.run_by(pid) == Some(0)
     }
 
     /// The program that a process runs, where it is known.

@@ -12,6 +12,7 @@ mod places;
 mod waits;
 
 pub use call_trace::CallTrace;
-pub use ending::{How, count_left, print_ending, status_of_run};
+pub use ending::{count_left, print_ending, status_of_run};
 pub use family::Family;
+pub use places::StandText;
 pub use waits::WaitText;

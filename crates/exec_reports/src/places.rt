@@ -34,7 +34,10 @@ impl fmt::Display for StandText<'_, '_> {
         write_instruction(f, word)?;
         match self.family.program_of(self.pid) {
             Some(program) => {
-                let place = PlaceText { program, address };
+                let place = PlaceText {
+                    places: &program.places,
+                    address,
+                };
                 write!(f, "{place}")
             }
             None => Ok(()),

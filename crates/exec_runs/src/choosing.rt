@@ -37,28 +37,53 @@ pub struct Chooser {
     left: u32,
 }
 
-/// How many processes may go on.
-fn count_free(core: &Core) -> u32 {
+/// Which processes one is drawn of.
+#[derive(Clone, Copy, PartialEq, Eq)]
+enum Among {
+    /// All that may go on.
+    All,
+    /// Those of them that stand at no call, where they might wait again.
+    Running,
+}
+
+/// Whether a process stands at a call or a trap.
+pub fn is_stopped(core: &Core, pid: u32) -> bool {
+    match core.machine(pid) {
+        Ok(machine) => machine.stopped().is_some(),
+        Err(_) => false,
+    }
+}
+
+/// Whether one is drawn of this process too. None where there is no such process.
+fn is_among(core: &Core, among: Among, pid: u32) -> Option<bool> {
+    match core.standing(pid) {
+        Ok(Standing::Free) => Some(among == Among::All || !is_stopped(core, pid)),
+        Ok(_) => Some(false),
+        Err(_) => None,
+    }
+}
+
+/// Of how many processes one is drawn.
+fn count_among(core: &Core, among: Among) -> u32 {
     let mut count = 0u32;
     for pid in 1..u32::MAX {
-        match core.standing(pid) {
-            Ok(Standing::Free) => count = count.saturating_add(1),
-            Ok(_) => {}
-            Err(_) => return count,
+        match is_among(core, among, pid) {
+            Some(true) => count = count.saturating_add(1),
+            Some(false) => {}
+            None => return count,
         }
     }
     count
 }
 
-/// The process that may go on before which there are so many others that may.
-fn free_after(core: &Core, others: u32) -> Option<u32> {
+/// The process of these before which there are so many others.
+fn drawn(core: &Core, among: Among, others: u32) -> Option<u32> {
     let mut left = others;
     for pid in 1..u32::MAX {
-        match core.standing(pid) {
-            Ok(Standing::Free) if left == 0 => return Some(pid),
-            Ok(Standing::Free) => left = left.saturating_sub(1),
-            Ok(_) => {}
-            Err(_) => return None,
+        match is_among(core, among, pid)? {
+            true if left == 0 => return Some(pid),
+            true => left = left.saturating_sub(1),
+            false => {}
         }
     }
     None
@@ -78,9 +103,15 @@ fn next_free(core: &Core, last: u32) -> Option<u32> {
     first
 }
 
-/// A turn by chance.
-fn any_turn(core: &Core, random: &mut Random) -> Option<Turn> {
-    let pid = free_after(core, random.below(count_free(core)))?;
+/// A turn by chance. After one in vain, of a process that waits, it is of one that stands at no call, if there is one: else many that
+/// wait would each be tried again after each call of another.
+fn any_turn(core: &Core, random: &mut Random, is_in_vain: bool) -> Option<Turn> {
+    let among = if is_in_vain && count_among(core, Among::Running) > 0 {
+        Among::Running
+    } else {
+        Among::All
+    };
+    let pid = drawn(core, among, random.below(count_among(core, among)))?;
     let length = random.below(LENGTHS);
     let most = random.below(1u32.checked_shl(length).unwrap_or(1));
     Some(Turn {
@@ -112,7 +143,10 @@ impl Chooser {
     /// The next turn. None where no process may go on.
     pub fn next(&mut self, core: &Core) -> Option<Turn> {
         if let Some(random) = &mut self.random {
-            return any_turn(core, random);
+            let is_in_vain = matches!(core.standing(self.last), Ok(Standing::Waits));
+            let turn = any_turn(core, random, is_in_vain)?;
+            self.last = turn.pid;
+            return Some(turn);
         }
         if self.may_stay(core) {
             self.left = self.left.saturating_sub(1);

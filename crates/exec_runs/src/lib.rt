@@ -3,8 +3,10 @@
 #![tactic(auto)]
 
 mod choosing;
+mod ending;
 mod random;
 mod turns;
 
 pub use choosing::Order;
-pub use turns::{Ending, Turns};
+pub use ending::Ending;
+pub use turns::Turns;

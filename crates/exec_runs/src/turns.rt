@@ -1,15 +1,10 @@
 //! A run by turns.
-use crate::choosing::{Chooser, Order};
+use crate::choosing::{Chooser, Order, Turn, is_stopped};
+use crate::ending::Ending;
 use kernel::{Core, Event};
 
-/// How a run by turns ended.
-#[derive(Clone, Copy, PartialEq, Eq)]
-pub enum Ending {
-    /// No process may go on: each has ended, or waits.
-    Over,
-    /// The limit of instructions is reached, and some process would run another one.
-    Limit,
-}
+/// The most instructions of a process, its replies among them.
+const MOST_INSTRUCTIONS: u64 = 1 << 40;
 
 /// What says which event comes next. Whoever runs a core asks for it and applies it, again and again. The same core and order give the
 /// same events. The changes that output waits for are committed at once, and at the end all are.
@@ -24,21 +19,28 @@ pub struct Turns {
     ending: Option<Ending>,
 }
 
-/// Whether a process stands at a call or a trap.
-fn is_stopped(core: &Core, pid: u32) -> bool {
-    match core.machine(pid) {
-        Ok(machine) => machine.stopped().is_some(),
-        Err(_) => false,
+/// How many instructions of a turn the limit allows; how the run ends where it allows none.
+fn allowed(core: &Core, limit: Option<u64>, most: u32) -> Result<u32, Ending> {
+    let Some(instructions) = limit else {
+        return Ok(most);
+    };
+    let left = instructions.saturating_sub(core.ran());
+    match u32::try_from(left).unwrap_or(u32::MAX).min(most) {
+        0 => Err(Ending::Limit { instructions }),
+        n => Ok(n),
     }
 }
 
-/// How many instructions of a turn the limit allows.
-fn allowed(core: &Core, limit: Option<u64>, most: u32) -> u32 {
-    match limit {
-        Some(limit) => u32::try_from(limit.saturating_sub(core.ran()))
-            .unwrap_or(most)
-            .min(most),
-        None => most,
+/// How many of so many instructions a process may run; how the run ends where it may run none.
+fn fitting(core: &Core, pid: u32, most: u32) -> Result<u32, Ending> {
+    let count = match core.machine(pid) {
+        Ok(machine) => machine.count(),
+        Err(_) => 0,
+    };
+    let left = MOST_INSTRUCTIONS.saturating_sub(count);
+    match u32::try_from(left).unwrap_or(u32::MAX).min(most) {
+        0 => Err(Ending::Full { pid }),
+        n => Ok(n),
     }
 }
 
@@ -58,31 +60,34 @@ impl Turns {
         self.ending.unwrap_or(Ending::Over)
     }
 
-    /// The next event of the process that is chosen now. None where the run ends.
-    fn next_turn(&mut self, core: &Core) -> Option<Event> {
-        let Some(turn) = self.chooser.next(core) else {
-            self.ending = Some(Ending::Over);
-            return None;
-        };
+    /// The event of a process that is chosen; how the run ends where there is none.
+    fn event_of(&mut self, core: &Core, turn: Turn) -> Result<Event, Ending> {
         let pid = turn.pid;
+        let most = fitting(core, pid, turn.most)?;
         if is_stopped(core, pid) {
-            return Some(Event::Enter { pid });
+            return Ok(Event::Enter { pid });
         }
-        let n = allowed(core, self.limit, turn.most);
-        if n == 0 {
-            self.ending = Some(Ending::Limit);
-            return None;
-        }
+        let n = allowed(core, self.limit, most)?;
         self.running = pid;
-        Some(Event::Turn { pid, n })
+        Ok(Event::Turn { pid, n })
     }
 
-    /// The next event of a process: one that ran to a call or a trap enters the kernel, and else one is chosen. None where the run ends.
-    fn next_of_process(&mut self, core: &Core) -> Option<Event> {
+    /// The next event of the process that is chosen now; how the run ends where there is none.
+    fn next_turn(&mut self, core: &Core) -> Result<Event, Ending> {
+        match self.chooser.next(core) {
+            Some(turn) => self.event_of(core, turn),
+            None => Err(Ending::Over),
+        }
+    }
+
+    /// The next event of a process: one that ran to a call or a trap enters the kernel, and else one is chosen. How the run ends where
+    /// there is none.
+    fn next_of_process(&mut self, core: &Core) -> Result<Event, Ending> {
         let pid = self.running;
         self.running = 0;
         if pid > 0 && is_stopped(core, pid) {
-            return Some(Event::Enter { pid });
+            fitting(core, pid, 1)?;
+            return Ok(Event::Enter { pid });
         }
         if pid > 0 {
             self.chooser.pass();
@@ -98,10 +103,11 @@ impl Turns {
         if core.wants_cut() {
             return Some(Event::Cut);
         }
-        if self.ending.is_none()
-            && let Some(event) = self.next_of_process(core)
-        {
-            return Some(event);
+        if self.ending.is_none() {
+            match self.next_of_process(core) {
+                Ok(event) => return Some(event),
+                Err(ending) => self.ending = Some(ending),
+            }
         }
         core.next_of_drain()
     }

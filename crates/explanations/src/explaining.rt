@@ -33,6 +33,14 @@ fn path_of<'a>(files: &[TaskFile<'a>], role: Role) -> Option<&'a str> {
     Some(file.path)
 }
 
+/// The role of the script among files.
+fn script_role(files: &[TaskFile<'_>]) -> Role {
+    match path_of(files, Role::ScriptOrProgram) {
+        Some(_) => Role::ScriptOrProgram,
+        None => Role::Script,
+    }
+}
+
 /// The path of an image that a line of a script names, if it names one.
 fn image_path(line: &str) -> Option<&str> {
     let rest = line.trim_start().strip_prefix("image ")?;
@@ -81,7 +89,7 @@ fn first_image<R: Files + AllocGlobal>(
     for file in files {
         let found = match file.role {
             Role::Image => image_at(rt, file.path)?,
-            Role::Script => script_image(rt, file.path)?,
+            Role::Script | Role::ScriptOrProgram => script_image(rt, file.path)?,
             _ => None,
         };
         if found.is_some() {
@@ -249,7 +257,7 @@ fn reason_of<R: Files<File = File> + AllocGlobal>(
         Fault::Script { line } => line_at(
             rt,
             files,
-            Role::Script,
+            script_role(files),
             line,
             "has no form, or may not stand there",
         ),

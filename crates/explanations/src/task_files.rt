@@ -1,5 +1,5 @@
 //! The files that a task names.
-use command_line::{ExecOptions, ExploreOptions, LiveOptions, RunOptions, Task};
+use command_line::{CrashOptions, ExecOptions, ExploreOptions, LiveOptions, RunOptions, Task};
 use std::alloc::{AllocError, Global};
 
 /// What a file is for.
@@ -8,6 +8,10 @@ pub enum Role {
     Script,
     Source,
     Image,
+    /// A program of whatever kind.
+    Program,
+    /// A script, or such a program.
+    ScriptOrProgram,
     /// An executable that a linker wrote.
     Linked,
     Trace,
@@ -98,6 +102,25 @@ fn push_explored<'a>(
     push(files, Role::Expectations, options.expect)
 }
 
+fn push_crashes<'a>(
+    files: &mut Vec<TaskFile<'a>>,
+    options: &'a CrashOptions<'a>,
+) -> Result<(), AllocError> {
+    let programs = options.programs.as_slice();
+    let role = match programs {
+        [_] => Role::ScriptOrProgram,
+        _ => Role::Program,
+    };
+    for path in programs {
+        push(files, role, Some(*path))?;
+    }
+    for path in options.tapes.as_slice() {
+        push(files, Role::Tape, path.filter(|path| *path != "-"))?;
+    }
+    push(files, Role::Expectations, options.expect)?;
+    push(files, Role::Program, options.recover)
+}
+
 /// Adds the files of the options of a session or a run, if the task is one.
 fn push_options<'a>(files: &mut Vec<TaskFile<'a>>, task: &'a Task<'a>) -> Result<(), AllocError> {
     match task {
@@ -106,6 +129,7 @@ fn push_options<'a>(files: &mut Vec<TaskFile<'a>>, task: &'a Task<'a>) -> Result
         Task::Run(options) => push_run(files, options),
         Task::Exec(options) => push_exec(files, options),
         Task::Explore(options) => push_explored(files, options),
+        Task::Crashes(options) => push_crashes(files, options),
         _ => Ok(()),
     }
 }
@@ -124,13 +148,14 @@ fn one(role: Role, path: Option<&str>) -> Named<'_> {
 /// The files of a task beside those of `push_options`, in the same order.
 fn named<'a>(task: &'a Task<'a>) -> Named<'a> {
     match task {
-        Task::ReplayInput | Task::DebugLive(_) | Task::Run(_) | Task::Exec(_) | Task::Explore(_) =>
-            { one(Role::Script, None) }
+        Task::ReplayInput
+        | Task::DebugLive(_)
+        | Task::Run(_)
+        | Task::Exec(_)
+        | Task::Explore(_)
+        | Task::Crashes(_) => one(Role::Script, None),
         Task::ReplayFile(script) | Task::ReplayCone { script, .. } | Task::Picture { script, .. } =>
             one(Role::Script, Some(*script)),
-        Task::Crashes { script, expect } => {
-            two(Role::Script, Some(*script), Role::Expectations, *expect)
-        }
         Task::Assemble { source, image } => {
             two(Role::Source, Some(*source), Role::Written, Some(*image))
         }
@@ -142,7 +167,7 @@ fn named<'a>(task: &'a Task<'a>) -> Named<'a> {
         }
         Task::Page { script, .. } => one(Role::Script, Some(*script)),
         Task::Check(source) => one(Role::Source, Some(*source)),
-        Task::Diff { first, second } => two(Role::Log, Some(*first), Role::Log, Some(*second)),
+        Task::Diff { first, second, .. } => two(Role::Log, Some(*first), Role::Log, Some(*second)),
         Task::List(image) => one(Role::Image, Some(*image)),
         Task::Debug {
             image,

@@ -1,0 +1,3 @@
+-- The lemmas.
+pub mod Begins
+pub mod Growing

@@ -1,0 +1,3 @@
+-- The definitions.
+pub mod Begun
+pub mod Counted
