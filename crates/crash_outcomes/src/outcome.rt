@@ -1,9 +1,10 @@
 //! What a crash leaves, as one line: its outcome.
 ghost use Rattle.std.specs.Prelude.{◌<◌, length};
 
-use disk_model::{LONGEST_FILE, LONGEST_NAME, MOST_FILES};
+use disk_model::{LONGEST_FILE, MOST_FILES};
 use files::FileList;
 use input_reading::decimal;
+use scripts::is_file_name;
 use sha2::{Digest, Sha256};
 use std::alloc::{AllocError, Global};
 
@@ -44,14 +45,6 @@ pub fn outcome_of(alloc: Global, files: &FileList) -> Result<String, AllocError>
     Ok(text)
 }
 
-fn is_name(word: &str) -> bool {
-    !word.is_empty()
-        && word.len() <= LONGEST_NAME as usize
-        && word
-            .bytes()
-            .all(|byte| byte.is_ascii_graphic() && byte != b'/')
-}
-
 /// Whether a word is a file's length as it is printed: without a leading zero.
 fn is_length(word: &str) -> bool {
     match decimal(word) {
@@ -76,7 +69,7 @@ fn is_file(word: &str) -> bool {
     let Some((name, length)) = file.rsplit_once(':') else {
         return false;
     };
-    is_name(name) && is_length(length) && is_digest(digest)
+    is_file_name(name) && is_length(length) && is_digest(digest)
 }
 
 /// Whether words are as many files as there may be, and nothing else.

@@ -1,13 +1,15 @@
-//! Boots the programs and tapes that a script sets up: first on a disk of zeros, and after a `crash` line on the disk that is left.
+//! Boots the programs and tapes that a script sets up: first on a disk with the files that it sets up, and after a `crash` line on the disk that is left.
 ghost use Rattle.std.specs.Prelude.{◌≡◌, ◌<◌, true, length, IfOk, IfSome};
 ghost use Rattle.std.specs.List.{AllByRecursion};
 ghost use Rattle.disk_model.specs.Storage.{is_quiet};
 ghost use Rattle.kernel_model.specs.World.{terminal_count, tape_count};
 
+use crate::disk_with::disk_with;
 use crate::setup::{ScriptProgram, ScriptTape, Setup, Source, tape_numbered};
 use byte_list::Bytes;
 use faults::Fault;
-use host_files::{FileFault, zeros};
+use files::FileList;
+use host_files::FileFault;
 use input_reading::image_file_in;
 use kernel::{BootFault, Core, Program, SimDisk};
 use kernel_model::{MOST_PROGRAMS, TAPES};
@@ -16,8 +18,8 @@ use std::alloc::{AllocError, Global};
 use std::rt::Files;
 
 impl Source {
-    /// The program's image. A file that holds it is read at the first boot alone.
-    fn image<R: Files + AllocGlobal>(&mut self, rt: &R) -> Result<Image, FileFault> {
+    /// The program's image. A file that holds it is read once.
+    pub fn image<R: Files + AllocGlobal>(&mut self, rt: &R) -> Result<Image, FileFault> {
         match self {
             Source::Words(words) => Ok(Image::from_text(rt.alloc(), words.as_slice())?),
             Source::Path(path) => {
@@ -77,14 +79,14 @@ fn tapes_of(alloc: Global, tapes: &[ScriptTape]) -> Result<Vec<Bytes>, AllocErro
     Ok(booted)
 }
 
-/// The disk that a crash left, or else one of zeros.
-fn disk_of(alloc: Global, left: Option<SimDisk>) -> Result<SimDisk, FileFault>
+/// The disk that a crash left, or else one that holds these files.
+fn disk_of(alloc: Global, left: Option<SimDisk>, files: &FileList) -> Result<SimDisk, FileFault>
     requires { IfSome left (λ device. is_quiet device ≡ true) }
     ensures { IfOk result (λ device. is_quiet device ≡ true) }
 {
     match left {
         Some(device) => Ok(device),
-        None => zeros(alloc),
+        None => disk_with(alloc, files),
     }
 }
 
@@ -97,7 +99,7 @@ pub fn boot_fault(fault: BootFault) -> Fault {
 }
 
 impl Setup {
-    /// Boots what a script sets up, on the disk that a crash left, or on one of zeros. A script that sets up no program is refused
+    /// Boots what a script sets up, on the disk that a crash left, or on one with the files that it sets up. A script that sets up no program is refused
     /// at line 1; one that was read sets up no more than eight.
     pub fn boot<R: Files + AllocGlobal>(
         &mut self,
@@ -110,7 +112,7 @@ impl Setup {
         if programs.is_empty() || programs.len() > MOST_PROGRAMS {
             return Err(Fault::Script { line: 1 });
         }
-        let device = disk_of(rt.alloc(), left)?;
+        let device = disk_of(rt.alloc(), left, &self.files)?;
         let tapes = tapes_of(rt.alloc(), self.tapes.as_slice())?;
         Core::boot(rt.alloc(), device, programs, tapes).map_err(boot_fault)
     }

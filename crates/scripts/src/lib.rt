@@ -7,12 +7,14 @@
 
 mod booting;
 mod cone;
+mod disk_with;
 mod file_lines;
 mod playing;
 mod printing;
 mod replaying;
 mod script;
 mod setup;
+mod setup_lines;
 mod start;
 mod steps;
 mod texts;
@@ -24,9 +26,10 @@ pub use file_lines::write_files;
 pub use playing::{LineAnswer, Visitor, play_all};
 pub use printing::{bytes_text, print_reply};
 pub use replaying::replay;
-pub use script::Script;
+pub use script::{Script, is_script};
 pub use setup::Setup;
+pub use setup_lines::write_setup;
 pub use start::Start;
 pub use steps::{Action, Question, Step, process_of};
 pub use texts::{AnswerText, EventText};
-pub use words::Terminal;
+pub use words::{Terminal, is_file_name};

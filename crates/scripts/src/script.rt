@@ -1,8 +1,24 @@
 //! A script, read whole: its set-up lines first, and then its steps.
 use crate::setup::{Setup, SetupLine};
-use crate::steps::{Step, step_of};
+use crate::steps::{Step, is_step_name, step_of};
 use faults::Fault;
 use std::alloc::{AllocError, Global};
+
+/// Whether a line adds nothing to a script: it is empty, or a comment.
+fn is_skipped(line: &str) -> bool {
+    line.is_empty() || line.starts_with('#')
+}
+
+/// Whether a text is meant as a script: its first line that is not skipped begins with a word of scripts, or there is none.
+pub fn is_script(text: &str) -> bool {
+    match text.split('\n').find(|line| !is_skipped(line)) {
+        Some(line) => match line.split(' ').next() {
+            Some(word) => SetupLine::named(word).is_some() || is_step_name(word),
+            None => false,
+        },
+        None => true,
+    }
+}
 
 /// A script: what it sets up, and its steps in order.
 pub struct Script {
@@ -46,7 +62,7 @@ impl Script {
     /// Reads a line, and adds it, if it has a form and may stand here. Words are parted by one space each. An empty line, and one
     /// that begins with `#`, adds nothing.
     fn read(&mut self, alloc: Global, text: &str) -> Result<bool, AllocError> {
-        if text.is_empty() || text.starts_with('#') {
+        if is_skipped(text) {
             return Ok(true);
         }
         let words: Vec<&str> = text.split(' ').collect(alloc)?;
@@ -64,6 +80,12 @@ impl Script {
         Ok(())
     }
 
+    /// What it sets up, and its steps.
+    pub fn into_parts(self) -> (Setup, Vec<Step>) {
+        let Script { setup, steps } = self;
+        (setup, steps)
+    }
+
     /// What it sets up, without its steps.
     pub fn into_setup(self) -> Setup {
         let Script {
@@ -75,8 +97,8 @@ impl Script {
 
     /// Reads a script whole. Refused is the first line of these:
     /// - it has no form;
-    /// - it is a set-up line (`program`, `image`, `binary` or `tape`) after a line that is none;
-    /// - it is a ninth `program`, `image` or `binary` line, or a second line for one tape.
+    /// - it is a set-up line (`program`, `image`, `binary`, `tape` or `file`) after a line that is none;
+    /// - it is a ninth `program`, `image` or `binary` line, a 33rd `file` line, or a second line for one tape or one name of a file.
     ///
     /// Lines are counted from 1 and end at a line feed; empty ones and those that begin with `#` are skipped. A script without a
     /// `program`, an `image` or a `binary` line is refused when it is booted.

@@ -1,9 +1,11 @@
-//! The set-up lines of a script, `program`, `image` and `tape`, and what they set up.
+//! The set-up lines of a script, `program`, `image`, `binary`, `tape` and `file`, and what they set up.
 ghost use Rattle.std.specs.Prelude.{◌≡◌, ◌<◌, ◌≤◌, true, length, vec_len};
 ghost use Rattle.kernel_model.specs.World.{tape_count};
 
-use crate::words::{Terminal, decimal, numbers_of, only_bytes_of, terminal_of};
+use crate::words::{Terminal, decimal, is_file_name, numbers_of, only_bytes_of, terminal_of};
 use byte_list::Bytes;
+use disk_model::{Change, LONGEST_FILE, MOST_FILES};
+use files::FileList;
 use input_reading::MOST_TAPE_BYTES;
 use kernel_model::{MOST_PROGRAMS, TAPES};
 use std::alloc::{AllocError, Global};
@@ -79,10 +81,12 @@ impl Drop for ScriptTape {
     }
 }
 
-/// What a script sets up: its programs in order, and the tapes that it gives, at most one of each number.
+/// What a script sets up: its programs in order, the tapes that it gives, at most one of each number, and the files that the disk holds
+/// at the first boot.
 pub struct Setup {
     pub programs: Vec<ScriptProgram>,
     pub tapes: Vec<ScriptTape>,
+    pub files: FileList,
 }
 
 impl Drop for Setup {
@@ -90,6 +94,7 @@ impl Drop for Setup {
         let Setup {
             programs: _programs,
             tapes: _tapes,
+            files: _files,
         } = self;
     }
 }
@@ -101,6 +106,7 @@ pub enum SetupLine {
     Image,
     Binary,
     Tape,
+    File,
 }
 
 impl SetupLine {
@@ -111,6 +117,7 @@ impl SetupLine {
             "image" => Some(SetupLine::Image),
             "binary" => Some(SetupLine::Binary),
             "tape" => Some(SetupLine::Tape),
+            "file" => Some(SetupLine::File),
             _ => None,
         }
     }
@@ -179,7 +186,11 @@ impl Setup {
     }
 
     /// Adds a tape. False where its number or its bytes are missing, or where `takes_tape` says no.
-    fn push_tape(&mut self, number: Option<u32>, bytes: Option<Bytes>) -> Result<bool, AllocError> {
+    pub fn push_tape(
+        &mut self,
+        number: Option<u32>,
+        bytes: Option<Bytes>,
+    ) -> Result<bool, AllocError> {
         match (number, bytes) {
             (Some(number), Some(bytes)) if self.takes_tape(number, bytes.as_slice()) => {
                 self.tapes.push(ScriptTape { number, bytes })?;
@@ -189,13 +200,56 @@ impl Setup {
         }
     }
 
+    /// The terminal of the next program's place, if there is one.
+    fn next_terminal(&self) -> Option<Terminal> {
+        u32::try_from(self.programs.len())
+            .ok()
+            .and_then(terminal_of)
+    }
+
     /// Adds the image in a file, for the terminal of its place. Whether there is room for it: it is not a ninth one.
     pub fn push_image(&mut self, alloc: Global, path: &str) -> Result<bool, AllocError> {
-        let terminal = u32::try_from(self.programs.len())
-            .ok()
-            .and_then(terminal_of);
+        let terminal = self.next_terminal();
         let path = String::from_str(alloc, path)?;
         self.push_program(terminal, Some(Source::Path(path)))
+    }
+
+    /// Adds the image whose file has these bytes, as `push_image` does.
+    pub fn push_binary(&mut self, file: Vec<u8>) -> Result<bool, AllocError> {
+        let terminal = self.next_terminal();
+        self.push_program(terminal, Some(Source::File(file)))
+    }
+
+    /// Whether one more file of this name and these bytes may be there: they are within their limits, and no other has the name.
+    fn takes_file(&self, name: &str, bytes: &[u8]) -> bool {
+        is_file_name(name)
+            && bytes.len() <= LONGEST_FILE as usize
+            && self.files.count() < MOST_FILES
+            && self.files.find(name.as_bytes()).is_none()
+    }
+
+    /// Adds a file that the disk holds at the first boot. False where its bytes are missing, or where `takes_file` says no.
+    fn push_file(
+        &mut self,
+        alloc: Global,
+        name: &str,
+        bytes: Option<Bytes>,
+    ) -> Result<bool, AllocError> {
+        let Some(bytes) = bytes else {
+            return Ok(false);
+        };
+        if !self.takes_file(name, bytes.as_slice()) {
+            return Ok(false);
+        }
+        let file = u16::try_from(self.files.count()).unwrap_or(u16::MAX);
+        let name = Bytes::copy_of(alloc, name.as_bytes())?;
+        self.files.change(&Change::Create(name))?;
+        self.files.change(&Change::Write {
+            file,
+            offset: 0,
+            bytes,
+        })?;
+        Ok(true)
     }
 
     /// Before the first line.
@@ -203,6 +257,7 @@ impl Setup {
         Setup {
             programs: Vec::new(alloc),
             tapes: Vec::new(alloc),
+            files: FileList::new(alloc),
         }
     }
 
@@ -228,6 +283,7 @@ impl Setup {
                 self.push_program(number.and_then(terminal_of), file_of(alloc, rest)?)
             }
             SetupLine::Tape => self.push_tape(number, only_bytes_of(alloc, rest)?),
+            SetupLine::File => self.push_file(alloc, first, only_bytes_of(alloc, rest)?),
         }
     }
 }

@@ -9,7 +9,7 @@ use kernel::{Core, SimDisk};
 use std::alloc::{AllocError, Global};
 use std::rt::Files;
 
-/// What a script sets up, and the disk of its last boot, None for one of zeros. A core can be booted on this disk any number of
+/// What a script sets up, and the disk of its last boot, None for the first one's. A core can be booted on this disk any number of
 /// times.
 pub struct Start<'a, R> {
     rt: &'a R,

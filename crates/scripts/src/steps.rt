@@ -77,6 +77,23 @@ pub fn step_of(alloc: Global, name: &str, words: &[&str]) -> Result<Option<Step>
     }
 }
 
+/// Whether a line that begins with this word may be a step.
+pub fn is_step_name(name: &str) -> bool {
+    matches!(
+        name,
+        "turn"
+            | "enter"
+            | "cut"
+            | "complete"
+            | "fail"
+            | "drain"
+            | "shown"
+            | "trace"
+            | "files"
+            | "crash"
+    )
+}
+
 /// The process of an event; those of the disk have none.
 pub fn process_of(event: Event) -> Option<u32> {
     match event {

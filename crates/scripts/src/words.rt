@@ -3,6 +3,7 @@ ghost use Rattle.std.specs.Prelude.{◌≡◌, ◌<◌, IfOk, IfSome, length, ve
 ghost use Rattle.kernel_model.specs.World.{terminal_count};
 
 use byte_list::Bytes;
+use disk_model::LONGEST_NAME;
 use input_reading::{bytes_of, hexadecimal};
 use kernel_model::TERMINALS;
 use std::alloc::{AllocError, Global};
@@ -48,4 +49,13 @@ pub fn only_bytes_of(alloc: Global, texts: &[&str]) -> Result<Option<Bytes>, All
         [text] => bytes_of(alloc, text),
         _ => Ok(None),
     }
+}
+
+/// Whether a file may have this name: 1 to 32 bytes, each 0x21 to 0x7E and no slash.
+pub fn is_file_name(word: &str) -> bool {
+    !word.is_empty()
+        && word.len() <= LONGEST_NAME as usize
+        && word
+            .bytes()
+            .all(|byte| byte.is_ascii_graphic() && byte != b'/')
 }

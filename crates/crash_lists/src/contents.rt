@@ -1,0 +1,242 @@
+//! What a file may hold after a crash.
+use crate::model::CrashModel;
+use crate::window::{CELL, Window};
+use std::alloc::{AllocError, Global};
+use std::collections::HashSet;
+
+/// A cell of a file that is not as at the common moment.
+#[derive(Clone, Copy)]
+pub enum ApartCell {
+    Length,
+    /// The 512 bytes of this number.
+    Bytes(usize),
+}
+
+/// What a file may hold, and which of its cells are not as at the common moment.
+#[derive(Drop)]
+pub struct Content {
+    pub bytes: Vec<u8>,
+    pub apart: Vec<ApartCell>,
+}
+
+impl Content {
+    /// How many cells are apart.
+    pub fn count_apart(&self) -> u32 {
+        u32::try_from(self.apart.len()).unwrap_or(u32::MAX)
+    }
+
+    /// The same with the bytes of one cell more, which is apart or not.
+    fn with_cell(
+        &self,
+        alloc: Global,
+        value: &[u8],
+        apart: Option<ApartCell>,
+    ) -> Result<Content, AllocError> {
+        let mut bytes = Vec::from_slice(alloc, self.bytes.as_slice())?;
+        bytes.extend_from_slice(value)?;
+        let mut cells = Vec::from_slice(alloc, self.apart.as_slice())?;
+        if let Some(cell) = apart {
+            cells.push(cell)?;
+        }
+        Ok(Content {
+            bytes,
+            apart: cells,
+        })
+    }
+}
+
+/// The values that a cell of a file may have, and the one that it has at the common moment.
+#[derive(Drop)]
+struct CellValues {
+    cell: usize,
+    values: Vec<Vec<u8>>,
+    here: Vec<u8>,
+}
+
+/// A file at a common moment, from which cells may be apart.
+#[derive(Clone, Copy)]
+pub struct FileAt<'a> {
+    pub window: &'a Window,
+    pub model: CrashModel,
+    pub number: u64,
+    pub moment: usize,
+}
+
+/// The bytes of a cell; zeros past the end.
+fn cell_bytes(alloc: Global, bytes: &[u8], cell: usize) -> Result<Vec<u8>, AllocError> {
+    let begin = cell.saturating_mul(CELL).min(bytes.len());
+    let end = begin.saturating_add(CELL).min(bytes.len());
+    let mut held = Vec::with_capacity(alloc, CELL)?;
+    held.extend_from_slice(bytes.get(begin..end).unwrap_or(&[]))?;
+    for _ in held.len()..CELL {
+        held.push(0)?;
+    }
+    Ok(held)
+}
+
+/// Whether a change after a moment counts at another one.
+fn counts_at(change: usize, moment: usize) -> bool {
+    change < moment
+}
+
+/// A file without bytes, whose length is apart or not.
+fn first_content(alloc: Global, is_apart: bool) -> Result<Content, AllocError> {
+    let mut apart = Vec::new(alloc);
+    if is_apart {
+        apart.push(ApartCell::Length)?;
+    }
+    Ok(Content {
+        bytes: Vec::new(alloc),
+        apart,
+    })
+}
+
+/// These beginnings, each with one of the values of a cell after it, where no more than so many cells are then apart. Whether some were
+/// left out.
+fn extend(
+    alloc: Global,
+    begun: &[Content],
+    cell: &CellValues,
+    most: u32,
+) -> Result<(Vec<Content>, bool), AllocError> {
+    let mut longer = Vec::new(alloc);
+    let mut is_cut = false;
+    for content in begun {
+        for value in &cell.values {
+            let apart = if value.as_slice() == cell.here.as_slice() {
+                None
+            } else {
+                Some(ApartCell::Bytes(cell.cell))
+            };
+            let content = content.with_cell(alloc, value.as_slice(), apart)?;
+            if content.count_apart() > most {
+                is_cut = true;
+            } else {
+                longer.push(content)?;
+            }
+        }
+    }
+    Ok((longer, is_cut))
+}
+
+impl FileAt<'_> {
+    /// Whether a write of a cell comes after a change and counts at a moment.
+    fn is_written_since(&self, change: usize, moment: usize, cell: usize) -> bool {
+        (change.saturating_add(1)..moment).any(|later| self
+            .window
+            .is_lengthened(self.number, later, cell))
+    }
+
+    /// Whether a cell may be as at a moment, where the length is as at another: by what one change asks of both.
+    fn allows(&self, change: usize, size: usize, moment: usize, cell: usize) -> bool {
+        let (long, there) = (counts_at(change, size), counts_at(change, moment));
+        let is_emptied = self.window.is_emptied(self.number, change);
+        if self.model == CrashModel::Posix {
+            return !is_emptied || long || !there || self.is_written_since(change, moment, cell);
+        }
+        if is_emptied && long != there {
+            return false;
+        }
+        !long || there || !self.window.is_lengthened(self.number, change, cell)
+    }
+
+    /// Whether a cell may be as at a moment, where the length is as at another.
+    fn may_be(&self, size: usize, moment: usize, cell: usize) -> bool {
+        (0..self.window.changes()).all(|change| self.allows(change, size, moment, cell))
+    }
+
+    /// What a cell may hold, where the length is as at a moment; each once.
+    fn values(&self, alloc: Global, size: usize, cell: usize) -> Result<Vec<Vec<u8>>, AllocError> {
+        let mut values: Vec<Vec<u8>> = Vec::new(alloc);
+        for moment in 0..=self.window.changes() {
+            if self.may_be(size, moment, cell) {
+                let bytes = self.window.bytes_at(self.number, moment);
+                let value = cell_bytes(alloc, bytes, cell)?;
+                if !values
+                    .iter()
+                    .any(|other| other.as_slice() == value.as_slice())
+                {
+                    values.push(value)?;
+                }
+            }
+        }
+        Ok(values)
+    }
+
+    /// The first moment as at which the length may be.
+    fn first_size(&self) -> usize {
+        let made = self.window.made_at(self.number);
+        match self.model {
+            CrashModel::Ordered => self.moment,
+            CrashModel::Delayed => {
+                let mut first = made.min(self.moment);
+                for change in 0..self.moment {
+                    if self.window.is_emptied(self.number, change) {
+                        first = first.max(change.saturating_add(1));
+                    }
+                }
+                first
+            }
+            CrashModel::Posix => 0,
+        }
+    }
+
+    /// The last moment as at which the length may be.
+    fn last_size(&self) -> usize {
+        match self.model {
+            CrashModel::Ordered | CrashModel::Delayed => self.moment,
+            CrashModel::Posix => self.window.changes(),
+        }
+    }
+
+    /// What the file may hold where its length is as at a moment, with no more than so many cells apart. Whether some were left out.
+    fn contents_of_size(
+        &self,
+        alloc: Global,
+        size: usize,
+        most: u32,
+    ) -> Result<(Vec<Content>, bool), AllocError> {
+        let now = self.window.bytes_at(self.number, self.moment);
+        let length = self.window.bytes_at(self.number, size).len();
+        let mut contents = Vec::new(alloc);
+        let first = first_content(alloc, length != now.len())?;
+        let mut is_cut = first.count_apart() > most;
+        if !is_cut {
+            contents.push(first)?;
+        }
+        for cell in 0..length.div_ceil(CELL) {
+            let values = CellValues {
+                cell,
+                values: self.values(alloc, size, cell)?,
+                here: cell_bytes(alloc, now, cell)?,
+            };
+            let (longer, cuts) = extend(alloc, contents.as_slice(), &values, most)?;
+            contents = longer;
+            is_cut = is_cut || cuts;
+        }
+        for content in contents.as_mut_slice() {
+            content.bytes.truncate(length);
+        }
+        Ok((contents, is_cut))
+    }
+
+    /// What the file may hold with no more than so many cells apart; each once, or again with fewer apart. Whether some were left out.
+    pub fn contents(&self, alloc: Global, most: u32) -> Result<(Vec<Content>, bool), AllocError> {
+        let mut all = Vec::new(alloc);
+        let mut known: HashSet<Vec<u8>> = HashSet::new(alloc);
+        let mut is_cut = false;
+        for apart in 0..=most {
+            for size in self.first_size()..=self.last_size() {
+                let (contents, cuts) = self.contents_of_size(alloc, size, apart)?;
+                for content in contents {
+                    let key = Vec::from_slice(alloc, content.bytes.as_slice())?;
+                    if known.insert(key)? {
+                        all.push(content)?;
+                    }
+                }
+                is_cut = if apart == most { is_cut || cuts } else { false };
+            }
+        }
+        Ok((all, is_cut))
+    }
+}

@@ -1,0 +1,179 @@
+//! `lists_near`: which files a crash may leave.
+use crate::contents::{ApartCell, Content, FileAt};
+use crate::directories::{Directory, directories_near};
+use crate::model::CrashModel;
+use crate::window::{CELL, Window};
+use byte_list::Bytes;
+use disk_model::Change;
+use files::FileList;
+use std::alloc::{AllocError, Global};
+
+/// Files that a crash may leave, and how many cells are not as at the common moment.
+#[derive(Drop)]
+pub struct Listed {
+    pub files: FileList,
+    pub apart: u32,
+    /// Which moment that is, and which cells they are, in words.
+    pub told: String,
+}
+
+/// Appends what is apart, after what stands there already.
+fn push_apart(told: &mut String, is_first: bool) -> Result<(), AllocError> {
+    told.push_str(if is_first { ", but for " } else { "; " })
+}
+
+/// What is told of a directory.
+fn told_of(
+    alloc: Global,
+    window: &Window,
+    moment: usize,
+    directory: &Directory,
+) -> Result<String, AllocError> {
+    let changes = window.changes();
+    let mut told = format!(in alloc;
+        "{moment} of {changes} changes since the last sync are there"
+    )?;
+    let mut is_first = true;
+    for name in &directory.names_apart {
+        push_apart(&mut told, is_first)?;
+        let name = String::from_utf8_lossy(alloc, name.as_slice())?;
+        write!(told, "the name {name}")?;
+        is_first = false;
+    }
+    Ok(told)
+}
+
+/// What is told of a list with a file more.
+fn told_with(
+    alloc: Global,
+    listed: &Listed,
+    name: &[u8],
+    content: &Content,
+) -> Result<String, AllocError> {
+    let mut told = String::from_str(alloc, listed.told.as_str())?;
+    let name = String::from_utf8_lossy(alloc, name)?;
+    let mut is_first = listed.apart == 0;
+    for cell in &content.apart {
+        push_apart(&mut told, is_first)?;
+        match *cell {
+            ApartCell::Length => write!(told, "the length of {name}")?,
+            ApartCell::Bytes(cell) => {
+                let begin = cell.saturating_mul(CELL);
+                let last = begin.saturating_add(CELL.saturating_sub(1));
+                write!(told, "bytes {begin} to {last} of {name}")?;
+            }
+        }
+        is_first = false;
+    }
+    Ok(told)
+}
+
+/// What was enumerated.
+#[derive(Drop)]
+pub struct Lists {
+    pub lists: Vec<Listed>,
+    /// Whether some were left out, since more cells are apart in them.
+    pub is_cut: bool,
+}
+
+/// Files, and one more.
+fn with_file(
+    alloc: Global,
+    files: &FileList,
+    name: &[u8],
+    bytes: &[u8],
+) -> Result<FileList, AllocError> {
+    let mut more = files.try_clone()?;
+    let file = u16::try_from(more.count()).unwrap_or(u16::MAX);
+    more.change(&Change::Create(Bytes::copy_of(alloc, name)?))?;
+    more.change(&Change::Write {
+        file,
+        offset: 0,
+        bytes: Bytes::copy_of(alloc, bytes)?,
+    })?;
+    Ok(more)
+}
+
+impl Lists {
+    /// Each list with a file of this name, which holds one of the contents, where no more than so many cells are then apart.
+    fn with_each(
+        &self,
+        alloc: Global,
+        name: &[u8],
+        contents: &[Content],
+        most: u32,
+    ) -> Result<Lists, AllocError> {
+        let mut next = Lists {
+            lists: Vec::new(alloc),
+            is_cut: self.is_cut,
+        };
+        for listed in &self.lists {
+            for content in contents {
+                let apart = listed.apart.saturating_add(content.count_apart());
+                if apart > most {
+                    next.is_cut = true;
+                    continue;
+                }
+                let files = with_file(alloc, &listed.files, name, content.bytes.as_slice())?;
+                let told = told_with(alloc, listed, name, content)?;
+                next.lists.push(Listed { files, apart, told })?;
+            }
+        }
+        Ok(next)
+    }
+}
+
+/// The lists of one directory.
+fn lists_of(
+    alloc: Global,
+    window: &Window,
+    model: CrashModel,
+    moment: usize,
+    directory: &Directory,
+    most: u32,
+) -> Result<Lists, AllocError> {
+    let mut first = Vec::new(alloc);
+    first.push(Listed {
+        files: FileList::new(alloc),
+        apart: directory.apart,
+        told: told_of(alloc, window, moment, directory)?,
+    })?;
+    let mut lists = Lists {
+        lists: first,
+        is_cut: false,
+    };
+    for cell in &directory.cells {
+        let file = FileAt {
+            window,
+            model,
+            number: cell.number.unwrap_or(0),
+            moment,
+        };
+        let (contents, is_cut) = file.contents(alloc, most)?;
+        lists = lists.with_each(alloc, cell.name.as_slice(), contents.as_slice(), most)?;
+        lists.is_cut = lists.is_cut || is_cut;
+    }
+    Ok(lists)
+}
+
+/// The files that a crash in a window may leave under a rule, where no more than so many cells are not as at a common moment: names
+/// that changed, lengths of files, and 512 bytes of a file. A list may come more than once.
+pub fn lists_near(
+    alloc: Global,
+    window: &Window,
+    model: CrashModel,
+    moment: usize,
+    most: u32,
+) -> Result<Lists, AllocError> {
+    let (directories, is_cut) = directories_near(alloc, window, model, moment, most)?;
+    let mut all = Lists {
+        lists: Vec::new(alloc),
+        is_cut,
+    };
+    for directory in &directories {
+        let mut lists = lists_of(alloc, window, model, moment, directory, most)?;
+        all.lists.append(&mut lists.lists)?;
+        all.is_cut = all.is_cut || lists.is_cut;
+    }
+    Ok(all)
+}

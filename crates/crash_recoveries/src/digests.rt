@@ -1,0 +1,33 @@
+//! Digests that tell disks and promises apart: SHA-256, in hexadecimal digits.
+use files::FileList;
+use sha2::{Digest, Sha256};
+use std::alloc::{AllocError, Global};
+
+/// Adds bytes, with how many they are.
+fn add(hasher: &mut Sha256, bytes: &[u8]) {
+    let length = (bytes.len() as u64).to_be_bytes();
+    hasher.update(length.as_slice());
+    hasher.update(bytes);
+}
+
+fn digits_of(alloc: Global, hasher: Sha256) -> Result<String, AllocError> {
+    let digest = hasher.finalize();
+    hex::encode(alloc, digest.as_slice())
+}
+
+/// The digest of bytes.
+pub fn digest_of_bytes(alloc: Global, bytes: &[u8]) -> Result<String, AllocError> {
+    let mut hasher = Sha256::new();
+    add(&mut hasher, bytes);
+    digits_of(alloc, hasher)
+}
+
+/// The digest of files: of their names and bytes, in order of creation.
+pub fn digest_of_files(alloc: Global, files: &FileList) -> Result<String, AllocError> {
+    let mut hasher = Sha256::new();
+    for place in 0..files.count() {
+        add(&mut hasher, files.name(place));
+        add(&mut hasher, files.bytes(place));
+    }
+    digits_of(alloc, hasher)
+}

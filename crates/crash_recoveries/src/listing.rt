@@ -1,0 +1,81 @@
+//! Prints what a crash may leave by another rule than bench's.
+use crate::course::Course;
+use crate::point::CrashPlace;
+use crate::promise::Promise;
+use crate::stop::Stop;
+use crate::taker::Taker;
+use crate::windows::{Bound, Rule, WindowTrier};
+use crash_outcomes::outcome_of;
+use exec_runs::Ending;
+use faults::Fault;
+use files::FileList;
+use scripts::Setup;
+use std::alloc::Global;
+use std::collections::HashSet;
+use std::io::Write;
+use std::rt::Files;
+
+/// Prints each list once.
+#[derive(Drop)]
+struct Lister<'a, O> {
+    alloc: Global,
+    lines: HashSet<String>,
+    out: &'a mut O,
+}
+
+impl<O: Write> Taker for Lister<'_, O> {
+    fn take(
+        &mut self,
+        files: &FileList,
+        _promise: &Promise,
+        place: CrashPlace,
+        _told: &str,
+    ) -> Result<(), Stop> {
+        let outcome = outcome_of(self.alloc, files)?;
+        let line = outcome.as_str();
+        if self.lines.insert(String::from_str(self.alloc, line)?)? {
+            writeln!(self.out, "{place} {line}")?;
+        }
+        Ok(())
+    }
+}
+
+/// Runs what is set up, and hands out what a crash may leave by a rule. Gives how the run ended, and what was handed out.
+fn run_by<R: Files + AllocGlobal, T: Taker>(
+    rt: &R,
+    setup: &mut Setup,
+    course: &Course,
+    rule: Rule,
+    taker: &mut T,
+) -> (Result<Ending, Stop>, Bound) {
+    let mut trier = WindowTrier::new(rt, setup, rule, taker);
+    let done = trier.run(course);
+    (done, trier.bound())
+}
+
+/// Runs what is set up, and prints each list of files that a crash may leave by a rule, when it is found for the first time. At the end
+/// it prints how many there were. Gives how the run ended.
+pub fn explore_by<R: Files + AllocGlobal, O: Write>(
+    rt: &R,
+    setup: &mut Setup,
+    course: &Course,
+    rule: Rule,
+    out: &mut O,
+) -> Result<Ending, Fault> {
+    let mut lister = Lister {
+        alloc: rt.alloc(),
+        lines: HashSet::new(rt.alloc()),
+        out,
+    };
+    let (done, bound) = run_by(rt, setup, course, rule, &mut lister);
+    match done {
+        Ok(ending) => {
+            let count = lister.lines.len();
+            write!(lister.out, "{count} lists")?;
+            bound.print(lister.out)?;
+            Ok(ending)
+        }
+        Err(Stop::Fault(fault)) => Err(fault),
+        Err(_) => Err(Fault::OutOfMemory),
+    }
+}

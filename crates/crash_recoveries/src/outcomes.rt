@@ -1,0 +1,29 @@
+//! `explore`: what each crash of a run leaves.
+use crate::course::{Course, play};
+use crash_outcomes::Explorer;
+use exec_runs::Ending;
+use faults::Fault;
+use scripts::Setup;
+use std::io::Write;
+use std::rt::Files;
+
+/// Runs what is set up, and tries crashes right after each boot and after each event that the disk sees: one with each of the fills 00,
+/// 01, 7f ff and none. Each outcome, the files that a crash leaves, is printed when it is found for the first time, and at the end
+/// how many crashes and how many outcomes there were. What the lines of a script would print is not printed, and an event that is
+/// refused is passed over. Gives how the run ended.
+///
+/// Where outcomes are expected, one on a line as it is printed from `files` on, the first that is not among them ends the run. The
+/// expectations are read first, and then the images that the set-up names; the first fault ends it.
+pub fn explore<R: Files + AllocGlobal, O: Write>(
+    rt: &R,
+    setup: &mut Setup,
+    course: &Course,
+    expected: Option<&str>,
+    out: &mut O,
+) -> Result<Ending, Fault> {
+    let mut explorer = Explorer::new(rt, setup, expected, out)?;
+    let core = explorer.begin()?;
+    let (_core, ending) = play(&mut explorer, core, course)?;
+    explorer.finish()?;
+    Ok(ending)
+}

@@ -1,0 +1,55 @@
+//! The user's recovery.
+use crate::promise::Promise;
+use elf32::write;
+use exec_files::LoadedProgram;
+use exec_reports::Family;
+use files::FileList;
+use scripts::Setup;
+use std::alloc::{AllocError, Global};
+
+/// The program that is run after each crash, and how far.
+#[derive(Drop)]
+pub struct Recovery {
+    /// The file of its image.
+    file: Vec<u8>,
+    /// What is known of its instructions.
+    pub family: Family,
+    /// How many instructions a run of it may have.
+    pub limit: u64,
+    /// How many crashes of recoveries may come one after the other.
+    pub nested: u32,
+}
+
+impl Recovery {
+    /// A program as the recovery.
+    pub fn new(
+        alloc: Global,
+        program: LoadedProgram,
+        limit: u64,
+        nested: u32,
+    ) -> Result<Recovery, AllocError> {
+        let file = write(alloc, &program.image)?;
+        let mut programs = Vec::new(alloc);
+        programs.push(program)?;
+        Ok(Recovery {
+            file,
+            family: Family::new(alloc, programs)?,
+            limit,
+            nested,
+        })
+    }
+
+    /// What a run of it begins with: the files that a crash left, and the promise on its tape.
+    pub fn setup(
+        &self,
+        alloc: Global,
+        files: &FileList,
+        promise: &Promise,
+    ) -> Result<Setup, AllocError> {
+        let mut setup = Setup::new(alloc);
+        setup.files = files.try_clone()?;
+        setup.push_binary(Vec::from_slice(alloc, self.file.as_slice())?)?;
+        setup.push_tape(Some(0), Some(promise.tape(alloc)?))?;
+        Ok(setup)
+    }
+}

@@ -1,0 +1,82 @@
+//! `save`: a failure as two scripts.
+use crate::course::play_some;
+use crate::failure::Failure;
+use crate::point::Left;
+use crate::recovery::Recovery;
+use faults::Fault;
+use kernel::Event;
+use scripts::{EventText, Setup, write_setup};
+use std::alloc::AllocError;
+use std::fs;
+use std::io::Write;
+use std::rt::Files;
+
+/// Appends a line for each event.
+fn push_events(script: &mut Vec<u8>, events: &[Event]) -> Result<(), Fault> {
+    for event in events {
+        let line = EventText(*event);
+        writeln!(script, "{line}")?;
+    }
+    Ok(())
+}
+
+/// The script of the run up to the crash, which ends with what was shown, and with bench's own crash.
+fn run_script<R: AllocGlobal>(
+    rt: &R,
+    setup: &Setup,
+    failure: &Failure,
+    played: &str,
+) -> Result<Vec<u8>, Fault> {
+    let mut script = Vec::new(rt.alloc());
+    write_setup(rt.alloc(), setup, &mut script)?;
+    script.extend_from_slice(played.as_bytes())?;
+    writeln!(script, "shown 0")?;
+    if let Left::Filled(fill) = failure.point.place.left {
+        writeln!(script, "crash {fill}\nfiles")?;
+    }
+    Ok(script)
+}
+
+/// The script of the recovery, and of its crashes before.
+fn recovery_script<R: Files + AllocGlobal>(
+    rt: &R,
+    recovery: &Recovery,
+    failure: &mut Failure,
+) -> Result<Vec<u8>, Fault> {
+    let mut script = Vec::new(rt.alloc());
+    write_setup(rt.alloc(), &failure.setup, &mut script)?;
+    let mut core = failure.setup.boot(rt, None)?;
+    for point in &failure.chain {
+        play_some(&mut core, recovery.limit, point.events())?;
+        push_events(&mut script, core.history())?;
+        let fill = point.fill();
+        writeln!(script, "crash {fill}")?;
+        core = failure.setup.boot(rt, Some(core.halt(fill.bytes())))?;
+    }
+    push_events(&mut script, failure.core.history())?;
+    writeln!(script, "shown 0")?;
+    Ok(script)
+}
+
+fn path_in<R: AllocGlobal>(rt: &R, folder: &str, name: &str) -> Result<String, AllocError> {
+    format!(in rt.alloc(); "{folder}/{name}")
+}
+
+/// Writes two scripts into a folder: `run.script`, the run up to the crash, of which the lines are given; and `recovery.script`, which
+/// sets up the files that the crash left, and runs the recovery to the same end.
+pub fn save<R: Files + AllocGlobal>(
+    rt: &R,
+    folder: &str,
+    setup: &Setup,
+    recovery: &Recovery,
+    failure: &mut Failure,
+    played: &str,
+) -> Result<(), Fault> {
+    let script = run_script(rt, setup, failure, played)?;
+    let path = path_in(rt, folder, "run.script")?;
+    fs::write(rt, path.as_str(), script.as_slice())?;
+    let script = recovery_script(rt, recovery, failure)?;
+    let path = path_in(rt, folder, "recovery.script")?;
+    fs::write(rt, path.as_str(), script.as_slice())?;
+    Ok(())
+}
