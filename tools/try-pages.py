@@ -155,9 +155,24 @@ def expected_step(done, boot, number, line, answer, terminals):
     }
 
 
+def last_boot(lines):
+    """The rows of a run since its last crash, with each call that waits: a picture with a cone has just these, and folds none. Where
+    event 1 has no cone, it is not one of a process, a plain picture has them."""
+    rows = drawn(bench(["picture", "--cone", "1"], lines))
+    if rows:
+        return rows
+    rows = drawn(bench(["picture"], lines))
+    crashes = [i for i, (label, _, _) in enumerate(rows) if label.startswith("crash ")]
+    return rows[crashes[-1] + 1 :] if crashes else rows
+
+
 def events(lines):
-    """The rows of the picture of a run, with each call that waits: a picture with a cone folds none. Event 1 is one of a process as a rule."""
-    return drawn(bench(["picture", "--cone", "1"], lines)) or drawn(bench(["picture"], lines))
+    """The rows of a run: those of each boot, and a row for each crash between two."""
+    rows = []
+    for i, line in enumerate([*lines, "crash"]):
+        if line.startswith("crash"):
+            rows += [*last_boot(lines[:i]), (line, "", False)]
+    return rows[:-1]
 
 
 def expected(lines):

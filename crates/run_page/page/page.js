@@ -277,6 +277,34 @@ function drawProcesses(step) {
   });
 }
 
+const REGISTERS = ['zero', 'ra', 'sp', 'gp', 'tp', 't0', 't1', 't2', 's0', 's1', 'a0', 'a1', 'a2', 'a3', 'a4', 'a5', 'a6', 'a7',
+  's2', 's3', 's4', 's5', 's6', 's7', 's8', 's9', 's10', 's11', 't3', 't4', 't5', 't6'];
+
+// The process of a step: that of its event, or of the last event of one before it, or the first one.
+function processOf(step) {
+  for (let n = step.n; n > 0; n--) if (step.boot.events[n - 1].p) return step.boot.events[n - 1].p;
+  return 1;
+}
+
+// What the registers of a process hold after a step: those of its begin, and what its events changed since.
+function registersAt(step, made) {
+  const held = Object.assign({}, made.at && made.at.regs);
+  for (const event of step.boot.events.slice(0, step.n)) if (event.p === made.p && event.at) Object.assign(held, event.at.regs);
+  return held;
+}
+
+function drawRegisters(step) {
+  const made = step.boot.processes[processOf(step) - 1];
+  if (!made || made.e > step.n) return empty('There is no process.');
+  const at = (lastOf(step, made.p) || made).at, held = registersAt(step, made);
+  if (!at) return empty('It has none any more.');
+  const changed = step.event && step.event.p === made.p ? at.regs : {};
+  const cells = REGISTERS.map((name, i) => el('tr', { class: i in changed ? 'changed' : null },
+    el('th', { scope: 'row' }, name), el('td', {}, held[i] || '00000000', i in changed ? el('span', { class: 'sr' }, ', changed') : null)));
+  return [el('h4', {}, `Process ${made.p}`), el('p', {}, 'Next is ', el('code', {}, at.pc, at.next.replace(',', ''))),
+    el('div', { class: 'bank' }, [0, 8, 16, 24].map(i => el('table', {}, el('tbody', {}, cells.slice(i, i + 8)))))];
+}
+
 function drawChanges(step) {
   const made = step.boot.changes.slice(0, changesAt(step));
   if (!made.length) return empty('None yet.');
@@ -357,6 +385,7 @@ const CARDS = {
   files: { title: 'Files', draw: drawFiles },
   disk: { title: 'Disk', note: 'writes of this boot, by place', draw: drawDisk },
   crash: { title: 'If it crashed here', draw: drawCrash },
+  registers: { title: 'Registers', draw: drawRegisters },
 };
 
 // ---- the score: a column for each step, from left to right ----

@@ -7,6 +7,7 @@ use crate::deeds::{Before, deed_of};
 use crate::event_data::EventData;
 use crate::file_data::ChangeData;
 use crate::outputs::OutputNotes;
+use crate::places::{Registers, Seen, place_of};
 use crate::versions::FileVersions;
 use crate::writes::WriteNotes;
 use faults::Fault;
@@ -50,7 +51,8 @@ impl Drop for BootRecorder {
 
 impl BootRecorder {
     /// Right after a boot.
-    pub fn new(alloc: Global, core: &Core) -> Result<BootRecorder, Fault> {
+    pub fn new(alloc: Global, seen: Seen<'_>) -> Result<BootRecorder, Fault> {
+        let core = seen.core;
         let versions = FileVersions::new(alloc, core.boot_files())?;
         let crash = outcomes(alloc, core, &versions)?;
         let mut recorder = BootRecorder {
@@ -65,12 +67,13 @@ impl BootRecorder {
             first_crash: copy_of(alloc, crash.as_slice())?,
             crash,
         };
-        recorder.note_processes(core, 0)?;
+        recorder.note_processes(seen, 0)?;
         Ok(recorder)
     }
 
     /// Notes the processes that are new, which this one made.
-    fn note_processes(&mut self, core: &Core, parent: u32) -> Result<(), AllocError> {
+    fn note_processes(&mut self, seen: Seen<'_>, parent: u32) -> Result<(), AllocError> {
+        let core = seen.core;
         let known = self.processes.last().map_or(0, |process| process.p);
         for pid in known.saturating_add(1)..u32::MAX {
             if core.tables().processes.descriptors(pid).is_none() {
@@ -80,6 +83,7 @@ impl BootRecorder {
                 p: pid,
                 e: core.history().len() as u64,
                 parent,
+                at: place_of(self.alloc, seen, pid, &Registers::zero())?,
             })?;
         }
         Ok(())
@@ -107,13 +111,14 @@ impl BootRecorder {
     /// What an event did that the core accepted last, with its cone.
     fn event_of(
         &self,
-        core: &Core,
+        seen: Seen<'_>,
         answer: Answer,
         before: Before,
         cone: BTreeMap<u32, u64>,
     ) -> Result<EventData, AllocError> {
-        let alloc = self.alloc;
+        let (alloc, core) = (self.alloc, seen.core);
         let p = before.pid();
+        let at = place_of(alloc, seen, p, &before.registers)?;
         let (line, text) = (EventText(before.event), AnswerText(answer));
         Ok(EventData {
             n: core.history().len() as u64,
@@ -121,6 +126,7 @@ impl BootRecorder {
             answer: format!(in alloc; "{text}")?,
             p,
             deed: deed_of(alloc, core, answer, before)?,
+            at,
             changes: core.changes(),
             committed: core.committed(),
             cone,
@@ -129,14 +135,20 @@ impl BootRecorder {
     }
 
     /// Notes an event that the core accepted last.
-    pub fn push_event(&mut self, core: &Core, answer: Answer, before: Before) -> Result<(), Fault> {
-        self.note_processes(core, before.pid())?;
+    pub fn push_event(
+        &mut self,
+        seen: Seen<'_>,
+        answer: Answer,
+        before: Before,
+    ) -> Result<(), Fault> {
+        let core = seen.core;
+        self.note_processes(seen, before.pid())?;
         self.note_change(core, &before)?;
         self.note_disk(core, before.event)?;
         let cone = last_cone(self.alloc, core, before.event)?;
         let needs = needs_of(&cone, self.changes.as_slice());
         self.outputs.note(self.alloc, core, needs)?;
-        let event = self.event_of(core, answer, before, cone)?;
+        let event = self.event_of(seen, answer, before, cone)?;
         Ok(self.events.push(event)?)
     }
 

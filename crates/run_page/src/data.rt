@@ -3,6 +3,7 @@ use crate::disk_data::WriteData;
 use crate::event_data::EventData;
 use crate::file_data::{ChangeData, FileData};
 use crate::output_data::OutputData;
+use crate::place_data::PlaceData;
 use serde::Serialize;
 
 /// A run: that of a script, with a boot for each crash more.
@@ -79,6 +80,8 @@ pub struct ProcessData {
     pub e: u64,
     /// The process that made it, 0 at the boot.
     pub parent: u32,
+    /// Where it begins.
+    pub at: Option<PlaceData>,
 }
 
 /// A line that was refused, and after which event.

@@ -1,5 +1,6 @@
 //! What an event did.
 use crate::event_data::EventDeed;
+use crate::places::Registers;
 use crate::waits::wait_of;
 use call_lines::call_text;
 use calls::request_of;
@@ -25,6 +26,8 @@ pub struct Before {
     pub call: String,
     /// How many files were ever made.
     pub made: u64,
+    /// What the registers of its process hold.
+    pub registers: Registers,
 }
 
 impl Drop for Before {
@@ -34,6 +37,7 @@ impl Drop for Before {
             request: _request,
             call: _call,
             made: _,
+            registers: _,
         } = self;
     }
 }
@@ -54,21 +58,22 @@ fn request_at(alloc: Global, machine: &Machine) -> Result<Option<Request>, Alloc
 impl Before {
     /// Before this event.
     pub fn of(alloc: Global, core: &Core, event: Event) -> Result<Before, AllocError> {
-        let made = core.tables().files.made();
-        match (event, machine_of(core, event)) {
-            (Event::Enter { .. }, Some(machine)) => Ok(Before {
-                event,
-                request: request_at(alloc, machine)?,
-                call: call_text(alloc, machine, MOST_BYTES)?,
-                made,
-            }),
-            _ => Ok(Before {
-                event,
-                request: None,
-                call: String::new(alloc),
-                made,
-            }),
+        let mut before = Before {
+            event,
+            request: None,
+            call: String::new(alloc),
+            made: core.tables().files.made(),
+            registers: Registers::zero(),
+        };
+        let Some(machine) = machine_of(core, event) else {
+            return Ok(before);
+        };
+        before.registers = Registers::of(machine);
+        if let Event::Enter { .. } = event {
+            before.request = request_at(alloc, machine)?;
+            before.call = call_text(alloc, machine, MOST_BYTES)?;
         }
+        Ok(before)
     }
 
     /// The process of the event, 0 for the disk.
@@ -83,6 +88,7 @@ impl Before {
             request: _request,
             call,
             made: _,
+            registers: _,
         } = self;
         call
     }

@@ -1,4 +1,5 @@
 //! Events, as they stand in a page's JSON.
+use crate::place_data::PlaceData;
 use serde::Serialize;
 use std::collections::BTreeMap;
 
@@ -57,6 +58,8 @@ pub struct EventData {
     pub p: u32,
     #[serde(flatten)]
     pub deed: EventDeed,
+    /// Where its process is after it; none for the disk.
+    pub at: Option<PlaceData>,
     /// How many changes are made, and how many are committed, after it.
     pub changes: u64,
     pub committed: u64,

@@ -18,9 +18,11 @@ mod html;
 mod output_data;
 mod outputs;
 mod paging;
+mod place_data;
+mod places;
 mod texts;
 mod versions;
 mod waits;
 mod writes;
 
-pub use paging::{write_json, write_page};
+pub use paging::{PagedScript, write_json, write_page};

@@ -4,6 +4,8 @@ use crate::crash::fill_texts;
 use crate::data::{BootData, RunData};
 use crate::deeds::Before;
 use crate::html::write_html;
+use crate::places::Seen;
+use exec_reports::Family;
 use faults::Fault;
 use kernel::{Answer, Core, Event, Refused};
 use kernel_model::TERMINALS;
@@ -26,6 +28,7 @@ const MOST_EVENTS: u64 = 4000;
 struct Paged<'r, 's, R> {
     rt: &'r R,
     setup: &'s mut Setup,
+    family: Family,
     boots: Vec<BootData>,
     /// The boot that goes on.
     boot: BootRecorder,
@@ -41,6 +44,7 @@ impl<R> Drop for Paged<'_, '_, R> {
         let Paged {
             rt: _,
             setup: _,
+            family: _family,
             boots: _boots,
             boot: _boot,
             before: _before,
@@ -52,16 +56,38 @@ impl<R> Drop for Paged<'_, '_, R> {
 
 impl<'r, 's, R: Files + AllocGlobal> Paged<'r, 's, R> {
     /// Right after the first boot.
-    fn new(rt: &'r R, setup: &'s mut Setup, core: &Core) -> Result<Paged<'r, 's, R>, Fault> {
+    fn new(
+        rt: &'r R,
+        setup: &'s mut Setup,
+        family: Family,
+        core: &Core,
+    ) -> Result<Paged<'r, 's, R>, Fault> {
+        let seen = Seen {
+            core,
+            family: &family,
+        };
+        let boot = BootRecorder::new(rt.alloc(), seen)?;
         Ok(Paged {
             rt,
             setup,
+            family,
             boots: Vec::new(rt.alloc()),
-            boot: BootRecorder::new(rt.alloc(), core)?,
+            boot,
             before: None,
             events: 0,
             left: 0,
         })
+    }
+
+    /// Right after another boot.
+    fn next_recorder(&mut self, core: &Core) -> Result<BootRecorder, Fault> {
+        let alloc = self.rt.alloc();
+        self.family.reboot(alloc)?;
+        let seen = Seen {
+            core,
+            family: &self.family,
+        };
+        BootRecorder::new(alloc, seen)
     }
 
     /// Whether the page has room for no event more.
@@ -93,6 +119,7 @@ impl<'r, 's, R: Files + AllocGlobal> Paged<'r, 's, R> {
         let Paged {
             rt: _,
             setup: _,
+            family: _family,
             mut boots,
             boot,
             before: _before,
@@ -108,11 +135,13 @@ impl<R: Files + AllocGlobal> Visitor for Paged<'_, '_, R> {
     type Fault = Fault;
 
     fn before(&mut self, core: &Core, event: Event) -> Result<(), Fault> {
+        self.family.before(core, event);
         self.before = Some(Before::of(self.rt.alloc(), core, event)?);
         Ok(())
     }
 
     fn after(&mut self, core: &Core, _event: Event, answer: Answer) -> Result<(), Fault> {
+        self.family.after(core, answer)?;
         let Some(before) = mem::replace(&mut self.before, None) else {
             return Ok(());
         };
@@ -121,7 +150,11 @@ impl<R: Files + AllocGlobal> Visitor for Paged<'_, '_, R> {
             return Ok(());
         }
         self.events = self.events.saturating_add(1);
-        self.boot.push_event(core, answer, before)
+        let seen = Seen {
+            core,
+            family: &self.family,
+        };
+        self.boot.push_event(seen, answer, before)
     }
 
     fn answered(&mut self, _core: &Core, answer: LineAnswer) -> Result<(), Fault> {
@@ -151,7 +184,7 @@ impl<R: Files + AllocGlobal> Visitor for Paged<'_, '_, R> {
         let committed = core.committed();
         let next = self.setup.boot(self.rt, Some(core.halt(fill)))?;
         end.found = self.boot.found(next.boot_files(), committed)?;
-        let recorder = BootRecorder::new(alloc, &next)?;
+        let recorder = self.next_recorder(&next)?;
         let ended = mem::replace(&mut self.boot, recorder);
         self.boots.push(ended.finish(Some(end)))?;
         Ok(next)
@@ -177,32 +210,52 @@ fn terminals_of(alloc: Global, setup: &Setup) -> Result<Vec<u32>, AllocError> {
     Ok(terminals)
 }
 
-/// Plays a script, and notes its run under this name.
-fn run_of<R: Files + AllocGlobal>(
-    rt: &R,
-    name: &str,
-    mut script: Script,
-) -> Result<RunData, Fault> {
-    let alloc = rt.alloc();
-    let terminals = terminals_of(alloc, &script.setup)?;
-    let core = script.setup.boot(rt, None)?;
-    let mut paged = Paged::new(rt, &mut script.setup, &core)?;
-    play_all(&mut paged, core, script.steps.as_slice())?;
-    let (boots, left) = paged.into_boots()?;
-    Ok(RunData {
-        page: VERSION,
-        name: String::from_str(alloc, name)?,
-        made: MADE,
-        terminals,
-        fills: fill_texts(alloc)?,
-        left,
-        boots,
-    })
+/// A script whose run is to be noted: the name of its file, and what is known of its programs.
+pub struct PagedScript<'n> {
+    pub name: &'n str,
+    pub script: Script,
+    pub family: Family,
 }
 
-/// The JSON of a script's run, under this name.
-fn json_of<R: Files + AllocGlobal>(rt: &R, name: &str, script: Script) -> Result<String, Fault> {
-    let run = run_of(rt, name, script)?;
+impl Drop for PagedScript<'_> {
+    fn drop(self) {
+        let PagedScript {
+            name: _,
+            script: _script,
+            family: _family,
+        } = self;
+    }
+}
+
+impl PagedScript<'_> {
+    /// Plays the script, and notes its run.
+    fn play<R: Files + AllocGlobal>(self, rt: &R) -> Result<RunData, Fault> {
+        let PagedScript {
+            name,
+            mut script,
+            family,
+        } = self;
+        let alloc = rt.alloc();
+        let terminals = terminals_of(alloc, &script.setup)?;
+        let core = script.setup.boot(rt, None)?;
+        let mut paged = Paged::new(rt, &mut script.setup, family, &core)?;
+        play_all(&mut paged, core, script.steps.as_slice())?;
+        let (boots, left) = paged.into_boots()?;
+        Ok(RunData {
+            page: VERSION,
+            name: String::from_str(alloc, name)?,
+            made: MADE,
+            terminals,
+            fills: fill_texts(alloc)?,
+            left,
+            boots,
+        })
+    }
+}
+
+/// The JSON of a script's run.
+fn json_of<R: Files + AllocGlobal>(rt: &R, paged: PagedScript<'_>) -> Result<String, Fault> {
+    let run = paged.play(rt)?;
     match serde_json::to_string(rt.alloc(), &run) {
         Ok(json) => Ok(json),
         // Nothing else ends the writing of these types.
@@ -210,26 +263,25 @@ fn json_of<R: Files + AllocGlobal>(rt: &R, name: &str, script: Script) -> Result
     }
 }
 
-/// Runs a script, and writes what happened as one line of JSON, as it stands in the page. The name is that of the script.
+/// Runs a script, and writes what happened as one line of JSON, as it stands in the page.
 pub fn write_json<R: Files + AllocGlobal, O: Write>(
     rt: &R,
-    name: &str,
-    script: Script,
+    paged: PagedScript<'_>,
     out: &mut O,
 ) -> Result<(), Fault> {
-    let json = json_of(rt, name, script)?;
+    let json = json_of(rt, paged)?;
     Ok(writeln!(out, "{json}")?)
 }
 
 /// Runs a script, and writes a page of HTML in which a browser walks the run event by event. It stands alone: it asks the network for
 /// nothing. The page has the first 4,000 events, and says how many come after them. A refused line stands in it too, but no line that
-/// only asks. The name is that of the script, which heads the page. The script is run before anything is written.
+/// only asks. The name of the script heads the page. The script is run before anything is written.
 pub fn write_page<R: Files + AllocGlobal, O: Write>(
     rt: &R,
-    name: &str,
-    script: Script,
+    paged: PagedScript<'_>,
     out: &mut O,
 ) -> Result<(), Fault> {
-    let json = json_of(rt, name, script)?;
+    let name = paged.name;
+    let json = json_of(rt, paged)?;
     write_html(rt.alloc(), name, json.as_str(), out)
 }
