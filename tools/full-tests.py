@@ -81,7 +81,11 @@ PARTS = {
         "random histories, by --cone and by a model", "python3 tools/random-cones.py --first {seed} --lanes {jobs} {count}", (), 200
     ),
     "crashes": Part("random scripts, by crashes, replay and a model", "python3 tools/random-crashes.py {count} {seed} {jobs}", (), 50),
+    "crash-lists": Part(
+        "random runs, by crashes --model and by another enumeration", "python3 tools/random-crash-lists.py {count} {seed}", (), 50
+    ),
     "records": Part("random programs, by exec and by replay of the record", "python3 tools/random-records.py {count} {seed} {jobs}", (), 200),
+    "logs": Part("random programs, by exec --log and by steps of debug", "python3 tools/random-logs.py {count} {seed} {jobs}", (), 60),
     "orders": Part("random programs, by explore and by all orders", "python3 tools/random-orders.py {count} {seed} {jobs}", (), 20),
     "many-runs": Part("each example again and again, by 1 to 16 workers", "tools/many-runs.sh {count}", (), 16),
     "killed-runs": Part("runs that are killed, and the disk after each", "tools/killed-runs.sh {count}", (), 20),

@@ -16,12 +16,12 @@ import time
 TOP = os.path.realpath(f"{os.path.dirname(os.path.realpath(__file__))}/..")
 # How many of the words of a command name files, aside from its options.
 MOST_FILES = {
-    "replay": 1, "picture": 1, "page": 1, "crashes": 1, "explore": 8, "asm": 2, "check": 1, "image": 2, "symbols": 2, "list": 1, "diff": 2, "debug": 8, "gdb": 8, "disk": 1, "run": 8, "exec": 8,
+    "replay": 1, "picture": 1, "page": 1, "crashes": 8, "explore": 8, "asm": 2, "check": 1, "image": 2, "symbols": 2, "list": 1, "diff": 2, "debug": 8, "gdb": 8, "disk": 1, "run": 8, "exec": 8,
 }
 # The commands whose file is a script.
 SCRIPT_COMMANDS = ("replay", "picture", "page", "crashes", "explore")
-FILE_OPTIONS = ("--trace", "--disk", "--tape", "--tape-of", "--expect", "--source", "--symbols", "--save")
-NUMBER_OPTIONS = ("--workers", "--quantum", "--term", "--fail", "--status", "--cone", "--process", "--history", "--limit", "--seed", "--most-states")
+FILE_OPTIONS = ("--trace", "--disk", "--tape", "--tape-of", "--expect", "--source", "--symbols", "--save", "--recover")
+NUMBER_OPTIONS = ("--workers", "--quantum", "--term", "--fail", "--status", "--cone", "--process", "--history", "--limit", "--seed", "--most-states", "--model", "--apart", "--nested", "--jobs", "--log-of")
 IMAGE_LINE = re.compile(rb"^(image [0-9]+ )(?=[^/\s])", re.MULTILINE)
 # The longest that the program may run, and how long nothing is said, in seconds.
 LONGEST_RUN, SILENCE = 1800, 30

@@ -1,4 +1,5 @@
-//! The table of the commands, a row each. The rows of `run`, `debug` and `gdb` stand in files of their own, with their options.
+//! The table of the commands, a row each. The rows of commands with many options stand in files of their own.
+use crate::crash_options::CRASHES;
 use crate::debug_options::DEBUG;
 use crate::exec_options::EXEC;
 use crate::explore_options::EXPLORE;
@@ -49,22 +50,6 @@ const PICTURE: CommandRow = CommandRow {
             name: "cone",
             help: "draw what event N rests on, and all else pale",
             form: Form::Number(EVENT),
-        },
-    ],
-};
-
-const CRASHES: CommandRow = CommandRow {
-    kind: CommandKind::Crashes,
-    name: "crashes",
-    whole: "bench crashes",
-    about: "Try a crash after each event of a script, and print what each leaves on the disk",
-    example: "Example: bench crashes examples/saves.script",
-    arguments: &[
-        SCRIPT,
-        ArgumentRow {
-            name: "expect",
-            help: "the lists of files that a crash may leave",
-            form: Form::Option("FILE"),
         },
     ],
 };
@@ -171,6 +156,11 @@ const DIFF: CommandRow = CommandRow {
             name: "B",
             help: "the other's",
             form: Form::File,
+        },
+        ArgumentRow {
+            name: "source",
+            help: "say where in the program that is: its source, or its executable",
+            form: Form::Option("FILE"),
         },
     ],
 };

@@ -27,6 +27,12 @@ pub struct ExecOptions<'a> {
     pub record: Option<&'a str>,
     /// The path of the file that is to have the run's picture, if one is.
     pub picture: Option<&'a str>,
+    /// The path of the file that is to have a log of instructions, if one is.
+    pub log: Option<&'a str>,
+    /// The process whose instructions are logged.
+    pub logged: u32,
+    /// Whether it is told how often each line of the first program was executed.
+    pub tells_profile: bool,
 }
 
 /// How many instructions, any number of them.
@@ -77,6 +83,26 @@ pub const EXEC: CommandRow = CommandRow {
             name: "picture",
             help: "draw the run as an SVG, as bench picture does",
             form: Form::Option("FILE"),
+        },
+        ArgumentRow {
+            name: "log",
+            help: "write each instruction of process 1, in the form of Spike's commit log",
+            form: Form::Option("FILE"),
+        },
+        ArgumentRow {
+            name: "log-of",
+            help: "write those of process P in place of process 1",
+            form: Form::Number(NumberRow {
+                value: "P",
+                least: 1,
+                most: 4_294_967_295,
+                default: None,
+            }),
+        },
+        ArgumentRow {
+            name: "profile",
+            help: "say at the end how often each line, or function, of the first program was executed",
+            form: Form::Flag,
         },
         ArgumentRow {
             name: "json",
@@ -168,15 +194,20 @@ fn common<'a>(
 }
 
 /// The options with a value that have the run go by turns, and how each is written.
-static VALUES: [(&str, &str); 4] = [
+static VALUES: [(&str, &str); 5] = [
     ("limit", "--limit <N>"),
     ("seed", "--seed <S>"),
     ("record", "--record <FILE>"),
     ("picture", "--picture <FILE>"),
+    ("log", "--log <FILE>"),
 ];
 
 /// Those without one.
-static FLAGS: [(&str, &str); 2] = [("calls", "--calls"), ("json", "--json")];
+static FLAGS: [(&str, &str); 3] = [
+    ("calls", "--calls"),
+    ("json", "--json"),
+    ("profile", "--profile"),
+];
 
 /// The first of the options that have the run go by turns, if one is given.
 fn by_turns(matches: &ArgMatches<'_>) -> Option<&'static str> {
@@ -228,5 +259,8 @@ pub fn exec_options<'a>(
         is_json: matches.get_flag("json"),
         record: matches.get_str("record"),
         picture: matches.get_str("picture"),
+        log: matches.get_str("log"),
+        logged: small_number(matches, "log-of").unwrap_or(1),
+        tells_profile: matches.get_flag("profile"),
     }))
 }

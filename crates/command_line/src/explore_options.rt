@@ -18,6 +18,10 @@ pub struct ExploreOptions<'a> {
     pub instructions: u32,
     /// No further level is searched where more states were found.
     pub states: u64,
+    /// How many threads search; None: as many as there are processors.
+    pub jobs: Option<u32>,
+    /// Whether it is told how far the search has come.
+    pub progress: bool,
 }
 
 /// The command `explore`.
@@ -63,6 +67,21 @@ pub const EXPLORE: CommandRow = CommandRow {
                 default: Some("1000000"),
             }),
         },
+        ArgumentRow {
+            name: "jobs",
+            help: "how many threads search, 1 to 256; as many as there are processors, if it is not given",
+            form: Form::Number(NumberRow {
+                value: "N",
+                least: 1,
+                most: 256,
+                default: None,
+            }),
+        },
+        ArgumentRow {
+            name: "progress",
+            help: "say once a second how far the search has come",
+            form: Form::Flag,
+        },
     ],
 };
 
@@ -86,5 +105,7 @@ pub fn explore_options<'a>(
         save: matches.get_str("save"),
         instructions,
         states,
+        jobs: small_number(matches, "jobs"),
+        progress: matches.get_flag("progress"),
     }))
 }

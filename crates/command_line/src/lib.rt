@@ -4,6 +4,7 @@
 #![tactic(auto)]
 
 mod command;
+mod crash_options;
 mod debug_options;
 mod exec_options;
 mod explore_options;
@@ -17,6 +18,7 @@ mod run_options;
 mod tapes;
 mod task;
 
+pub use crash_options::{CrashOptions, ModelName};
 pub use debug_options::LiveOptions;
 pub use exec_options::ExecOptions;
 pub use explore_options::ExploreOptions;

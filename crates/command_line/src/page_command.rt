@@ -3,6 +3,7 @@ use crate::command::SCRIPT;
 use crate::rows::{ArgumentRow, CommandKind, CommandRow, Form};
 use crate::task::Task;
 use clap::ArgMatches;
+use std::alloc::{AllocError, Global};
 
 pub const PAGE: CommandRow = CommandRow {
     kind: CommandKind::Page,
@@ -17,13 +18,25 @@ pub const PAGE: CommandRow = CommandRow {
             help: "print instead what the page has of the run, as a line of JSON",
             form: Form::Flag,
         },
+        ArgumentRow {
+            name: "source",
+            help: "a source of a program, whose lines are shown; may be given for each program",
+            form: Form::Options("FILE"),
+        },
     ],
 };
 
-/// What the arguments of the command ask for.
-pub fn page_task<'a>(matches: &ArgMatches<'a>) -> Option<Task<'a>> {
-    Some(Task::Page {
-        script: matches.get_str("SCRIPT")?,
+/// What the arguments of the command ask for. None where an argument is missing.
+pub fn page_task<'a>(
+    alloc: Global,
+    matches: &ArgMatches<'a>,
+) -> Result<Option<Task<'a>>, AllocError> {
+    let Some(script) = matches.get_str("SCRIPT") else {
+        return Ok(None);
+    };
+    Ok(Some(Task::Page {
+        script,
         json: matches.get_flag("json"),
-    })
+        sources: Vec::from_slice(alloc, matches.get_strs("source").unwrap_or(&[]))?,
+    }))
 }

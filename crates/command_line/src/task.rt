@@ -1,5 +1,6 @@
 //! `Task`: what the command line asks for.
 use crate::command::{ASSEMBLE, IMAGE, SYMBOLS};
+use crate::crash_options::{CRASHES, CrashOptions, crash_conflict, crash_options, unknown_model};
 use crate::debug_options::{DEBUG, LiveOptions, debug_conflict, live_options};
 use crate::exec_options::{EXEC, ExecOptions, exec_conflict, exec_options};
 use crate::explore_options::{EXPLORE, ExploreOptions, explore_options};
@@ -35,12 +36,11 @@ pub enum Task<'a> {
     Page {
         script: &'a str,
         json: bool,
+        /// The paths of sources of its programs.
+        sources: Vec<&'a str>,
     },
-    /// Try the crashes of the script of a file, whose outcomes are among those of another, if one is given.
-    Crashes {
-        script: &'a str,
-        expect: Option<&'a str>,
-    },
+    /// Try the crashes of programs, or of a script.
+    Crashes(CrashOptions<'a>),
     /// Find all outcomes of programs, whatever the order of their calls.
     Explore(ExploreOptions<'a>),
     /// Assemble the source in a file to the image in another.
@@ -62,10 +62,11 @@ pub enum Task<'a> {
     },
     /// List the words of the image in a file.
     List(&'a str),
-    /// Compare the logs in two files.
+    /// Compare the logs in two files, and say where in a program they differ, if one is given.
     Diff {
         first: &'a str,
         second: &'a str,
+        source: Option<&'a str>,
     },
     /// Debug the image in a file, with the replies of the trace in another, or none, and beside its source, if it is given.
     Debug {
@@ -172,21 +173,40 @@ fn test_together(alloc: Global, matches: &ArgMatches<'_>) -> Result<(), Error> {
     }
 }
 
+/// The refusal of more than eight programs.
+fn too_many_programs(alloc: Global, row: &CommandRow) -> Result<Error, AllocError> {
+    refusal(
+        alloc,
+        row,
+        ErrorKind::TooManyValues,
+        "there are more than 8 programs",
+    )
+}
+
+/// Refuses the number of the process that is logged where no log is written.
+fn test_log(alloc: Global, matches: &ArgMatches<'_>) -> Result<(), Error> {
+    if matches.get_str("log-of").is_none() || matches.get_str("log").is_some() {
+        return Ok(());
+    }
+    Err(refusal(
+        alloc,
+        &EXEC,
+        ErrorKind::MissingRequiredArgument,
+        "'--log-of <P>' needs '--log <FILE>'",
+    )?)
+}
+
 fn exec_task<'a>(alloc: Global, matches: &ArgMatches<'a>) -> Result<Option<Task<'a>>, Error> {
     test_tapes(alloc, &EXEC, matches)?;
     test_terminals(alloc, &EXEC, matches)?;
     test_together(alloc, matches)?;
+    test_log(alloc, matches)?;
     match exec_options(alloc, matches)? {
         Some(options) if options.run.is_durable && options.run.disk.is_none() => {
             Err(no_disk(alloc, &EXEC)?)
         }
         Some(options) => Ok(Some(Task::Exec(options))),
-        None => Err(refusal(
-            alloc,
-            &EXEC,
-            ErrorKind::TooManyValues,
-            "there are more than 8 programs",
-        )?),
+        None => Err(too_many_programs(alloc, &EXEC)?),
     }
 }
 
@@ -218,17 +238,42 @@ fn picture_task<'a>(matches: &ArgMatches<'a>) -> Option<Task<'a>> {
     })
 }
 
-fn crashes_task<'a>(matches: &ArgMatches<'a>) -> Option<Task<'a>> {
-    Some(Task::Crashes {
-        script: matches.get_str("SCRIPT")?,
-        expect: matches.get_str("expect"),
-    })
+/// Refuses a rule of crashes that there is not.
+fn test_model(alloc: Global, matches: &ArgMatches<'_>) -> Result<(), Error> {
+    match unknown_model(matches) {
+        None => Ok(()),
+        Some(name) => {
+            let message = format!(in alloc;
+                "invalid value '{name}' for '--model <NAME>': it has to be bench, ordered, delayed or posix"
+            )?;
+            Err(refusal(
+                alloc,
+                &CRASHES,
+                ErrorKind::ValueValidation,
+                message.as_str(),
+            )?)
+        }
+    }
+}
+
+/// What the arguments of the command `crashes` ask for. Options that do not go together are refused.
+fn crashes_task<'a>(alloc: Global, matches: &ArgMatches<'a>) -> Result<Option<Task<'a>>, Error> {
+    test_tapes(alloc, &CRASHES, matches)?;
+    test_model(alloc, matches)?;
+    if let Some(message) = crash_conflict(matches) {
+        return Err(refusal(alloc, &CRASHES, ErrorKind::ArgumentConflict, message)?);
+    }
+    match crash_options(alloc, matches)? {
+        Some(options) => Ok(Some(Task::Crashes(options))),
+        None => Err(too_many_programs(alloc, &CRASHES)?),
+    }
 }
 
 fn diff_task<'a>(matches: &ArgMatches<'a>) -> Option<Task<'a>> {
     Some(Task::Diff {
         first: matches.get_str("A")?,
         second: matches.get_str("B")?,
+        source: matches.get_str("source"),
     })
 }
 
@@ -294,8 +339,8 @@ pub fn task_of<'a>(
     match kind {
         CommandKind::Replay => Ok(replay_task(matches)),
         CommandKind::Picture => Ok(picture_task(matches)),
-        CommandKind::Page => Ok(page_task(matches)),
-        CommandKind::Crashes => Ok(crashes_task(matches)),
+        CommandKind::Page => Ok(page_task(alloc, matches)?),
+        CommandKind::Crashes => crashes_task(alloc, matches),
         CommandKind::Explore => explore_task(alloc, matches),
         CommandKind::Assemble => assemble_task(alloc, matches),
         CommandKind::Check => Ok(matches.get_str("SOURCE").map(Task::Check)),

@@ -8,7 +8,7 @@ use crate::ratios::thousandths;
 use anyhow::{Error, bail};
 use assembler::assemble;
 use byte_list::Bytes;
-use executor::{Settings, run};
+use executor::{Run, Settings};
 use formats::Reg;
 use kernel::{Core, Program, SimDisk};
 use machine::Machine;
@@ -120,7 +120,10 @@ fn time_of<R: AllocGlobal + Clock + Threads + Wait + Sync>(
     };
     let core = boot(rt.alloc(), load)?;
     let start = Instant::now(rt)?;
-    if run(rt, rt.alloc(), core, settings, &mut sink()).is_err() {
+    if Run::new(rt.alloc(), settings, &mut sink())
+        .to_end(rt, core)
+        .is_err()
+    {
         bail!("the run ended early");
     }
     Ok(start.elapsed(rt)?)

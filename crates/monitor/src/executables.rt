@@ -1,9 +1,8 @@
-//! The programs of `exec`, and what is known of a run beside its core.
+//! The programs of `exec`, and copies of its tapes.
 ghost use Rattle.std.specs.Prelude.{◌≡◌, ◌<◌, ◌≤◌, length, IfOk};
 ghost use Rattle.std.specs.List.{AllByRecursion};
 ghost use Rattle.kernel_model.specs.World.{most_programs, terminal_count};
 
-use crate::observing::Watching;
 use byte_list::Bytes;
 use exec_files::{LoadFault, LoadedProgram, load};
 use faults::Fault;
@@ -30,21 +29,6 @@ pub fn programs_in<R: Files + AllocGlobal>(
         known.push(loaded)?;
     }
     Ok((programs, known))
-}
-
-/// What is known of a run beside its core.
-pub struct Known {
-    pub watching: Watching,
-    pub tapes: Vec<Bytes>,
-}
-
-impl Drop for Known {
-    fn drop(self) {
-        let Known {
-            watching: _watching,
-            tapes: _tapes,
-        } = self;
-    }
 }
 
 /// Copies of tapes.

@@ -1,14 +1,15 @@
 //! Runs of programs for people.
-use crate::exec_keeping::test_records;
-use crate::exec_running::run_to_end;
-use crate::executables::{Known, copies_of, programs_in};
+use crate::exec_fault::ExecFault;
+use crate::exec_outputs::Outputs;
+use crate::executables::{copies_of, programs_in};
+use crate::execution::Execution;
 use crate::observing::Watching;
 use command_line::{ExecOptions, Task};
 use exec_files::LoadFault;
 use exec_reports::Family;
 use explanations::explain;
 use faults::{Fault, write_line};
-use run_files::{boot_on, tapes_in};
+use run_files::{Setup, boot_on, tapes_in};
 use std::fs::File;
 use std::io::{Read, Write};
 use std::rt::Files;
@@ -18,23 +19,24 @@ use std::thread::Threads;
 /// The exit status where the command line or a file is refused.
 pub const REFUSED: u8 = 125;
 
-/// Why nothing was run to its end.
-#[derive(Drop)]
-enum ExecFault {
-    Program(LoadFault),
-    Other(Fault),
-}
-
-impl From<Fault> for ExecFault {
-    fn from(fault: Fault) -> ExecFault {
-        ExecFault::Other(fault)
-    }
-}
-
-impl From<LoadFault> for ExecFault {
-    fn from(fault: LoadFault) -> ExecFault {
-        ExecFault::Program(fault)
-    }
+/// Reads the programs and the tapes of a run, and boots its core.
+fn prepare<'a, R: Files<File = File> + AllocGlobal, I: Read>(
+    rt: &'a R,
+    options: &'a ExecOptions<'a>,
+    input: &mut I,
+) -> Result<(Execution<'a, R>, Setup), ExecFault> {
+    let (programs, loaded) = programs_in(rt, options.run.images.as_slice())?;
+    let tapes = tapes_in(rt, options.run.tapes.as_slice(), input)?;
+    let family = Family::new(rt.alloc(), loaded)?;
+    let execution = Execution {
+        rt,
+        options,
+        watching: Watching::new(rt.alloc(), options, family),
+        tapes: copies_of(rt.alloc(), tapes.as_slice())?,
+        outputs: Outputs::none(),
+    };
+    let setup = boot_on(rt, &options.run, programs, tapes)?;
+    Ok((execution, setup))
 }
 
 fn try_execute<
@@ -49,20 +51,12 @@ fn try_execute<
     out: &mut O,
     err: &mut E,
 ) -> Result<u8, ExecFault> {
-    test_records(rt.alloc(), options)?;
-    let (programs, loaded) = programs_in(rt, options.run.images.as_slice())?;
-    let tapes = tapes_in(rt, options.run.tapes.as_slice(), input)?;
-    let family = Family::new(rt.alloc(), loaded).map_err(Fault::from)?;
-    let mut known = Known {
-        watching: Watching::new(rt.alloc(), options, family),
-        tapes: copies_of(rt.alloc(), tapes.as_slice())?,
-    };
-    let (core, lock, file) = boot_on(rt, &options.run, programs, tapes)?;
-    let done = run_to_end(rt, options, core, file, &mut known, out, err);
+    let (mut execution, (core, lock, file)) = prepare(rt, options, input)?;
+    let done = execution.run_to_end((core, file), out, err);
     if let Some(lock) = lock {
         lock.release(rt);
     }
-    Ok(done?)
+    done
 }
 
 /// Prints the reason of a fault, or the fault where none is found.
@@ -92,17 +86,12 @@ fn print_refusal<R: Files<File = File> + AllocGlobal, E: Write>(
     err: &mut E,
 ) -> Result<(), Fault> {
     match fault {
-        ExecFault::Program(LoadFault::Refused(why)) => {
+        ExecFault::File(LoadFault::Refused(why) | LoadFault::Host(why)) => {
             let why = why.as_str();
             write_line(err, format_args!("bench: {why}"))?;
             Ok(())
         }
-        ExecFault::Program(LoadFault::OutOfMemory) => print_fault(
-            rt,
-            task,
-            Fault::OutOfMemory,
-            err,
-        ),
+        ExecFault::File(LoadFault::OutOfMemory) => print_fault(rt, task, Fault::OutOfMemory, err),
         ExecFault::Other(fault) => print_fault(rt, task, *fault, err),
     }
 }

@@ -1,12 +1,14 @@
 //! All orders of the calls of programs in files of the host.
 use command_line::ExploreOptions;
-use explored_runs::{Limits, Wanted, explore_orders, setup_lines};
+use explored_runs::{Limits, ProgramSource, Wanted, explore_orders, setup_lines};
 use faults::Fault;
 use input_reading::bytes_in;
-use scripts::{Script, Setup};
+use scripts::Script;
+use std::alloc::{AllocError, Global};
 use std::fs;
 use std::io::Write;
 use std::rt::Files;
+use std::thread::Threads;
 
 /// How many bytes tell an image from a script.
 const FIRST_BYTES: usize = 4;
@@ -17,34 +19,40 @@ fn is_image<R: Files + AllocGlobal>(rt: &R, path: &str) -> Result<bool, Fault> {
     Ok(matches!(beginning.as_slice(), [0x7F, b'E', b'L', b'F', ..]))
 }
 
-/// What images set up, and its lines.
-fn images_in<R: AllocGlobal>(rt: &R, paths: &[&str]) -> Result<(Setup, String), Fault> {
-    let alloc = rt.alloc();
-    let mut setup = Setup::new(alloc);
+/// The lines of a script that set up images.
+fn image_lines(alloc: Global, paths: &[&str]) -> Result<String, AllocError> {
     let mut lines = String::new(alloc);
     for (terminal, path) in paths.iter().enumerate() {
-        setup.push_image(alloc, path)?;
         writeln!(lines, "image {terminal} {path}")?;
     }
-    Ok((setup, lines))
+    Ok(lines)
 }
 
-/// What a script sets up, and its set-up lines.
-fn script_setup<R: Files + AllocGlobal>(rt: &R, path: &str) -> Result<(Setup, String), Fault> {
+/// The set-up lines of a script, which is read whole.
+fn script_lines<R: Files + AllocGlobal>(rt: &R, path: &str) -> Result<String, Fault> {
     let text = fs::read_to_string(rt, path)?;
-    let lines = setup_lines(rt.alloc(), text.as_str())?;
-    let script = Script::parse(rt.alloc(), text.as_str())?;
-    Ok((script.into_setup(), lines))
+    let _script = Script::parse(rt.alloc(), text.as_str())?;
+    Ok(setup_lines(rt.alloc(), text.as_str())?)
 }
 
-/// What the programs set up, and its lines: images, or a script alone.
-fn setup_in<R: Files + AllocGlobal>(rt: &R, paths: &[&str]) -> Result<(Setup, String), Fault> {
-    if let [path] = paths
-        && !is_image(rt, path)?
-    {
-        return script_setup(rt, path);
+/// Whether these are the path of a script, and of no image.
+fn is_script<R: Files + AllocGlobal>(rt: &R, paths: &[&str]) -> Result<bool, Fault> {
+    match paths {
+        [path] => Ok(!is_image(rt, path)?),
+        _ => Ok(false),
     }
-    images_in(rt, paths)
+}
+
+/// The set-up lines of programs: images, or a script alone.
+fn lines_of<R: Files + AllocGlobal>(
+    rt: &R,
+    paths: &[&str],
+    is_script: bool,
+) -> Result<String, Fault> {
+    match paths {
+        [path] if is_script => script_lines(rt, path),
+        _ => Ok(image_lines(rt.alloc(), paths)?),
+    }
 }
 
 fn text_in<R: Files + AllocGlobal>(rt: &R, path: Option<&str>) -> Result<Option<String>, Fault> {
@@ -55,21 +63,31 @@ fn text_in<R: Files + AllocGlobal>(rt: &R, path: Option<&str>) -> Result<Option<
 }
 
 /// Finds all outcomes of programs. The script or the beginning of an image is read first, and then what is expected, if anything is.
-pub fn explore_programs<R: Files + AllocGlobal, O: Write>(
+pub fn explore_programs<R: Files + AllocGlobal + Threads + Sync, O: Write, E: Write>(
     rt: &R,
     options: &ExploreOptions<'_>,
     out: &mut O,
+    err: &mut E,
 ) -> Result<(), Fault> {
-    let (mut setup, lines) = setup_in(rt, options.programs.as_slice())?;
+    let paths = options.programs.as_slice();
+    let is_script = is_script(rt, paths)?;
+    let lines = lines_of(rt, paths, is_script)?;
     let expected = text_in(rt, options.expect)?;
     let wanted = Wanted {
         setup: lines.as_str(),
         expected: expected.as_ref().map(|text| text.as_str()),
         folder: options.save,
+        progress: options.progress,
+    };
+    let source = if is_script {
+        ProgramSource::Lines(lines.as_str())
+    } else {
+        ProgramSource::Images(paths)
     };
     let limits = Limits {
         instructions: options.instructions,
         states: options.states,
+        threads: options.jobs,
     };
-    explore_orders(rt, &mut setup, limits, wanted, out)
+    explore_orders(rt, source, limits, wanted, out, err)
 }

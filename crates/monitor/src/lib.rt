@@ -2,11 +2,15 @@
 //! of it; what it reads and prints is tested.
 #![tactic(auto)]
 
+mod crash_files;
+mod crash_subject;
 mod debugging;
+mod exec_fault;
 mod exec_keeping;
-mod exec_running;
+mod exec_outputs;
 mod executables;
 mod executing;
+mod execution;
 mod exploring;
 mod fault;
 mod gdb;
@@ -16,6 +20,7 @@ mod page_files;
 mod program;
 mod running;
 mod script_files;
+mod showing;
 
 pub use faults::Fault;
 pub use program::{bench, end_without_arguments};

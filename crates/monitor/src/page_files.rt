@@ -1,7 +1,11 @@
 //! Pages of runs.
 use crate::script_files::script_in;
+use exec_files::{LoadedProgram, Names, Places};
+use exec_reports::Family;
 use faults::Fault;
-use run_page::{write_json, write_page};
+use host_files::{FileFault, source_lines_in};
+use run_page::{PagedScript, write_json, write_page};
+use scripts::Setup;
 use std::io::Write;
 use std::rt::Files;
 
@@ -13,16 +17,91 @@ fn name_in(path: &str) -> &str {
     }
 }
 
-/// Makes a page of the run of the script in a file, or prints what the page has of it as JSON.
+/// What is known of a script's programs, of which each has a place for each process that it is booted in.
+struct Known {
+    programs: Vec<LoadedProgram>,
+    booted: Vec<Option<usize>>,
+}
+
+impl Drop for Known {
+    fn drop(self) {
+        let Known {
+            programs: _programs,
+            booted: _booted,
+        } = self;
+    }
+}
+
+impl Known {
+    /// Nothing is known of the programs of a script.
+    fn none<R: AllocGlobal>(rt: &R, setup: &Setup) -> Result<Known, Fault> {
+        let mut booted = Vec::new(rt.alloc());
+        for _ in setup.programs.iter() {
+            booted.push(None)?;
+        }
+        Ok(Known {
+            programs: Vec::new(rt.alloc()),
+            booted,
+        })
+    }
+
+    /// Reads a source beside the programs that it assembles to. Refused where there is none.
+    fn read<R: Files + AllocGlobal>(
+        &mut self,
+        rt: &R,
+        setup: &mut Setup,
+        path: &str,
+    ) -> Result<(), Fault> {
+        let mut is_known = false;
+        for (program, place) in setup.programs.iter_mut().zip(self.booted.iter_mut()) {
+            let image = program.source.image(rt)?;
+            let lines = match source_lines_in(rt, Some(path), &image) {
+                Ok(Some(lines)) => lines,
+                Ok(None) | Err(FileFault::OtherImage) => continue,
+                Err(fault) => return Err(Fault::from(fault)),
+            };
+            *place = Some(self.programs.len());
+            is_known = true;
+            let places = Places {
+                path: String::from_str(rt.alloc(), name_in(path))?,
+                names: Names::Source(lines),
+            };
+            self.programs.push(LoadedProgram { image, places })?;
+        }
+        if is_known {
+            Ok(())
+        } else {
+            Err(Fault::from(FileFault::OtherImage))
+        }
+    }
+
+    fn into_family<R: AllocGlobal>(self, rt: &R) -> Result<Family, Fault> {
+        let Known { programs, booted } = self;
+        Ok(Family::of(rt.alloc(), programs, booted)?)
+    }
+}
+
+/// Makes a page of the run of the script in a file, or prints what the page has of it as JSON. Each source is that of a program of the
+/// script.
 pub fn page_file<R: Files + AllocGlobal, O: Write>(
     rt: &R,
     path: &str,
+    sources: &[&str],
     json: bool,
     out: &mut O,
 ) -> Result<(), Fault> {
-    let (name, script) = (name_in(path), script_in(rt, path)?);
-    if json {
-        return write_json(rt, name, script, out);
+    let mut script = script_in(rt, path)?;
+    let mut known = Known::none(rt, &script.setup)?;
+    for source in sources {
+        known.read(rt, &mut script.setup, source)?;
     }
-    write_page(rt, name, script, out)
+    let paged = PagedScript {
+        name: name_in(path),
+        script,
+        family: known.into_family(rt)?,
+    };
+    if json {
+        return write_json(rt, paged, out);
+    }
+    write_page(rt, paged, out)
 }

@@ -1,14 +1,13 @@
 //! `bench`, the whole program: reads the command line, does its task, and gives the exit status.
+use crate::crash_files::try_crashes;
 use crate::debugging::{debug_file, debug_live};
 use crate::executing::{REFUSED, execute};
 use crate::exploring::explore_programs;
 use crate::gdb::answer_gdb;
-use crate::logs::diff_files;
+use crate::logs::{LogPaths, diff_files};
 use crate::page_files::page_file;
 use crate::running::run_images;
-use crate::script_files::{
-    explore_file, picture_file, replay_cone_file, replay_file, replay_input,
-};
+use crate::script_files::{picture_file, replay_cone_file, replay_file, replay_input};
 use clap::Error;
 use clap::error::ErrorKind;
 use command_line::{Arguments, Task, parse};
@@ -35,9 +34,13 @@ fn perform<
         Task::ReplayFile(path) => replay_file(rt, path, out),
         Task::ReplayCone { script, event } => replay_cone_file(rt, script, *event, out),
         Task::Picture { script, cone } => picture_file(rt, script, *cone, out),
-        Task::Page { script, json } => page_file(rt, script, *json, out),
-        Task::Crashes { script, expect } => explore_file(rt, script, *expect, out),
-        Task::Explore(options) => explore_programs(rt, options, out),
+        Task::Page {
+            script,
+            json,
+            sources,
+        } => page_file(rt, script, sources.as_slice(), *json, out),
+        Task::Explore(options) => explore_programs(rt, options, out, err),
+        Task::Crashes(options) => return try_crashes(rt, options, input, out, err),
         Task::Assemble { source, image } => assemble_file(rt, source, image, out).map_err(
             Fault::File,
         ),
@@ -55,7 +58,18 @@ fn perform<
         Task::DebugLive(options) => debug_live(rt, options, input, out),
         Task::Gdb(options) => answer_gdb(rt, options, input, out),
         Task::Disk(path) => list_files(rt, path, out),
-        Task::Diff { first, second } => diff_files(rt, first, second, out),
+        Task::Diff {
+            first,
+            second,
+            source,
+        } => {
+            let paths = LogPaths {
+                first: *first,
+                second: *second,
+                source: *source,
+            };
+            return diff_files(rt, paths, out, err);
+        }
         Task::Run(options) => return run_images(rt, options, asked.explain, input, out, err),
         Task::Exec(options) => return Ok(execute(rt, &asked.task, options, input, out, err)),
     };

@@ -2,7 +2,7 @@
 use crate::fault::of_run;
 use command_line::{RunNumbers, RunOptions};
 use durable_disk::HostFile;
-use executor::{RunFault, Settings, run, run_durable};
+use executor::{Run, Settings};
 use faults::Fault;
 use kernel::Core;
 use run_files::{boot, keep_disk, print_processes, status_of};
@@ -27,20 +27,6 @@ fn has_failed(core: &Core) -> bool {
     core.committed() < core.changes()
 }
 
-/// Runs the core of a run, on the file that holds its disk, if the run is durable.
-pub fn run_core<R: Threads + Wait + Sync + AllocGlobal, O: Write>(
-    rt: &R,
-    core: Core,
-    file: Option<HostFile>,
-    settings: Settings,
-    out: &mut O,
-) -> Result<Core, RunFault> {
-    match file {
-        Some(file) => run_durable(rt, rt.alloc(), core, settings, file, out),
-        None => run(rt, rt.alloc(), core, settings, out),
-    }
-}
-
 /// Runs a core to its end, tells of its processes, and keeps its disk, if it is to be kept at the end.
 fn run_to_end<R: Files<File = File> + AllocGlobal + Threads + Wait + Sync, O: Write, E: Write>(
     rt: &R,
@@ -51,7 +37,8 @@ fn run_to_end<R: Files<File = File> + AllocGlobal + Threads + Wait + Sync, O: Wr
     out: &mut O,
     err: &mut E,
 ) -> Result<u8, Fault> {
-    let core = run_core(rt, core, file, settings_of(options.numbers), out).map_err(of_run)?;
+    let mut run = Run::new(rt.alloc(), settings_of(options.numbers), out).on_file(file);
+    let core = run.to_end(rt, core).map_err(of_run)?;
     out.flush()?;
     let told = print_processes(&core, explain, err);
     let has_failed = has_failed(&core);

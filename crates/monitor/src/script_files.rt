@@ -1,5 +1,4 @@
-//! The commands that read a script: `replay`, `picture` and `crashes`. Each script is read whole before anything runs.
-use crash_outcomes::explore;
+//! The commands that read a script: `replay` and `picture`. Each script is read whole before anything runs.
 use faults::Fault;
 use pictured_runs::picture;
 use scripts::{Script, replay, replay_cone};
@@ -50,19 +49,4 @@ pub fn picture_file<R: Files + AllocGlobal, O: Write>(
     out: &mut O,
 ) -> Result<(), Fault> {
     picture(rt, script_in(rt, path)?, cone, out)
-}
-
-/// Tries the crashes of the script in a file. The whole script is read first, and then what is expected of them, if anything is.
-pub fn explore_file<R: Files + AllocGlobal, O: Write>(
-    rt: &R,
-    path: &str,
-    expect: Option<&str>,
-    out: &mut O,
-) -> Result<(), Fault> {
-    let script = script_in(rt, path)?;
-    let Some(path) = expect else {
-        return explore(rt, script, None, out);
-    };
-    let expected = fs::read_to_string(rt, path)?;
-    explore(rt, script, Some(expected.as_str()), out)
 }

@@ -1,5 +1,6 @@
 /* A store of keys and values in one file, which survives any crash: each change writes the whole store to another file, and then
-   renames that. So at every moment the file `store` is whole, as before the change or as after it. A line of the tape is
+   renames that. So at every moment the file `store` is whole, as before the change or as after it. A sync before the renaming and one
+   after it keep that true on other systems too. A line of the tape is
    `set KEY VALUE`, `get KEY` or `list`. What it answers to a `set` shows once the change is on the disk. */
 #include "calls.h"
 
@@ -46,8 +47,10 @@ static void save(void)
         from += n;
     }
     sys_close(file);
+    sys_sync();
     if (sys_rename("store.new", "store") < 0)
         sys_exit(1);
+    sys_sync();
 }
 
 static int line_length(const char *at)

@@ -23,7 +23,7 @@ class Program(lit.formats.FileBasedTest):
         os.makedirs(os.path.dirname(image), exist_ok=True)
         for command in (
             [BUILD, "--picolibc", *FLAGS, test.getSourcePath(), "-lm", image],
-            [BENCH, "run", "--status", "1", image],
+            [BENCH, "exec", image],
         ):
             try:
                 out, err, status = lit.util.executeCommand(command, timeout=SECONDS)

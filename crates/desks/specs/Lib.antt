@@ -1,4 +1,0 @@
--- The definitions.
-pub mod Records
-pub mod Asked
-pub mod Work

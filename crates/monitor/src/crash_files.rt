@@ -1,0 +1,164 @@
+//! The command `crashes`: crashes of a script, or of programs.
+use crate::crash_subject::{SubjectFault, program_in, subject_in};
+use command_line::{CrashOptions, ModelName};
+use crash_recoveries::{
+    Course, CrashModel, Failure, Recovery, Rule, Verdict, explore, explore_by, save, try_recoveries,
+};
+use exec_runs::Ending;
+use faults::{Fault, write_line};
+use scripts::Setup;
+use std::fs;
+use std::io::{Read, Write};
+use std::rt::Files;
+
+/// The exit status where a program is refused.
+const REFUSED: u8 = 2;
+
+/// The exit status where a recovery failed.
+const FAILED: u8 = 7;
+
+/// The exit status where not all was tried.
+const NOT_ALL: u8 = 8;
+
+/// The rule of what a crash may leave, if it is another than bench's.
+fn rule_of(options: &CrashOptions<'_>) -> Option<Rule> {
+    let model = match options.model {
+        ModelName::Bench => return None,
+        ModelName::Ordered => CrashModel::Ordered,
+        ModelName::Delayed => CrashModel::Delayed,
+        ModelName::Posix => CrashModel::Posix,
+    };
+    Some(Rule {
+        model,
+        apart: options.apart,
+    })
+}
+
+/// Says that the run was cut, and gives the exit status.
+fn tell_cut<E: Write>(options: &CrashOptions<'_>, err: &mut E) -> Result<u8, Fault> {
+    let limit = options.limit;
+    write_line(
+        err,
+        format_args!("bench: not all tried: the run was cut at the limit of {limit} instructions"),
+    )?;
+    Ok(NOT_ALL)
+}
+
+/// Prints what each crash leaves, or compares it with what is expected. Gives how the run ended.
+fn explore_to_end<R: Files + AllocGlobal, O: Write>(
+    rt: &R,
+    options: &CrashOptions<'_>,
+    setup: &mut Setup,
+    course: &Course,
+    out: &mut O,
+) -> Result<Ending, Fault> {
+    if let Some(rule) = rule_of(options) {
+        return explore_by(rt, setup, course, rule, out);
+    }
+    let Some(path) = options.expect else {
+        return explore(rt, setup, course, None, out);
+    };
+    let expected = fs::read_to_string(rt, path)?;
+    explore(rt, setup, course, Some(expected.as_str()), out)
+}
+
+/// Explores, and says whether the run was cut.
+fn explore_in<R: Files + AllocGlobal, O: Write, E: Write>(
+    rt: &R,
+    options: &CrashOptions<'_>,
+    setup: &mut Setup,
+    course: &Course,
+    out: &mut O,
+    err: &mut E,
+) -> Result<u8, Fault> {
+    match explore_to_end(rt, options, setup, course, out)? {
+        Ending::Over => Ok(0),
+        Ending::Limit { .. } | Ending::Full { .. } => {
+            out.flush()?;
+            tell_cut(options, err)
+        }
+    }
+}
+
+/// Keeps a recovery that failed, if it is to be kept, and says why it failed.
+fn end_failed<R: Files + AllocGlobal, E: Write>(
+    rt: &R,
+    options: &CrashOptions<'_>,
+    setup: &Setup,
+    recovery: &mut Recovery,
+    failed: (Failure, String),
+    err: &mut E,
+) -> Result<u8, Fault> {
+    let (mut failure, played) = failed;
+    if let Some(folder) = options.save {
+        save(rt, folder, setup, recovery, &mut failure, played.as_str())?;
+    }
+    failure.tell(&mut recovery.family, err)?;
+    Ok(FAILED)
+}
+
+/// Has the recovery run on what each crash leaves.
+fn recover_in<R: Files + AllocGlobal, O: Write, E: Write>(
+    rt: &R,
+    options: &CrashOptions<'_>,
+    path: &str,
+    setup: &mut Setup,
+    course: &Course,
+    out: &mut O,
+    err: &mut E,
+) -> Result<u8, SubjectFault> {
+    let program = program_in(rt, path)?;
+    let mut recovery = Recovery::new(rt.alloc(), program, options.limit, options.nested)?;
+    let verdict = try_recoveries(rt, setup, course, &recovery, rule_of(options), out)?;
+    out.flush()?;
+    match verdict {
+        Verdict::Kept => Ok(0),
+        Verdict::Failed(failure, played) => {
+            let failed = (failure, played);
+            Ok(end_failed(rt, options, setup, &mut recovery, failed, err)?)
+        }
+        Verdict::Cut => Ok(tell_cut(options, err)?),
+        Verdict::TooLong => {
+            write_line(
+                err,
+                "bench: not all tried: terminal 0 shows more than the 65536 bytes that a tape holds",
+            )?;
+            Ok(NOT_ALL)
+        }
+    }
+}
+
+fn try_subject<R: Files + AllocGlobal, I: Read, O: Write, E: Write>(
+    rt: &R,
+    options: &CrashOptions<'_>,
+    input: &mut I,
+    out: &mut O,
+    err: &mut E,
+) -> Result<u8, SubjectFault> {
+    let (mut setup, course) = subject_in(rt, options, input)?;
+    match options.recover {
+        Some(path) => recover_in(rt, options, path, &mut setup, &course, out, err),
+        None => Ok(explore_in(rt, options, &mut setup, &course, out, err)?),
+    }
+}
+
+/// Tries the crashes of a script, or of programs. All files are read first: the script or the programs and their tapes, and then what is
+/// expected, or the recovery. Gives the exit status. A line says why a program is refused, why a recovery failed, and what was not
+/// tried.
+pub fn try_crashes<R: Files + AllocGlobal, I: Read, O: Write, E: Write>(
+    rt: &R,
+    options: &CrashOptions<'_>,
+    input: &mut I,
+    out: &mut O,
+    err: &mut E,
+) -> Result<u8, Fault> {
+    match try_subject(rt, options, input, out, err) {
+        Ok(status) => Ok(status),
+        Err(SubjectFault::Other(fault)) => Err(fault),
+        Err(SubjectFault::Refused(why)) => {
+            let why = why.as_str();
+            write_line(err, format_args!("bench: {why}"))?;
+            Ok(REFUSED)
+        }
+    }
+}
