@@ -25,7 +25,7 @@ module _ {X Y : Type 0} (g : X → Y) where
       (All-weaker (λ z. Contains (map g xs) (g z)) (λ z. Contains (g x ∷ map g xs) (g z)) (λ z is. Contains-append_right (g x ∷ []) (map g xs) (g z) is) xs (each_mapped xs))
 
   -- what is made of an element is an element of what is made
-  mapped : (xs : List X) (x : X) → Contains xs x → Contains (map g xs) (g x)
+  pub mapped : (xs : List X) (x : X) → Contains xs x → Contains (map g xs) (g x)
   mapped xs x is = All-contains (λ z. Contains (map g xs) (g z)) xs x (each_mapped xs) is
 
   -- and each of these is made of an element

@@ -1,3 +1,4 @@
+mod BootDisks
 mod Joining
+mod JoiningParts
 mod Replaying
-mod Zeros

@@ -7,8 +7,8 @@ use Rattle.order_laws.specs.Moves.{Seen, calls, first_seen}
 use Rattle.order_laws.specs.Orders.{IsComplete, reached}
 use Rattle.order_laws.specs.Outcomes.{AllStand, HasOutcomes, settled}
 use Rattle.order_laws.specs.Privacy.{IsPrivate}
-use Rattle.order_laws.specs.Searches.{Found as FoundSeen, HasState}
-use Rattle.state_search.specs.Searches.{Answer, IsSearched}
+use Rattle.order_laws.specs.Searches.{Found as FoundSeen, HasState, WentOn}
+use Rattle.state_search.specs.Searches.{Answer, HasKey, IsPart, IsSearched}
 use Rattle.state_search.specs.declared.moves.Found.{Found}
 use Rattle.state_search.specs.declared.moves.Reached.{Reached}
 
@@ -62,3 +62,27 @@ pub record FindsByKeys {S : Type 0} (begins : Reached S → Type 0) (expands : L
   pub searched : IsSearched begins expands gone_on left depth
   pub finds : (n : ℕ) (b : Boot) (seen : S → Seen) → AnswersCalls n b seen searched.first searched.answers
       → KeysTell seen searched.first searched.answers (gone_on ++ left) → FindsAll n b seen gone_on left depth
+
+-- ---- what parts find together
+
+-- what a state that was found stands for
+abbrev pub state_in : {S : Type 0} → (S → Seen) → Found S → FoundSeen Seen
+state_in seen f = record { state = seen f.state; moves = f.moves }
+
+-- each of these states is among the states of all parts, by its key, and by no more calls
+abbrev pub AreFound : {S : Type 0} → List (Found S) → List (Found S) → Type 0
+AreFound {S = S} found all = (f : Found S) → Contains found f → HasKey all f.key f.moves
+
+-- From each state from which a part went on, a private call or each that does something leads to states of all parts, by a call more at most. And
+-- all parts have the state where each process first stops.
+pub record GoesOn {S : Type 0} (n : ℕ) (b : Boot) (seen : S → Seen) (gone_on all : List (Found S)) : Type 0 where
+  pub begins : HasState (seen_in seen all) (start n b) 0
+  pub goes_on : (f : Found S) → Contains gone_on f → WentOn (calls n) IsPrivate (seen_in seen all) (state_in seen f)
+
+-- A part of a search by keys. Let it be answered with the calls of a boot. Let the states of all parts be told apart by keys, and let what the part
+-- found be among them, also what it left to others. Then it goes on to states of all parts. So where each state of all is one from which some part
+-- went on, all parts together are a search that left none.
+pub record FindsItsPart {S : Type 0} (begins : Reached S → Type 0) (expands : List (Found S) → List (Reached S) → Type 0) (gone_on left others : List (Found S)) (depth : ℕ) : Type 0 where
+  pub searched : IsPart begins expands gone_on left others depth
+  pub finds : (n : ℕ) (b : Boot) (seen : S → Seen) (all : List (Found S)) → AnswersCalls n b seen searched.first searched.answers
+      → KeysTell seen searched.first searched.answers all → AreFound (others ++ (gone_on ++ left)) all → GoesOn n b seen gone_on all

@@ -1,9 +1,9 @@
 //! A search of the calls of programs. What it is said to find is the joint between `state_search`, which knows no calls, and `order_laws`,
 //! which knows no keys.
 ghost use Rattle.std.specs.Prelude.{IfOk};
-ghost use Rattle.explored_runs.specs.CallSearches.{FindsByKeys};
+ghost use Rattle.explored_runs.specs.CallSearches.{FindsByKeys, FindsItsPart};
 
-use state_search::{Moves, Searched, search};
+use state_search::{Moves, Part, PartSearched, Searched, search, search_part};
 use std::alloc::Global;
 use std::thread::Threads;
 
@@ -22,6 +22,23 @@ pub fn search_calls<M: Moves, R: Threads + Sync>(
 {
     match search(rt, alloc, moves, most) {
         Ok(searched) => Ok(searched),
+        Err(why) => Err(why),
+    }
+}
+
+/// As `search_part`, of moves that are calls. What the parts find together is a search that left none, if each goes on to its end, and each
+/// state that one left to others is one from which another went on, by no more calls.
+pub fn search_calls_part<M: Moves, R: Threads + Sync>(
+    rt: &R,
+    alloc: Global,
+    moves: &mut M,
+    most: u64,
+    part: Part,
+) -> Result<PartSearched<M::State>, M::Fault>
+    ensures { IfOk result (λ found. FindsItsPart M.begins M.expands found.searched.gone_on.items found.searched.left.items found.others.items found.searched.depth) }
+{
+    match search_part(rt, alloc, moves, most, part) {
+        Ok(found) => Ok(found),
         Err(why) => Err(why),
     }
 }

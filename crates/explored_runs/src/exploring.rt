@@ -1,21 +1,25 @@
 //! All outcomes of programs: the search, and what it prints.
 ghost use Rattle.std.specs.Prelude.{⊤};
 
-use crate::call_search::search_calls;
+use crate::call_search::{search_calls, search_calls_part};
 use crate::crew::after_each;
 use crate::findings::{Findings, Wanted, print_outcome};
 use crate::outcome::Outcome;
-use crate::programs::{ProgramSource, Programs};
+use crate::part_file::{PartHead, write_end, write_head, write_outcome, write_state};
+use crate::programs::Programs;
 use crate::progress::Progress;
 use crate::runs::{After, Runs};
-use crate::saved::script_of;
-use faults::{ExplorationFault, Fault};
-use state_search::{Found, Moves, Reached, Searched};
+use crate::saved::{script_of, setup_lines};
+use crate::summed::Summed;
+use crate::totals::Totals;
+use faults::Fault;
+use scripts::{Setup, write_setup};
+use state_search::{Found, Key, Moves, Part, Reached};
 use std::alloc::{AllocError, Global};
 use std::io::Write;
 use std::rt::Files;
 use std::thread::Threads;
-use std::{fs, thread};
+use std::{fs, io, thread};
 
 /// How many states each thread takes of a level before what they came to is put together.
 const TAKEN: usize = 64;
@@ -29,6 +33,8 @@ pub struct Limits {
     pub states: u64,
     /// None: by as many as the host has processors for.
     pub threads: Option<u32>,
+    /// Which part is searched; None: the whole.
+    pub part: Option<Part>,
 }
 
 /// A search of runs, which prints their outcomes.
@@ -36,9 +42,12 @@ struct Exploring<'r, 'p, 'w, 'o, 'e, R, O, E> {
     rt: &'r R,
     runs: &'r Runs<'p>,
     threads: usize,
+    part: Option<Part>,
     wanted: Wanted<'w>,
+    /// The set-up lines with which the script of an outcome begins.
+    setup: Vec<u8>,
     findings: Findings<'w>,
-    out: &'o mut O,
+    out: Summed<'o, O>,
     progress: Progress<'e, E>,
 }
 
@@ -48,9 +57,11 @@ impl<R, O, E> Drop for Exploring<'_, '_, '_, '_, '_, R, O, E> {
             rt: _,
             runs: _,
             threads: _,
+            part: _,
             wanted: _,
+            setup: _setup,
             findings: _findings,
-            out: _,
+            out: _out,
             progress: _progress,
         } = self;
     }
@@ -95,10 +106,18 @@ impl<R: Files + AllocGlobal, O: Write, E: Write> Exploring<'_, '_, '_, '_, '_, R
         };
         let alloc = self.rt.alloc();
         let replay = self.runs.replay(calls)?;
-        let script = script_of(alloc, self.wanted.setup, &replay)?;
+        let script = script_of(alloc, self.setup.as_slice(), &replay)?;
         let path = script_path(alloc, folder, number)?;
-        fs::write(self.rt, path.as_str(), script.as_str())?;
+        fs::write(self.rt, path.as_str(), script.as_slice())?;
         Ok(())
+    }
+
+    /// Prints an outcome that is new.
+    fn print(&mut self, number: u64, outcome: &Outcome) -> io::Result<()> {
+        match self.part {
+            Some(_) => write_outcome(outcome, &mut self.out),
+            None => print_outcome(number, outcome, &mut self.out),
+        }
     }
 
     /// Prints an outcome where it is new. It is refused if it is not expected.
@@ -106,7 +125,7 @@ impl<R: Files + AllocGlobal, O: Write, E: Write> Exploring<'_, '_, '_, '_, '_, R
         let Some(number) = self.findings.keep(self.rt.alloc(), outcome)? else {
             return Ok(());
         };
-        print_outcome(number, outcome, self.out)?;
+        self.print(number, outcome)?;
         self.save(number, outcome.calls.as_slice())?;
         self.findings.judge(number, outcome)
     }
@@ -114,7 +133,7 @@ impl<R: Files + AllocGlobal, O: Write, E: Write> Exploring<'_, '_, '_, '_, '_, R
     /// Tells how far it has come, where so many states of a level are done.
     fn tell(&mut self, done: usize, level: usize) {
         let left = level.saturating_sub(done);
-        self.progress.tell(self.rt, self.out, done, left);
+        self.progress.tell(self.rt, &mut self.out, done, left);
         if left == 0 {
             self.progress.end_level(level);
         }
@@ -129,24 +148,44 @@ impl<R: Files + AllocGlobal, O: Write, E: Write> Exploring<'_, '_, '_, '_, '_, R
         Ok(())
     }
 
-    /// Prints how many states, calls and outcomes there were. Refused where not all was explored.
-    fn end(&mut self, searched: &Searched<Vec<u32>>) -> Result<(), Fault> {
-        let left = searched.left.len() as u64;
-        let states = (searched.gone_on.len() as u64).saturating_add(left);
-        let moves = searched.moves;
-        let outcomes = self.findings.count();
-        writeln!(
-            self.out,
-            "{states} states, {moves} calls, {outcomes} outcomes"
-        )?;
-        if left > 0 {
-            let calls = searched.depth;
-            return Err(Fault::Exploration(ExplorationFault::Cut { left, calls }));
+    /// Prints the states of a level from which a part went on.
+    fn note(&mut self, level: &[Found<Vec<u32>>], answers: &[After]) -> io::Result<()> {
+        if self.part.is_some() {
+            for (found, after) in level.iter().zip(answers.iter()) {
+                write_state(found, after.calls(), &mut self.out)?;
+            }
         }
-        match self.findings.runs_on() {
-            Some(outcome) => Err(Fault::Exploration(ExplorationFault::RunsOn { outcome })),
-            None => Ok(()),
-        }
+        Ok(())
+    }
+}
+
+impl<R: Files + AllocGlobal + Threads + Sync, O: Write, E: Write> Exploring<
+    '_,
+    '_,
+    '_,
+    '_,
+    '_,
+    R,
+    O,
+    E,
+> {
+    /// Searches all, and prints how many states, calls and outcomes there were. Refused where not all was explored.
+    fn search_whole(&mut self, most: u64) -> Result<(), Fault> {
+        let rt = self.rt;
+        let searched = search_calls(rt, rt.alloc(), self, most)?;
+        let totals = Totals::of(&searched);
+        totals.print(&self.findings, &mut self.out)?;
+        totals.test_all(&self.findings)
+    }
+
+    /// Searches a part, whose file is printed. Refused where the part did not explore all that is its own.
+    fn search_part(&mut self, head: PartHead) -> Result<(), Fault> {
+        write_head(head, &mut self.out)?;
+        let rt = self.rt;
+        let found = search_calls_part(rt, rt.alloc(), self, head.states, head.part)?;
+        let totals = Totals::of(&found.searched);
+        write_end(found.searched.left.as_slice(), totals.depth, &mut self.out)?;
+        totals.test_all(&self.findings)
     }
 }
 
@@ -171,10 +210,11 @@ impl<R: Files + AllocGlobal, O: Write, E: Write> Moves for Exploring<'_, '_, '_,
         let mut next = Vec::new(self.rt.alloc());
         let mut over = Vec::new(self.rt.alloc());
         let mut done = 0usize;
-        for part in level.chunks(self.threads.saturating_mul(TAKEN).max(1)) {
-            let answers = after_each(rt, self.runs, self.threads, part)?;
+        for taken in level.chunks(self.threads.saturating_mul(TAKEN).max(1)) {
+            let answers = after_each(rt, self.runs, self.threads, taken)?;
+            self.note(taken, answers.as_slice())?;
             sort_out(answers, &mut next, &mut over)?;
-            done = done.saturating_add(part.len());
+            done = done.saturating_add(taken.len());
             self.tell(done, level.len());
         }
         self.find_all(over)?;
@@ -182,24 +222,34 @@ impl<R: Files + AllocGlobal, O: Write, E: Write> Moves for Exploring<'_, '_, '_,
     }
 }
 
+/// The sum of what is set up, with the images that were read.
+fn sum_of(alloc: Global, setup: &Setup) -> Result<Key, Fault> {
+    let mut nowhere = io::sink();
+    let mut summed = Summed::new(&mut nowhere);
+    write_setup(alloc, setup, &mut summed)?;
+    Ok(summed.sum()?)
+}
+
 /// Finds all outcomes of programs, whatever the order of their calls, each by as few calls as lead to it, and prints each once, and then
 /// how many states, calls and outcomes there were. Where the limits leave something unexplored, that is a fault. How far it has come is
-/// told to `err`, if that is wanted.
+/// told to `err`, if that is wanted. Of a part its file is printed, for `merge_parts`.
 ///
 /// Where outcomes are expected, the first that is not among them ends the search. The expectations are read first, and then the programs;
 /// the first fault ends it. What is printed is the same, however many threads search.
 pub fn explore_orders<R: Files + AllocGlobal + Threads + Sync, O: Write, E: Write>(
     rt: &R,
-    source: ProgramSource<'_>,
+    setup: &mut Setup,
     limits: Limits,
     wanted: Wanted<'_>,
     out: &mut O,
     err: &mut E,
 ) -> Result<(), Fault> {
-    let findings = Findings::new(rt.alloc(), wanted.expected)?;
-    let programs = Programs::read_from(rt, source)?;
+    let alloc = rt.alloc();
+    let findings = Findings::new(alloc, wanted.expected)?;
+    let lines = setup_lines(alloc, setup)?;
+    let programs = Programs::of_setup(rt, setup)?;
     let runs = Runs {
-        alloc: rt.alloc(),
+        alloc,
         programs: &programs,
         instructions: limits.instructions,
     };
@@ -207,11 +257,20 @@ pub fn explore_orders<R: Files + AllocGlobal + Threads + Sync, O: Write, E: Writ
         rt,
         runs: &runs,
         threads: threads_of(rt, limits.threads),
+        part: limits.part,
         wanted,
+        setup: lines,
         findings,
-        out,
+        out: Summed::new(out),
         progress: Progress::new(rt, err, wanted.progress),
     };
-    let searched = search_calls(rt, rt.alloc(), &mut exploring, limits.states)?;
-    exploring.end(&searched)
+    match limits.part {
+        Some(part) => exploring.search_part(PartHead {
+            programs: sum_of(alloc, setup)?,
+            instructions: u64::from(limits.instructions),
+            states: limits.states,
+            part,
+        }),
+        None => exploring.search_whole(limits.states),
+    }
 }

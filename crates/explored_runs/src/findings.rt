@@ -10,8 +10,6 @@ use std::io::Write;
 /// What is wanted of the outcomes.
 #[derive(Clone, Copy)]
 pub struct Wanted<'a> {
-    /// The set-up lines with which the script of an outcome begins.
-    pub setup: &'a str,
     /// The text whose lines are the outcomes that are expected, if any are.
     pub expected: Option<&'a str>,
     /// The folder into which a script of each is written, if one is given.

@@ -2,7 +2,8 @@
 //!
 //! Read `explore_orders` first. `runs` says to `state_search` which runs a call leads to: `programs` are booted, `replay` does the calls of a
 //! run on a core by `core_calls`, `private` finds calls that may be tried alone, and `state_key` tells runs apart. A `crew` of threads shares each level of
-//! the search. What a run comes to is an `outcome`, kept once by `findings`. `call_search` says of any such search what it finds.
+//! the search. What a run comes to is an `outcome`, kept once by `findings`. `call_search` says of any such search what it finds. A part of
+//! a search prints a `part_file`, and `merge_parts` puts those of all parts together.
 #![tactic(auto)]
 
 mod call_search;
@@ -12,7 +13,12 @@ mod ends;
 mod expectations;
 mod exploring;
 mod findings;
+mod levels;
+mod merging;
 mod outcome;
+mod part_fault;
+mod part_file;
+mod part_reading;
 mod pipe_texts;
 mod private;
 mod programs;
@@ -22,9 +28,12 @@ mod runs;
 mod saved;
 mod state_digest;
 mod state_key;
+mod summed;
+mod totals;
 
-pub use call_search::search_calls;
+pub use call_search::{search_calls, search_calls_part};
 pub use exploring::{Limits, explore_orders};
 pub use findings::Wanted;
-pub use programs::ProgramSource;
-pub use saved::setup_lines;
+pub use merging::merge_parts;
+pub use part_fault::MergeFault;
+pub use state_search::Part;

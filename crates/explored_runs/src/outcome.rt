@@ -64,6 +64,14 @@ pub fn outcome_of(alloc: Global, calls: &[u32], replay: &mut Replay) -> Result<O
     })
 }
 
+/// Whether a process runs on in an outcome.
+pub fn runs_on_in(text: &str) -> bool {
+    match text.split_once(" shown ") {
+        Some((ends, _rest)) => ends.split(' ').any(|end| end.ends_with(":runs")),
+        None => false,
+    }
+}
+
 /// Whether a line may be an outcome, by its beginning and by its files.
 pub fn is_outcome(line: &str) -> bool {
     if !line.starts_with("ends ") || !line.contains(" shown ") {

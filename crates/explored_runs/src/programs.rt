@@ -1,32 +1,20 @@
-//! What is explored: programs and tapes. They are booted again and again, each time on a disk of zeros.
-ghost use Rattle.std.specs.Prelude.{◌≡◌, ◌<◌, [], map, IfOk};
+//! What is explored: programs, tapes, and the files on the disk. They are booted again and again, each time on a disk of its own.
+ghost use Rattle.std.specs.Prelude.{◌≡◌, ◌<◌, [], true, map, IfOk};
 ghost use Rattle.std.specs.List.{AllByRecursion};
+ghost use Rattle.disk_model.specs.Storage.{is_quiet};
 ghost use Rattle.kernel_model.specs.World.{terminal_count};
 ghost use Rattle.kernel_step.specs.Booting.{program_of};
-ghost use Rattle.explored_runs.specs.Booting.{IsBootOf, boot_program};
+ghost use Rattle.explored_runs.specs.Booting.{IsBootOf, IsDiskOf, boot_program};
 
 use byte_list::Bytes;
 use faults::Fault;
-use host_files::{FileFault, image_in};
-use input_reading::{bytes_of, decimal, hexadecimal};
+use input_reading::MOST_TAPE_BYTES;
 use kernel::{Core, Program, SimDisk};
-use kernel_model::{MOST_PROGRAMS, TAPES, TERMINALS};
+use kernel_model::{MOST_PROGRAMS, TAPES};
 use machine_model::Image;
-use scripts::{Terminal, boot_fault};
+use scripts::{Setup, Terminal, boot_fault};
 use std::alloc::{AllocError, Global};
 use std::rt::Files;
-
-/// The most words of a program.
-const MOST_WORDS: usize = 61440;
-
-/// Where programs come from.
-#[derive(Clone, Copy)]
-pub enum ProgramSource<'a> {
-    /// Images in files, at these paths.
-    Images(&'a [&'a str]),
-    /// The set-up lines of a script that `Script::parse` has read.
-    Lines(&'a str),
-}
 
 /// A program, and the terminal to which it writes.
 pub struct Given {
@@ -43,10 +31,12 @@ impl Drop for Given {
     }
 }
 
-/// Programs, and the eight tapes.
+/// Programs, the eight tapes, and the disk.
 pub struct Programs {
     given: Vec<Given>,
     tapes: Vec<Bytes>,
+    /// The bytes of the disk. None where it holds no file: one of zeros costs less at each boot.
+    disk: Option<Bytes>,
 }
 
 impl Drop for Programs {
@@ -54,42 +44,8 @@ impl Drop for Programs {
         let Programs {
             given: _given,
             tapes: _tapes,
+            disk: _disk,
         } = self;
-    }
-}
-
-fn terminal_of(number: u64) -> Option<Terminal> {
-    let number = u32::try_from(number).ok()?;
-    if number < TERMINALS as u32 {
-        Some(Terminal { number })
-    } else {
-        None
-    }
-}
-
-/// The program of a line's words. None where they have no form.
-fn words_image(alloc: Global, texts: &[&str]) -> Result<Option<Image>, AllocError> {
-    let mut words = Vec::new(alloc);
-    for text in texts {
-        match hexadecimal(text) {
-            Some(word) => words.push(word)?,
-            None => return Ok(None),
-        }
-    }
-    if words.is_empty() || words.len() > MOST_WORDS {
-        return Ok(None);
-    }
-    Ok(Some(Image::from_text(alloc, words.as_slice())?))
-}
-
-/// The program of an image's bytes, as a line has them. None where they have no form.
-fn bytes_image(alloc: Global, text: &str) -> Result<Option<Image>, Fault> {
-    match bytes_of(alloc, text)? {
-        Some(bytes) => match elf32::parse(alloc, bytes.as_slice()) {
-            Ok(image) => Ok(Some(image)),
-            Err(fault) => Err(Fault::File(FileFault::from(fault))),
-        },
-        None => Ok(None),
     }
 }
 
@@ -118,95 +74,67 @@ fn tape_copies(alloc: Global, tapes: &[Bytes]) -> Result<Vec<Bytes>, AllocError>
     Ok(copies)
 }
 
+/// The disk of a boot: one of these bytes, or of zeros where none are given.
+fn device_of(alloc: Global, bytes: &Option<Bytes>) -> Result<SimDisk, Fault>
+    ensures quiet { IfOk result (λ device. is_quiet device ≡ true) }
+    ensures disk { IfOk result (λ device. IsDiskOf bytes.now device.disk) }
+{
+    let device = match bytes {
+        Some(bytes) => SimDisk::open(alloc, bytes.as_slice()),
+        None => SimDisk::zero(alloc),
+    };
+    match device {
+        Ok(device) => Ok(device),
+        Err(_) => Err(Fault::OutOfMemory),
+    }
+}
+
+/// The programs that are set up. The files of their images are read, where they were not.
+fn given_of<R: Files + AllocGlobal>(rt: &R, setup: &mut Setup) -> Result<Vec<Given>, Fault> {
+    let mut given = Vec::new(rt.alloc());
+    for program in setup.programs.as_mut_slice() {
+        given.push(Given {
+            image: program.source.image(rt)?,
+            terminal: program.terminal,
+        })?;
+    }
+    Ok(given)
+}
+
+/// The tapes of a core that was just booted.
+fn tapes_of(alloc: Global, core: &Core) -> Result<Vec<Bytes>, AllocError> {
+    let mut tapes = Vec::new(alloc);
+    for tape in 0..TAPES as u32 {
+        let bytes = core.tables().tapes.read(tape, MOST_TAPE_BYTES);
+        tapes.push(Bytes::copy_of(alloc, bytes.unwrap_or(&[]))?)?;
+    }
+    Ok(tapes)
+}
+
+/// The disk of a core that was just booted, where it holds files.
+fn disk_of(alloc: Global, core: Core) -> Result<Option<Bytes>, AllocError> {
+    if core.boot_files().count() == 0 {
+        return Ok(None);
+    }
+    let device = core.halt(b"");
+    Ok(Some(Bytes::copy_of(alloc, device.bytes())?))
+}
+
 impl Programs {
-    /// No programs, and empty tapes.
-    fn new(alloc: Global) -> Result<Programs, AllocError> {
-        let mut tapes = Vec::new(alloc);
-        for _ in 0..TAPES {
-            tapes.push(Bytes::empty(alloc))?;
-        }
+    /// What is set up. Files of images are read in their order, and the first faulty one is the fault. Where no program is set up, line 1
+    /// of the script is refused.
+    pub fn of_setup<R: Files + AllocGlobal>(rt: &R, setup: &mut Setup) -> Result<Programs, Fault> {
+        let core = setup.boot(rt, None)?;
         Ok(Programs {
-            given: Vec::new(alloc),
-            tapes,
+            given: given_of(rt, setup)?,
+            tapes: tapes_of(rt.alloc(), &core)?,
+            disk: disk_of(rt.alloc(), core)?,
         })
-    }
-
-    /// Adds a program. False where it has no form, or its terminal is not there.
-    fn push(&mut self, number: Option<u64>, image: Option<Image>) -> Result<bool, AllocError> {
-        match (number.and_then(terminal_of), image) {
-            (Some(terminal), Some(image)) => {
-                self.given.push(Given { image, terminal })?;
-                Ok(true)
-            }
-            _ => Ok(false),
-        }
-    }
-
-    /// Has a tape be of these bytes. False where they have no form, or it is not there.
-    fn set_tape(&mut self, number: Option<u64>, bytes: Option<Bytes>) -> bool {
-        let place = number.and_then(|number| usize::try_from(number).ok());
-        match (place.and_then(|place| self.tapes.get_mut(place)), bytes) {
-            (Some(tape), Some(bytes)) => {
-                *tape = bytes;
-                true
-            }
-            _ => false,
-        }
-    }
-
-    /// Adds what a set-up line sets up. False where it has no form.
-    fn read<R: Files + AllocGlobal>(&mut self, rt: &R, words: &[&str]) -> Result<bool, Fault> {
-        let alloc = rt.alloc();
-        match words {
-            ["program", number, texts @ ..] => {
-                Ok(self.push(decimal(number), words_image(alloc, texts)?)?)
-            }
-            ["image", number, path] => Ok(self.push(decimal(number), Some(image_in(rt, path)?))?),
-            ["binary", number, text] => Ok(self.push(decimal(number), bytes_image(alloc, text)?)?),
-            ["tape", number, text] => Ok(self.set_tape(decimal(number), bytes_of(alloc, text)?)),
-            _ => Ok(false),
-        }
-    }
-
-    /// What the set-up lines of a script set up.
-    fn of_lines<R: Files + AllocGlobal>(rt: &R, lines: &str) -> Result<Programs, Fault> {
-        let alloc = rt.alloc();
-        let mut programs = Programs::new(alloc)?;
-        let mut number = 0usize;
-        for line in lines.split('\n') {
-            number = number.saturating_add(1);
-            let words: Vec<&str> = line.split(' ').collect(alloc)?;
-            if !line.is_empty() && !programs.read(rt, words.as_slice())? {
-                return Err(Fault::Script { line: number });
-            }
-        }
-        Ok(programs)
-    }
-
-    /// The images in files, each with the terminal of its place.
-    fn of_images<R: Files + AllocGlobal>(rt: &R, paths: &[&str]) -> Result<Programs, Fault> {
-        let mut programs = Programs::new(rt.alloc())?;
-        for (place, path) in paths.iter().enumerate() {
-            let image = image_in(rt, path)?;
-            programs.push(Some(place as u64), Some(image))?;
-        }
-        Ok(programs)
-    }
-
-    /// Reads programs. Files of images are read in their order, and the first faulty one is the fault.
-    pub fn read_from<R: Files + AllocGlobal>(
-        rt: &R,
-        source: ProgramSource<'_>,
-    ) -> Result<Programs, Fault> {
-        match source {
-            ProgramSource::Images(paths) => Programs::of_images(rt, paths),
-            ProgramSource::Lines(lines) => Programs::of_lines(rt, lines),
-        }
     }
 
     /// A core of the programs before any event. Where there are none, or more than eight, line 1 of the script is refused.
     pub fn boot(&self, alloc: Global) -> Result<Core, Fault>
-        ensures boot { IfOk result (λ core. IsBootOf self.now.given.items self.now.tapes.items core.boot) }
+        ensures boot { IfOk result (λ core. IsBootOf self.now.given.items self.now.tapes.items self.now.disk core.boot) }
         ensures history { IfOk result (λ core. core.history ≡ []) }
     {
         let programs = copies_of(alloc, self.given.as_slice())?;
@@ -214,9 +142,7 @@ impl Programs {
         if programs.is_empty() || programs.len() > MOST_PROGRAMS || tapes.len() > TAPES {
             return Err(Fault::Script { line: 1 });
         }
-        let Ok(device) = SimDisk::zero(alloc) else {
-            return Err(Fault::OutOfMemory);
-        };
+        let device = device_of(alloc, &self.disk)?;
         match Core::boot(alloc, device, programs, tapes) {
             Ok(core) => Ok(core),
             Err(why) => Err(boot_fault(why)),

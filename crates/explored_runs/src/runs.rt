@@ -1,6 +1,6 @@
 //! Runs as a search sees them. A run is the processes whose calls lead to it, and is replayed from its boot.
 ghost use Rattle.std.specs.Prelude.{◌≡◌, ◌∷◌, ◌++◌, [], true, IfOk};
-ghost use Rattle.explored_runs.specs.Booting.{boot_of};
+ghost use Rattle.explored_runs.specs.Booting.{AreFilesOf, boot_of};
 ghost use Rattle.explored_runs.specs.Replays.{IsTried, is_idle, seen_after_calls, seen_of};
 
 use crate::outcome::{Outcome, outcome_of};
@@ -18,6 +18,16 @@ pub enum After {
     More(Vec<Reached<Vec<u32>>>),
     /// None: no process can go on.
     Over(Outcome),
+}
+
+impl After {
+    /// How many calls were tried that do something.
+    pub fn calls(&self) -> usize {
+        match self {
+            After::More(reached) => reached.len(),
+            After::Over(_) => 0,
+        }
+    }
 }
 
 /// Runs of these programs.
@@ -76,7 +86,8 @@ impl Runs<'_> {
     /// Boots, and makes these calls.
     pub fn replay(&self, calls: &[u32]) -> Result<Replay, Fault>
         ensures seen { IfOk result (λ replay. seen_of replay.core ≡
-            seen_after_calls self.now.instructions (boot_of self.now.programs.now.given.items self.now.programs.now.tapes.items) calls.now) }
+            seen_after_calls self.now.instructions (boot_of self.now.programs.now.given.items self.now.programs.now.tapes.items replay.core.boot.files) calls.now) }
+        ensures files { IfOk result (λ replay. AreFilesOf self.now.programs.now.disk replay.core.boot.files) }
         ensures limit { IfOk result (λ replay. replay.limit ≡ self.now.instructions) }
     {
         let core = self.programs.boot(self.alloc)?;

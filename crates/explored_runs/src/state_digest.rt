@@ -1,7 +1,8 @@
-//! A digest that is fed number by number.
+//! A digest that is fed number by number, or text by text.
 use byteorder::{BigEndian, ByteOrder};
 use sha2::{Digest, Sha256};
 use state_search::Key;
+use std::alloc::AllocError;
 
 /// A digest of numbers and lists of bytes, of which each stands with its length.
 #[derive(Drop)]
@@ -24,6 +25,11 @@ impl StateDigest {
 
     pub fn bytes(&mut self, bytes: &[u8]) {
         self.number(bytes.len() as u64);
+        self.text(bytes);
+    }
+
+    /// Bytes without their length.
+    pub fn text(&mut self, bytes: &[u8]) {
         self.hasher.update(bytes);
     }
 
@@ -36,6 +42,14 @@ impl StateDigest {
             }
             None => self.number(0),
         }
+    }
+
+    /// The key of what it was fed so far. It may be fed more.
+    pub fn key_so_far(&self) -> Result<Key, AllocError> {
+        let digest = StateDigest {
+            hasher: self.hasher.clone()?,
+        };
+        Ok(digest.key())
     }
 
     /// The first 128 bits of the digest.

@@ -1,16 +1,15 @@
--- How a search begins, and goes on by a level.
+-- How a search begins, goes on by a level, and leaves states to other parts.
 use Rattle.std.proofs.Common.{arith, ◌≡◌, ◌⊎◌, ◌∙◌, ◌++◌, ◌∷◌, [], ◌+◌, ◌<◌, ◌≤◌, ℕ, List, true, false, sym, ap, subst, inl, inr}
 use Rattle.std.specs.List.{Contains}
 use Rattle.std.specs.HashSet.{HashSet}
 use Rattle.std.proofs.lemmas.List.Elements.{Contains-append_left, Contains-append_right, Contains-append_cases, Contains-push, Contains-push_cases}
 use Rattle.state_search.specs.Adding.{AreAdded, HasOne}
-use Rattle.state_search.specs.Going.{IsGoing}
+use Rattle.state_search.specs.Going.{IsGoing, IsParted}
 use Rattle.state_search.specs.Keys.{has}
 use Rattle.state_search.specs.Searches.{Answer, Came, ComesOf, HasKey, IsFirst, WentOn}
 use Rattle.state_search.specs.declared.key.Key.{Key}
 use Rattle.state_search.specs.declared.moves.Found.{Found}
 use Rattle.state_search.specs.declared.moves.Reached.{Reached}
-use Rattle.state_search.proofs.AddingStates.{one-after, one-before}
 
 -- nothing is in an empty list
 none-in : {X : Type 0} (x : X) → Contains [] x → ⊥
@@ -50,7 +49,7 @@ module _ {S Z : Type 0} (begins : Reached S → Type 0) (expands : List (Found S
       }
 
   -- the first state alone
-  pub begins-with : IsGoing begins expands known [] left 0
+  pub begins-with : IsGoing begins expands known [] left [] 0
   begins-with = record {
     searched = record {
       first = r;
@@ -64,29 +63,54 @@ module _ {S Z : Type 0} (begins : Reached S → Type 0) (expands : List (Found S
         goes_on = λ f is. absurd (none-in f is);
         nearer = λ f is. absurd (none-in f is);
         farthest = adds.near;
+        passed = λ f is. absurd (none-in f is);
         comes = λ f is. inl (first-only f is);
       };
     };
     knows = one-first;
   }
 
-module _ {S : Type 0} where
-  -- a state that has this key is still there where others are found
-  still-found : (xs ys : List (Found S)) (k : Key) (most : ℕ) → HasKey xs k most → HasKey (xs ++ ys) k most
-  still-found xs ys k most has_key =
-      record { one = has_key.one; is_found = Contains-append_left xs ys has_key.one has_key.is_found; same_key = has_key.same_key; near = has_key.near }
+module _ {S : Type 0} (others xs ys : List (Found S)) where
+  -- a state that was found is still there where others are found, and so are these
+  still-there : (f : Found S) → Contains (others ++ xs) f → Contains (others ++ (xs ++ ys)) f
+  still-there f is = elim (Contains-append_cases others xs f is) as (λ _. Contains (others ++ (xs ++ ys)) f) [
+    | inl other ↦ Contains-append_left others (xs ++ ys) f other
+    | inr before ↦ Contains-append_right others (xs ++ ys) f (Contains-append_left xs ys f before)
+  ]
+
+  now-there : (f : Found S) → Contains ys f → Contains (others ++ (xs ++ ys)) f
+  now-there f is = Contains-append_right others (xs ++ ys) f (Contains-append_right xs ys f is)
+
+  -- and no other is
+  was-or-now : (f : Found S) → Contains (others ++ (xs ++ ys)) f → Contains (others ++ xs) f ⊎ Contains ys f
+  was-or-now f is = elim (Contains-append_cases others (xs ++ ys) f is) as (λ _. Contains (others ++ xs) f ⊎ Contains ys f) [
+    | inl other ↦ inl (Contains-append_left others xs f other)
+    | inr found ↦ elim (Contains-append_cases xs ys f found) as (λ _. Contains (others ++ xs) f ⊎ Contains ys f) [
+      | inl before ↦ inl (Contains-append_right others xs f before)
+      | inr late ↦ inr late
+    ]
+  ]
+
+  still-found : (k : Key) (most : ℕ) → HasKey (others ++ xs) k most → HasKey (others ++ (xs ++ ys)) k most
+  still-found k most h = record { one = h.one; is_found = still-there h.one h.is_found; same_key = h.same_key; near = h.near }
 
 module _ {S Z : Type 0} (begins : Reached S → Type 0) (expands : List (Found S) → List (Reached S) → Type 0) (old new : HashSet Key Z)
-    (gone left added : List (Found S)) (next : List (Reached S)) (depth : ℕ)
-    (going : IsGoing begins expands old gone left depth) (expanded : expands left next) (adds : AreAdded old new next added (depth + 1)) where
-  knows-now : (k : Key) → has new k ≡ true → HasOne ((gone ++ left) ++ added) k
+    (gone left others added : List (Found S)) (next : List (Reached S)) (depth : ℕ)
+    (going : IsGoing begins expands old gone left others depth) (expanded : expands left next) (adds : AreAdded old new next added (depth + 1)) where
+  abbrev before : List (Found S)
+  before = gone ++ left
+
+  abbrev all : List (Found S)
+  all = others ++ (before ++ added)
+
+  knows-now : (k : Key) → has new k ≡ true → HasOne all k
   knows-now k now = by-cases (adds.known k now)
     where
-      by-cases : (has old k ≡ true) ⊎ HasOne added k → HasOne ((gone ++ left) ++ added) k
-      by-cases (inl was) = one-before (gone ++ left) added k (going.knows k was)
-      by-cases (inr one) = one-after (gone ++ left) added k one
+      by-cases : (has old k ≡ true) ⊎ HasOne added k → HasOne all k
+      by-cases (inl was) = let one = going.knows k was in record { one = one.one; is_found = still-there others before added one.one one.is_found; same_key = one.same_key }
+      by-cases (inr one) = record { one = one.one; is_found = now-there others before added one.one one.is_found; same_key = one.same_key }
 
-  abbrev was : ComesOf going.searched.first going.searched.answers gone left depth
+  abbrev was : ComesOf going.searched.first going.searched.answers gone left others depth
   was = going.searched.found
 
   abbrev now : Answer S
@@ -97,32 +121,37 @@ module _ {S Z : Type 0} (begins : Reached S → Type 0) (expands : List (Found S
 
   -- an answer is an earlier one or this one
   by-answer : (Q : Answer S → Type 0) → ((a : Answer S) → Contains going.searched.answers a → Q a) → Q now → (a : Answer S) → Contains answers a → Q a
-  by-answer Q before here a is = by-cases (Contains-push_cases going.searched.answers now a is)
+  by-answer Q earlier here a is = by-cases (Contains-push_cases going.searched.answers now a is)
     where
       by-cases : Contains going.searched.answers a ⊎ (now ≡ a) → Q a
-      by-cases (inl earlier) = before a earlier
+      by-cases (inl past) = earlier a past
       by-cases (inr same) = subst Q same here
 
   -- a state that was found before is one of those from which it went on, or of those that it left
   by-state : (Q : Found S → Type 0) → ((f : Found S) → Contains gone f → Q f) → ((f : Found S) → Contains left f → Q f) → (f : Found S) → Contains (gone ++ left) f → Q f
-  by-state Q before late f is = by-cases (Contains-append_cases gone left f is)
+  by-state Q early late f is = by-cases (Contains-append_cases gone left f is)
     where
       by-cases : Contains gone f ⊎ Contains left f → Q f
-      by-cases (inl earlier) = before f earlier
+      by-cases (inl earlier) = early f earlier
       by-cases (inr last) = late f last
 
   nearer-now : (f : Found S) → Contains (gone ++ left) f → f.moves < depth + 1
   nearer-now = by-state (λ f. f.moves < depth + 1) (λ f is. let near = was.nearer f is in omega (arith, near)) (λ f is. let at = was.farthest f is in omega (arith, at))
 
-  near-now : (f : Found S) → Contains ((gone ++ left) ++ added) f → f.moves ≤ depth + 1
-  near-now f is = by-cases (Contains-append_cases (gone ++ left) added f is)
-    where
-      by-cases : Contains (gone ++ left) f ⊎ Contains added f → f.moves ≤ depth + 1
-      by-cases (inl before) = let near = nearer-now f before in omega (arith, near)
-      by-cases (inr late) = let at = adds.near f late in omega (arith, at)
+  passed-now : (f : Found S) → Contains others f → f.moves ≤ depth + 1
+  passed-now f is = let near = was.passed f is in omega (arith, near)
+
+  near-now : (f : Found S) → Contains all f → f.moves ≤ depth + 1
+  near-now f is = elim (Contains-append_cases others (before ++ added) f is) as (λ _. f.moves ≤ depth + 1) [
+    | inl other ↦ passed-now f other
+    | inr found ↦ elim (Contains-append_cases before added f found) as (λ _. f.moves ≤ depth + 1) [
+      | inl earlier ↦ let near = nearer-now f earlier in omega (arith, near)
+      | inr late ↦ let at = adds.near f late in omega (arith, at)
+    ]
+  ]
 
   -- each state that was answered for the level is found
-  each-now : (f : Found S) → Contains left f → (r : Reached S) → Contains next r → HasKey ((gone ++ left) ++ added) r.key (f.moves + 1)
+  each-now : (f : Found S) → Contains left f → (r : Reached S) → Contains next r → HasKey all r.key (f.moves + 1)
   each-now f is r among =
       let one = knows-now r.key (adds.all r among) in
       let near = near-now one.one one.is_found in
@@ -150,15 +179,15 @@ module _ {S Z : Type 0} (begins : Reached S → Type 0) (expands : List (Found S
     farther = came.farther;
   })
 
-  comes-now : (f : Found S) → Contains ((gone ++ left) ++ added) f → IsFirst going.searched.first f ⊎ Came answers f
-  comes-now f is = by-cases (Contains-append_cases (gone ++ left) added f is)
+  comes-now : (f : Found S) → Contains all f → IsFirst going.searched.first f ⊎ Came answers f
+  comes-now f is = by-cases (was-or-now others before added f is)
     where
-      by-cases : Contains (gone ++ left) f ⊎ Contains added f → IsFirst going.searched.first f ⊎ Came answers f
-      by-cases (inl before) = still-came f (was.comes f before)
+      by-cases : Contains (others ++ before) f ⊎ Contains added f → IsFirst going.searched.first f ⊎ Came answers f
+      by-cases (inl earlier) = still-came f (was.comes f earlier)
       by-cases (inr late) = inr (came-added f late)
 
   -- by one level more
-  pub goes-on : IsGoing begins expands new (gone ++ left) added (depth + 1)
+  pub goes-on : IsGoing begins expands new before added others (depth + 1)
   goes-on = record {
     searched = record {
       first = going.searched.first;
@@ -166,16 +195,84 @@ module _ {S Z : Type 0} (begins : Reached S → Type 0) (expands : List (Found S
       answers = answers;
       are_answers = by-answer (λ a. expands a.level a.next) going.searched.are_answers expanded;
       found = record {
-        begins = still-found (gone ++ left) added going.searched.first.key 0 was.begins;
+        begins = still-found others before added going.searched.first.key 0 was.begins;
         levels = by-answer (λ a. (f : Found S) → Contains a.level f → Contains (gone ++ left) f)
             (λ a is f among. Contains-append_left gone left f (was.levels a is f among)) (λ f among. Contains-append_right gone left f among);
-        each = by-answer (λ a. (f : Found S) → Contains a.level f → (r : Reached S) → Contains a.next r → HasKey ((gone ++ left) ++ added) r.key (f.moves + 1))
-            (λ a is f among r reached. still-found (gone ++ left) added r.key (f.moves + 1) (was.each a is f among r reached)) each-now;
+        each = by-answer (λ a. (f : Found S) → Contains a.level f → (r : Reached S) → Contains a.next r → HasKey all r.key (f.moves + 1))
+            (λ a is f among r reached. still-found others before added r.key (f.moves + 1) (was.each a is f among r reached)) each-now;
         goes_on = by-state (λ f. WentOn answers f) still-went (λ f is. record { answer = now; is_answer = Contains-push going.searched.answers now; is_in = is });
         nearer = nearer-now;
         farthest = adds.near;
+        passed = passed-now;
         comes = comes-now;
       };
     };
     knows = knows-now;
+  }
+
+module _ {S Z : Type 0} (begins : Reached S → Type 0) (expands : List (Found S) → List (Reached S) → Type 0) (known : HashSet Key Z)
+    (gone left others own more : List (Found S)) (depth : ℕ) (going : IsGoing begins expands known gone left others depth) (parted : IsParted left own more) where
+  abbrev found : List (Found S)
+  found = others ++ (gone ++ left)
+
+  abbrev shared : List (Found S)
+  shared = (others ++ more) ++ (gone ++ own)
+
+  -- the same states are found
+  to-shared : (f : Found S) → Contains found f → Contains shared f
+  to-shared f is = elim (Contains-append_cases others (gone ++ left) f is) as (λ _. Contains shared f) [
+    | inl other ↦ Contains-append_left (others ++ more) (gone ++ own) f (Contains-append_left others more f other)
+    | inr here ↦ elim (Contains-append_cases gone left f here) as (λ _. Contains shared f) [
+      | inl before ↦ Contains-append_right (others ++ more) (gone ++ own) f (Contains-append_left gone own f before)
+      | inr last ↦ elim (parted.each f last) as (λ _. Contains shared f) [
+        | inl mine ↦ Contains-append_right (others ++ more) (gone ++ own) f (Contains-append_right gone own f mine)
+        | inr theirs ↦ Contains-append_left (others ++ more) (gone ++ own) f (Contains-append_right others more f theirs)
+      ]
+    ]
+  ]
+
+  of-left : (f : Found S) → Contains left f → Contains found f
+  of-left f is = Contains-append_right others (gone ++ left) f (Contains-append_right gone left f is)
+
+  from-shared : (f : Found S) → Contains shared f → Contains found f
+  from-shared f is = elim (Contains-append_cases (others ++ more) (gone ++ own) f is) as (λ _. Contains found f) [
+    | inl passed ↦ elim (Contains-append_cases others more f passed) as (λ _. Contains found f) [
+      | inl other ↦ Contains-append_left others (gone ++ left) f other
+      | inr theirs ↦ of-left f (parted.others f theirs)
+    ]
+    | inr here ↦ elim (Contains-append_cases gone own f here) as (λ _. Contains found f) [
+      | inl before ↦ Contains-append_right others (gone ++ left) f (Contains-append_left gone left f before)
+      | inr mine ↦ of-left f (parted.own f mine)
+    ]
+  ]
+
+  in-shared : (k : Key) (most : ℕ) → HasKey found k most → HasKey shared k most
+  in-shared k most h = record { one = h.one; is_found = to-shared h.one h.is_found; same_key = h.same_key; near = h.near }
+
+  passed-shared : (f : Found S) → Contains (others ++ more) f → f.moves ≤ depth
+  passed-shared f is = elim (Contains-append_cases others more f is) as (λ _. f.moves ≤ depth) [
+    | inl other ↦ going.searched.found.passed f other
+    | inr theirs ↦ let at = going.searched.found.farthest f (parted.others f theirs) in omega (arith, at)
+  ]
+
+  -- a part leaves those of the last level that are not its own
+  pub leaves-others : IsGoing begins expands known gone own (others ++ more) depth
+  leaves-others = record {
+    searched = record {
+      first = going.searched.first;
+      is_first = going.searched.is_first;
+      answers = going.searched.answers;
+      are_answers = going.searched.are_answers;
+      found = record {
+        begins = in-shared going.searched.first.key 0 going.searched.found.begins;
+        levels = going.searched.found.levels;
+        each = λ a is f among r reached. in-shared r.key (f.moves + 1) (going.searched.found.each a is f among r reached);
+        goes_on = going.searched.found.goes_on;
+        nearer = going.searched.found.nearer;
+        farthest = λ f is. going.searched.found.farthest f (parted.own f is);
+        passed = passed-shared;
+        comes = λ f is. going.searched.found.comes f (from-shared f is);
+      };
+    };
+    knows = λ k now. let one = going.knows k now in record { one = one.one; is_found = to-shared one.one one.is_found; same_key = one.same_key };
   }

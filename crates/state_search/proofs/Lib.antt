@@ -1,3 +1,4 @@
 mod KeySets
+mod Parting
 mod AddingStates
 mod GoingOn

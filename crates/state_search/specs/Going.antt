@@ -1,14 +1,30 @@
--- A search that goes on.
-use Rattle.std.specs.Prelude.{◌≡◌, ℕ, List, ◌++◌, true}
+-- A search that goes on, or a part of one.
+use Rattle.std.specs.Prelude.{◌≡◌, ℕ, ◌+◌, ◌==◌, nat_le, if◌then◌else◌, List, [], ◌∷◌, ◌++◌, ◌⊎◌, true}
+use Rattle.std.specs.List.{Contains}
 use Rattle.std.specs.HashSet.{HashSet}
 use Rattle.state_search.specs.Adding.{HasOne}
 use Rattle.state_search.specs.Keys.{has}
-use Rattle.state_search.specs.Searches.{IsSearched}
+use Rattle.state_search.specs.Searches.{IsPart}
 use Rattle.state_search.specs.declared.key.Key.{Key}
 use Rattle.state_search.specs.declared.moves.Found.{Found}
 use Rattle.state_search.specs.declared.moves.Reached.{Reached}
 
 -- it is a search up to this depth, and the keys that are known are those of the states that it found
-pub record IsGoing {S Z : Type 0} (begins : Reached S → Type 0) (expands : List (Found S) → List (Reached S) → Type 0) (known : HashSet Key Z) (gone_on left : List (Found S)) (depth : ℕ) : Type 0 where
-  pub searched : IsSearched begins expands gone_on left depth
-  pub knows : (k : Key) → has known k ≡ true → HasOne (gone_on ++ left) k
+pub record IsGoing {S Z : Type 0} (begins : Reached S → Type 0) (expands : List (Found S) → List (Reached S) → Type 0) (known : HashSet Key Z) (gone_on left others : List (Found S)) (depth : ℕ) : Type 0 where
+  pub searched : IsPart begins expands gone_on left others depth
+  pub knows : (k : Key) → has known k ≡ true → HasOne (others ++ (gone_on ++ left)) k
+
+-- states are parted: each is one's own or another's, and no other is either
+pub record IsParted {S : Type 0} (all mine theirs : List (Found S)) : Type 0 where
+  pub each : (f : Found S) → Contains all f → Contains mine f ⊎ Contains theirs f
+  pub own : (f : Found S) → Contains mine f → Contains all f
+  pub others : (f : Found S) → Contains theirs f → Contains all f
+
+-- whose turn it is after this one's, among so many
+abbrev pub next_turn : ℕ → ℕ → ℕ
+next_turn of turn = if nat_le of turn then 1 else turn + 1
+
+-- of states that are shared out one by one among so many, from this one's turn on, those of one part
+abbrev pub own_from : {S : Type 0} → ℕ → ℕ → ℕ → List (Found S) → List (Found S)
+own_from number of turn [] = []
+own_from number of turn (f ∷ fs) = if turn == number then f ∷ own_from number of (next_turn of turn) fs else own_from number of (next_turn of turn) fs

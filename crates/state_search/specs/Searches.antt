@@ -1,5 +1,5 @@
 -- When a search has left nothing out.
-use Rattle.std.specs.Prelude.{◌≡◌, ℕ, ◌+◌, ◌<◌, ◌≤◌, ◌⊎◌, List, ◌++◌}
+use Rattle.std.specs.Prelude.{◌≡◌, ℕ, ◌+◌, ◌<◌, ◌≤◌, ◌⊎◌, List, [], ◌++◌}
 use Rattle.std.specs.List.{Contains}
 use Rattle.state_search.specs.declared.key.Key.{Key}
 use Rattle.state_search.specs.declared.moves.Found.{Found}
@@ -44,21 +44,27 @@ pub record WentOn {S : Type 0} (answers : List (Answer S)) (f : Found S) : Type 
   pub is_in : Contains answer.level f
 
 -- The states that were found are what comes of a first state and of these answers, to depth `depth`. The search went on from some of them, and
--- left the others. Each state that was answered is among them, by its key, and by a move more at most than its level; and no other is.
--- States with the same key count as one.
-pub record ComesOf {S : Type 0} (first : Reached S) (answers : List (Answer S)) (gone_on left : List (Found S)) (depth : ℕ) : Type 0 where
-  pub begins : HasKey (gone_on ++ left) first.key 0
+-- left the others: some to other parts of the search, and some since it was cut. Each state that was answered is among them, by its key, and by
+-- a move more at most than its level; and no other is. States with the same key count as one.
+pub record ComesOf {S : Type 0} (first : Reached S) (answers : List (Answer S)) (gone_on left others : List (Found S)) (depth : ℕ) : Type 0 where
+  pub begins : HasKey (others ++ (gone_on ++ left)) first.key 0
   pub levels : (a : Answer S) → Contains answers a → (f : Found S) → Contains a.level f → Contains gone_on f
-  pub each : (a : Answer S) → Contains answers a → (f : Found S) → Contains a.level f → (r : Reached S) → Contains a.next r → HasKey (gone_on ++ left) r.key (f.moves + 1)
+  pub each : (a : Answer S) → Contains answers a → (f : Found S) → Contains a.level f → (r : Reached S) → Contains a.next r → HasKey (others ++ (gone_on ++ left)) r.key (f.moves + 1)
   pub goes_on : (f : Found S) → Contains gone_on f → WentOn answers f
   pub nearer : (f : Found S) → Contains gone_on f → f.moves < depth
   pub farthest : (f : Found S) → Contains left f → f.moves ≡ depth
-  pub comes : (f : Found S) → Contains (gone_on ++ left) f → IsFirst first f ⊎ Came answers f
+  pub passed : (f : Found S) → Contains others f → f.moves ≤ depth
+  pub comes : (f : Found S) → Contains (others ++ (gone_on ++ left)) f → IsFirst first f ⊎ Came answers f
 
--- A search to depth `depth`: the first state was asked for, and those next to each level, and the states that were found are what comes of this.
-pub record IsSearched {S : Type 0} (begins : Reached S → Type 0) (expands : List (Found S) → List (Reached S) → Type 0) (gone_on left : List (Found S)) (depth : ℕ) : Type 0 where
+-- A part of a search to depth `depth`: the first state was asked for, and those next to each level from which it went on, and the states that were
+-- found are what comes of this. Those of `others` it left to other parts.
+pub record IsPart {S : Type 0} (begins : Reached S → Type 0) (expands : List (Found S) → List (Reached S) → Type 0) (gone_on left others : List (Found S)) (depth : ℕ) : Type 0 where
   pub first : Reached S
   pub is_first : begins first
   pub answers : List (Answer S)
   pub are_answers : (a : Answer S) → Contains answers a → expands a.level a.next
-  pub found : ComesOf first answers gone_on left depth
+  pub found : ComesOf first answers gone_on left others depth
+
+-- A search to depth `depth` is its only part.
+abbrev pub IsSearched : {S : Type 0} → (Reached S → Type 0) → (List (Found S) → List (Reached S) → Type 0) → List (Found S) → List (Found S) → ℕ → Type 0
+IsSearched begins expands gone_on left depth = IsPart begins expands gone_on left [] depth

@@ -1,14 +1,16 @@
 //! A search of all states that moves lead to, each once, the nearest first.
 //!
 //! Read `Moves` first: whoever has states searched says by it what the first one is, and which are next to others. `search` then finds
-//! all, up to a bound. It knows nothing of kernels.
+//! all, up to a bound, and `search_part` does a part of it. It knows nothing of kernels.
 #![tactic(auto)]
 
 mod key;
 mod keys;
 mod moves;
+mod parts;
 mod searching;
 
 pub use key::Key;
 pub use moves::{Found, Moves, Reached};
-pub use searching::{Searched, search};
+pub use parts::Part;
+pub use searching::{PartSearched, Searched, search, search_part};

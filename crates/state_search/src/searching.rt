@@ -1,12 +1,13 @@
-//! The search.
+//! The search, and parts of it.
 ghost use Rattle.std.specs.Prelude.{◌≡◌, ◌∷◌, [], ◌<◌, ◌^◌, ◌-◌, IfOk};
 ghost use Rattle.std.specs.Bool.{OnFalse};
 ghost use Rattle.state_search.specs.Adding.{AreAdded};
 ghost use Rattle.state_search.specs.Going.{IsGoing};
-ghost use Rattle.state_search.specs.Searches.{IsSearched};
+ghost use Rattle.state_search.specs.Searches.{IsPart, IsSearched};
 
 use crate::keys::Keys;
 use crate::moves::{Found, Moves, Reached};
+use crate::parts::{Part, Parted};
 use std::alloc::{AllocError, Global};
 use std::thread::Threads;
 
@@ -23,11 +24,20 @@ pub struct Searched<S> {
     pub moves: u64,
 }
 
-/// A search that goes on.
+/// What a part of a search found.
+#[derive(Drop)]
+pub struct PartSearched<S> {
+    pub searched: Searched<S>,
+    /// The states that it left to other parts, beside those of `searched`. None where the search ended before its states were shared out.
+    pub others: Vec<Found<S>>,
+}
+
+/// A search that goes on, or a part of one.
 #[derive(Drop)]
 struct Going<S> {
     known: Keys,
     searched: Searched<S>,
+    others: Vec<Found<S>>,
 }
 
 /// Those of the states that were reached by so many moves whose keys are not known. Now they are.
@@ -59,7 +69,8 @@ fn alone<S: Drop>(alloc: Global, first: Reached<S>) -> Result<Vec<Reached<S>>, A
 
 /// The first state alone.
 fn begin<M: Moves>(alloc: Global, moves: &mut M) -> Result<Going<M::State>, M::Fault>
-    ensures { IfOk result (λ going. IsGoing M.begins M.expands going.known.set going.searched.gone_on.items going.searched.left.items going.searched.depth) }
+    ensures alone { IfOk result (λ going. going.others.items ≡ []) }
+    ensures going { IfOk result (λ going. IsGoing M.begins M.expands going.known.set going.searched.gone_on.items going.searched.left.items going.others.items going.searched.depth) }
 {
     let reached = alone(alloc, moves.first()?)?;
     let mut known = Keys::new(alloc);
@@ -70,7 +81,11 @@ fn begin<M: Moves>(alloc: Global, moves: &mut M) -> Result<Going<M::State>, M::F
         depth: 0,
         moves: 0,
     };
-    Ok(Going { known, searched })
+    Ok(Going {
+        known,
+        searched,
+        others: Vec::new(alloc),
+    })
 }
 
 impl<S: Drop> Going<S> {
@@ -82,6 +97,53 @@ impl<S: Drop> Going<S> {
         let found = (searched.gone_on.len() as u64).saturating_add(searched.left.len() as u64);
         searched.left.is_empty() || found > most || searched.depth == u64::MAX
     }
+
+    /// Whether the last level is the one whose states are shared out among parts.
+    fn is_shared_out(&self, part: Part) -> bool {
+        self.others.is_empty() && part.is_enough(self.searched.left.len())
+    }
+}
+
+/// Where the last level is shared out, those of it that are not the part's own are left to the others.
+fn leave_others<M: Moves>(
+    alloc: Global,
+    going: Going<M::State>,
+    part: Part,
+) -> Result<Going<M::State>, AllocError>
+    requires { IsGoing M.begins M.expands going.known.set going.searched.gone_on.items going.searched.left.items going.others.items going.searched.depth }
+    ensures going { IfOk result (λ next. IsGoing M.begins M.expands next.known.set next.searched.gone_on.items next.searched.left.items next.others.items next.searched.depth) }
+    ensures depth { IfOk result (λ next. next.searched.depth ≡ going.searched.depth) }
+{
+    if !going.is_shared_out(part) {
+        return Ok(going);
+    }
+    let Going {
+        known,
+        searched,
+        mut others,
+    } = going;
+    let Searched {
+        gone_on,
+        left,
+        depth,
+        moves,
+    } = searched;
+    let Parted {
+        own,
+        others: mut more,
+    } = part.share_out(alloc, left)?;
+    others.append(&mut more)?;
+    let searched = Searched {
+        gone_on,
+        left: own,
+        depth,
+        moves,
+    };
+    Ok(Going {
+        known,
+        searched,
+        others,
+    })
 }
 
 /// One level more.
@@ -92,12 +154,14 @@ fn go_on<M: Moves, R: Threads + Sync>(
     going: Going<M::State>,
 ) -> Result<Going<M::State>, M::Fault>
     requires room { going.searched.depth < 2 ^ 64 - 1 }
-    requires going { IsGoing M.begins M.expands going.known.set going.searched.gone_on.items going.searched.left.items going.searched.depth }
-    ensures { IfOk result (λ next. IsGoing M.begins M.expands next.known.set next.searched.gone_on.items next.searched.left.items next.searched.depth) }
+    requires going { IsGoing M.begins M.expands going.known.set going.searched.gone_on.items going.searched.left.items going.others.items going.searched.depth }
+    ensures alone { IfOk result (λ next. next.others.items ≡ going.others.items) }
+    ensures going { IfOk result (λ next. IsGoing M.begins M.expands next.known.set next.searched.gone_on.items next.searched.left.items next.others.items next.searched.depth) }
 {
     let Going {
         mut known,
         searched,
+        others,
     } = going;
     let Searched {
         mut gone_on,
@@ -115,7 +179,11 @@ fn go_on<M: Moves, R: Threads + Sync>(
         depth: depth + 1,
         moves: tried,
     };
-    Ok(Going { known, searched })
+    Ok(Going {
+        known,
+        searched,
+        others,
+    })
 }
 
 /// Searches all states that moves lead to from the first one, those nearest to it first, each once. It goes on level by level while no
@@ -138,6 +206,35 @@ pub fn search<M: Moves, R: Threads + Sync>(
     let Going {
         known: _known,
         searched,
+        others: _others,
     } = going;
     Ok(searched)
+}
+
+/// A part of what `search` does. It searches as the whole does until a level has as many states for each part as are shared out, or to its
+/// end. From there on it goes on from its own states of that level alone, and from what is new next to these. Each state that the whole
+/// search finds, one of the parts finds by as few moves.
+pub fn search_part<M: Moves, R: Threads + Sync>(
+    rt: &R,
+    alloc: Global,
+    moves: &mut M,
+    most: u64,
+    part: Part,
+) -> Result<PartSearched<M::State>, M::Fault>
+    ensures { IfOk result (λ found. IsPart M.begins M.expands found.searched.gone_on.items found.searched.left.items found.others.items found.searched.depth) }
+{
+    let mut going = begin(alloc, moves)?;
+    for _ in 0..u64::MAX {
+        if going.is_done(most) {
+            break;
+        }
+        going = leave_others::<M>(alloc, going, part)?;
+        going = go_on(rt, alloc, moves, going)?;
+    }
+    let Going {
+        known: _known,
+        searched,
+        others,
+    } = going;
+    Ok(PartSearched { searched, others })
 }

@@ -1,0 +1,7 @@
+-- The part goes on.
+use Rattle.state_search.specs.Going.{IsGoing}
+use Rattle.state_search.proofs.searching.search_part.Given as goal
+
+abbrev pub invariant-loop : goal.invariant-loop
+invariant-loop g l =
+    IsGoing g.M.Moves.begins g.M.Moves.expands l.going.known.set l.going.searched.gone_on.items l.going.searched.left.items l.going.others.items l.going.searched.depth
