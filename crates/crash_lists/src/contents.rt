@@ -1,4 +1,7 @@
 //! What a file may hold after a crash.
+ghost use Rattle.std.specs.Prelude.{◌≡◌, ◌<◌, ◌⊎◌, nat_lt, true, false};
+ghost use Rattle.crash_lists.specs.declared.model.CrashModel.TheVariants.{Ordered, Delayed, Posix};
+
 use crate::model::CrashModel;
 use crate::window::{CELL, Window};
 use std::alloc::{AllocError, Global};
@@ -75,8 +78,35 @@ fn cell_bytes(alloc: Global, bytes: &[u8], cell: usize) -> Result<Vec<u8>, Alloc
 }
 
 /// Whether a change after a moment counts at another one.
-fn counts_at(change: usize, moment: usize) -> bool {
+fn counts_at(change: usize, moment: usize) -> bool
+    ensures { result ≡ nat_lt change moment }
+{
     change < moment
+}
+
+/// Whether a cell may be there or not, where the length of its file counts a change or not, by ordered and delayed: an emptying counts
+/// for both or for neither, and a write that makes the file longer has its bytes there.
+fn is_ordered(long: bool, there: bool, is_emptied: bool, is_lengthened: bool) -> bool
+    ensures emptied { result ≡ true → is_emptied ≡ true → long ≡ there }
+    ensures longer { result ≡ true → is_lengthened ≡ true → long ≡ true → there ≡ true }
+    ensures others { is_emptied ≡ false → is_lengthened ≡ false → result ≡ true }
+    ensures both { long ≡ there → result ≡ true }
+{
+    if is_emptied && long != there {
+        return false;
+    }
+    !long || there || !is_lengthened
+}
+
+/// Whether a cell may be there or not, where the length of its file counts an emptying or not, by posix: no bytes are lost by an emptying
+/// after which the length is not, unless the cell was written since.
+fn is_whole(long: bool, there: bool, is_emptied: bool, is_written: bool) -> bool
+    ensures lost { result ≡ true → is_emptied ≡ true → long ≡ false → there ≡ true → is_written ≡ true }
+    ensures others { is_emptied ≡ false → result ≡ true }
+    ensures written { is_written ≡ true → result ≡ true }
+    ensures both { long ≡ there → result ≡ true }
+{
+    !is_emptied || long || !there || is_written
 }
 
 /// A file without bytes, whose length is apart or not.
@@ -132,12 +162,11 @@ impl FileAt<'_> {
         let (long, there) = (counts_at(change, size), counts_at(change, moment));
         let is_emptied = self.window.is_emptied(self.number, change);
         if self.model == CrashModel::Posix {
-            return !is_emptied || long || !there || self.is_written_since(change, moment, cell);
+            let is_written = is_emptied && self.is_written_since(change, moment, cell);
+            return is_whole(long, there, is_emptied, is_written);
         }
-        if is_emptied && long != there {
-            return false;
-        }
-        !long || there || !self.window.is_lengthened(self.number, change, cell)
+        let is_lengthened = long && self.window.is_lengthened(self.number, change, cell);
+        is_ordered(long, there, is_emptied, is_lengthened)
     }
 
     /// Whether a cell may be as at a moment, where the length is as at another.
@@ -164,7 +193,10 @@ impl FileAt<'_> {
     }
 
     /// The first moment as at which the length may be.
-    fn first_size(&self) -> usize {
+    fn first_size(&self) -> usize
+        ensures ordered { self.now.model ≡ Ordered → result ≡ self.now.moment }
+        ensures posix { self.now.model ≡ Posix → result ≡ 0 }
+    {
         let made = self.window.made_at(self.number);
         match self.model {
             CrashModel::Ordered => self.moment,
@@ -182,7 +214,9 @@ impl FileAt<'_> {
     }
 
     /// The last moment as at which the length may be.
-    fn last_size(&self) -> usize {
+    fn last_size(&self) -> usize
+        ensures { (self.now.model ≡ Ordered) ⊎ (self.now.model ≡ Delayed) → result ≡ self.now.moment }
+    {
         match self.model {
             CrashModel::Ordered | CrashModel::Delayed => self.moment,
             CrashModel::Posix => self.window.changes(),

@@ -1,4 +1,6 @@
 //! The files between two syncs.
+ghost use Rattle.std.specs.Prelude.{◌≡◌, ◌/◌, ◌-◌, ◌++◌, ◌∷◌, [], OnOk, vec_len};
+
 use files::FileTable;
 use std::alloc::{AllocError, Global};
 
@@ -12,8 +14,10 @@ pub struct Window {
 }
 
 /// The number of the cell in which a byte lies.
-fn cell_of(place: usize) -> usize {
-    place.checked_div(CELL).unwrap_or(0)
+fn cell_of(place: usize) -> usize
+    ensures { result ≡ place / 512 }
+{
+    place / CELL
 }
 
 impl Window {
@@ -31,7 +35,9 @@ impl Window {
     }
 
     /// How many changes there are. The moments are 0 to this.
-    pub fn changes(&self) -> usize {
+    pub fn changes(&self) -> usize
+        ensures { result ≡ vec_len self.now.moments - 1 }
+    {
         self.moments.len().saturating_sub(1)
     }
 

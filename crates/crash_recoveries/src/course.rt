@@ -69,20 +69,85 @@ pub fn play_some(core: &mut Core, limit: u64, events: u64) -> Result<(), Fault> 
     Ok(())
 }
 
-/// Runs a core that was just booted. Gives the core that is there at the end, and how the run ended.
-pub fn play<V: Visitor>(
-    visitor: &mut V,
-    mut core: Core,
-    course: &Course,
-) -> Result<(Core, Ending), V::Fault> {
-    match course {
-        Course::Steps(steps) => {
-            let core = play_all(visitor, core, steps.as_slice())?;
-            Ok((core, Ending::Over))
+/// Runs a core that was just booted. Gives how the run ended.
+pub fn play<V: Visitor>(visitor: &mut V, core: Core, course: &Course) -> Result<Ending, V::Fault> {
+    let mut playing = Playing::begin(core, course);
+    for _ in 0..u64::MAX {
+        if let Some(ending) = playing.step(visitor)? {
+            return Ok(ending);
         }
-        Course::ToEnd { limit } => {
-            let ending = play_to_end(visitor, &mut core, *limit)?;
-            Ok((core, ending))
+    }
+    Ok(Ending::Over)
+}
+
+/// A run that goes on step by step.
+#[derive(Drop)]
+pub struct Playing<'a> {
+    course: &'a Course,
+    /// None only while a step is done.
+    core: Option<Core>,
+    turns: Turns,
+    /// The place of the script's next step.
+    next: usize,
+}
+
+impl<'a> Playing<'a> {
+    /// Before the first step of a core that was just booted.
+    pub fn begin(core: Core, course: &'a Course) -> Playing<'a> {
+        let limit = match course {
+            Course::Steps(_) => 0,
+            Course::ToEnd { limit } => *limit,
+        };
+        Playing {
+            course,
+            core: Some(core),
+            turns: turns_to(limit),
+            next: 0,
+        }
+    }
+
+    /// The core as it stands.
+    pub fn core(&self) -> Option<&Core> {
+        self.core.as_ref()
+    }
+
+    /// Does some steps of a script, and gives None; where there are none the run is over.
+    fn play_steps<V: Visitor>(
+        &mut self,
+        visitor: &mut V,
+        steps: Option<&[Step]>,
+    ) -> Result<Option<Ending>, V::Fault> {
+        let Some(steps) = steps else {
+            return Ok(Some(Ending::Over));
+        };
+        if let Some(core) = self.core.take() {
+            self.core = Some(play_all(visitor, core, steps)?);
+        }
+        self.next = self.next.saturating_add(steps.len());
+        Ok(None)
+    }
+
+    /// Does the next event of a run by turns.
+    fn play_event<V: Visitor>(&mut self, visitor: &mut V) -> Result<Option<Ending>, V::Fault> {
+        let Some(core) = &mut self.core else {
+            return Ok(Some(Ending::Over));
+        };
+        let Some(event) = next_alone(&mut self.turns, core) else {
+            return Ok(Some(self.turns.ending()));
+        };
+        apply(visitor, core, event)?;
+        Ok(None)
+    }
+
+    /// Does the next step: an event, or a line of a script. How the run ended, once it has.
+    pub fn step<V: Visitor>(&mut self, visitor: &mut V) -> Result<Option<Ending>, V::Fault> {
+        let course = self.course;
+        match course {
+            Course::Steps(steps) => {
+                let next = self.next.saturating_add(1);
+                self.play_steps(visitor, steps.as_slice().get(self.next..next))
+            }
+            Course::ToEnd { .. } => self.play_event(visitor),
         }
     }
 }

@@ -1,20 +1,27 @@
 //! `bench crashes` of programs and of scripts: what each crash leaves, and whether the user's recovery gets over it.
 //!
 //! Read `explore` first, which prints what crashes leave, and then `try_recoveries`. That runs the recovery on each disk that a crash
-//! leaves, and also after crashes of the recovery itself. A `Trier` visits the run, or a `WindowTrier` by
-//! other rules of commits; their `Tester` runs recoveries, which `Nested` visits. The first recovery that
-//! fails is a `Failure`. Only safety is proved.
+//! leaves, and also after crashes of the recovery itself. A `Trier` visits the run, or a `WindowTrier` by other rules of commits; what
+//! they find a `Taker` takes. Their `Tester` has threads (`crew`) run recoveries, a `Batch` together, which `Nested` visits; each tries
+//! crashes on a `Mirror` of the disk. The first recovery that fails is a `Failure`. Only safety is proved.
 #![tactic(auto)]
 
+mod batch;
 mod course;
+mod crew;
 mod digests;
+mod effort;
 mod failure;
 mod listing;
+mod mirror;
 mod nested;
+mod no_files;
 mod outcomes;
+mod pending;
 mod point;
 mod promise;
 mod recovery;
+mod running;
 mod saving;
 mod stop;
 mod taker;
@@ -26,10 +33,11 @@ mod windows;
 
 pub use course::Course;
 pub use crash_lists::CrashModel;
+pub use effort::{Effort, Part};
 pub use failure::Failure;
 pub use listing::explore_by;
 pub use outcomes::explore;
-pub use recovery::Recovery;
+pub use recovery::{Recovery, RecoveryProgram};
 pub use saving::save;
-pub use verdict::{Verdict, try_recoveries};
+pub use verdict::{Subject, Trial, Verdict, try_recoveries};
 pub use windows::Rule;

@@ -4,7 +4,7 @@ use crate::point::CrashPlace;
 use crate::promise::Promise;
 use crate::stop::Stop;
 use crate::taker::Taker;
-use crate::windows::{Bound, Rule, WindowTrier};
+use crate::windows::{Rule, WindowTrier};
 use crash_outcomes::outcome_of;
 use exec_runs::Ending;
 use faults::Fault;
@@ -14,6 +14,7 @@ use std::alloc::Global;
 use std::collections::HashSet;
 use std::io::Write;
 use std::rt::Files;
+use std::thread::Threads;
 
 /// Prints each list once.
 #[derive(Drop)]
@@ -38,24 +39,17 @@ impl<O: Write> Taker for Lister<'_, O> {
         }
         Ok(())
     }
-}
 
-/// Runs what is set up, and hands out what a crash may leave by a rule. Gives how the run ended, and what was handed out.
-fn run_by<R: Files + AllocGlobal, T: Taker>(
-    rt: &R,
-    setup: &mut Setup,
-    course: &Course,
-    rule: Rule,
-    taker: &mut T,
-) -> (Result<Ending, Stop>, Bound) {
-    let mut trier = WindowTrier::new(rt, setup, rule, taker);
-    let done = trier.run(course);
-    (done, trier.bound())
+    fn again(&mut self, _times: u64) {}
+
+    fn settle<R: Threads + Sync>(&mut self, _rt: &R) -> Result<(), Stop> {
+        Ok(())
+    }
 }
 
 /// Runs what is set up, and prints each list of files that a crash may leave by a rule, when it is found for the first time. At the end
 /// it prints how many there were. Gives how the run ended.
-pub fn explore_by<R: Files + AllocGlobal, O: Write>(
+pub fn explore_by<R: Files + AllocGlobal + Threads + Sync, O: Write>(
     rt: &R,
     setup: &mut Setup,
     course: &Course,
@@ -67,12 +61,11 @@ pub fn explore_by<R: Files + AllocGlobal, O: Write>(
         lines: HashSet::new(rt.alloc()),
         out,
     };
-    let (done, bound) = run_by(rt, setup, course, rule, &mut lister);
-    match done {
+    let mut trier = WindowTrier::new(rt, setup, rule);
+    match trier.run(course, &mut lister) {
         Ok(ending) => {
-            let count = lister.lines.len();
-            write!(lister.out, "{count} lists")?;
-            bound.print(lister.out)?;
+            let (count, bound) = (lister.lines.len(), trier.bound());
+            writeln!(lister.out, "{count} lists{bound}")?;
             Ok(ending)
         }
         Err(Stop::Fault(fault)) => Err(fault),

@@ -1,74 +1,103 @@
 //! Crashes of a recovery.
 use crate::digests::digest_of_files;
-use crate::point::{Chain, CrashPlace, CrashPoint, Left, with_crash};
-use crate::stop::Stop;
-use crate::tried::Tried;
+use crate::mirror::{Mirror, differ_by_fill};
+use crate::point::{CrashPlace, CrashPoint, Left};
 use crash_outcomes::{FILLS, Fill, Moment, moment_of, outcome_of};
-use journal::recover;
+use faults::Fault;
 use kernel::{Answer, Core, Event};
 use scripts::{Visitor, process_of};
 use std::alloc::Global;
-use std::collections::VecDeque;
+use std::collections::HashSet;
 
-/// The visitor of a recovery that tries its crashes. A disk that is new is not run at once: its chain waits.
+/// A disk that a crash of a recovery left.
 #[derive(Drop)]
-pub struct Nested<'a> {
-    pub alloc: Global,
-    pub tried: &'a mut Tried,
-    pub crashes: &'a mut u64,
-    pub waiting: &'a mut VecDeque<Chain>,
-    /// The crashes that led to this recovery.
-    pub chain: &'a [CrashPoint],
-    /// The digest of the promise.
-    pub promise: &'a str,
-    /// How many more crashes may come one after the other, this recovery's among them.
-    pub left: u32,
+pub struct NestedCrash {
+    pub point: CrashPoint,
+    /// What tells the disk from others.
+    pub digest: String,
 }
 
-impl Nested<'_> {
-    fn try_crash(&mut self, core: &Core, moment: Moment, fill: Fill) -> Result<(), Stop> {
+/// The visitor of a recovery that tries its crashes, if they are to be tried.
+#[derive(Drop)]
+pub struct Nested {
+    alloc: Global,
+    mirror: Mirror,
+    /// How many crashes came before this recovery.
+    before: u64,
+    is_tried: bool,
+    known: HashSet<String>,
+    /// How many crashes were tried.
+    crashes: u64,
+    /// What they left, each disk once.
+    left: Vec<NestedCrash>,
+}
+
+impl Nested {
+    /// Before a recovery.
+    pub fn new(alloc: Global, before: u64, is_tried: bool) -> Nested {
+        Nested {
+            alloc,
+            mirror: Mirror::new(),
+            before,
+            is_tried,
+            known: HashSet::new(alloc),
+            crashes: 0,
+            left: Vec::new(alloc),
+        }
+    }
+
+    /// How many crashes were tried, and what they left.
+    pub fn into_crashes(self) -> (u64, Vec<NestedCrash>) {
+        let Nested { crashes, left, .. } = self;
+        (crashes, left)
+    }
+
+    fn try_crash(&mut self, core: &Core, moment: Moment, fill: Fill) -> Result<(), Fault> {
         let alloc = self.alloc;
-        let left = core.after_crash(fill.bytes())?;
-        let files = recover(alloc, &left)?;
-        *self.crashes = self.crashes.saturating_add(1);
+        let files = self.mirror.files_after(alloc, core, fill)?;
         let digest = digest_of_files(alloc, files.list())?;
-        let after = self.left.saturating_sub(1);
-        if !self.tried.add(alloc, digest.as_str(), self.promise, after)? {
+        let known = String::from_str(alloc, digest.as_str())?;
+        if !self.known.insert(known)? {
             return Ok(());
         }
-        let place = CrashPlace {
-            moment,
-            left: Left::Filled(fill),
-        };
         let point = CrashPoint {
-            place,
+            place: CrashPlace {
+                moment,
+                left: Left::Filled(fill),
+            },
             outcome: outcome_of(alloc, files.list())?,
             told: String::new(alloc),
         };
-        let chain = with_crash(alloc, self.chain, point)?;
-        self.waiting.push_back(chain)?;
+        self.left.push(NestedCrash { point, digest })?;
         Ok(())
     }
 }
 
-impl Visitor for Nested<'_> {
-    type Fault = Stop;
+impl Visitor for Nested {
+    type Fault = Fault;
+
+    fn before(&mut self, core: &Core, event: Event) -> Result<(), Fault> {
+        self.mirror.before(core, event)
+    }
 
     /// Tries crashes after each event of the disk.
-    fn after(&mut self, core: &Core, event: Event, _answer: Answer) -> Result<(), Stop> {
-        if self.left == 0 || process_of(event).is_some() {
+    fn after(&mut self, core: &Core, event: Event, _answer: Answer) -> Result<(), Fault> {
+        if !self.is_tried || process_of(event).is_some() {
             return Ok(());
         }
-        let boot = (self.chain.len() as u64).saturating_add(1);
-        let moment = moment_of(boot, core);
+        let moment = moment_of(self.before.saturating_add(1), core);
+        self.crashes = self.crashes.saturating_add(FILLS.len() as u64);
         for fill in FILLS {
             self.try_crash(core, moment, fill)?;
+            if !differ_by_fill(core) {
+                break;
+            }
         }
         Ok(())
     }
 
     /// A run by turns has no line that is a crash.
-    fn crash(&mut self, core: Core, _fill: &[u8]) -> Result<Core, Stop> {
+    fn crash(&mut self, core: Core, _fill: &[u8]) -> Result<Core, Fault> {
         Ok(core)
     }
 }

@@ -23,7 +23,7 @@ pub fn explore<R: Files + AllocGlobal, O: Write>(
 ) -> Result<Ending, Fault> {
     let mut explorer = Explorer::new(rt, setup, expected, out)?;
     let core = explorer.begin()?;
-    let (_core, ending) = play(&mut explorer, core, course)?;
+    let ending = play(&mut explorer, core, course)?;
     explorer.finish()?;
     Ok(ending)
 }

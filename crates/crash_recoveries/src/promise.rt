@@ -31,6 +31,14 @@ impl Promise {
         Promise::new(alloc, core.written(0))
     }
 
+    /// The same, in memory of its own.
+    pub fn try_clone(&self, alloc: Global) -> Result<Promise, AllocError> {
+        Ok(Promise {
+            shown: Vec::from_slice(alloc, self.shown.as_slice())?,
+            digest: String::from_str(alloc, self.digest.as_str())?,
+        })
+    }
+
     /// Whether a tape can hold it.
     pub fn fits(&self) -> bool {
         self.shown.len() <= MOST_TAPE_BYTES

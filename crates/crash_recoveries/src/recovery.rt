@@ -9,15 +9,21 @@ use std::alloc::{AllocError, Global};
 
 /// The program that is run after each crash, and how far.
 #[derive(Drop)]
-pub struct Recovery {
+pub struct RecoveryProgram {
     /// The file of its image.
     file: Vec<u8>,
-    /// What is known of its instructions.
-    pub family: Family,
     /// How many instructions a run of it may have.
     pub limit: u64,
     /// How many crashes of recoveries may come one after the other.
     pub nested: u32,
+}
+
+/// The user's recovery.
+#[derive(Drop)]
+pub struct Recovery {
+    pub program: RecoveryProgram,
+    /// What is known of its instructions.
+    pub family: Family,
 }
 
 impl Recovery {
@@ -32,13 +38,17 @@ impl Recovery {
         let mut programs = Vec::new(alloc);
         programs.push(program)?;
         Ok(Recovery {
-            file,
+            program: RecoveryProgram {
+                file,
+                limit,
+                nested,
+            },
             family: Family::new(alloc, programs)?,
-            limit,
-            nested,
         })
     }
+}
 
+impl RecoveryProgram {
     /// What a run of it begins with: the files that a crash left, and the promise on its tape.
     pub fn setup(
         &self,

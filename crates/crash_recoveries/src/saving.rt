@@ -2,7 +2,7 @@
 use crate::course::play_some;
 use crate::failure::Failure;
 use crate::point::Left;
-use crate::recovery::Recovery;
+use crate::recovery::RecoveryProgram;
 use faults::Fault;
 use kernel::Event;
 use scripts::{EventText, Setup, write_setup};
@@ -40,14 +40,14 @@ fn run_script<R: AllocGlobal>(
 /// The script of the recovery, and of its crashes before.
 fn recovery_script<R: Files + AllocGlobal>(
     rt: &R,
-    recovery: &Recovery,
+    program: &RecoveryProgram,
     failure: &mut Failure,
 ) -> Result<Vec<u8>, Fault> {
     let mut script = Vec::new(rt.alloc());
     write_setup(rt.alloc(), &failure.setup, &mut script)?;
     let mut core = failure.setup.boot(rt, None)?;
     for point in &failure.chain {
-        play_some(&mut core, recovery.limit, point.events())?;
+        play_some(&mut core, program.limit, point.events())?;
         push_events(&mut script, core.history())?;
         let fill = point.fill();
         writeln!(script, "crash {fill}")?;
@@ -68,14 +68,14 @@ pub fn save<R: Files + AllocGlobal>(
     rt: &R,
     folder: &str,
     setup: &Setup,
-    recovery: &Recovery,
+    program: &RecoveryProgram,
     failure: &mut Failure,
     played: &str,
 ) -> Result<(), Fault> {
     let script = run_script(rt, setup, failure, played)?;
     let path = path_in(rt, folder, "run.script")?;
     fs::write(rt, path.as_str(), script.as_slice())?;
-    let script = recovery_script(rt, recovery, failure)?;
+    let script = recovery_script(rt, program, failure)?;
     let path = path_in(rt, folder, "recovery.script")?;
     fs::write(rt, path.as_str(), script.as_slice())?;
     Ok(())

@@ -3,9 +3,12 @@ use crate::point::CrashPlace;
 use crate::promise::Promise;
 use crate::stop::Stop;
 use files::FileList;
+use std::thread::Threads;
 
 /// Takes files that a crash may leave, with what was promised before it, and which changes are there, in words.
 pub trait Taker {
+    ghost use denote.Param.Send.{IsSync};
+
     fn take(
         &mut self,
         files: &FileList,
@@ -13,4 +16,11 @@ pub trait Taker {
         place: CrashPlace,
         told: &str,
     ) -> Result<(), Stop>;
+
+    /// Is told that so many more crashes leave the same.
+    fn again(&mut self, times: u64);
+
+    /// Works on what it took, if that is enough by now. Threads may share the work.
+    fn settle<R: Threads + Sync>(&mut self, rt: &R) -> Result<(), Stop>
+        requires { IsSync R.row };
 }

@@ -1,45 +1,75 @@
 //! Runs the recovery on what crashes leave.
-use crate::course::{play_some, play_to_end};
+use crate::batch::{Batch, Seen};
+use crate::crew::{Work, run_all};
 use crate::digests::digest_of_files;
+use crate::effort::Effort;
 use crate::failure::Failure;
-use crate::nested::Nested;
-use crate::point::{Chain, CrashPlace, CrashPoint};
+use crate::pending::{Job, Pending, Tally};
+use crate::point::{CrashPlace, CrashPoint};
 use crate::promise::Promise;
-use crate::recovery::Recovery;
+use crate::recovery::RecoveryProgram;
+use crate::running::{Ran, failure_of};
 use crate::stop::Stop;
 use crate::taker::Taker;
 use crate::tried::Tried;
 use crash_outcomes::outcome_of;
-use exec_reports::status_of_run;
 use exec_runs::Ending;
+use faults::Fault;
 use files::FileList;
-use kernel::Core;
-use scripts::Setup;
-use std::collections::VecDeque;
+use progress::{Progress, ProgressCount};
+use std::alloc::AllocError;
+use std::collections::HashSet;
+use std::io::Write;
 use std::rt::Files;
+use std::thread::Threads;
+
+/// The most disks on which the recovery is run together. The first batches are smaller, so that a first failure is found soon.
+const MOST_TOGETHER: usize = 256;
+
+/// How many recoveries each thread runs before it is told how far it has come.
+const TAKEN: usize = 16;
 
 /// What runs the recovery on disks, on each once with each promise.
 #[derive(Drop)]
-pub struct Tester<'a, R> {
-    pub rt: &'a R,
-    recovery: &'a Recovery,
+pub struct Tester<'a, R, E> {
+    rt: &'a R,
+    program: &'a RecoveryProgram,
+    effort: Effort,
+    progress: Progress<'a, E>,
     tried: Tried,
-    /// How many crashes were tried.
-    pub crashes: u64,
-    pub recoveries: u64,
+    disks: HashSet<String>,
+    pending: Vec<Pending>,
+    seen: Vec<Seen>,
+    /// How many disks are to be pending before the recovery is run on them.
+    together: usize,
+    /// How many disks with promises were found.
+    found: u64,
+    tally: Tally,
     /// The first recovery that failed, if one did.
     pub failure: Option<Failure>,
 }
 
-impl<'a, R: Files + AllocGlobal> Tester<'a, R> {
+impl<'a, R: Files + AllocGlobal, E: Write> Tester<'a, R, E> {
     /// Nothing was tried yet.
-    pub fn new(rt: &'a R, recovery: &'a Recovery) -> Tester<'a, R> {
+    pub fn new(
+        rt: &'a R,
+        program: &'a RecoveryProgram,
+        effort: Effort,
+        progress: Progress<'a, E>,
+    ) -> Tester<'a, R, E> {
+        let alloc = rt.alloc();
         Tester {
             rt,
-            recovery,
-            tried: Tried::new(rt.alloc()),
-            crashes: 0,
-            recoveries: 0,
+            program,
+            effort,
+            progress,
+            tried: Tried::new(alloc),
+            disks: HashSet::new(alloc),
+            pending: Vec::new(alloc),
+            seen: Vec::new(alloc),
+            together: 1,
+            found: 0,
+            tally: Tally::NONE,
             failure: None,
         }
     }
@@ -50,78 +80,141 @@ impl<'a, R: Files + AllocGlobal> Tester<'a, R> {
         failure
     }
 
+    /// How much was tried.
+    pub fn tally(&self) -> Tally {
+        self.tally
+    }
+
     /// How many disks were tried.
     pub fn count_disks(&self) -> usize {
-        self.tried.count_disks()
+        self.disks.len()
     }
 
-    /// The core after the crashes of a chain.
-    fn reach(&self, setup: &mut Setup, chain: &[CrashPoint]) -> Result<Core, Stop> {
-        let mut core = setup.boot(self.rt, None)?;
-        for point in chain {
-            play_some(&mut core, self.recovery.limit, point.events())?;
-            let left = core.halt(point.fill().bytes());
-            core = setup.boot(self.rt, Some(left))?;
-        }
-        Ok(core)
-    }
-
-    /// Runs the recovery after the crashes of a chain. Gives the core at its end, and how it ended.
-    fn recover(
+    /// Adds a disk on which the recovery is to be run.
+    fn push(
         &mut self,
-        setup: &mut Setup,
-        promise: &str,
-        chain: &[CrashPoint],
-        waiting: &mut VecDeque<Chain>,
-    ) -> Result<(Core, Ending), Stop> {
-        let mut core = self.reach(setup, chain)?;
-        let before = u32::try_from(chain.len()).unwrap_or(u32::MAX);
-        let mut nested = Nested {
-            alloc: self.rt.alloc(),
-            tried: &mut self.tried,
-            crashes: &mut self.crashes,
-            waiting,
-            chain,
-            promise,
-            left: self.recovery.nested.saturating_sub(before),
-        };
-        let ending = play_to_end(&mut nested, &mut core, self.recovery.limit)?;
-        self.recoveries = self.recoveries.saturating_add(1);
-        Ok((core, ending))
-    }
-
-    /// Runs the recovery on what a crash left, and again after each of its own crashes.
-    fn recover_all(
-        &mut self,
+        files: &FileList,
+        promise: &Promise,
         point: CrashPoint,
-        mut setup: Setup,
-        promise: &str,
-    ) -> Result<(), Stop> {
+        digest: String,
+    ) -> Result<(), AllocError> {
+        self.seen.push(Seen {
+            digest,
+            disk: self.pending.len(),
+        })?;
+        self.pending.push(Pending {
+            point,
+            files: files.try_clone()?,
+            promise: promise.try_clone(self.rt.alloc())?,
+            before: self.tally,
+            tried: Tally::NONE,
+        })?;
+        Ok(())
+    }
+
+    /// Tells how far it has come, if that is due.
+    fn tell(&mut self, batch: &Batch, ran: usize) {
+        if self.progress.is_due(self.rt) {
+            let mut done = self.tally.recoveries.saturating_add(ran as u64);
+            for disk in &batch.disks {
+                done = done.saturating_add(disk.tried.recoveries);
+            }
+            self.progress.tell(ProgressCount {
+                what: "recoveries",
+                done,
+                left: batch.jobs.len().saturating_sub(ran) as u64,
+                part: "batch",
+            });
+        }
+    }
+
+    /// Runs the recoveries of a batch that are to be run now. Gives what came of each.
+    fn run_jobs<T: Threads + Sync>(&mut self, rt: &T, batch: &Batch) -> Result<Vec<Ran>, Fault> {
         let alloc = self.rt.alloc();
-        let mut waiting: VecDeque<Chain> = VecDeque::new(alloc);
-        waiting.push_back(Vec::new(alloc))?;
-        for _ in 0..u64::MAX {
-            let Some(chain) = waiting.pop_front() else {
-                break;
+        let threads = self.effort.threads(rt);
+        let mut all = Vec::with_capacity(alloc, batch.jobs.len())?;
+        for jobs in batch.jobs.chunks(threads.saturating_mul(TAKEN).max(1)) {
+            let work = Work {
+                program: self.program,
+                disks: batch.disks.as_slice(),
+                jobs,
             };
-            let (core, ending) = self.recover(&mut setup, promise, chain.as_slice(), &mut waiting)?;
-            if status_of_run(&core, ending) != 0 {
-                self.failure = Some(Failure {
-                    point,
-                    chain,
-                    setup,
-                    core,
-                    ending,
-                });
-                return Err(Stop::Failed);
+            let mut ran = run_all(rt, alloc, work, threads)?;
+            all.append(&mut ran)?;
+            self.tell(batch, all.len());
+        }
+        Ok(all)
+    }
+
+    /// Adds up what was tried of a batch: all of it, or that up to the first disk on which a recovery failed.
+    fn sum_up(&mut self, batch: &mut Batch) -> Result<(), AllocError> {
+        let last = batch.last();
+        if let Some(disk) = batch.disks.get(last) {
+            self.tally = disk.before;
+        }
+        for disk in batch.disks.iter().take(last.saturating_add(1)) {
+            let tally = self.tally;
+            self.tally.crashes = tally.crashes.saturating_add(disk.tried.crashes);
+            self.tally.recoveries = tally.recoveries.saturating_add(disk.tried.recoveries);
+        }
+        let mut seen = Vec::new(self.rt.alloc());
+        seen.append(&mut batch.seen)?;
+        for Seen { digest, disk } in seen {
+            if disk <= last {
+                self.disks.insert(digest)?;
             }
         }
         Ok(())
     }
+
+    /// Runs the recovery on the disks that are pending, and again after its own crashes. Failed where one of these fails.
+    fn run_batch<T: Threads + Sync>(&mut self, rt: &T) -> Result<(), Stop> {
+        let alloc = self.rt.alloc();
+        let mut disks = Vec::new(alloc);
+        disks.append(&mut self.pending)?;
+        let mut seen = Vec::new(alloc);
+        seen.append(&mut self.seen)?;
+        let mut batch = Batch::new(alloc, disks, seen)?;
+        let nested = self.program.nested;
+        for _ in 0..=nested {
+            if !batch.jobs.is_empty() {
+                let ran = self.run_jobs(rt, &batch)?;
+                batch.sort_out(alloc, ran, nested, &mut self.tried)?;
+            }
+        }
+        self.together = self.together.saturating_mul(2).min(MOST_TOGETHER);
+        self.sum_up(&mut batch)?;
+        self.judge(batch)
+    }
+
+    /// Keeps the first recovery of a batch that failed, if one did.
+    fn judge(&mut self, batch: Batch) -> Result<(), Stop> {
+        let Batch { disks, failed, .. } = batch;
+        let Some(Job { disk, chain }) = failed else {
+            return Ok(());
+        };
+        if let Some(disk) = disks.get(disk) {
+            self.failure = Some(failure_of(self.rt, self.program, disk, chain)?);
+        }
+        Err(Stop::Failed)
+    }
+
+    /// Runs the recovery on what is still pending when the run is over, and says how all ended.
+    pub fn finish<T: Threads + Sync>(
+        &mut self,
+        rt: &T,
+        done: Result<Ending, Stop>,
+    ) -> Result<Ending, Stop> {
+        if !matches!(done, Err(Stop::Fault(_) | Stop::Failed)) {
+            self.run_batch(rt)?;
+        }
+        done
+    }
 }
 
-impl<R: Files + AllocGlobal> Taker for Tester<'_, R> {
-    /// Counts a crash that leaves these files. Where these and the promise are new together, the recovery is run on them.
+impl<R: Files + AllocGlobal, E: Write> Taker for Tester<'_, R, E> {
+    /// Counts a crash that leaves these files. Where these and the promise are new together, the recovery is to be run on them, if they
+    /// are in the part that is tried.
     fn take(
         &mut self,
         files: &FileList,
@@ -133,11 +226,19 @@ impl<R: Files + AllocGlobal> Taker for Tester<'_, R> {
             return Err(Stop::TooLong);
         }
         let alloc = self.rt.alloc();
-        self.crashes = self.crashes.saturating_add(1);
+        self.again(1);
         let digest = digest_of_files(alloc, files)?;
-        let nested = self.recovery.nested;
-        let promised = promise.digest.as_str();
-        if !self.tried.add(alloc, digest.as_str(), promised, nested)? {
+        let nested = self.program.nested;
+        if !self
+            .tried
+            .add(alloc, digest.as_str(), promise.digest.as_str(), nested)?
+        {
+            return Ok(());
+        }
+        let number = self.found;
+        self.found = number.saturating_add(1);
+        if !self.effort.takes(number) {
+            self.tally.others = self.tally.others.saturating_add(1);
             return Ok(());
         }
         let point = CrashPoint {
@@ -145,7 +246,17 @@ impl<R: Files + AllocGlobal> Taker for Tester<'_, R> {
             outcome: outcome_of(alloc, files)?,
             told: String::from_str(alloc, told)?,
         };
-        let setup = self.recovery.setup(alloc, files, promise)?;
-        self.recover_all(point, setup, promised)
+        Ok(self.push(files, promise, point, digest)?)
+    }
+
+    fn again(&mut self, times: u64) {
+        self.tally.crashes = self.tally.crashes.saturating_add(times);
+    }
+
+    fn settle<T: Threads + Sync>(&mut self, rt: &T) -> Result<(), Stop> {
+        if self.pending.len() < self.together {
+            return Ok(());
+        }
+        self.run_batch(rt)
     }
 }

@@ -1,12 +1,10 @@
-//! Which disks were tried, and with which promises.
+//! Which disks were tried with which promises.
 use std::alloc::{AllocError, Global};
 use std::collections::HashSet;
 
-/// Digests of the disks that were tried, and of these with promises.
+/// Digests of the disks that were tried with those of promises, and with how many crashes of recoveries were still to be tried.
 #[derive(Drop)]
 pub struct Tried {
-    disks: HashSet<String>,
-    /// Also with how many crashes of recoveries were still to be tried.
     pairs: HashSet<String>,
 }
 
@@ -19,14 +17,8 @@ impl Tried {
     /// Nothing was tried yet.
     pub fn new(alloc: Global) -> Tried {
         Tried {
-            disks: HashSet::new(alloc),
             pairs: HashSet::new(alloc),
         }
-    }
-
-    /// How many disks were tried.
-    pub fn count_disks(&self) -> usize {
-        self.disks.len()
     }
 
     /// Adds a disk and a promise, by their digests, with how many crashes of recoveries are still to be tried. Whether that is new:
@@ -38,7 +30,6 @@ impl Tried {
         promise: &str,
         left: u32,
     ) -> Result<bool, AllocError> {
-        self.disks.insert(String::from_str(alloc, disk)?)?;
         let is_new = self.pairs.insert(pair_of(alloc, disk, promise, left)?)?;
         if is_new {
             for fewer in 0..left {

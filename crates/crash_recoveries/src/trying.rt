@@ -1,111 +1,88 @@
-//! The visitor that has the recovery run after each crash of a run.
+//! The visitor that finds what a crash leaves by bench's own rule.
 ghost use Rattle.std.specs.Prelude.{◌≡◌, true, IfSome};
 ghost use Rattle.disk_model.specs.Storage.{is_quiet};
 
-use crate::course::{Course, play};
-use crate::failure::Failure;
+use crate::course::{Course, Playing};
+use crate::mirror::{Mirror, differ_by_fill};
 use crate::point::{CrashPlace, Left};
 use crate::promise::Promise;
-use crate::recovery::Recovery;
 use crate::stop::Stop;
 use crate::taker::Taker;
-use crate::testing::Tester;
 use crash_outcomes::{FILLS, Fill, Moment, moment_of};
 use exec_runs::Ending;
-use journal::recover;
+use files::FileTable;
 use kernel::{Answer, Core, Event, SimDisk};
 use scripts::{EventText, Setup, Visitor, bytes_text, process_of};
-use std::io;
-use std::io::Write;
 use std::rt::Files;
+use std::thread::Threads;
 
-/// The visitor of a run that tries crashes, and has the recovery run on each disk that they leave, once with each promise.
+/// The files that a crash with this fill leaves.
+#[derive(Drop)]
+struct Crashed {
+    fill: Fill,
+    files: FileTable,
+}
+
+/// What crashes at a moment leave.
+#[derive(Drop)]
+struct Crashes {
+    moment: Moment,
+    promise: Promise,
+    left: Vec<Crashed>,
+}
+
+/// The visitor of a run that tries crashes, and gathers what they leave.
 #[derive(Drop)]
 pub struct Trier<'a, R> {
-    tester: Tester<'a, R>,
+    rt: &'a R,
     setup: &'a mut Setup,
+    mirror: Mirror,
     /// How many boots the run had.
     boots: u64,
     /// The lines of the run so far.
     played: String,
     /// How many disks no crash left, since a group of changes comes to the disk at once.
-    passed_over: u64,
+    pub passed_over: u64,
+    /// What crashes left that was not handed out yet.
+    found: Vec<Crashes>,
 }
 
 impl<'a, R: Files + AllocGlobal> Trier<'a, R> {
     /// Before the first boot.
-    pub fn new(rt: &'a R, setup: &'a mut Setup, recovery: &'a Recovery) -> Trier<'a, R> {
+    pub fn new(rt: &'a R, setup: &'a mut Setup) -> Trier<'a, R> {
         Trier {
-            tester: Tester::new(rt, recovery),
+            rt,
             setup,
+            mirror: Mirror::new(),
             boots: 0,
             played: String::new(rt.alloc()),
             passed_over: 0,
+            found: Vec::new(rt.alloc()),
         }
     }
 
-    /// Boots, and runs to the end. The last crash is tried there, where all is shown.
-    pub fn run(&mut self, course: &Course) -> Result<Ending, Stop> {
-        let core = self.boot(None)?;
-        let (core, ending) = play(self, core, course)?;
-        self.try_crashes(&core)?;
-        Ok(ending)
+    /// The lines of the run so far.
+    pub fn into_played(self) -> String {
+        let Trier { played, .. } = self;
+        played
     }
 
-    /// The first recovery that failed, if one did, and the lines of the run up to its crash.
-    pub fn into_failure(self) -> Option<(Failure, String)> {
-        let Trier { tester, played, .. } = self;
-        match tester.into_failure() {
-            Some(failure) => Some((failure, played)),
-            None => None,
-        }
-    }
-
-    /// Prints the recovery that failed, if one did, and how much was tried.
-    pub fn print<O: Write>(&self, out: &mut O) -> io::Result<()> {
-        if let Some(failure) = &self.tester.failure {
-            failure.print(out)?;
-        }
-        let (crashes, recoveries) = (self.tester.crashes, self.tester.recoveries);
-        let disks = self.tester.count_disks();
-        write!(
-            out,
-            "{crashes} crashes, {disks} disks, {recoveries} recoveries"
-        )?;
-        let passed_over = self.passed_over;
-        if passed_over > 0 {
-            write!(
-                out,
-                "; {passed_over} disks between changes of one group were not tried"
-            )?;
-        }
-        writeln!(out)
-    }
-
-    /// Tries a crash with this fill. The core itself goes on.
-    fn try_crash(
-        &mut self,
-        core: &Core,
-        moment: Moment,
-        fill: Fill,
-        promise: &Promise,
-    ) -> Result<(), Stop> {
-        let left = core.after_crash(fill.bytes())?;
-        let files = recover(self.tester.rt.alloc(), &left)?;
-        let place = CrashPlace {
-            moment,
-            left: Left::Filled(fill),
-        };
-        self.tester.take(files.list(), promise, place, "")
-    }
-
-    /// Tries a crash now, with each fill.
+    /// Tries a crash now, with each fill. The core itself goes on.
     fn try_crashes(&mut self, core: &Core) -> Result<(), Stop> {
-        let moment = moment_of(self.boots, core);
-        let promise = Promise::of(self.tester.rt.alloc(), core)?;
+        let alloc = self.rt.alloc();
+        let mut left = Vec::new(alloc);
         for fill in FILLS {
-            self.try_crash(core, moment, fill, &promise)?;
+            let files = self.mirror.files_after(alloc, core, fill)?;
+            left.push(Crashed { fill, files })?;
+            if !differ_by_fill(core) {
+                break;
+            }
         }
+        self.found.push(Crashes {
+            moment: moment_of(self.boots, core),
+            promise: Promise::of(alloc, core)?,
+            left,
+        })?;
         Ok(())
     }
 
@@ -113,8 +90,9 @@ impl<'a, R: Files + AllocGlobal> Trier<'a, R> {
     fn boot(&mut self, left: Option<SimDisk>) -> Result<Core, Stop>
         requires { IfSome left (λ device. is_quiet device ≡ true) }
     {
-        let core = self.setup.boot(self.tester.rt, left)?;
+        let core = self.setup.boot(self.rt, left)?;
         self.boots = self.boots.saturating_add(1);
+        self.mirror = Mirror::new();
         self.try_crashes(&core)?;
         Ok(core)
     }
@@ -127,8 +105,57 @@ impl<'a, R: Files + AllocGlobal> Trier<'a, R> {
     }
 }
 
+/// Hands out what crashes at a moment left.
+fn hand_out<T: Taker>(crashes: &Crashes, taker: &mut T) -> Result<(), Stop> {
+    let mut others = FILLS.len() as u64;
+    for crashed in &crashes.left {
+        let place = CrashPlace {
+            moment: crashes.moment,
+            left: Left::Filled(crashed.fill),
+        };
+        taker.take(crashed.files.list(), &crashes.promise, place, "")?;
+        others = others.saturating_sub(1);
+    }
+    taker.again(others);
+    Ok(())
+}
+
+impl<R: Files + AllocGlobal + Threads + Sync> Trier<'_, R> {
+    /// Hands out what was found since the last time.
+    fn hand_out_all<T: Taker>(&mut self, taker: &mut T) -> Result<(), Stop> {
+        let mut found = Vec::new(self.rt.alloc());
+        found.append(&mut self.found)?;
+        for crashes in &found {
+            hand_out(crashes, taker)?;
+        }
+        taker.settle(self.rt)
+    }
+
+    /// Boots, and runs to the end; what crashes leave is handed out after each step. The last crash is tried at the end, where all is
+    /// shown.
+    pub fn run<T: Taker>(&mut self, course: &Course, taker: &mut T) -> Result<Ending, Stop> {
+        let core = self.boot(None)?;
+        let mut playing = Playing::begin(core, course);
+        for _ in 0..u64::MAX {
+            let ending = playing.step(self)?;
+            if let (Some(_), Some(core)) = (ending, playing.core()) {
+                self.try_crashes(core)?;
+            }
+            self.hand_out_all(taker)?;
+            if let Some(ending) = ending {
+                return Ok(ending);
+            }
+        }
+        Ok(Ending::Over)
+    }
+}
+
 impl<R: Files + AllocGlobal> Visitor for Trier<'_, R> {
     type Fault = Stop;
+
+    fn before(&mut self, core: &Core, event: Event) -> Result<(), Stop> {
+        Ok(self.mirror.before(core, event)?)
+    }
 
     /// Tries crashes after each event of the disk. No other event changes the disk or its writes in flight.
     fn after(&mut self, core: &Core, event: Event, answer: Answer) -> Result<(), Stop> {
@@ -143,7 +170,7 @@ impl<R: Files + AllocGlobal> Visitor for Trier<'_, R> {
 
     fn crash(&mut self, core: Core, fill: &[u8]) -> Result<Core, Stop> {
         self.try_crashes(&core)?;
-        let digits = bytes_text(self.tester.rt.alloc(), fill)?;
+        let digits = bytes_text(self.rt.alloc(), fill)?;
         writeln!(self.played, "crash {digits}")?;
         self.boot(Some(core.halt(fill)))
     }

@@ -1,17 +1,41 @@
 //! `try_recoveries`: whether the user's recovery gets over each crash of a run.
+ghost use Rattle.std.specs.Prelude.{◌≡◌, true, is_some, IfOk, Ok};
+ghost use Rattle.exec_runs.specs.declared.ending.Ending.TheVariants.{Over};
+ghost use Rattle.crash_recoveries.specs.Verdicts.{is_failed, is_kept};
+
 use crate::course::Course;
+use crate::effort::Effort;
 use crate::failure::Failure;
 use crate::recovery::Recovery;
 use crate::stop::Stop;
+use crate::taker::Taker;
 use crate::testing::Tester;
 use crate::trying::Trier;
 use crate::windows::{Bound, Rule, WindowTrier};
+use crash_outcomes::Moment;
 use exec_runs::Ending;
 use faults::Fault;
+use progress::Progress;
 use scripts::Setup;
+use std::alloc::{AllocError, Global};
 use std::io;
 use std::io::Write;
 use std::rt::Files;
+use std::thread::Threads;
+
+/// What is run, and how.
+#[derive(Drop)]
+pub struct Subject<'a> {
+    pub setup: &'a mut Setup,
+    pub course: &'a Course,
+}
+
+/// By which rule crashes are tried, if it is another than bench's, and how much.
+#[derive(Clone, Copy)]
+pub struct Trial {
+    pub rule: Option<Rule>,
+    pub effort: Effort,
+}
 
 /// What came of the recoveries.
 #[derive(Drop)]
@@ -26,83 +50,166 @@ pub enum Verdict {
     TooLong,
 }
 
-/// Whether a fault ended all.
-fn has_fault(done: &Result<Ending, Stop>) -> bool {
-    matches!(done, Err(Stop::Fault(_)))
+/// What is said of what was not tried.
+#[derive(Clone, Copy)]
+enum Untried {
+    /// So many disks between changes of one group.
+    Between(u64),
+    /// What is past this bound.
+    Past(Bound),
+}
+
+/// A run whose crashes were tried.
+#[derive(Drop)]
+struct TriedRun {
+    done: Result<Ending, Stop>,
+    /// Its lines.
+    played: String,
+    untried: Untried,
+}
+
+fn run_by_bench<R: Files + AllocGlobal + Threads + Sync, T: Taker>(
+    rt: &R,
+    subject: Subject<'_>,
+    taker: &mut T,
+) -> TriedRun {
+    let Subject { setup, course } = subject;
+    let mut trier = Trier::new(rt, setup);
+    let done = trier.run(course, taker);
+    let untried = Untried::Between(trier.passed_over);
+    TriedRun {
+        done,
+        played: trier.into_played(),
+        untried,
+    }
+}
+
+fn run_by_rule<R: Files + AllocGlobal + Threads + Sync, T: Taker>(
+    rt: &R,
+    subject: Subject<'_>,
+    rule: Rule,
+    taker: &mut T,
+) -> TriedRun {
+    let Subject { setup, course } = subject;
+    let mut trier = WindowTrier::new(rt, setup, rule);
+    let done = trier.run(course, taker);
+    let untried = Untried::Past(trier.bound());
+    TriedRun {
+        done,
+        played: trier.into_played(),
+        untried,
+    }
+}
+
+/// The lines of a run up to a moment.
+fn lines_up_to(alloc: Global, played: &str, moment: Moment) -> Result<String, AllocError> {
+    let mut lines = String::new(alloc);
+    let (mut boot, mut event) = (1u64, 0u64);
+    for line in played.lines() {
+        if boot == moment.boot && event == moment.event {
+            break;
+        }
+        lines.push_str(line)?;
+        lines.push_str("\n")?;
+        if line.starts_with("crash ") {
+            boot = boot.saturating_add(1);
+            event = 0;
+        } else {
+            event = event.saturating_add(1);
+        }
+    }
+    Ok(lines)
+}
+
+/// Prints how much was tried, and what was not.
+fn print_sums<R: Files + AllocGlobal, E: Write, O: Write>(
+    tester: &Tester<'_, R, E>,
+    untried: Untried,
+    effort: Effort,
+    out: &mut O,
+) -> io::Result<()> {
+    let (tally, disks) = (tester.tally(), tester.count_disks());
+    let recoveries = tally.recoveries;
+    match untried {
+        Untried::Between(passed_over) => {
+            let crashes = tally.crashes;
+            write!(
+                out,
+                "{crashes} crashes, {disks} disks, {recoveries} recoveries"
+            )?;
+            if passed_over > 0 {
+                write!(
+                    out,
+                    "; {passed_over} disks between changes of one group were not tried"
+                )?;
+            }
+        }
+        Untried::Past(bound) => {
+            write!(out, "{disks} disks, {recoveries} recoveries")?;
+            if tester.failure.is_none() {
+                write!(out, "{bound}")?;
+            }
+        }
+    }
+    if let Some(part) = effort.part {
+        let (number, of, others) = (part.number, part.of, tally.others);
+        write!(
+            out,
+            "; part {number}/{of}: {others} disks of other parts were not tried"
+        )?;
+    }
+    writeln!(out)
 }
 
 /// The verdict where recoveries were tried to this end.
 fn verdict_of(
+    alloc: Global,
     done: Result<Ending, Stop>,
-    failed: Option<(Failure, String)>,
-) -> Result<Verdict, Fault> {
-    match (done, failed) {
+    failure: Option<Failure>,
+    played: &str,
+) -> Result<Verdict, Fault>
+    ensures failed { IfOk result (λ verdict. is_failed verdict ≡ is_some failure) }
+    ensures kept { IfOk result (λ verdict. is_kept verdict ≡ true → done ≡ Ok Over) }
+{
+    match (done, failure) {
         (Err(Stop::Fault(fault)), _) => Err(fault),
-        (_, Some((failure, played))) => Ok(Verdict::Failed(failure, played)),
+        (_, Some(failure)) => {
+            let lines = lines_up_to(alloc, played, failure.point.place.moment)?;
+            Ok(Verdict::Failed(failure, lines))
+        }
         (Ok(Ending::Limit { .. } | Ending::Full { .. }), None) => Ok(Verdict::Cut),
         (Err(_), None) => Ok(Verdict::TooLong),
         (Ok(Ending::Over), None) => Ok(Verdict::Kept),
     }
 }
 
-/// Prints the recovery that failed, or up to which bound none did.
-fn print_by_rule<R: Files + AllocGlobal, O: Write>(
-    tester: &Tester<'_, R>,
-    bound: Bound,
+/// Runs what is set up, and tries crashes as `explore` does, and one more at the end. On each disk that a crash leaves the recovery is
+/// run, once with each promise, and again after its own crashes. By a rule, if one is given, the disks are those that this rule allows
+/// between two syncs, and what was printed is promised. Prints the first recovery that fails, which ends all, and how much was tried. Each
+/// disk and promise has its turn, whatever comes of the others: what is printed is the same, however many threads run recoveries. How far
+/// it has come is told to `err`, if that is wanted.
+pub fn try_recoveries<R: Files + AllocGlobal + Threads + Sync, O: Write, E: Write>(
+    rt: &R,
+    subject: Subject<'_>,
+    recovery: &Recovery,
+    trial: Trial,
     out: &mut O,
-) -> io::Result<()> {
+    err: &mut E,
+) -> Result<Verdict, Fault> {
+    let alloc = rt.alloc();
+    let progress = Progress::new(rt, err, trial.effort.progress);
+    let mut tester = Tester::new(rt, &recovery.program, trial.effort, progress);
+    let run = match trial.rule {
+        Some(rule) => run_by_rule(rt, subject, rule, &mut tester),
+        None => run_by_bench(rt, subject, &mut tester),
+    };
+    let done = tester.finish(rt, run.done);
+    if let Err(Stop::Fault(fault)) = done {
+        return Err(fault);
+    }
     if let Some(failure) = &tester.failure {
         failure.print(out)?;
     }
-    let (disks, recoveries) = (tester.count_disks(), tester.recoveries);
-    write!(out, "{disks} disks, {recoveries} recoveries")?;
-    match &tester.failure {
-        Some(_) => writeln!(out),
-        None => bound.print(out),
-    }
-}
-
-fn try_by_rule<R: Files + AllocGlobal, O: Write>(
-    rt: &R,
-    setup: &mut Setup,
-    course: &Course,
-    recovery: &Recovery,
-    rule: Rule,
-    out: &mut O,
-) -> Result<Verdict, Fault> {
-    let mut tester = Tester::new(rt, recovery);
-    let mut trier = WindowTrier::new(rt, setup, rule, &mut tester);
-    let done = trier.run(course);
-    let bound = trier.bound();
-    let played = trier.into_played();
-    if !has_fault(&done) {
-        print_by_rule(&tester, bound, out)?;
-    }
-    let failed = match tester.into_failure() {
-        Some(failure) => Some((failure, played)),
-        None => None,
-    };
-    verdict_of(done, failed)
-}
-
-/// Runs what is set up, and tries crashes as `explore` does, and one more at the end. On each disk that a crash leaves the recovery is
-/// run, once with each promise, and again after its own crashes. By a rule, if one is given, the disks are those that this rule allows
-/// between two syncs, and what was printed is promised. Prints the first recovery that fails, which ends all, and how much was tried.
-pub fn try_recoveries<R: Files + AllocGlobal, O: Write>(
-    rt: &R,
-    setup: &mut Setup,
-    course: &Course,
-    recovery: &Recovery,
-    rule: Option<Rule>,
-    out: &mut O,
-) -> Result<Verdict, Fault> {
-    if let Some(rule) = rule {
-        return try_by_rule(rt, setup, course, recovery, rule, out);
-    }
-    let mut trier = Trier::new(rt, setup, recovery);
-    let done = trier.run(course);
-    if !has_fault(&done) {
-        trier.print(out)?;
-    }
-    verdict_of(done, trier.into_failure())
+    print_sums(&tester, run.untried, trial.effort, out)?;
+    verdict_of(alloc, done, tester.into_failure(), run.played.as_str())
 }

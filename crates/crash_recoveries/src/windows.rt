@@ -2,7 +2,7 @@
 ghost use Rattle.std.specs.Prelude.{◌≡◌, true, IfSome};
 ghost use Rattle.disk_model.specs.Storage.{is_quiet};
 
-use crate::course::{Course, play};
+use crate::course::{Course, Playing};
 use crate::point::{CrashPlace, Left};
 use crate::promise::Promise;
 use crate::stop::Stop;
@@ -15,9 +15,9 @@ use disk_model::MOST_FILES;
 use exec_runs::Ending;
 use kernel::{Answer, Core, Event, SimDisk};
 use scripts::{EventText, Setup, Visitor, bytes_text};
-use std::io;
-use std::io::Write;
+use std::fmt;
 use std::rt::Files;
+use std::thread::Threads;
 
 /// A rule of what a crash may leave, and how far it is tried.
 #[derive(Clone, Copy)]
@@ -36,29 +36,32 @@ pub struct Bound {
     too_many: u64,
 }
 
-impl Bound {
-    /// Prints the rest of a line.
-    pub fn print<O: Write>(self, out: &mut O) -> io::Result<()> {
+impl fmt::Display for Bound {
+    fn fmt<W: fmt::Write>(&self, f: &mut fmt::Formatter<W>) -> fmt::Result {
         match self.apart {
-            Some(apart) => write!(out, ", all with at most {apart} cells apart")?,
-            None => write!(out, ", all")?,
+            Some(apart) => write!(f, ", all with at most {apart} cells apart")?,
+            None => write!(f, ", all")?,
         }
         let too_many = self.too_many;
         if too_many > 0 {
-            write!(
-                out,
-                "; {too_many} lists of more than 32 files were not tried"
-            )?;
+            write!(f, "; {too_many} lists of more than 32 files were not tried")?;
         }
-        writeln!(out)
+        Ok(())
     }
+}
+
+/// A window that has ended, with all that was printed by then.
+#[derive(Drop)]
+struct Closed {
+    moment: Moment,
+    window: Window,
+    promise: Promise,
 }
 
 /// The visitor of a run that finds, at each sync and at the end, the disks that a crash may leave by a rule since the last sync.
 #[derive(Drop)]
-pub struct WindowTrier<'a, R, T> {
+pub struct WindowTrier<'a, R> {
     rt: &'a R,
-    taker: &'a mut T,
     setup: &'a mut Setup,
     rule: Rule,
     /// How many boots the run had.
@@ -71,6 +74,8 @@ pub struct WindowTrier<'a, R, T> {
     changes: u64,
     /// Whether the next event is a sync.
     is_sync: bool,
+    /// Windows whose lists were not handed out yet.
+    closed: Vec<Closed>,
     /// Whether lists were left out, in which more cells are apart.
     is_cut: bool,
     /// How many lists have more files than a disk.
@@ -88,12 +93,11 @@ fn is_sync(core: &Core, event: Event) -> bool {
     }
 }
 
-impl<'a, R: Files + AllocGlobal, T: Taker> WindowTrier<'a, R, T> {
+impl<'a, R: Files + AllocGlobal> WindowTrier<'a, R> {
     /// Before the first boot.
-    pub fn new(rt: &'a R, setup: &'a mut Setup, rule: Rule, taker: &'a mut T) -> Self {
+    pub fn new(rt: &'a R, setup: &'a mut Setup, rule: Rule) -> WindowTrier<'a, R> {
         WindowTrier {
             rt,
-            taker,
             setup,
             rule,
             boots: 0,
@@ -101,17 +105,10 @@ impl<'a, R: Files + AllocGlobal, T: Taker> WindowTrier<'a, R, T> {
             window: None,
             changes: 0,
             is_sync: false,
+            closed: Vec::new(rt.alloc()),
             is_cut: false,
             too_many: 0,
         }
-    }
-
-    /// Boots, and runs to the end, which is tried as a sync is.
-    pub fn run(&mut self, course: &Course) -> Result<Ending, Stop> {
-        let core = self.boot(None)?;
-        let (core, ending) = play(self, core, course)?;
-        self.close(&core)?;
-        Ok(ending)
     }
 
     /// Up to which bound all was tried.
@@ -132,54 +129,15 @@ impl<'a, R: Files + AllocGlobal, T: Taker> WindowTrier<'a, R, T> {
         played
     }
 
-    /// Hands out a list of files, if a disk may hold it.
-    fn try_list(&mut self, moment: Moment, listed: &Listed, promise: &Promise) -> Result<(), Stop> {
-        if listed.files.count() > MOST_FILES {
-            self.too_many = self.too_many.saturating_add(1);
-            return Ok(());
-        }
-        let place = CrashPlace {
-            moment,
-            left: Left::Apart(listed.apart),
-        };
-        self.taker
-            .take(&listed.files, promise, place, listed.told.as_str())
-    }
-
-    /// Tries the lists of a window in which so many cells are apart. Whether there are others, with more.
-    fn try_apart(
-        &mut self,
-        moment: Moment,
-        window: &Window,
-        promise: &Promise,
-        apart: u32,
-    ) -> Result<bool, Stop> {
-        let mut is_cut = false;
-        for common in 0..=window.changes() {
-            let alloc = self.rt.alloc();
-            let near = lists_near(alloc, window, self.rule.model, common, apart)?;
-            is_cut = is_cut || near.is_cut;
-            for listed in near.lists.iter().filter(|listed| listed.apart == apart) {
-                self.try_list(moment, listed, promise)?;
-            }
-        }
-        Ok(is_cut)
-    }
-
-    /// Tries what a crash may leave in the window that ends now, by rising number of cells apart, with all that was printed.
+    /// Ends the window, with all that was printed.
     fn close(&mut self, core: &Core) -> Result<(), Stop> {
-        let Some(window) = self.window.take() else {
-            return Ok(());
-        };
-        let promise = Promise::printed(self.rt.alloc(), core)?;
-        let moment = moment_of(self.boots, core);
-        for apart in 0..=self.rule.apart {
-            let is_cut = self.try_apart(moment, &window, &promise, apart)?;
-            if !is_cut {
-                return Ok(());
-            }
+        if let Some(window) = self.window.take() {
+            self.closed.push(Closed {
+                moment: moment_of(self.boots, core),
+                window,
+                promise: Promise::printed(self.rt.alloc(), core)?,
+            })?;
         }
-        self.is_cut = true;
         Ok(())
     }
 
@@ -212,9 +170,88 @@ impl<'a, R: Files + AllocGlobal, T: Taker> WindowTrier<'a, R, T> {
         self.open(&core)?;
         Ok(core)
     }
+
+    /// Hands out a list of files, if a disk may hold it.
+    fn hand_out<T: Taker>(
+        &mut self,
+        closed: &Closed,
+        listed: &Listed,
+        taker: &mut T,
+    ) -> Result<(), Stop> {
+        if listed.files.count() > MOST_FILES {
+            self.too_many = self.too_many.saturating_add(1);
+            return Ok(());
+        }
+        let place = CrashPlace {
+            moment: closed.moment,
+            left: Left::Apart(listed.apart),
+        };
+        taker.take(&listed.files, &closed.promise, place, listed.told.as_str())
+    }
 }
 
-impl<R: Files + AllocGlobal, T: Taker> Visitor for WindowTrier<'_, R, T> {
+impl<R: Files + AllocGlobal + Threads + Sync> WindowTrier<'_, R> {
+    /// Hands out the lists of a window in which so many cells are apart. Whether there are others, with more.
+    fn try_apart<T: Taker>(
+        &mut self,
+        closed: &Closed,
+        apart: u32,
+        taker: &mut T,
+    ) -> Result<bool, Stop> {
+        let mut is_cut = false;
+        for common in 0..=closed.window.changes() {
+            let alloc = self.rt.alloc();
+            let near = lists_near(alloc, &closed.window, self.rule.model, common, apart)?;
+            is_cut = is_cut || near.is_cut;
+            for listed in near.lists.iter().filter(|listed| listed.apart == apart) {
+                self.hand_out(closed, listed, taker)?;
+            }
+            taker.settle(self.rt)?;
+        }
+        Ok(is_cut)
+    }
+
+    /// Hands out what a crash may leave in a window, by rising number of cells apart.
+    fn try_window<T: Taker>(&mut self, closed: &Closed, taker: &mut T) -> Result<(), Stop> {
+        for apart in 0..=self.rule.apart {
+            let is_cut = self.try_apart(closed, apart, taker)?;
+            if !is_cut {
+                return Ok(());
+            }
+        }
+        self.is_cut = true;
+        Ok(())
+    }
+
+    /// Hands out what a crash may leave in the windows that have ended.
+    fn try_closed<T: Taker>(&mut self, taker: &mut T) -> Result<(), Stop> {
+        let mut all = Vec::new(self.rt.alloc());
+        all.append(&mut self.closed)?;
+        for closed in &all {
+            self.try_window(closed, taker)?;
+        }
+        Ok(())
+    }
+
+    /// Boots, and runs to the end, which is tried as a sync is. What crashes may leave is handed out after each step.
+    pub fn run<T: Taker>(&mut self, course: &Course, taker: &mut T) -> Result<Ending, Stop> {
+        let core = self.boot(None)?;
+        let mut playing = Playing::begin(core, course);
+        for _ in 0..u64::MAX {
+            let ending = playing.step(self)?;
+            if let (Some(_), Some(core)) = (ending, playing.core()) {
+                self.close(core)?;
+            }
+            self.try_closed(taker)?;
+            if let Some(ending) = ending {
+                return Ok(ending);
+            }
+        }
+        Ok(Ending::Over)
+    }
+}
+
+impl<R: Files + AllocGlobal> Visitor for WindowTrier<'_, R> {
     type Fault = Stop;
 
     fn before(&mut self, core: &Core, event: Event) -> Result<(), Stop> {

@@ -1,0 +1,41 @@
+//! Disks on which the recovery is to be run.
+use crate::point::{Chain, CrashPoint};
+use crate::promise::Promise;
+use files::FileList;
+
+/// How much was tried.
+#[derive(Clone, Copy)]
+pub struct Tally {
+    pub crashes: u64,
+    pub recoveries: u64,
+    /// How many disks and promises are left to other parts.
+    pub others: u64,
+}
+
+impl Tally {
+    /// Nothing.
+    pub const NONE: Tally = Tally {
+        crashes: 0,
+        recoveries: 0,
+        others: 0,
+    };
+}
+
+/// A disk that a crash of the run left, and what was promised before.
+#[derive(Drop)]
+pub struct Pending {
+    pub point: CrashPoint,
+    pub files: FileList,
+    pub promise: Promise,
+    /// How much of the run was tried up to its crash.
+    pub before: Tally,
+    /// How much was tried of recoveries on it.
+    pub tried: Tally,
+}
+
+/// A run of the recovery: on which of the disks, and after which crashes of recoveries.
+#[derive(Drop)]
+pub struct Job {
+    pub disk: usize,
+    pub chain: Chain,
+}

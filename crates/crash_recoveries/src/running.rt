@@ -1,0 +1,79 @@
+//! Runs the recovery on a disk.
+use crate::course::{play_some, play_to_end};
+use crate::failure::Failure;
+use crate::nested::{Nested, NestedCrash};
+use crate::pending::Pending;
+use crate::point::CrashPoint;
+use crate::recovery::RecoveryProgram;
+use exec_reports::status_of_run;
+use faults::Fault;
+use kernel::Core;
+use scripts::Setup;
+use std::rt::Files;
+
+/// What came of a run of the recovery.
+#[derive(Drop)]
+pub struct Ran {
+    /// Whether it ended with another status than 0.
+    pub has_failed: bool,
+    /// How many of its crashes were tried.
+    pub crashes: u64,
+    /// What they left, each disk once.
+    pub left: Vec<NestedCrash>,
+}
+
+/// The core after the crashes of a chain.
+fn reach<R: Files + AllocGlobal>(
+    rt: &R,
+    setup: &mut Setup,
+    chain: &[CrashPoint],
+    limit: u64,
+) -> Result<Core, Fault> {
+    let mut core = setup.boot(rt, None)?;
+    for point in chain {
+        play_some(&mut core, limit, point.events())?;
+        let left = core.halt(point.fill().bytes());
+        core = setup.boot(rt, Some(left))?;
+    }
+    Ok(core)
+}
+
+/// Runs the recovery on a disk after the crashes of a chain, and tries its crashes where more may come.
+pub fn run_recovery<R: Files + AllocGlobal>(
+    rt: &R,
+    program: &RecoveryProgram,
+    disk: &Pending,
+    chain: &[CrashPoint],
+) -> Result<Ran, Fault> {
+    let mut setup = program.setup(rt.alloc(), &disk.files, &disk.promise)?;
+    let mut core = reach(rt, &mut setup, chain, program.limit)?;
+    let before = chain.len() as u64;
+    let mut nested = Nested::new(rt.alloc(), before, before < u64::from(program.nested));
+    let ending = play_to_end(&mut nested, &mut core, program.limit)?;
+    let (crashes, left) = nested.into_crashes();
+    Ok(Ran {
+        has_failed: status_of_run(&core, ending) != 0,
+        crashes,
+        left,
+    })
+}
+
+/// Runs a recovery that fails once more, and gives what there is to tell of it.
+pub fn failure_of<R: Files + AllocGlobal>(
+    rt: &R,
+    program: &RecoveryProgram,
+    disk: &Pending,
+    chain: Vec<CrashPoint>,
+) -> Result<Failure, Fault> {
+    let mut setup = program.setup(rt.alloc(), &disk.files, &disk.promise)?;
+    let mut core = reach(rt, &mut setup, chain.as_slice(), program.limit)?;
+    let mut nested = Nested::new(rt.alloc(), 0, false);
+    let ending = play_to_end(&mut nested, &mut core, program.limit)?;
+    Ok(Failure {
+        point: disk.point.try_clone(rt.alloc())?,
+        chain,
+        setup,
+        core,
+        ending,
+    })
+}
