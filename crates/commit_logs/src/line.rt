@@ -36,18 +36,18 @@ fn add_written(text: &mut LineText, written: Written) {
     text.add(b" x");
     text.add_register(written.register);
     text.add(b" ");
-    text.add_hexadecimal(written.value, 8);
+    text.add_word(written.value);
 }
 
 /// Adds an access, a value with as many digits as were stored.
 fn add_access(text: &mut LineText, access: Access) {
     text.add(b" mem ");
     match access {
-        Access::Load { at } => text.add_hexadecimal(at, 8),
+        Access::Load { at } => text.add_word(at),
         Access::Store { at, value, bytes } => {
-            text.add_hexadecimal(at, 8);
+            text.add_word(at);
             text.add(b" ");
-            text.add_hexadecimal(value, bytes.wrapping_mul(2));
+            text.add_bytes(value, bytes);
         }
     }
 }
@@ -57,9 +57,9 @@ impl Line {
     pub fn write<O: Write>(&self, out: &mut O) -> io::Result<()> {
         let mut text = LineText::new();
         text.add(b"core   0: 3 ");
-        text.add_hexadecimal(self.at, 8);
+        text.add_word(self.at);
         text.add(b" (");
-        text.add_hexadecimal(self.word, 8);
+        text.add_word(self.word);
         text.add(b")");
         if let Some(written) = self.written {
             add_written(&mut text, written);

@@ -99,6 +99,27 @@ impl Running<'_, '_> {
         Ok(())
     }
 
+    /// Whether the last row begins where the registers are.
+    fn is_at_last(&self) -> bool {
+        match self.lines.rows.as_slice().last() {
+            Some(row) => row.place.is_some() && row.address == self.registers.address,
+            None => false,
+        }
+    }
+
+    /// Ends a range of code. Rows that begin where it ends are of no code, as all are of code that a linker left out.
+    fn end(&mut self) -> Result<(), Broken> {
+        for _ in 0..self.lines.rows.len() {
+            if !self.is_at_last() {
+                break;
+            }
+            self.lines.rows.pop();
+        }
+        self.push(None)?;
+        self.registers = BEGIN;
+        Ok(())
+    }
+
     /// Moves the address on, by so many instructions.
     fn advance(&mut self, count: u64) {
         let bytes = count.wrapping_mul(u64::from(self.opcodes.step));
@@ -130,10 +151,7 @@ impl Running<'_, '_> {
         let bytes = whole(program.take(usize::try_from(length).unwrap_or(usize::MAX)))?;
         let mut operands = Cursor::new(bytes);
         match operands.byte() {
-            Some(1) => {
-                self.push(None)?;
-                self.registers = BEGIN;
-            }
+            Some(1) => self.end()?,
             Some(2) => self.registers.address = whole(operands.word())?,
             _ => {}
         }

@@ -1,5 +1,7 @@
 //! The symbols of an executable.
-use crate::sections::{bytes_to_zero, content, half_at, section_count, section_numbered, word_at};
+use crate::sections::{
+    bytes_to_zero, content, end_of, half_at, section_count, section_numbered, word_at,
+};
 use std::alloc::{AllocError, Global};
 
 /// How many bytes a symbol has.
@@ -17,6 +19,8 @@ const FUNCTION: u8 = 2;
 pub struct Function {
     pub name: String,
     pub start: u32,
+    /// The address behind it, at most: that of the next one may come before.
+    end: u32,
 }
 
 impl Drop for Function {
@@ -24,6 +28,7 @@ impl Drop for Function {
         let Function {
             name: _name,
             start: _,
+            end: _,
         } = self;
     }
 }
@@ -33,16 +38,29 @@ fn name_at(names: &[u8], at: usize) -> Option<&str> {
     str::from_utf8(bytes_to_zero(names, at)?).ok()
 }
 
-/// The name and the place of a symbol that may name code.
-fn code_named<'a>(symbol: &[u8], names: &'a [u8]) -> Option<(&'a str, u32)> {
+/// The name of a symbol that may name code.
+fn code_named<'a>(symbol: &[u8], names: &'a [u8]) -> Option<&'a str> {
     let kind = *symbol.get(12)? & 15;
     let is_there = half_at(symbol, 14)? != 0;
     let name = name_at(names, word_at(symbol, 0)? as usize)?;
     let is_named = !name.is_empty() && !name.starts_with('$') && !name.starts_with('.');
     if is_there && is_named && (kind == NO_KIND || kind == FUNCTION) {
-        Some((name, word_at(symbol, 4)?))
+        Some(name)
     } else {
         None
+    }
+}
+
+/// Where what a symbol names begins, and the address behind it: by its size, and where it has none by its section. None where it is of
+/// no section of the file.
+fn range_of(file: &[u8], symbol: &[u8]) -> Option<(u32, u32)> {
+    let start = word_at(symbol, 4)?;
+    match word_at(symbol, 8)? {
+        0 => {
+            let section = section_numbered(file, u32::from(half_at(symbol, 14)?))?;
+            Some((start, end_of(section)))
+        }
+        size => Some((start, start.saturating_add(size))),
     }
 }
 
@@ -65,15 +83,17 @@ pub fn functions_of(alloc: Global, file: &[u8]) -> Result<Vec<Function>, AllocEr
         return Ok(functions);
     };
     for symbol in symbols.chunks_exact(SYMBOL) {
-        if let Some((name, start)) = code_named(symbol, names) {
+        if let Some(name) = code_named(symbol, names)
+            && let Some((start, end)) = range_of(file, symbol)
+        {
             let name = String::from_str(alloc, name)?;
-            functions.push(Function { name, start })?;
+            functions.push(Function { name, start, end })?;
         }
     }
     Ok(functions)
 }
 
-/// The last function that begins at an address or before it.
+/// The last function that begins at an address or before it; None where that ends before.
 pub fn function_at(functions: &[Function], address: u32) -> Option<&Function> {
     let mut found: Option<&Function> = None;
     for function in functions {
@@ -85,5 +105,8 @@ pub fn function_at(functions: &[Function], address: u32) -> Option<&Function> {
             found = Some(function);
         }
     }
-    found
+    match found {
+        Some(function) if address < function.end => Some(function),
+        _ => None,
+    }
 }

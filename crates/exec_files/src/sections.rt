@@ -9,6 +9,7 @@ pub struct Section {
     /// Where its name begins among those of all sections.
     name: u32,
     pub kind: u32,
+    address: u32,
     offset: usize,
     size: usize,
     /// The number of another section that belongs to it.
@@ -36,16 +37,26 @@ pub fn section_count(file: &[u8]) -> u32 {
 
 /// The section of a number, by the header of a file.
 pub fn section_numbered(file: &[u8], number: u32) -> Option<Section> {
+    if number >= section_count(file) {
+        return None;
+    }
     let table = word_at(file, 32)? as usize;
     let at = table.checked_add((number as usize).checked_mul(SECTION_HEADER)?)?;
     let header = file.get(at..)?;
     Some(Section {
         name: word_at(header, 0)?,
         kind: word_at(header, 4)?,
+        address: word_at(header, 12)?,
         offset: word_at(header, 16)? as usize,
         size: word_at(header, 20)? as usize,
         link: word_at(header, 24)?,
     })
+}
+
+/// The address behind a section, as far as there are addresses.
+pub fn end_of(section: Section) -> u32 {
+    let size = u32::try_from(section.size).unwrap_or(u32::MAX);
+    section.address.saturating_add(size)
 }
 
 /// The bytes of a section.

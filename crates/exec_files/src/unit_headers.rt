@@ -211,6 +211,23 @@ fn paths_of<'a>(
     Ok(paths)
 }
 
+/// The files of a unit of this version, as the rest of its header has them.
+fn files_of<'a>(
+    alloc: Global,
+    version: u16,
+    header: &mut Cursor<'a>,
+    names: NameSections<'a>,
+) -> Result<Vec<&'a [u8]>, Broken> {
+    match version {
+        2..=4 => files_before_5(alloc, header),
+        5 => {
+            paths_of(alloc, header, names)?;
+            paths_of(alloc, header, names)
+        }
+        _ => Err(Broken::Damaged),
+    }
+}
+
 /// The header of a unit, whose bytes begin after its length.
 pub fn header_of<'a>(
     alloc: Global,
@@ -224,19 +241,10 @@ pub fn header_of<'a>(
     }
     let length = whole(program.word())?;
     let mut header = Cursor::new(whole(program.take(length as usize))?);
-    let opcodes = whole(opcodes_of(version, &mut header))?;
-    let files = match version {
-        2..=4 => files_before_5(alloc, &mut header)?,
-        5 => {
-            paths_of(alloc, &mut header, names)?;
-            paths_of(alloc, &mut header, names)?
-        }
-        _ => return Err(Broken::Damaged),
-    };
     Ok(Header {
-        opcodes,
+        opcodes: whole(opcodes_of(version, &mut header))?,
         first: if version == 5 { 0 } else { 1 },
-        files,
+        files: files_of(alloc, version, &mut header, names)?,
         program,
     })
 }

@@ -19,7 +19,9 @@ pub struct ProcessCounts {
 /// How much each process did, from process 1 on.
 pub struct Counts {
     processes: Vec<ProcessCounts>,
-    /// The number of the call at which the process stands that is to enter the kernel.
+    /// The process of the event that is to be applied; 0 where it is of none.
+    pid: u32,
+    /// The number of the call at which it stands, where it is to enter the kernel.
     call: Option<usize>,
 }
 
@@ -27,6 +29,7 @@ impl Drop for Counts {
     fn drop(self) {
         let Counts {
             processes: _processes,
+            pid: _,
             call: _,
         } = self;
     }
@@ -59,6 +62,7 @@ impl Counts {
     pub fn new(alloc: Global) -> Counts {
         Counts {
             processes: Vec::new(alloc),
+            pid: 0,
             call: None,
         }
     }
@@ -103,21 +107,20 @@ impl Counts {
 
     /// Is told of an event that is to be applied.
     pub fn before(&mut self, core: &Core, event: Event) {
-        self.call = match event {
-            Event::Enter { pid } => call_at(core, pid),
-            _ => None,
+        let (pid, call) = match event {
+            Event::Turn { pid, .. } => (pid, None),
+            Event::Enter { pid } => (pid, call_at(core, pid)),
+            _ => (0, None),
         };
+        self.pid = pid;
+        self.call = call;
     }
 
     /// Is told of the same event after it was applied.
-    pub fn after(&mut self, event: Event, answer: Answer) -> Result<(), AllocError> {
-        match (event, answer, self.call) {
-            (Event::Turn { pid, .. }, Answer::Ran { count, .. }, _) => {
-                self.add_instructions(pid, count)
-            }
-            (Event::Enter { pid }, Answer::Entered | Answer::Ended, Some(number)) => {
-                self.add_call(pid, number)
-            }
+    pub fn after(&mut self, answer: Answer) -> Result<(), AllocError> {
+        match (answer, self.call) {
+            (Answer::Ran { count, .. }, _) => self.add_instructions(self.pid, count),
+            (Answer::Entered | Answer::Ended, Some(number)) => self.add_call(self.pid, number),
             _ => Ok(()),
         }
     }

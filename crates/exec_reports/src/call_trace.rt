@@ -1,6 +1,7 @@
 //! Calls, told one by one while a run goes on.
 use crate::errors::error_name;
-use call_forms::{BytesText, Call};
+use crate::waits::words_at;
+use call_forms::{BytesText, Call, CallText};
 use call_lines::{call_at, call_text};
 use faults::{Fault, write_line};
 use formats::Reg;
@@ -12,12 +13,13 @@ use std::io::Write;
 /// The most bytes that are told of what is written or read, or of a name.
 const MOST_BYTES: usize = 32;
 
-/// A call that is to be carried out: how it is told, which it is, and what is in a0 and a1.
+/// A call of a process that is to be carried out: how it is told, which it is, and the same as the registers have it.
 #[derive(Drop)]
 struct Pending {
+    pid: u32,
     text: String,
     call: Option<Call>,
-    arguments: [u32; 2],
+    words: CallText<'static>,
 }
 
 /// What tells of each call that is carried out. A call that waits is told once as waiting, and once more when it is replied to.
@@ -36,11 +38,12 @@ impl Drop for CallTrace {
     }
 }
 
-fn pending_at(alloc: Global, machine: &Machine) -> Result<Pending, AllocError> {
+fn pending_at(alloc: Global, pid: u32, machine: &Machine) -> Result<Pending, AllocError> {
     Ok(Pending {
+        pid,
         text: call_text(alloc, machine, MOST_BYTES)?,
         call: call_at(machine),
-        arguments: [machine.reg(Reg::new(10)), machine.reg(Reg::new(11))],
+        words: words_at(machine),
     })
 }
 
@@ -49,7 +52,7 @@ fn pending_at(alloc: Global, machine: &Machine) -> Result<Pending, AllocError> {
 struct ReplyText<'a> {
     machine: &'a Machine,
     call: Option<Call>,
-    arguments: [u32; 2],
+    arguments: [u32; 3],
 }
 
 /// The byte so far behind an address; 0 where none is there.
@@ -99,7 +102,7 @@ fn write_stored<W: fmt::Write>(
     reply: &ReplyText<'_>,
     a0: u32,
 ) -> fmt::Result {
-    let [first, second] = reply.arguments;
+    let [first, second, _] = reply.arguments;
     match reply.call {
         Some(Call::Read) => write_bytes(f, reply.machine, second, a0),
         Some(Call::Pipe) => {
@@ -130,6 +133,43 @@ impl fmt::Display for ReplyText<'_> {
     }
 }
 
+/// Whether a call was refused, and the text of it shows no bytes: then it may leave out the address or the length that was refused.
+fn leaves_out(text: &str, machine: &Machine) -> bool {
+    let number = machine.reg(Reg::new(10)).cast_signed();
+    error_name(number).is_some() && !text.as_bytes().contains(&b'\'')
+}
+
+/// Prints a call that was replied to; as the registers have it where the text leaves something out.
+fn print_reply<E: Write>(pending: &Pending, machine: &Machine, err: &mut E) -> Result<(), Fault> {
+    let (pid, text, words) = (pending.pid, pending.text.as_str(), pending.words);
+    let reply = ReplyText {
+        machine,
+        call: pending.call,
+        arguments: words.arguments,
+    };
+    if leaves_out(text, machine) {
+        write_line(err, format_args!("process {pid}: {words}{reply}"))?;
+    } else {
+        write_line(err, format_args!("process {pid}: {text}{reply}"))?;
+    }
+    Ok(())
+}
+
+/// Prints what came of a call that was carried out, or of a trap.
+fn print_done<E: Write>(
+    core: &Core,
+    pending: &Pending,
+    answer: Answer,
+    err: &mut E,
+) -> Result<(), Fault> {
+    if let (Answer::Entered, Ok(machine)) = (answer, core.machine(pending.pid)) {
+        return print_reply(pending, machine, err);
+    }
+    let (pid, text) = (pending.pid, pending.text.as_str());
+    write_line(err, format_args!("process {pid}: {text} ends"))?;
+    Ok(())
+}
+
 impl CallTrace {
     /// Before the run.
     pub fn new(alloc: Global) -> CallTrace {
@@ -145,7 +185,7 @@ impl CallTrace {
         if let Event::Enter { pid } = event
             && let Ok(machine) = core.machine(pid)
         {
-            self.pending = Some(pending_at(alloc, machine)?);
+            self.pending = Some(pending_at(alloc, pid, machine)?);
         }
         Ok(())
     }
@@ -160,48 +200,21 @@ impl CallTrace {
         Ok(())
     }
 
-    /// Prints what came of the call that was to be carried out.
-    fn tell<E: Write>(
+    /// Is told of the same event after it was applied, and prints a line where a call was carried out, or waits for the first time.
+    pub fn after<E: Write>(
         &mut self,
         core: &Core,
-        pid: u32,
         answer: Answer,
         err: &mut E,
     ) -> Result<(), Fault> {
         let Some(pending) = self.pending.take() else {
             return Ok(());
         };
-        let Ok(machine) = core.machine(pid) else {
-            return Ok(());
-        };
-        let text = pending.text.as_str();
-        match answer {
-            Answer::Waits => return self.tell_wait(pid, text, err),
-            Answer::Entered => {
-                let reply = ReplyText {
-                    machine,
-                    call: pending.call,
-                    arguments: pending.arguments,
-                };
-                write_line(err, format_args!("process {pid}: {text}{reply}"))?;
-            }
-            _ => write_line(err, format_args!("process {pid}: {text} ends"))?,
+        let pid = pending.pid;
+        if matches!(answer, Answer::Waits) {
+            return self.tell_wait(pid, pending.text.as_str(), err);
         }
         self.waiting.retain(|it| *it != pid);
-        Ok(())
-    }
-
-    /// Is told of the same event after it was applied, and prints a line where a call was carried out, or waits for the first time.
-    pub fn after<E: Write>(
-        &mut self,
-        core: &Core,
-        event: Event,
-        answer: Answer,
-        err: &mut E,
-    ) -> Result<(), Fault> {
-        match event {
-            Event::Enter { pid } => self.tell(core, pid, answer, err),
-            _ => Ok(()),
-        }
+        print_done(core, &pending, answer, err)
     }
 }

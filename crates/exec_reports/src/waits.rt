@@ -13,7 +13,7 @@ pub struct WaitText<'a> {
 }
 
 /// The call at which a machine stands, as its registers have it.
-fn words_at(machine: &Machine) -> CallText<'static> {
+pub fn words_at(machine: &Machine) -> CallText<'static> {
     CallText {
         number: machine.reg(Reg::new(17)),
         arguments: [
