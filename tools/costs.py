@@ -17,7 +17,7 @@ import tempfile
 
 sys.dont_write_bytecode = True
 
-from measures import CALLS, EXIT, LENGTHS, LOOP, LOOP_LENGTH, PLACE, SLEEPERS, TOP, TOUCH, Bench, Run
+from measures import AGAIN, CALLS, EXIT, LENGTHS, LOOP, LOOP_LENGTH, PIPE, PLACE, SLEEPERS, TOP, TOUCH, Bench, Run
 
 # The limits between which the programs in C are timed.
 FEW, MANY = 4_000_000, 40_000_000
@@ -32,14 +32,9 @@ again:  li   a0,1               # the terminal
         li   a2,{bytes}
         li   a7,2               # write
         ecall
-        addi s0,s0,-1
-        bnez s0,again
-""" + EXIT + PLACE
+""" + AGAIN + EXIT + PLACE
 # Writes to a pipe that nobody can read: the kernel takes the bytes, and refuses.
-REFUSED = "_start:" + TOUCH + """
-        mv   a0,s2
-        li   a7,6               # pipe
-        ecall
+REFUSED = "_start:" + TOUCH + PIPE + """
         lw   a0,0(s2)
         li   a7,5               # close
         ecall
@@ -49,13 +44,8 @@ again:  lw   a0,4(s2)
         li   a2,{bytes}
         li   a7,2               # write
         ecall
-        addi s0,s0,-1
-        bnez s0,again
-""" + EXIT + PLACE
-PIPED = "_start:" + TOUCH + """
-        mv   a0,s2
-        li   a7,6               # pipe
-        ecall
+""" + AGAIN + EXIT + PLACE
+PIPED = "_start:" + TOUCH + PIPE + """
         li   s0,{count}
 again:  lw   a0,4(s2)
         addi a1,s2,8
@@ -67,12 +57,8 @@ again:  lw   a0,4(s2)
         li   a2,{bytes}
         li   a7,3               # read
         ecall
-        addi s0,s0,-1
-        bnez s0,again
-""" + EXIT + PLACE
-# Goes to the beginning of a file again and again, and then writes a byte there, or goes there once more.
-CHANGES = "_start:" + TOUCH + """
-        li   t0,102
+""" + AGAIN + EXIT + PLACE
+OPEN = """
         sb   t0,0(s2)
         mv   a0,s2
         li   a1,1
@@ -80,6 +66,11 @@ CHANGES = "_start:" + TOUCH + """
         li   a7,4               # open
         ecall
         mv   s3,a0
+"""
+# Goes to the beginning of a file again and again, and then writes a byte there, or goes there once more.
+CHANGES = "_start:" + TOUCH + """
+        li   t0,102
+""" + OPEN + """
         li   s0,{count}
 again:  mv   a0,s3
         li   a1,0
@@ -90,9 +81,7 @@ again:  mv   a0,s3
         li   a2,1
         li   a7,{call}
         ecall
-        addi s0,s0,-1
-        bnez s0,again
-""" + EXIT + PLACE
+""" + AGAIN + EXIT + PLACE
 # Calls, and then forks children that end at once, and collects each.
 FORKS = "_start:" + TOUCH + """
         li   s0,{calls}
@@ -114,13 +103,7 @@ child:
 # Copies its tape to the file p.
 INSTALLS = "_start:" + TOUCH + """
         li   t0,112
-        sb   t0,0(s2)
-        mv   a0,s2
-        li   a1,1
-        li   a2,2
-        li   a7,4               # open
-        ecall
-        mv   s3,a0
+""" + OPEN + """
 more:   li   a0,0
         addi a1,s2,16
         li   a2,1024

@@ -38,6 +38,15 @@ PLACE = """
         .data
 place:  .space {room}
 """
+AGAIN = """
+        addi s0,s0,-1
+        bnez s0,again
+"""
+PIPE = """
+        mv   a0,s2
+        li   a7,6               # pipe
+        ecall
+"""
 # A loop of six instructions, which stores and loads.
 LOOP = "_start:" + TOUCH + """
         li   s0,{count}
@@ -45,35 +54,16 @@ again:  addi t0,t0,1
         sw   t0,-4(sp)
         lw   t1,-4(sp)
         add  t2,t2,t1
-        addi s0,s0,-1
-        bnez s0,again
-""" + EXIT + PLACE
+""" + AGAIN + EXIT + PLACE
 LOOP_LENGTH = 6
-CALLS = """
-_start: li   s0,{count}
+CALLING = """
+        li   s0,{count}
 again:  li   a7,9               # getpid
         ecall
-        addi s0,s0,-1
-        bnez s0,again
-""" + EXIT
-# Makes processes that wait at an empty pipe, and then calls. They end when it has ended.
-SLEEPERS = "_start:" + TOUCH + """
-        mv   a0,s2
-        li   a7,6               # pipe
-        ecall
-        li   s0,{sleepers}
-        beqz s0,calls
-more:   li   a7,7               # fork
-        ecall
-        beqz a0,child
-        addi s0,s0,-1
-        bnez s0,more
-calls:  li   s0,{count}
-again:  li   a7,9               # getpid
-        ecall
-        addi s0,s0,-1
-        bnez s0,again
-""" + EXIT + """
+""" + AGAIN
+CALLS = "_start:" + CALLING + EXIT
+# A child waits at the pipe.
+CHILD = """
 child:  lw   a0,4(s2)
         li   a7,5               # close
         ecall
@@ -82,13 +72,21 @@ child:  lw   a0,4(s2)
         li   a2,1
         li   a7,3               # read
         ecall
-""" + EXIT + PLACE
+"""
+# Makes processes that wait at an empty pipe, and then calls. They end when it has ended.
+SLEEPERS = "_start:" + TOUCH + PIPE + """
+        li   s0,{sleepers}
+        beqz s0,calls
+more:   li   a7,7               # fork
+        ecall
+        beqz a0,child
+        addi s0,s0,-1
+        bnez s0,more
+calls:
+""" + CALLING + EXIT + CHILD + EXIT + PLACE
 # Makes as many processes as there may be. All wait at a pipe until the last is there. Then each calls once for each of its pages, and
 # writes to it.
-HERD = "_start:" + TOUCH + """
-        mv   a0,s2
-        li   a7,6               # pipe
-        ecall
+HERD = "_start:" + TOUCH + PIPE + """
 more:   li   a7,7               # fork
         ecall
         beqz a0,child
@@ -100,15 +98,7 @@ each:   addi a0,s2,12
         li   a7,8               # wait
         ecall
         bgtz a0,each
-""" + EXIT + """
-child:  lw   a0,4(s2)
-        li   a7,5               # close
-        ecall
-        lw   a0,0(s2)
-        addi a1,s2,8
-        li   a2,1
-        li   a7,3               # read
-        ecall
+""" + EXIT + CHILD + """
         mv   s3,s2
         li   s4,{pages}
 mark:   li   a7,9               # getpid

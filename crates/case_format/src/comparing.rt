@@ -1,4 +1,4 @@
-//! Compares what a run gave with what is wanted of it, as texts and as a status.
+//! `check_text`: refuses what a run gave that is not what is wanted of it.
 use anyhow::{Error, anyhow, bail};
 
 /// The error of a text that is not the wanted one: its first line that differs.
@@ -13,8 +13,8 @@ fn difference(came: &str, wanted: &str) -> Error {
     Error::msg("the lines came, and more of them or other ends than were wanted")
 }
 
-/// Compares two texts. The error has the first line that differs.
-pub fn compare(came: &str, wanted: &str) -> Result<(), Error> {
+/// Refuses a text that is not the wanted one. The error has the first line that differs.
+pub fn check_text(came: &str, wanted: &str) -> Result<(), Error> {
     if came == wanted {
         Ok(())
     } else {
@@ -22,8 +22,8 @@ pub fn compare(came: &str, wanted: &str) -> Result<(), Error> {
     }
 }
 
-/// Compares an exit status with the wanted one.
-pub fn compare_status(came: u8, wanted: u8) -> Result<(), Error> {
+/// Refuses an exit status that is not the wanted one.
+pub fn check_exit(came: u8, wanted: u8) -> Result<(), Error> {
     if came == wanted {
         Ok(())
     } else {

@@ -29,9 +29,9 @@
 //! - any other line of a script, and the line that it prints.
 //!
 //! What a turn prints is left out; what stands after `#` is a comment.
-use crate::comparing::{compare, compare_status};
+use crate::comparing::{check_exit, check_text};
 use crate::hex_parts::{push_parts_line, repeated};
-use crate::lines::{push_line, push_texts, refused, words_of};
+use crate::lines::{bare, push_line, push_texts, refused, words_of};
 use crate::notation::{Form, Program, Replies, fill_image, push_listed_trace, push_program};
 use crate::ran::Ran;
 use anyhow::Error;
@@ -81,11 +81,11 @@ impl CallsCase {
         self.file.as_slice()
     }
 
-    /// Compares what the script's run printed with what is wanted.
-    pub fn compare(&self, alloc: Global, ran: &Ran) -> Result<(), Error> {
+    /// Refuses a run of the script that printed something else than is wanted.
+    pub fn check(&self, alloc: Global, ran: &Ran) -> Result<(), Error> {
         let printed = without_turns(alloc, str::from_utf8(ran.out.as_slice())?)?;
-        compare(printed.as_str(), self.printed.as_str())?;
-        compare_status(ran.status, 0)
+        check_text(printed.as_str(), self.printed.as_str())?;
+        check_exit(ran.status, 0)
     }
 
     fn new(alloc: Global) -> CallsCase {
@@ -276,10 +276,4 @@ fn without_turns(alloc: Global, out: &str) -> Result<String, Error> {
         }
     }
     Ok(kept)
-}
-
-/// A line without its comment and the blanks round it.
-fn bare(line: &str) -> &str {
-    let (text, _comment) = line.split_once('#').unwrap_or((line, ""));
-    text.trim()
 }

@@ -20,6 +20,12 @@ pub fn push_line(out: &mut String, line: &str) -> Result<(), Error> {
     push_texts(out, &[line, "\n"])
 }
 
+/// A line without its comment and the blanks round it.
+pub fn bare(line: &str) -> &str {
+    let (text, _comment) = line.split_once('#').unwrap_or((line, ""));
+    text.trim()
+}
+
 /// The words of a line.
 pub fn words_of<'a>(alloc: Global, line: &'a str) -> Result<Vec<&'a str>, AllocError> {
     line.split_whitespace().collect(alloc)

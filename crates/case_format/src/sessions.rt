@@ -3,7 +3,8 @@
 //! A line begins with its mark:
 //! - `$ WORDS`: the program is run with these words; lines after it say more of the run:
 //!   - `< TEXT`: a line of its input; `<< N TEXT`: this text N times, without a line's end;
-//!   - `> TEXT`: a line that it prints; `>> TEXT`: a text, without a line's end; `>*`: whatever it prints;
+//!   - `> TEXT`: a line that it prints; `>> TEXT`: a text, without a line's end; `>*`: whatever it prints; `>= NAME`: the same, and that
+//!     is written to the file NAME;
 //!   - `<$ TEXT` and `>$ TEXT`: a packet of gdb's with this text, on its input, or printed; neither has a line's end;
 //!   - `! STATUS TEXT`: its status, and its line on standard error, with `!! TEXT` for each line after it;
 //!   - `! STATUS`: its status, and something on standard error;
@@ -15,7 +16,7 @@
 //!
 //! In input `\t`, `\r`, `\s`, `\x03` and `\xff` stand for a tab, a carriage return, a blank and the bytes 03 and ff. Empty lines and
 //! lines that begin with `#` are skipped.
-use crate::comparing::{compare, compare_status};
+use crate::comparing::{check_exit, check_text};
 use crate::hex_parts::push_parts;
 use crate::lines::{push_line, refused, two_parts, words_of};
 use crate::ran::Ran;
@@ -88,16 +89,16 @@ fn push_times(input: &mut Vec<u8>, line: &str) -> Result<(), Error> {
     Ok(())
 }
 
-/// Compares what a run wrote with what is wanted of it. Where anything at all is wanted and nothing was written, `why` is the
+/// Refuses what a run wrote that is not what is wanted of it. Where anything at all is wanted and nothing was written, `why` is the
 /// error.
-fn compare_output(
+fn check_written(
     came: &[u8],
     wanted: &str,
     something: bool,
     why: &'static str,
 ) -> Result<(), Error> {
     if !something {
-        compare(str::from_utf8(came)?, wanted)
+        check_text(str::from_utf8(came)?, wanted)
     } else if came.is_empty() {
         Err(Error::msg(why))
     } else {
@@ -113,6 +114,8 @@ pub struct Run {
     out: String,
     /// Whether any output will do, as long as there is some.
     prints_something: bool,
+    /// The name of the file to which that is written. Empty where it is not.
+    kept: String,
     status: u8,
     /// What is wanted on standard error.
     err: String,
@@ -127,6 +130,7 @@ impl Drop for Run {
             input: _input,
             out: _out,
             prints_something: _,
+            kept: _kept,
             status: _,
             err: _err,
             says_something: _,
@@ -141,6 +145,7 @@ impl Run {
             input: Vec::new(alloc),
             out: String::new(alloc),
             prints_something: false,
+            kept: String::new(alloc),
             status: 0,
             err: String::new(alloc),
             says_something: false,
@@ -156,6 +161,12 @@ impl Run {
         push_line(&mut self.err, text)
     }
 
+    /// Notes that any output will do, and the name of the file to which it is written, if it is.
+    fn want_something(&mut self, name: &str) -> Result<(), Error> {
+        self.prints_something = true;
+        Ok(self.kept.push_str(name)?)
+    }
+
     /// Reads a line that says more of the run, by its mark. False where the line does not.
     fn read(&mut self, alloc: Global, mark: &str, text: &str) -> Result<bool, Error> {
         let read = match mark {
@@ -165,10 +176,7 @@ impl Run {
             ">$" => push_printed_packet(alloc, &mut self.out, text),
             ">" => push_line(&mut self.out, text),
             ">>" => Ok(self.out.push_str(text)?),
-            ">*" => {
-                self.prints_something = true;
-                Ok(())
-            }
+            ">*" | ">=" => self.want_something(text),
             "!" => self.want_end(text),
             "!!" => push_line(&mut self.err, text),
             _ => return Ok(false),
@@ -187,28 +195,33 @@ impl Run {
         self.input.as_slice()
     }
 
-    /// Compares what came of the run with what is wanted.
-    pub fn compare(&self, ran: &Ran) -> Result<(), Error> {
-        match self.compare_all(ran) {
+    /// The name of the file to which the output is written, if it is.
+    pub fn kept(&self) -> Option<&str> {
+        Some(self.kept.as_str()).filter(|name| !name.is_empty())
+    }
+
+    /// Refuses a run of which something else came than is wanted.
+    pub fn check(&self, ran: &Ran) -> Result<(), Error> {
+        match self.check_all(ran) {
             Ok(()) => Ok(()),
             Err(error) => bail!("$ {}: {error}", self.words),
         }
     }
 
-    fn compare_all(&self, ran: &Ran) -> Result<(), Error> {
-        compare_output(
+    fn check_all(&self, ran: &Ran) -> Result<(), Error> {
+        check_written(
             &ran.out,
             &self.out,
             self.prints_something,
             "nothing was printed",
         )?;
-        compare_output(
+        check_written(
             &ran.err,
             &self.err,
             self.says_something,
             "nothing was said on standard error",
         )?;
-        compare_status(ran.status, self.status)
+        check_exit(ran.status, self.status)
     }
 }
 
@@ -248,8 +261,8 @@ impl NamedBytes {
         self.bytes.extend_from_slice(b"\n")
     }
 
-    /// Compares what the file holds with these bytes.
-    pub fn compare(&self, file: &[u8]) -> Result<(), Error> {
+    /// Refuses a file that holds other bytes.
+    pub fn check(&self, file: &[u8]) -> Result<(), Error> {
         if file == self.bytes.as_slice() {
             return Ok(());
         }
@@ -299,39 +312,16 @@ pub fn check_missing(is_missing: bool) -> Result<(), Error> {
     }
 }
 
-fn run_step(alloc: Global, line: &str) -> Result<Step, Error> {
-    Ok(Step::Run(Run::new(alloc, line.trim_start_matches('$').trim())?))
-}
-
-/// Why a line is refused that is none of those of a case.
-fn no_form() -> Error {
-    Error::msg("this has no form")
-}
-
-fn step_of_name(alloc: Global, mark: &str, name: &str) -> Result<Step, Error> {
-    match mark {
-        "file" => Ok(Step::Lines(NamedBytes::of_parts(alloc, name, "-")?)),
-        "remove" => Ok(Step::Remove(String::from_str(alloc, name)?)),
-        "missing" => Ok(Step::Missing(String::from_str(alloc, name)?)),
-        _ => Err(no_form()),
-    }
-}
-
-fn step_of_bytes(alloc: Global, mark: &str, name: &str, parts: &str) -> Result<Step, Error> {
-    match mark {
-        "bytes" => Ok(Step::Bytes(NamedBytes::of_parts(alloc, name, parts)?)),
-        "holds" => Ok(Step::Holds(NamedBytes::of_parts(alloc, name, parts)?)),
-        _ => Err(no_form()),
-    }
-}
-
 /// The step that begins with a line of these words.
 fn step_of(alloc: Global, line: &str, words: &[&str]) -> Result<Step, Error> {
     match words {
-        ["$", ..] => run_step(alloc, line),
-        [mark, name] => step_of_name(alloc, mark, name),
-        [mark, name, parts] => step_of_bytes(alloc, mark, name, parts),
-        _ => Err(no_form()),
+        ["$", ..] => Ok(Step::Run(Run::new(alloc, line.trim_start_matches('$').trim())?)),
+        ["file", name] => Ok(Step::Lines(NamedBytes::of_parts(alloc, name, "-")?)),
+        ["bytes", name, parts] => Ok(Step::Bytes(NamedBytes::of_parts(alloc, name, parts)?)),
+        ["remove", name] => Ok(Step::Remove(String::from_str(alloc, name)?)),
+        ["holds", name, parts] => Ok(Step::Holds(NamedBytes::of_parts(alloc, name, parts)?)),
+        ["missing", name] => Ok(Step::Missing(String::from_str(alloc, name)?)),
+        _ => bail!("this has no form"),
     }
 }
 

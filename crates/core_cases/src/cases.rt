@@ -52,7 +52,7 @@ use crate::cores::{Source, TestCore, recover};
 use crate::plain_files::has;
 use anyhow::{Error, bail};
 use bursts::{Done, Rejected};
-use case_format::Choice;
+use case_format::{Choice, bare};
 use files::part_of;
 use formats::Reg;
 use kernel::{Event, Refused, SimDisk};
@@ -61,7 +61,7 @@ use simdisk::DiskRefusal;
 use std::alloc::Global;
 use std::fmt::Debug;
 use std::rt::Files;
-use std::{fs, io, mem};
+use std::{fs, mem};
 
 /// The word at this place of a command, an empty one where there is none.
 fn word(command: &str, place: usize) -> &str {
@@ -99,25 +99,15 @@ fn digits(alloc: Global, bytes: &[u8]) -> Result<String, Error> {
     Ok(hex::encode(alloc, bytes)?)
 }
 
-/// The event of this name and these numbers, if there is one.
-fn event_named(name: &str, first: u32, second: u32) -> Option<Event> {
-    match name {
-        "turn" => Some(Event::Turn {
-            pid: first,
-            n: second,
-        }),
-        "enter" => Some(Event::Enter { pid: first }),
-        "cut" => Some(Event::Cut),
-        "complete" => Some(Event::Complete { at: first }),
-        "fail" => Some(Event::Fail { at: first }),
-        _ => None,
-    }
-}
-
 fn event_of(command: &str) -> Result<Event, Error> {
-    match event_named(word(command, 0), number(command, 1), number(command, 2)) {
-        Some(event) => Ok(event),
-        None => bail!("no such command"),
+    let (first, n) = (number(command, 1), number(command, 2));
+    match word(command, 0) {
+        "turn" => Ok(Event::Turn { pid: first, n }),
+        "enter" => Ok(Event::Enter { pid: first }),
+        "cut" => Ok(Event::Cut),
+        "complete" => Ok(Event::Complete { at: first }),
+        "fail" => Ok(Event::Fail { at: first }),
+        _ => bail!("no such command"),
     }
 }
 
@@ -196,16 +186,7 @@ fn machine_text(alloc: Global, core: &TestCore, pid: u32) -> Result<String, Erro
     }
 }
 
-/// What a line comes to that looks at the disk or a machine; another line is `run`'s.
-fn see_or_run(alloc: Global, core: &mut TestCore, command: &str) -> Result<String, Error> {
-    match word(command, 0) {
-        "writes" => writes_text(alloc, core),
-        "machine" => machine_text(alloc, core, number(command, 1)),
-        _ => run(alloc, core, command),
-    }
-}
-
-/// What a line comes to that looks at what a core shows; another line is `see_or_run`'s.
+/// What a line comes to that looks at a core; another line is `run`'s.
 fn look_or_run(alloc: Global, core: &mut TestCore, command: &str) -> Result<String, Error> {
     let first = number(command, 1);
     match word(command, 0) {
@@ -213,7 +194,9 @@ fn look_or_run(alloc: Global, core: &mut TestCore, command: &str) -> Result<Stri
         "shown" => digits(alloc, core.shown(first)),
         "replied" => text_ok(alloc, core.replied(alloc, first)?),
         "ended" => text(alloc, core.ended(first)),
-        _ => see_or_run(alloc, core, command),
+        "writes" => writes_text(alloc, core),
+        "machine" => machine_text(alloc, core, first),
+        _ => run(alloc, core, command),
     }
 }
 
@@ -223,7 +206,7 @@ fn count_or_look(alloc: Global, core: &mut TestCore, command: &str) -> Result<St
         "history" => text(alloc, core.history()),
         "events" => text(alloc, core.history().len()),
         "last" => text(alloc, last_events(core, number(command, 1) as usize)),
-        "cone" => text(alloc, core.cone(number(command, 1))),
+        "cone" => text(alloc, core.cone(u64::from(number(command, 1)))),
         "ran" => text(alloc, core.ran()),
         "totals" => text(alloc, core.totals()),
         "counts" => text(alloc, (core.changes(), core.committed(), core.wants_cut())),
@@ -241,28 +224,6 @@ fn disk_with(alloc: Global, selector: u8, at: u32, bytes: &[u8]) -> Result<SimDi
     Ok(device)
 }
 
-/// The result of a loan, and its name.
-struct Kept {
-    name: String,
-    done: Done,
-}
-
-impl Drop for Kept {
-    fn drop(self) {
-        let Kept {
-            name: _name,
-            done: _done,
-        } = self;
-    }
-}
-
-impl Kept {
-    fn into_done(self) -> Done {
-        let Kept { name: _name, done } = self;
-        done
-    }
-}
-
 /// Why a result is refused, and what is given back of it.
 fn rejection_text(alloc: Global, rejected: &Rejected) -> Result<String, Error> {
     let done = &rejected.done;
@@ -277,7 +238,8 @@ pub struct Case {
     device: SimDisk,
     core: Option<TestCore>,
     other: Option<TestCore>,
-    results: Vec<Kept>,
+    /// Results of loans, each with its name.
+    results: Vec<(String, Done)>,
 }
 
 impl Drop for Case {
@@ -372,15 +334,16 @@ impl Case {
         };
         let pid = done.pid;
         let name = String::from_str(self.alloc, name)?;
-        self.results.push(Kept { name, done })?;
+        self.results.push((name, done))?;
         Ok(Some(pid))
     }
 
     /// The result of this name, which is gone then.
     fn result(&mut self, name: &str) -> Result<Done, Error> {
         for place in 0..self.results.len() {
-            if self.results[place].name.as_str() == name {
-                return Ok(self.results.remove(place).into_done());
+            if self.results[place].0.as_str() == name {
+                let (_name, done) = self.results.remove(place);
+                return Ok(done);
             }
         }
         bail!("no result goes by this name")
@@ -428,17 +391,7 @@ impl Case {
         self.part(at, count).iter().all(|byte| *byte == 0)
     }
 
-    /// What a line comes to that is about results of loans; another line is `count_or_look`'s.
-    fn lend_or_look(&mut self, command: &str) -> Result<String, Error> {
-        let alloc = self.alloc;
-        match word(command, 0) {
-            "lend" => text_ok(alloc, self.lend(number(command, 1), word(command, 2))?),
-            "settle" => self.settle(word(command, 1)),
-            _ => count_or_look(alloc, self.core()?, command),
-        }
-    }
-
-    /// What a line comes to that is about the disk; another line is `lend_or_look`'s.
+    /// What a line comes to that is about the disk or results of loans; another line is `count_or_look`'s.
     fn recover_or_lend(&mut self, command: &str) -> Result<String, Error> {
         let alloc = self.alloc;
         let first = number(command, 1);
@@ -449,7 +402,9 @@ impl Case {
             "files" => text_ok(alloc, self.holds(word(command, 1), second)?),
             "bytes" => digits(alloc, self.part(first, second)),
             "zeros" => text(alloc, self.is_zero(first, second)),
-            _ => self.lend_or_look(command),
+            "lend" => text_ok(alloc, self.lend(first, word(command, 2))?),
+            "settle" => self.settle(word(command, 1)),
+            _ => count_or_look(alloc, self.core()?, command),
         }
     }
 
@@ -482,36 +437,19 @@ impl Case {
         }
     }
 
-    /// Runs a line, and compares what it comes to with what is wanted.
+    /// Runs a line, and compares what it comes to with what is wanted. Where they differ, prints both and gives an error.
     fn check<R: Files + AllocGlobal + Eprint>(&mut self, rt: &R, line: &str) -> Result<(), Error> {
         let (command, wanted) = parts_of(line);
         if command.is_empty() {
             return Ok(());
         }
         let answer = self.answer(rt, command)?;
-        compare(rt, command, wanted, answer.as_str())
-    }
-}
-
-/// Prints a line that failed on standard error. What it came to may be longer than the text of an error.
-fn tell<R: Eprint>(rt: &R, command: &str, wanted: &str, answer: &str) -> io::Result<()> {
-    eprintln!(rt; "{command} => {wanted}\nit comes to: {answer}")
-}
-
-/// Compares what a line came to with what is wanted. Where they differ, prints both and gives an error.
-fn compare<R: Eprint>(rt: &R, command: &str, wanted: &str, answer: &str) -> Result<(), Error> {
-    if answer == wanted {
-        return Ok(());
-    }
-    tell(rt, command, wanted, answer)?;
-    bail!("a line comes to something else")
-}
-
-/// A line without its comment and the blanks round it.
-fn bare(line: &str) -> &str {
-    match line.split_once('#') {
-        Some((line, _)) => line.trim(),
-        None => line.trim(),
+        if answer.as_str() == wanted {
+            return Ok(());
+        }
+        // What it came to may be longer than the text of an error.
+        eprintln!(rt; "{command} => {wanted}\nit comes to: {answer}")?;
+        bail!("a line comes to something else")
     }
 }
 

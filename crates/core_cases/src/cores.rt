@@ -1,4 +1,4 @@
-//! `TestCore`: boots a core of the programs and tapes of a case, and calls it.
+//! `TestCore`: boots a core of the programs and tapes of a case, or takes one that was booted, and calls it.
 ghost use Rattle.std.specs.Prelude.{◌≡◌, ◌<◌, IfOk, length};
 ghost use Rattle.std.specs.List.{AllByRecursion};
 ghost use Rattle.kernel_model.specs.World.{terminal_count};
@@ -85,6 +85,11 @@ impl Drop for TestCore {
 }
 
 impl TestCore {
+    /// A core that was booted.
+    pub fn of(core: Core) -> TestCore {
+        TestCore { core }
+    }
+
     fn try_boot_once(
         alloc: Global,
         sources: &[Source],
@@ -222,11 +227,11 @@ impl TestCore {
         self.core.committed()
     }
 
-    fn cone_once(&self, n: u32) -> Result<Vec<u64>, ConeFault> {
-        self.core.cone(u64::from(n))
+    fn cone_once(&self, n: u64) -> Result<Vec<u64>, ConeFault> {
+        self.core.cone(n)
     }
 
-    pub fn cone(&self, n: u32) -> Result<Vec<u64>, ConeFault> {
+    pub fn cone(&self, n: u64) -> Result<Vec<u64>, ConeFault> {
         match self.cone_once(n) {
             Err(ConeFault::OutOfMemory) => self.cone_once(n),
             cone => cone,

@@ -3,10 +3,12 @@ ghost use Rattle.std.specs.Prelude.{◌≤◌};
 
 use crate::ratios::thousandths;
 use anyhow::Error;
+use assembler::assemble;
 use bursts::run_loan;
 use kernel::{Core, Program, SimDisk};
 use machine::Machine;
-use std::alloc::{AllocError, Global};
+use machine_model::Image;
+use std::alloc::Global;
 use std::time::{Clock, Duration, Instant};
 
 /// How many instructions a loan runs.
@@ -18,57 +20,25 @@ const LOANS: u32 = 500;
 /// A machine that has run so many instructions is not measured any more.
 const MOST_INSTRUCTIONS: u64 = 1_000_000_000;
 
-/// The file header of an image with two segments, whose entry is 0x00010000.
-const FILE_HEADER: [u32; 13] = [
-    0x464C_457F,
-    0x0001_0101,
-    0,
-    0,
-    0x00F3_0002,
-    1,
-    0x0001_0000,
-    52,
-    0,
-    0,
-    0x0020_0034,
-    2,
-    0,
-];
-
-/// A loop without end: adds 1 to t0, stores it on the stack, loads it again, adds it to t2.
-const LOOP: [u8; 20] = [
-    0x93, 0x82, 0x12, 0x00, // addi t0,t0,1
-    0x23, 0x2e, 0x51, 0xfe, // sw t0,-4(sp)
-    0x03, 0x23, 0xc1, 0xff, // lw t1,-4(sp)
-    0xb3, 0x83, 0x63, 0x00, // add t2,t2,t1
-    0x6f, 0xf0, 0x1f, 0xff, // jal zero,-16
-];
-
-/// The file of the loop's image, with so many pages of data beside it.
-fn file_of(alloc: Global, pages: u32) -> Result<Vec<u8>, AllocError>
+/// The image of a loop without end, with so many pages of data: it adds 1 to t0, stores it on the stack, loads it again, and adds it
+/// to t2.
+fn image_of(alloc: Global, pages: u32) -> Result<Image, Error>
     requires { pages ≤ 51 }
 {
-    let text = [1, 0x1000, 0x0001_0000, 0x0001_0000, 20, 20, 5, 0x1000];
-    let data = [
-        1,
-        0x2000,
-        0x0001_1000,
-        0x0001_1000,
-        0,
-        4096 * pages,
-        6,
-        0x1000,
-    ];
-    let mut file = Vec::new(alloc);
-    for words in [FILE_HEADER.as_slice(), text.as_slice(), data.as_slice()] {
-        for word in words {
-            file.extend_from_slice(&word.to_le_bytes())?;
-        }
-    }
-    file.resize(0x1000, 0)?;
-    file.extend_from_slice(&LOOP)?;
-    file.resize(0x2000, 0)?;
-    Ok(file)
+    let size = 4096 * pages;
+    let source = format!(in alloc;
+        "
+_start: addi t0,t0,1
+        sw t0,-4(sp)
+        lw t1,-4(sp)
+        add t2,t2,t1
+        j _start
+.data
+.space {size}
+"
+    )?;
+    let (image, _listing) = assemble(alloc, source.as_str())?;
+    Ok(image)
 }
 
 /// A core of the loop alone, with so many pages of data.
@@ -76,7 +46,7 @@ fn boot(alloc: Global, pages: u32) -> Result<Core, Error>
     requires { pages ≤ 51 }
 {
     let program = Program {
-        image: elf32::parse(alloc, &file_of(alloc, pages)?)?,
+        image: image_of(alloc, pages)?,
         terminal: 0,
     };
     let device = SimDisk::zero(alloc)?;

@@ -33,10 +33,9 @@ pub fn write_lines<R: AllocGlobal + Clock>(rt: &R) -> Result<String, Error> {
     let mut lines = String::new(rt.alloc());
     for writer in &writes::WRITERS {
         let ratio = writes::ratio_of(rt, writer)?;
+        let &(does, _, _, long) = writer;
         let line = format!(in rt.alloc();
-            "{}: after {} events {ratio} thousandths of its time after {}",
-            writer.does,
-            writer.long,
+            "{does}: after {long} events {ratio} thousandths of its time after {}",
             writes::SHORT
         )?;
         add(&mut lines, line.as_str())?;
@@ -66,14 +65,14 @@ pub fn worker_lines<R: AllocGlobal + Clock + Threads + Wait + Sync>(
     rt: &R,
 ) -> Result<String, Error> {
     let mut lines = String::new(rt.alloc());
-    for load in &LOADS {
-        let ratios = ratios_of(rt, load)?;
+    for &(does, source) in &LOADS {
+        let ratios = ratios_of(rt, source)?;
         let line = format!(in rt.alloc();
-            "8 programs that {}, in thousandths:
+            "8 programs that {does}, in thousandths:
   one worker takes {} of the time of machines alone
   two workers take {} of the time of one
   four workers take {} of the time of one",
-            load.does, ratios.one, ratios.two, ratios.four
+            ratios.one, ratios.two, ratios.four
         )?;
         add(&mut lines, line.as_str())?;
     }

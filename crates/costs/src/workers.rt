@@ -63,50 +63,39 @@ loop:   xor t2,t2,t1
         ecall
 ";
 
-/// What the programs do.
-pub struct Load {
-    pub does: &'static str,
-    source: &'static str,
-}
-
-pub const LOADS: [Load; 2] = [
-    Load {
-        does: "compute",
-        source: COMPUTES,
-    },
-    Load {
-        does: "write in every 1000 instructions",
-        source: WRITES,
-    },
+/// What the programs do, and their source.
+pub const LOADS: [(&str, &str); 2] = [
+    ("compute", COMPUTES),
+    ("write in every 1000 instructions", WRITES),
 ];
 
-fn image_of(alloc: Global, load: &Load) -> Result<Image, Error> {
-    let (image, _listing) = assemble(alloc, load.source)?;
+fn image_of(alloc: Global, source: &str) -> Result<Image, Error> {
+    let (image, _listing) = assemble(alloc, source)?;
     Ok(image)
 }
 
 /// The programs of a load, each with a terminal of its own.
-fn programs_of(alloc: Global, load: &Load) -> Result<Vec<Program>, Error>
+fn programs_of(alloc: Global, source: &str) -> Result<Vec<Program>, Error>
     ensures len { IfOk result (λ programs. length programs.items ≡ 8) }
     ensures terminals { IfOk result (λ programs. AllByRecursion (λ p. p.terminal < terminal_count) programs.items) }
 {
     let mut programs = Vec::new(alloc);
     for terminal in 0..PROGRAMS {
-        let image = image_of(alloc, load)?;
+        let image = image_of(alloc, source)?;
         programs.push(Program { image, terminal })?;
     }
     Ok(programs)
 }
 
-fn boot(alloc: Global, load: &Load) -> Result<Core, Error> {
-    let programs = programs_of(alloc, load)?;
+fn boot(alloc: Global, source: &str) -> Result<Core, Error> {
+    let programs = programs_of(alloc, source)?;
     let device = SimDisk::zero(alloc)?;
     Ok(Core::boot(alloc, device, programs, Vec::new(alloc))?)
 }
 
 fn time_of<R: AllocGlobal + Clock + Threads + Wait + Sync>(
     rt: &R,
-    load: &Load,
+    source: &str,
     workers: u32,
 ) -> Result<Duration, Error>
     requires some { 1 ≤ workers }
@@ -118,7 +107,7 @@ fn time_of<R: AllocGlobal + Clock + Threads + Wait + Sync>(
         terminal: Some(0),
         fail: None,
     };
-    let core = boot(rt.alloc(), load)?;
+    let core = boot(rt.alloc(), source)?;
     let start = Instant::now(rt)?;
     if Run::new(rt.alloc(), settings, &mut sink())
         .to_end(rt, core)
@@ -153,9 +142,9 @@ fn run_alone(alloc: Global, machine: &mut Machine) {
 }
 
 /// The time of the programs of a load by machines alone, one after the other.
-fn time_alone<R: AllocGlobal + Clock>(rt: &R, load: &Load) -> Result<Duration, Error> {
+fn time_alone<R: AllocGlobal + Clock>(rt: &R, source: &str) -> Result<Duration, Error> {
     let alloc = rt.alloc();
-    let image = image_of(alloc, load)?;
+    let image = image_of(alloc, source)?;
     let start = Instant::now(rt)?;
     for _ in 0..PROGRAMS {
         let mut machine = Machine::load(alloc, &image)?;
@@ -167,24 +156,24 @@ fn time_alone<R: AllocGlobal + Clock>(rt: &R, load: &Load) -> Result<Duration, E
 /// The least time of some runs by so many workers.
 fn least_time_of<R: AllocGlobal + Clock + Threads + Wait + Sync>(
     rt: &R,
-    load: &Load,
+    source: &str,
     workers: u32,
 ) -> Result<Duration, Error>
     requires some { 1 ≤ workers }
     requires few { workers ≤ 16 }
 {
-    let mut least = time_of(rt, load, workers)?;
+    let mut least = time_of(rt, source, workers)?;
     for _ in 1..RUNS {
-        least = least.min(time_of(rt, load, workers)?);
+        least = least.min(time_of(rt, source, workers)?);
     }
     Ok(least)
 }
 
 /// The least time of some runs by machines alone.
-fn least_time_alone<R: AllocGlobal + Clock>(rt: &R, load: &Load) -> Result<Duration, Error> {
-    let mut least = time_alone(rt, load)?;
+fn least_time_alone<R: AllocGlobal + Clock>(rt: &R, source: &str) -> Result<Duration, Error> {
+    let mut least = time_alone(rt, source)?;
     for _ in 1..RUNS {
-        least = least.min(time_alone(rt, load)?);
+        least = least.min(time_alone(rt, source)?);
     }
     Ok(least)
 }
@@ -203,12 +192,12 @@ pub struct Ratios {
 /// Measures a load: each time is the least of five runs.
 pub fn ratios_of<R: AllocGlobal + Clock + Threads + Wait + Sync>(
     rt: &R,
-    load: &Load,
+    source: &str,
 ) -> Result<Ratios, Error> {
-    let alone = least_time_alone(rt, load)?;
-    let one = least_time_of(rt, load, 1)?;
-    let two = least_time_of(rt, load, 2)?;
-    let four = least_time_of(rt, load, 4)?;
+    let alone = least_time_alone(rt, source)?;
+    let one = least_time_of(rt, source, 1)?;
+    let two = least_time_of(rt, source, 2)?;
+    let four = least_time_of(rt, source, 4)?;
     Ok(Ratios {
         one: thousandths(one, alone),
         two: thousandths(two, one),

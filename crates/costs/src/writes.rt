@@ -88,43 +88,16 @@ _start: la a0,name
 name:   .ascii \"f\"
 ";
 
-/// A program that makes the same calls again and again.
-pub struct Writer {
-    /// What is timed.
-    pub does: &'static str,
-    source: &'static str,
-    /// How many calls a round of its has, of which the last is timed.
-    round: u64,
-    /// After how many events they are timed again.
-    pub long: usize,
-}
+/// A program that makes the same calls again and again: what is timed, and its source. Then come how many calls a round of its has, of
+/// which the last is timed, and after how many events they are timed again.
+pub type Writer = (&'static str, &'static str, u64, usize);
 
 /// One for each thing that is written to, and one for files that are made and removed: 1,000,000 of them.
 pub const WRITERS: [Writer; 4] = [
-    Writer {
-        does: "a write to a terminal",
-        source: TO_A_TERMINAL,
-        round: 1,
-        long: 100_000,
-    },
-    Writer {
-        does: "a write to a file",
-        source: TO_A_FILE,
-        round: 2,
-        long: 100_000,
-    },
-    Writer {
-        does: "a write to a pipe",
-        source: TO_A_PIPE,
-        round: 2,
-        long: 100_000,
-    },
-    Writer {
-        does: "the removal of a new file",
-        source: FILES,
-        round: 3,
-        long: 6_000_000,
-    },
+    ("a write to a terminal", TO_A_TERMINAL, 1, 100_000),
+    ("a write to a file", TO_A_FILE, 2, 100_000),
+    ("a write to a pipe", TO_A_PIPE, 2, 100_000),
+    ("the removal of a new file", FILES, 3, 6_000_000),
 ];
 
 /// A run of such a program, and how many calls it made.
@@ -149,15 +122,16 @@ impl Drop for Run {
 impl Run {
     /// The run of a program before any event, on a disk of zeros.
     fn of(alloc: Global, writer: &Writer) -> Result<Run, Error> {
-        let (image, _) = assemble(alloc, writer.source)?;
+        let &(_, source, round, long) = writer;
+        let (image, _) = assemble(alloc, source)?;
         let program = Program { image, terminal: 0 };
         let device = SimDisk::zero(alloc)?;
         let core = Core::boot(alloc, device, vec![in alloc; program]?, Vec::new(alloc))?;
         Ok(Run {
             core,
             calls: 0,
-            round: writer.round,
-            long: writer.long,
+            round,
+            long,
         })
     }
 

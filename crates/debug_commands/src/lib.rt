@@ -9,11 +9,9 @@ mod moving;
 mod quoted;
 mod refusal;
 mod registers;
-mod rights;
 mod session;
 mod showing;
 mod standing;
-mod traps;
 mod values;
 mod writable;
 

@@ -9,25 +9,28 @@ use crate::refusal::{print_refusal, print_refused};
 use crate::registers::print_changed_registers;
 use crate::session::Session;
 use crate::standing::print_place_in;
-use crate::traps::print_address;
 use debugger::{Cause, DebugFault, Machine};
 use kernel_model::TERMINALS;
 use std::io;
 use std::io::Write;
 use timeline::{After, End, SessionFault, Stop, Way};
+use trap_reports::trap_report;
 
 /// How many loans the kernel runs for a reply before a command gives up for the time being.
 const LOANS: u32 = 4096;
 
 impl Session {
-    /// Prints the trap at which the machine stands; with aids also its address.
+    /// Prints the trap at which the machine stands; with aids also the address that it is about, and what is there.
     fn print_trap<O: Write>(&self, cause: Cause, out: &mut O) -> io::Result<()> {
         let number = cause.number();
         writeln!(out, "trap {number} {cause:?}")?;
-        if self.aids.some() {
-            print_address(self.timeline.machine(), out)?;
+        match trap_report(self.timeline.machine()) {
+            Some(report) if self.aids.some() => {
+                let (at, there) = report.place();
+                writeln!(out, "  at {at:08x}, {there}")
+            }
+            _ => Ok(()),
         }
-        Ok(())
     }
 
     /// Prints what terminals show and is not printed yet.

@@ -1,20 +1,13 @@
 //! Prints why the debugger refuses a command.
 use debugger::DebugFault;
-use std::io;
 use std::io::Write;
 use timeline::SessionFault;
 
-/// Prints the number and the name of a refusal.
-fn print_numbered<O: Write>(why: DebugFault, out: &mut O) -> io::Result<()> {
-    let number = why.number();
-    writeln!(out, "refused {number} {why}")
-}
-
-/// Prints a refusal; want of memory ends the session.
+/// Prints the number and the name of a refusal; want of memory ends the session.
 pub fn print_refusal<O: Write>(why: DebugFault, out: &mut O) -> Result<(), SessionFault> {
     match why {
         DebugFault::OutOfMemory => Err(SessionFault::OutOfMemory),
-        why => Ok(print_numbered(why, out)?),
+        why => Ok(writeln!(out, "refused {0} {why}", why.number())?),
     }
 }
 

@@ -1,8 +1,8 @@
 //! Prints bytes of memory, for `show ADDR N`.
-use crate::rights::rights_at;
 use memory::Space;
 use std::io;
 use std::io::Write;
+use trap_reports::There;
 
 /// The most bytes that are printed at a time.
 pub const MOST_SHOWN: u32 = 4096;
@@ -10,12 +10,24 @@ pub const MOST_SHOWN: u32 = 4096;
 /// A line ends before each address that is a multiple of this.
 const ROW: u32 = 16;
 
+/// The letter of a right, or `-` where a page has not that right.
+fn letter(has: bool, letter: char) -> char {
+    if has { letter } else { '-' }
+}
+
 /// Begins a line with an address, and the rights of the page in which it lies.
 fn begin_row<O: Write>(space: &Space, at: u32, out: &mut O) -> io::Result<()> {
-    match rights_at(space, at) {
-        Some(rights) => write!(out, "  {at:08x} {rights}:"),
-        None => write!(out, "  {at:08x}: no page"),
-    }
+    let There::Page {
+        read,
+        write,
+        execute,
+    } = There::at(space, at)
+    else {
+        return write!(out, "  {at:08x}: no page");
+    };
+    let (read, write) = (letter(read, 'r'), letter(write, 'w'));
+    let execute = letter(execute, 'x');
+    write!(out, "  {at:08x} {read}{write}{execute}:")
 }
 
 /// Prints the byte at an address, if a page is there.

@@ -30,30 +30,24 @@ grows text c h = ap (λ (b : Bool). if b then text ++ c ∷ [] else text) (le-le
 after_inner : (text : List ℕ) (c : ℕ) → (c == 35) ≡ false → (c == 36) ≡ false → length text ≤ most_text → after (in_text text) c ≡ in_text (text ++ c ∷ [])
 after_inner text c e1 e2 h = rw (e1, e2) (ap in_text (grows text c h))
 
--- the text of a packet is read
+-- the text of a packet is read: what comes after it, and how far it is read then
 read_text : (xs text rest : List ℕ) → list_all is_inner xs ≡ true → length text + length xs ≤ most_text
-    → arrivals (in_text text) (xs ++ rest) ≡ arrivals (in_text (text ++ xs)) rest
-read_text [] text rest all h = ap (λ (l : List ℕ). arrivals (in_text l) rest) (sym (append-nil text))
+    → (arrivals (in_text text) (xs ++ rest) ≡ arrivals (in_text (text ++ xs)) rest)
+    × (reading_after (in_text text) (xs ++ rest) ≡ reading_after (in_text (text ++ xs)) rest)
+read_text [] text rest all h =
+    let same : in_text text ≡ in_text (text ++ []) = ap in_text (sym (append-nil text)) in
+    (ap (λ (r : Reading). arrivals r rest) same, ap (λ (r : Reading). reading_after r rest) same)
 read_text (c ∷ xs) text rest all h =
     let tests = inner_tests c (list_all is_inner xs) all in
     let n : length (text ++ c ∷ []) ≡ length text + length (c ∷ []) = length-append text (c ∷ []) in
     let short : length text ≤ most_text = omega (arith, h) in
-    let shorter : length (text ++ c ∷ []) + length xs ≤ most_text = omega (arith, h, n) in
-    rw (tests.0, tests.1) (ap (λ (l : List ℕ). arrivals (in_text l) (xs ++ rest)) (grows text c short)
-    ∙ read_text xs (text ++ c ∷ []) rest tests.2 shorter
-    ∙ ap (λ (l : List ℕ). arrivals (in_text l) rest) (append_assoc text (c ∷ []) xs))
-
-read_past : (xs text rest : List ℕ) → list_all is_inner xs ≡ true → length text + length xs ≤ most_text
-    → reading_after (in_text text) (xs ++ rest) ≡ reading_after (in_text (text ++ xs)) rest
-read_past [] text rest all h = ap (λ (l : List ℕ). reading_after (in_text l) rest) (sym (append-nil text))
-read_past (c ∷ xs) text rest all h =
-    let tests = inner_tests c (list_all is_inner xs) all in
-    let n : length (text ++ c ∷ []) ≡ length text + length (c ∷ []) = length-append text (c ∷ []) in
-    let short : length text ≤ most_text = omega (arith, h) in
-    let shorter : length (text ++ c ∷ []) + length xs ≤ most_text = omega (arith, h, n) in
-    ap (λ (r : Reading). reading_after r (xs ++ rest)) (after_inner text c tests.0 tests.1 short)
-    ∙ read_past xs (text ++ c ∷ []) rest tests.2 shorter
-    ∙ ap (λ (l : List ℕ). reading_after (in_text l) rest) (append_assoc text (c ∷ []) xs)
+    let further = read_text xs (text ++ c ∷ []) rest tests.2 (omega (arith, h, n)) in
+    let same : in_text ((text ++ c ∷ []) ++ xs) ≡ in_text (text ++ c ∷ xs) = ap in_text (append_assoc text (c ∷ []) xs) in (
+      rw (tests.0, tests.1) (ap (λ (l : List ℕ). arrivals (in_text l) (xs ++ rest)) (grows text c short)
+          ∙ further.0 ∙ ap (λ (r : Reading). arrivals r rest) same),
+      ap (λ (r : Reading). reading_after r (xs ++ rest)) (after_inner text c tests.0 tests.1 short)
+          ∙ further.1 ∙ ap (λ (r : Reading). reading_after r rest) same,
+    )
 
 -- what passes all four tests is taken
 taken : (a b c d : Bool) (p : Arrival) → a ≡ true → b ≡ true → c ≡ true → d ≡ false → (if a && (b && (c && not d)) then p else Refused) ≡ p
@@ -71,8 +65,8 @@ arrival_ok payload h =
 
 pub back_came : (payload : List ℕ) → length (escaped payload) ≤ most_text → arrivals outside (framed payload) ≡ Packet payload ∷ []
 back_came payload h =
-    read_text (escaped payload) [] (ending (escaped payload)) (all_inner payload) (omega (arith, h))
+    (read_text (escaped payload) [] (ending (escaped payload)) (all_inner payload) (omega (arith, h))).0
     ∙ ap (λ (a : Arrival). a ∷ []) (arrival_ok payload h)
 
 pub back_after : (payload : List ℕ) → length (escaped payload) ≤ most_text → reading_after outside (framed payload) ≡ outside
-back_after payload h = read_past (escaped payload) [] (ending (escaped payload)) (all_inner payload) (omega (arith, h))
+back_after payload h = (read_text (escaped payload) [] (ending (escaped payload)) (all_inner payload) (omega (arith, h))).1

@@ -1,4 +1,4 @@
-//! `Calls`: the system calls that took a reply, and the lines of `monitor calls`.
+//! `RepliedCalls`: the system calls that took a reply, and the lines of `monitor calls`.
 use call_forms::{Call, CallText, Style};
 use formats::Reg;
 use machine::{Image, Machine, Reply};
@@ -43,30 +43,23 @@ impl RepliedCall {
 }
 
 /// The calls that took a reply, in order.
-pub struct Calls {
+pub struct RepliedCalls {
     calls: Vec<RepliedCall>,
     /// How many bytes the calls moved.
     moved: u64,
 }
 
-impl Drop for Calls {
+impl Drop for RepliedCalls {
     fn drop(self) {
-        let Calls {
+        let RepliedCalls {
             calls: _calls,
             moved: _,
         } = self;
     }
 }
 
-/// How many bytes of memory a program takes that is entered by a reply.
-fn entered(reply: &Reply) -> u64 {
-    match &reply.image {
-        Some(image) => bytes_of(image),
-        None => 0,
-    }
-}
-
-fn bytes_of(image: &Image) -> u64 {
+/// How many bytes of memory a program takes.
+fn memory_of(image: &Image) -> u64 {
     let mut bytes = 0u64;
     for segment in image.segments() {
         bytes = bytes.saturating_add(u64::from(segment.memsz));
@@ -74,10 +67,18 @@ fn bytes_of(image: &Image) -> u64 {
     bytes
 }
 
-impl Calls {
+/// How many bytes of memory the program takes that a reply enters; 0 where it enters none.
+pub fn memory_entered(reply: &Reply) -> u64 {
+    match &reply.image {
+        Some(image) => memory_of(image),
+        None => 0,
+    }
+}
+
+impl RepliedCalls {
     /// A list without calls.
-    pub fn new(alloc: Global) -> Calls {
-        Calls {
+    pub fn new(alloc: Global) -> RepliedCalls {
+        RepliedCalls {
             calls: Vec::new(alloc),
             moved: 0,
         }
@@ -111,7 +112,7 @@ impl Calls {
             .moved
             .saturating_add(stored)
             .saturating_add(call.written())
-            .saturating_add(entered(reply));
+            .saturating_add(memory_entered(reply));
         Ok(())
     }
 

@@ -1,4 +1,4 @@
-//! `request_of`: reads what gdb asks for by a packet.
+//! `packet_request`: reads what gdb asks for by a packet.
 use crate::numbers::{bytes_of, little_endian, range};
 use debugger::{Watch, WatchKind};
 use std::alloc::{AllocError, Global};
@@ -35,7 +35,7 @@ pub enum Motion {
 
 /// What gdb asks for.
 #[derive(Drop)]
-pub enum Request {
+pub enum PacketRequest {
     /// What the session supports.
     Supported,
     /// That packets are acknowledged no more.
@@ -71,22 +71,22 @@ pub enum Request {
 }
 
 /// The request, or `Other` where its words have no form.
-fn known(request: Option<Request>) -> Request {
-    request.unwrap_or(Request::Other)
+fn known(request: Option<PacketRequest>) -> PacketRequest {
+    request.unwrap_or(PacketRequest::Other)
 }
 
-fn part_request(document: Document, words: &str) -> Option<Request> {
+fn part_request(document: Document, words: &str) -> Option<PacketRequest> {
     let (offset, length) = range(words)?;
-    Some(Request::Part {
+    Some(PacketRequest::Part {
         document,
         offset,
         length,
     })
 }
 
-fn memory_request(words: &str) -> Option<Request> {
+fn memory_request(words: &str) -> Option<PacketRequest> {
     let (at, length) = range(words)?;
-    Some(Request::Memory { at, length })
+    Some(PacketRequest::Memory { at, length })
 }
 
 /// The breakpoint or the watch of `KIND,AT,N`. What follows after a `;` is passed over.
@@ -108,25 +108,25 @@ fn point_of(words: &str) -> Option<Point> {
 }
 
 /// The request of a write to a register: a travel where the register is `count`, else a change.
-fn written(alloc: Global, words: &str) -> Result<Request, AllocError> {
+fn written(alloc: Global, words: &str) -> Result<PacketRequest, AllocError> {
     let Some(("21", value)) = words.split_once('=') else {
-        return Ok(Request::Change);
+        return Ok(PacketRequest::Change);
     };
     match little_endian(alloc, value)? {
-        Some(count) => Ok(Request::Travel(count)),
-        None => Ok(Request::Change),
+        Some(count) => Ok(PacketRequest::Travel(count)),
+        None => Ok(PacketRequest::Change),
     }
 }
 
-fn monitor_request(alloc: Global, digits: &str) -> Result<Request, AllocError> {
+fn monitor_request(alloc: Global, digits: &str) -> Result<PacketRequest, AllocError> {
     match bytes_of(alloc, digits.as_bytes())? {
-        Some(line) => Ok(Request::Monitor(line)),
-        None => Ok(Request::Other),
+        Some(line) => Ok(PacketRequest::Monitor(line)),
+        None => Ok(PacketRequest::Other),
     }
 }
 
 /// A request of more than one word.
-fn query(alloc: Global, text: &str) -> Result<Request, AllocError> {
+fn query(alloc: Global, text: &str) -> Result<PacketRequest, AllocError> {
     if let Some(words) = text.strip_prefix("qXfer:features:read:target.xml:") {
         return Ok(known(part_request(Document::Target, words)));
     }
@@ -138,49 +138,49 @@ fn query(alloc: Global, text: &str) -> Result<Request, AllocError> {
     }
     match text.strip_prefix("qRcmd,") {
         Some(digits) => monitor_request(alloc, digits),
-        None if text.starts_with("qSupported") => Ok(Request::Supported),
-        None => Ok(Request::Other),
+        None if text.starts_with("qSupported") => Ok(PacketRequest::Supported),
+        None => Ok(PacketRequest::Other),
     }
 }
 
 /// A request by its first letter, and what comes after it.
-fn lettered(alloc: Global, letter: char, words: &str) -> Result<Request, AllocError> {
+fn lettered(alloc: Global, letter: char, words: &str) -> Result<PacketRequest, AllocError> {
     match letter {
         'm' => Ok(known(memory_request(words))),
         'P' => written(alloc, words),
-        'Z' => Ok(known(point_of(words).map(|point| Request::Set(point)))),
-        'z' => Ok(known(point_of(words).map(|point| Request::Clear(point)))),
-        'c' | 'C' => Ok(Request::Go(Motion::Continue)),
-        's' | 'S' => Ok(Request::Go(Motion::Step)),
-        _ => Ok(Request::Other),
+        'Z' => Ok(known(point_of(words).map(|point| PacketRequest::Set(point)))),
+        'z' => Ok(known(point_of(words).map(|point| PacketRequest::Clear(point)))),
+        'c' | 'C' => Ok(PacketRequest::Go(Motion::Continue)),
+        's' | 'S' => Ok(PacketRequest::Go(Motion::Step)),
+        _ => Ok(PacketRequest::Other),
     }
 }
 
-fn request_of_text(alloc: Global, text: &str) -> Result<Request, AllocError> {
+fn request_of_text(alloc: Global, text: &str) -> Result<PacketRequest, AllocError> {
     match text {
-        "?" => Ok(Request::Why),
-        "g" => Ok(Request::Registers),
-        "bs" => Ok(Request::Go(Motion::StepBack)),
-        "bc" => Ok(Request::Go(Motion::ContinueBack)),
-        "QStartNoAckMode" => Ok(Request::NoAcks),
+        "?" => Ok(PacketRequest::Why),
+        "g" => Ok(PacketRequest::Registers),
+        "bs" => Ok(PacketRequest::Go(Motion::StepBack)),
+        "bc" => Ok(PacketRequest::Go(Motion::ContinueBack)),
+        "QStartNoAckMode" => Ok(PacketRequest::NoAcks),
         _ if text.starts_with('q') => query(alloc, text),
         _ => match text.chars().next() {
             Some(letter) => lettered(alloc, letter, text.get(1..).unwrap_or_default()),
-            None => Ok(Request::Other),
+            None => Ok(PacketRequest::Other),
         },
     }
 }
 
 /// What a packet of this payload asks for.
-pub fn request_of(alloc: Global, payload: &[u8]) -> Result<Request, AllocError> {
+pub fn packet_request(alloc: Global, payload: &[u8]) -> Result<PacketRequest, AllocError> {
     match payload.first() {
-        Some(b'G' | b'M' | b'X') => return Ok(Request::Change),
-        Some(b'D') => return Ok(Request::Detach),
-        Some(b'k') => return Ok(Request::Kill),
+        Some(b'G' | b'M' | b'X') => return Ok(PacketRequest::Change),
+        Some(b'D') => return Ok(PacketRequest::Detach),
+        Some(b'k') => return Ok(PacketRequest::Kill),
         _ => {}
     }
     match str::from_utf8(payload) {
         Ok(text) => request_of_text(alloc, text),
-        Err(_) => Ok(Request::Other),
+        Err(_) => Ok(PacketRequest::Other),
     }
 }

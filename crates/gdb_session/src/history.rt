@@ -2,10 +2,10 @@
 ghost use Rattle.std.specs.Prelude.{◌<◌};
 ghost use Rattle.kernel_model.specs.World.{terminal_count};
 
-use gdb_packets::Calls;
+use gdb_packets::{RepliedCalls, memory_entered};
 use kernel::Core;
 use kernel_model::TERMINALS;
-use machine_model::{Image, Reply};
+use machine_model::Reply;
 use std::alloc::{AllocError, Global};
 use timeline::{End, Timeline};
 
@@ -34,24 +34,11 @@ const MOST_PROCESSES: u32 = 1024;
 
 const MIB: u64 = 1 << 20;
 
-/// How many bytes of memory a program takes.
-fn memory_of(image: &Image) -> u64 {
-    let mut bytes = 0u64;
-    for segment in image.segments() {
-        bytes = bytes.saturating_add(u64::from(segment.memsz));
-    }
-    bytes
-}
-
 /// The bytes that a reply counts as in the kernel.
 fn bytes_of(reply: &Reply) -> u64 {
-    let entered = match &reply.image {
-        Some(image) => memory_of(image),
-        None => 0,
-    };
     BYTES_OF_REPLY
         .saturating_add(reply.bytes.as_slice().len() as u64)
-        .saturating_add(entered)
+        .saturating_add(memory_entered(reply))
 }
 
 /// How many bytes the terminals show.
@@ -70,7 +57,7 @@ pub struct History {
     /// How many bytes the history may take.
     room: u64,
     /// The program's calls that got a reply.
-    calls: Calls,
+    calls: RepliedCalls,
     /// How many replies of each process are counted, by its number less one.
     counted: Vec<usize>,
     /// The bytes that these replies count as.
@@ -84,7 +71,7 @@ impl History {
     pub fn new(alloc: Global, room: u64) -> History {
         History {
             room,
-            calls: Calls::new(alloc),
+            calls: RepliedCalls::new(alloc),
             counted: Vec::new(alloc),
             replies: 0,
             events: 0,
@@ -92,7 +79,7 @@ impl History {
     }
 
     /// The program's calls that got a reply.
-    pub fn calls(&self) -> &Calls {
+    pub fn calls(&self) -> &RepliedCalls {
         &self.calls
     }
 

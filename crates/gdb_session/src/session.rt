@@ -4,8 +4,8 @@ use crate::history::History;
 use crate::messages::Messages;
 use crate::monitor::print_answer;
 use gdb_packets::{
-    Command, Document, Motion, Packets, Point, Request, Stop, command_of, description, memory_at,
-    part_of, registers_of, request_of, stop_text,
+    Command, Document, Motion, PacketRequest, Packets, Point, Stop, command_of, description,
+    memory_at, packet_request, part_of, registers_of, stop_text,
 };
 use simdisk::SimDisk;
 use std::alloc::{AllocError, Global};
@@ -202,32 +202,32 @@ impl Session {
     }
 
     /// Answers a packet that only looks at the program or the session.
-    fn answer_look(&self, request: &Request, out: &mut Packets) -> Result<(), AllocError> {
+    fn answer_look(&self, request: &PacketRequest, out: &mut Packets) -> Result<(), AllocError> {
         match request {
-            Request::Supported => self.answer_supported(out),
-            Request::Part {
+            PacketRequest::Supported => self.answer_supported(out),
+            PacketRequest::Part {
                 document,
                 offset,
                 length,
             } => self.answer_part(*document, *offset, *length, out),
-            Request::Why => out.push_text("T05"),
-            Request::Registers => self.answer_registers(out),
-            Request::Memory { at, length } => self.answer_memory(*at, *length, out),
-            Request::Change => out.push_text(NO_CHANGE),
-            Request::NoAcks | Request::Detach => out.push_text("OK"),
+            PacketRequest::Why => out.push_text("T05"),
+            PacketRequest::Registers => self.answer_registers(out),
+            PacketRequest::Memory { at, length } => self.answer_memory(*at, *length, out),
+            PacketRequest::Change => out.push_text(NO_CHANGE),
+            PacketRequest::NoAcks | PacketRequest::Detach => out.push_text("OK"),
             _ => out.push_text(""),
         }
     }
 
     /// Answers a packet of this payload: adds the packets that go out, and says what comes next.
     pub fn answer(&mut self, payload: &[u8], out: &mut Packets) -> Result<Next, SessionFault> {
-        match request_of(self.alloc, payload)? {
-            Request::Go(motion) => return Ok(self.begin(motion)),
-            Request::Monitor(line) => return self.answer_monitor(line.as_slice(), out),
-            Request::Kill => return Ok(Next::End),
-            Request::Travel(count) => self.answer_travel(count, out)?,
-            Request::Set(point) => self.answer_set(point, out)?,
-            Request::Clear(point) => self.answer_clear(point, out)?,
+        match packet_request(self.alloc, payload)? {
+            PacketRequest::Go(motion) => return Ok(self.begin(motion)),
+            PacketRequest::Monitor(line) => return self.answer_monitor(line.as_slice(), out),
+            PacketRequest::Kill => return Ok(Next::End),
+            PacketRequest::Travel(count) => self.answer_travel(count, out)?,
+            PacketRequest::Set(point) => self.answer_set(point, out)?,
+            PacketRequest::Clear(point) => self.answer_clear(point, out)?,
             request => {
                 self.answer_look(&request, out)?;
                 return Ok(next_after(&request));
@@ -279,10 +279,10 @@ impl Session {
 }
 
 /// What comes after a packet that only looks was answered.
-fn next_after(request: &Request) -> Next {
+fn next_after(request: &PacketRequest) -> Next {
     match request {
-        Request::NoAcks => Next::NoAcks,
-        Request::Detach => Next::End,
+        PacketRequest::NoAcks => Next::NoAcks,
+        PacketRequest::Detach => Next::End,
         _ => Next::Await,
     }
 }

@@ -1,6 +1,6 @@
 //! Tests machines of images: runs to their first limits, and longer and longer runs.
 use crate::limits::{check_each, check_growing};
-use crate::replies::Calls;
+use crate::replies::OnCall;
 use anyhow::Error;
 use machine::Machine;
 use std::fs;
@@ -17,7 +17,7 @@ pub fn check_image<R: Files + AllocGlobal>(rt: &R, name: &str) -> Result<String,
     let file = fs::read(rt, name)?;
     let image = elf32::parse(alloc, file.as_slice())?;
     let first = Machine::load(alloc, &image)?;
-    let count = check_each(alloc, &first, EACH, Calls::End)?;
-    let whole = check_growing(alloc, &first, WHOLE, Calls::End)?;
+    let count = check_each(alloc, &first, EACH, OnCall::End)?;
+    let whole = check_growing(alloc, &first, WHOLE, OnCall::End)?;
     Ok(format!(in alloc; "{name}: {count} limits, {whole} instructions")?)
 }

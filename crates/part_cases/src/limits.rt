@@ -1,5 +1,5 @@
 //! Runs a program to many limits. Each run has to end where as many single instructions do.
-use crate::replies::Calls;
+use crate::replies::OnCall;
 use anyhow::{Error, bail};
 use machine::{Machine, Stop};
 use std::alloc::{AllocError, Global};
@@ -12,7 +12,7 @@ pub fn run(
     alloc: Global,
     machine: &mut Machine,
     max: u32,
-    calls: Calls,
+    calls: OnCall,
 ) -> Result<(u32, Stop), Error> {
     let mut all = 0u32;
     for _ in 0..u64::from(max) + 1 {
@@ -35,7 +35,7 @@ pub fn check_each(
     alloc: Global,
     first: &Machine,
     greatest: u32,
-    calls: Calls,
+    calls: OnCall,
 ) -> Result<u32, Error> {
     let mut stepped = first.try_clone(alloc)?;
     for limit in 0..greatest {
@@ -59,7 +59,7 @@ fn check_end(
     first: &Machine,
     stepped: &Machine,
     stop: Stop,
-    calls: Calls,
+    calls: OnCall,
 ) -> Result<(), Error> {
     let mut ran = first.try_clone(alloc)?;
     let (_, found) = run(alloc, &mut ran, u32::MAX, calls)?;
@@ -71,7 +71,12 @@ fn check_end(
 
 /// Runs from the first state for at most so many instructions at once, and in runs of 1, 2, 3, .. instructions. Both have to reach
 /// the same state. Says how many instructions were done.
-pub fn check_growing(alloc: Global, first: &Machine, max: u32, calls: Calls) -> Result<u64, Error> {
+pub fn check_growing(
+    alloc: Global,
+    first: &Machine,
+    max: u32,
+    calls: OnCall,
+) -> Result<u64, Error> {
     let mut whole = first.try_clone(alloc)?;
     run(alloc, &mut whole, max, calls)?;
     let mut parts = first.try_clone(alloc)?;

@@ -3,7 +3,7 @@
 use crate::limits::{check_each, check_growing};
 use crate::numbers::Numbers;
 use crate::programs::program_of;
-use crate::replies::Calls;
+use crate::replies::OnCall;
 use anyhow::{Error, bail};
 use machine::Machine;
 use std::alloc::{AllocError, Global};
@@ -25,28 +25,19 @@ pub const SIZE: u32 = 4 * 39;
 
 /// The first words of each program.
 const START: [u32; 6] = [
-    // auipc x12, 0: the first word
-    0x0000_0617,
-    // auipc x13, 0
-    0x0000_0697,
-    // addi x9, x0, 3: how often the random words are done
-    0x0030_0493,
-    // lw x14, 32(x12): two of the program's words
-    0x0206_2703,
-    // lw x15, 48(x12)
-    0x0306_2783,
-    // addi x8, x0, 5
-    0x0050_0413,
+    0x0000_0617, // auipc x12, 0: the first word
+    0x0000_0697, // auipc x13, 0
+    0x0030_0493, // addi x9, x0, 3: how often the random words are done
+    0x0206_2703, // lw x14, 32(x12): two of the program's words
+    0x0306_2783, // lw x15, 48(x12)
+    0x0050_0413, // addi x8, x0, 5
 ];
 
 /// The last words of each program.
 const END: [u32; 3] = [
-    // addi x9, x9, -1
-    0xfff4_8493,
-    // bne x9, x0, -124: back to the random words
-    0xf804_92e3,
-    // ebreak
-    0x0010_0073,
+    0xfff4_8493, // addi x9, x9, -1
+    0xf804_92e3, // bne x9, x0, -124: back to the random words
+    0x0010_0073, // ebreak
 ];
 
 /// What a program is made of, as in `random`. Results go to x8 and x10, words of the program to x14 and x15; x12 and x13 hold
@@ -106,8 +97,8 @@ fn check_program(alloc: Global, seed: u32) -> Result<u32, Error> {
     let words = program(alloc, &mut numbers)?;
     let image = program_of(alloc, FIRST, words.as_slice(), true)?;
     let first = Machine::load(alloc, &image)?;
-    let limits = check_each(alloc, &first, STEPS, Calls::Overwrite(seed))?;
-    check_growing(alloc, &first, STEPS, Calls::Overwrite(seed))?;
+    let limits = check_each(alloc, &first, STEPS, OnCall::Overwrite(seed))?;
+    check_growing(alloc, &first, STEPS, OnCall::Overwrite(seed))?;
     Ok(limits)
 }
 

@@ -2,10 +2,10 @@
 //! sequence and past the program's end. Their accesses pass the end of a page, are not aligned, or are forbidden.
 use crate::limits::check_each;
 use crate::numbers::Numbers;
-use crate::replies::Calls;
+use crate::replies::OnCall;
 use anyhow::{Error, bail};
 use machine::{Image, Machine};
-use std::alloc::{AllocError, Global};
+use std::alloc::Global;
 
 /// How many programs are tried.
 const PROGRAMS: u32 = 2_000;
@@ -18,18 +18,12 @@ const STEPS: u32 = 120;
 
 /// The first words of each program: registers that hold the ends of pages of the stack and of the text.
 const START: [u32; 6] = [
-    // lui x8, 0x7fffd: the second page of the stack
-    0x7fff_d437,
-    // lui x9, 0x80000: where the stack ends
-    0x8000_04b7,
-    // addi x9, x9, -8
-    0xff84_8493,
-    // lui x10, 0x11: the end of the text's page
-    0x0001_1537,
-    // addi x11, x0, 3
-    0x0030_0593,
-    // lui x12, 0x7fffc: where the stack begins
-    0x7fff_c637,
+    0x7fff_d437, // lui x8, 0x7fffd: the second page of the stack
+    0x8000_04b7, // lui x9, 0x80000: where the stack ends
+    0xff84_8493, // addi x9, x9, -8
+    0x0001_1537, // lui x10, 0x11: the end of the text's page
+    0x0030_0593, // addi x11, x0, 3
+    0x7fff_c637, // lui x12, 0x7fffc: where the stack begins
 ];
 
 /// What a program is made of: words without registers and numbers, and the bits that are filled in at random. Those of
@@ -102,103 +96,21 @@ const PATTERNS: &[(u32, u32)] = &[
     (0x0000_0073, 0x0000_0000),
 ];
 
-/// Words in a row that the machine's loop does as one operation, by the numbers of their patterns. A number that no pattern has stands
-/// for no word.
-const SEQUENCES: &[[u8; 4]] = &[
-    [0, 0, 255, 255],
-    [38, 10, 10, 45],
-    [29, 0, 255, 255],
-    [7, 10, 255, 255],
-    [17, 10, 41, 255],
-    [0, 41, 255, 255],
-    [29, 29, 255, 255],
-    [0, 10, 255, 255],
-    [10, 0, 16, 2],
-    [7, 10, 29, 255],
-    [35, 35, 255, 255],
-    [31, 31, 0, 0],
-    [0, 39, 29, 46],
-    [10, 41, 255, 255],
-    [0, 13, 17, 41],
-    [32, 0, 0, 39],
-    [29, 29, 0, 0],
-    [32, 41, 0, 0],
-    [0, 2, 255, 255],
-    [0, 17, 9, 12],
-    [29, 0, 0, 0],
-    [7, 0, 10, 255],
-    [0, 0, 0, 255],
-    [7, 0, 42, 255],
-    [10, 10, 255, 255],
-    [12, 42, 255, 255],
-    [0, 29, 255, 255],
-    [35, 0, 255, 255],
-    [32, 39, 0, 0],
-    [38, 0, 41, 255],
-    [14, 41, 255, 255],
-    [10, 29, 0, 12],
-    [7, 8, 255, 255],
-    [0, 43, 255, 255],
-    [7, 10, 7, 7],
-    [18, 10, 18, 41],
-    [0, 35, 255, 255],
-    [7, 10, 29, 49],
-    [7, 10, 29, 41],
-    [29, 0, 42, 29],
-    [0, 18, 0, 41],
-    [35, 35, 42, 0],
-    [18, 0, 38, 41],
-    [32, 41, 255, 255],
-    [0, 13, 8, 39],
-    [0, 2, 39, 255],
-    [10, 29, 255, 255],
-    [35, 35, 35, 35],
-    [17, 0, 10, 8],
-    [29, 29, 29, 29],
-    [0, 39, 255, 255],
-    [10, 10, 29, 29],
-    [45, 35, 0, 42],
-    [7, 10, 0, 29],
-    [29, 39, 255, 255],
-    [35, 0, 0, 0],
-    [7, 8, 14, 255],
-    [7, 0, 10, 40],
-    [2, 7, 0, 10],
-    [29, 0, 49, 255],
-    [10, 35, 255, 255],
-    [39, 29, 0, 255],
-    [35, 35, 0, 0],
-    [10, 29, 29, 255],
-    [10, 41, 0, 41],
-    [32, 0, 0, 255],
-    [29, 0, 39, 255],
-    [0, 29, 0, 49],
-    [0, 7, 10, 255],
-    [0, 40, 255, 255],
-    [29, 0, 0, 255],
-    [0, 0, 41, 255],
-    [32, 39, 255, 255],
-    [10, 10, 41, 255],
-    [0, 0, 10, 255],
-    [29, 41, 255, 255],
-    [32, 41, 0, 255],
-    [0, 46, 255, 255],
-    [42, 0, 0, 0],
-    [7, 10, 29, 39],
-    [39, 0, 0, 255],
-    [10, 45, 255, 255],
-    [2, 10, 255, 255],
-    [0, 35, 35, 35],
-    [10, 0, 255, 255],
-    [10, 29, 41, 255],
-    [10, 7, 10, 255],
-    [29, 0, 17, 255],
-    [29, 29, 0, 10],
-    [38, 0, 255, 255],
-];
+/// Words in a row that the machine's loop does as one operation, each by the number of its pattern.
+const SEQUENCES: &str = "\
+    0,0 38,10,10,45 29,0 7,10 17,10,41 0,41 29,29 0,10 10,0,16,2 7,10,29 35,35 31,31,0,0 0,39,29,46 10,41 0,13,17,41 \
+    32,0,0,39 29,29,0,0 32,41,0,0 0,2 0,17,9,12 29,0,0,0 7,0,10 0,0,0 7,0,42 10,10 12,42 0,29 35,0 32,39,0,0 38,0,41 \
+    14,41 10,29,0,12 7,8 0,43 7,10,7,7 18,10,18,41 0,35 7,10,29,49 7,10,29,41 29,0,42,29 0,18,0,41 35,35,42,0 \
+    18,0,38,41 32,41 0,13,8,39 0,2,39 10,29 35,35,35,35 17,0,10,8 29,29,29,29 0,39 10,10,29,29 45,35,0,42 7,10,0,29 \
+    29,39 35,0,0,0 7,8,14 7,0,10,40 2,7,0,10 29,0,49 10,35 39,29,0 35,35,0,0 10,29,29 10,41,0,41 32,0,0 29,0,39 \
+    0,29,0,49 0,7,10 0,40 29,0,0 0,0,41 32,39 10,10,41 0,0,10 29,41 32,41,0 0,46 42,0,0,0 7,10,29,39 39,0,0 10,45 \
+    2,10 0,35,35,35 10,0 10,29,41 10,7,10 29,0,17 29,29,0,10 38,0";
+
+/// How many sequences there are.
+const SEQUENCE_COUNT: usize = 90;
 
 /// The program of a seed. Every second one is made of whole sequences.
-fn program(alloc: Global, seed: u32) -> Result<Vec<u32>, AllocError> {
+fn program(alloc: Global, seed: u32) -> Result<Vec<u32>, Error> {
     let mut numbers = Numbers::new(seed);
     let mut words = Vec::from_slice(alloc, &START)?;
     for _ in 0..1 + seed % WORDS {
@@ -212,9 +124,11 @@ fn program(alloc: Global, seed: u32) -> Result<Vec<u32>, AllocError> {
 }
 
 /// Adds the words of a sequence.
-fn add_sequence(words: &mut Vec<u32>, numbers: &mut Numbers) -> Result<(), AllocError> {
-    for number in numbers.choose(SEQUENCES) {
-        if let Some(pattern) = PATTERNS.get(usize::from(number)) {
+fn add_sequence(words: &mut Vec<u32>, numbers: &mut Numbers) -> Result<(), Error> {
+    let place = numbers.next() as usize % SEQUENCE_COUNT;
+    let sequence = SEQUENCES.split_whitespace().nth(place).unwrap_or("");
+    for number in sequence.split(',') {
+        if let Some(pattern) = PATTERNS.get(number.parse::<usize>()?) {
             words.push(numbers.filled(*pattern))?;
         }
     }
@@ -231,7 +145,7 @@ fn check_programs(alloc: Global) -> Result<u64, Error> {
         }
         let image = Image::from_text(alloc, words.as_slice())?;
         let first = Machine::load(alloc, &image)?;
-        match check_each(alloc, &first, STEPS, Calls::End) {
+        match check_each(alloc, &first, STEPS, OnCall::End) {
             Ok(limits) => count = count.saturating_add(u64::from(limits)),
             Err(error) => bail!("random program {seed}: {error}"),
         }

@@ -1,4 +1,4 @@
-//! `Calls`: how the calls of a tested program are answered.
+//! `OnCall`: how the calls of a tested program are answered.
 use crate::numbers::Numbers;
 use crate::overwriting::{FIRST, PATTERNS, SIZE};
 use anyhow::{Error, bail};
@@ -8,7 +8,7 @@ use std::alloc::{AllocError, Global};
 
 /// How a program's calls are answered.
 #[derive(Clone, Copy)]
-pub enum Calls {
+pub enum OnCall {
     /// Not at all: the program ends at a call.
     End,
     /// By bytes over the program's own words, as a read or a pipe places them. The bytes follow from this number and the count of
@@ -16,12 +16,12 @@ pub enum Calls {
     Overwrite(u32),
 }
 
-impl Calls {
+impl OnCall {
     /// Answers the call at which a machine stands. Says whether it did.
     pub fn answer(self, alloc: Global, machine: &mut Machine) -> Result<bool, Error> {
         match self {
-            Calls::End => Ok(false),
-            Calls::Overwrite(seed) => {
+            OnCall::End => Ok(false),
+            OnCall::Overwrite(seed) => {
                 overwrite(alloc, machine, seed)?;
                 Ok(true)
             }

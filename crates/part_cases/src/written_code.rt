@@ -2,7 +2,7 @@
 use crate::limits::check_each;
 use crate::overwriting::check_overwriting_programs;
 use crate::programs::program_of;
-use crate::replies::Calls;
+use crate::replies::OnCall;
 use anyhow::{Error, bail};
 use formats::Reg;
 use machine::{Cause, Machine, Stop};
@@ -15,18 +15,12 @@ const PAGE: u32 = 16;
 
 /// The fourth word is `li a0, 1` until the third has written the last one over it, `li a0, 2`.
 const WORDS: [u32; 6] = [
-    // auipc t0, 0
-    0x0000_0297,
-    // lw t1, 20(t0)
-    0x0142_a303,
-    // sw t1, 12(t0)
-    0x0062_a623,
-    // li a0, 1
-    0x0010_0513,
-    // ecall
-    0x0000_0073,
-    // li a0, 2
-    0x0020_0513,
+    0x0000_0297, // auipc t0, 0
+    0x0142_a303, // lw t1, 20(t0)
+    0x0062_a623, // sw t1, 12(t0)
+    0x0010_0513, // li a0, 1
+    0x0000_0073, // ecall
+    0x0020_0513, // li a0, 2
 ];
 
 /// The page with these words at its beginning, and zeros after them.
@@ -56,7 +50,7 @@ fn check_run(alloc: Global, first: &Machine, wanted: (u32, Stop, u32)) -> Result
     if found != wanted {
         bail!("a program that writes over its words comes to {found:?}");
     }
-    check_each(alloc, first, 100, Calls::End)?;
+    check_each(alloc, first, 100, OnCall::End)?;
     Ok(())
 }
 

@@ -6,7 +6,6 @@ use crate::texts::bytes_shown;
 use kernel::{Core, Event};
 use kernel_model::TERMINALS;
 use pictures::{Fate, FileChange, Flight, Output, Picture, Row};
-use scripts::process_of;
 use std::alloc::{AllocError, Global};
 
 /// The heading of a picture of a whole run.
@@ -30,10 +29,6 @@ struct Held {
 /// an event does is noted for the next row, and then the row is added.
 pub struct PictureBuilder {
     pub picture: Picture,
-    /// A second core. It applies the events of processes too, and commits every change at once, so it shows each output in the
-    /// event that wrote it. Its processes get the same replies and write the same, since what programs do does not depend on when
-    /// changes are committed.
-    follower: Core,
     /// How many changes the picture had at the boot.
     first_change: usize,
     /// How many changes there were at the last row since the boot, and how many of them were committed.
@@ -50,7 +45,6 @@ impl Drop for PictureBuilder {
     fn drop(self) {
         let PictureBuilder {
             picture: _picture,
-            follower: _follower,
             first_change: _,
             changes: _,
             committed: _,
@@ -87,20 +81,11 @@ fn end_output(picture: &mut Picture, held: &Held, fate: Fate) {
     }
 }
 
-/// Applies an event of a process, and commits every change. What another core accepted is refused for want of memory alone.
-fn follow(follower: &mut Core, event: Event) -> Result<(), AllocError> {
-    if follower.apply(event).is_err() || follower.drain().is_err() {
-        return Err(AllocError);
-    }
-    Ok(())
-}
-
 impl PictureBuilder {
-    /// A builder before the first event of the first boot. The follower has just been booted too.
-    pub fn new(alloc: Global, follower: Core) -> Result<PictureBuilder, AllocError> {
+    /// A builder before the first event of the first boot.
+    pub fn new(alloc: Global) -> Result<PictureBuilder, AllocError> {
         Ok(PictureBuilder {
             picture: empty_picture(alloc)?,
-            follower,
             first_change: 0,
             changes: 0,
             committed: 0,
@@ -193,7 +178,7 @@ impl PictureBuilder {
         requires { terminal < terminal_count }
     {
         let before = self.written[terminal as usize];
-        let all = self.follower.shown(terminal);
+        let all = core.written(terminal);
         let end = all.len();
         if end <= before {
             return Ok(());
@@ -248,9 +233,6 @@ impl PictureBuilder {
         event: Event,
         mut row: Row,
     ) -> Result<(), AllocError> {
-        if process_of(event).is_some() {
-            follow(&mut self.follower, event)?;
-        }
         self.note_change(core)?;
         self.note_flights(core, event)?;
         self.note_outputs(alloc, core)?;
@@ -263,11 +245,6 @@ impl PictureBuilder {
         self.changes = core.changes();
         self.committed = core.committed();
         Ok(self.picture.rows.push(row)?)
-    }
-
-    /// Goes on past an event that the core accepted last and that changed nothing, as one that waits.
-    pub fn pass(&mut self, event: Event) -> Result<(), AllocError> {
-        follow(&mut self.follower, event)
     }
 
     /// Ends in the next row what has not ended yet: changes that are not committed, writes in flight, outputs that are held back. Gives
@@ -283,9 +260,8 @@ impl PictureBuilder {
         (changes, self.held.len() as u64)
     }
 
-    /// Goes on with the next boot, whose second core is `follower`.
-    pub fn boot(&mut self, follower: Core) {
-        self.follower = follower;
+    /// Goes on with the next boot.
+    pub fn boot(&mut self) {
         self.first_change = self.picture.changes.len();
         self.changes = 0;
         self.committed = 0;

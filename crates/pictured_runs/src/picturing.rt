@@ -88,13 +88,11 @@ struct Pictured<'a, R> {
 impl<'a, R: Files + AllocGlobal> Pictured<'a, R> {
     /// Before the first boot.
     fn new(rt: &'a R, setup: &'a mut Setup, alone: bool) -> Result<Pictured<'a, R>, Fault> {
-        let mut start = Start::new(rt, setup);
-        let follower = start.boot()?;
-        let alloc = start.alloc();
+        let alloc = rt.alloc();
         Ok(Pictured {
-            start,
+            start: Start::new(rt, setup),
             alone,
-            builder: PictureBuilder::new(alloc, follower)?,
+            builder: PictureBuilder::new(alloc)?,
             call: String::new(alloc),
             waiting: Vec::new(alloc),
         })
@@ -135,13 +133,12 @@ impl<'a, R: Files + AllocGlobal> Pictured<'a, R> {
 
     /// Goes on with the next boot: below the rows so far, after the files that this boot found, or in a picture of its own.
     fn boot_again(&mut self, next: &Core) -> Result<(), Fault> {
-        let follower = self.start.boot()?;
         self.waiting.clear();
         if self.alone {
-            self.builder = PictureBuilder::new(self.start.alloc(), follower)?;
+            self.builder = PictureBuilder::new(self.start.alloc())?;
             return Ok(());
         }
-        self.builder.boot(follower);
+        self.builder.boot();
         let picture = &mut self.builder.picture;
         Ok(push_files(self.start.alloc(), picture, next.boot_files())?)
     }
@@ -167,7 +164,7 @@ impl<R: Files + AllocGlobal> Visitor for Pictured<'_, R> {
 
     fn after(&mut self, core: &Core, event: Event, answer: Answer) -> Result<(), Fault> {
         if self.is_folded(event, answer)? {
-            return Ok(self.builder.pass(event)?);
+            return Ok(());
         }
         let row = self.row_of(core, event, answer)?;
         Ok(

@@ -16,11 +16,7 @@ pub fn play<N: Naming + Send + Sync, D: Desk, R: Threads + Wait + Sync>(
     line: &mut String,
 ) -> Result<(), Fault> {
     crew(rt, workers)?;
-    let events = events_at(rt, bench);
+    let events = bench.lock(rt).core().history().len();
     write!(line, "two workers: {events} events")?;
     commit(desk)
-}
-
-fn events_at<N: Naming, R: Wait>(rt: &R, bench: &Mutex<Bench<'_, N>>) -> usize {
-    bench.lock(rt).core().history().len()
 }

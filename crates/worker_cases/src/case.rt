@@ -1,4 +1,4 @@
-//! Sets up and plays a case: a core of both programs, its board, its bench, and a pool over the bench with its workers.
+//! Sets up and plays a case: a core of two or eight programs, its board, its bench, and a pool over the bench with its workers.
 ghost use Rattle.std.specs.Prelude.{◌≡◌, ◌≤◌, ◌<◌};
 ghost use Rattle.kernel_model.specs.Answers.{now, committed as committed_in, changes as changes_in};
 
@@ -56,7 +56,7 @@ impl Case {
     }
 }
 
-/// Plays a case over a core of both programs, and adds its line.
+/// Plays a case over a core of its programs, and adds its line.
 pub fn play<R: Threads + Wait + Sync>(
     rt: &R,
     alloc: Global,

@@ -2,7 +2,8 @@
 use crate::case::QUANTUM;
 use crate::fault::Fault;
 use crate::programs::{boot, boot_quiet};
-use executor::{Run, Settings};
+use crate::two_workers::{say, settings};
+use executor::Run;
 use kernel::Core;
 use std::alloc::Global;
 use std::sync::Wait;
@@ -37,29 +38,8 @@ fn play_one<R: Threads + Wait + Sync>(
     fail: u32,
     line: &mut String,
 ) -> Result<(), Fault> {
-    let settings = Settings {
-        workers: 2,
-        quantum: QUANTUM,
-        terminal: Some(0),
-        fail: Some(fail),
-    };
     let mut out = Vec::new(alloc);
-    let core = Run::new(alloc, settings, &mut out).to_end(rt, core)?;
-    say(alloc, &core, fail, out.as_slice(), line)
-}
-
-fn say(
-    alloc: Global,
-    core: &Core,
-    fail: u32,
-    written: &[u8],
-    line: &mut String,
-) -> Result<(), Fault> {
-    let written = hex::encode(alloc, written)?;
-    let committed = core.committed();
-    let changes = core.changes();
-    Ok(write!(
-        line,
-        "; {fail}: {committed} of {changes} committed, [{written}] written"
-    )?)
+    let core = Run::new(alloc, settings(QUANTUM, Some(fail)), &mut out).to_end(rt, core)?;
+    let written = hex::encode(alloc, out.as_slice())?;
+    say(&core, fail, written.as_str(), line)
 }

@@ -16,7 +16,7 @@ pub fn play<N: Naming + Send + Sync, R: Threads + Wait + Sync>(
     if is_late(workers) {
         return Err(Fault::Late);
     }
-    let ran = ran_at(rt, bench);
+    let ran = bench.lock(rt).core().ran();
     Ok(write!(
         line,
         "one worker held while the other steals: {ran} instructions"
@@ -29,8 +29,4 @@ fn is_late<N: Naming>(workers: &[Worker<'_, '_, '_, N>]) -> bool {
         Some((_seat, gate)) => gate.is_late(),
         None => true,
     }
-}
-
-fn ran_at<N: Naming, R: Wait>(rt: &R, bench: &Mutex<Bench<'_, N>>) -> u64 {
-    bench.lock(rt).core().ran()
 }

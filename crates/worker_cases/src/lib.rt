@@ -1,6 +1,6 @@
-//! Runs of two programs by workers: at the seats of a pool in threads of their own, by turns at one desk, or to their ends. A line
-//! says what each run comes to, also where a completion fails, or a durable run has a file that refuses a call. Read `case` first.
-//! The lines are the same whatever the schedule: how the workers take turns shows in none.
+//! Runs of one, two or eight programs by workers: at the seats of a pool in threads of their own, by turns at one desk, or to their
+//! ends. A line says what each run comes to, also where a completion fails, or a durable run has a file that refuses a call. Read
+//! `case` first. The lines are the same whatever the schedule: how the workers take turns shows in none.
 #![tactic(auto)]
 
 mod by_crew;
@@ -21,6 +21,7 @@ mod refusing;
 mod stealing;
 mod stranger;
 mod turns;
+mod two_workers;
 mod workers;
 
 pub use lines::play_cases;

@@ -12,69 +12,25 @@ use std::alloc::{AllocError, Global};
 
 /// A program that creates a file `f`, writes 3 bytes to it, of which the first is `A`, writes that byte to its terminal, and exits.
 const WRITER: [u32; 19] = [
-    0x0660_0293,
-    0xfe51_2e23,
-    0xffc1_0513,
-    0x0010_0593,
-    0x0020_0613,
-    0x0040_0893,
-    0x0000_0073,
-    0x0410_0293,
-    0xfe51_2e23,
-    0xffc1_0593,
-    0x0030_0613,
-    0x0020_0893,
-    0x0000_0073,
-    0x0010_0513,
-    0x0010_0613,
-    0x0000_0073,
-    0x0000_0513,
-    0x0010_0893,
-    0x0000_0073,
+    0x06600293, 0xfe512e23, 0xffc10513, 0x00100593, 0x00200613, 0x00400893, 0x00000073, 0x04100293,
+    0xfe512e23, 0xffc10593, 0x00300613, 0x00200893, 0x00000073, 0x00100513, 0x00100613, 0x00000073,
+    0x00000513, 0x00100893, 0x00000073,
 ];
 
 /// A program that writes `B` to its terminal, and exits.
 const PRINTER: [u32; 10] = [
-    0x0420_0293,
-    0xfe51_2e23,
-    0x0010_0513,
-    0xffc1_0593,
-    0x0010_0613,
-    0x0020_0893,
-    0x0000_0073,
-    0x0000_0513,
-    0x0010_0893,
-    0x0000_0073,
+    0x04200293, 0xfe512e23, 0x00100513, 0xffc10593, 0x00100613, 0x00200893, 0x00000073, 0x00000513,
+    0x00100893, 0x00000073,
 ];
 
 /// A program that does what the first does, but writes nothing to its terminal.
 const QUIET: [u32; 16] = [
-    0x0660_0293,
-    0xfe51_2e23,
-    0xffc1_0513,
-    0x0010_0593,
-    0x0020_0613,
-    0x0040_0893,
-    0x0000_0073,
-    0x0410_0293,
-    0xfe51_2e23,
-    0xffc1_0593,
-    0x0030_0613,
-    0x0020_0893,
-    0x0000_0073,
-    0x0000_0513,
-    0x0010_0893,
-    0x0000_0073,
+    0x06600293, 0xfe512e23, 0xffc10513, 0x00100593, 0x00200613, 0x00400893, 0x00000073, 0x04100293,
+    0xfe512e23, 0xffc10593, 0x00300613, 0x00200893, 0x00000073, 0x00000513, 0x00100893, 0x00000073,
 ];
 
 /// A program that forks, and exits. So does the process that it makes.
-const FORKER: [u32; 5] = [
-    0x0070_0893,
-    0x0000_0073,
-    0x0000_0513,
-    0x0010_0893,
-    0x0000_0073,
-];
+const FORKER: [u32; 5] = [0x00700893, 0x00000073, 0x00000513, 0x00100893, 0x00000073];
 
 /// Both programs, on terminals 0 and 1.
 fn programs(alloc: Global) -> Result<Vec<Program>, AllocError>
@@ -156,12 +112,6 @@ pub fn boot_forkers(alloc: Global) -> Result<Core, Fault> {
     let programs = forkers(alloc)?;
     let device = device(alloc)?;
     Ok(Core::boot(alloc, device, programs, Vec::new(alloc))?)
-}
-
-/// The result of the first loan of another core of these programs, for a quantum of its own.
-pub fn result_of_another(alloc: Global) -> Result<Done, Fault> {
-    let mut core = boot(alloc)?;
-    next_result(&mut core)
 }
 
 /// The results of the first two loans of another core, of process 1 and of process 2.

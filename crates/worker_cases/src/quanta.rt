@@ -3,7 +3,8 @@ ghost use Rattle.std.specs.Prelude.{◌≤◌};
 
 use crate::fault::Fault;
 use crate::programs::boot;
-use executor::{Run, Settings};
+use crate::two_workers::settings;
+use executor::Run;
 use kernel::{Core, Event};
 use std::alloc::Global;
 use std::sync::Wait;
@@ -35,14 +36,8 @@ fn play_one<R: Threads + Wait + Sync>(
 ) -> Result<(), Fault>
     requires { 1 ≤ quantum }
 {
-    let settings = Settings {
-        workers: 2,
-        quantum,
-        terminal: Some(0),
-        fail: None,
-    };
     let mut out = Vec::new(alloc);
-    let core = Run::new(alloc, settings, &mut out).to_end(rt, core)?;
+    let core = Run::new(alloc, settings(quantum, None), &mut out).to_end(rt, core)?;
     let longest = longest_turn(&core);
     Ok(write!(line, "; {quantum}: {longest}")?)
 }

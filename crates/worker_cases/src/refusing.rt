@@ -6,8 +6,9 @@ ghost use Rattle.durable_disk.specs.FileRecords.{record_in};
 use crate::case::QUANTUM;
 use crate::fault::Fault;
 use crate::programs::{boot, boot_on, zeros};
+use crate::two_workers::{say, settings};
 use durable_disk::{DiskFile, FileNotes, HostRefused};
-use executor::{Run, Settings};
+use executor::Run;
 use kernel::{Core, Piece};
 use std::alloc::Global;
 use std::sync::Wait;
@@ -120,13 +121,7 @@ fn run_on<R: Threads + Wait + Sync, F: DiskFile + Send + Drop>(
     file: F,
     out: &mut Vec<u8>,
 ) -> Result<Core, Fault> {
-    let settings = Settings {
-        workers: 2,
-        quantum: QUANTUM,
-        terminal: Some(0),
-        fail: None,
-    };
-    let mut run = Run::new(alloc, settings, out).on_file(Some(file));
+    let mut run = Run::new(alloc, settings(QUANTUM, None), out).on_file(Some(file));
     Ok(run.to_end(rt, core)?)
 }
 
@@ -145,13 +140,4 @@ fn play_one<R: Threads + Wait + Sync>(
     say(&core, refused, written.as_str(), line)?;
     let files = boot_on(alloc, held.as_slice())?.boot_files().count();
     Ok(write!(line, ", {files} files held")?)
-}
-
-fn say(core: &Core, refused: u32, written: &str, line: &mut String) -> Result<(), Fault> {
-    let committed = core.committed();
-    let changes = core.changes();
-    Ok(write!(
-        line,
-        "; {refused}: {committed} of {changes} committed, [{written}] written"
-    )?)
 }

@@ -3,7 +3,6 @@ use crate::fault::Fault;
 use crate::nine::fetch;
 use crate::workers::{Worker, seat_at};
 use bursts::{Bench, Naming};
-use kernel::Standing;
 use std::sync::{Mutex, Wait};
 
 /// The first seat fetches a loan, and then the second. Says whose loans these are, and how process 2 stands between the two.
@@ -14,17 +13,10 @@ pub fn play<N: Naming, R: Wait>(
     line: &mut String,
 ) -> Result<(), Fault> {
     let first = fetch(rt, seat_at(workers, 0)?)?;
-    let standing = standing_of_two(rt, bench)?;
+    let standing = bench.lock(rt).core().standing(2)?;
     let second = fetch(rt, seat_at(workers, 1)?)?;
     Ok(write!(
         line,
         "a seat fetches process {first}, and process 2 is {standing:?}; another fetches process {second}"
     )?)
-}
-
-fn standing_of_two<N: Naming, R: Wait>(
-    rt: &R,
-    bench: &Mutex<Bench<'_, N>>,
-) -> Result<Standing, Fault> {
-    Ok(bench.lock(rt).core().standing(2)?)
 }

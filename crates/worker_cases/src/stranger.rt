@@ -1,6 +1,6 @@
 //! A crew that stops since a result in the queue is of no loan that is out.
 use crate::fault::Fault;
-use crate::programs::result_of_another;
+use crate::programs::two_of_another;
 use crate::workers::{Worker, crew_fault, seat_at};
 use bursts::{Bench, Done, Naming};
 use pool::Seat;
@@ -17,7 +17,7 @@ pub fn play<N: Naming + Send + Sync, R: Threads + Wait + Sync>(
     workers: &mut [Worker<'_, '_, '_, N>],
     line: &mut String,
 ) -> Result<(), Fault> {
-    hand_in(rt, seat_at(workers, 0)?, result_of_another(alloc)?)?;
+    hand_in_another(rt, alloc, workers)?;
     let fault = crew_fault(rt, workers);
     let stopped = is_stopped(rt, bench);
     Ok(write!(
@@ -36,12 +36,22 @@ pub fn play_idle<N: Naming + Send + Sync, R: Threads + Wait + Sync>(
     line: &mut String,
 ) -> Result<(), Fault> {
     bench.lock(rt).stop();
-    hand_in(rt, seat_at(workers, 0)?, result_of_another(alloc)?)?;
+    hand_in_another(rt, alloc, workers)?;
     let fault = crew_fault(rt, workers);
     Ok(write!(
         line,
         "a result of another core, and idle workers: fault {fault}"
     )?)
+}
+
+/// Puts a result of another core into the queue.
+fn hand_in_another<N: Naming, R: Wait>(
+    rt: &R,
+    alloc: Global,
+    workers: &mut [Worker<'_, '_, '_, N>],
+) -> Result<(), Fault> {
+    let (first, _second) = two_of_another(alloc)?;
+    hand_in(rt, seat_at(workers, 0)?, first)
 }
 
 /// Puts a result into the queue, which has room.

@@ -7,47 +7,27 @@ use std::hash::{DefaultHasher, Hasher};
 /// An event: the carriers that it reads and writes, its change, and how many changes have to be committed for it.
 type Noted = (&'static [Carrier], &'static [Carrier], Option<u32>, u64);
 
-const CARRIERS: &[Carrier] = &[
-    Carrier::Proc(1),
-    Carrier::Proc(2),
-    Carrier::File(0),
-    Carrier::Pipe(0),
-    Carrier::Names,
-    Carrier::Tasks,
-];
+const ONE: Carrier = Carrier::Proc(1);
+
+const TWO: Carrier = Carrier::Proc(2);
+
+const FILE: Carrier = Carrier::File(0);
+
+const PIPE: Carrier = Carrier::Pipe(0);
+
+const NAMES: Carrier = Carrier::Names;
+
+const TASKS: Carrier = Carrier::Tasks;
+
+const CARRIERS: &[Carrier] = &[ONE, TWO, FILE, PIPE, NAMES, TASKS];
 
 /// A process makes a file and writes to a pipe, which another reads; then it changes the file too.
 const EVENTS: &[Noted] = &[
-    (
-        &[Carrier::Proc(1), Carrier::Names],
-        &[Carrier::Proc(1), Carrier::Names, Carrier::File(0)],
-        Some(0),
-        1,
-    ),
-    (
-        &[Carrier::Proc(1), Carrier::Pipe(0)],
-        &[Carrier::Proc(1), Carrier::Pipe(0)],
-        None,
-        1,
-    ),
-    (
-        &[Carrier::Proc(2), Carrier::Tasks],
-        &[Carrier::Proc(2), Carrier::Tasks],
-        None,
-        0,
-    ),
-    (
-        &[Carrier::Proc(2), Carrier::Pipe(0)],
-        &[Carrier::Proc(2), Carrier::Pipe(0)],
-        None,
-        1,
-    ),
-    (
-        &[Carrier::Proc(2), Carrier::File(0)],
-        &[Carrier::Proc(2), Carrier::File(0)],
-        Some(1),
-        2,
-    ),
+    (&[ONE, NAMES], &[ONE, NAMES, FILE], Some(0), 1),
+    (&[ONE, PIPE], &[ONE, PIPE], None, 1),
+    (&[TWO, TASKS], &[TWO, TASKS], None, 0),
+    (&[TWO, PIPE], &[TWO, PIPE], None, 1),
+    (&[TWO, FILE], &[TWO, FILE], Some(1), 2),
 ];
 
 /// Whether an event wrote this carrier, and its readers need no more changes than these.
