@@ -6,7 +6,7 @@
 A page is README.md, CHANGES.md or a file docs/*.md. Of each it finds links to files that are not there, links to anchors that no
 heading has, and sentences of more than 35 words. Of the pages that show the commands it also finds blocks ```text that no case of
 crates/test_runner/data/*.sessions has, and no example: what is shown there is what the merge gate compares. A form, with words that stand
-for others, is in a plain block. Of the map in docs/ARCHITECTURE.md it finds rows that are not by crates.txt: another group, or another
+for others, is in a plain block. A block that begins with `$ ./bench` shows commands, each with all that it prints and says. Of the map in docs/ARCHITECTURE.md it finds rows that are not by crates.txt: another group, or another
 list of direct dependencies. Of README.md and docs/DEFINITIONS.md it finds wrong numbers of lines of definitions. It finds a VERSION that the program does not print. With --comments it also
 finds such sentences in the comments `//!` and `///` of crates/*/src. With file names, it checks these alone: pages, and comments of
 files `.rt`.
@@ -26,7 +26,9 @@ import urllib.parse
 
 MOST_WORDS = 35
 # The pages whose blocks of text stand in cases or examples.
-SHOWING = ("README.md", *(f"docs/{it}.md" for it in ("ABI", "CALLS", "CRASHES", "DEBUGGER", "IMAGES", "SCRIPTS", "SOURCES", "TEACHING")))
+SHOWING = (
+    "README.md", *(f"docs/{it}.md" for it in ("ABI", "CALLS", "CRASHES", "DEBUGGER", "EXEC", "IMAGES", "SCRIPTS", "SOURCES", "TEACHING")),
+)
 CASES = "crates/test_runner/data/*.sessions"
 EXAMPLES = "crates/test_runner/data/examples/*.[sf]*"
 # The page with the map of the crates, the file that lists them, and the crate that no row of the map names.
@@ -53,6 +55,8 @@ SHORT_FORMS = ("e.g.", "i.e.", "cf.", "vs.")
 GROUP = re.compile(r"# ([^:]+): ")
 CRATE = re.compile(r"([a-z0-9_]+)[^:]*:(.*)")
 MAP_ROW = re.compile(r"\| `([a-z0-9_]+)` \| ([^|]*)\|")
+COMMAND = re.compile(r"\$ \./bench (.*?)(; echo \$\?)?$")
+MARK = re.compile(r"(?:>|!!|! \d+) ?")
 DOC_COMMENT = re.compile(r"\s*//(?:!|/(?!/)) ?(.*)")
 
 
@@ -169,8 +173,33 @@ def texts_of(lines):
             text[1].append(line)
 
 
+def commands_of(text):
+    """Returns each command of a block: its words, the lines after it, and last its status, where that is shown."""
+    found = []
+    for line in text:
+        command = COMMAND.match(line)
+        if command:
+            found.append((command[1], bool(command[2]), []))
+        else:
+            found[-1][2].append(line)
+    return found
+
+
+def is_run_in_cases(words, with_status, lines, cases):
+    """Whether a run with these words has a case in which it prints and says these lines, the last of which may be its status."""
+    for run in re.finditer(rf"^\$ {re.escape(words)}\n((?:(?:>|!!?)(?: .*)?\n)*)", cases, re.MULTILINE):
+        told = run[1].splitlines()
+        status = next((line.split()[1] for line in told if line.startswith("! ")), "0")
+        shown = [MARK.sub("", line, count=1) for line in told if not re.fullmatch(r"! \d+", line)]
+        if shown + [status] * with_status == lines:
+            return True
+    return False
+
+
 def is_in_cases(text, cases):
     """Whether a text stands in cases, as what is read, printed, said or kept in a file. Its lines that begin with `>` are input."""
+    if text and COMMAND.match(text[0]):
+        return all(is_run_in_cases(*command, cases) for command in commands_of(text))
     typed = [line[2:] for line in text if line.startswith("> ")]
     shown = [line for line in text if not line.startswith("> ")]
     forms = [

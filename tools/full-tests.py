@@ -86,6 +86,10 @@ PARTS = {
     ),
     "records": Part("random programs, by exec and by replay of the record", "python3 tools/random-records.py {count} {seed} {jobs}", (), 200),
     "logs": Part("random programs, by exec --log and by steps of debug", "python3 tools/random-logs.py {count} {seed} {jobs}", (), 60),
+    "logs-of-gcc": Part(
+        "GCC's tests at -O1, by exec --log and by steps of debug", "python3 tools/random-logs.py --gcc {count} {seed} {jobs}",
+        ("gcc-12-source", "gcc-riscv64-unknown-elf", "picolibc-riscv64-unknown-elf", "qemu-user"), 20,
+    ),
     "orders": Part("random programs, by explore and by all orders", "python3 tools/random-orders.py {count} {seed} {jobs}", (), 20),
     "many-runs": Part("each example again and again, by 1 to 16 workers", "tools/many-runs.sh {count}", (), 16),
     "killed-runs": Part("runs that are killed, and the disk after each", "tools/killed-runs.sh {count}", (), 20),
@@ -98,6 +102,7 @@ PARTS = {
     ),
     "calls": refusals("every call to the host refused", "call"),
     "room": refusals("the same, for want of room", "room"),
+    "closed": refusals("the same, since a pipe is closed", "closed"),
     "interrupted": refusals("every call to the host interrupted", "interrupted"),
     "bytes": refusals("every read and write moves one byte", "bytes"),
     "threads": refusals("every start of a thread refused", "thread"),

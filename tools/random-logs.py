@@ -1,7 +1,7 @@
 #!/usr/bin/env python3
-"""Compares `bench exec --log` with single steps of `bench debug`, on random programs and on the examples.
+"""Compares `bench exec --log` with single steps of `bench debug`, on random programs and on the examples, or on tests of GCC.
 
-    random-logs.py [RUNS] [SEED] [JOBS]
+    random-logs.py [--gcc] [RUNS] [SEED] [JOBS]
 
 A run (200 where no number is given) has one or two random sources: instructions of all kinds, loads and stores of each width, calls and
 functions, and the system calls of random-records.py, with an end by `exit`, by a trap or in the middle. The first runs take the sources
@@ -10,8 +10,11 @@ replies of that process are read of the record, by `replay`, and `debug` goes th
 of the log is made anew, of the words and registers that `debug` prints, and has to be the same. How many lines there are is compared
 with `exec --json`. At last `diff` has to find the log equal to what was made.
 
+With --gcc a run takes one of GCC's execution tests, as torture.sh builds them at -O1 by build.sh, and its first instructions. KEEP names
+the folder in which what is built stands, where it is to be kept.
+
 BENCH names the program, or else it is ./bench of this repository. The last line says how many runs and instructions were compared; at
-the first difference the sources are printed, and the status is 1."""
+the first difference the sources are printed, or the test is named, and the status is 1."""
 import concurrent.futures
 import glob
 import importlib.util
@@ -27,9 +30,10 @@ sys.dont_write_bytecode = True
 HERE = os.path.dirname(os.path.realpath(__file__))
 TOP = os.path.realpath(f"{HERE}/..")
 LIMIT = 3000
+LIMIT_OF_GCC = 10000
 NAMES = "zero ra sp gp tp t0 t1 t2 s0 s1 a0 a1 a2 a3 a4 a5 a6 a7 s2 s3 s4 s5 s6 s7 s8 s9 s10 s11 t3 t4 t5 t6".split()
 REGISTERS = {name: number for number, name in enumerate(NAMES)}
-COUNT = re.compile(r"count (\d+), pc ([0-9a-f]{8})(?:: ([0-9a-f]{8})  .*)?$")
+COUNT = re.compile(r"count (\d+), pc ([0-9a-f]{8})(?:: (?:([0-9a-f]{8})  .*|no word may be fetched here))?$")
 CHANGE = re.compile(r"  ([a-z]+\d*) ([0-9a-f]{8}) -> ([0-9a-f]{8})$")
 HELD = re.compile(r"([a-z]+\d*) +([0-9a-f]{8})")
 LOADS, STORES, ECALL, FORK = 0x03, 0x23, 0x73, 7
@@ -189,7 +193,8 @@ def compare(folder, words, process, images):
     log = logged(folder, words, process, images)
     if not log or process > len(images) > 1:
         return 0
-    wanted = wanted_lines(folder, images[process - 1 if len(images) > 1 else 0], process, 3 * LIMIT)[:len(log)]
+    steps = 3 * LIMIT if process > 1 else len(log)
+    wanted = wanted_lines(folder, images[process - 1 if len(images) > 1 else 0], process, steps)[:len(log)]
     for number, (one, other) in enumerate(zip(log, wanted)):
         if one != other:
             raise Differs(f"line {number + 1} is\n{one}\nand by debug\n{other}")
@@ -235,11 +240,33 @@ def run(seed, number):
             raise Differs(f"seed {seed}: {why}\n{' '.join(words)} --log-of {process}\n" + "\n".join(sources)) from why
 
 
-def main():
-    runs, first, jobs = (int(given) for given in (sys.argv[1:] + ["200", "1", "4"][len(sys.argv) - 1:]))
-    with concurrent.futures.ThreadPoolExecutor(jobs) as pool:
+def tests_of_gcc(folder, count, seed, jobs):
+    """Returns the images of so many tests, which are built in a folder where they are not there already."""
+    words = ["--build", "--keep", folder, "--sample", count, "--seed", seed, "--levels", "-O1", "--jobs", jobs]
+    subprocess.run([f"{HERE}/torture.sh", *map(str, words)], check=True, stdout=subprocess.DEVNULL)
+    return sorted(glob.glob(f"{folder}/**/*-O1/script", recursive=True))
+
+
+def run_test(image):
+    """Compares the log of a test of GCC's, and returns how many lines it has."""
+    with tempfile.TemporaryDirectory() as folder:
         try:
-            lines = sum(pool.map(run, range(first, first + runs), range(runs)))
+            return compare(folder, ["exec", "--limit", str(LIMIT_OF_GCC)], 1, [image])
+        except Differs as why:
+            raise Differs(f"{image}: {why}") from why
+
+
+def main():
+    words = [it for it in sys.argv[1:] if it != "--gcc"]
+    runs, first, jobs = (int(given) for given in (words + ["200", "1", "4"][len(words):]))
+    with concurrent.futures.ThreadPoolExecutor(jobs) as pool, tempfile.TemporaryDirectory() as room:
+        if "--gcc" in sys.argv:
+            images = tests_of_gcc(os.environ.get("KEEP", room), runs, first, jobs)
+            counts, runs = pool.map(run_test, images), len(images)
+        else:
+            counts = pool.map(run, range(first, first + runs), range(runs))
+        try:
+            lines = sum(counts)
         except Differs as why:
             print(why)
             sys.exit(1)

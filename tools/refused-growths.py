@@ -9,6 +9,7 @@ told, and the status is 1. `docs/TESTING.md` says why this stands beside the mer
 import argparse
 import collections
 import concurrent.futures
+import hashlib
 import os
 import re
 import shutil
@@ -32,10 +33,19 @@ REFUSALS = {
     "growths": ("REFUSE_GROWTHS", {}, 0, MEMORY),
     "call": ("REFUSE_CALL", {"REFUSE_REASON": "5"}, 1, HOST),
     "room": ("REFUSE_CALL", {"REFUSE_REASON": "28"}, 1, HOST),
+    "closed": ("REFUSE_CALL", {"REFUSE_REASON": "32"}, 1, HOST),
     "interrupted": ("REFUSE_CALL", {"REFUSE_REASON": "4"}, 1, HOST),
     "bytes": ("REFUSE_BYTES", {}, 2, HOST),
     "thread": ("REFUSE_THREAD", {}, 3, MEMORY),
 }
+
+
+def part(number):
+    """Returns the file of a part of two of an exploration, with its sum."""
+    lines = f"bench explore part 1\nprograms {0:032x} limit 1000000 most-states 1000000 part {number} of 2\n"
+    lines += f"state {0:032x} 0 1\nstate {number:032x} 1 0\noutcome 1 ends 1:{number} shown - files -\ncomplete\n"
+    return f"{lines}sum {hashlib.sha256(lines.encode()).hexdigest()[:32]}\n".encode()
+
 
 # Files beside the sources and scripts of `crates/test_runner/data`.
 FILES = {
@@ -53,10 +63,14 @@ FILES = {
     "space.s": b"_start: ecall\n.data\n.space 4294967295\n",
     "allowed.files": b"files -\n",
     "allowed.outcomes": b"ends 1:0 shown - files -\n",
+    "one.part": part(1),
+    "other.part": part(2),
     "one.log": b"core   0: 3 0x00010000 (0x00500513) x10 0x00000005\n",
     "other.log": b"core   0: 3 0x00010000 (0x00500513) x10 0x00000006\n",
 }
-SOURCES = ["first.s", "printer.s", "reader.s", "waiter.s", "three_files.s", "linkers/gnu.elf"]
+# Links, one of which leads to no file at first.
+LINKS = {"to-first": "first.s", "to-out": "out"}
+SOURCES = ["first.s", "printer.s", "reader.s", "waiter.s", "three_files.s", "linkers/gnu.elf", "examples/c/wild.image.elf"]
 IMAGES = {"first": "first.s", "printer": "printer.s", "reader": "reader.s", "waiter": "waiter.s", "primes": "primes.s", "init": "init.s"}
 COMMANDS_OF_DEBUG = b"step 3\nstate\nbreak 00010018\nrun\nrewind 2\nrun\nclear 0\nrun\nstep 1\nrewind 0\nrun\nquit\n"
 LONG_DEBUG = b"step 3000\nrewind 1500\nbreak 00010010\nrun\nstate\nrun\nquit\n"
@@ -100,7 +114,12 @@ COMMANDS = [
     ("list refused", 2, "list short", b""),
     ("explore", 0, "explore --jobs 1 init", b""),
     ("explore expected", 7, "explore --jobs 1 --expect allowed.outcomes init", b""),
-    ("explore a part", 8, "explore --jobs 1 --most-states 2 init", b""),
+    ("explore that is cut", 8, "explore --jobs 1 --most-states 2 init", b""),
+    ("explore a part", 0, "explore --jobs 1 --part 1/2 init", b""),
+    ("explore merged", 0, "explore --merge one.part other.part", b""),
+    ("explore merged as expected", 7, "explore --merge --expect allowed.outcomes one.part other.part", b""),
+    ("explore of one part twice", 2, "explore --merge one.part one.part", b""),
+    ("explore of no part", 2, "explore --merge bad.s", b""),
     ("diff", 0, "diff one.log one.log", b""),
     ("diff of two logs", 7, "diff one.log other.log", b""),
     ("diff beside a source", 7, "diff --source first.s one.log other.log", b""),
@@ -117,6 +136,7 @@ COMMANDS = [
     ("page", 0, "page first-run.script", b""),
     ("page of crashes", 0, "page --json crash.script", b""),
     ("crashes", 0, "crashes first-run.script", b""),
+    ("crashes with a recovery", 0, "crashes --jobs 1 --nested 0 --recover first.s first-run.script", b""),
     ("crashes expected", 7, "crashes --expect allowed.files first-run.script", b""),
     ("debug", 0, "debug first --trace trace", COMMANDS_OF_DEBUG),
     ("debug far", 0, "debug primes", LONG_DEBUG),
@@ -131,6 +151,11 @@ COMMANDS = [
     ("disk", 0, "disk kept", b""),
     ("disk of another length", 3, "disk short", b""),
     ("disk damaged", 3, "disk damaged", b""),
+    ("disk put", 0, "disk put kept settings first.s", b""),
+    ("disk put on a new disk", 0, "disk put new settings first.s", b""),
+    ("disk put refused", 2, "disk put kept a/b first.s", b""),
+    ("disk cat", 0, "disk cat kept f", b""),
+    ("disk diff", 0, "disk diff kept kept", b""),
     ("run", 0, "run first", b""),
     ("run by one", 0, "run --workers 1 first", b""),
     ("run of exec", 0, "run init", b""),
@@ -154,6 +179,16 @@ COMMANDS = [
     ("exec", 0, "exec first.s", b""),
     ("exec with a record", 0, "exec --calls --json --record out first.s", b""),
     ("exec with a log", 0, "exec --log out --profile first.s", b""),
+    ("exec with a log by a link", 0, "exec --log to-out first.s", b""),
+    ("exec over its source by a link", 125, "exec --record to-first first.s", b""),
+    ("exec of two things to a file", 125, "exec --log out --picture out first.s", b""),
+    ("exec with a picture", 0, "exec --picture out init.s", b""),
+    ("exec with its calls", 0, "exec --calls --seed 3 init.s", b""),
+    ("exec of a trap in C", 132, "exec --json --calls --profile examples/c/wild.image.elf", b""),
+    ("exec of a deadlock", 126, "exec --json --record out stuck.s", b""),
+    ("exec to a limit", 124, "exec --limit 10 --log out primes.s", b""),
+    ("exec on a kept disk", 0, "exec --disk kept --tape tape --profile first.s reader.s", b""),
+    ("exec by workers", 0, "exec --workers 2 first.s printer.s", b""),
     ("exec refused", 125, "exec bad.s", b""),
     ("help of run", 0, "run --help", b""),
     ("help of asm", 0, "help asm", b""),
@@ -188,6 +223,8 @@ class Folder:
         self.stamps = {}
         for name in files:
             self.write(name)
+        for name, target in LINKS.items():
+            os.symlink(target, f"{self.path}/{name}")
 
     def write(self, name):
         path = f"{self.path}/{name}"
@@ -203,6 +240,7 @@ class Folder:
     def changes(self):
         """Returns the files that are new or other ones, and the names of those that are gone; puts all back."""
         names = {os.path.relpath(f"{where}/{name}", self.path) for where, _, names in os.walk(self.path) for name in names}
+        names -= {name for name in LINKS if os.path.islink(f"{self.path}/{name}")}
         changed = {}
         for name in names:
             if self.stamps.get(name) != self.stamp(name):
@@ -288,7 +326,7 @@ class Sweep:
         torn = [name for name in changed if not self.is_whole(changed[name], changed_wanted.get(name))]
         if is_told:
             return status == status_wanted and err == err_wanted and all(self.end == HOST and name.endswith((".new", ".lck")) for name in torn)
-        if status == status_wanted:
+        if status == status_wanted != status_of_end:
             # A fault that came first keeps its status, where it cannot be told, or the output cannot go out.
             return self.end == HOST and status != 0 and not torn and set(err.splitlines()) <= set(err_wanted.splitlines())
         if self.end == HOST:
@@ -417,7 +455,7 @@ def main():
     parser = argparse.ArgumentParser(description=__doc__, formatter_class=argparse.RawDescriptionHelpFormatter)
     parser.add_argument("--bench", help="the proved program; without it no command is run")
     parser.add_argument("--test-runner", help="the proved program `test_runner`; without it no row is run")
-    parser.add_argument("--refuse", choices=REFUSALS, default="growth", help="what is refused: one growth, all from one on, a call of the host, one for want of room or interrupted, all bytes but one, or a thread")
+    parser.add_argument("--refuse", choices=REFUSALS, default="growth", help="what is refused: one growth, all from one on, a call of the host, one for want of room, of a reader, or interrupted, all bytes but one, or a thread")
     parser.add_argument("--processes", type=int, default=os.cpu_count())
     parser.add_argument("names", nargs="*", help="the commands and rows that are run; all without them")
     given = parser.parse_args()

@@ -16,12 +16,14 @@ import time
 TOP = os.path.realpath(f"{os.path.dirname(os.path.realpath(__file__))}/..")
 # How many of the words of a command name files, aside from its options.
 MOST_FILES = {
-    "replay": 1, "picture": 1, "page": 1, "crashes": 8, "explore": 8, "asm": 2, "check": 1, "image": 2, "symbols": 2, "list": 1, "diff": 2, "debug": 8, "gdb": 8, "disk": 1, "run": 8, "exec": 8,
+    "replay": 1, "picture": 1, "page": 1, "crashes": 8, "explore": 9999, "asm": 2, "check": 1, "image": 2, "symbols": 2, "list": 1, "diff": 2, "debug": 8, "gdb": 8, "disk": 4, "run": 8, "exec": 8,
 }
+# Which words after `disk` name no file, by the first of them.
+NO_FILES = {"cat": (1, 3), "put": (1, 3), "diff": (1,)}
 # The commands whose file is a script.
 SCRIPT_COMMANDS = ("replay", "picture", "page", "crashes", "explore")
 FILE_OPTIONS = ("--trace", "--disk", "--tape", "--tape-of", "--expect", "--source", "--symbols", "--save", "--recover")
-NUMBER_OPTIONS = ("--workers", "--quantum", "--term", "--fail", "--status", "--cone", "--process", "--history", "--limit", "--seed", "--most-states", "--model", "--apart", "--nested", "--jobs", "--log-of")
+NUMBER_OPTIONS = ("--workers", "--quantum", "--term", "--fail", "--status", "--cone", "--process", "--history", "--limit", "--seed", "--most-states", "--model", "--apart", "--nested", "--jobs", "--part", "--log-of")
 IMAGE_LINE = re.compile(rb"^(image [0-9]+ )(?=[^/\s])", re.MULTILINE)
 # The longest that the program may run, and how long nothing is said, in seconds.
 LONGEST_RUN, SILENCE = 1800, 30
@@ -78,7 +80,8 @@ class Room:
         """Returns the words with places for names of files."""
         command = words[0] if words else ""
         found, files, option, is_ended = words[:1], MOST_FILES.get(command, 0), None, False
-        for word in words[1:]:
+        names = NO_FILES.get(words[1], ()) if command == "disk" and len(words) > 2 else ()
+        for at, word in enumerate(words[1:], 1):
             is_option = not is_ended and word.startswith("-") and word != "-"
             if is_option:
                 option, equals, value = word.partition("=")
@@ -89,7 +92,7 @@ class Room:
             elif option:
                 word = self.value_of(option, word) if option in FILE_OPTIONS else word
                 option = None
-            elif files > 0:
+            elif files > 0 and at not in names:
                 if command == "symbols" and word:
                     # gdb looks for the source by this path, also when this run's folder is gone.
                     word = os.path.abspath(word)

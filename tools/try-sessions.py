@@ -46,15 +46,15 @@ class Run:
     """A run of the program, and what is wanted of it. None stands for anything at all."""
 
     def __init__(self, words):
-        self.words, self.input, self.out, self.status, self.err = words, b"", b"", 0, b""
+        self.words, self.input, self.out, self.status, self.err, self.kept = words, b"", b"", 0, b"", None
 
     def read(self, mark, text):
         """Reads a line that says more of the run; false where it does not."""
         if mark in ("<", "<<", "<$"):
             times, _, many = text.partition(" ")
             self.input += unescaped(text) + b"\n" if mark == "<" else packet(text) if mark == "<$" else unescaped(many) * int(times)
-        elif mark == ">*":
-            self.out = None
+        elif mark in (">*", ">="):
+            self.out, self.kept = None, text
         elif mark in (">", ">>", ">$"):
             self.out += packet(text) if mark == ">$" else text.encode() + (b"\n" if mark == ">" else b"")
         elif mark == "!":
@@ -88,6 +88,9 @@ class Place:
         else:
             words = [self.program, *words]
         came = subprocess.run(words, input=run.input, capture_output=True, cwd=self.folder, timeout=LONGEST, check=False)
+        if run.kept:
+            with open(self.path(run.kept), "wb") as it:
+                it.write(came.stdout)
         pairs = (("prints", came.stdout, run.out), ("says", came.stderr, run.err))
         wrong = [f"{what} {it!r}" for what, it, wanted in pairs if (it != wanted if wanted is not None else not it)]
         return wrong + ([f"ends with {came.returncode}"] if came.returncode != run.status else [])

@@ -1,6 +1,7 @@
 //! The table of the commands, a row each. The rows of commands with many options stand in files of their own.
 use crate::crash_options::CRASHES;
 use crate::debug_options::DEBUG;
+use crate::disk_command::DISK;
 use crate::exec_options::EXEC;
 use crate::explore_options::EXPLORE;
 use crate::gdb_options::GDB;
@@ -163,19 +164,6 @@ const DIFF: CommandRow = CommandRow {
             form: Form::Option("FILE"),
         },
     ],
-};
-
-const DISK: CommandRow = CommandRow {
-    kind: CommandKind::Disk,
-    name: "disk",
-    whole: "bench disk",
-    about: "Print the files on a disk, and their lengths",
-    example: "Example: bench disk /tmp/disk",
-    arguments: &[ArgumentRow {
-        name: "FILE",
-        help: "the disk's file",
-        form: Form::File,
-    }],
 };
 
 const OF_SCRIPTS: &[CommandRow] = &[REPLAY, PICTURE, PAGE, CRASHES, EXPLORE];

@@ -5,6 +5,7 @@ use crate::run_options::{ImagePaths, paths_named, small_number};
 use crate::tapes::TapePaths;
 use clap::ArgMatches;
 use clap::parser::ValueSource;
+use input_reading::decimal;
 use std::alloc::{AllocError, Global};
 
 /// A rule of what a crash may leave.
@@ -29,6 +30,31 @@ impl ModelName {
     }
 }
 
+/// One of so many parts of what is tried.
+#[derive(Clone, Copy)]
+pub struct CrashPart {
+    /// Its number, from 1.
+    pub number: u32,
+    /// How many parts there are.
+    pub of: u32,
+}
+
+impl CrashPart {
+    /// The greatest number of parts.
+    const MOST: u32 = 9999;
+
+    /// The part of a text, `I/N`, if there is one.
+    fn read(text: &str) -> Option<CrashPart> {
+        let (number, of) = text.split_once('/')?;
+        let number = u32::try_from(decimal(number)?).ok()?;
+        let of = u32::try_from(decimal(of)?).ok()?;
+        if number < 1 || number > of || of > CrashPart::MOST {
+            return None;
+        }
+        Some(CrashPart { number, of })
+    }
+}
+
 /// Whose crashes are tried, and how.
 #[derive(Drop)]
 pub struct CrashOptions<'a> {
@@ -50,6 +76,12 @@ pub struct CrashOptions<'a> {
     pub save: Option<&'a str>,
     /// How many instructions a run of programs, and each recovery, may have.
     pub limit: u64,
+    /// How many threads run recoveries; None: as many as there are processors.
+    pub jobs: Option<u32>,
+    /// Which part of the recoveries is tried, if not all are.
+    pub part: Option<CrashPart>,
+    /// Whether it is told how many recoveries were run so far.
+    pub progress: bool,
 }
 
 /// The command `crashes`.
@@ -116,6 +148,26 @@ pub const CRASHES: CommandRow = CommandRow {
             }),
         },
         ArgumentRow {
+            name: "jobs",
+            help: "how many threads run recoveries, 1 to 256; as many as there are processors, if it is not given",
+            form: Form::Number(NumberRow {
+                value: "N",
+                least: 1,
+                most: 256,
+                default: None,
+            }),
+        },
+        ArgumentRow {
+            name: "part",
+            help: "run the recovery on part I of N of the disks, 1 <= I <= N <= 9999",
+            form: Form::Option("I/N"),
+        },
+        ArgumentRow {
+            name: "progress",
+            help: "say once a second how many recoveries were run",
+            form: Form::Flag,
+        },
+        ArgumentRow {
             name: "tape",
             help: "what the first program may read; - is standard input",
             form: Form::Option("FILE"),
@@ -146,10 +198,19 @@ fn needs_recovery(matches: &ArgMatches<'_>) -> Option<&'static str> {
     if is_given(matches, "nested") {
         return Some("'--nested <N>' needs '--recover <PROGRAM>'");
     }
-    match matches.get_str("save") {
-        Some(_) => Some("'--save <FOLDER>' needs '--recover <PROGRAM>'"),
-        None => None,
+    if matches.get_str("save").is_some() {
+        return Some("'--save <FOLDER>' needs '--recover <PROGRAM>'");
     }
+    if matches.get_str("jobs").is_some() {
+        return Some("'--jobs <N>' needs '--recover <PROGRAM>'");
+    }
+    if matches.get_str("part").is_some() {
+        return Some("'--part <I/N>' needs '--recover <PROGRAM>'");
+    }
+    if matches.get_flag("progress") {
+        return Some("'--progress' needs '--recover <PROGRAM>'");
+    }
+    None
 }
 
 /// Why options of `crashes` do not go together, if they do not.
@@ -170,11 +231,23 @@ pub fn crash_conflict(matches: &ArgMatches<'_>) -> Option<&'static str> {
     }
 }
 
-/// The name of a rule that there is not, if one is given.
-pub fn unknown_model<'a>(matches: &ArgMatches<'a>) -> Option<&'a str> {
-    matches
-        .get_str("model")
-        .filter(|name| ModelName::named(name).is_none())
+/// What is wrong with the first value that is none of its option, if one is.
+pub fn crash_fault(alloc: Global, matches: &ArgMatches<'_>) -> Result<Option<String>, AllocError> {
+    if let Some(name) = matches.get_str("model")
+        && ModelName::named(name).is_none()
+    {
+        return Ok(Some(format!(in alloc;
+            "invalid value '{name}' for '--model <NAME>': it has to be bench, ordered, delayed or posix"
+        )?));
+    }
+    if let Some(text) = matches.get_str("part")
+        && CrashPart::read(text).is_none()
+    {
+        return Ok(Some(format!(in alloc;
+            "invalid value '{text}' for '--part <I/N>': it has to be two numbers, 1 <= I <= N <= 9999"
+        )?));
+    }
+    Ok(None)
 }
 
 /// The options of the command. None where there are more than 8 programs, or an argument is missing.
@@ -202,5 +275,8 @@ pub fn crash_options<'a>(
         nested,
         save: matches.get_str("save"),
         limit,
+        jobs: small_number(matches, "jobs"),
+        part: matches.get_str("part").and_then(CrashPart::read),
+        progress: matches.get_flag("progress"),
     }))
 }

@@ -1,15 +1,32 @@
 //! The command `explore`, and its options.
 use crate::numbers::number_of;
 use crate::rows::{ArgumentRow, CommandKind, CommandRow, Form, NumberRow};
-use crate::run_options::{ImagePaths, paths_named, small_number};
+use crate::run_options::small_number;
 use clap::ArgMatches;
+use clap::parser::ValueSource;
+use input_reading::decimal;
+use kernel_model::MOST_PROGRAMS;
 use std::alloc::{AllocError, Global};
 
-/// What is explored, and how far.
+/// The most parts of a search.
+const MOST_PARTS: u64 = 9999;
+
+/// A part of a search, as `number` of `of`, counted from 1.
+#[derive(Clone, Copy)]
+pub struct PartNumbers {
+    pub number: u64,
+    pub of: u64,
+}
+
+/// What is explored, and how far; or that parts are put together.
 #[derive(Drop)]
 pub struct ExploreOptions<'a> {
-    /// The paths of images, or that of a script.
-    pub programs: ImagePaths<'a>,
+    /// The paths of images, or that of a script; or those of parts.
+    pub programs: Vec<&'a str>,
+    /// Whether the files of parts are put together.
+    pub merge: bool,
+    /// The part that is searched; None: the whole.
+    pub part: Option<PartNumbers>,
     /// The path of the file of expected outcomes, if there is one.
     pub expect: Option<&'a str>,
     /// The folder into which a script of each outcome is written, if there is one.
@@ -34,8 +51,8 @@ pub const EXPLORE: CommandRow = CommandRow {
     arguments: &[
         ArgumentRow {
             name: "PROGRAM",
-            help: "the files of 1 to 8 images, for the terminals 0, 1, ..; or a script, whose set-up lines count",
-            form: Form::Images,
+            help: "the files of 1 to 8 images, for the terminals 0, 1, ..; or a script, whose set-up lines count; or, with --merge, those of all parts",
+            form: Form::Files,
         },
         ArgumentRow {
             name: "expect",
@@ -82,15 +99,98 @@ pub const EXPLORE: CommandRow = CommandRow {
             help: "say once a second how far the search has come",
             form: Form::Flag,
         },
+        ArgumentRow {
+            name: "part",
+            help: "search part I of N alone, and print its file; N is at most 9999",
+            form: Form::Option("I/N"),
+        },
+        ArgumentRow {
+            name: "merge",
+            help: "put the files of all parts together, and print what the whole search prints",
+            form: Form::Flag,
+        },
     ],
 };
+
+/// The part that a text names, if it is one.
+fn part_of(text: &str) -> Option<PartNumbers> {
+    let (number, of) = text.split_once('/')?;
+    let (number, of) = (decimal(number)?, decimal(of)?);
+    if number >= 1 && number <= of && of <= MOST_PARTS {
+        Some(PartNumbers { number, of })
+    } else {
+        None
+    }
+}
+
+/// The text of a part that is none, if it is given.
+pub fn faulty_part<'a>(matches: &ArgMatches<'a>) -> Option<&'a str> {
+    matches
+        .get_str("part")
+        .filter(|text| part_of(text).is_none())
+}
+
+/// Whether an option is given, or a flag.
+fn is_given(matches: &ArgMatches<'_>, option: &str) -> bool {
+    matches.value_source(option) == Some(ValueSource::CommandLine)
+}
+
+/// What a part cannot be searched with, each with how it is written: which outcomes are new is known where all parts are put together.
+static NOT_WITH_PART: [(&str, &str); 2] = [
+    ("save", "--save <FOLDER>"),
+    ("expect", "--expect <FILE>"),
+];
+
+/// What parts cannot be put together with, since nothing is searched.
+static NOT_WITH_MERGE: [(&str, &str); 6] = [
+    ("part", "--part <I/N>"),
+    ("save", "--save <FOLDER>"),
+    ("limit", "--limit <N>"),
+    ("most-states", "--most-states <N>"),
+    ("jobs", "--jobs <N>"),
+    ("progress", "--progress"),
+];
+
+/// The first of some options that is given.
+fn first_given(
+    matches: &ArgMatches<'_>,
+    options: &[(&'static str, &'static str)],
+) -> Option<&'static str> {
+    for (option, written) in options {
+        if is_given(matches, *option) {
+            return Some(*written);
+        }
+    }
+    None
+}
+
+/// Two options that do not go together, if they are given.
+pub fn explore_conflict(matches: &ArgMatches<'_>) -> Option<(&'static str, &'static str)> {
+    if matches.get_flag("merge") {
+        return Some(("--merge", first_given(matches, &NOT_WITH_MERGE)?));
+    }
+    matches.get_str("part")?;
+    Some(("--part <I/N>", first_given(matches, &NOT_WITH_PART)?))
+}
+
+/// The paths of images or of parts. None where there are more than 8 images.
+fn paths_of<'a>(
+    alloc: Global,
+    matches: &ArgMatches<'a>,
+) -> Result<Option<Vec<&'a str>>, AllocError> {
+    let paths = matches.get_strs("PROGRAM").unwrap_or_default();
+    if paths.is_empty() || (paths.len() > MOST_PROGRAMS && !matches.get_flag("merge")) {
+        return Ok(None);
+    }
+    Ok(Some(Vec::from_slice(alloc, paths)?))
+}
 
 /// The options of the command. None where there are more than 8 programs, or an argument is missing.
 pub fn explore_options<'a>(
     alloc: Global,
     matches: &ArgMatches<'a>,
 ) -> Result<Option<ExploreOptions<'a>>, AllocError> {
-    let Some(programs) = paths_named(alloc, matches, "PROGRAM")? else {
+    let Some(programs) = paths_of(alloc, matches)? else {
         return Ok(None);
     };
     let (Some(instructions), Some(states)) = (
@@ -101,6 +201,8 @@ pub fn explore_options<'a>(
     };
     Ok(Some(ExploreOptions {
         programs,
+        merge: matches.get_flag("merge"),
+        part: matches.get_str("part").and_then(part_of),
         expect: matches.get_str("expect"),
         save: matches.get_str("save"),
         instructions,

@@ -6,6 +6,7 @@
 mod command;
 mod crash_options;
 mod debug_options;
+mod disk_command;
 mod exec_options;
 mod explore_options;
 mod gdb_options;
@@ -18,10 +19,11 @@ mod run_options;
 mod tapes;
 mod task;
 
-pub use crash_options::{CrashOptions, ModelName};
+pub use crash_options::{CrashOptions, CrashPart, ModelName};
 pub use debug_options::LiveOptions;
+pub use disk_command::DiskTask;
 pub use exec_options::ExecOptions;
-pub use explore_options::ExploreOptions;
+pub use explore_options::{ExploreOptions, PartNumbers};
 pub use gdb_options::GdbOptions;
 pub use parsing::{Arguments, parse};
 pub use run_options::{ImagePaths, RunNumbers, RunOptions};

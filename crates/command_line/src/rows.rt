@@ -1,4 +1,5 @@
 //! The types of the table of commands: a row is what the help says of a command, and the arguments that it takes.
+use crate::disk_command::DISK_USAGE;
 use clap::{Arg, ArgAction, Command};
 use kernel_model::MOST_PROGRAMS;
 use std::alloc::{AllocError, Global};
@@ -19,8 +20,10 @@ pub struct NumberRow {
 pub enum Form {
     /// By its place. The argument has to be there.
     File,
-    /// By its place, 1 to 8 times.
+    /// By their places, 1 to 8 files or words.
     Images,
+    /// By its place, any number of times from 1 on.
+    Files,
     /// As an option, once at most, whose value has this name.
     Option(&'static str),
     /// As an option, any number of times, whose value has this name.
@@ -78,10 +81,10 @@ fn once<'a>(alloc: Global, row: &ArgumentRow) -> Arg<'a> {
         .action(ArgAction::Set)
 }
 
-/// An argument that is given 1 to 8 times.
-fn images<'a>(arg: Arg<'a>) -> Arg<'a> {
+/// An argument that is given at least once, and so many times at most.
+fn several<'a>(arg: Arg<'a>, most: usize) -> Arg<'a> {
     arg.required(true)
-        .num_args(1..=MOST_PROGRAMS)
+        .num_args(1..=most)
         .action(ArgAction::Append)
 }
 
@@ -102,7 +105,8 @@ fn argument_of<'a>(alloc: Global, row: &ArgumentRow) -> Arg<'a> {
     let arg = once(alloc, row);
     match row.form {
         Form::File => arg.required(true),
-        Form::Images => images(arg),
+        Form::Images => several(arg, MOST_PROGRAMS),
+        Form::Files => several(arg, usize::MAX),
         Form::Option(value) => option(arg, row.name, value),
         Form::Options(value) => option(arg, row.name, value).action(ArgAction::Append),
         Form::Number(range) => number(arg, row.name, range),
@@ -121,13 +125,15 @@ fn arguments_of<'a>(alloc: Global, rows: &[ArgumentRow]) -> Result<Vec<Arg<'a>>,
 /// The command of a row, with its arguments.
 pub fn command_of<'a>(alloc: Global, row: &CommandRow) -> Result<Command<'a>, AllocError> {
     let arguments = arguments_of(alloc, row.arguments)?;
-    Ok(
-        Command::new(alloc, row.name)
-            .bin_name(row.whole)?
-            .about(row.about)
-            .args(arguments)?
-            .after_help(row.example),
-    )
+    let command = Command::new(alloc, row.name)
+        .bin_name(row.whole)?
+        .about(row.about)
+        .args(arguments)?
+        .after_help(row.example);
+    match row.kind {
+        CommandKind::Disk => Ok(command.override_usage(DISK_USAGE)),
+        _ => Ok(command),
+    }
 }
 
 /// The commands of tables of rows, with their arguments.

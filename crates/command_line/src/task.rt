@@ -1,9 +1,12 @@
 //! `Task`: what the command line asks for.
 use crate::command::{ASSEMBLE, IMAGE, SYMBOLS};
-use crate::crash_options::{CRASHES, CrashOptions, crash_conflict, crash_options, unknown_model};
+use crate::crash_options::{CRASHES, CrashOptions, crash_conflict, crash_fault, crash_options};
 use crate::debug_options::{DEBUG, LiveOptions, debug_conflict, live_options};
+use crate::disk_command::{DiskTask, disk_task};
 use crate::exec_options::{EXEC, ExecOptions, exec_conflict, exec_options};
-use crate::explore_options::{EXPLORE, ExploreOptions, explore_options};
+use crate::explore_options::{
+    EXPLORE, ExploreOptions, explore_conflict, explore_options, faulty_part,
+};
 use crate::gdb_options::{GDB, GdbOptions, gdb_conflict, gdb_options};
 use crate::numbers::number_of;
 use crate::page_command::page_task;
@@ -78,8 +81,8 @@ pub enum Task<'a> {
     DebugLive(LiveOptions<'a>),
     /// Answer gdb, which debugs an image.
     Gdb(GdbOptions<'a>),
-    /// List the files on the disk in a file.
-    Disk(&'a str),
+    /// List a disk, copy its files, or compare it.
+    Disk(DiskTask<'a>),
     /// Run images.
     Run(RunOptions<'a>),
     /// Run programs for people.
@@ -162,13 +165,17 @@ fn no_disk(alloc: Global, row: &CommandRow) -> Result<Error, AllocError> {
     )
 }
 
-/// Refuses two options of `exec` that cannot be used together.
-fn test_together(alloc: Global, matches: &ArgMatches<'_>) -> Result<(), Error> {
-    match exec_conflict(matches) {
+/// Refuses two options that cannot be used together, if they are given.
+fn test_together(
+    alloc: Global,
+    row: &CommandRow,
+    conflict: Option<(&'static str, &'static str)>,
+) -> Result<(), Error> {
+    match conflict {
         None => Ok(()),
         Some((one, other)) => {
             let message = format!(in alloc; "the argument '{one}' cannot be used with '{other}'")?;
-            Err(refusal(alloc, &EXEC, ErrorKind::ArgumentConflict, message.as_str())?)
+            Err(refusal(alloc, row, ErrorKind::ArgumentConflict, message.as_str())?)
         }
     }
 }
@@ -199,7 +206,7 @@ fn test_log(alloc: Global, matches: &ArgMatches<'_>) -> Result<(), Error> {
 fn exec_task<'a>(alloc: Global, matches: &ArgMatches<'a>) -> Result<Option<Task<'a>>, Error> {
     test_tapes(alloc, &EXEC, matches)?;
     test_terminals(alloc, &EXEC, matches)?;
-    test_together(alloc, matches)?;
+    test_together(alloc, &EXEC, exec_conflict(matches))?;
     test_log(alloc, matches)?;
     match exec_options(alloc, matches)? {
         Some(options) if options.run.is_durable && options.run.disk.is_none() => {
@@ -238,28 +245,23 @@ fn picture_task<'a>(matches: &ArgMatches<'a>) -> Option<Task<'a>> {
     })
 }
 
-/// Refuses a rule of crashes that there is not.
-fn test_model(alloc: Global, matches: &ArgMatches<'_>) -> Result<(), Error> {
-    match unknown_model(matches) {
+/// Refuses the first value of `crashes` that is none of its option.
+fn test_values(alloc: Global, matches: &ArgMatches<'_>) -> Result<(), Error> {
+    match crash_fault(alloc, matches)? {
         None => Ok(()),
-        Some(name) => {
-            let message = format!(in alloc;
-                "invalid value '{name}' for '--model <NAME>': it has to be bench, ordered, delayed or posix"
-            )?;
-            Err(refusal(
-                alloc,
-                &CRASHES,
-                ErrorKind::ValueValidation,
-                message.as_str(),
-            )?)
-        }
+        Some(message) => Err(refusal(
+            alloc,
+            &CRASHES,
+            ErrorKind::ValueValidation,
+            message.as_str(),
+        )?),
     }
 }
 
 /// What the arguments of the command `crashes` ask for. Options that do not go together are refused.
 fn crashes_task<'a>(alloc: Global, matches: &ArgMatches<'a>) -> Result<Option<Task<'a>>, Error> {
     test_tapes(alloc, &CRASHES, matches)?;
-    test_model(alloc, matches)?;
+    test_values(alloc, matches)?;
     if let Some(message) = crash_conflict(matches) {
         return Err(refusal(alloc, &CRASHES, ErrorKind::ArgumentConflict, message)?);
     }
@@ -287,8 +289,28 @@ fn too_many_images(alloc: Global, row: &CommandRow) -> Result<Error, AllocError>
     )
 }
 
-/// What the arguments of the command `explore` ask for.
+/// Refuses a part that there is not.
+fn test_part(alloc: Global, matches: &ArgMatches<'_>) -> Result<(), Error> {
+    match faulty_part(matches) {
+        None => Ok(()),
+        Some(text) => {
+            let message = format!(in alloc;
+                "invalid value '{text}' for '--part <I/N>': it has to be I/N, two decimal numbers with 1 <= I <= N <= 9999"
+            )?;
+            Err(refusal(
+                alloc,
+                &EXPLORE,
+                ErrorKind::ValueValidation,
+                message.as_str(),
+            )?)
+        }
+    }
+}
+
+/// What the arguments of the command `explore` ask for. Options that do not go together are refused.
 fn explore_task<'a>(alloc: Global, matches: &ArgMatches<'a>) -> Result<Option<Task<'a>>, Error> {
+    test_part(alloc, matches)?;
+    test_together(alloc, &EXPLORE, explore_conflict(matches))?;
     match explore_options(alloc, matches)? {
         Some(options) => Ok(Some(Task::Explore(options))),
         None => Err(too_many_images(alloc, &EXPLORE)?),
@@ -350,7 +372,7 @@ pub fn task_of<'a>(
         CommandKind::Diff => Ok(diff_task(matches)),
         CommandKind::Debug => debug_task(alloc, matches),
         CommandKind::Gdb => gdb_task(alloc, matches),
-        CommandKind::Disk => Ok(matches.get_str("FILE").map(Task::Disk)),
+        CommandKind::Disk => Ok(Some(Task::Disk(disk_task(alloc, matches)?))),
         CommandKind::Run => run_task(alloc, matches),
         CommandKind::Exec => exec_task(alloc, matches),
     }

@@ -187,7 +187,7 @@ pub fn file_reason<R: Files<File = File> + AllocGlobal>(
         // These were read to their end before.
         Role::Script | Role::Trace | Role::Expectations => text_reason(rt, path, usize::MAX),
         Role::Image => read_reason(rt.alloc(), image_file_in(rt, path)),
-        Role::Linked | Role::Log | Role::Program | Role::ScriptOrProgram => {
+        Role::Linked | Role::Log | Role::Bytes | Role::Program | Role::ScriptOrProgram => {
             read_reason(rt.alloc(), bytes_in(rt, path, SIZE))
         }
         Role::Tape => tape_reason(rt, path),

@@ -1,5 +1,7 @@
 //! The files that a task names.
-use command_line::{CrashOptions, ExecOptions, ExploreOptions, LiveOptions, RunOptions, Task};
+use command_line::{
+    CrashOptions, DiskTask, ExecOptions, ExploreOptions, LiveOptions, RunOptions, Task,
+};
 use std::alloc::{AllocError, Global};
 
 /// What a file is for.
@@ -17,6 +19,8 @@ pub enum Role {
     Trace,
     Log,
     Tape,
+    /// Bytes of any kind.
+    Bytes,
     Expectations,
     /// A disk that is read.
     Disk,
@@ -145,6 +149,19 @@ fn one(role: Role, path: Option<&str>) -> Named<'_> {
     two(role, path, role, None)
 }
 
+/// The files of what is done with a disk.
+fn disk_files<'a>(task: DiskTask<'a>) -> Named<'a> {
+    match task {
+        DiskTask::List(disk) | DiskTask::Cat { disk, .. } => one(Role::Disk, Some(disk)),
+        DiskTask::Put { disk, from, .. } => {
+            two(Role::Bytes, Some(from), Role::DurableDisk, Some(disk))
+        }
+        DiskTask::Diff { first, second } => {
+            two(Role::Disk, Some(first), Role::Disk, Some(second))
+        }
+    }
+}
+
 /// The files of a task beside those of `push_options`, in the same order.
 fn named<'a>(task: &'a Task<'a>) -> Named<'a> {
     match task {
@@ -179,7 +196,7 @@ fn named<'a>(task: &'a Task<'a>) -> Named<'a> {
             (Role::Source, *source),
         ],
         Task::Gdb(options) => one(Role::Trace, options.trace),
-        Task::Disk(path) => one(Role::Disk, Some(*path)),
+        Task::Disk(task) => disk_files(*task),
     }
 }
 

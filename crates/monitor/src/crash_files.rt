@@ -2,7 +2,8 @@
 use crate::crash_subject::{SubjectFault, program_in, subject_in};
 use command_line::{CrashOptions, ModelName};
 use crash_recoveries::{
-    Course, CrashModel, Failure, Recovery, Rule, Verdict, explore, explore_by, save, try_recoveries,
+    Course, CrashModel, Effort, Failure, Part, Recovery, Rule, Subject, Trial, Verdict, explore,
+    explore_by, save, try_recoveries,
 };
 use exec_runs::Ending;
 use faults::{Fault, write_line};
@@ -10,6 +11,7 @@ use scripts::Setup;
 use std::fs;
 use std::io::{Read, Write};
 use std::rt::Files;
+use std::thread::Threads;
 
 /// The exit status where a program is refused.
 const REFUSED: u8 = 2;
@@ -34,6 +36,21 @@ fn rule_of(options: &CrashOptions<'_>) -> Option<Rule> {
     })
 }
 
+/// How crashes are tried.
+fn trial_of(options: &CrashOptions<'_>) -> Trial {
+    Trial {
+        rule: rule_of(options),
+        effort: Effort {
+            jobs: options.jobs,
+            part: options.part.map(|part| Part {
+                number: part.number,
+                of: part.of,
+            }),
+            progress: options.progress,
+        },
+    }
+}
+
 /// Says that the run was cut, and gives the exit status.
 fn tell_cut<E: Write>(options: &CrashOptions<'_>, err: &mut E) -> Result<u8, Fault> {
     let limit = options.limit;
@@ -45,7 +62,7 @@ fn tell_cut<E: Write>(options: &CrashOptions<'_>, err: &mut E) -> Result<u8, Fau
 }
 
 /// Prints what each crash leaves, or compares it with what is expected. Gives how the run ended.
-fn explore_to_end<R: Files + AllocGlobal, O: Write>(
+fn explore_to_end<R: Files + AllocGlobal + Threads + Sync, O: Write>(
     rt: &R,
     options: &CrashOptions<'_>,
     setup: &mut Setup,
@@ -63,7 +80,7 @@ fn explore_to_end<R: Files + AllocGlobal, O: Write>(
 }
 
 /// Explores, and says whether the run was cut.
-fn explore_in<R: Files + AllocGlobal, O: Write, E: Write>(
+fn explore_in<R: Files + AllocGlobal + Threads + Sync, O: Write, E: Write>(
     rt: &R,
     options: &CrashOptions<'_>,
     setup: &mut Setup,
@@ -91,14 +108,15 @@ fn end_failed<R: Files + AllocGlobal, E: Write>(
 ) -> Result<u8, Fault> {
     let (mut failure, played) = failed;
     if let Some(folder) = options.save {
-        save(rt, folder, setup, recovery, &mut failure, played.as_str())?;
+        let program = &recovery.program;
+        save(rt, folder, setup, program, &mut failure, played.as_str())?;
     }
     failure.tell(&mut recovery.family, err)?;
     Ok(FAILED)
 }
 
 /// Has the recovery run on what each crash leaves.
-fn recover_in<R: Files + AllocGlobal, O: Write, E: Write>(
+fn recover_in<R: Files + AllocGlobal + Threads + Sync, O: Write, E: Write>(
     rt: &R,
     options: &CrashOptions<'_>,
     path: &str,
@@ -109,7 +127,11 @@ fn recover_in<R: Files + AllocGlobal, O: Write, E: Write>(
 ) -> Result<u8, SubjectFault> {
     let program = program_in(rt, path)?;
     let mut recovery = Recovery::new(rt.alloc(), program, options.limit, options.nested)?;
-    let verdict = try_recoveries(rt, setup, course, &recovery, rule_of(options), out)?;
+    let subject = Subject {
+        setup: &mut *setup,
+        course,
+    };
+    let verdict = try_recoveries(rt, subject, &recovery, trial_of(options), out, err)?;
     out.flush()?;
     match verdict {
         Verdict::Kept => Ok(0),
@@ -128,7 +150,7 @@ fn recover_in<R: Files + AllocGlobal, O: Write, E: Write>(
     }
 }
 
-fn try_subject<R: Files + AllocGlobal, I: Read, O: Write, E: Write>(
+fn try_subject<R: Files + AllocGlobal + Threads + Sync, I: Read, O: Write, E: Write>(
     rt: &R,
     options: &CrashOptions<'_>,
     input: &mut I,
@@ -145,7 +167,7 @@ fn try_subject<R: Files + AllocGlobal, I: Read, O: Write, E: Write>(
 /// Tries the crashes of a script, or of programs. All files are read first: the script or the programs and their tapes, and then what is
 /// expected, or the recovery. Gives the exit status. A line says why a program is refused, why a recovery failed, and what was not
 /// tried.
-pub fn try_crashes<R: Files + AllocGlobal, I: Read, O: Write, E: Write>(
+pub fn try_crashes<R: Files + AllocGlobal + Threads + Sync, I: Read, O: Write, E: Write>(
     rt: &R,
     options: &CrashOptions<'_>,
     input: &mut I,

@@ -67,7 +67,7 @@ fn print_fault<R: Files<File = File> + AllocGlobal, E: Write>(
     err: &mut E,
 ) -> Result<(), Fault> {
     let mut reason: Vec<u8> = Vec::new(rt.alloc());
-    if !matches!(fault, Fault::OutOfMemory) {
+    if fault.status() != Fault::OutOfMemory.status() {
         // Where there is no memory for the reason, the fault is told.
         let _ = explain(rt, task, fault, &mut reason);
     }

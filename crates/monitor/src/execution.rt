@@ -82,7 +82,7 @@ impl<R: Files<File = File> + AllocGlobal + Threads + Wait + Sync> Execution<'_, 
             self.watching.before(core, event)?;
             let answer = applied(core, event)?;
             showing.refresh(self.watching.alloc, core)?;
-            self.watching.after(core, event, answer, err)?;
+            self.watching.after(core, answer, err)?;
         }
         self.watching.finish()?;
         Ok(turns.ending())

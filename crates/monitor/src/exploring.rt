@@ -1,9 +1,9 @@
 //! All orders of the calls of programs in files of the host.
 use command_line::ExploreOptions;
-use explored_runs::{Limits, ProgramSource, Wanted, explore_orders, setup_lines};
-use faults::Fault;
+use explored_runs::{Limits, MergeFault, Part, Wanted, explore_orders, merge_parts};
+use faults::{Fault, write_line};
 use input_reading::bytes_in;
-use scripts::Script;
+use scripts::{Script, Setup};
 use std::alloc::{AllocError, Global};
 use std::fs;
 use std::io::Write;
@@ -13,45 +13,35 @@ use std::thread::Threads;
 /// How many bytes tell an image from a script.
 const FIRST_BYTES: usize = 4;
 
+/// The status where a part is refused, or missing.
+const REFUSED: u8 = 2;
+
 /// Whether a file begins as that of an image does, and no script.
 fn is_image<R: Files + AllocGlobal>(rt: &R, path: &str) -> Result<bool, Fault> {
     let beginning = bytes_in(rt, path, FIRST_BYTES)?;
     Ok(matches!(beginning.as_slice(), [0x7F, b'E', b'L', b'F', ..]))
 }
 
-/// The lines of a script that set up images.
-fn image_lines(alloc: Global, paths: &[&str]) -> Result<String, AllocError> {
-    let mut lines = String::new(alloc);
-    for (terminal, path) in paths.iter().enumerate() {
-        writeln!(lines, "image {terminal} {path}")?;
+/// What images set up.
+fn images_setup(alloc: Global, paths: &[&str]) -> Result<Setup, AllocError> {
+    let mut setup = Setup::new(alloc);
+    for path in paths {
+        setup.push_image(alloc, path)?;
     }
-    Ok(lines)
+    Ok(setup)
 }
 
-/// The set-up lines of a script, which is read whole.
-fn script_lines<R: Files + AllocGlobal>(rt: &R, path: &str) -> Result<String, Fault> {
+/// What a script sets up. It is read whole.
+fn script_setup<R: Files + AllocGlobal>(rt: &R, path: &str) -> Result<Setup, Fault> {
     let text = fs::read_to_string(rt, path)?;
-    let _script = Script::parse(rt.alloc(), text.as_str())?;
-    Ok(setup_lines(rt.alloc(), text.as_str())?)
+    Ok(Script::parse(rt.alloc(), text.as_str())?.into_setup())
 }
 
-/// Whether these are the path of a script, and of no image.
-fn is_script<R: Files + AllocGlobal>(rt: &R, paths: &[&str]) -> Result<bool, Fault> {
+/// What programs set up: images, or a script alone.
+fn setup_of<R: Files + AllocGlobal>(rt: &R, paths: &[&str]) -> Result<Setup, Fault> {
     match paths {
-        [path] => Ok(!is_image(rt, path)?),
-        _ => Ok(false),
-    }
-}
-
-/// The set-up lines of programs: images, or a script alone.
-fn lines_of<R: Files + AllocGlobal>(
-    rt: &R,
-    paths: &[&str],
-    is_script: bool,
-) -> Result<String, Fault> {
-    match paths {
-        [path] if is_script => script_lines(rt, path),
-        _ => Ok(image_lines(rt.alloc(), paths)?),
+        [path] if !is_image(rt, path)? => script_setup(rt, path),
+        _ => Ok(images_setup(rt.alloc(), paths)?),
     }
 }
 
@@ -62,32 +52,78 @@ fn text_in<R: Files + AllocGlobal>(rt: &R, path: Option<&str>) -> Result<Option<
     }
 }
 
-/// Finds all outcomes of programs. The script or the beginning of an image is read first, and then what is expected, if anything is.
-pub fn explore_programs<R: Files + AllocGlobal + Threads + Sync, O: Write, E: Write>(
+fn limits_of(options: &ExploreOptions<'_>) -> Limits {
+    let part = options.part.map(|part| Part {
+        number: part.number,
+        of: part.of,
+    });
+    Limits {
+        instructions: options.instructions,
+        states: options.states,
+        threads: options.jobs,
+        part,
+    }
+}
+
+/// Finds all outcomes of programs, or explores a part. The script or the beginning of an image is read first, and then what is expected, if
+/// anything is.
+fn explore_in<R: Files + AllocGlobal + Threads + Sync, O: Write, E: Write>(
     rt: &R,
     options: &ExploreOptions<'_>,
     out: &mut O,
     err: &mut E,
 ) -> Result<(), Fault> {
-    let paths = options.programs.as_slice();
-    let is_script = is_script(rt, paths)?;
-    let lines = lines_of(rt, paths, is_script)?;
+    let mut setup = setup_of(rt, options.programs.as_slice())?;
     let expected = text_in(rt, options.expect)?;
     let wanted = Wanted {
-        setup: lines.as_str(),
         expected: expected.as_ref().map(|text| text.as_str()),
         folder: options.save,
         progress: options.progress,
     };
-    let source = if is_script {
-        ProgramSource::Lines(lines.as_str())
-    } else {
-        ProgramSource::Images(paths)
-    };
-    let limits = Limits {
-        instructions: options.instructions,
-        states: options.states,
-        threads: options.jobs,
-    };
-    explore_orders(rt, source, limits, wanted, out, err)
+    explore_orders(rt, &mut setup, limits_of(options), wanted, out, err)
+}
+
+/// Says which part is refused, or missing.
+fn tell_part<E: Write>(paths: &[&str], fault: MergeFault, err: &mut E) -> Result<u8, Fault> {
+    match fault {
+        MergeFault::File { place, why } => {
+            let path = paths.get(place).unwrap_or(&"");
+            write_line(err, format_args!("bench: part refused: {path} {why}"))?;
+        }
+        MergeFault::Missing { number, of } => write_line(
+            err,
+            format_args!("bench: part refused: {number}/{of} is missing"),
+        )?,
+        MergeFault::Other(fault) => return Err(fault),
+    }
+    Ok(REFUSED)
+}
+
+/// Puts the files of parts together. What is expected is read first, if anything is.
+fn merge_in<R: Files + AllocGlobal, O: Write, E: Write>(
+    rt: &R,
+    options: &ExploreOptions<'_>,
+    out: &mut O,
+    err: &mut E,
+) -> Result<u8, Fault> {
+    let paths = options.programs.as_slice();
+    let expected = text_in(rt, options.expect)?;
+    match merge_parts(rt, paths, expected.as_ref().map(|text| text.as_str()), out) {
+        Ok(()) => Ok(0),
+        Err(fault) => tell_part(paths, fault, err),
+    }
+}
+
+/// Finds all outcomes of programs, or of the parts of a search. Gives the exit status. A line says which part is refused.
+pub fn explore_programs<R: Files + AllocGlobal + Threads + Sync, O: Write, E: Write>(
+    rt: &R,
+    options: &ExploreOptions<'_>,
+    out: &mut O,
+    err: &mut E,
+) -> Result<u8, Fault> {
+    if options.merge {
+        return merge_in(rt, options, out, err);
+    }
+    explore_in(rt, options, out, err)?;
+    Ok(0)
 }

@@ -5,6 +5,7 @@
 mod crash_files;
 mod crash_subject;
 mod debugging;
+mod disks;
 mod exec_fault;
 mod exec_keeping;
 mod exec_outputs;

@@ -85,20 +85,19 @@ impl Watching {
         Ok(())
     }
 
-    /// After an event: tells the call, if it was one and calls are told.
+    /// After the same event: tells the call, if it was one and calls are told.
     pub fn after<E: Write>(
         &mut self,
         core: &Core,
-        event: Event,
         answer: Answer,
         err: &mut E,
     ) -> Result<(), Fault> {
         self.family.after(core, answer)?;
         if let Some(calls) = &mut self.calls {
-            calls.after(core, event, answer, err)?;
+            calls.after(core, answer, err)?;
         }
         if let Some(counts) = &mut self.counts {
-            counts.after(event, answer)?;
+            counts.after(answer)?;
         }
         if let Some(log) = &mut self.log {
             log.after(core, answer)?;

@@ -1,6 +1,7 @@
 //! `bench`, the whole program: reads the command line, does its task, and gives the exit status.
 use crate::crash_files::try_crashes;
 use crate::debugging::{debug_file, debug_live};
+use crate::disks::use_disk;
 use crate::executing::{REFUSED, execute};
 use crate::exploring::explore_programs;
 use crate::gdb::answer_gdb;
@@ -14,7 +15,6 @@ use command_line::{Arguments, Task, parse};
 use explanations::explain;
 use faults::{Fault, write_line};
 use host_files::{assemble_file, check_file, image_file, list_file, symbols_file};
-use run_files::list_files;
 use std::fs::File;
 use std::io;
 use std::io::{BufWriter, Read, Write};
@@ -39,7 +39,7 @@ fn perform<
             json,
             sources,
         } => page_file(rt, script, sources.as_slice(), *json, out),
-        Task::Explore(options) => explore_programs(rt, options, out, err),
+        Task::Explore(options) => return explore_programs(rt, options, out, err),
         Task::Crashes(options) => return try_crashes(rt, options, input, out, err),
         Task::Assemble { source, image } => assemble_file(rt, source, image, out).map_err(
             Fault::File,
@@ -57,7 +57,7 @@ fn perform<
         } => debug_file(rt, image, *trace, *source, input, out),
         Task::DebugLive(options) => debug_live(rt, options, input, out),
         Task::Gdb(options) => answer_gdb(rt, options, input, out),
-        Task::Disk(path) => list_files(rt, path, out),
+        Task::Disk(task) => return use_disk(rt, *task, out, err),
         Task::Diff {
             first,
             second,

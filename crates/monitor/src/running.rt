@@ -27,6 +27,19 @@ fn has_failed(core: &Core) -> bool {
     core.committed() < core.changes()
 }
 
+/// Runs a core to its end. What terminals show goes out.
+fn run_on<R: Threads + Wait + Sync + AllocGlobal, O: Write>(
+    rt: &R,
+    settings: Settings,
+    booted: (Core, Option<HostFile>),
+    out: &mut O,
+) -> Result<Core, Fault> {
+    let (core, file) = booted;
+    let mut run = Run::new(rt.alloc(), settings, out).on_file(file);
+    let core = run.to_end(rt, core).map_err(of_run)?;
+    Ok(core)
+}
+
 /// Runs a core to its end, tells of its processes, and keeps its disk, if it is to be kept at the end.
 fn run_to_end<R: Files<File = File> + AllocGlobal + Threads + Wait + Sync, O: Write, E: Write>(
     rt: &R,
@@ -37,8 +50,7 @@ fn run_to_end<R: Files<File = File> + AllocGlobal + Threads + Wait + Sync, O: Wr
     out: &mut O,
     err: &mut E,
 ) -> Result<u8, Fault> {
-    let mut run = Run::new(rt.alloc(), settings_of(options.numbers), out).on_file(file);
-    let core = run.to_end(rt, core).map_err(of_run)?;
+    let core = run_on(rt, settings_of(options.numbers), (core, file), out)?;
     out.flush()?;
     let told = print_processes(&core, explain, err);
     let has_failed = has_failed(&core);

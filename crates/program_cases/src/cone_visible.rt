@@ -1,7 +1,8 @@
 //! The visible events of a run, those that rest on committed changes alone, beside what the whole run shows and has committed.
-use crate::cone_runs::TestRun;
+use crate::cone_runs::{boot_run, run_after};
 use crate::cone_told::handed;
 use anyhow::{Error, bail};
+use core_cases::{TestCore, recover};
 use files::FileList;
 use kernel::{ConeFault, Event};
 use kernel_model::TERMINALS;
@@ -13,12 +14,12 @@ use std::rt::Files;
 fn counted_run<R: Files + AllocGlobal>(
     start: &mut Start<'_, R>,
     events: &[Event],
-) -> Result<(TestRun, Vec<u64>), Error> {
-    let mut run = TestRun::boot(start)?;
+) -> Result<(TestCore, Vec<u64>), Error> {
+    let mut run = boot_run(start)?;
     let mut counts = Vec::new(start.alloc());
     counts.push(run.changes())?;
     for event in events {
-        run.apply(*event)?;
+        run.apply_once(*event)?;
         counts.push(run.changes())?;
     }
     Ok((run, counts))
@@ -43,7 +44,7 @@ fn are_committed(counts: &[u64], numbers: &[u64], committed: u64) -> Result<bool
 }
 
 /// Whether an event is of a process, and rests on committed changes alone.
-fn is_visible(run: &TestRun, counts: &[u64], number: u64) -> Result<bool, Error> {
+fn is_visible(run: &TestCore, counts: &[u64], number: u64) -> Result<bool, Error> {
     match run.cone(number) {
         Ok(cone) => are_committed(counts, cone.as_slice(), run.committed()),
         Err(ConeFault::NoEvent) => Ok(false),
@@ -52,7 +53,7 @@ fn is_visible(run: &TestRun, counts: &[u64], number: u64) -> Result<bool, Error>
 }
 
 /// The visible events of a run, in order.
-fn visible_events(alloc: Global, run: &TestRun, counts: &[u64]) -> Result<Vec<Event>, Error> {
+fn visible_events(alloc: Global, run: &TestCore, counts: &[u64]) -> Result<Vec<Event>, Error> {
     let mut visible = Vec::new(alloc);
     for (number, event) in (1u64..).zip(run.history()) {
         if is_visible(run, counts, number)? {
@@ -63,7 +64,7 @@ fn visible_events(alloc: Global, run: &TestRun, counts: &[u64]) -> Result<Vec<Ev
 }
 
 /// Checks that each terminal shows a beginning of what it shows in the run of the visible events.
-fn check_terminals(run: &TestRun, alone: &TestRun) -> Result<(), Error> {
+fn check_terminals(run: &TestCore, alone: &TestCore) -> Result<(), Error> {
     for terminal in 0..TERMINALS as u32 {
         if !alone.shown(terminal).starts_with(run.shown(terminal)) {
             bail!("terminal {terminal} shows what the visible events do not give");
@@ -73,9 +74,9 @@ fn check_terminals(run: &TestRun, alone: &TestRun) -> Result<(), Error> {
 }
 
 /// Checks that each process that is there in the run of the visible events is handed the same in both.
-fn check_processes(alloc: Global, run: &TestRun, alone: &TestRun) -> Result<(), Error> {
+fn check_processes(alloc: Global, run: &TestCore, alone: &TestCore) -> Result<(), Error> {
     for pid in 1..u32::MAX {
-        if !alone.has_process(pid) {
+        if alone.replies(pid).is_err() {
             return Ok(());
         }
         if handed(alloc, run, pid, 0)? != handed(alloc, alone, pid, 0)? {
@@ -98,12 +99,12 @@ fn are_same(one: &FileList, other: &FileList) -> bool {
 }
 
 /// Checks that the committed changes and files of a run are those of the run of its visible events. Both end.
-fn check_files(alloc: Global, run: TestRun, alone: TestRun) -> Result<(), Error> {
+fn check_files(alloc: Global, run: TestCore, alone: TestCore) -> Result<(), Error> {
     if run.committed() != alone.changes() {
         bail!("the visible events do not make the committed changes");
     }
-    let files = run.into_files(alloc)?;
-    let alone = alone.into_files(alloc)?;
+    let files = recover(alloc, &run.halt(b""))?;
+    let alone = recover(alloc, &alone.halt(b""))?;
     if are_same(files.list(), alone.list()) {
         Ok(())
     } else {
@@ -119,7 +120,7 @@ pub fn check_visible<R: Files + AllocGlobal>(
 ) -> Result<(), Error> {
     let (run, counts) = counted_run(start, events)?;
     let visible = visible_events(start.alloc(), &run, counts.as_slice())?;
-    let mut alone = TestRun::after(start, visible.as_slice())?;
+    let mut alone = run_after(start, visible.as_slice())?;
     alone.drain()?;
     check_terminals(&run, &alone)?;
     check_processes(start.alloc(), &run, &alone)?;

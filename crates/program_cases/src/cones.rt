@@ -1,7 +1,7 @@
 //! Compares what each event of a process tells in a run, and in the run of its cone alone. The first event that rests on more than
 //! its cone has is an error, which says the event. The contracts of `Core::cone` and the law `cones` promise that there is none, by
 //! the definitions. One of these is the table that says what a call reads and writes. So here the calls themselves are run.
-use crate::cone_runs::TestRun;
+use crate::cone_runs::{boot_run, run_after};
 use crate::cone_told::told_by;
 use crate::cone_visible::check_visible;
 use anyhow::{Error, bail};
@@ -24,7 +24,7 @@ fn told_alone<R: Files + AllocGlobal>(
     let Some((last, before)) = cone.split_last() else {
         bail!("the cone of event {number} is empty");
     };
-    let mut alone = TestRun::after(start, before)?;
+    let mut alone = run_after(start, before)?;
     told_by(alloc, &mut alone, *last, pid)
 }
 
@@ -38,7 +38,7 @@ fn is_compared(number: u64, count: usize) -> bool {
 /// Checks that events of processes tell in the runs of their cones alone what they tell in the whole run. The changes are committed
 /// here by drains, so the events of the disk are left out.
 fn check_each<R: Files + AllocGlobal>(start: &mut Start<'_, R>, whole: &Core) -> Result<(), Error> {
-    let mut run = TestRun::boot(start)?;
+    let mut run = boot_run(start)?;
     for (number, event) in (1u64..).zip(whole.history()) {
         match process_of(*event) {
             Some(pid) if is_compared(number, whole.history().len()) => {
@@ -48,7 +48,7 @@ fn check_each<R: Files + AllocGlobal>(start: &mut Start<'_, R>, whole: &Core) ->
                 }
             }
             Some(_) => {
-                run.apply(*event)?;
+                run.apply_once(*event)?;
             }
             None => {}
         }

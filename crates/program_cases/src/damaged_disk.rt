@@ -1,6 +1,6 @@
 //! Tests what the program says of a disk that cannot be read.
 use anyhow::{Error, ensure};
-use case_format::compare;
+use case_format::check_text;
 use kernel::DiskFault;
 use monitor::Fault;
 use std::alloc::Global;
@@ -11,6 +11,6 @@ pub fn check_damaged_disk(alloc: Global) -> Result<String, Error> {
     let status = fault.status();
     ensure!(status == 3, "the status was {status}");
     let line = format!(in alloc; "{fault}")?;
-    compare(line.as_str(), "bench: disk refused: 3 PastHalf")?;
+    check_text(line.as_str(), "bench: disk refused: 3 PastHalf")?;
     Ok(String::from_str(alloc, "a disk that cannot be read")?)
 }

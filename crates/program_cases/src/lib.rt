@@ -14,6 +14,7 @@ mod cone_visible;
 mod cones;
 mod damaged_disk;
 mod faulty_output;
+mod host;
 mod kept_disk;
 mod lost_arguments;
 mod playing;

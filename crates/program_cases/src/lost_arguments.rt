@@ -1,6 +1,6 @@
 //! Tests how the program ends where the host does not give the arguments, which no case can have.
 use anyhow::{Error, ensure};
-use case_format::compare;
+use case_format::check_text;
 use std::alloc::Global;
 use std::io::{self, ErrorKind};
 
@@ -9,7 +9,7 @@ fn check_end(alloc: Global, kind: ErrorKind, status: u8, line: &str) -> Result<(
     let mut err = Vec::new(alloc);
     let ended = monitor::end_without_arguments(&io::Error::from(kind), &mut err);
     ensure!(ended == status, "the status was {ended}");
-    compare(str::from_utf8(&err)?, line)
+    check_text(str::from_utf8(&err)?, line)
 }
 
 /// Want of memory is status 5, and an argument that is no text a faulty command line.

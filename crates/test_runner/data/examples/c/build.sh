@@ -7,8 +7,8 @@ usage: build.sh [--picolibc] [FLAGS] SOURCE.. IMAGE
 Builds an image of sources in C (.c) and assembly (.s, .S), of objects (.o) and of archives (.a).
 
   --picolibc  with Debian's picolibc: printf, malloc and the rest of a C library
-  FLAGS       what the compiler is given besides, each as one word: -O3 -DN=5 -Ifolder -lm; with -g the linker's file, with what gdb
-              reads, is kept beside the image, as IMAGE.elf
+  FLAGS       what the compiler is given besides, each as one word: -O3 -DN=5 -Ifolder -lm; with -g the linker's file, an
+              executable with lines and symbols, is kept beside the image, as IMAGE.elf
   IMAGE       the image, which is written anew; never over a source
 
 CC is the compiler, riscv64-unknown-elf-gcc if it is not set; CC='clang --target=riscv32' links with LLVM's lld.
@@ -98,4 +98,8 @@ $CC -march=rv32im -mabi=ilp32 -mstrict-align -O2 -ftls-model=local-exec -ffuncti
     exit 1
 }
 $OBJCOPY -O binary "$linked" "$image"
-[ $debug = no ] || cp "$linked" "$image.elf"
+[ $debug = no ] || {
+    cat "$linked" >"$image.elf"
+    # The program header at byte 52 names the page of the headers, which is no page of the program: from now on it is of no kind.
+    printf '\000' | dd of="$image.elf" bs=1 seek=52 conv=notrunc 2>/dev/null
+}

@@ -3,6 +3,14 @@
    before the text, which no segment names, so that it is a page of the file and none of the program.
    It serves GNU ld and LLVM's lld. A section that it does not name is refused by --orphan-handling=error, with its name. */
 ENTRY(_start)
+/* The segments of the linker's own file, which build.sh -g keeps; there it makes the first one a segment of no kind. */
+PHDRS
+{
+    headers PT_LOAD FLAGS(4);
+    text PT_LOAD FLAGS(5);
+    data PT_LOAD FLAGS(6);
+    thread PT_TLS;
+}
 SECTIONS
 {
     .headers 0xF000 :
@@ -18,12 +26,12 @@ SECTIONS
         LONG(1) LONG(bytes_end > data_start ? data_start - 0xF000 : 0) LONG(data_start) LONG(data_start)
         LONG(bytes_end - data_start) LONG(data_end - data_start) LONG(6) LONG(0x1000)
         . = ALIGN(0x1000);
-    }
+    } :headers
     .text 0x10000 :
     {
         KEEP(*(.text.start)) *(.text .text.*) *(.rodata .rodata.* .srodata .srodata.*)
         text_end = .;
-    }
+    } :text
     . = ALIGN(0x1000);
     data_start = .;
     /* What runs before main and after exit, in its order. */
@@ -38,15 +46,15 @@ SECTIONS
         __fini_array_start = .;
         KEEP(*(SORT_BY_INIT_PRIORITY(.fini_array.*))) KEEP(*(.fini_array))
         __fini_array_end = .;
-    }
+    } :data
     .data : { *(.data .data.* .sdata .sdata.* .got .got.plt) }
     /* Thread-local data stands where it is used, since there is one thread. */
-    .tdata : { *(.tdata .tdata.*) }
+    .tdata : { *(.tdata .tdata.*) } :data :thread
     bytes_end = .;
-    .tbss : { *(.tbss .tbss.* .tcommon) }
+    .tbss : { *(.tbss .tbss.* .tcommon) } :data :thread
     __tls_base = SIZEOF(.tdata) > 0 ? ADDR(.tdata) : ADDR(.tbss);
     . = SIZEOF(.tbss) > 0 ? ADDR(.tbss) + SIZEOF(.tbss) : .;
-    .bss : { *(.sbss .sbss.* .bss .bss.* COMMON) }
+    .bss : { *(.sbss .sbss.* .bss .bss.* COMMON) } :data
     data_end = .;
     .symtab 0 : { *(.symtab) }
     .strtab 0 : { *(.strtab) }

@@ -16,8 +16,8 @@ room=$(mktemp -d)
 trap 'rm -rf "$room"' EXIT
 passed=0 failed=0
 for source in "$folder"/*.c; do
-    if timeout 60 "$build" --picolibc "$@" "$source" -lm "$room/image" >"$room/log" 2>&1 &&
-        timeout 60 "$bench" exec "$room/image" >>"$room/log" 2>&1 </dev/null; then
+    if timeout 60 "$build" --picolibc "$@" -g "$source" -lm "$room/image" >"$room/log" 2>&1 &&
+        timeout 60 "$bench" exec "$room/image.elf" >>"$room/log" 2>&1 </dev/null; then
         passed=$((passed + 1))
     else
         failed=$((failed + 1))
