@@ -8,18 +8,10 @@ use elf32::write;
 use std::alloc::{AllocError, Global};
 use std::process::Abort;
 
-/// A program that creates a file, writes three bytes to it and one to a terminal, and exits.
 const FIRST_PROGRAM: &str =
     "_start: li t0,0x66\n sw t0,-4(sp)\n addi a0,sp,-4\n li a1,1\n li a2,2\n li a7,4\n ecall\n\
     \n li t0,65\n sw t0,-4(sp)\n addi a1,sp,-4\n li a2,3\n li a7,2\n ecall\n li a0,1\n li a2,1\n ecall\n\
     \n li a0,0\n li a7,1\n ecall\n";
-
-/// The words of this program.
-pub const FIRST_WORDS: [u32; 19] = [
-    0x06600293, 0xfe512e23, 0xffc10513, 0x00100593, 0x00200613, 0x00400893, 0x00000073, 0x04100293,
-    0xfe512e23, 0xffc10593, 0x00300613, 0x00200893, 0x00000073, 0x00100513, 0x00100613, 0x00000073,
-    0x00000513, 0x00100893, 0x00000073,
-];
 
 const FAR_BACK: &str = "m: .space 4096\n_start: la a0,m";
 
@@ -121,7 +113,14 @@ const PROGRAMS: &[(&str, &[u32])] = &[
         &[0x00000013, 0xFFDFF0EF, 0xFF9FF06F, 0xFF9FF06F, 0x0040006F],
     ),
     (TEXT_AND_DATA, &[0x00001517, 0x00050513, 0x00000073]),
-    (FIRST_PROGRAM, &FIRST_WORDS),
+    (
+        FIRST_PROGRAM,
+        &[
+            0x06600293, 0xfe512e23, 0xffc10513, 0x00100593, 0x00200613, 0x00400893, 0x00000073,
+            0x04100293, 0xfe512e23, 0xffc10593, 0x00300613, 0x00200893, 0x00000073, 0x00100513,
+            0x00100613, 0x00000073, 0x00000513, 0x00100893, 0x00000073,
+        ],
+    ),
 ];
 
 /// How many words a text has, and the place, the address, the word and the line of one of them.

@@ -1,7 +1,6 @@
 //! Tests of `debugger`: a machine that goes along a trace and back.
 ghost use Rattle.std.specs.Prelude.{◌<◌, ◌≤◌, length};
 
-use crate::assembling::FIRST_WORDS;
 use crate::asserting::assert_row;
 use byte_list::Bytes;
 use debugger::{DebugFault, Debugger, Stepped, Stopped};
@@ -11,19 +10,42 @@ use std::alloc::{AllocError, Global};
 use std::process::Abort;
 use std::test::Fail;
 
-/// A loop that writes how often it went round to the stack, at each count that is one more than a multiple of 4.
-pub const LOOP: [u32; 4] = [0x0012_8293, 0xfe51_2e23, 0x0013_0313, 0xff5f_f06f];
+/// A program that creates a file, writes three bytes to it and one to a terminal, and exits.
+const WRITER: [u32; 19] = [
+    0x0660_0293,
+    0xfe51_2e23,
+    0xffc1_0513,
+    0x0010_0593,
+    0x0020_0613,
+    0x0040_0893,
+    0x0000_0073,
+    0x0410_0293,
+    0xfe51_2e23,
+    0xffc1_0593,
+    0x0030_0613,
+    0x0020_0893,
+    0x0000_0073,
+    0x0010_0513,
+    0x0010_0613,
+    0x0000_0073,
+    0x0000_0513,
+    0x0010_0893,
+    0x0000_0073,
+];
+
+/// A loop that writes how often it went round to the stack.
+const LOOP: [u32; 4] = [0x0012_8293, 0xfe51_2e23, 0x0013_0313, 0xff5f_f06f];
 
 const EBREAK: u32 = 0x0010_0073;
 
-pub const ECALL: u32 = 0x0000_0073;
+const ECALL: u32 = 0x0000_0073;
 
 const A0_IS_1: u32 = 0x0010_0513;
 
 const A0_IS_300: u32 = 0x12c0_0513;
 
 /// The entry of a program of words.
-pub const ENTRY: u32 = 0x0001_0000;
+const ENTRY: u32 = 0x0001_0000;
 
 /// The word that the loop writes.
 const WRITTEN: u32 = 0x7fff_fffc;
@@ -31,11 +53,8 @@ const WRITTEN: u32 = 0x7fff_fffc;
 /// The count, the program counter, and a0.
 type State = (u64, u32, u32);
 
-/// The replies to the first program's calls.
-const FIRST_REPLIES: &[Replied] = &[(2, 0, b""), (3, 0, b""), (1, 0, b"")];
-
 /// A reply's number, its place, and its bytes.
-pub type Replied = (u32, u32, &'static [u8]);
+type Replied = (u32, u32, &'static [u8]);
 
 /// A call of a debugger, with what it comes to.
 enum Call {
@@ -133,8 +152,16 @@ const BEFORE_AND_OVER: &[Call] = &[
 /// Programs with the replies to their first calls, and calls of the debugger. The reply to the last one is of one byte for the
 /// program's text, which may not be written, and so counts as none.
 const SCRIPTS: &[(&[u32], &[Replied], &[Call])] = &[
-    (&FIRST_WORDS, FIRST_REPLIES, TO_THE_END),
-    (&FIRST_WORDS, FIRST_REPLIES, BREAKPOINTS),
+    (
+        &WRITER,
+        &[(2, 0, b""), (3, 0, b""), (1, 0, b"")],
+        TO_THE_END,
+    ),
+    (
+        &WRITER,
+        &[(2, 0, b""), (3, 0, b""), (1, 0, b"")],
+        BREAKPOINTS,
+    ),
     (&[EBREAK], &[], TRAP),
     (&[ECALL], &[(0, ENTRY, &[1])], NO_REPLY),
 ];
@@ -158,35 +185,28 @@ fn state_of(debugger: &Debugger) -> State {
     (machine.count(), machine.pc(), machine.reg(Reg::new(10)))
 }
 
-/// A reply with a number, bytes for a place, and perhaps an image.
-pub fn reply(
-    alloc: Global,
-    (a0, at, bytes): Replied,
-    image: Option<Image>,
-) -> Result<Reply, AllocError> {
-    Ok(Reply {
-        a0,
-        at,
-        bytes: Bytes::copy_of(alloc, bytes)?,
-        image,
-    })
-}
-
 /// The replies of a script.
 fn replies_of(alloc: Global, replied: &[Replied]) -> Result<Vec<Reply>, AllocError> {
     let mut replies = Vec::new(alloc);
-    for &replied in replied {
-        replies.push(reply(alloc, replied, None)?)?;
+    for &(a0, at, bytes) in replied {
+        let bytes = Bytes::copy_of(alloc, bytes)?;
+        replies.push(Reply {
+            a0,
+            at,
+            bytes,
+            image: None,
+        })?;
     }
     Ok(replies)
 }
 
 /// A program of words, with the replies to its first calls.
-pub fn program(alloc: Global, words: &[u32], replies: Vec<Reply>) -> Result<Debugger, DebugFault>
+fn program(alloc: Global, words: &[u32], replied: &[Replied]) -> Result<Debugger, DebugFault>
     requires some { 0 < length words.now }
     requires fits { length words.now ≤ 61440 }
 {
-    Debugger::new(alloc, Image::from_text(alloc, words)?, replies)
+    let image = Image::from_text(alloc, words)?;
+    Debugger::new(alloc, image, replies_of(alloc, replied)?)
 }
 
 /// Makes a call, which comes to what it should.
@@ -214,8 +234,7 @@ fn assert_calls(rt: &impl Abort, debugger: &mut Debugger, calls: &[Call]) {
 fn goes_along_a_trace(rt: HostRuntime) -> Result<(), Fail> {
     for &(words, replied, calls) in SCRIPTS {
         assert!(rt; 0 < words.len() && words.len() < 100);
-        let replies = replies_of(rt.alloc(), replied)?;
-        let mut debugger = program(rt.alloc(), words, replies)?;
+        let mut debugger = program(rt.alloc(), words, replied)?;
         assert_calls(&rt, &mut debugger, calls);
     }
     Ok(())
@@ -223,10 +242,16 @@ fn goes_along_a_trace(rt: HostRuntime) -> Result<(), Fail> {
 
 /// A program that enters another by its first call.
 fn entering(alloc: Global) -> Result<Debugger, DebugFault> {
+    let image = Image::from_text(alloc, &[A0_IS_1, ECALL])?;
     let entered = Image::from_text(alloc, &[A0_IS_300, EBREAK])?;
     let mut replies = Vec::new(alloc);
-    replies.push(reply(alloc, (0, 0, b""), Some(entered))?)?;
-    program(alloc, &[A0_IS_1, ECALL], replies)
+    replies.push(Reply {
+        a0: 0,
+        at: 0,
+        bytes: Bytes::empty(alloc),
+        image: Some(entered),
+    })?;
+    Debugger::new(alloc, image, replies)
 }
 
 #[test]
@@ -241,8 +266,8 @@ fn goes_over_the_entry_of_a_program(rt: HostRuntime) -> Result<(), Fail> {
 }
 
 /// The loop, after so many instructions.
-pub fn looped(alloc: Global, count: u64) -> Result<Debugger, DebugFault> {
-    let mut debugger = program(alloc, &LOOP, Vec::new(alloc))?;
+fn looped(alloc: Global, count: u64) -> Result<Debugger, DebugFault> {
+    let mut debugger = program(alloc, &LOOP, &[])?;
     debugger.run_to_break(count)?;
     Ok(debugger)
 }

@@ -95,8 +95,11 @@ fn fences_have_no_effect(rt: HostRuntime) {
 /// A jump from 0x00010000 to 0x00010010 and this much further, with the link in the register that has the place, comes to this.
 fn assert_jump(rt: &impl Abort, imm: Immediate, outcome: Outcome, pc: u32, link: u32) {
     let ra = Reg::new(1);
-    let (rd, rs1) = (ra, ra);
-    let jump = Instr::Jalr { rd, rs1, imm };
+    let jump = Instr::Jalr {
+        rd: ra,
+        rs1: ra,
+        imm,
+    };
     let (found, [at, linked, _]) = done(jump, 0x0001_0010, 0);
     assert_row(rt, &jump, (found, at, linked), (outcome, pc, link));
 }
@@ -119,13 +122,21 @@ fn assert_trap(rt: &impl Abort, i: Instr, at: u32, cause: Cause) {
 fn refuses(rt: HostRuntime) {
     let (rd, rs1, _) = three();
     let imm = Immediate::new(0);
-    let word = Instr::Lw { rd, rs1, imm };
-    assert_trap(&rt, word, 0x8000_0000, Cause::PageFault);
+    assert_trap(
+        &rt,
+        Instr::Lw { rd, rs1, imm },
+        0x8000_0000,
+        Cause::PageFault,
+    );
     let half = Instr::Lh { rd, rs1, imm };
     assert_trap(&rt, half, 0x7fff_ffff, Cause::MisalignedData);
     let rd = Reg::new(0);
-    let word = Instr::Lw { rd, rs1, imm };
-    assert_trap(&rt, word, 0x8000_0000, Cause::PageFault);
+    assert_trap(
+        &rt,
+        Instr::Lw { rd, rs1, imm },
+        0x8000_0000,
+        Cause::PageFault,
+    );
 }
 
 /// A load gives this value after a store.
@@ -140,19 +151,47 @@ fn assert_loaded(rt: &impl Abort, store: Instr, load: Instr, wanted: u32) {
 /// Loads after the store of a byte.
 fn assert_byte(rt: &impl Abort) {
     let ((rd, rs1, rs2), imm) = (three(), Immediate::new(60));
-    let store = Instr::Sb { rs1, rs2, imm };
-    assert_loaded(rt, store, Instr::Lb { rd, rs1, imm }, 0xffff_ff83);
-    assert_loaded(rt, store, Instr::Lbu { rd, rs1, imm }, 0x83);
-    assert_loaded(rt, store, Instr::Lw { rd, rs1, imm }, 0x1111_1183);
+    assert_loaded(
+        rt,
+        Instr::Sb { rs1, rs2, imm },
+        Instr::Lb { rd, rs1, imm },
+        0xffff_ff83,
+    );
+    assert_loaded(
+        rt,
+        Instr::Sb { rs1, rs2, imm },
+        Instr::Lbu { rd, rs1, imm },
+        0x83,
+    );
+    assert_loaded(
+        rt,
+        Instr::Sb { rs1, rs2, imm },
+        Instr::Lw { rd, rs1, imm },
+        0x1111_1183,
+    );
 }
 
 /// Loads after the store of half a word.
 fn assert_half(rt: &impl Abort) {
     let ((rd, rs1, rs2), imm) = (three(), Immediate::new(60));
-    let store = Instr::Sh { rs1, rs2, imm };
-    assert_loaded(rt, store, Instr::Lh { rd, rs1, imm }, 0xffff_8283);
-    assert_loaded(rt, store, Instr::Lhu { rd, rs1, imm }, 0x8283);
-    assert_loaded(rt, store, Instr::Lw { rd, rs1, imm }, 0x1111_8283);
+    assert_loaded(
+        rt,
+        Instr::Sh { rs1, rs2, imm },
+        Instr::Lh { rd, rs1, imm },
+        0xffff_8283,
+    );
+    assert_loaded(
+        rt,
+        Instr::Sh { rs1, rs2, imm },
+        Instr::Lhu { rd, rs1, imm },
+        0x8283,
+    );
+    assert_loaded(
+        rt,
+        Instr::Sh { rs1, rs2, imm },
+        Instr::Lw { rd, rs1, imm },
+        0x1111_8283,
+    );
 }
 
 /// A load after the store of a word.

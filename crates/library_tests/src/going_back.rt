@@ -1,13 +1,22 @@
 //! Tests of `debugger`: the way back to breakpoints, and what the next step loads or stores.
+ghost use Rattle.std.specs.Prelude.{◌<◌, ◌≤◌, length};
+
 use crate::asserting::assert_row;
-use crate::debugging::{ECALL, ENTRY, looped, program, reply};
+use byte_list::Bytes;
 use debugger::{Access, AccessKind, DebugFault, Debugger};
 use machine_model::{Image, Reply};
 use std::alloc::{AllocError, Global};
 use std::process::Abort;
 use std::test::Fail;
 
+/// A loop that writes how often it went round to the stack, at each count that is one more than a multiple of 4.
+const LOOP: [u32; 4] = [0x0012_8293, 0xfe51_2e23, 0x0013_0313, 0xff5f_f06f];
+
+const ENTRY: u32 = 0x0001_0000;
+
 const STACK: u32 = 0x7fff_c000;
+
+const ECALL: u32 = 0x0000_0073;
 
 /// A way back, with what it comes to and at which count.
 enum Back {
@@ -40,9 +49,18 @@ const TO_THE_START: &[Back] = &[
 /// Where no breakpoint is set.
 const NONE_SET: &[Back] = &[Back::To(1500, Ok(None), 1500), Back::All(None, 0)];
 
+/// A program of words, with replies to its first calls.
+fn program(alloc: Global, words: &[u32], replies: Vec<Reply>) -> Result<Debugger, DebugFault>
+    requires some { 0 < length words.now }
+    requires fits { length words.now ≤ 61440 }
+{
+    Debugger::new(alloc, Image::from_text(alloc, words)?, replies)
+}
+
 /// The loop after 2,050 instructions, with breakpoints set by then.
-fn looped_with(alloc: Global, breaks: &[u32]) -> Result<Debugger, DebugFault> {
-    let mut debugger = looped(alloc, 2050)?;
+fn looped(alloc: Global, breaks: &[u32]) -> Result<Debugger, DebugFault> {
+    let mut debugger = program(alloc, &LOOP, Vec::new(alloc))?;
+    debugger.run_to_break(2050)?;
     for at in breaks {
         debugger.break_at(*at)?;
     }
@@ -70,7 +88,7 @@ fn assert_all_back(rt: &impl Abort, debugger: &mut Debugger, ways: &[Back]) {
 
 #[test]
 fn goes_back_to_breakpoints(rt: HostRuntime) -> Result<(), Fail> {
-    let mut debugger = looped_with(rt.alloc(), &[ENTRY + 4, ENTRY + 8])?;
+    let mut debugger = looped(rt.alloc(), &[ENTRY + 4, ENTRY + 8])?;
     assert_all_back(&rt, &mut debugger, BACK);
     debugger.rewind(3)?;
     assert_all_back(&rt, &mut debugger, TO_THE_START);
@@ -79,7 +97,7 @@ fn goes_back_to_breakpoints(rt: HostRuntime) -> Result<(), Fail> {
 
 #[test]
 fn goes_back_where_no_breakpoint_is(rt: HostRuntime) -> Result<(), Fail> {
-    let mut debugger = looped_with(rt.alloc(), &[])?;
+    let mut debugger = looped(rt.alloc(), &[])?;
     assert_all_back(&rt, &mut debugger, NONE_SET);
     assert_row(&rt, "again", debugger.reran(), 0);
     Ok(())
@@ -87,8 +105,15 @@ fn goes_back_where_no_breakpoint_is(rt: HostRuntime) -> Result<(), Fail> {
 
 /// Loads and stores at the stack's end, in the order of the instruction table, and a misaligned one.
 const ACCESSES: [u32; 9] = [
-    0xfff10503, 0xffe11503, 0xffc12503, 0xfff14503, 0xffe15503, 0xfea10fa3, 0xfea11f23, 0xfea12e23,
-    0xfff12503,
+    0xfff1_0503,
+    0xffe1_1503,
+    0xffc1_2503,
+    0xfff1_4503,
+    0xffe1_5503,
+    0xfea1_0fa3,
+    0xfea1_1f23,
+    0xfea1_2e23,
+    0xfff1_2503,
 ];
 
 /// An access: its address, how many bytes it has, and its kind.
@@ -126,14 +151,23 @@ fn sees_what_instructions_access(rt: HostRuntime) -> Result<(), Fail> {
     Ok(())
 }
 
+fn reply(alloc: Global, at: u32, bytes: &[u8], image: Option<Image>) -> Result<Reply, AllocError> {
+    Ok(Reply {
+        a0: 0,
+        at,
+        bytes: Bytes::copy_of(alloc, bytes)?,
+        image,
+    })
+}
+
 /// Replies with three bytes, with none, with an image, and with a byte for the text, which may not be written.
 fn replies_of_all_kinds(alloc: Global) -> Result<Vec<Reply>, AllocError> {
     let entered = Image::from_text(alloc, &[ECALL])?;
     let mut replies = Vec::new(alloc);
-    replies.push(reply(alloc, (0, STACK, &[1, 2, 3]), None)?)?;
-    replies.push(reply(alloc, (0, 0, &[]), None)?)?;
-    replies.push(reply(alloc, (0, 0, &[]), Some(entered))?)?;
-    replies.push(reply(alloc, (0, ENTRY, &[1]), None)?)?;
+    replies.push(reply(alloc, STACK, &[1, 2, 3], None)?)?;
+    replies.push(reply(alloc, 0, &[], None)?)?;
+    replies.push(reply(alloc, 0, &[], Some(entered))?)?;
+    replies.push(reply(alloc, ENTRY, &[1], None)?)?;
     Ok(replies)
 }
 

@@ -140,13 +140,13 @@ const NAMES: &[(ElfFault, u8, &str)] = &[
     (ElfFault::OutOfMemory, 13, "OutOfMemory"),
 ];
 
-pub const READ_EXECUTE: Rights = Rights {
+const READ_EXECUTE: Rights = Rights {
     read: true,
     write: false,
     execute: true,
 };
 
-pub const READ_WRITE: Rights = Rights {
+const READ_WRITE: Rights = Rights {
     read: true,
     write: true,
     execute: false,

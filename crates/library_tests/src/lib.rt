@@ -1,6 +1,5 @@
 //! Tests of the lower crates over what they export. They stand in a crate of their own, since a crate with tests is proved twice.
-//! Each file's head says what it tests; `asserting` has what most of them share. `flat_bus` is proved as it stands, also without the
-//! tests.
+//! Each file's head says what it tests; `asserting` has what they share. `flat_bus` is proved as it stands, also without the tests.
 #![tactic(auto)]
 
 #[cfg(test)]

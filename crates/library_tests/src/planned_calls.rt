@@ -22,39 +22,70 @@ use std::alloc::{AllocError, Global};
 use std::process::Abort;
 use std::sync::Arc;
 
+const A0_IS_0: u32 = 0x0000_0513;
+
+const A0_IS_1: u32 = 0x0010_0513;
+
+const A0_IS_300: u32 = 0x12c0_0513;
+
+const A1_IS_TEXT: u32 = 0x0001_05b7;
+
+const A1_IS_1: u32 = 0x0010_0593;
+
+const A1_IS_MINUS_1: u32 = 0xfff0_0593;
+
+/// The last 8 bytes of the stack, which ends at 0x80000000.
+const A0_IS_STACK_8: u32 = 0xff81_0513;
+
+/// The last 1024 bytes of the stack.
+const A1_IS_STACK: u32 = 0xc001_0593;
+
+const A2_IS_2: u32 = 0x0020_0613;
+
+const A2_IS_4: u32 = 0x0040_0613;
+
+const A2_IS_1024: u32 = 0x4000_0613;
+
+const A2_IS_1025: u32 = 0x4010_0613;
+
+const EXIT: u32 = 0x0010_0893;
+
+const WRITE: u32 = 0x0020_0893;
+
+const READ: u32 = 0x0030_0893;
+
+const CLOSE: u32 = 0x0050_0893;
+
+const PIPE: u32 = 0x0060_0893;
+
+const FORK: u32 = 0x0070_0893;
+
+const WAIT: u32 = 0x0080_0893;
+
+const GETPID: u32 = 0x0090_0893;
+
+const SEEK: u32 = 0x00a0_0893;
+
+const SYNC: u32 = 0x00b0_0893;
+
+const UNLINK: u32 = 0x00c0_0893;
+
+const RENAME: u32 = 0x00d0_0893;
+
+const EXEC: u32 = 0x00e0_0893;
+
+const CALL_99: u32 = 0x0630_0893;
+
 const ECALL: u32 = 0x0000_0073;
 
-/// The first address of a program's text, that of the last 8 bytes of its stack, and that of the last 1024.
-const TEXT: u32 = 0x0001_0000;
-
-const STACK_8: u32 = 0x7fff_fff8;
-
-const STACK: u32 = 0x7fff_fc00;
-
-const MINUS_1: u32 = u32::MAX;
-
-/// The instructions that load a number into a register.
-fn loading(register: u32, number: u32) -> [u32; 2] {
-    let high = number.wrapping_add(0x800) & 0xffff_f000;
-    let low = number << 20;
-    [
-        high | register << 7 | 0x37,
-        low | register << 15 | register << 7 | 0x13,
-    ]
-}
-
-/// What a program asks for that makes the call of a number with these arguments.
-fn request_by(alloc: Global, numbers: [u32; 4]) -> Result<Request, AllocError>
+/// What a program asks for that sets a7, a0, a1 and a2, and calls.
+fn request_by(alloc: Global, words: [u32; 4]) -> Result<Request, AllocError>
     ensures { IfOk result IsWhole }
 {
-    let [call, a0, a1, a2] = numbers;
-    let [a, b] = loading(17, call);
-    let [c, d] = loading(10, a0);
-    let [e, f] = loading(11, a1);
-    let [g, h] = loading(12, a2);
-    let image = Image::from_text(alloc, &[a, b, c, d, e, f, g, h, ECALL])?;
+    let [call, a0, a1, a2] = words;
+    let image = Image::from_text(alloc, &[call, a0, a1, a2, ECALL])?;
     let mut machine = Machine::load(alloc, &image)?;
-    let _ = machine.run(9);
+    let _ = machine.run(5);
     request_of(alloc, &machine)
 }
 
@@ -152,40 +183,40 @@ fn told(plan: &CallPlan) -> Result<u32, Option<u32>> {
 }
 
 /// What process 2 is told by a program's call, where tape 0 has the bytes 'hi'.
-fn told_by(alloc: Global, call: [u32; 4]) -> Result<Result<u32, Option<u32>>, AllocError> {
+fn told_by(alloc: Global, words: [u32; 4]) -> Result<Result<u32, Option<u32>>, AllocError> {
     let tapes = tapes_of(alloc, b"hi")?;
-    let request = request_by(alloc, call)?;
+    let request = request_by(alloc, words)?;
     let plan = plan_of(alloc, &tapes, request)?;
     Ok(told(&plan))
 }
 
-/// Calls by their numbers with their arguments, and what they are told.
+/// Calls, and what they are told.
 const CALLS: &[([u32; 4], Result<u32, Option<u32>>)] = &[
-    ([1, 300, TEXT, 4], Err(Some(44))), // exit
-    ([2, 1, TEXT, 4], Ok(4)), // write
-    ([2, 1, TEXT, 1025], Ok(0xffff_ffea)), // write
-    ([2, 1, MINUS_1, 2], Ok(0xffff_fff2)), // write
-    ([99, 1, TEXT, 4], Ok(0xffff_ffda)), // none
-    ([3, 0, STACK, 1024], Ok(2)), // read
-    ([5, 1, TEXT, 4], Ok(0)), // close
-    ([9, 1, TEXT, 4], Ok(2)), // getpid
-    ([10, 1, TEXT, 4], Ok(0xffff_fff7)), // seek
-    ([11, 1, TEXT, 4], Ok(0)), // sync
-    ([6, STACK_8, TEXT, 4], Ok(0)), // pipe
-    ([7, 0, TEXT, 4], Ok(3)), // fork
-    ([8, 0, TEXT, 4], Ok(0xffff_fff6)), // wait
-    ([12, 0, 1, 4], Ok(0xffff_fff2)), // unlink
-    ([12, 0, TEXT, 4], Ok(0xffff_ffea)), // unlink
-    ([13, 0, 1, 4], Ok(0xffff_fff2)), // rename
-    ([13, 0, 1, 1024], Ok(0xffff_ffea)), // rename
-    ([14, 0, 1, 4], Ok(0xffff_fff2)), // exec
-    ([14, 0, TEXT, 4], Ok(0xffff_ffea)), // exec
+    ([EXIT, A0_IS_300, A1_IS_TEXT, A2_IS_4], Err(Some(44))),
+    ([WRITE, A0_IS_1, A1_IS_TEXT, A2_IS_4], Ok(4)),
+    ([WRITE, A0_IS_1, A1_IS_TEXT, A2_IS_1025], Ok(0xffff_ffea)),
+    ([WRITE, A0_IS_1, A1_IS_MINUS_1, A2_IS_2], Ok(0xffff_fff2)),
+    ([CALL_99, A0_IS_1, A1_IS_TEXT, A2_IS_4], Ok(0xffff_ffda)),
+    ([READ, A0_IS_0, A1_IS_STACK, A2_IS_1024], Ok(2)),
+    ([CLOSE, A0_IS_1, A1_IS_TEXT, A2_IS_4], Ok(0)),
+    ([GETPID, A0_IS_1, A1_IS_TEXT, A2_IS_4], Ok(2)),
+    ([SEEK, A0_IS_1, A1_IS_TEXT, A2_IS_4], Ok(0xffff_fff7)),
+    ([SYNC, A0_IS_1, A1_IS_TEXT, A2_IS_4], Ok(0)),
+    ([PIPE, A0_IS_STACK_8, A1_IS_TEXT, A2_IS_4], Ok(0)),
+    ([FORK, A0_IS_0, A1_IS_TEXT, A2_IS_4], Ok(3)),
+    ([WAIT, A0_IS_0, A1_IS_TEXT, A2_IS_4], Ok(0xffff_fff6)),
+    ([UNLINK, A0_IS_0, A1_IS_1, A2_IS_4], Ok(0xffff_fff2)),
+    ([UNLINK, A0_IS_0, A1_IS_TEXT, A2_IS_4], Ok(0xffff_ffea)),
+    ([RENAME, A0_IS_0, A1_IS_1, A2_IS_4], Ok(0xffff_fff2)),
+    ([RENAME, A0_IS_0, A1_IS_1, A2_IS_1024], Ok(0xffff_ffea)),
+    ([EXEC, A0_IS_0, A1_IS_1, A2_IS_4], Ok(0xffff_fff2)),
+    ([EXEC, A0_IS_0, A1_IS_TEXT, A2_IS_4], Ok(0xffff_ffea)),
 ];
 
 #[test]
 fn programs_call(rt: HostRuntime) {
-    for (row, &(call, wanted)) in CALLS.iter().enumerate() {
-        assert_row(&rt, row, told_by(rt.alloc(), call), Ok(wanted));
+    for (row, &(words, wanted)) in CALLS.iter().enumerate() {
+        assert_row(&rt, row, told_by(rt.alloc(), words), Ok(wanted));
     }
 }
 

@@ -4,12 +4,23 @@ ghost use Rattle.memory_model.specs.Memory.{memory_of};
 ghost use Rattle.memory_model.specs.Access.{mapped};
 
 use crate::asserting::assert_row;
-use crate::image_files::{READ_EXECUTE, READ_WRITE};
 use machine_model::{Bus, BusFault, Rights, Width};
 use memory::{CopyFault, KeptSpace, Space};
 use std::alloc::{AllocError, Global};
 use std::process::Abort;
 use std::test::Fail;
+
+const READ_EXECUTE: Rights = Rights {
+    read: true,
+    write: false,
+    execute: true,
+};
+
+const READ_WRITE: Rights = Rights {
+    read: true,
+    write: true,
+    execute: false,
+};
 
 const WRITE: Rights = Rights {
     read: false,
