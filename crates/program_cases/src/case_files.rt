@@ -1,13 +1,19 @@
 //! The cases of a file, in the notation that its name ends with: `.calls` for programs that call the kernel, `.sessions` for runs
 //! of the program by its command line. `case_format` says how a file is parted into cases, and how one is chosen.
-use crate::host::Host;
 use crate::playing::{play_calls, play_session};
 use anyhow::Error;
 use case_format::Choice;
-use std::fs;
+use std::fs::{self, File};
+use std::rt::Files;
+use std::sync::Wait;
+use std::thread::Threads;
 
 /// Runs the lines of a case, in the notation that the name of its file ends with.
-fn check_case<R: Host>(rt: &R, file: &str, lines: &str) -> Result<(), Error> {
+fn check_case<R: Files<File = File> + AllocGlobal + Threads + Wait + Sync>(
+    rt: &R,
+    file: &str,
+    lines: &str,
+) -> Result<(), Error> {
     if file.ends_with(".calls") {
         play_calls(rt, lines)
     } else {
@@ -17,7 +23,10 @@ fn check_case<R: Host>(rt: &R, file: &str, lines: &str) -> Result<(), Error> {
 
 /// Runs the chosen cases of a file, each of them whatever came of those before, and gives the line that is printed where all pass.
 /// For each that fails standard error has a line: the word that names it, and why.
-pub fn check_file<R: Host + Eprint>(rt: &R, choice: Choice<'_>) -> Result<String, Error> {
+pub fn check_file<R: Files<File = File> + AllocGlobal + Threads + Wait + Sync + Eprint>(
+    rt: &R,
+    choice: Choice<'_>,
+) -> Result<String, Error> {
     let file = choice.file;
     let text = fs::read_to_string(rt, file)?;
     let mut failed = 0usize;

@@ -1,11 +1,13 @@
 //! Tests outputs that take few writes, and inputs that cannot be read. What the program printed goes out at once. Its status says
 //! where a write or a read failed, and whether memory ran out there.
-use crate::host::Host;
 use crate::running::check_status;
 use anyhow::{Error, ensure};
 use case_format::arguments;
-use std::fs;
+use std::fs::{self, File};
 use std::io::{self, ErrorKind, Read, Write};
+use std::rt::Files;
+use std::sync::Wait;
+use std::thread::Threads;
 
 /// An output that takes so many writes, and then fails for this reason.
 #[derive(Drop)]
@@ -83,7 +85,7 @@ fn compare_end(ended: u8, out: &Output, err: &[u8], (status, said): End<'_>) -> 
 }
 
 /// Runs the program with these words, parted by blanks, on the script. It has to fill the output, and to end so.
-pub fn check_output<R: Host>(
+pub fn check_output<R: Files<File = File> + AllocGlobal + Threads + Wait + Sync>(
     rt: &R,
     line: &str,
     mut out: Output,
@@ -97,7 +99,12 @@ pub fn check_output<R: Host>(
 }
 
 /// Runs the program with these words, parted by blanks, on an input that cannot be read.
-fn check_input<R: Host>(rt: &R, line: &str, failure: ErrorKind, end: End<'_>) -> Result<(), Error> {
+fn check_input<R: Files<File = File> + AllocGlobal + Threads + Wait + Sync>(
+    rt: &R,
+    line: &str,
+    failure: ErrorKind,
+    end: End<'_>,
+) -> Result<(), Error> {
     let words = arguments(rt.alloc(), line)?;
     let mut input = Input { failure };
     let mut out = Output::new(0, ErrorKind::BrokenPipe);
@@ -108,7 +115,9 @@ fn check_input<R: Host>(rt: &R, line: &str, failure: ErrorKind, end: End<'_>) ->
 
 /// One write is enough for all output, of a script and of help. Where no write is taken, the status is 6, or 5 where memory runs
 /// out. The same holds where the input cannot be read.
-pub fn check_faulty_output<R: Host>(rt: &R) -> Result<String, Error> {
+pub fn check_faulty_output<R: Files<File = File> + AllocGlobal + Threads + Wait + Sync>(
+    rt: &R,
+) -> Result<String, Error> {
     for (failure, end) in [
         (ErrorKind::BrokenPipe, (6, FAILED)),
         (ErrorKind::OutOfMemory, (5, OUT_OF_MEMORY)),
@@ -124,7 +133,9 @@ pub fn check_faulty_output<R: Host>(rt: &R) -> Result<String, Error> {
 
 /// A program that writes a byte which rests on a change, and then never ends. Its run ends only since that byte goes out while the
 /// program runs, and cannot be written. Where gdb debugs it, a read that fails is no end of the input. It reads the source `endless.s`.
-pub fn check_endless_run<R: Host>(rt: &R) -> Result<String, Error> {
+pub fn check_endless_run<R: Files<File = File> + AllocGlobal + Threads + Wait + Sync>(
+    rt: &R,
+) -> Result<String, Error> {
     check_status(rt, "asm endless.s endless", 0)?;
     let out = Output::new(0, ErrorKind::BrokenPipe);
     check_output(rt, "run endless", out, (6, FAILED))?;

@@ -1,15 +1,19 @@
 //! Tests the file in which a run keeps its disk: the files beside it, its rights, links at its path, and the lock by which one run
 //! has it. An image that is written through a link is tested too.
 use crate::faulty_output::{Output, check_output};
-use crate::host::Host;
 use crate::running::{ENDS, check_status};
 use anyhow::{Error, ensure};
-use std::fs::{self, OpenOptions, Permissions};
+use std::fs::{self, File, OpenOptions, Permissions};
 use std::io::ErrorKind;
 use std::os::unix::fs::{PermissionsExt, symlink};
+use std::rt::Files;
+use std::sync::Wait;
+use std::thread::Threads;
 
 /// The file `.new` beside the disk's is made anew: what a link of that name leads to stays as it was.
-fn check_link<R: Host>(rt: &R) -> Result<(), Error> {
+fn check_link<R: Files<File = File> + AllocGlobal + Threads + Wait + Sync>(
+    rt: &R,
+) -> Result<(), Error> {
     fs::write(rt, "precious", "text")?;
     symlink(rt, "precious", "kept.new")?;
     check_status(rt, "run --disk kept ends", 0)?;
@@ -27,7 +31,10 @@ fn check_link<R: Host>(rt: &R) -> Result<(), Error> {
 }
 
 /// The disk's file keeps these rights.
-fn check_rights<R: Host>(rt: &R, rights: u32) -> Result<(), Error> {
+fn check_rights<R: Files<File = File> + AllocGlobal + Threads + Wait + Sync>(
+    rt: &R,
+    rights: u32,
+) -> Result<(), Error> {
     fs::set_permissions(rt, "kept", Permissions::from_mode(rights))?;
     check_status(rt, "run --disk kept ends", 0)?;
     let mode = fs::metadata(rt, "kept")?.permissions().mode() & 0o777;
@@ -36,14 +43,18 @@ fn check_rights<R: Host>(rt: &R, rights: u32) -> Result<(), Error> {
 }
 
 /// A run whose disk could not be kept ends before it begins. Where the file beside it is a folder, that stays.
-fn check_folder<R: Host>(rt: &R) -> Result<(), Error> {
+fn check_folder<R: Files<File = File> + AllocGlobal + Threads + Wait + Sync>(
+    rt: &R,
+) -> Result<(), Error> {
     fs::create_dir(rt, "kept.new")?;
     check_status(rt, "run --disk kept ends", 6)?;
     Ok(fs::remove_dir(rt, "kept.new")?)
 }
 
 /// A link that leads to a disk is replaced by a file, and what it led to stays.
-fn check_linked_disk<R: Host>(rt: &R) -> Result<(), Error> {
+fn check_linked_disk<R: Files<File = File> + AllocGlobal + Threads + Wait + Sync>(
+    rt: &R,
+) -> Result<(), Error> {
     symlink(rt, "kept", "linked")?;
     check_status(rt, "run --disk linked ends", 0)?;
     ensure!(
@@ -55,7 +66,9 @@ fn check_linked_disk<R: Host>(rt: &R) -> Result<(), Error> {
 
 /// While another run has the disk's file, a run is refused before it begins, durable or not. A durable run is also refused where another
 /// has the file by another path. A folder where the lock would be is in the way of both.
-fn check_lock<R: Host>(rt: &R) -> Result<(), Error> {
+fn check_lock<R: Files<File = File> + AllocGlobal + Threads + Wait + Sync>(
+    rt: &R,
+) -> Result<(), Error> {
     let lock = OpenOptions::new()
         .write(true)
         .create(true)
@@ -83,7 +96,9 @@ fn check_lock<R: Host>(rt: &R) -> Result<(), Error> {
 }
 
 /// A durable run writes the file to which a link leads, and the link stays.
-fn check_durable_link<R: Host>(rt: &R) -> Result<(), Error> {
+fn check_durable_link<R: Files<File = File> + AllocGlobal + Threads + Wait + Sync>(
+    rt: &R,
+) -> Result<(), Error> {
     symlink(rt, "kept", "linked")?;
     check_status(rt, "run --durable --disk linked ends", 0)?;
     ensure!(
@@ -100,7 +115,9 @@ bench: standard input could not be read as text, standard output not be written,
 
 /// A session writes no disk. So where its output fails, and the reason is looked for, the file beside the disk stays as it is: another
 /// run may be writing it.
-fn check_session<R: Host>(rt: &R) -> Result<(), Error> {
+fn check_session<R: Files<File = File> + AllocGlobal + Threads + Wait + Sync>(
+    rt: &R,
+) -> Result<(), Error> {
     fs::write(rt, "kept.new", "text")?;
     let out = Output::new(0, ErrorKind::BrokenPipe);
     let words = "debug --live --explain --disk kept ends";
@@ -114,7 +131,9 @@ fn check_session<R: Host>(rt: &R) -> Result<(), Error> {
 }
 
 /// An image is written to what a link leads to, and the link stays.
-fn check_image_link<R: Host>(rt: &R) -> Result<(), Error> {
+fn check_image_link<R: Files<File = File> + AllocGlobal + Threads + Wait + Sync>(
+    rt: &R,
+) -> Result<(), Error> {
     symlink(rt, "made", "linked")?;
     check_status(rt, "image linkers/gnu.elf linked", 0)?;
     check_status(rt, "image linkers/gnu.elf whole", 0)?;
@@ -134,7 +153,9 @@ fn check_image_link<R: Host>(rt: &R) -> Result<(), Error> {
 }
 
 /// All these tests: the file of a kept disk with its links, rights and locks, and an image that is written through a link.
-pub fn check_kept_disk<R: Host>(rt: &R) -> Result<String, Error> {
+pub fn check_kept_disk<R: Files<File = File> + AllocGlobal + Threads + Wait + Sync>(
+    rt: &R,
+) -> Result<String, Error> {
     fs::write(rt, "ends.s", ENDS)?;
     check_status(rt, "asm ends.s ends", 0)?;
     check_link(rt)?;

@@ -14,7 +14,6 @@ mod cone_visible;
 mod cones;
 mod damaged_disk;
 mod faulty_output;
-mod host;
 mod kept_disk;
 mod lost_arguments;
 mod playing;

@@ -1,20 +1,28 @@
 //! Plays a case of `.calls` or `.sessions`, and compares what comes of each step with what is wanted.
 use crate::cones::check_cones;
-use crate::host::Host;
 use crate::running::run;
 use anyhow::Error;
 use case_format::{CallsCase, IMAGE_NAME, Ran, Run, Step, check_missing, session_steps};
-use std::fs;
+use std::fs::{self, File};
+use std::rt::Files;
+use std::sync::Wait;
+use std::thread::Threads;
 
 /// Runs a case's script, and compares the cones of its events with its runs.
-fn run_script<R: Host>(rt: &R, script: &[u8]) -> Result<Ran, Error> {
+fn run_script<R: Files<File = File> + AllocGlobal + Threads + Wait + Sync>(
+    rt: &R,
+    script: &[u8],
+) -> Result<Ran, Error> {
     let ran = run(rt, "", script)?;
     check_cones(rt, str::from_utf8(script)?)?;
     Ok(ran)
 }
 
 /// Runs a case's script, beside its image's file, if it has one.
-fn run_calls<R: Host>(rt: &R, case: &CallsCase) -> Result<Ran, Error> {
+fn run_calls<R: Files<File = File> + AllocGlobal + Threads + Wait + Sync>(
+    rt: &R,
+    case: &CallsCase,
+) -> Result<Ran, Error> {
     if case.image().is_empty() {
         return run_script(rt, case.script());
     }
@@ -25,14 +33,20 @@ fn run_calls<R: Host>(rt: &R, case: &CallsCase) -> Result<Ran, Error> {
 }
 
 /// Runs a case of programs that call the kernel.
-pub fn play_calls<R: Host>(rt: &R, lines: &str) -> Result<(), Error> {
+pub fn play_calls<R: Files<File = File> + AllocGlobal + Threads + Wait + Sync>(
+    rt: &R,
+    lines: &str,
+) -> Result<(), Error> {
     let case = CallsCase::read(rt.alloc(), lines)?;
     let ran = run_calls(rt, &case)?;
     case.check(rt.alloc(), &ran)
 }
 
 /// Runs the program, and writes what it prints to a file, if that is wanted.
-fn play_run<R: Host>(rt: &R, wanted: &Run) -> Result<(), Error> {
+fn play_run<R: Files<File = File> + AllocGlobal + Threads + Wait + Sync>(
+    rt: &R,
+    wanted: &Run,
+) -> Result<(), Error> {
     let ran = run(rt, wanted.words(), wanted.input())?;
     if let Some(name) = wanted.kept() {
         fs::write(rt, name, ran.out.as_slice())?;
@@ -40,7 +54,10 @@ fn play_run<R: Host>(rt: &R, wanted: &Run) -> Result<(), Error> {
     wanted.check(&ran)
 }
 
-fn play_step<R: Host>(rt: &R, step: &Step) -> Result<(), Error> {
+fn play_step<R: Files<File = File> + AllocGlobal + Threads + Wait + Sync>(
+    rt: &R,
+    step: &Step,
+) -> Result<(), Error> {
     match step {
         Step::Run(wanted) => play_run(rt, wanted),
         Step::Lines(file) | Step::Bytes(file) => {
@@ -53,7 +70,10 @@ fn play_step<R: Host>(rt: &R, step: &Step) -> Result<(), Error> {
 }
 
 /// Does the steps of a case by the command line.
-pub fn play_session<R: Host>(rt: &R, lines: &str) -> Result<(), Error> {
+pub fn play_session<R: Files<File = File> + AllocGlobal + Threads + Wait + Sync>(
+    rt: &R,
+    lines: &str,
+) -> Result<(), Error> {
     let steps = session_steps(rt.alloc(), lines)?;
     for step in &steps {
         play_step(rt, step)?;

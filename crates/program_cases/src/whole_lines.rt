@@ -1,10 +1,12 @@
 //! Tests standard error: each line goes out whole, by one write.
-use crate::host::Host;
 use crate::running::ENDS;
 use anyhow::{Error, ensure};
 use case_format::arguments;
-use std::fs;
+use std::fs::{self, File};
 use std::io::{self, Write};
+use std::rt::Files;
+use std::sync::Wait;
+use std::thread::Threads;
 
 /// A standard error that counts its writes, and among them those that do not end with a line's end.
 #[derive(Drop)]
@@ -28,7 +30,11 @@ impl Write for Lines {
 }
 
 /// Runs the program with these words, parted by blanks. It has to write to standard error so many times, each time whole lines.
-fn check_writes<R: Host>(rt: &R, line: &str, writes: usize) -> Result<(), Error> {
+fn check_writes<R: Files<File = File> + AllocGlobal + Threads + Wait + Sync>(
+    rt: &R,
+    line: &str,
+    writes: usize,
+) -> Result<(), Error> {
     let words = arguments(rt.alloc(), line)?;
     let mut input: &[u8] = b"";
     let mut out = Vec::new(rt.alloc());
@@ -43,7 +49,9 @@ fn check_writes<R: Host>(rt: &R, line: &str, writes: usize) -> Result<(), Error>
 }
 
 /// Faults of each kind, a faulty command line, and the lines of a run's processes.
-pub fn check_whole_lines<R: Host>(rt: &R) -> Result<String, Error> {
+pub fn check_whole_lines<R: Files<File = File> + AllocGlobal + Threads + Wait + Sync>(
+    rt: &R,
+) -> Result<String, Error> {
     fs::write(rt, "ends.s", ENDS)?;
     check_writes(rt, "replay there-is-no-such-file", 1)?;
     check_writes(rt, "list ends.s", 1)?;
