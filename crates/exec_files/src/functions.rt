@@ -19,7 +19,7 @@ const FUNCTION: u8 = 2;
 pub struct Function {
     pub name: String,
     pub start: u32,
-    /// The address behind it, at most: that of the next one may come before.
+    /// The address after it, at most: that of the next one may come before.
     end: u32,
 }
 
@@ -51,7 +51,7 @@ fn code_named<'a>(symbol: &[u8], names: &'a [u8]) -> Option<&'a str> {
     }
 }
 
-/// Where what a symbol names begins, and the address behind it: by its size, and where it has none by its section. None where it is of
+/// Where what a symbol names begins, and the address after it: by its size, and where it has none by its section. None where it is of
 /// no section of the file.
 fn range_of(file: &[u8], symbol: &[u8]) -> Option<(u32, u32)> {
     let start = word_at(symbol, 4)?;

@@ -53,7 +53,7 @@ pub fn section_numbered(file: &[u8], number: u32) -> Option<Section> {
     })
 }
 
-/// The address behind a section, as far as there are addresses.
+/// The address after a section, as far as there are addresses.
 pub fn end_of(section: Section) -> u32 {
     let size = u32::try_from(section.size).unwrap_or(u32::MAX);
     section.address.saturating_add(size)

@@ -55,7 +55,7 @@ struct ReplyText<'a> {
     arguments: [u32; 3],
 }
 
-/// The byte so far behind an address; 0 where none is there.
+/// The byte so far after an address; 0 where none is there.
 fn byte_at(machine: &Machine, at: u32, offset: u32) -> u8 {
     machine.space().byte(at.wrapping_add(offset)).unwrap_or(0)
 }
