@@ -1,22 +1,17 @@
--- The carriers of an Enter stand where its ends say, also after more were noted.
-use Rattle.std.proofs.Common.{append-nil, append_assoc, ◌≡◌, ℕ, zero, suc, ◌+◌, ◌-◌, ◌<◌, ◌≤◌, ◌⊎◌, inl, inr, List, [], ◌∷◌, ◌++◌, length, take, drop, get_or, refl, sym, ap, subst, ◌∙◌, arith}
+-- The carriers of a footprint stand where its ends say, and it keeps its name, also after more were noted.
+use Rattle.std.proofs.Common.{append-nil, append_assoc, ◌≡◌, ℕ, zero, suc, ◌+◌, ◌-◌, ◌<◌, ◌≤◌, List, [], ◌∷◌, ◌++◌, length, take, drop, get_or, refl, sym, ap, ◌∙◌, arith}
 use Rattle.std.specs.List.{AllByRecursion}
-use Rattle.std.proofs.lemmas.Bool.{cases_lt}
-use Rattle.std.proofs.lemmas.List.{length-append, length-drop, length-map, take-append-le, drop-append-le, take_all}
-use Rattle.std.proofs.Math.Seq.{drop-append-add, drop-append_seam, take-append_seam}
+use Rattle.std.proofs.lemmas.List.{length-append, length-drop, length-map, map-append, get_or_append_left, take-append-le, drop-append-le, take_all}
+use Rattle.std.proofs.Math.Seq.{drop-append-add, drop-append_seam, take-append_seam, get_or-append_seam}
 use Rattle.disk_model.proofs.Lists.{each_append, each_more}
 use Rattle.kernel_model.specs.Entries.{Entry}
 use Rattle.kernel_model.specs.declared.carrier.Carrier.{Carrier}
 use Rattle.kernel_laws.specs.Cones.{IsBeginningOf}
-use Rattle.footprints.specs.Kept.{footprint, no_footprint, part, footprint_in, footprints_in, IsWithin, AreWithin, IsPlaced}
+use Rattle.footprints.specs.Kept.{footprint, no_footprint, part, footprint_in, footprints_in, footprints_named, no_ends, IsWithin, AreWithin, IsPlaced, IsNamed}
 use Rattle.footprints.specs.declared.footprints.Ends.{Ends}
 
 pub kept_length : (es : List Ends) (cs : List Carrier) → length (footprints_in cs es) ≡ length es
 kept_length es cs = length-map es (footprint_in cs)
-
--- an Enter's ends
-abbrev pub no_ends : Ends
-no_ends = record { from = 0; reads = 0; writes = 0 }
 
 pub kept_at : (es : List Ends) (cs : List Carrier) (i : ℕ) → i < length es → get_or (footprints_in cs es) i no_footprint ≡ footprint_in cs (get_or es i no_ends)
 kept_at [] cs i h = absurd (let no : ⊥ = omega arith in no)
@@ -60,20 +55,11 @@ kept_more es cs after e noted h placed =
 widen : (many more : ℕ) → many ≤ more → (e : Ends) → IsWithin many e → IsWithin more e
 widen many more le e h = record { starts = h.starts; reads = h.reads; writes = omega (arith, le, h.writes) }
 
-either_long : (many : ℕ) (long noted chosen : Ends) → (16 < noted.writes - noted.from → chosen ≡ noted) → (noted.writes - noted.from ≤ 16 → chosen ≡ long)
-    → IsWithin many long → IsWithin many noted → IsWithin many chosen
-either_long many long noted chosen big small h k = elim (cases_lt 16 (noted.writes - noted.from)) as (λ _. IsWithin many chosen) [
-  | inl less ↦ subst (λ (e : Ends). IsWithin many e) (sym (big less)) k
-  | inr most ↦ subst (λ (e : Ends). IsWithin many e) (sym (small most)) h
-]
-
-pub within_more : (es : List Ends) (cs after : List Carrier) (long e chosen : Ends) (noted : Entry) → AreWithin (length cs) (long ∷ es) → IsPlaced cs after e noted
-    → (16 < e.writes - e.from → chosen ≡ e) → (e.writes - e.from ≤ 16 → chosen ≡ long) → AreWithin (length after) (chosen ∷ (es ++ e ∷ []))
-within_more es cs after long e chosen noted h placed big small =
-    let longer : length cs ≤ length after = let all = ap (λ (zs : List Carrier). length zs) placed.stay.is in omega (arith, all, length-append cs placed.stay.rest) in (
-      either_long (length after) long e chosen big small (widen (length cs) (length after) longer long h.0) placed.within,
-      each_append (IsWithin (length after)) es (e ∷ []) (each_more (IsWithin (length cs)) (IsWithin (length after)) (widen (length cs) (length after) longer) es h.1) (placed.within, tt),
-    )
+pub within_more : (es : List Ends) (cs after : List Carrier) (e : Ends) (noted : Entry) → AreWithin (length cs) es → IsPlaced cs after e noted
+    → AreWithin (length after) (es ++ e ∷ [])
+within_more es cs after e noted h placed =
+    let longer : length cs ≤ length after = let all = ap (λ (zs : List Carrier). length zs) placed.stay.is in omega (arith, all, length-append cs placed.stay.rest) in
+    each_append (IsWithin (length after)) es (e ∷ []) (each_more (IsWithin (length cs)) (IsWithin (length after)) (widen (length cs) (length after) longer) es h) (placed.within, tt)
 
 -- ---- where a footprint is placed
 part_first : (cs rs ws : List Carrier) (from to : ℕ) → from ≡ length cs → to ≡ length cs + length rs → part from to (cs ++ (rs ++ ws)) ≡ rs
@@ -107,6 +93,57 @@ placed_last cs rs ws between after from reads writes b a f r w =
           ∙ ap (λ (ys : List Carrier). footprint rs ys) (part_last cs rs ws reads writes read_to written_to);
     }
 
--- where one stands already
-pub placed_there : (cs : List Carrier) (e : Ends) (noted : Entry) → IsWithin (length cs) e → footprint_in cs e ≡ noted → IsPlaced cs cs e noted
-placed_there cs e noted h is = record { stay = record { rest = []; is = sym (append-nil cs) }; within = h; is = is }
+-- ---- names
+-- one that stands already
+pub named_there : (es : List Ends) (cs : List Carrier) (name : ℕ) (noted : Entry) → name < length es → footprint_in cs (get_or es name no_ends) ≡ noted
+    → IsNamed (footprints_in cs es) (footprints_in cs es) name noted
+named_there es cs name noted less is = record {
+  stay = record { rest = []; is = sym (append-nil (footprints_in cs es)) };
+  there = omega (arith, less, kept_length es cs);
+  is = kept_at es cs name less ∙ is;
+}
+
+-- one that comes last
+pub named_last : (es later : List Ends) (cs after : List Carrier) (e : Ends) (name : ℕ) (noted : Entry) → AreWithin (length cs) es → IsPlaced cs after e noted
+    → later ≡ es ++ e ∷ [] → name ≡ length es → IsNamed (footprints_in cs es) (footprints_in after later) name noted
+named_last es later cs after e name noted h placed last is_last =
+    let all : footprints_in after later ≡ footprints_in cs es ++ noted ∷ [] = ap (footprints_in after) last ∙ kept_more es cs after e noted h placed in
+    let at : name ≡ length (footprints_in cs es) = is_last ∙ sym (kept_length es cs) in
+    record {
+      stay = record { rest = noted ∷ []; is = all };
+      there = let size = ap (λ (xs : List Entry). length xs) all in omega (arith, at, size, length-append (footprints_in cs es) (noted ∷ []));
+      is = ap (λ (xs : List Entry). get_or xs name no_footprint) all ∙ ap (λ (i : ℕ). get_or (footprints_in cs es ++ noted ∷ []) i no_footprint) at
+          ∙ get_or-append_seam (footprints_in cs es) noted [] no_footprint;
+    }
+
+-- what has a name keeps it
+names_stay : (names : List ℕ) (before after : List Entry) → IsBeginningOf before after → AllByRecursion (λ name. name < length before) names
+    → footprints_named after names ≡ footprints_named before names
+names_stay [] before after h all = refl
+names_stay (n ∷ ns) before after h all =
+    ap (λ (x : Entry). x ∷ footprints_named after ns) (ap (λ (xs : List Entry). get_or xs n no_footprint) h.is ∙ get_or_append_left before h.rest no_footprint n all.0)
+    ∙ ap (λ (xs : List Entry). get_or before n no_footprint ∷ xs) (names_stay ns before after h all.1)
+
+-- one Enter more
+module _ (names : List ℕ) (cs : List Carrier) (es : List Ends) (after : List Entry) (name : ℕ) (noted : Entry) (all : AllByRecursion (λ n. n < length es) names)
+    (h : IsNamed (footprints_in cs es) after name noted) where
+  all_before : AllByRecursion (λ n. n < length (footprints_in cs es)) names
+  all_before = each_more (λ n. n < length es) (λ n. n < length (footprints_in cs es)) (λ n less. omega (arith, less, kept_length es cs)) names all
+
+  pub named_more : footprints_named after (names ++ name ∷ []) ≡ footprints_named (footprints_in cs es) names ++ noted ∷ []
+  named_more =
+      map-append (λ n. get_or after n no_footprint) names (name ∷ [])
+      ∙ ap (λ (xs : List Entry). xs ++ get_or after name no_footprint ∷ []) (names_stay names (footprints_in cs es) after h.stay all_before)
+      ∙ ap (λ (x : Entry). footprints_named (footprints_in cs es) names ++ x ∷ []) h.is
+
+  all_named : AllByRecursion (λ n. n < length after) (names ++ name ∷ [])
+  all_named =
+      let longer : length (footprints_in cs es) ≤ length after = let size = ap (λ (xs : List Entry). length xs) h.stay.is in omega (arith, size, length-append (footprints_in cs es) h.stay.rest) in
+      each_append (λ n. n < length after) names (name ∷ []) (each_more (λ n. n < length (footprints_in cs es)) (λ n. n < length after) (λ n less. omega (arith, less, longer)) names all_before) (h.there, tt)
+
+-- the names of before and the next one are those of the ends of after
+pub names_within : (names : List ℕ) (cs cs_after : List Carrier) (es es_after : List Ends) (name : ℕ) (noted : Entry) → AllByRecursion (λ n. n < length es) names
+    → IsNamed (footprints_in cs es) (footprints_in cs_after es_after) name noted → AllByRecursion (λ n. n < length es_after) (names ++ name ∷ [])
+names_within names cs cs_after es es_after name noted all h =
+    each_more (λ n. n < length (footprints_in cs_after es_after)) (λ n. n < length es_after) (λ n less. omega (arith, less, kept_length es_after cs_after)) (names ++ name ∷ [])
+    (all_named names cs es (footprints_in cs_after es_after) name noted all h)

@@ -1,20 +1,23 @@
 //! What is kept of the footprints of events, and the walk back from one event over those on which it rests.
-ghost use Rattle.std.specs.Prelude.{◌≡◌, ◌+◌, ◌-◌, ◌<◌, ◌≤◌, ◌∷◌, ◌++◌, ◌||◌, ◌⊎◌, [], length, vec_len, vec_capacity, get_or, IfOk, OnOk, OnErr};
+ghost use Rattle.std.specs.Prelude.{◌≡◌, ℕ, ◌+◌, ◌-◌, ◌<◌, ◌≤◌, ◌∷◌, ◌++◌, ◌||◌, ◌⊎◌, [], length, vec_len, vec_capacity, get_or, None, IfSome, IfOk, OnOk, OnErr};
 ghost use Rattle.std.specs.Bool.{Decides};
 ghost use Rattle.kernel_model.specs.declared.carrier.Carrier.{Carrier as Carried};
 ghost use Rattle.kernel_model.specs.Entries.{is_among, meets};
 ghost use Rattle.footprints.specs.Footprints.{is_enter, enter_count, enters_among, footprint_by, AreTheCone};
-ghost use Rattle.footprints.specs.Kept.{footprint, no_footprint, part, footprint_in, footprints_in, IsWithin, AreWithin, IsPlaced};
+ghost use Rattle.footprints.specs.Kept.{footprint, no_footprint, part, footprint_in, footprints_in, IsWithin, AreWithin, IsPlaced, IsNamed, no_ends};
 
 use crate::wanted::Wanted;
 use kernel_model::{Carrier, Event};
 use std::alloc::{AllocError, Global};
 use std::marker::Model;
 
-/// A footprint of more carriers than these is long. A long one that comes again is not kept again.
-const LONGEST_SHORT: usize = 16;
+/// So many of the footprints that came last are looked at before one more is kept.
+const LOOKED_AT: usize = 16;
+/// There are names for so many footprints.
+const NAMES: usize = 1 << 32;
 
-/// Where the carriers of an Enter stand: from a place on those that it reads beside its process, and after them those that it writes.
+/// Where the carriers of a footprint stand: from a place on those that an Enter reads beside its process, and after them those that it
+/// writes.
 #[derive(Clone, Copy)]
 struct Ends {
     from: usize,
@@ -31,22 +34,22 @@ fn part_of(carriers: &[Carrier], from: usize, to: usize) -> &[Carrier]
     &carriers[from..to]
 }
 
-/// The carriers that an Enter reads beside its process.
-fn read_by<'a>(carriers: &'a [Carrier], ends: &[Ends], enter: usize) -> &'a [Carrier]
-    requires there { enter < length ends.now }
+/// The carriers that a footprint reads beside its process.
+fn read_by<'a>(carriers: &'a [Carrier], ends: &[Ends], name: usize) -> &'a [Carrier]
+    requires there { name < length ends.now }
     requires within { AreWithin (length carriers.now) ends.now }
-    ensures { result.now ≡ (get_or (footprints_in carriers.now ends.now) enter no_footprint).reads }
+    ensures { result.now ≡ (get_or (footprints_in carriers.now ends.now) name no_footprint).reads }
 {
-    part_of(carriers, ends[enter].from, ends[enter].reads)
+    part_of(carriers, ends[name].from, ends[name].reads)
 }
 
-/// The carriers that an Enter writes.
-fn written_by<'a>(carriers: &'a [Carrier], ends: &[Ends], enter: usize) -> &'a [Carrier]
-    requires there { enter < length ends.now }
+/// The carriers that a footprint writes.
+fn written_by<'a>(carriers: &'a [Carrier], ends: &[Ends], name: usize) -> &'a [Carrier]
+    requires there { name < length ends.now }
     requires within { AreWithin (length carriers.now) ends.now }
-    ensures { result.now ≡ (get_or (footprints_in carriers.now ends.now) enter no_footprint).writes }
+    ensures { result.now ≡ (get_or (footprints_in carriers.now ends.now) name no_footprint).writes }
 {
-    part_of(carriers, ends[enter].reads, ends[enter].writes)
+    part_of(carriers, ends[name].reads, ends[name].writes)
 }
 
 /// Whether the footprint that stands there is this one.
@@ -88,33 +91,47 @@ fn append_footprint(carriers: &mut Vec<Carrier>, reads: &[Carrier], writes: &[Ca
     }
 }
 
-/// Where the carriers of a footprint stand: if it is the same as the last long one, with that one's. Else they come last. Takes no
-/// memory.
-fn place(carriers: &mut Vec<Carrier>, long: Ends, reads: &[Carrier], writes: &[Carrier]) -> Ends
-    requires long { IsWithin (length carriers.old.items) long }
-    requires room { vec_len carriers.old + (length reads.now + length writes.now) ≤ vec_capacity carriers.old }
-    ensures placed { IsPlaced carriers.old.items carriers.new.items result (footprint reads.now writes.now) }
-    ensures again { footprint_in carriers.old.items long ≡ footprint reads.now writes.now → carriers.new ≡ carriers.old }
+/// Which of the footprints that came last this is, if it is one of them.
+fn find(carriers: &[Carrier], ends: &[Ends], reads: &[Carrier], writes: &[Carrier]) -> Option<usize>
+    requires { AreWithin (length carriers.now) ends.now }
+    ensures there { IfSome result (λ name. name < length ends.now) }
+    ensures is { IfSome result (λ name. footprint_in carriers.now (get_or ends.now name no_ends) ≡ footprint reads.now writes.now) }
+    ensures none { result ≡ None → (name : ℕ) → length ends.now ≤ name + 16 → name < length ends.now
+        → footprint_in carriers.now (get_or ends.now name no_ends) ≡ footprint reads.now writes.now → ⊥ }
+{
+    let first = ends.len().saturating_sub(LOOKED_AT);
+    for name in (first..ends.len()).rev() {
+        if is_footprint(carriers, ends[name], reads, writes) {
+            return Some(name);
+        }
+    }
+    None
+}
+
+/// The name of a footprint: that of one of those that came last, or else it comes last itself. Takes no memory.
+fn name(
+    carriers: &mut Vec<Carrier>,
+    ends: &mut Vec<Ends>,
+    reads: &[Carrier],
+    writes: &[Carrier],
+) -> usize
+    requires within { AreWithin (length carriers.old.items) ends.old.items }
+    requires footprint { vec_len ends.old + 1 ≤ vec_capacity ends.old }
+    requires carriers { vec_len carriers.old + (length reads.now + length writes.now) ≤ vec_capacity carriers.old }
+    ensures within { AreWithin (length carriers.new.items) ends.new.items }
+    ensures named { IsNamed (footprints_in carriers.old.items ends.old.items) (footprints_in carriers.new.items ends.new.items) result (footprint reads.now writes.now) }
+    ensures ends { vec_len ends.new ≤ vec_len ends.old + 1 }
+    ensures ends_room { vec_capacity ends.old ≤ vec_capacity ends.new }
     ensures len { vec_len carriers.new ≤ vec_len carriers.old + (length reads.now + length writes.now) }
     ensures room { vec_capacity carriers.old ≤ vec_capacity carriers.new }
 {
-    if is_footprint(carriers, long, reads, writes) {
-        long
-    } else {
-        append_footprint(carriers, reads, writes)
-    }
-}
-
-/// The last long footprint, once this one is noted after that one.
-fn last_long(long: Ends, noted: Ends) -> Ends
-    requires { noted.from ≤ noted.writes }
-    ensures long { 16 < noted.writes - noted.from → result ≡ noted }
-    ensures short { noted.writes - noted.from ≤ 16 → result ≡ long }
-{
-    if noted.writes - noted.from > LONGEST_SHORT {
-        noted
-    } else {
-        long
+    match find(carriers, ends, reads, writes) {
+        Some(name) => name,
+        None => {
+            let placed = append_footprint(carriers, reads, writes);
+            ends.push(placed).unwrap();
+            ends.len() - 1
+        }
     }
 }
 
@@ -144,17 +161,16 @@ fn enters_before(event: Event, enters_after: usize) -> usize
     }
 }
 
-/// The footprints of a run's Enters, in order. An Enter takes 24 bytes, and 16 for each carrier: those that it reads beside its process,
-/// and all that it writes. An Enter of more than 16 carriers takes 24 bytes alone if the last one of more than 16 had just the same. So
-/// a process that waits for its many children, and asks again and again, takes 24 bytes each time. Where two of them ask by turns, each
-/// Enter takes the whole. The other events take nothing, since the history says their footprints: a Turn reads and writes its process,
-/// and an event of the disk reads and writes nothing.
+/// The footprints of a run's Enters, in order. An Enter takes 4 bytes, which name its footprint. A footprint takes 24 bytes, and 16 for
+/// each carrier: those that it reads beside its process, and all that it writes. One that is the same as one of the last 16 is not kept
+/// again. The other events take nothing, since the history says their footprints: a Turn reads and writes its process, and an event of
+/// the disk reads and writes nothing.
 pub struct Footprints {
-    /// Those of the Enters, one after the other: first those that it reads, then those that it writes.
+    /// Those of the footprints, one after the other: first those that it reads, then those that it writes.
     carriers: Vec<Carrier>,
     ends: Vec<Ends>,
-    /// Of the last Enter whose footprint is long. Before there is one, of no carriers.
-    long: Ends,
+    /// Of each Enter, which footprint is its own.
+    names: Vec<u32>,
 }
 
 impl Drop for Footprints {
@@ -162,24 +178,24 @@ impl Drop for Footprints {
         let Footprints {
             carriers: _carriers,
             ends: _ends,
-            long: _long,
+            names: _names,
         } = self;
     }
 }
 
 impl Model for Footprints {
-    ghost use Rattle.std.specs.Prelude.{List, length, ◌-◌, ◌∷◌, vec_len, vec_capacity};
-    ghost use Rattle.footprints.specs.Kept.{Kept, footprints_in, AreWithin};
+    ghost use Rattle.std.specs.Prelude.{List, length, ◌-◌, ◌^◌, min, vec_len, vec_capacity};
+    ghost use Rattle.footprints.specs.Kept.{Kept, AreKept, footprints_named, footprints_in};
 
     ghost Value = { Kept };
 
     ghost view = { λ f. record {
-      footprints = footprints_in f.carriers.items f.ends.items;
-      enter_room = vec_capacity f.ends - vec_len f.ends;
+      footprints = footprints_named (footprints_in f.carriers.items f.ends.items) f.names.items;
+      enter_room = min (vec_capacity f.names - vec_len f.names) (min (vec_capacity f.ends - vec_len f.ends) (2 ^ 32 - vec_len f.ends));
       carrier_room = vec_capacity f.carriers - vec_len f.carriers;
     } };
 
-    ghost invariant = { λ f. AreWithin (length f.carriers.items) (f.long ∷ f.ends.items) };
+    ghost invariant = { λ f. AreKept (length f.carriers.items) f.ends.items f.names.items };
 }
 
 impl Footprints {
@@ -190,15 +206,12 @@ impl Footprints {
         Footprints {
             carriers: Vec::new(alloc),
             ends: Vec::new(alloc),
-            long: Ends {
-                from: 0,
-                reads: 0,
-                writes: 0,
-            },
+            names: Vec::new(alloc),
         }
     }
 
-    /// Makes room for so many Enters more, with so many carriers. The footprints stay, whether it succeeds or not.
+    /// Makes room for so many Enters more, with so many carriers. It is refused too where there would be more than 2^32 footprints. Those
+    /// that are kept stay, whether it succeeds or not.
     pub fn reserve(&mut self, enters: usize, carriers: usize) -> Result<(), AllocError>
         ensures enters { OnOk result (enters ≤ self.new.enter_room) }
         ensures carriers { OnOk result (carriers ≤ self.new.carrier_room) }
@@ -207,8 +220,13 @@ impl Footprints {
         ensures enter_room { self.old.enter_room ≤ self.new.enter_room }
         ensures carrier_room { self.old.carrier_room ≤ self.new.carrier_room }
     {
+        self.names.reserve(enters)?;
         self.ends.reserve(enters)?;
-        self.carriers.reserve(carriers)
+        self.carriers.reserve(carriers)?;
+        if NAMES - self.ends.len() < enters {
+            return Err(AllocError);
+        }
+        Ok(())
     }
 
     /// Notes an Enter that reads these carriers beside its process, and writes these. Takes no memory: there has to be room.
@@ -219,16 +237,15 @@ impl Footprints {
         ensures enter_room { self.old.enter_room ≤ self.new.enter_room + 1 }
         ensures carrier_room { self.old.carrier_room ≤ self.new.carrier_room + (length reads.now + length writes.now) }
     {
-        let ends = place(&mut self.carriers, self.long, reads, writes);
-        self.long = last_long(self.long, ends);
-        self.ends.push(ends).unwrap();
+        let name = name(&mut self.carriers, &mut self.ends, reads, writes);
+        self.names.push(name as u32).unwrap();
     }
 
     /// How many Enters were noted.
     pub fn len(&self) -> usize
         ensures { result ≡ length self.now.footprints }
     {
-        self.ends.len()
+        self.names.len()
     }
 
     /// The carriers that an Enter reads beside its process. Enters are counted from 0.
@@ -236,7 +253,7 @@ impl Footprints {
         requires { enter < length self.now.footprints }
         ensures { result.now ≡ (get_or self.now.footprints enter no_footprint).reads }
     {
-        read_by(&self.carriers, &self.ends, enter)
+        read_by(&self.carriers, &self.ends, self.names[enter] as usize)
     }
 
     /// The carriers that an Enter writes. Enters are counted from 0.
@@ -244,7 +261,7 @@ impl Footprints {
         requires { enter < length self.now.footprints }
         ensures { result.now ≡ (get_or self.now.footprints enter no_footprint).writes }
     {
-        written_by(&self.carriers, &self.ends, enter)
+        written_by(&self.carriers, &self.ends, self.names[enter] as usize)
     }
 
     /// Whether an event, which comes after so many Enters, writes a carrier that is wanted.

@@ -1,36 +1,30 @@
--- One Enter more, whose carriers stand with those of the last long one, or last.
-use Rattle.std.proofs.Common.{arith, rules, ◌≡◌, ◌++◌, ◌∷◌, [], List, length, ap, subst, sym, ◌∙◌}
-use Rattle.footprints.specs.Kept.{Kept, footprint, footprints_in, AreWithin}
-use Rattle.footprints.specs.declared.footprints.Ends.{Ends}
-use Rattle.footprints.proofs.Placing.{kept_more, within_more}
+-- One Enter more, whose footprint has a name.
+use Rattle.std.proofs.Common.{rules, arith, ◌≡◌, ◌-◌, ◌^◌, ◌≤◌, ◌++◌, ◌∷◌, [], length, vec_len, vec_capacity, ap, subst, sym, ◌∙◌}
+use Rattle.std.specs.Prelude.{min}
+use Rattle.std.proofs.Math.Nat.{min-le_right}
+use Rattle.footprints.specs.Kept.{Kept, AreKept, footprint, footprints_in, footprints_named}
+use Rattle.footprints.proofs.Placing.{names_within, named_more}
 use Rattle.footprints.proofs.footprints.Footprints.note.Goals as goal
-use Rattle.footprints.proofs.footprints.Footprints.note.Goals.{After-unwrap}
-
-all_ends : (c : After-unwrap) → c.push.new.self.items ≡ c.self.inside.ends.items ++ c.place-ends.result ∷ []
-all_ends c = search rules
-
-pub place-ends-requires-clause-long : goal.place-ends-requires-clause-long
-place-ends-requires-clause-long c = c.self.invariant.0
-
-pub place-ends-requires-clause-room : goal.place-ends-requires-clause-room
-place-ends-requires-clause-room c =
-    let room = ap (λ (k : Kept). k.carrier_room) c.self.view_is in
-    omega (arith, room, c.requires.carriers, c.requires.enter)
-
-pub last_long-self-inside-requires : goal.last_long-self-inside-requires
-last_long-self-inside-requires c =
-    let within = c.place-ends.ensures.placed.within in
-    omega (arith, within.starts, within.reads)
 
 pub invariant_of-self : goal.invariant_of-self
 invariant_of-self c =
-    let at = (goal.at.invariant_of-self c).After-unwrap in
-    subst (λ (es : List Ends). AreWithin (length at.place-ends.new.carriers.items) (at.last_long-self-inside.result ∷ es)) (sym (all_ends at))
-    (within_more c.self.inside.ends.items c.self.inside.carriers.items _ c.self.inside.long at.place-ends.result at.last_long-self-inside.result _ c.self.invariant at.place-ends.ensures.placed at.last_long-self-inside.ensures.long at.last_long-self-inside.ensures.short)
+    let all : c.push.new.self.items ≡ c.self.inside.names.items ++ c.name-name.result ∷ [] = search rules in
+    let room = ap (λ (k : Kept). k.enter_room) c.self.view_is in
+    let had : vec_len c.self.inside.ends ≡ length c.self.inside.ends.items = search rules in
+    let has : vec_len c.name-name.new.ends ≡ length c.name-name.new.ends.items = search rules in
+    let many = vec_capacity c.self.inside.ends - vec_len c.self.inside.ends in
+    let left = 2 ^ 32 - vec_len c.self.inside.ends in
+    let few : length c.name-name.new.ends.items ≤ 2 ^ 32 =
+    omega (arith, room, c.requires.enter, min-le_right (vec_capacity c.self.inside.names - vec_len c.self.inside.names) (min many left), min-le_right many left, c.name-name.ensures.ends, had, has) in
+    subst (AreKept (length c.name-name.new.carriers.items) c.name-name.new.ends.items) (sym all) (record {
+      within = c.name-name.ensures.within;
+      named = names_within c.self.inside.names.items c.self.inside.carriers.items c.name-name.new.carriers.items c.self.inside.ends.items c.name-name.new.ends.items _ _ c.self.invariant.named c.name-name.ensures.named;
+      few = few;
+    })
 
 pub returns-clause-footprints : goal.returns-clause-footprints
 returns-clause-footprints c =
-    let at = (goal.at.returns-clause-footprints c).After-unwrap in
-    ap (λ (es : List Ends). footprints_in at.place-ends.new.carriers.items es) (all_ends at)
-    ∙ kept_more c.self.inside.ends.items c.self.inside.carriers.items _ at.place-ends.result _ c.self.invariant.1 at.place-ends.ensures.placed
+    let all : c.push.new.self.items ≡ c.self.inside.names.items ++ c.name-name.result ∷ [] = search rules in
+    ap (footprints_named (footprints_in c.name-name.new.carriers.items c.name-name.new.ends.items)) all
+    ∙ named_more c.self.inside.names.items c.self.inside.carriers.items c.self.inside.ends.items _ _ _ c.self.invariant.named c.name-name.ensures.named
     ∙ ap (λ (k : Kept). k.footprints ++ footprint c.args.reads.now c.args.writes.now ∷ []) c.self.view_is
