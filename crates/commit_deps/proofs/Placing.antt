@@ -1,6 +1,6 @@
 -- Where marks stand, and what stands there.
-use Rattle.std.proofs.Common.{◌≡◌, ℕ, suc, ◌+◌, ◌<◌, Bool, true, false, if◌then◌else◌, List, [], ◌∷◌, ◌++◌, length, Option, Some, None, max, refl, sym, ap, subst, ◌∙◌, arith, get_or}
-use Rattle.std.specs.Prelude.{slice_set}
+use Rattle.std.proofs.Common.{◌≡◌, ℕ, zero, suc, ◌<◌, Bool, true, false, if◌then◌else◌, List, [], ◌∷◌, ◌++◌, length, Option, Some, None, max, refl, sym, ap, subst, ◌∙◌, arith, get_or}
+use Rattle.std.specs.Prelude.{slice_set, slice_get}
 use Rattle.std.specs.Option.{option_map}
 use Rattle.std.specs.Map.{lookup}
 use Rattle.std.proofs.lemmas.Bool.{false≢true}
@@ -8,8 +8,8 @@ use Rattle.kernel_model.specs.declared.carrier.Carrier.{Carrier}
 use Rattle.kernel_model.specs.Entries.{is_same}
 use Rattle.commit_deps.specs.Kept.{Marked}
 use Rattle.commit_deps.specs.Keeps.{mark_at, noted}
-use Rattle.commit_deps.specs.Places.{place_at, SaysPlaces}
-use Rattle.kernel_model.proofs.Meets.{same_is}
+use Rattle.commit_deps.specs.Places.{place_at, SaysPlaces, AreDistinct}
+use Rattle.kernel_model.proofs.Meets.{same_is, same_self}
 use Rattle.commit_deps.proofs.Keeping.{cons-at}
 
 -- ---- the first mark is the carrier's, or a later one, or none
@@ -136,3 +136,45 @@ says-more eq old new marks x m place same says nowhere last more y =
     ∙ ap (λ (n : ℕ). if is_same x y then Some n else lookup (eq y) old) last
     ∙ ap (λ (o : Option ℕ). if is_same x y then Some (length marks) else o) (ap (λ (t : Carrier → Bool). lookup t old) test ∙ says y)
     ∙ sym (place-last x y m marks nowhere)
+
+-- ---- no carrier has two marks
+-- what stands at a place once a mark is changed stood there with a mark
+set-kept : (P : Type 0) (ks : List Marked) (i : ℕ) (v : Marked) (n place : ℕ) (k : Marked) → v ≡ get_or ks i v → slice_get (slice_set ks i (v.0, n)) place ≡ Some k
+    → ((m : Marked) → slice_get ks place ≡ Some m → m.0 ≡ k.0 → P) → P
+set-kept P [] i v n place k there is had = absurd (let no : ⊥ = cc in no)
+set-kept P (m ∷ ks) zero v n zero k there is had =
+    let now : (v.0, n) ≡ k = cc in had m refl (ap (λ (w : Marked). w.0) (sym there) ∙ ap (λ (w : Marked). w.0) now)
+set-kept P (m ∷ ks) zero v n (suc place) k there is had = had k is refl
+set-kept P (m ∷ ks) (suc i) v n zero k there is had = had k is refl
+set-kept P (m ∷ ks) (suc i) v n (suc place) k there is had = set-kept P ks i v n place k there is had
+
+-- also where one mark is another
+pub distinct-set : (x : Carrier) (m : ℕ) (ks : List Marked) (i : ℕ) (v : Marked) (n : ℕ) → AreDistinct ks → place_at x ks ≡ Some i → v ≡ get_or ks i v → n ≡ max v.1 m
+    → AreDistinct (slice_set ks i (v.0, n))
+distinct-set x m ks i v n distinct at there joined place k is =
+    let same : slice_set ks i (v.0, n) ≡ noted x m ks = noted-there x m ks i v n at there joined in
+    ap (place_at k.0) same ∙ places-stay x k.0 m ks i at
+    ∙ set-kept (place_at k.0 ks ≡ Some place) ks i v n place k there is (λ w had named. ap (λ (c : Carrier). place_at c ks) (sym named) ∙ distinct place w had)
+
+-- what stands at a place stood there, or is the last
+last-or : (P : Type 0) (ks : List Marked) (l : Marked) (place : ℕ) (k : Marked) → slice_get (ks ++ l ∷ []) place ≡ Some k
+    → (slice_get ks place ≡ Some k → P) → (place ≡ length ks → l ≡ k → P) → P
+last-or P [] l zero k is had last = let same : l ≡ k = cc in last refl same
+last-or P [] l (suc place) k is had last = absurd (let no : ⊥ = cc in no)
+last-or P (m ∷ ks) l zero k is had last = had is
+last-or P (m ∷ ks) l (suc place) k is had last = last-or P ks l place k is had (λ at same. last (ap suc at) same)
+
+-- also where one comes last
+pub distinct-more : (x : Carrier) (m : ℕ) (ks : List Marked) → AreDistinct ks → place_at x ks ≡ None → AreDistinct (ks ++ (x, m) ∷ [])
+distinct-more x m ks distinct nowhere place k is =
+    place-last x k.0 m ks nowhere
+    ∙ last-or ((if is_same x k.0 then Some (length ks) else place_at k.0 ks) ≡ Some place) ks (x, m) place k is
+    (λ had. before (is_same x k.0) refl had)
+    (λ at same.
+    ap (λ (b : Bool). if b then Some (length ks) else place_at k.0 ks) (ap (is_same x) (ap (λ (w : Marked). w.0) (sym same)) ∙ same_self x) ∙ ap Some (sym at))
+  where
+    before : (b : Bool) → is_same x k.0 ≡ b → slice_get ks place ≡ Some k → (if is_same x k.0 then Some (length ks) else place_at k.0 ks) ≡ Some place
+    before true e had =
+        let none : ◌≡◌ {A = Option ℕ} (Some place) None = sym (distinct place k had) ∙ ap (λ (c : Carrier). place_at c ks) (sym (same_is x k.0 e)) ∙ nowhere in
+        absurd (let no : ⊥ = cc in no)
+    before false e had = ap (λ (b : Bool). if b then Some (length ks) else place_at k.0 ks) e ∙ distinct place k had

@@ -15,6 +15,8 @@ use std::marker::Model;
 pub struct Dependencies {
     /// The carriers in the order in which they were first written, each with its mark.
     marks: Vec<(Carrier, Mark)>,
+    /// Where the process stands there that was noted last. An event reads and writes its process, so this one is looked for most.
+    recent: usize,
     /// Where each of them stands there.
     places: HashMap<Carrier, usize>,
 }
@@ -23,6 +25,7 @@ impl Drop for Dependencies {
     fn drop(self) {
         let Dependencies {
             marks: _marks,
+            recent: _,
             places: _places,
         } = self;
     }
@@ -32,13 +35,13 @@ impl Model for Dependencies {
     ghost use Rattle.std.specs.Prelude.{◌-◌, min, vec_capacity, vec_len};
     ghost use Rattle.std.specs.HashMap.{spare};
     ghost use Rattle.commit_deps.specs.Kept.{Kept};
-    ghost use Rattle.commit_deps.specs.Places.{SaysPlaces};
+    ghost use Rattle.commit_deps.specs.Places.{SaysPlaces, AreDistinct};
 
     ghost Value = { Kept };
 
     ghost view = { λ d. record { marks = d.marks.items; room = min (vec_capacity d.marks - vec_len d.marks) (spare d.places) } };
 
-    ghost invariant = { λ d. SaysPlaces d.places.entries d.marks.items };
+    ghost invariant = { λ d. SaysPlaces d.places.entries d.marks.items × AreDistinct d.marks.items };
 }
 
 /// The mark of an event's own change, by the change's number from 0.
@@ -49,6 +52,14 @@ fn own_mark(change: Option<u64>) -> Mark
     match change {
         Some(change) => Mark::of_change(change),
         None => Mark::none(),
+    }
+}
+
+/// Where the process stands that was noted last, once a carrier that stands at a place is noted.
+fn more_recent(carrier: Carrier, place: usize, recent: usize) -> usize {
+    match carrier {
+        Carrier::Proc(_) => place,
+        _ => recent,
     }
 }
 
@@ -63,15 +74,26 @@ impl Dependencies {
     {
         Dependencies {
             marks: Vec::new(alloc),
+            recent: 0,
             places: HashMap::new(alloc),
         }
+    }
+
+    /// As `place`, by the index.
+    fn indexed(&self, carrier: Carrier) -> Option<usize>
+        ensures { result ≡ place_at carrier self.now.marks }
+    {
+        self.places.get(&carrier).copied()
     }
 
     /// Where a carrier stands among those that some event wrote.
     fn place(&self, carrier: Carrier) -> Option<usize>
         ensures { result ≡ place_at carrier self.now.marks }
     {
-        self.places.get(&carrier).copied()
+        match self.marks.get(self.recent) {
+            Some((noted, _)) if *noted == carrier => Some(self.recent),
+            _ => self.indexed(carrier),
+        }
     }
 
     fn kept_mark(&self, carrier: Carrier) -> Option<Mark>
@@ -140,6 +162,7 @@ impl Dependencies {
             Some(place) => {
                 let kept = &mut self.marks[place].1;
                 *kept = kept.joined(mark);
+                self.recent = more_recent(carrier, place, self.recent);
             }
             None => {
                 let placed: Result<_, _> = self.places.insert(carrier, self.marks.len());

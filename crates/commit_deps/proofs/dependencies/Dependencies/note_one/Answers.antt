@@ -1,16 +1,15 @@
 -- The mark is joined at its carrier, or comes last.
-use Rattle.std.proofs.Common.{rules, arith, ◌≡◌, ◌∙◌, [], ◌∷◌, length, Some, None, sym, ap, if◌then◌else◌}
+use Rattle.std.proofs.Common.{rules, arith, ◌≡◌, ◌∙◌, [], ◌∷◌, length, Some, None, sym, ap, subst, if◌then◌else◌}
 use Rattle.std.specs.Vec.{vec_len}
 use Rattle.std.specs.Map.{lookup}
-use Rattle.std.specs.HashMap.{spare}
 use Rattle.kernel_model.specs.declared.carrier.Carrier.{Carrier}
 use Rattle.kernel_model.specs.contracts.carrier.CarrierPartialEq.TheImpl as carrier
 use Rattle.commit_deps.specs.Kept.{Kept}
 use Rattle.commit_deps.specs.Keeps.{mark_at, noted, unwritten_count}
-use Rattle.commit_deps.specs.Places.{place_at}
+use Rattle.commit_deps.specs.Places.{place_at, AreDistinct}
 use Rattle.commit_deps.proofs.Keeping.{absent-unwritten}
 use Rattle.kernel_model.proofs.Meets.{same-eq}
-use Rattle.commit_deps.proofs.Placing.{place-within, noted-there, places-stay, mark-nowhere, noted-last, says-more}
+use Rattle.commit_deps.proofs.Placing.{place-within, noted-there, places-stay, mark-nowhere, noted-last, says-more, distinct-set, distinct-more}
 use Rattle.commit_deps.proofs.dependencies.Dependencies.note_one.Goals as goal
 use Rattle.commit_deps.proofs.dependencies.Dependencies.note_one.Goals.{In-None, In-Some}
 
@@ -35,11 +34,13 @@ index_mut-requires c =
     omega (arith, within, size)
 
 pub invariant_of-self : goal.invariant_of-self
-invariant_of-self c x =
-    let at = there (goal.at.invariant_of-self c).In-Some in
-    c.self.invariant x
-    ∙ sym (ap (place_at x) (noted-there c.args.carrier c.args.mark c.self.inside.marks.items c.in-Some.place c.index_mut.result.now c.joined.result at c.index_mut.ensures.value c.joined.ensures)
-    ∙ places-stay c.args.carrier x c.args.mark c.self.inside.marks.items c.in-Some.place at)
+invariant_of-self c =
+    let at = there (goal.at.invariant_of-self c).In-Some in (
+      (λ x. c.self.invariant.0 x
+          ∙ sym (ap (place_at x) (noted-there c.args.carrier c.args.mark c.self.inside.marks.items c.in-Some.place c.index_mut.result.now c.joined.result at c.index_mut.ensures.value c.joined.ensures)
+          ∙ places-stay c.args.carrier x c.args.mark c.self.inside.marks.items c.in-Some.place at)),
+      distinct-set c.args.carrier c.args.mark c.self.inside.marks.items c.in-Some.place c.index_mut.result.now c.joined.result c.self.invariant.1 at c.index_mut.ensures.value c.joined.ensures,
+    )
 
 pub returns-in-Some-clause-marks : goal.returns-in-Some-clause-marks
 returns-in-Some-clause-marks c =
@@ -60,13 +61,16 @@ push_reserved-requires c =
     omega (arith, one, c.requires, room)
 
 pub invariant_of-self-in-None : goal.invariant_of-self-in-None
-invariant_of-self-in-None c x =
+invariant_of-self-in-None c =
     let more : (y : Carrier) → lookup (carrier.ghosts.eq y) c.insert-placed.new.self.entries
     ≡ (if carrier.ghosts.eq c.args.carrier y then Some c.len.result else lookup (carrier.ghosts.eq y) c.self.inside.places.entries) = search rules in
     let last : c.len.result ≡ length c.self.inside.marks.items = search rules in
-    says-more carrier.ghosts.eq c.self.inside.places.entries c.insert-placed.new.self.entries c.self.inside.marks.items c.args.carrier c.args.mark c.len.result same-eq
-    c.self.invariant (nowhere (goal.at.invariant_of-self-in-None c).In-None) last more x
-    ∙ ap (place_at x) (sym c.push_reserved.ensures.items)
+    let none = nowhere (goal.at.invariant_of-self-in-None c).In-None in (
+      (λ x. says-more carrier.ghosts.eq c.self.inside.places.entries c.insert-placed.new.self.entries c.self.inside.marks.items c.args.carrier c.args.mark c.len.result same-eq
+          c.self.invariant.0 none last more x
+          ∙ ap (place_at x) (sym c.push_reserved.ensures.items)),
+      subst AreDistinct (sym c.push_reserved.ensures.items) (distinct-more c.args.carrier c.args.mark c.self.inside.marks.items c.self.invariant.1 none),
+    )
 
 pub returns-in-None-clause-marks : goal.returns-in-None-clause-marks
 returns-in-None-clause-marks c =
