@@ -1,4 +1,5 @@
 -- The proofs.
 pub mod Prefixes
+pub mod Runs
 pub mod Traces
 pub mod Zipped

@@ -1,58 +1,61 @@
--- Prefixes of marks that are counted on from where they were counted before.
-use Rattle.std.proofs.Common.{◌≡◌, ℕ, zero, suc, ◌+◌, ◌≤◌, Bool, true, false, if◌then◌else◌, List, [], ◌∷◌, ◌++◌, length, drop, nat_le, refl, sym, subst, arith}
+-- Runs that pass, counted on from where they were counted before.
+use Rattle.std.proofs.Common.{◌≡◌, ℕ, zero, suc, ◌+◌, ◌≤◌, Bool, true, false, if◌then◌else◌, List, [], ◌∷◌, ◌++◌, length, drop, nat_le, refl, arith}
 use Rattle.std.proofs.lemmas.Bool.{leb-true, le-leb, false≢true}
-use Rattle.held_output.specs.Withheld.{prefix_of}
+use Rattle.held_output.specs.declared.marks.Run.{Run}
+use Rattle.held_output.specs.Marks.{runs_passed, with_run, ends_with}
 
--- where more changes are committed, the prefix is at least as long
-pub prefix-grows : (c d : ℕ) → c ≤ d → (marks : List ℕ) → prefix_of c marks ≤ prefix_of d marks
-prefix-grows c d more [] = omega arith
-prefix-grows c d more (m ∷ ms) = by (nat_le m c) (nat_le m d) (λ passes. let below : m ≤ c = leb-true m c passes in le-leb m d (omega (arith, below, more))) (prefix-grows c d more ms)
+-- where more changes are committed, at least as many pass
+pub passed-grows : (c d : ℕ) → c ≤ d → (rs : List Run) → runs_passed c rs ≤ runs_passed d rs
+passed-grows c d more [] = omega arith
+passed-grows c d more (r ∷ rs) = by (nat_le r.mark c) (nat_le r.mark d) (λ passes. let below : r.mark ≤ c = leb-true r.mark c passes in le-leb r.mark d (omega (arith, below, more))) (passed-grows c d more rs)
   where
-    by : (a b : Bool) → (a ≡ true → b ≡ true) → prefix_of c ms ≤ prefix_of d ms → (if a then 1 + prefix_of c ms else 0) ≤ (if b then 1 + prefix_of d ms else 0)
+    by : (a b : Bool) → (a ≡ true → b ≡ true) → runs_passed c rs ≤ runs_passed d rs → (if a then 1 + runs_passed c rs else 0) ≤ (if b then 1 + runs_passed d rs else 0)
     by true true f rest = omega arith
     by true false f rest = absurd (false≢true (f refl))
     by false b f rest = omega arith
 
--- further marks leave the prefix as long as it was, or make it longer
-pub prefix-append : (c : ℕ) (marks more : List ℕ) → prefix_of c marks ≤ prefix_of c (marks ++ more)
-prefix-append c [] more = omega arith
-prefix-append c (m ∷ ms) more = by (nat_le m c) (prefix-append c ms more)
+-- further runs leave it so
+passed-append : (c : ℕ) (rs more : List Run) → runs_passed c rs ≤ runs_passed c (rs ++ more)
+passed-append c [] more = omega arith
+passed-append c (r ∷ rs) more = by (nat_le r.mark c) (passed-append c rs more)
   where
-    by : (a : Bool) → prefix_of c ms ≤ prefix_of c (ms ++ more) → (if a then 1 + prefix_of c ms else 0) ≤ (if a then 1 + prefix_of c (ms ++ more) else 0)
+    by : (a : Bool) → runs_passed c rs ≤ runs_passed c (rs ++ more) → (if a then 1 + runs_passed c rs else 0) ≤ (if a then 1 + runs_passed c (rs ++ more) else 0)
     by true rest = omega arith
     by false rest = omega arith
 
--- as many pass as before
-pub prefix-more : (c count : ℕ) (marks more marks' : List ℕ) → count ≤ prefix_of c marks → marks' ≡ marks ++ more → count ≤ prefix_of c marks'
-prefix-more c count marks more marks' h longer =
-    subst (λ (ms : List ℕ). count ≤ prefix_of c ms) (sym longer) (omega (arith, h, prefix-append c marks more))
-
--- where the first k pass, what comes after them has the rest of the prefix
-pub prefix-drop : (c k : ℕ) (marks : List ℕ) → k ≤ prefix_of c marks → k + prefix_of c (drop k marks) ≡ prefix_of c marks
-prefix-drop c zero marks h = omega arith
-prefix-drop c (suc k) [] h = absurd (omega (arith, h))
-prefix-drop c (suc k) (m ∷ ms) h = by (nat_le m c) h (prefix-drop c k ms)
+pub passed-with : (c start mark : ℕ) (rs : List Run) → runs_passed c rs ≤ runs_passed c (with_run start mark rs)
+passed-with c start mark rs = by (ends_with mark rs)
   where
-    by : (a : Bool) → suc k ≤ (if a then 1 + prefix_of c ms else 0) → (k ≤ prefix_of c ms → k + prefix_of c (drop k ms) ≡ prefix_of c ms)
-        → suc k + prefix_of c (drop k ms) ≡ (if a then 1 + prefix_of c ms else 0)
-    by true g rest = let more : k + prefix_of c (drop k ms) ≡ prefix_of c ms = rest (omega (arith, g)) in omega (arith, more)
+    by : (b : Bool) → runs_passed c rs ≤ runs_passed c (if b then rs else rs ++ record { start = start; mark = mark } ∷ [])
+    by true = omega arith
+    by false = passed-append c rs (record { start = start; mark = mark } ∷ [])
+
+-- where the first k pass, of those after them the rest pass
+pub passed-drop : (c k : ℕ) (rs : List Run) → k ≤ runs_passed c rs → k + runs_passed c (drop k rs) ≡ runs_passed c rs
+passed-drop c zero rs h = omega arith
+passed-drop c (suc k) [] h = absurd (omega (arith, h))
+passed-drop c (suc k) (r ∷ rs) h = by (nat_le r.mark c) h (passed-drop c k rs)
+  where
+    by : (a : Bool) → suc k ≤ (if a then 1 + runs_passed c rs else 0) → (k ≤ runs_passed c rs → k + runs_passed c (drop k rs) ≡ runs_passed c rs)
+        → suc k + runs_passed c (drop k rs) ≡ (if a then 1 + runs_passed c rs else 0)
+    by true g rest = let more : k + runs_passed c (drop k rs) ≡ runs_passed c rs = rest (omega (arith, g)) in omega (arith, more)
     by false g rest = absurd (omega (arith, g))
 
 -- those that are known to pass do
-pub known-pass : (counted before committed known : ℕ) (marks : List ℕ) → counted ≤ prefix_of before marks
-    → known ≡ (if nat_le before committed then counted else 0) → known ≤ prefix_of committed marks
-known-pass counted before committed known marks h is = elim (nat_le before committed) as (λ (b : Bool). nat_le before committed ≡ b
-    → known ≡ (if b then counted else 0) → known ≤ prefix_of committed marks) [
-      | true ↦ λ e same. (let more : before ≤ committed = leb-true before committed e in omega (arith, h, same, prefix-grows before committed more marks))
+pub known-pass : (counted before committed known : ℕ) (rs : List Run) → counted ≤ runs_passed before rs
+    → known ≡ (if nat_le before committed then counted else 0) → known ≤ runs_passed committed rs
+known-pass counted before committed known rs h is = elim (nat_le before committed) as (λ (b : Bool). nat_le before committed ≡ b
+    → known ≡ (if b then counted else 0) → known ≤ runs_passed committed rs) [
+      | true ↦ λ e same. (let more : before ≤ committed = leb-true before committed e in omega (arith, h, same, passed-grows before committed more rs))
       | false ↦ λ e same. omega (arith, same)
     ] refl is
 
--- a prefix is no longer than the list
-pub prefix-within : (c : ℕ) (marks : List ℕ) → prefix_of c marks ≤ length marks
-prefix-within c [] = omega arith
-prefix-within c (m ∷ ms) =
-    let rest : prefix_of c ms ≤ length ms = prefix-within c ms in
-    elim (nat_le m c) as (λ b. (if b then 1 + prefix_of c ms else 0) ≤ suc (length ms)) [
+-- no more pass than there are
+pub passed-within : (c : ℕ) (rs : List Run) → runs_passed c rs ≤ length rs
+passed-within c [] = omega arith
+passed-within c (r ∷ rs) =
+    let rest : runs_passed c rs ≤ length rs = passed-within c rs in
+    elim (nat_le r.mark c) as (λ b. (if b then 1 + runs_passed c rs else 0) ≤ suc (length rs)) [
       | true ↦ omega arith
       | false ↦ omega arith
     ]

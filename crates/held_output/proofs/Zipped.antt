@@ -1,5 +1,5 @@
 -- Items and marks that stand in two lists of one length.
-use Rattle.std.proofs.Common.{◌≡◌, ℕ, suc, ◌+◌, Bool, true, false, if◌then◌else◌, List, [], ◌∷◌, ◌++◌, length, take, replicate, nat_le, refl, ap, subst, arith}
+use Rattle.std.proofs.Common.{◌≡◌, ℕ, suc, ◌+◌, ◌≤◌, Bool, true, false, if◌then◌else◌, List, [], ◌∷◌, ◌++◌, length, take, replicate, nat_le, refl, ap, subst, arith}
 use Rattle.kernel_model.specs.Shown.{prefix}
 use Rattle.held_output.specs.Withheld.{Held, Withheld, held_with, all_held, whats, prefix_of}
 
@@ -7,6 +7,16 @@ pub length-with : {A : Type 0} (xs : List A) (ms : List ℕ) → length ms ≡ l
 length-with [] ms e = refl
 length-with (x ∷ xs) [] e = cc
 length-with (x ∷ xs) (m ∷ ms) e = ap (λ n. suc n) (length-with xs ms (omega (arith, e)))
+
+-- a prefix is no longer than the list
+pub prefix-within : (c : ℕ) (ms : List ℕ) → prefix_of c ms ≤ length ms
+prefix-within c [] = omega arith
+prefix-within c (m ∷ ms) =
+    let rest : prefix_of c ms ≤ length ms = prefix-within c ms in
+    elim (nat_le m c) as (λ b. (if b then 1 + prefix_of c ms else 0) ≤ suc (length ms)) [
+      | true ↦ omega arith
+      | false ↦ omega arith
+    ]
 
 -- without their marks the items are those that stand there
 pub whats-with : {A : Type 0} (xs : List A) (ms : List ℕ) → length ms ≡ length xs → whats (held_with xs ms) ≡ xs

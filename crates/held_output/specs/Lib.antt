@@ -1,3 +1,4 @@
 -- The definitions.
+pub mod Marks
 pub mod Traces
 pub mod Withheld

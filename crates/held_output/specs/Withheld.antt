@@ -1,5 +1,5 @@
 -- Items that are held back until they may be seen.
-use Rattle.std.specs.Prelude.{◌≡◌, ℕ, nat_le, nat_lt, Bool, List, [], ◌∷◌, map, length, refl}
+use Rattle.std.specs.Prelude.{◌≡◌, ℕ, zero, suc, nat_le, nat_lt, Bool, List, [], ◌∷◌, map, length, refl}
 use Rattle.std.specs.List.{prefix_len}
 use Rattle.std.specs.Coded.{Coded, code_by, coded×, coded_ℕ, coded_list}
 use Rattle.kernel_model.specs.Shown.{prefix}
@@ -31,6 +31,11 @@ abbrev pub held_with : {A : Type 0} → List A → List ℕ → List (Held A)
 held_with [] marks = []
 held_with (x ∷ xs) [] = []
 held_with (x ∷ xs) (m ∷ ms) = record { what = x; mark = m } ∷ held_with xs ms
+
+-- for how many items there is room, where so many more could stand there, and so many runs of equal marks
+abbrev pub room_for : ℕ → ℕ → ℕ
+room_for items zero = 0
+room_for items (suc runs) = items
 
 -- these items, all with this mark
 abbrev pub all_held : {A : Type 0} → ℕ → List A → List (Held A)

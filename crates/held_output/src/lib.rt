@@ -2,7 +2,7 @@
 //! each with the mark of its event, of which the longest committed prefix is released. `Trace` is what one process is told.
 #![tactic(auto)]
 
-mod prefix;
+mod marks;
 mod replies;
 mod trace;
 mod withheld;

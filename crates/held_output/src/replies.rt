@@ -36,8 +36,6 @@ pub fn copy_of(alloc: Global, replies: &Withheld<Reply>) -> Result<Withheld<Repl
 {
     Ok(Withheld {
         items: copies_of(alloc, &replies.items)?,
-        marks: replies.marks.to_vec(alloc)?,
-        count: replies.count,
-        committed: replies.committed,
+        marks: replies.marks.try_clone(alloc)?,
     })
 }

@@ -1,8 +1,8 @@
 //! Items that are held back until they may be seen.
-ghost use Rattle.std.specs.Prelude.{◌≡◌, ◌+◌, ◌≤◌, ◌++◌, ◌∷◌, [], OnOk, length, replicate, vec_len, vec_capacity};
+ghost use Rattle.std.specs.Prelude.{◌≡◌, ◌≤◌, ◌++◌, ◌∷◌, [], OnOk, length};
 ghost use Rattle.held_output.specs.Withheld.{released, holds_back, whats, all_held, nothing, IsSame};
 
-use crate::prefix::prefix_from;
+use crate::marks::Marks;
 use commit_deps::Mark;
 use std::alloc::{AllocError, Global};
 use std::marker::Model;
@@ -11,11 +11,7 @@ use std::marker::Model;
 /// changes alone.
 pub struct Withheld<T> {
     pub(crate) items: Vec<T>,
-    pub(crate) marks: Vec<Mark>,
-    /// How many are released.
-    pub(crate) count: usize,
-    /// How many changes are committed.
-    pub(crate) committed: u64,
+    pub(crate) marks: Marks,
 }
 
 impl<T: Drop> Drop for Withheld<T> {
@@ -23,36 +19,25 @@ impl<T: Drop> Drop for Withheld<T> {
         let Withheld {
             items: _items,
             marks: _marks,
-            count: _,
-            committed: _,
         } = self;
     }
 }
 
 impl<T> Model for Withheld<T> {
-    ghost use Rattle.std.specs.Prelude.{◌≡◌, ◌-◌, min, vec_capacity, vec_len};
-    ghost use Rattle.held_output.specs.Withheld.{Withheld as Items, withheld_code, held_with, prefix_of};
+    ghost use Rattle.std.specs.Prelude.{◌≡◌, ◌-◌, length, vec_capacity, vec_len};
+    ghost use Rattle.held_output.specs.Withheld.{Withheld as Items, withheld_code, held_with, room_for};
 
     ghost Value = { Items T };
 
     ghost coded = { withheld_code T.code };
 
     ghost view = { λ w. record {
-      items = held_with w.items.items w.marks.items;
-      committed = w.committed;
-      room = min (vec_capacity w.items - vec_len w.items) (vec_capacity w.marks - vec_len w.marks);
+      items = held_with w.items.items w.marks.marks;
+      committed = w.marks.committed;
+      room = room_for (vec_capacity w.items - vec_len w.items) w.marks.room;
     } };
 
-    ghost invariant = { λ w. (vec_len w.marks ≡ vec_len w.items) × (w.count ≡ prefix_of w.committed w.marks.items) };
-}
-
-fn push_times(marks: &mut Vec<Mark>, mark: Mark, times: usize)
-    requires { vec_len marks.old + times ≤ vec_capacity marks.old }
-    ensures { marks.new.items ≡ marks.old.items ++ replicate times mark }
-{
-    for _done in 0..times {
-        marks.push(mark).unwrap();
-    }
+    ghost invariant = { λ w. length w.marks.marks ≡ length w.items.items };
 }
 
 impl<T> Withheld<T> {
@@ -62,9 +47,7 @@ impl<T> Withheld<T> {
     {
         Withheld {
             items: Vec::new(alloc),
-            marks: Vec::new(alloc),
-            count: 0,
-            committed: 0,
+            marks: Marks::new(alloc),
         }
     }
 
@@ -72,7 +55,7 @@ impl<T> Withheld<T> {
     pub fn released(&self) -> &[T]
         ensures { result.now ≡ released self.now }
     {
-        &self.items[..self.count]
+        &self.items[..self.marks.count()]
     }
 
     /// All items, released or held back. Takes no memory.
@@ -86,14 +69,14 @@ impl<T> Withheld<T> {
     pub fn holds_back(&self) -> bool
         ensures { result ≡ holds_back self.now }
     {
-        self.count < self.items.len()
+        self.marks.count() < self.items.len()
     }
 
     /// How many changes are committed, as `advance` said last; 0 before.
     pub fn committed(&self) -> u64
         ensures { result ≡ self.now.committed }
     {
-        self.committed
+        self.marks.committed()
     }
 
     /// Makes room for so many items more. Where memory runs out the items stay as they were.
@@ -102,7 +85,7 @@ impl<T> Withheld<T> {
         ensures same { IsSame self.old self.new }
     {
         self.items.reserve(count)?;
-        self.marks.reserve(count)
+        self.marks.reserve()
     }
 
     /// Appends an item of an event of this mark. Takes no memory.
@@ -112,8 +95,7 @@ impl<T> Withheld<T> {
         ensures committed { self.new.committed ≡ self.old.committed }
     {
         self.items.push(item).unwrap();
-        self.marks.push(mark).unwrap();
-        self.count = prefix_from(&self.marks, self.count, self.committed, self.committed);
+        self.marks.append(mark, 1);
     }
 
     /// Says how many changes are committed now: what rests on these alone is released. Looks at the items that were held back
@@ -122,8 +104,7 @@ impl<T> Withheld<T> {
         ensures items { self.new.items ≡ self.old.items }
         ensures committed { self.new.committed ≡ committed }
     {
-        self.count = prefix_from(&self.marks, self.count, self.committed, committed);
-        self.committed = committed;
+        self.marks.advance(committed);
     }
 }
 
@@ -134,8 +115,9 @@ impl<T: Copy> Withheld<T> {
         ensures items { self.new.items ≡ self.old.items ++ all_held mark items.now }
         ensures committed { self.new.committed ≡ self.old.committed }
     {
-        self.items.extend_from_slice(items).unwrap();
-        push_times(&mut self.marks, mark, items.len());
-        self.count = prefix_from(&self.marks, self.count, self.committed, self.committed);
+        if !items.is_empty() {
+            self.items.extend_from_slice(items).unwrap();
+            self.marks.append(mark, items.len());
+        }
     }
 }
