@@ -28,7 +28,7 @@ use Rattle.assembler.specs.declared.listing.ListingRow.{ListingRow}
 use Rattle.asm_statements.proofs.Stepping.{and_then-ok}
 use Rattle.assembler.proofs.Profiles.{text_length}
 use Rattle.asm_statements.proofs.Registers.{statement-known}
-use Rattle.assembler.proofs.StatementBytes.{text_bytes, IsPut, IsHolding, statement-holding}
+use Rattle.assembler.proofs.StatementBytes.{text_bytes, bytes-append, IsHolding, statement-holding}
 use Rattle.assembler.proofs.LabelPlaces.{all-stay, label-found}
 use Rattle.assembler.proofs.Sizes.{IsMeasured, IsPlaced, placed-is, IsFilled, filled-is, same_split, same_statement, same_position, same_filling, measured-filled, same_contents}
 use Rattle.assembler.proofs.Assemblies.{assembly_from, assembly_after, made_of, contents_shown, same_assembled, sized}
@@ -59,7 +59,8 @@ record IsStep (scope : Scope) (f : Filling) (p : Piece) (g : Filling) : Type 0 w
   section : p.in_data ≡ f.position.in_data
   read : IsRead scope.source p
   holds : HoldsBytes scope p.line (address_of scope.data_base (spot_of f.position)) p.statement p.bytes
-  put : IsPut p.in_data p.bytes f.contents g.contents
+  text : text_bytes g.contents ≡ text_bytes f.contents ++ (if p.in_data then [] else p.bytes)
+  data_bytes : g.contents.bytes ≡ f.contents.bytes ++ (if p.in_data then p.bytes else [])
   next_section : g.position.in_data ≡ section_after p.in_data p.statement
   filling : filled scope p.line f ≡ Ok g
 
@@ -81,8 +82,8 @@ line-piece scope line l m f g at is js =
     let space : space_checked scope.source line f.position.in_data second.made ≡ Ok tt =
     subst (λ (p : Position). space_checked scope.source line p.in_data second.made ≡ Ok tt) at
     (subst (λ (s : Statement). space_checked scope.source line l.position.in_data s ≡ Ok tt) made first.space) in
-    let held : IsHolding scope line f.position second.made f.contents g.contents =
-    statement-holding scope line f.position second.made f.contents g.contents (statement-known scope.source f.position.in_data line.end second.split.1 second.made second.body) space second.contents in
+    let held : IsHolding scope line f.position second.made second.more =
+    statement-holding scope line f.position second.made second.more (statement-known scope.source f.position.in_data line.end second.split.1 second.made second.body) space second.comes in
     record {
       piece = record { line = line; in_data = f.position.in_data; label = second.split.0; statement = second.made; bytes = held.bytes };
       same = refl;
@@ -90,7 +91,8 @@ line-piece scope line l m f g at is js =
         section = refl;
         read = record { rest = second.split.1; prefix = second.prefix; body = second.body };
         holds = held.holds;
-        put = held.put;
+        text = ap (λ (x : Contents). text_bytes x) (sym second.contents) ∙ bytes-append f.contents.cells second.more.cells ∙ ap (λ (l : List ℕ). text_bytes f.contents ++ l) held.text;
+        data_bytes = ap (λ (x : Contents). x.bytes) (sym second.contents) ∙ ap (λ (l : List ℕ). f.contents.bytes ++ l) held.data_bytes;
         next_section = sym (ap (λ (p : Position). p.in_data) second.position) ∙ section-after f.position second.made line.tokens;
         filling = js;
       };
@@ -131,13 +133,13 @@ module _ (scope : Scope) where
   steps-text f [] g steps = ap (λ (x : Filling). text_bytes x.contents) (sym steps) ∙ sym (append-nil (text_bytes f.contents))
   steps-text f (p ∷ ps) g steps =
       let step : IsStep scope f p steps.0 = steps.1 in
-      steps-text steps.0 ps g steps.2 ∙ ap (λ (l : List ℕ). l ++ text_of ps) step.put.text ∙ append_assoc (text_bytes f.contents) (if p.in_data then [] else p.bytes) (text_of ps)
+      steps-text steps.0 ps g steps.2 ∙ ap (λ (l : List ℕ). l ++ text_of ps) step.text ∙ append_assoc (text_bytes f.contents) (if p.in_data then [] else p.bytes) (text_of ps)
 
   steps-data : (f : Filling) (ps : List Piece) (g : Filling) → Leads (IsStep scope) f ps g → g.contents.bytes ≡ f.contents.bytes ++ data_of ps
   steps-data f [] g steps = ap (λ (x : Filling). x.contents.bytes) (sym steps) ∙ sym (append-nil f.contents.bytes)
   steps-data f (p ∷ ps) g steps =
       let step : IsStep scope f p steps.0 = steps.1 in
-      steps-data steps.0 ps g steps.2 ∙ ap (λ (l : List ℕ). l ++ data_of ps) step.put.data_bytes ∙ append_assoc f.contents.bytes (if p.in_data then p.bytes else []) (data_of ps)
+      steps-data steps.0 ps g steps.2 ∙ ap (λ (l : List ℕ). l ++ data_of ps) step.data_bytes ∙ append_assoc f.contents.bytes (if p.in_data then p.bytes else []) (data_of ps)
 
   steps-measured : (f : Filling) (ps : List Piece) (g : Filling) → IsMeasured f.position f.contents → Leads (IsStep scope) f ps g → IsMeasured g.position g.contents
   steps-measured f [] g m steps = subst (λ (x : Filling). IsMeasured x.position x.contents) steps m

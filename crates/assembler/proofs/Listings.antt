@@ -1,10 +1,10 @@
 -- The instructions of a source are listed.
-use Rattle.std.proofs.Common.{ℕ, ℤ, pos, suc, ◌≡◌, ◌+◌, ◌*◌, ◌/◌, ◌<◌, ◌≤◌, Bool, true, false, List, [], ◌∷◌, ◌++◌, length, replicate, Result, Ok, Option, Some, None, refl, sym, ap, ◌∙◌, subst, arith, append_assoc, length-append}
+use Rattle.std.proofs.Common.{ℕ, ℤ, pos, suc, ◌≡◌, ◌+◌, ◌*◌, ◌<◌, ◌≤◌, false, List, [], ◌∷◌, ◌++◌, length, Ok, Option, Some, None, refl, sym, ap, ◌∙◌, subst, arith, append_assoc, length-append}
 use Rattle.std.specs.Prelude.{All}
 use Rattle.std.specs.Option.{ok_or}
 use Rattle.std.proofs.lemmas.Bool.Decides.{nat_tests}
 use Rattle.std.proofs.lemmas.List.{append-nil}
-use Rattle.std.proofs.lemmas.List.Elements.{All-nil, All-cons, All-head, All-tail, All-append, All-replicate, All-weaker}
+use Rattle.std.proofs.lemmas.List.Elements.{All-nil, All-cons, All-head, All-tail, All-append, All-weaker}
 use Rattle.machine_model.specs.Images.{Program}
 use Rattle.asm_text.specs.Tokens.{Leads}
 use Rattle.asm_text.specs.Text.{LineStart, source_start, IsNextLine, IsText}
@@ -12,14 +12,12 @@ use Rattle.asm_text.specs.declared.token.Token.{Token}
 use Rattle.asm_text.specs.declared.token.Line.{Line}
 use Rattle.asm_statements.specs.Steps.{and_then}
 use Rattle.asm_statements.specs.Statements.{statement_read}
-use Rattle.asm_statements.specs.Encoding.{word_of}
-use Rattle.asm_statements.specs.Expansion.{expansion_of, modulo_word}
+use Rattle.asm_statements.specs.Expansion.{expansion_of}
 use Rattle.assembler.specs.Faults.{at_line}
-use Rattle.assembler.specs.Layout.{counted, start_layout, placed, all_placed, numbers_in, string_in, space_bytes, spot_of}
-use Rattle.assembler.specs.Filling.{Contents, Filling, Scope, start_filling, put_word, put_numbers, put_bytes, put_space, put_expansion, address_of, distance_of, instruction_of, instruction_filled, bytes_filled, statement_filled, filled, all_filled, contents_filled}
+use Rattle.assembler.specs.Layout.{counted, start_layout, placed, all_placed}
+use Rattle.assembler.specs.Filling.{Contents, Filling, Scope, start_filling, in_words, words_of_expansion, distance_of, instruction_held, held, filled, all_filled, contents_filled, instructions_of}
 use Rattle.assembler.specs.Assembly.{pages, scope_of, entry_of, Assembled, assembled, assembly, rows_from}
-use Rattle.assembler.specs.Instructions.{IsInstruction, instructions_of, AreInstructions, IsListedInstruction, ListsInstructions}
-use Rattle.assembler.specs.declared.fault.AsmFault.{AsmFault}
+use Rattle.assembler.specs.Instructions.{IsInstruction, AreInstructions, IsListedInstruction, ListsInstructions}
 use Rattle.assembler.specs.declared.fault.Cause.TheVariants.{Range}
 use Rattle.assembler.specs.declared.layout.Position.{Position}
 use Rattle.assembler.specs.declared.layout.Layout.{Layout}
@@ -37,9 +35,10 @@ use Rattle.assembler.proofs.Stepping.{at_line-ok}
 use Rattle.asm_statements.proofs.Registers.{HasRegisters, statement-known}
 use Rattle.asm_statements.proofs.Expansions.{AreMeant, expansion-meant}
 use Rattle.assembler.proofs.Sizes.{IsMeasured, IsFilled, filled-is, same_split, same_statement, same_position, same_filling, same_layout, measured-all, same_contents}
+use Rattle.assembler.proofs.WordSizes.{IsCell, held-cells}
 use Rattle.assembler.proofs.Assemblies.{assembly_from, assembly_after, made_of, contents_shown, same_assembled, sized}
 
--- ---- what a line adds to text, it adds after what is there, with its own number
+-- ---- what statements come to in text has the numbers of their lines
 
 -- a cell is of a line from one number up to another
 abbrev IsOf : ℕ → ℕ → Cell → Type 0
@@ -68,61 +67,15 @@ wider low high bottom top c d a b g = record {
   lines = All-weaker (IsOf low high) (IsOf bottom top) (λ (x : Cell) is. (omega (arith, is.0), omega (arith, is.1))) g.more g.lines;
 }
 
-grows-word : (in_data : Bool) (line word : ℕ) (c : Contents) → Grows line (line + 1) c (put_word in_data line word c)
-grows-word true line word c = grows-none line (line + 1) c _ refl
-grows-word false line word c =
-    let cell : Cell = record { word = word; line = line } in
-    record { more = cell ∷ []; cells = refl; lines = All-cons (IsOf line (line + 1)) cell [] (omega arith, omega arith) (All-nil (IsOf line (line + 1))) }
-
-grows-numbers : (in_data : Bool) (line : ℕ) (ns : List (ℤ × ℕ)) (c : Contents) → Grows line (line + 1) c (put_numbers in_data line ns c)
-grows-numbers in_data line [] c = grows-none line (line + 1) c c refl
-grows-numbers in_data line (n ∷ ns) c =
-    let d : Contents = put_word in_data line (modulo_word n.0) c in
-    grows-then line (line + 1) c d (put_numbers in_data line ns d) (grows-word in_data line (modulo_word n.0) c) (grows-numbers in_data line ns d)
-
-grows-expansion : (in_data : Bool) (line : ℕ) (e : Expansion) (c : Contents) → Grows line (line + 1) c (put_expansion in_data line e c)
-grows-expansion in_data line (One i) c = grows-word in_data line (word_of i) c
-grows-expansion in_data line (Two i j) c =
-    let d : Contents = put_word in_data line (word_of i) c in
-    grows-then line (line + 1) c d (put_word in_data line (word_of j) d) (grows-word in_data line (word_of i) c) (grows-word in_data line (word_of j) d)
-
-grows-space : (in_data : Bool) (line n : ℕ) (c : Contents) → Grows line (line + 1) c (put_space in_data line n c)
-grows-space true line n c = grows-none line (line + 1) c _ refl
-grows-space false line n c =
-    let zeros : Cell = record { word = 0; line = line } in
-    record { more = replicate (n / 4) zeros; cells = refl; lines = All-replicate (IsOf line (line + 1)) (n / 4) zeros (omega arith, omega arith) }
-
-to-same : (low high : ℕ) (c d e : Contents) → ◌≡◌ {A = Result Contents AsmFault} (Ok d) (Ok e) → Grows low high c d → Grows low high c e
-to-same low high c d e is g = subst (λ (x : Contents). Grows low high c x) (same_contents d e is) g
-
-grows-byte_list : (source : List ℕ) (line : Line) (c d : Contents) → bytes_filled source line c ≡ Ok d → Grows line.number (line.number + 1) c d
-grows-byte_list source line c d is =
-    let (bytes, _, made) = and_then-ok (at_line source line Range (put_bytes (numbers_in line.tokens) c.bytes)) (λ (x : List ℕ). Ok (record { cells = c.cells; bytes = x })) d is in
-    to-same line.number (line.number + 1) c (record { cells = c.cells; bytes = bytes }) d made (grows-none line.number (line.number + 1) c _ refl)
-
-grows-instruction : (scope : Scope) (line : Line) (p : Position) (m : Mnemonic) (o : Operands) (c d : Contents) → instruction_filled scope line p m o c ≡ Ok d → Grows line.number (line.number + 1) c d
-grows-instruction scope line p m o c d is =
-    let v : Option ℤ = distance_of scope (pos (address_of scope.data_base (spot_of p))) o.value in
-    let (e, _, put) = and_then-ok (instruction_of scope.source line m o v) (λ (x : Expansion). Ok (put_expansion p.in_data line.number x c)) d is in
-    to-same line.number (line.number + 1) c (put_expansion p.in_data line.number e c) d put (grows-expansion p.in_data line.number e c)
-
-grows-statement : (scope : Scope) (line : Line) (p : Position) (s : Statement) (c d : Contents) → statement_filled scope line p s c ≡ Ok d → Grows line.number (line.number + 1) c d
-grows-statement scope line p statement.Nothing c d is = to-same line.number (line.number + 1) c c d is (grows-none line.number (line.number + 1) c c refl)
-grows-statement scope line p statement.Text c d is = to-same line.number (line.number + 1) c c d is (grows-none line.number (line.number + 1) c c refl)
-grows-statement scope line p statement.Data c d is = to-same line.number (line.number + 1) c c d is (grows-none line.number (line.number + 1) c c refl)
-grows-statement scope line p statement.Words c d is =
-    to-same line.number (line.number + 1) c (put_numbers p.in_data line.number (numbers_in line.tokens) c) d is (grows-numbers p.in_data line.number (numbers_in line.tokens) c)
-grows-statement scope line p statement.Bytes c d is = grows-byte_list scope.source line c d is
-grows-statement scope line p statement.Ascii c d is =
-    to-same line.number (line.number + 1) c (record { cells = c.cells; bytes = c.bytes ++ string_in line.tokens }) d is (grows-none line.number (line.number + 1) c _ refl)
-grows-statement scope line p (statement.Space n at) c d is =
-    to-same line.number (line.number + 1) c (put_space p.in_data line.number (space_bytes n) c) d is (grows-space p.in_data line.number (space_bytes n) c)
-grows-statement scope line p (statement.Instruction m o) c d is = grows-instruction scope line p m o c d is
-
 grows-line : (scope : Scope) (line : Line) (f g : Filling) → filled scope line f ≡ Ok g → Grows line.number (line.number + 1) f.contents g.contents
 grows-line scope line f g is =
     let step : IsFilled scope line f g = filled-is scope line f g is in
-    grows-statement scope line f.position step.made f.contents g.contents step.contents
+    let cells : All (IsCell line.number) step.more.cells = held-cells scope line f.position step.made step.more (statement-known scope.source f.position.in_data line.end step.split.1 step.made step.body) step.comes in
+    record {
+      more = step.more.cells;
+      cells = ap (λ (x : Contents). x.cells) (sym step.contents);
+      lines = All-weaker (IsCell line.number) (IsOf line.number (line.number + 1)) (λ (x : Cell) is. (omega (arith, is.line), omega (arith, is.line))) step.more.cells cells;
+    }
 
 -- lines that are counted from a number on
 abbrev AreCounted : ℕ → List Line → Type 0
@@ -192,12 +145,7 @@ same_positions scope (line ∷ lines) l m f g at is js =
 
 -- the cells of an expansion
 abbrev cells_of : ℕ → Expansion → List Cell
-cells_of line (One i) = (record { word = word_of i; line = line }) ∷ []
-cells_of line (Two i j) = (record { word = word_of i; line = line }) ∷ (record { word = word_of j; line = line }) ∷ []
-
-cells-expansion : (line : ℕ) (e : Expansion) (c : Contents) → (put_expansion false line e c).cells ≡ c.cells ++ cells_of line e
-cells-expansion line (One i) c = refl
-cells-expansion line (Two i j) c = append_assoc c.cells ((record { word = word_of i; line = line }) ∷ []) ((record { word = word_of j; line = line }) ∷ [])
+cells_of line e = (in_words false line (words_of_expansion e)).cells
 
 -- the rows of these cells are the expansion's instructions
 are_instructions : (at line : ℕ) (e : Expansion) → AreMeant e → AreInstructions at line (instructions_of e) (rows_from at (cells_of line e))
@@ -221,29 +169,26 @@ rows-lines P at (x ∷ xs) all =
     All-cons (λ (r : ListingRow). P r.line) (record { address = at; word = x.word; line = x.line }) (rows_from (at + 4) xs)
     (All-head (λ (x : Cell). P x.line) x xs all) (rows-lines P (at + 4) xs (All-tail (λ (x : Cell). P x.line) x xs all))
 
--- what an instruction in text adds, after so many words
-record IsAdded (scope : Scope) (line : Line) (words : ℕ) (m : Mnemonic) (o : Operands) (c d : Contents) : Type 0 where
+-- what an instruction in text comes to, after so many words
+record IsAdded (scope : Scope) (line : Line) (words : ℕ) (m : Mnemonic) (o : Operands) (d : Contents) : Type 0 where
   number : ℤ
   value : distance_of scope (pos (65536 + 4 * words)) o.value ≡ Some number
   expansion : Expansion
   expands : expansion_of m o number ≡ Some expansion
-  cells : d.cells ≡ c.cells ++ cells_of line.number expansion
+  cells : d.cells ≡ cells_of line.number expansion
 
-added-value : (scope : Scope) (line : Line) (words : ℕ) (m : Mnemonic) (o : Operands) (v : Option ℤ) (c d : Contents) → distance_of scope (pos (65536 + 4 * words)) o.value ≡ v
-    → and_then (instruction_of scope.source line m o v) (λ (x : Expansion). Ok (put_expansion false line.number x c)) ≡ Ok d → IsAdded scope line words m o c d
-added-value scope line words m o (Some n) c d value is =
-    let (e, expands, put) = and_then-ok (at_line scope.source line Range (ok_or (expansion_of m o n) o.at)) (λ (x : Expansion). Ok (put_expansion false line.number x c)) d is in
+added-instruction : (scope : Scope) (line : Line) (words : ℕ) (m : Mnemonic) (o : Operands) (v : Option ℤ) (d : Contents) → distance_of scope (pos (65536 + 4 * words)) o.value ≡ v
+    → instruction_held scope.source line false m o v ≡ Ok d → IsAdded scope line words m o d
+added-instruction scope line words m o (Some n) d value is =
+    let (e, expands, made) = and_then-ok (at_line scope.source line Range (ok_or (expansion_of m o n) o.at)) (λ (x : Expansion). Ok (in_words false line.number (words_of_expansion x))) d is in
     record {
       number = n;
       value = value;
       expansion = e;
       expands = ok_or-ok (expansion_of m o n) o.at e (at_line-ok scope.source line Range (ok_or (expansion_of m o n) o.at) e expands);
-      cells = ap (λ (x : Contents). x.cells) (sym (same_contents (put_expansion false line.number e c) d put)) ∙ cells-expansion line.number e c;
+      cells = ap (λ (x : Contents). x.cells) (sym (same_contents (in_words false line.number (words_of_expansion e)) d made));
     }
-added-value scope line words m o None c d value is = absurd (let no : ⊥ = cc in no)
-
-added-instruction : (scope : Scope) (line : Line) (words bytes : ℕ) (m : Mnemonic) (o : Operands) (c d : Contents) → instruction_filled scope line (record { in_data = false; words = words; bytes = bytes }) m o c ≡ Ok d → IsAdded scope line words m o c d
-added-instruction scope line words bytes m o c d is = added-value scope line words m o (distance_of scope (pos (65536 + 4 * words)) o.value) c d refl is
+added-instruction scope line words m o None d value is = absurd (let no : ⊥ = cc in no)
 
 -- ---- the whole
 
@@ -256,7 +201,8 @@ counted-small w len e small = omega arith
 
 -- where the passes are at an instruction, and what it adds
 line-added : (scope : Scope) (before : List Line) (line : Line) (words : ℕ) (m : Mnemonic) (o : Operands) (g h : Filling) → IsInstruction scope.source before line words m o
-    → all_filled scope before start_filling ≡ Ok g → filled scope line g ≡ Ok h → IsAdded scope line words m o g.contents h.contents × HasRegisters o × (words ≡ counted (length g.contents.cells))
+    → all_filled scope before start_filling ≡ Ok g → filled scope line g ≡ Ok h
+    → (d : Contents) × (h.contents.cells ≡ g.contents.cells ++ d.cells) × IsAdded scope line words m o d × HasRegisters o × (words ≡ counted (length g.contents.cells))
 line-added scope before line words m o g h is prefix here =
     let at : is.layout.position ≡ g.position = same_positions scope before start_layout is.layout start_filling g refl is.placed prefix in
     let text : is.layout.position ≡ record { in_data = false; words = words; bytes = is.layout.position.bytes } = text_position is.layout.position words is.in_text is.as_many in
@@ -267,11 +213,11 @@ line-added scope before line words m o g h is prefix here =
     subst (λ (p : Position). statement_read scope.source p.in_data line.end is.statement ≡ Ok step.made) there
     (subst (λ (r : Option Label × List Token). statement_read scope.source g.position.in_data line.end r.1 ≡ Ok step.made) split step.body) in
     let made : step.made ≡ statement.Instruction m o = same_statement (statement_read scope.source false line.end is.statement) step.made (statement.Instruction m o) body is.read in
-    let put : statement_filled scope line (record { in_data = false; words = words; bytes = is.layout.position.bytes }) (statement.Instruction m o) g.contents ≡ Ok h.contents =
-    subst (λ (p : Position). statement_filled scope line p (statement.Instruction m o) g.contents ≡ Ok h.contents) there
-    (subst (λ (s : Statement). statement_filled scope line g.position s g.contents ≡ Ok h.contents) made step.contents) in
+    let comes : held scope line (record { in_data = false; words = words; bytes = is.layout.position.bytes }) (statement.Instruction m o) ≡ Ok step.more =
+    subst (λ (p : Position). held scope line p (statement.Instruction m o) ≡ Ok step.more) there
+    (subst (λ (s : Statement). held scope line g.position s ≡ Ok step.more) made step.comes) in
     let measured : IsMeasured is.layout.position g.contents = measured-all scope before start_layout is.layout start_filling g refl (record { words = refl; bytes = refl }) is.placed prefix in
-    (added-instruction scope line words is.layout.position.bytes m o g.contents h.contents put, statement-known scope.source false line.end is.statement (statement.Instruction m o) is.read, sym is.as_many ∙ measured.words)
+    (step.more, ap (λ (x : Contents). x.cells) (sym step.contents), added-instruction scope line words m o (distance_of scope (pos (65536 + 4 * words)) o.value) step.more refl comes, statement-known scope.source false line.end is.statement (statement.Instruction m o) is.read, sym is.as_many ∙ measured.words)
 
 joined : (prefix here back middle whole : List Cell) → middle ≡ prefix ++ here → whole ≡ middle ++ back → whole ≡ prefix ++ (here ++ back)
 joined prefix here back middle whole p q = q ∙ ap (λ (x : List Cell). x ++ back) p ∙ append_assoc prefix here back
@@ -293,7 +239,7 @@ record IsParted (scope : Scope) (line : Line) (words : ℕ) (m : Mnemonic) (o : 
 parted-at : (scope : Scope) (before : List Line) (line : Line) (after : List Line) (words : ℕ) (m : Mnemonic) (o : Operands) (f g h : Filling) → IsCountedAt 1 before line after → IsInstruction scope.source before line words m o
     → all_filled scope before start_filling ≡ Ok g → filled scope line g ≡ Ok h → all_filled scope after h ≡ Ok f → IsParted scope line words m o f.contents
 parted-at scope before line after words m o f g h counts instruction prefix here rest =
-    let (added, registers, at) = line-added scope before line words m o g h instruction prefix here in
+    let (more, grown, added, registers, at) = line-added scope before line words m o g h instruction prefix here in
     let early : Grows 1 (1 + length before) start_filling.contents g.contents = grows-lines scope 1 before start_filling g counts.prefix prefix in
     let late : Grows (line.number + 1) (line.number + 1 + length after) h.contents f.contents = grows-lines scope (line.number + 1) after h f counts.back rest in
     let number : line.number ≡ 1 + length before = counts.number in
@@ -305,7 +251,7 @@ parted-at scope before line after words m o f g h counts instruction prefix here
       expansion = added.expansion;
       expands = added.expands;
       meant = expansion-meant m o added.number added.expansion registers added.expands;
-      cells = joined g.contents.cells (cells_of line.number added.expansion) late.more h.contents.cells f.contents.cells added.cells late.cells;
+      cells = joined g.contents.cells (cells_of line.number added.expansion) late.more h.contents.cells f.contents.cells (grown ∙ ap (λ (x : List Cell). g.contents.cells ++ x) added.cells) late.cells;
       as_many = at;
       earlier = subst (λ (x : List Cell). All (λ (x : Cell). x.line < line.number) x) (sym early.cells)
           (All-weaker (IsOf 1 (1 + length before)) (λ (x : Cell). x.line < line.number) (λ (x : Cell) is. omega (arith, is.1)) early.more early.lines);

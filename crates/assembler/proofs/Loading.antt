@@ -10,7 +10,7 @@ use Rattle.formats.specs.declared.instr.Instr.TheVariants as instr
 use Rattle.machine_model.specs.Effects.{ArchitecturalState, reg, put, effect}
 use Rattle.machine_model.specs.Arithmetic.{as_word, sum}
 use Rattle.asm_statements.specs.Expansion.{immediate_of, modulo_word, low_part, high_part, li_expansion, la_expansion, fitting_expansion, long_expansion, word_count}
-use Rattle.assembler.specs.Instructions.{instructions_of}
+use Rattle.assembler.specs.Filling.{instructions_of}
 use Rattle.assembler.specs.Loads.{carried_out, with_value}
 use Rattle.asm_statements.specs.declared.expansion.Expansion.TheVariants.{One, Two}
 use Rattle.asm_statements.proofs.Meanings.{IsHeld}

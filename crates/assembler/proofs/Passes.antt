@@ -5,7 +5,7 @@ use Rattle.asm_text.specs.declared.token.Line.{Line}
 use Rattle.assembler.specs.Faults.{at_line}
 use Rattle.asm_statements.specs.Statements.{label_read, statement_read}
 use Rattle.assembler.specs.Layout.{placed, all_placed}
-use Rattle.assembler.specs.Filling.{Scope, Filling, statement_filled, filled, all_filled, start_filling, contents_filled}
+use Rattle.assembler.specs.Filling.{Scope, Filling, added, held, filled, all_filled, start_filling, contents_filled}
 use Rattle.assembler.specs.declared.fault.AsmFault.{AsmFault}
 use Rattle.assembler.specs.declared.fault.Cause.TheVariants.{Syntax}
 use Rattle.assembler.specs.declared.layout.Layout.{Layout}
@@ -33,8 +33,8 @@ filling-stops scope lines i line g f more is fault =
 pub contents-stop : (scope : Scope) (lines : List Line) (f : AsmFault) → all_filled scope lines start_filling ≡ Err f → contents_filled scope lines ≡ Err f
 contents-stop scope lines f is = and_then-err (all_filled scope lines start_filling) contents_shown f is
 
-pub line-stops : (scope : Scope) (line : Line) (g : Filling) (r : Option Label × List Token) (s : Statement) (f : AsmFault) → label_read scope.source line.tokens ≡ Ok r → statement_read scope.source g.position.in_data line.end r.1 ≡ Ok s → statement_filled scope line g.position s g.contents ≡ Err f → filled scope line g ≡ Err f
+pub line-stops : (scope : Scope) (line : Line) (g : Filling) (r : Option Label × List Token) (s : Statement) (f : AsmFault) → label_read scope.source line.tokens ≡ Ok r → statement_read scope.source g.position.in_data line.end r.1 ≡ Ok s → added g.contents (held scope line g.position s) ≡ Err f → filled scope line g ≡ Err f
 line-stops scope line g r s f prefix body fault =
     and_then-at (at_line scope.source line Syntax (label_read scope.source line.tokens)) (filled_stated scope line g) r (at_line-at scope.source line (label_read scope.source line.tokens) r prefix)
     ∙ and_then-at (at_line scope.source line Syntax (statement_read scope.source g.position.in_data line.end r.1)) (filled_put scope line g) s (at_line-at scope.source line (statement_read scope.source g.position.in_data line.end r.1) s body)
-    ∙ and_then-err (statement_filled scope line g.position s g.contents) (filled_made scope line g s) f fault
+    ∙ and_then-err (added g.contents (held scope line g.position s)) (filled_made scope line g s) f fault

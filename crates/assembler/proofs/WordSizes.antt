@@ -1,8 +1,8 @@
 -- Each word of text is a number below 2^32.
-use Rattle.std.proofs.Common.{ℕ, ℤ, pos, ◌≡◌, ◌+◌, ◌*◌, ◌/◌, ◌%◌, ◌^◌, ◌<◌, Bool, true, false, List, [], ◌∷◌, ◌++◌, replicate, Result, Ok, Option, Some, None, refl, sym, ap, ◌∙◌, subst, arith, lit<}
+use Rattle.std.proofs.Common.{ℕ, ℤ, ◌≡◌, ◌+◌, ◌*◌, ◌/◌, ◌%◌, ◌^◌, ◌<◌, Bool, true, false, List, [], ◌∷◌, Result, Ok, Option, Some, None, refl, sym, ap, ◌∙◌, subst, arith, lit<}
 use Rattle.std.specs.Prelude.{All}
 use Rattle.std.specs.Option.{ok_or}
-use Rattle.std.proofs.lemmas.List.Elements.{All-nil, All-cons, All-head, All-tail, All-append, All-push, All-replicate}
+use Rattle.std.proofs.lemmas.List.Elements.{All-nil, All-cons, All-head, All-tail, All-append, All-map, All-weaker, All-replicate}
 use Rattle.formats.specs.Fields.{field, rd_of, rs1_of, rs2_of, immediate_u, immediate_j}
 use Rattle.formats.specs.Meaning.{Means, IsU, IsI, IsS, IsB, IsShift, IsR}
 use Rattle.formats.specs.declared.instr.Instr.{Instr}
@@ -12,8 +12,8 @@ use Rattle.asm_text.specs.declared.token.Line.{Line}
 use Rattle.asm_statements.specs.Encoding.{fields_word, complement, r_word, shift_word, i_word, s_word, b_word, u_word, j_word, word_of}
 use Rattle.asm_statements.specs.Expansion.{expansion_of, modulo_word}
 use Rattle.assembler.specs.Faults.{at_line}
-use Rattle.assembler.specs.Layout.{start_layout, all_placed, numbers_in, string_in, space_bytes, spot_of}
-use Rattle.assembler.specs.Filling.{Contents, Filling, Scope, start_filling, put_word, put_numbers, put_bytes, put_space, put_expansion, address_of, distance_of, instruction_of, instruction_filled, bytes_filled, statement_filled, filled, all_filled, contents_filled}
+use Rattle.assembler.specs.Layout.{start_layout, all_placed, numbers_in, string_in, space_bytes}
+use Rattle.assembler.specs.Filling.{Contents, Filling, Scope, start_filling, nothing, in_bytes, in_words, in_zeros, words_of_numbers, bytes_of_numbers, words_of_expansion, instruction_held, bytes_held, held, filled, all_filled, contents_filled}
 use Rattle.assembler.specs.Assembly.{scope_of, entry_of, Assembled, assembled, assembly, rows_from}
 use Rattle.assembler.specs.declared.fault.AsmFault.{AsmFault}
 use Rattle.assembler.specs.declared.fault.Cause.TheVariants.{Range}
@@ -188,7 +188,62 @@ word-below instr.FenceI m = lit< tt
 word-below instr.Ecall m = lit< tt
 word-below instr.Ebreak m = lit< tt
 
--- ---- the words that statements make
+-- ---- the cells that statements come to
+
+-- a word below 2^32, of the line of this number
+pub record IsCell (number : ℕ) (cell : Cell) : Type 0 where
+  pub small : cell.word < 2 ^ 32
+  pub line : cell.line ≡ number
+
+none-cells : (line : ℕ) → All (IsCell line) []
+none-cells line = All-nil (IsCell line)
+
+words-cells : (in_data : Bool) (line : ℕ) (words : List ℕ) → All (λ (w : ℕ). w < 2 ^ 32) words → All (IsCell line) (in_words in_data line words).cells
+words-cells true line words small = none-cells line
+words-cells false line words small =
+    All-map (IsCell line) (λ (w : ℕ). record { word = w; line = line }) words
+    (All-weaker (λ (w : ℕ). w < 2 ^ 32) (λ (w : ℕ). IsCell line (record { word = w; line = line })) (λ (w : ℕ) is. record { small = is; line = refl }) words small)
+
+numbers-small : (ns : List (ℤ × ℕ)) → All (λ (w : ℕ). w < 2 ^ 32) (words_of_numbers ns)
+numbers-small [] = All-nil (λ (w : ℕ). w < 2 ^ 32)
+numbers-small (n ∷ ns) = All-cons (λ (w : ℕ). w < 2 ^ 32) (modulo_word n.0) (words_of_numbers ns) (modulo-below n.0) (numbers-small ns)
+
+expansion-small : (e : Expansion) → AreMeant e → All (λ (w : ℕ). w < 2 ^ 32) (words_of_expansion e)
+expansion-small (One i) m = All-cons (λ (w : ℕ). w < 2 ^ 32) (word_of i) [] (word-below i m) (All-nil (λ (w : ℕ). w < 2 ^ 32))
+expansion-small (Two i j) m = All-cons (λ (w : ℕ). w < 2 ^ 32) (word_of i) (word_of j ∷ []) (word-below i m.0) (All-cons (λ (w : ℕ). w < 2 ^ 32) (word_of j) [] (word-below j m.1) (All-nil (λ (w : ℕ). w < 2 ^ 32)))
+
+zeros-cells : (in_data : Bool) (line n : ℕ) → All (IsCell line) (in_zeros in_data line n).cells
+zeros-cells true line n = none-cells line
+zeros-cells false line n = All-replicate (IsCell line) (n / 4) (record { word = 0; line = line }) (record { small = omega arith; line = refl })
+
+same-cells : (line : ℕ) (c d : Contents) → ◌≡◌ {A = Result Contents AsmFault} (Ok c) (Ok d) → All (IsCell line) c.cells → All (IsCell line) d.cells
+same-cells line c d is all = subst (λ (x : Contents). All (IsCell line) x.cells) (same_contents c d is) all
+
+instruction-cells : (source : List ℕ) (line : Line) (in_data : Bool) (m : Mnemonic) (o : Operands) (v : Option ℤ) (d : Contents) → HasRegisters o → instruction_held source line in_data m o v ≡ Ok d → All (IsCell line.number) d.cells
+instruction-cells source line in_data m o (Some n) d h is =
+    let (e, expands, made) = and_then-ok (at_line source line Range (ok_or (expansion_of m o n) o.at)) (λ (x : Expansion). Ok (in_words in_data line.number (words_of_expansion x))) d is in
+    let meant : AreMeant e = expansion-meant m o n e h (ok_or-ok (expansion_of m o n) o.at e (at_line-ok source line Range (ok_or (expansion_of m o n) o.at) e expands)) in
+    same-cells line.number (in_words in_data line.number (words_of_expansion e)) d made (words-cells in_data line.number (words_of_expansion e) (expansion-small e meant))
+instruction-cells source line in_data m o None d h is = absurd (let no : ⊥ = cc in no)
+
+bytes-cells : (source : List ℕ) (line : Line) (d : Contents) → bytes_held source line ≡ Ok d → All (IsCell line.number) d.cells
+bytes-cells source line d is =
+    let (bytes, _, made) = and_then-ok (at_line source line Range (bytes_of_numbers (numbers_in line.tokens))) (λ (x : List ℕ). Ok (in_bytes x)) d is in
+    same-cells line.number (in_bytes bytes) d made (none-cells line.number)
+
+pub held-cells : (scope : Scope) (line : Line) (p : Position) (s : Statement) (d : Contents) → IsKnown p.in_data s → held scope line p s ≡ Ok d → All (IsCell line.number) d.cells
+held-cells scope line p statement.Nothing d k is = same-cells line.number nothing d is (none-cells line.number)
+held-cells scope line p statement.Text d k is = same-cells line.number nothing d is (none-cells line.number)
+held-cells scope line p statement.Data d k is = same-cells line.number nothing d is (none-cells line.number)
+held-cells scope line p statement.Words d k is =
+    let words : List ℕ = words_of_numbers (numbers_in line.tokens) in
+    same-cells line.number (in_words p.in_data line.number words) d is (words-cells p.in_data line.number words (numbers-small (numbers_in line.tokens)))
+held-cells scope line p statement.Bytes d k is = bytes-cells scope.source line d is
+held-cells scope line p statement.Ascii d k is = same-cells line.number (in_bytes (string_in line.tokens)) d is (none-cells line.number)
+held-cells scope line p (statement.Space n at) d k is = same-cells line.number (in_zeros p.in_data line.number (space_bytes n)) d is (zeros-cells p.in_data line.number (space_bytes n))
+held-cells scope line p (statement.Instruction m o) d k is = instruction-cells scope.source line p.in_data m o _ d k is
+
+-- ---- the words of all lines
 
 abbrev IsWord : Cell → Type 0
 IsWord cell = cell.word < 2 ^ 32
@@ -200,58 +255,12 @@ AreWords c = All IsWord c.cells
 words-same : (c d : Contents) → ◌≡◌ {A = Result Contents AsmFault} (Ok c) (Ok d) → AreWords c → AreWords d
 words-same c d is all = subst (λ (x : Contents). AreWords x) (same_contents c d is) all
 
-words-word : (in_data : Bool) (line word : ℕ) (c : Contents) → word < 2 ^ 32 → AreWords c → AreWords (put_word in_data line word c)
-words-word true line word c small all = all
-words-word false line word c small all = All-push IsWord c.cells (record { word = word; line = line }) all small
-
-words-numbers : (in_data : Bool) (line : ℕ) (ns : List (ℤ × ℕ)) (c : Contents) → AreWords c → AreWords (put_numbers in_data line ns c)
-words-numbers in_data line [] c all = all
-words-numbers in_data line (n ∷ ns) c all =
-    words-numbers in_data line ns (put_word in_data line (modulo_word n.0) c) (words-word in_data line (modulo_word n.0) c (modulo-below n.0) all)
-
-words-expansion : (in_data : Bool) (line : ℕ) (e : Expansion) (c : Contents) → AreMeant e → AreWords c → AreWords (put_expansion in_data line e c)
-words-expansion in_data line (One i) c m all = words-word in_data line (word_of i) c (word-below i m) all
-words-expansion in_data line (Two i j) c m all =
-    words-word in_data line (word_of j) (put_word in_data line (word_of i) c) (word-below j m.1) (words-word in_data line (word_of i) c (word-below i m.0) all)
-
-words-space : (in_data : Bool) (line n : ℕ) (c : Contents) → AreWords c → AreWords (put_space in_data line n c)
-words-space true line n c all = all
-words-space false line n c all =
-    let zeros : Cell = record { word = 0; line = line } in
-    All-append IsWord c.cells (replicate (n / 4) zeros) all (All-replicate IsWord (n / 4) zeros (omega arith))
-
-words-byte_list : (source : List ℕ) (line : Line) (c d : Contents) → bytes_filled source line c ≡ Ok d → AreWords c → AreWords d
-words-byte_list source line c d is all =
-    let (bytes, _, made) = and_then-ok (at_line source line Range (put_bytes (numbers_in line.tokens) c.bytes)) (λ (x : List ℕ). Ok (record { cells = c.cells; bytes = x })) d is in
-    words-same (record { cells = c.cells; bytes = bytes }) d made all
-
-meant-value : (source : List ℕ) (line : Line) (m : Mnemonic) (o : Operands) (v : Option ℤ) (e : Expansion) → HasRegisters o → instruction_of source line m o v ≡ Ok e → AreMeant e
-meant-value source line m o (Some n) e h is =
-    expansion-meant m o n e h (ok_or-ok (expansion_of m o n) o.at e (at_line-ok source line Range (ok_or (expansion_of m o n) o.at) e is))
-meant-value source line m o None e h is = absurd (let no : ⊥ = cc in no)
-
-words-instruction : (scope : Scope) (line : Line) (p : Position) (m : Mnemonic) (o : Operands) (c d : Contents) → HasRegisters o → instruction_filled scope line p m o c ≡ Ok d → AreWords c → AreWords d
-words-instruction scope line p m o c d h is all =
-    let v : Option ℤ = distance_of scope (pos (address_of scope.data_base (spot_of p))) o.value in
-    let (e, made, put) = and_then-ok (instruction_of scope.source line m o v) (λ (x : Expansion). Ok (put_expansion p.in_data line.number x c)) d is in
-    words-same (put_expansion p.in_data line.number e c) d put (words-expansion p.in_data line.number e c (meant-value scope.source line m o v e h made) all)
-
-words-statement : (scope : Scope) (line : Line) (p : Position) (s : Statement) (c d : Contents) → IsKnown p.in_data s → statement_filled scope line p s c ≡ Ok d → AreWords c → AreWords d
-words-statement scope line p statement.Nothing c d k is all = words-same c d is all
-words-statement scope line p statement.Text c d k is all = words-same c d is all
-words-statement scope line p statement.Data c d k is all = words-same c d is all
-words-statement scope line p statement.Words c d k is all =
-    words-same (put_numbers p.in_data line.number (numbers_in line.tokens) c) d is (words-numbers p.in_data line.number (numbers_in line.tokens) c all)
-words-statement scope line p statement.Bytes c d k is all = words-byte_list scope.source line c d is all
-words-statement scope line p statement.Ascii c d k is all = words-same (record { cells = c.cells; bytes = c.bytes ++ string_in line.tokens }) d is all
-words-statement scope line p (statement.Space n at) c d k is all =
-    words-same (put_space p.in_data line.number (space_bytes n) c) d is (words-space p.in_data line.number (space_bytes n) c all)
-words-statement scope line p (statement.Instruction m o) c d k is all = words-instruction scope line p m o c d k is all
-
 words-filled : (scope : Scope) (line : Line) (f g : Filling) → filled scope line f ≡ Ok g → AreWords f.contents → AreWords g.contents
 words-filled scope line f g is all =
     let step : IsFilled scope line f g = filled-is scope line f g is in
-    words-statement scope line f.position step.made f.contents g.contents (statement-known scope.source f.position.in_data line.end step.split.1 step.made step.body) step.contents all
+    let cells : All (IsCell line.number) step.more.cells = held-cells scope line f.position step.made step.more (statement-known scope.source f.position.in_data line.end step.split.1 step.made step.body) step.comes in
+    subst (λ (x : Contents). AreWords x) step.contents
+    (All-append IsWord f.contents.cells step.more.cells all (All-weaker (IsCell line.number) IsWord (λ (x : Cell) is. is.small) step.more.cells cells))
 
 words-lines : (scope : Scope) (lines : List Line) (f g : Filling) → all_filled scope lines f ≡ Ok g → AreWords f.contents → AreWords g.contents
 words-lines scope [] f g is all = subst (λ (x : Filling). AreWords x.contents) (same_filling f g is) all

@@ -1,9 +1,9 @@
--- The second pass: each statement's words and bytes after those before it, labels being replaced by their addresses.
-use Rattle.std.specs.Prelude.{ℕ, ℤ, pos, negsuc, ◌+◌, ◌-◌, ◌*◌, ◌/◌, ◌+ℤ◌, ◌-ℤ◌, Bool, true, false, nat_lt, if◌then◌else◌, List, [], ◌∷◌, ◌++◌, replicate, Option, Some, None, Result, Ok, Err}
+-- The second pass: what each statement comes to, one after the other, labels being replaced by their addresses.
+use Rattle.std.specs.Prelude.{ℕ, ℤ, pos, negsuc, ◌+◌, ◌-◌, ◌*◌, ◌/◌, ◌+ℤ◌, ◌-ℤ◌, Bool, true, false, nat_lt, if◌then◌else◌, List, [], ◌∷◌, ◌++◌, map, replicate, Option, Some, None, Result, Ok, Err}
 use Rattle.std.specs.Option.{option_map, ok_or}
 use Rattle.std.specs.FinMap.{get}
-use Rattle.memory_model.specs.Access.{low_bytes}
-use Rattle.asm_text.specs.declared.token.Token.{Token}
+use Rattle.formats.specs.declared.instr.Instr.{Instr}
+use Rattle.machine_model.specs.Images.{bytes_of_words}
 use Rattle.asm_text.specs.declared.token.Line.{Line}
 use Rattle.asm_statements.specs.Steps.{and_then}
 use Rattle.asm_statements.specs.Tokens.{text_at}
@@ -28,10 +28,17 @@ use Rattle.asm_statements.specs.declared.statement.Statement.TheVariants as stat
 use Rattle.assembler.specs.declared.filling.Cell.{Cell}
 use Rattle.assembler.specs.declared.filling.Output.{Output}
 
--- what the sections hold: the words of text, each with its statement's line, and the bytes of data
+-- what statements come to: the words of text, each with its statement's line, and the bytes of data
 pub record Contents : Type 0 where
   pub cells : List Cell
   pub bytes : List ℕ
+
+abbrev pub nothing : Contents
+nothing = record { cells = []; bytes = [] }
+
+-- what some statements come to, and others after them
+abbrev pub joined : Contents → Contents → Contents
+joined c d = record { cells = c.cells ++ d.cells; bytes = c.bytes ++ d.bytes }
 
 abbrev pub shown : Output → Contents
 shown output = record { cells = output.cells.items; bytes = output.bytes.items }
@@ -42,7 +49,7 @@ pub record Filling : Type 0 where
   pub contents : Contents
 
 abbrev pub start_filling : Filling
-start_filling = record { position = start; contents = record { cells = []; bytes = [] } }
+start_filling = record { position = start; contents = nothing }
 
 -- What the second pass knows: the source, where its labels stand, and where data begins.
 pub record Scope : Type 0 where
@@ -69,63 +76,63 @@ abbrev pub byte_of : ℤ → Option ℕ
 byte_of (pos n) = if nat_lt n 256 then Some n else None
 byte_of (negsuc n) = if nat_lt n 128 then Some (255 - n) else None
 
--- a word of a line's statement, after what its section has
-abbrev pub put_word : Bool → ℕ → ℕ → Contents → Contents
-put_word true line word c = record { cells = c.cells; bytes = c.bytes ++ low_bytes 4 word }
-put_word false line word c = record { cells = c.cells ++ (record { word = word; line = line }) ∷ []; bytes = c.bytes }
+-- what is there, and what a statement comes to, or its fault
+abbrev pub added : Contents → Result Contents AsmFault → Result Contents AsmFault
+added c more = and_then more (λ d. Ok (joined c d))
 
--- numbers as words
-abbrev pub put_numbers : Bool → ℕ → List (ℤ × ℕ) → Contents → Contents
-put_numbers in_data line [] c = c
-put_numbers in_data line (n ∷ ns) c = put_numbers in_data line ns (put_word in_data line (modulo_word n.0) c)
+-- bytes of data
+abbrev pub in_bytes : List ℕ → Contents
+in_bytes bytes = record { cells = []; bytes = bytes }
 
--- numbers as bytes, or the place of the first that is none
-abbrev pub put_bytes : List (ℤ × ℕ) → List ℕ → Result (List ℕ) ℕ
-put_bytes [] bytes = Ok bytes
-put_bytes (n ∷ ns) bytes = and_then (ok_or (byte_of n.0) n.1) (λ b. put_bytes ns (bytes ++ b ∷ []))
+-- words of a line, in data as bytes
+abbrev pub in_words : Bool → ℕ → List ℕ → Contents
+in_words true line words = in_bytes (bytes_of_words words)
+in_words false line words = record { cells = map (λ (w : ℕ). record { word = w; line = line }) words; bytes = [] }
 
--- the bytes of the first string among tokens
-abbrev pub put_string : List Token → Contents → Contents
-put_string tokens c = record { cells = c.cells; bytes = c.bytes ++ string_in tokens }
+-- so many zero bytes of a line, in text as words
+abbrev pub in_zeros : Bool → ℕ → ℕ → Contents
+in_zeros true line n = in_bytes (replicate n 0)
+in_zeros false line n = record { cells = replicate (n / 4) (record { word = 0; line = line }); bytes = [] }
 
--- so many zero bytes
-abbrev pub put_space : Bool → ℕ → ℕ → Contents → Contents
-put_space true line n c = record { cells = c.cells; bytes = c.bytes ++ replicate n 0 }
-put_space false line n c = record { cells = c.cells ++ replicate (n / 4) (record { word = 0; line = line }); bytes = c.bytes }
+-- numbers as words, and as bytes, or the place of the first that is none
+abbrev pub words_of_numbers : List (ℤ × ℕ) → List ℕ
+words_of_numbers numbers = map (λ (n : ℤ × ℕ). modulo_word n.0) numbers
 
--- the words of an expansion
-abbrev pub put_expansion : Bool → ℕ → Expansion → Contents → Contents
-put_expansion in_data line (One i) c = put_word in_data line (word_of i) c
-put_expansion in_data line (Two i j) c = put_word in_data line (word_of j) (put_word in_data line (word_of i) c)
+abbrev pub bytes_of_numbers : List (ℤ × ℕ) → Result (List ℕ) ℕ
+bytes_of_numbers [] = Ok []
+bytes_of_numbers (n ∷ ns) = and_then (ok_or (byte_of n.0) n.1) (λ b. and_then (bytes_of_numbers ns) (λ bytes. Ok (b ∷ bytes)))
+
+-- the instructions of an expansion, in order, and their words
+abbrev pub instructions_of : Expansion → List Instr
+instructions_of (One i) = i ∷ []
+instructions_of (Two i j) = i ∷ j ∷ []
+
+abbrev pub words_of_expansion : Expansion → List ℕ
+words_of_expansion e = map word_of (instructions_of e)
 
 -- the expansion of an instruction with its number, if there is one
 abbrev pub instruction_of : List ℕ → Line → Mnemonic → Operands → Option ℤ → Result Expansion AsmFault
 instruction_of source line m o None = Err (fault_at source line UnknownName o.at)
 instruction_of source line m o (Some v) = at_line source line Range (ok_or (expansion_of m o v) o.at)
 
--- the words of an instruction with its number, if there is one
-abbrev pub instruction_put : List ℕ → Line → Bool → Mnemonic → Operands → Option ℤ → Contents → Result Contents AsmFault
-instruction_put source line in_data m o v c = and_then (instruction_of source line m o v) (λ e. Ok (put_expansion in_data line.number e c))
+-- what an instruction with its number comes to, if there is one, and numbers as bytes
+abbrev pub instruction_held : List ℕ → Line → Bool → Mnemonic → Operands → Option ℤ → Result Contents AsmFault
+instruction_held source line in_data m o v = and_then (instruction_of source line m o v) (λ e. Ok (in_words in_data line.number (words_of_expansion e)))
 
--- the words of an instruction at a position
-abbrev pub instruction_filled : Scope → Line → Position → Mnemonic → Operands → Contents → Result Contents AsmFault
-instruction_filled scope line p m o c = instruction_put scope.source line p.in_data m o (distance_of scope (pos (address_of scope.data_base (spot_of p))) o.value) c
+abbrev pub bytes_held : List ℕ → Line → Result Contents AsmFault
+bytes_held source line = and_then (at_line source line Range (bytes_of_numbers (numbers_in line.tokens))) (λ bytes. Ok (in_bytes bytes))
 
--- the bytes of a `.byte`
-abbrev pub bytes_filled : List ℕ → Line → Contents → Result Contents AsmFault
-bytes_filled source line c =
-    and_then (at_line source line Range (put_bytes (numbers_in line.tokens) c.bytes)) (λ bytes. Ok (record { cells = c.cells; bytes = bytes }))
-
--- what a line's statement at a position adds
-abbrev pub statement_filled : Scope → Line → Position → Statement → Contents → Result Contents AsmFault
-statement_filled scope line p statement.Nothing c = Ok c
-statement_filled scope line p statement.Text c = Ok c
-statement_filled scope line p statement.Data c = Ok c
-statement_filled scope line p statement.Words c = Ok (put_numbers p.in_data line.number (numbers_in line.tokens) c)
-statement_filled scope line p statement.Bytes c = bytes_filled scope.source line c
-statement_filled scope line p statement.Ascii c = Ok (put_string line.tokens c)
-statement_filled scope line p (statement.Space n at) c = Ok (put_space p.in_data line.number (space_bytes n) c)
-statement_filled scope line p (statement.Instruction m o) c = instruction_filled scope line p m o c
+-- what a line's statement at a position comes to
+abbrev pub held : Scope → Line → Position → Statement → Result Contents AsmFault
+held scope line p statement.Nothing = Ok nothing
+held scope line p statement.Text = Ok nothing
+held scope line p statement.Data = Ok nothing
+held scope line p statement.Words = Ok (in_words p.in_data line.number (words_of_numbers (numbers_in line.tokens)))
+held scope line p statement.Bytes = bytes_held scope.source line
+held scope line p statement.Ascii = Ok (in_bytes (string_in line.tokens))
+held scope line p (statement.Space n at) = Ok (in_zeros p.in_data line.number (space_bytes n))
+held scope line p (statement.Instruction m o) =
+    instruction_held scope.source line p.in_data m o (distance_of scope (pos (address_of scope.data_base (spot_of p))) o.value)
 
 -- The sections after a line. After a first pass without a fault no Syntax comes here: that pass read each line from the
 -- same position, with the same outcome.
@@ -133,7 +140,7 @@ abbrev pub filled : Scope → Line → Filling → Result Filling AsmFault
 filled scope line f =
     and_then (at_line scope.source line Syntax (label_read scope.source line.tokens)) (λ r.
     and_then (at_line scope.source line Syntax (statement_read scope.source f.position.in_data line.end r.1)) (λ s.
-    and_then (statement_filled scope line f.position s f.contents) (λ c.
+    and_then (added f.contents (held scope line f.position s)) (λ c.
     Ok (record { position = after f.position s line.tokens; contents = c }))))
 
 -- the sections after all lines, or the first fault

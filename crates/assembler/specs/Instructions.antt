@@ -8,12 +8,11 @@ use Rattle.asm_text.specs.declared.token.Line.{Line}
 use Rattle.asm_statements.specs.Statements.{label_read, statement_read}
 use Rattle.asm_statements.specs.Expansion.{expansion_of}
 use Rattle.assembler.specs.Layout.{start_layout, all_placed}
-use Rattle.assembler.specs.Filling.{distance_of}
+use Rattle.assembler.specs.Filling.{distance_of, instructions_of}
 use Rattle.assembler.specs.Assembly.{scope_of}
 use Rattle.asm_statements.specs.declared.mnemonic.Mnemonic.{Mnemonic}
 use Rattle.asm_statements.specs.declared.operands.Operands.{Operands}
 use Rattle.asm_statements.specs.declared.expansion.Expansion.{Expansion}
-use Rattle.asm_statements.specs.declared.expansion.Expansion.TheVariants.{One, Two}
 use Rattle.asm_statements.specs.declared.statement.Label.{Label}
 use Rattle.asm_statements.specs.declared.statement.Statement.TheVariants.{Instruction}
 use Rattle.assembler.specs.declared.layout.Layout.{Layout}
@@ -29,11 +28,6 @@ pub record IsInstruction (source : List ℕ) (before : List Line) (line : Line) 
   pub placed : all_placed source before start_layout ≡ Ok layout
   pub in_text : layout.position.in_data ≡ false
   pub as_many : layout.position.words ≡ words
-
--- the instructions of an expansion, in order
-abbrev pub instructions_of : Expansion → List Instr
-instructions_of (One i) = i ∷ []
-instructions_of (Two i j) = i ∷ j ∷ []
 
 -- rows that stand one after the other from an address, are of one line, and have words that mean these instructions in order
 abbrev pub AreInstructions : ℕ → ℕ → List Instr → List ListingRow → Type 0

@@ -4,7 +4,7 @@ use Rattle.std.specs.Option.{option_and_then}
 use Rattle.formats.specs.declared.instr.Instr.{Instr}
 use Rattle.machine_model.specs.Effects.{ArchitecturalState, InstructionEffect, Becomes, Stops, reg, put, effect}
 use Rattle.asm_statements.specs.Expansion.{modulo_word, li_expansion, la_expansion, word_count}
-use Rattle.assembler.specs.Instructions.{instructions_of}
+use Rattle.assembler.specs.Filling.{instructions_of}
 
 -- the architectural state that an instruction makes, if it stops at no call and no trap
 abbrev pub architectural_of : InstructionEffect → Option ArchitecturalState

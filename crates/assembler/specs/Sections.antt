@@ -8,9 +8,8 @@ use Rattle.asm_statements.specs.Statements.{label_read, statement_read}
 use Rattle.asm_statements.specs.Encoding.{word_of}
 use Rattle.asm_statements.specs.Expansion.{expansion_of, modulo_word}
 use Rattle.assembler.specs.Layout.{start_layout, all_placed, numbers_in, string_in, space_bytes}
-use Rattle.assembler.specs.Filling.{Scope, address_named, distance_of, byte_of}
+use Rattle.assembler.specs.Filling.{Scope, address_named, distance_of, byte_of, instructions_of}
 use Rattle.assembler.specs.Assembly.{pages, scope_of, text_segment, data_segments}
-use Rattle.assembler.specs.Instructions.{instructions_of}
 use Rattle.asm_statements.specs.declared.expansion.Expansion.{Expansion}
 use Rattle.asm_statements.specs.declared.statement.Label.{Label}
 use Rattle.asm_statements.specs.declared.statement.Statement.{Statement}

@@ -1,8 +1,8 @@
 //! The second pass: the words of text and the bytes of data.
-ghost use Rattle.std.specs.Prelude.{◌≡◌, ◌≢◌, ◌≤ℤ◌, ◌+ℤ◌, ◌-ℤ◌, pos, Ok, Err, IfOk, IfErr, OnOk};
+ghost use Rattle.std.specs.Prelude.{◌≡◌, ◌≢◌, [], ◌∷◌, ◌≤ℤ◌, ◌+ℤ◌, ◌-ℤ◌, pos, Ok, Err, IfOk, IfErr, OnOk};
 ghost use Rattle.assembler.specs.Faults.{out_of_memory};
-ghost use Rattle.assembler.specs.Layout.{numbers_in, spot_of};
-ghost use Rattle.assembler.specs.Filling.{shown, address_of, distance_of, byte_of, put_word, put_numbers, put_bytes, put_string, put_space, put_expansion, instruction_of, instruction_put, bytes_filled, statement_filled, filled, contents_filled};
+ghost use Rattle.assembler.specs.Layout.{numbers_in, string_in, spot_of};
+ghost use Rattle.assembler.specs.Filling.{shown, address_of, distance_of, byte_of, added, joined, in_bytes, in_words, in_zeros, words_of_numbers, words_of_expansion, instruction_of, instruction_held, bytes_held, held, filled, contents_filled};
 
 use crate::fault::{AsmFault, Cause, fault_at};
 use crate::labels::{Labels, Spot};
@@ -112,10 +112,10 @@ fn fill_statement<'a>(
     statement: &Statement,
     output: &mut Output,
 ) -> Result<(), AsmFault>
-    ensures ok { OnOk result (statement_filled (record { source = source.now; labels = labels.now; data_base = data_base }) line.now
-        position statement.now (shown output.old) ≡ Ok (shown output.new)) }
-    ensures err { IfErr result (λ f. f ≢ out_of_memory → statement_filled (record { source = source.now; labels = labels.now; data_base = data_base }) line.now
-        position statement.now (shown output.old) ≡ Err f) }
+    ensures ok { OnOk result (added (shown output.old) (held (record { source = source.now; labels = labels.now; data_base = data_base }) line.now
+        position statement.now) ≡ Ok (shown output.new)) }
+    ensures err { IfErr result (λ f. f ≢ out_of_memory → added (shown output.old) (held (record { source = source.now; labels = labels.now; data_base = data_base }) line.now
+        position statement.now) ≡ Err f) }
 {
     let tokens = line.tokens.as_slice();
     match statement {
@@ -166,9 +166,9 @@ fn fill_instruction(
     number: Option<i64>,
     output: &mut Output,
 ) -> Result<(), AsmFault>
-    ensures ok { OnOk result (instruction_put source.now line.now in_data mnemonic operands.now number (shown output.old) ≡ Ok (shown output.new)) }
+    ensures ok { OnOk result (added (shown output.old) (instruction_held source.now line.now in_data mnemonic operands.now number) ≡ Ok (shown output.new)) }
     ensures err { IfErr result (λ f. f ≢ out_of_memory
-        → instruction_put source.now line.now in_data mnemonic operands.now number (shown output.old) ≡ Err f) }
+        → added (shown output.old) (instruction_held source.now line.now in_data mnemonic operands.now number) ≡ Err f) }
 {
     match instruction(source, line, mnemonic, operands, number) {
         Ok(expansion) => put_expansion(in_data, line.number, expansion, output),
@@ -257,7 +257,7 @@ fn below(address: i64, by: Literal, pc: i64) -> i64
 }
 
 fn put_word(in_data: bool, line: usize, word: u32, output: &mut Output) -> Result<(), AsmFault>
-    ensures ok { OnOk result (put_word in_data line word (shown output.old) ≡ shown output.new) }
+    ensures ok { OnOk result (shown output.new ≡ joined (shown output.old) (in_words in_data line (word ∷ []))) }
     ensures err { IfErr result (λ f. f ≡ out_of_memory) }
 {
     if in_data {
@@ -274,7 +274,7 @@ fn put_expansion(
     expansion: Expansion,
     output: &mut Output,
 ) -> Result<(), AsmFault>
-    ensures ok { OnOk result (put_expansion in_data line expansion (shown output.old) ≡ shown output.new) }
+    ensures ok { OnOk result (shown output.new ≡ joined (shown output.old) (in_words in_data line (words_of_expansion expansion))) }
     ensures err { IfErr result (λ f. f ≡ out_of_memory) }
 {
     match expansion {
@@ -293,7 +293,7 @@ fn put_numbers(
     tokens: &[Token],
     output: &mut Output,
 ) -> Result<(), AsmFault>
-    ensures ok { OnOk result (put_numbers in_data line (numbers_in tokens.now) (shown output.old) ≡ shown output.new) }
+    ensures ok { OnOk result (shown output.new ≡ joined (shown output.old) (in_words in_data line (words_of_numbers (numbers_in tokens.now)))) }
     ensures err { IfErr result (λ f. f ≡ out_of_memory) }
 {
     for token in tokens {
@@ -306,7 +306,7 @@ fn put_numbers(
 
 /// Adds the bytes of the first string among tokens to data.
 fn put_string(tokens: &[Token], output: &mut Output) -> Result<(), AsmFault>
-    ensures ok { OnOk result (put_string tokens.now (shown output.old) ≡ shown output.new) }
+    ensures ok { OnOk result (shown output.new ≡ joined (shown output.old) (in_bytes (string_in tokens.now))) }
     ensures err { IfErr result (λ f. f ≡ out_of_memory) }
 {
     output.bytes.extend_from_slice(string_in(tokens))?;
@@ -315,7 +315,7 @@ fn put_string(tokens: &[Token], output: &mut Output) -> Result<(), AsmFault>
 
 /// Adds zero bytes, in text as words.
 fn put_space(in_data: bool, line: usize, size: u32, output: &mut Output) -> Result<(), AsmFault>
-    ensures ok { OnOk result (put_space in_data line size (shown output.old) ≡ shown output.new) }
+    ensures ok { OnOk result (shown output.new ≡ joined (shown output.old) (in_zeros in_data line size)) }
     ensures err { IfErr result (λ f. f ≡ out_of_memory) }
 {
     if in_data {
@@ -331,8 +331,8 @@ fn put_space(in_data: bool, line: usize, size: u32, output: &mut Output) -> Resu
 
 /// Adds the numbers of a line, each as a byte.
 fn fill_bytes(source: &[u8], line: &Line, output: &mut Output) -> Result<(), AsmFault>
-    ensures ok { OnOk result (bytes_filled source.now line.now (shown output.old) ≡ Ok (shown output.new)) }
-    ensures err { IfErr result (λ f. f ≢ out_of_memory → bytes_filled source.now line.now (shown output.old) ≡ Err f) }
+    ensures ok { OnOk result (added (shown output.old) (bytes_held source.now line.now) ≡ Ok (shown output.new)) }
+    ensures err { IfErr result (λ f. f ≢ out_of_memory → added (shown output.old) (bytes_held source.now line.now) ≡ Err f) }
 {
     for token in line.tokens.as_slice() {
         if let Some(number) = number_of(&token.kind) {

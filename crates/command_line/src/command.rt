@@ -6,22 +6,10 @@ use crate::exec_options::EXEC;
 use crate::explore_options::EXPLORE;
 use crate::gdb_options::GDB;
 use crate::page_command::PAGE;
-use crate::rows::{ArgumentRow, CommandKind, CommandRow, Form, NumberRow};
+use crate::rows::{ArgumentRow, CommandKind, CommandRow};
 use crate::run_options::RUN;
 
-pub const SCRIPT: ArgumentRow = ArgumentRow {
-    name: "SCRIPT",
-    help: "the script's file",
-    form: Form::File,
-};
-
-/// The number of an event, counted from 1 since the last boot.
-const EVENT: NumberRow = NumberRow {
-    value: "N",
-    least: 0,
-    most: u64::MAX,
-    default: None,
-};
+pub const SCRIPT: ArgumentRow = "SCRIPT: the script's file";
 
 const REPLAY: CommandRow = CommandRow {
     kind: CommandKind::Replay,
@@ -31,12 +19,9 @@ const REPLAY: CommandRow = CommandRow {
     example: "Example: bench replay examples/first-run.script",
     arguments: &[
         SCRIPT,
-        ArgumentRow {
-            name: "cone",
-            help: "print instead what event N rests on, and what it gives on that alone",
-            form: Form::Number(EVENT),
-        },
+        "--cone <N>: print instead what event N rests on, and what it gives on that alone",
     ],
+    numbers: &[("cone", 0, u64::MAX, None)],
 };
 
 const PICTURE: CommandRow = CommandRow {
@@ -47,12 +32,9 @@ const PICTURE: CommandRow = CommandRow {
     example: "Example: bench picture examples/first-run.script > /tmp/run.svg",
     arguments: &[
         SCRIPT,
-        ArgumentRow {
-            name: "cone",
-            help: "draw what event N rests on, and all else pale",
-            form: Form::Number(EVENT),
-        },
+        "--cone <N>: draw what event N rests on, and all else pale",
     ],
+    numbers: &[("cone", 0, u64::MAX, None)],
 };
 
 pub const ASSEMBLE: CommandRow = CommandRow {
@@ -62,17 +44,10 @@ pub const ASSEMBLE: CommandRow = CommandRow {
     about: "Assemble a source, and write its image",
     example: "Example: bench asm examples/first.s /tmp/first.image",
     arguments: &[
-        ArgumentRow {
-            name: "SOURCE",
-            help: "the source's file",
-            form: Form::File,
-        },
-        ArgumentRow {
-            name: "IMAGE",
-            help: "the image's file, which is written anew; another than the source's",
-            form: Form::File,
-        },
+        "SOURCE: the source's file",
+        "IMAGE: the image's file, which is written anew; another than the source's",
     ],
+    numbers: &[],
 };
 
 const CHECK: CommandRow = CommandRow {
@@ -81,11 +56,8 @@ const CHECK: CommandRow = CommandRow {
     whole: "bench check",
     about: "Say what is wrong with a source, where, and what would cure it",
     example: "Example: bench check examples/first.s",
-    arguments: &[ArgumentRow {
-        name: "SOURCE",
-        help: "the source's file",
-        form: Form::File,
-    }],
+    arguments: &["SOURCE: the source's file"],
+    numbers: &[],
 };
 
 pub const IMAGE: CommandRow = CommandRow {
@@ -95,17 +67,10 @@ pub const IMAGE: CommandRow = CommandRow {
     about: "Make an image of an executable that a stock linker wrote",
     example: "Example: bench image a.out /tmp/a.image",
     arguments: &[
-        ArgumentRow {
-            name: "ELF",
-            help: "the executable's file: ELF, 32 bits, for RISC-V, linked statically",
-            form: Form::File,
-        },
-        ArgumentRow {
-            name: "IMAGE",
-            help: "the image's file, which is written anew; another than the executable's",
-            form: Form::File,
-        },
+        "ELF: the executable's file: ELF, 32 bits, for RISC-V, linked statically",
+        "IMAGE: the image's file, which is written anew; another than the executable's",
     ],
+    numbers: &[],
 };
 
 pub const SYMBOLS: CommandRow = CommandRow {
@@ -115,17 +80,10 @@ pub const SYMBOLS: CommandRow = CommandRow {
     about: "Write what gdb is told of a source: its labels, lines and data",
     example: "Example: bench symbols examples/first.s /tmp/first.elf",
     arguments: &[
-        ArgumentRow {
-            name: "SOURCE",
-            help: "the source's file",
-            form: Form::File,
-        },
-        ArgumentRow {
-            name: "ELF",
-            help: "the file of symbols, which is written anew; another than the source's",
-            form: Form::File,
-        },
+        "SOURCE: the source's file",
+        "ELF: the file of symbols, which is written anew; another than the source's",
     ],
+    numbers: &[],
 };
 
 const LIST: CommandRow = CommandRow {
@@ -134,11 +92,8 @@ const LIST: CommandRow = CommandRow {
     whole: "bench list",
     about: "Print the words of an image that may be executed",
     example: "Example: bench list /tmp/first.image",
-    arguments: &[ArgumentRow {
-        name: "IMAGE",
-        help: "the image's file",
-        form: Form::File,
-    }],
+    arguments: &["IMAGE: the image's file"],
+    numbers: &[],
 };
 
 const DIFF: CommandRow = CommandRow {
@@ -148,22 +103,11 @@ const DIFF: CommandRow = CommandRow {
     about: "Say where two logs of instructions differ first",
     example: "Example: bench diff /tmp/a.log /tmp/b.log",
     arguments: &[
-        ArgumentRow {
-            name: "A",
-            help: "a log's file, in the form of Spike's commit log",
-            form: Form::File,
-        },
-        ArgumentRow {
-            name: "B",
-            help: "the other's",
-            form: Form::File,
-        },
-        ArgumentRow {
-            name: "source",
-            help: "say where in the program that is: its source, or its executable",
-            form: Form::Option("FILE"),
-        },
+        "A: a log's file, in the form of Spike's commit log",
+        "B: the other's",
+        "--source <FILE>: say where in the program that is: its source, or its executable",
     ],
+    numbers: &[],
 };
 
 const OF_SCRIPTS: &[CommandRow] = &[REPLAY, PICTURE, PAGE, CRASHES, EXPLORE];

@@ -1,6 +1,6 @@
 //! The command `crashes`, and its options.
 use crate::numbers::number_of;
-use crate::rows::{ArgumentRow, CommandKind, CommandRow, Form, NumberRow};
+use crate::rows::{CommandKind, CommandRow};
 use crate::run_options::{ImagePaths, paths_named, small_number};
 use crate::tapes::TapePaths;
 use clap::ArgMatches;
@@ -92,91 +92,25 @@ pub const CRASHES: CommandRow = CommandRow {
     about: "Try a crash after each change of files, and print what each leaves, or run a recovery on it",
     example: "Example: bench crashes --recover examples/c/checks.image examples/c/wal.image",
     arguments: &[
-        ArgumentRow {
-            name: "PROGRAM",
-            help: "the files of 1 to 8 programs, for the terminals 0, 1, ..; or a script",
-            form: Form::Images,
-        },
-        ArgumentRow {
-            name: "expect",
-            help: "the lists of files that a crash may leave",
-            form: Form::Option("FILE"),
-        },
-        ArgumentRow {
-            name: "recover",
-            help: "run this program on what each crash leaves: it has to end with status 0",
-            form: Form::Option("PROGRAM"),
-        },
-        ArgumentRow {
-            name: "model",
-            help: "the rule of what a crash may leave: bench, ordered, delayed or posix",
-            form: Form::Option("NAME"),
-        },
-        ArgumentRow {
-            name: "apart",
-            help: "by another rule than bench, the most cells that are not as at one moment, 0 to 99",
-            form: Form::Number(NumberRow {
-                value: "D",
-                least: 0,
-                most: 99,
-                default: Some("2"),
-            }),
-        },
-        ArgumentRow {
-            name: "nested",
-            help: "how many crashes of the recovery may come one after the other, 0 to 8",
-            form: Form::Number(NumberRow {
-                value: "N",
-                least: 0,
-                most: 8,
-                default: Some("1"),
-            }),
-        },
-        ArgumentRow {
-            name: "save",
-            help: "write the first recovery that fails as scripts into a folder",
-            form: Form::Option("FOLDER"),
-        },
-        ArgumentRow {
-            name: "limit",
-            help: "the most instructions of the programs, and of each recovery",
-            form: Form::Number(NumberRow {
-                value: "N",
-                least: 1,
-                most: u64::MAX,
-                default: Some("100000000"),
-            }),
-        },
-        ArgumentRow {
-            name: "jobs",
-            help: "how many threads run recoveries, 1 to 256; as many as there are processors, if it is not given",
-            form: Form::Number(NumberRow {
-                value: "N",
-                least: 1,
-                most: 256,
-                default: None,
-            }),
-        },
-        ArgumentRow {
-            name: "part",
-            help: "run the recovery on part I of N of the disks, 1 <= I <= N <= 9999",
-            form: Form::Option("I/N"),
-        },
-        ArgumentRow {
-            name: "progress",
-            help: "say once a second how many recoveries were run",
-            form: Form::Flag,
-        },
-        ArgumentRow {
-            name: "tape",
-            help: "what the first program may read; - is standard input",
-            form: Form::Option("FILE"),
-        },
-        ArgumentRow {
-            name: "tape-of",
-            help: "what the program of terminal T may read; may be given for each T",
-            form: Form::Options("T=FILE"),
-        },
+        "PROGRAM..8: the files of 1 to 8 programs, for the terminals 0, 1, ..; or a script",
+        "--expect <FILE>: the lists of files that a crash may leave",
+        "--recover <PROGRAM>: run this program on what each crash leaves: it has to end with status 0",
+        "--model <NAME>: the rule of what a crash may leave: bench, ordered, delayed or posix",
+        "--apart <D>: by another rule than bench, the most cells that are not as at one moment, 0 to 99",
+        "--nested <N>: how many crashes of the recovery may come one after the other, 0 to 8",
+        "--save <FOLDER>: write the first recovery that fails as scripts into a folder",
+        "--limit <N>: the most instructions of the programs, and of each recovery",
+        "--jobs <N>: how many threads run recoveries, 1 to 256; as many as there are processors, if it is not given",
+        "--part <I/N>: run the recovery on part I of N of the disks, 1 <= I <= N <= 9999",
+        "--progress: say once a second how many recoveries were run",
+        "--tape <FILE>: what the first program may read; - is standard input",
+        "--tape-of <T=FILE>..: what the program of terminal T may read; may be given for each T",
+    ],
+    numbers: &[
+        ("apart", 0, 99, Some("2")),
+        ("nested", 0, 8, Some("1")),
+        ("limit", 1, u64::MAX, Some("100000000")),
+        ("jobs", 1, 256, None),
     ],
 };
 

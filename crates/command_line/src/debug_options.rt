@@ -1,5 +1,5 @@
 //! The command `debug`, and its options.
-use crate::rows::{ArgumentRow, CommandKind, CommandRow, Form, NumberRow};
+use crate::rows::{CommandKind, CommandRow, NumberRow};
 use crate::run_options::{ImagePaths, images_of, small_number};
 use clap::ArgMatches;
 use std::alloc::{AllocError, Global};
@@ -19,12 +19,7 @@ pub struct LiveOptions<'a> {
 }
 
 /// The number of the process that is debugged.
-pub const PROCESS: NumberRow = NumberRow {
-    value: "P",
-    least: 1,
-    most: 1024,
-    default: None,
-};
+pub const PROCESS: NumberRow = ("process", 1, 1024, None);
 
 /// The command `debug`.
 pub const DEBUG: CommandRow = CommandRow {
@@ -34,42 +29,15 @@ pub const DEBUG: CommandRow = CommandRow {
     about: "Debug an image, by commands on standard input",
     example: "Example: echo step 1 | bench debug /tmp/first.image",
     arguments: &[
-        ArgumentRow {
-            name: "IMAGE",
-            help: "the image's file; with --live the files of 1 to 8 images, for the terminals 0, 1, ..",
-            form: Form::Images,
-        },
-        ArgumentRow {
-            name: "trace",
-            help: "the replies that its calls take",
-            form: Form::Option("FILE"),
-        },
-        ArgumentRow {
-            name: "live",
-            help: "let a kernel answer its calls, and print what terminals show",
-            form: Form::Flag,
-        },
-        ArgumentRow {
-            name: "process",
-            help: "with --live, the process that is debugged, 1 to 1024; 1 if it is not given",
-            form: Form::Number(PROCESS),
-        },
-        ArgumentRow {
-            name: "tape",
-            help: "with --live, what the first image's program may read",
-            form: Form::Option("FILE"),
-        },
-        ArgumentRow {
-            name: "disk",
-            help: "with --live, the disk's file, zeros if there is none; it is not written",
-            form: Form::Option("FILE"),
-        },
-        ArgumentRow {
-            name: "source",
-            help: "the source that assembles to the image; its lines are printed, and its labels name addresses",
-            form: Form::Option("FILE"),
-        },
+        "IMAGE..8: the image's file; with --live the files of 1 to 8 images, for the terminals 0, 1, ..",
+        "--trace <FILE>: the replies that its calls take",
+        "--live: let a kernel answer its calls, and print what terminals show",
+        "--process <P>: with --live, the process that is debugged, 1 to 1024; 1 if it is not given",
+        "--tape <FILE>: with --live, what the first image's program may read",
+        "--disk <FILE>: with --live, the disk's file, zeros if there is none; it is not written",
+        "--source <FILE>: the source that assembles to the image; its lines are printed, and its labels name addresses",
     ],
+    numbers: &[PROCESS],
 };
 
 /// Why the other options do not go together with `--live`, if they do not.

@@ -1,6 +1,6 @@
 //! The command that lists a disk, copies its files, and compares it.
 use crate::refusing::refusal;
-use crate::rows::{ArgumentRow, CommandKind, CommandRow, Form};
+use crate::rows::{CommandKind, CommandRow};
 use clap::error::ErrorKind;
 use clap::{ArgMatches, Error};
 use std::alloc::Global;
@@ -11,11 +11,10 @@ pub const DISK: CommandRow = CommandRow {
     whole: "bench disk",
     about: "Print the files on a disk, and their lengths; copy one out or in; or compare two disks",
     example: "Example: bench disk put /tmp/disk settings examples/saves.files",
-    arguments: &[ArgumentRow {
-        name: "WORD",
-        help: "FILE and OTHER have disks, with files of a NAME; FROM is a file of the host",
-        form: Form::Images,
-    }],
+    arguments: &[
+        "WORD..8: FILE and OTHER have disks, with files of a NAME; FROM is a file of the host",
+    ],
+    numbers: &[],
 };
 
 /// The forms of the command.

@@ -1,6 +1,6 @@
 //! The command `exec`, and its options.
 use crate::numbers::number_of;
-use crate::rows::{ArgumentRow, CommandKind, CommandRow, Form, NumberRow};
+use crate::rows::{CommandKind, CommandRow};
 use crate::run_options::{
     RunNumbers, RunOptions, paths_named, run_numbers, small_number, terminal_of,
 };
@@ -35,22 +35,6 @@ pub struct ExecOptions<'a> {
     pub tells_profile: bool,
 }
 
-/// How many instructions, any number of them.
-const LIMIT: NumberRow = NumberRow {
-    value: "N",
-    least: 0,
-    most: u64::MAX,
-    default: None,
-};
-
-/// What chance begins with, any number.
-const SEED: NumberRow = NumberRow {
-    value: "S",
-    least: 0,
-    most: u64::MAX,
-    default: None,
-};
-
 /// The command `exec`.
 pub const EXEC: CommandRow = CommandRow {
     kind: CommandKind::Exec,
@@ -59,106 +43,30 @@ pub const EXEC: CommandRow = CommandRow {
     about: "Run programs: images, executables or sources; the status is that of the first",
     example: "Example: echo 1 2 3 | bench exec --tape - --limit 1000000 examples/first.s",
     arguments: &[
-        ArgumentRow {
-            name: "limit",
-            help: "the most instructions of all processes together; status 124 where they are reached",
-            form: Form::Number(LIMIT),
-        },
-        ArgumentRow {
-            name: "seed",
-            help: "have chance decide which process runs next and how long; a seed, one order",
-            form: Form::Number(SEED),
-        },
-        ArgumentRow {
-            name: "calls",
-            help: "tell of each call on standard error: its process, what it is given and replied",
-            form: Form::Flag,
-        },
-        ArgumentRow {
-            name: "record",
-            help: "write the run as a script, which bench replay runs again",
-            form: Form::Option("FILE"),
-        },
-        ArgumentRow {
-            name: "picture",
-            help: "draw the run as an SVG, as bench picture does",
-            form: Form::Option("FILE"),
-        },
-        ArgumentRow {
-            name: "log",
-            help: "write each instruction of process 1, in the form of Spike's commit log",
-            form: Form::Option("FILE"),
-        },
-        ArgumentRow {
-            name: "log-of",
-            help: "write those of process P in place of process 1",
-            form: Form::Number(NumberRow {
-                value: "P",
-                least: 1,
-                most: 4_294_967_295,
-                default: None,
-            }),
-        },
-        ArgumentRow {
-            name: "profile",
-            help: "say at the end how often each line, or function, of the first program was executed",
-            form: Form::Flag,
-        },
-        ArgumentRow {
-            name: "json",
-            help: "print at the end one object of JSON, in place of what terminals show",
-            form: Form::Flag,
-        },
-        ArgumentRow {
-            name: "workers",
-            help: "run by so many worker threads, 1 to 16; without it by turns, on one",
-            form: Form::Number(NumberRow {
-                value: "N",
-                least: 1,
-                most: 16,
-                default: None,
-            }),
-        },
-        ArgumentRow {
-            name: "disk",
-            help: "the disk's file, zeros if there is none; it is written at the end",
-            form: Form::Option("FILE"),
-        },
-        ArgumentRow {
-            name: "durable",
-            help: "have the disk's file hold each change before what rests on it is printed",
-            form: Form::Flag,
-        },
-        ArgumentRow {
-            name: "tape",
-            help: "what the first program may read; - is standard input",
-            form: Form::Option("FILE"),
-        },
-        ArgumentRow {
-            name: "tape-of",
-            help: "what the program of terminal T may read; may be given for each T",
-            form: Form::Options("T=FILE"),
-        },
-        ArgumentRow {
-            name: "term",
-            help: "the terminal that is printed, 0 to 7",
-            form: Form::Number(NumberRow {
-                value: "T",
-                least: 0,
-                most: 7,
-                default: Some("0"),
-            }),
-        },
-        ArgumentRow {
-            name: "all-terms",
-            help: "print all terminals, each part after a line that names its terminal",
-            form: Form::Flag,
-        },
-        ArgumentRow {
-            name: "PROGRAM",
-            help: "the files of 1 to 8 programs, for the terminals 0, 1, ..",
-            form: Form::Images,
-        },
+        "--limit <N>: the most instructions of all processes together; status 124 where they are reached",
+        "--seed <S>: have chance decide which process runs next and how long; a seed, one order",
+        "--calls: tell of each call on standard error: its process, what it is given and replied",
+        "--record <FILE>: write the run as a script, which bench replay runs again",
+        "--picture <FILE>: draw the run as an SVG, as bench picture does",
+        "--log <FILE>: write each instruction of process 1, in the form of Spike's commit log",
+        "--log-of <P>: write those of process P in place of process 1",
+        "--profile: say at the end how often each line, or function, of the first program was executed",
+        "--json: print at the end one object of JSON, in place of what terminals show",
+        "--workers <N>: run by so many worker threads, 1 to 16; without it by turns, on one",
+        "--disk <FILE>: the disk's file, zeros if there is none; it is written at the end",
+        "--durable: have the disk's file hold each change before what rests on it is printed",
+        "--tape <FILE>: what the first program may read; - is standard input",
+        "--tape-of <T=FILE>..: what the program of terminal T may read; may be given for each T",
+        "--term <T>: the terminal that is printed, 0 to 7",
+        "--all-terms: print all terminals, each part after a line that names its terminal",
+        "PROGRAM..8: the files of 1 to 8 programs, for the terminals 0, 1, ..",
+    ],
+    numbers: &[
+        ("limit", 0, u64::MAX, None),
+        ("seed", 0, u64::MAX, None),
+        ("log-of", 1, 4_294_967_295, None),
+        ("workers", 1, 16, None),
+        ("term", 0, 7, Some("0")),
     ],
 };
 

@@ -1,6 +1,6 @@
 //! The command `explore`, and its options.
 use crate::numbers::number_of;
-use crate::rows::{ArgumentRow, CommandKind, CommandRow, Form, NumberRow};
+use crate::rows::{CommandKind, CommandRow};
 use crate::run_options::small_number;
 use clap::ArgMatches;
 use clap::parser::ValueSource;
@@ -49,66 +49,20 @@ pub const EXPLORE: CommandRow = CommandRow {
     about: "Find all outcomes of programs, whatever the order of their calls",
     example: "Example: bench explore /tmp/lost-update.image",
     arguments: &[
-        ArgumentRow {
-            name: "PROGRAM",
-            help: "the files of 1 to 8 images, for the terminals 0, 1, ..; or a script, whose set-up lines count; or, with --merge, those of all parts",
-            form: Form::Files,
-        },
-        ArgumentRow {
-            name: "expect",
-            help: "the outcomes that there may be",
-            form: Form::Option("FILE"),
-        },
-        ArgumentRow {
-            name: "save",
-            help: "write a script of each outcome into a folder",
-            form: Form::Option("FOLDER"),
-        },
-        ArgumentRow {
-            name: "limit",
-            help: "the most instructions that a process runs to its next call, 1 to 2147483647",
-            form: Form::Number(NumberRow {
-                value: "N",
-                least: 1,
-                most: 2_147_483_647,
-                default: Some("1000000"),
-            }),
-        },
-        ArgumentRow {
-            name: "most-states",
-            help: "how many states may be found before the search is cut, 1 to 4294967295",
-            form: Form::Number(NumberRow {
-                value: "N",
-                least: 1,
-                most: 4_294_967_295,
-                default: Some("1000000"),
-            }),
-        },
-        ArgumentRow {
-            name: "jobs",
-            help: "how many threads search, 1 to 256; as many as there are processors, if it is not given",
-            form: Form::Number(NumberRow {
-                value: "N",
-                least: 1,
-                most: 256,
-                default: None,
-            }),
-        },
-        ArgumentRow {
-            name: "progress",
-            help: "say once a second how far the search has come",
-            form: Form::Flag,
-        },
-        ArgumentRow {
-            name: "part",
-            help: "search part I of N alone, and print its file; N is at most 9999",
-            form: Form::Option("I/N"),
-        },
-        ArgumentRow {
-            name: "merge",
-            help: "put the files of all parts together, and print what the whole search prints",
-            form: Form::Flag,
-        },
+        "PROGRAM..: the files of 1 to 8 images, for the terminals 0, 1, ..; or a script, whose set-up lines count; or, with --merge, those of all parts",
+        "--expect <FILE>: the outcomes that there may be",
+        "--save <FOLDER>: write a script of each outcome into a folder",
+        "--limit <N>: the most instructions that a process runs to its next call, 1 to 2147483647",
+        "--most-states <N>: how many states may be found before the search is cut, 1 to 4294967295",
+        "--jobs <N>: how many threads search, 1 to 256; as many as there are processors, if it is not given",
+        "--progress: say once a second how far the search has come",
+        "--part <I/N>: search part I of N alone, and print its file; N is at most 9999",
+        "--merge: put the files of all parts together, and print what the whole search prints",
+    ],
+    numbers: &[
+        ("limit", 1, 2_147_483_647, Some("1000000")),
+        ("most-states", 1, 4_294_967_295, Some("1000000")),
+        ("jobs", 1, 256, None),
     ],
 };
 

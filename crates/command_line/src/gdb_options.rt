@@ -1,6 +1,6 @@
 //! The command `gdb`, and its options.
 use crate::debug_options::{LiveOptions, PROCESS, live_options};
-use crate::rows::{ArgumentRow, CommandKind, CommandRow, Form, NumberRow};
+use crate::rows::{CommandKind, CommandRow};
 use crate::run_options::small_number;
 use clap::ArgMatches;
 use std::alloc::{AllocError, Global};
@@ -26,47 +26,15 @@ pub const GDB: CommandRow = CommandRow {
     about: "Answer gdb, which debugs an image: its remote protocol on standard input and output",
     example: "Example: gdb-multiarch -ex 'target remote | bench gdb /tmp/first.image'",
     arguments: &[
-        ArgumentRow {
-            name: "IMAGE",
-            help: "the files of 1 to 8 images, for the terminals 0, 1, ..; with --trace one image",
-            form: Form::Images,
-        },
-        ArgumentRow {
-            name: "process",
-            help: "the process that is debugged, 1 to 1024; 1 if it is not given",
-            form: Form::Number(PROCESS),
-        },
-        ArgumentRow {
-            name: "tape",
-            help: "what the first image's program may read",
-            form: Form::Option("FILE"),
-        },
-        ArgumentRow {
-            name: "disk",
-            help: "the disk's file, zeros if there is none; it is written by 'monitor keep' alone",
-            form: Form::Option("FILE"),
-        },
-        ArgumentRow {
-            name: "trace",
-            help: "the replies that its calls take, in place of a kernel's",
-            form: Form::Option("FILE"),
-        },
-        ArgumentRow {
-            name: "symbols",
-            help: "the file of symbols that gdb is told: an ELF file with DWARF",
-            form: Form::Option("ELF"),
-        },
-        ArgumentRow {
-            name: "history",
-            help: "the most memory that the program's history may take, in MiB, 1 to 1048576",
-            form: Form::Number(NumberRow {
-                value: "MIB",
-                least: 1,
-                most: 1 << 20,
-                default: Some("1024"),
-            }),
-        },
+        "IMAGE..8: the files of 1 to 8 images, for the terminals 0, 1, ..; with --trace one image",
+        "--process <P>: the process that is debugged, 1 to 1024; 1 if it is not given",
+        "--tape <FILE>: what the first image's program may read",
+        "--disk <FILE>: the disk's file, zeros if there is none; it is written by 'monitor keep' alone",
+        "--trace <FILE>: the replies that its calls take, in place of a kernel's",
+        "--symbols <ELF>: the file of symbols that gdb is told: an ELF file with DWARF",
+        "--history <MIB>: the most memory that the program's history may take, in MiB, 1 to 1048576",
     ],
+    numbers: &[PROCESS, ("history", 1, 1 << 20, Some("1024"))],
 };
 
 /// Why the options of `gdb` do not go together, if they do not.

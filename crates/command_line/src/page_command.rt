@@ -1,6 +1,6 @@
 //! The command that makes a page of a script's run.
 use crate::command::SCRIPT;
-use crate::rows::{ArgumentRow, CommandKind, CommandRow, Form};
+use crate::rows::{CommandKind, CommandRow};
 use crate::task::Task;
 use clap::ArgMatches;
 use std::alloc::{AllocError, Global};
@@ -13,17 +13,10 @@ pub const PAGE: CommandRow = CommandRow {
     example: "Example: bench page examples/first-run.script > /tmp/run.html",
     arguments: &[
         SCRIPT,
-        ArgumentRow {
-            name: "json",
-            help: "print instead what the page has of the run, as a line of JSON",
-            form: Form::Flag,
-        },
-        ArgumentRow {
-            name: "source",
-            help: "a source of a program, whose lines are shown; may be given for each program",
-            form: Form::Options("FILE"),
-        },
+        "--json: print instead what the page has of the run, as a line of JSON",
+        "--source <FILE>..: a source of a program, whose lines are shown; may be given for each program",
     ],
+    numbers: &[],
 };
 
 /// What the arguments of the command ask for. None where an argument is missing.

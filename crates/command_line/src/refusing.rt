@@ -22,7 +22,7 @@ pub fn test_numbers(
     row: &CommandRow,
     matches: &ArgMatches<'_>,
 ) -> Result<(), Error> {
-    match faulty_number(matches, row.arguments) {
+    match faulty_number(matches, row) {
         None => Ok(()),
         Some(fault) => {
             let message = format!(in alloc; "{fault}")?;

@@ -4,42 +4,14 @@ use clap::{Arg, ArgAction, Command};
 use kernel_model::MOST_PROGRAMS;
 use std::alloc::{AllocError, Global};
 
-/// A decimal number in a range.
-#[derive(Clone, Copy)]
-pub struct NumberRow {
-    /// The name of the value.
-    pub value: &'static str,
-    pub least: u64,
-    pub most: u64,
-    /// The number that holds where none is given, if there is one.
-    pub default: Option<&'static str>,
-}
+/// An argument: how it is written, then `: ` and what the help says of it. `NAME` stands at its place, and has to be there; `NAME..8`
+/// up to so many times, and `NAME..` any number of times. `--name` is an option without a value, and `--name <VALUE>` one with a
+/// value; with `..` after it, it may be given any number of times.
+pub type ArgumentRow = &'static str;
 
-/// How an argument is given.
-#[derive(Clone, Copy)]
-pub enum Form {
-    /// By its place. The argument has to be there.
-    File,
-    /// By their places, 1 to 8 files or words.
-    Images,
-    /// By its place, any number of times from 1 on.
-    Files,
-    /// As an option, once at most, whose value has this name.
-    Option(&'static str),
-    /// As an option, any number of times, whose value has this name.
-    Options(&'static str),
-    /// As an option, once at most, whose value is a number.
-    Number(NumberRow),
-    /// As an option without a value, once at most.
-    Flag,
-}
-
-/// An argument of a command.
-pub struct ArgumentRow {
-    pub name: &'static str,
-    pub help: &'static str,
-    pub form: Form,
-}
+/// An option whose value is a decimal number: its name, the least and the most number, and the number that holds where none is given,
+/// if there is one.
+pub type NumberRow = (&'static str, u64, u64, Option<&'static str>);
 
 /// Which command a row is.
 #[derive(Clone, Copy)]
@@ -72,59 +44,85 @@ pub struct CommandRow {
     /// An example, which stands at the end of the help.
     pub example: &'static str,
     pub arguments: &'static [ArgumentRow],
+    /// Those of its options that are numbers.
+    pub numbers: &'static [NumberRow],
 }
 
-/// The argument of a row, with at most one value.
-fn once<'a>(alloc: Global, row: &ArgumentRow) -> Arg<'a> {
-    Arg::new(alloc, row.name)
-        .help(row.help)
-        .action(ArgAction::Set)
+/// How an argument is written, and what the help says of it.
+fn parts_of(row: &str) -> (&str, &str) {
+    row.split_once(": ").unwrap_or((row, ""))
 }
 
-/// An argument that is given at least once, and so many times at most.
-fn several<'a>(arg: Arg<'a>, most: usize) -> Arg<'a> {
-    arg.required(true)
+/// The name, the value, if it has one, and what follows it, in how an option is written after its `--`.
+fn option_parts(option: &str) -> (&str, Option<&str>, &str) {
+    let Some((name, rest)) = option.split_once(" <") else {
+        return (option, None, "");
+    };
+    let (value, times) = rest.split_once('>').unwrap_or((rest, ""));
+    (name, Some(value), times)
+}
+
+/// How the option of a row is written, and its row among numbers, if it is one of them.
+pub fn number_of_row<'a>(row: &'a str, numbers: &[NumberRow]) -> Option<(&'a str, NumberRow)> {
+    let (written, _help) = parts_of(row);
+    let (name, _, _) = option_parts(written.strip_prefix("--")?);
+    let number = numbers.iter().find(|number| number.0 == name)?;
+    Some((written, *number))
+}
+
+/// An argument that is given by its place.
+fn placed<'a>(alloc: Global, written: &'a str) -> Arg<'a> {
+    let Some((name, most)) = written.split_once("..") else {
+        return Arg::new(alloc, written)
+            .required(true)
+            .action(ArgAction::Set);
+    };
+    let most = if most.is_empty() {
+        usize::MAX
+    } else {
+        MOST_PROGRAMS
+    };
+    Arg::new(alloc, name)
+        .required(true)
         .num_args(1..=most)
         .action(ArgAction::Append)
 }
 
-fn option<'a>(arg: Arg<'a>, name: &'a str, value: &'a str) -> Arg<'a> {
-    arg.long(name).value_name(value)
-}
-
-/// An option whose value is a number. Its text is tested after all words are parted, by `faulty_number`.
-fn number<'a>(arg: Arg<'a>, name: &'a str, row: NumberRow) -> Arg<'a> {
-    let arg = option(arg, name, row.value);
-    match row.default {
-        Some(default) => arg.default_value(default),
-        None => arg,
+fn option<'a>(alloc: Global, option: &'a str) -> Arg<'a> {
+    let (name, value, times) = option_parts(option);
+    let arg = Arg::new(alloc, name).long(name);
+    match value {
+        None => arg.action(ArgAction::SetTrue),
+        Some(value) if times.is_empty() => arg.value_name(value).action(ArgAction::Set),
+        Some(value) => arg.value_name(value).action(ArgAction::Append),
     }
 }
 
-fn argument_of<'a>(alloc: Global, row: &ArgumentRow) -> Arg<'a> {
-    let arg = once(alloc, row);
-    match row.form {
-        Form::File => arg.required(true),
-        Form::Images => several(arg, MOST_PROGRAMS),
-        Form::Files => several(arg, usize::MAX),
-        Form::Option(value) => option(arg, row.name, value),
-        Form::Options(value) => option(arg, row.name, value).action(ArgAction::Append),
-        Form::Number(range) => number(arg, row.name, range),
-        Form::Flag => arg.long(row.name).action(ArgAction::SetTrue),
+/// The argument of a row. The text of a number is tested after all words are parted, by `faulty_number`.
+fn argument_of<'a>(alloc: Global, row: &'a str, numbers: &[NumberRow]) -> Arg<'a> {
+    let (written, help) = parts_of(row);
+    let arg = match written.strip_prefix("--") {
+        Some(name) => option(alloc, name),
+        None => placed(alloc, written),
+    };
+    let arg = arg.help(help);
+    match number_of_row(row, numbers) {
+        Some((_, (_, _, _, Some(default)))) => arg.default_value(default),
+        _ => arg,
     }
 }
 
-fn arguments_of<'a>(alloc: Global, rows: &[ArgumentRow]) -> Result<Vec<Arg<'a>>, AllocError> {
+fn arguments_of<'a>(alloc: Global, row: &CommandRow) -> Result<Vec<Arg<'a>>, AllocError> {
     let mut arguments = Vec::new(alloc);
-    for row in rows {
-        arguments.push(argument_of(alloc, row))?;
+    for argument in row.arguments {
+        arguments.push(argument_of(alloc, *argument, row.numbers))?;
     }
     Ok(arguments)
 }
 
 /// The command of a row, with its arguments.
 pub fn command_of<'a>(alloc: Global, row: &CommandRow) -> Result<Command<'a>, AllocError> {
-    let arguments = arguments_of(alloc, row.arguments)?;
+    let arguments = arguments_of(alloc, row)?;
     let command = Command::new(alloc, row.name)
         .bin_name(row.whole)?
         .about(row.about)

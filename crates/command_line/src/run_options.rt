@@ -4,7 +4,7 @@ ghost use Rattle.std.proofs.Props.{props};
 ghost use Rattle.kernel_model.specs.World.{most_programs, terminal_count};
 
 use crate::numbers::number_of;
-use crate::rows::{ArgumentRow, CommandKind, CommandRow, Form, NumberRow};
+use crate::rows::{CommandKind, CommandRow};
 use crate::tapes::TapePaths;
 use clap::ArgMatches;
 use clap::parser::ValueSource;
@@ -68,86 +68,24 @@ pub const RUN: CommandRow = CommandRow {
     about: "Run images by worker threads, and print what a terminal shows",
     example: "Example: echo 1 2 3 | bench run --tape - --disk /tmp/disk /tmp/first.image",
     arguments: &[
-        ArgumentRow {
-            name: "workers",
-            help: "how many workers there are, 1 to 16",
-            form: Form::Number(NumberRow {
-                value: "N",
-                least: 1,
-                most: 16,
-                default: Some("4"),
-            }),
-        },
-        ArgumentRow {
-            name: "quantum",
-            help: "the most instructions that a worker runs at a time, 1 to 1000000",
-            form: Form::Number(NumberRow {
-                value: "Q",
-                least: 1,
-                most: 1_000_000,
-                default: Some("10000"),
-            }),
-        },
-        ArgumentRow {
-            name: "disk",
-            help: "the disk's file, zeros if there is none; it is written at the end",
-            form: Form::Option("FILE"),
-        },
-        ArgumentRow {
-            name: "durable",
-            help: "have the disk's file hold each change before what rests on it is printed",
-            form: Form::Flag,
-        },
-        ArgumentRow {
-            name: "tape",
-            help: "what the first image's program may read; - is standard input",
-            form: Form::Option("FILE"),
-        },
-        ArgumentRow {
-            name: "tape-of",
-            help: "what the program of terminal T may read; may be given for each T",
-            form: Form::Options("T=FILE"),
-        },
-        ArgumentRow {
-            name: "term",
-            help: "the terminal that is printed, 0 to 7",
-            form: Form::Number(NumberRow {
-                value: "T",
-                least: 0,
-                most: 7,
-                default: Some("0"),
-            }),
-        },
-        ArgumentRow {
-            name: "all-terms",
-            help: "print all terminals, each part after a line that names its terminal",
-            form: Form::Flag,
-        },
-        ArgumentRow {
-            name: "fail",
-            help: "which completion of the disk fails, 1 to 2147483647; none if it is not given",
-            form: Form::Number(NumberRow {
-                value: "K",
-                least: 1,
-                most: 2_147_483_647,
-                default: None,
-            }),
-        },
-        ArgumentRow {
-            name: "status",
-            help: "the process whose status is that of the command",
-            form: Form::Number(NumberRow {
-                value: "P",
-                least: 1,
-                most: 4_294_967_295,
-                default: None,
-            }),
-        },
-        ArgumentRow {
-            name: "IMAGE",
-            help: "the files of 1 to 8 images, for the terminals 0, 1, ..",
-            form: Form::Images,
-        },
+        "--workers <N>: how many workers there are, 1 to 16",
+        "--quantum <Q>: the most instructions that a worker runs at a time, 1 to 1000000",
+        "--disk <FILE>: the disk's file, zeros if there is none; it is written at the end",
+        "--durable: have the disk's file hold each change before what rests on it is printed",
+        "--tape <FILE>: what the first image's program may read; - is standard input",
+        "--tape-of <T=FILE>..: what the program of terminal T may read; may be given for each T",
+        "--term <T>: the terminal that is printed, 0 to 7",
+        "--all-terms: print all terminals, each part after a line that names its terminal",
+        "--fail <K>: which completion of the disk fails, 1 to 2147483647; none if it is not given",
+        "--status <P>: the process whose status is that of the command",
+        "IMAGE..8: the files of 1 to 8 images, for the terminals 0, 1, ..",
+    ],
+    numbers: &[
+        ("workers", 1, 16, Some("4")),
+        ("quantum", 1, 1_000_000, Some("10000")),
+        ("term", 0, 7, Some("0")),
+        ("fail", 1, 2_147_483_647, None),
+        ("status", 1, 4_294_967_295, None),
     ],
 };
 
