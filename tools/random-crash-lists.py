@@ -77,21 +77,22 @@ def touched(change, before):
 
 
 def directories(base, changes):
-    """Returns each set of name changes that has, with each, the earlier ones of its names: the names, and which are there."""
-    states, found = states_of(base, changes), [(dict(base.names), frozenset(), frozenset())]
-    for i, change in enumerate(changes):
-        if change[0] not in ("create", "remove", "rename"):
-            continue
-        a, b = states[i].names, states[i + 1].names
-        edit = {name: b.get(name) for name in set(a) | set(b) if a.get(name) != b.get(name)}
-        following = []
-        for names, stopped, taken in found:
-            if not set(edit) & stopped:
-                kept = {name: number for name, number in {**names, **edit}.items() if number is not None}
-                following.append((kept, stopped, taken | {i + 1}))
-            following.append((names, stopped | set(edit), taken))
-        found = following
-    return [(names, taken) for names, _stopped, taken in found]
+    """Returns, for each choice of a moment for each name by which renamings are whole, the names and which changes of them are there."""
+    states, found = states_of(base, changes), []
+    edits = {}
+    for u, (before, after) in enumerate(zip(states, states[1:])):
+        names = {name for name in {*before.names, *after.names} if before.names.get(name) != after.names.get(name)}
+        if names:
+            edits[u] = names
+    edited = sorted(set().union(*edits.values()))
+    for chosen in product(*([0, *(u + 1 for u, names in edits.items() if name in names)] for name in edited)):
+        moment = dict(zip(edited, chosen))
+        sides = {u: {moment[name] > u for name in names} for u, names in edits.items()}
+        if all(len(side) == 1 for side in sides.values()):
+            numbers = {name: states[moment.get(name, 0)].names.get(name) for name in {*base.names, *edited}}
+            there = frozenset(u + 1 for u, side in sides.items() if side == {True})
+            found.append(({name: number for name, number in numbers.items() if number is not None}, there))
+    return found
 
 
 def is_kept(states, changes, number, k, size, moment):

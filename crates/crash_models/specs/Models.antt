@@ -46,10 +46,10 @@ IsNamed files changes m name None (Some place) left = ⊥
 IsNamed files changes m name (Some number) None left = ⊥
 IsNamed files changes m name (Some number) (Some place) left = HasBytes files changes m number (bytes_of (slice_get left place))
 
--- these files are left where each cell is as at its moment
-abbrev pub IsLeftAt : Numbered → List Change → Moments → List NamedFile → Type 0
-IsLeftAt files changes m left = (name : List ℕ)
-    → IsNamed files changes m name (number_named (at_moment files changes (m.name name)) name) (place_named left name) left
+-- these files are left where each cell is as at its moment, and no two of them have one name
+pub record IsLeftAt (files : Numbered) (changes : List Change) (m : Moments) (left : List NamedFile) : Type 0 where
+  pub named : (name : List ℕ) → IsNamed files changes m name (number_named (at_moment files changes (m.name name)) name) (place_named left name) left
+  pub distinct : (place : ℕ) (file : NamedFile) → slice_get left place ≡ Some file → place_named left file.name ≡ Some place
 
 -- both names of a rename are on the same side of it
 abbrev pub RenamesWhole : Numbered → List Change → Moments → Type 0
