@@ -14,7 +14,8 @@ use Rattle.machine_model.specs.declared.image.Segment.{Segment}
 use Rattle.asm_text.specs.declared.token.Line.{Line}
 use Rattle.assembler.specs.Assembly.{text_segment}
 use Rattle.assembler.specs.Listed.{AreListed, IsListedFirst}
-use Rattle.assembler.specs.Instructions.{AreInstructions, IsListedInstruction, ListsInstructions, instructions_of}
+use Rattle.assembler.specs.Filling.{instructions_of}
+use Rattle.assembler.specs.Instructions.{AreInstructions, IsListedInstruction, ListsInstructions}
 use Rattle.asm_statements.specs.declared.mnemonic.Mnemonic.{Mnemonic}
 use Rattle.asm_statements.specs.declared.operands.Operands.{Operands}
 use Rattle.assembler.specs.declared.listing.ListingRow.{ListingRow}

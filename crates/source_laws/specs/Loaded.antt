@@ -11,7 +11,8 @@ use Rattle.image_model.specs.declared.fault.ElfFault.{ElfFault}
 use Rattle.image_model.specs.declared.fault.ElfFault.TheVariants.{OutOfMemory}
 use Rattle.asm_text.specs.Text.{IsText}
 use Rattle.asm_text.specs.declared.token.Line.{Line}
-use Rattle.assembler.specs.Instructions.{IsInstruction, IsListedInstruction, instructions_of}
+use Rattle.assembler.specs.Filling.{instructions_of}
+use Rattle.assembler.specs.Instructions.{IsInstruction, IsListedInstruction}
 use Rattle.asm_statements.specs.declared.mnemonic.Mnemonic.{Mnemonic}
 use Rattle.asm_statements.specs.declared.operands.Operands.{Operands}
 use Rattle.assembler.specs.declared.listing.ListingRow.{ListingRow}
