@@ -1,6 +1,7 @@
 //! A search of the calls of programs. What it is said to find is the joint between `state_search`, which knows no calls, and `order_laws`,
 //! which knows no keys.
 ghost use Rattle.std.specs.Prelude.{IfOk};
+ghost use Rattle.state_search.specs.Searches.{IsCut};
 ghost use Rattle.explored_runs.specs.CallSearches.{FindsByKeys, FindsItsPart};
 
 use state_search::{Moves, Part, PartSearched, Searched, search, search_part};
@@ -18,7 +19,8 @@ pub fn search_calls<M: Moves, R: Threads + Sync>(
     moves: &mut M,
     most: u64,
 ) -> Result<Searched<M::State>, M::Fault>
-    ensures { IfOk result (λ found. FindsByKeys M.begins M.expands found.gone_on.items found.left.items found.depth) }
+    ensures finds { IfOk result (λ found. FindsByKeys M.begins M.expands found.gone_on.items found.left.items found.depth) }
+    ensures cut { IfOk result (λ found. IsCut found.gone_on.items found.left.items found.depth most) }
 {
     match search(rt, alloc, moves, most) {
         Ok(searched) => Ok(searched),
@@ -35,7 +37,8 @@ pub fn search_calls_part<M: Moves, R: Threads + Sync>(
     most: u64,
     part: Part,
 ) -> Result<PartSearched<M::State>, M::Fault>
-    ensures { IfOk result (λ found. FindsItsPart M.begins M.expands found.searched.gone_on.items found.searched.left.items found.others.items found.searched.depth) }
+    ensures finds { IfOk result (λ found. FindsItsPart M.begins M.expands found.searched.gone_on.items found.searched.left.items found.others.items found.searched.depth) }
+    ensures cut { IfOk result (λ found. IsCut found.searched.gone_on.items found.searched.left.items found.searched.depth most) }
 {
     match search_part(rt, alloc, moves, most, part) {
         Ok(found) => Ok(found),

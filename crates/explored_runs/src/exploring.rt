@@ -7,12 +7,12 @@ use crate::findings::{Findings, Wanted, print_outcome};
 use crate::outcome::Outcome;
 use crate::part_file::{PartHead, write_end, write_head, write_outcome, write_state};
 use crate::programs::Programs;
-use crate::progress::Progress;
 use crate::runs::{After, Runs};
 use crate::saved::{script_of, setup_lines};
 use crate::summed::Summed;
 use crate::totals::Totals;
 use faults::Fault;
+use progress::{Progress, ProgressCount};
 use scripts::{Setup, write_setup};
 use state_search::{Found, Key, Moves, Part, Reached};
 use std::alloc::{AllocError, Global};
@@ -49,6 +49,8 @@ struct Exploring<'r, 'p, 'w, 'o, 'e, R, O, E> {
     findings: Findings<'w>,
     out: Summed<'o, O>,
     progress: Progress<'e, E>,
+    /// How many states it went on from in the levels before.
+    before: u64,
 }
 
 impl<R, O, E> Drop for Exploring<'_, '_, '_, '_, '_, R, O, E> {
@@ -63,6 +65,7 @@ impl<R, O, E> Drop for Exploring<'_, '_, '_, '_, '_, R, O, E> {
             findings: _findings,
             out: _out,
             progress: _progress,
+            before: _,
         } = self;
     }
 }
@@ -130,12 +133,16 @@ impl<R: Files + AllocGlobal, O: Write, E: Write> Exploring<'_, '_, '_, '_, '_, R
         self.findings.judge(number, outcome)
     }
 
-    /// Tells how far it has come, where so many states of a level are done.
-    fn tell(&mut self, done: usize, level: usize) {
-        let left = level.saturating_sub(done);
-        self.progress.tell(self.rt, &mut self.out, done, left);
-        if left == 0 {
-            self.progress.end_level(level);
+    /// Tells how far it has come, where so many states of a level are done. What was printed goes out before it.
+    fn tell(&mut self, done: u64, level: u64) {
+        if self.progress.is_due(self.rt) {
+            let _ = self.out.flush();
+            self.progress.tell(ProgressCount {
+                what: "states",
+                done: self.before.saturating_add(done),
+                left: level.saturating_sub(done),
+                part: "level",
+            });
         }
     }
 
@@ -209,14 +216,15 @@ impl<R: Files + AllocGlobal, O: Write, E: Write> Moves for Exploring<'_, '_, '_,
     ) -> Result<Vec<Reached<Vec<u32>>>, Fault> {
         let mut next = Vec::new(self.rt.alloc());
         let mut over = Vec::new(self.rt.alloc());
-        let mut done = 0usize;
+        let mut done = 0u64;
         for taken in level.chunks(self.threads.saturating_mul(TAKEN).max(1)) {
             let answers = after_each(rt, self.runs, self.threads, taken)?;
             self.note(taken, answers.as_slice())?;
             sort_out(answers, &mut next, &mut over)?;
-            done = done.saturating_add(taken.len());
-            self.tell(done, level.len());
+            done = done.saturating_add(taken.len() as u64);
+            self.tell(done, level.len() as u64);
         }
+        self.before = self.before.saturating_add(done);
         self.find_all(over)?;
         Ok(next)
     }
@@ -263,6 +271,7 @@ pub fn explore_orders<R: Files + AllocGlobal + Threads + Sync, O: Write, E: Writ
         findings,
         out: Summed::new(out),
         progress: Progress::new(rt, err, wanted.progress),
+        before: 0,
     };
     match limits.part {
         Some(part) => exploring.search_part(PartHead {

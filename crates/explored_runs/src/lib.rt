@@ -22,7 +22,6 @@ mod part_reading;
 mod pipe_texts;
 mod private;
 mod programs;
-mod progress;
 mod replay;
 mod runs;
 mod saved;

@@ -1,4 +1,6 @@
 //! How far a search came in all.
+ghost use Rattle.std.specs.Prelude.{◌≡◌, length, IfOk};
+
 use crate::findings::Findings;
 use faults::{ExplorationFault, Fault};
 use state_search::Searched;
@@ -15,7 +17,10 @@ pub struct Totals {
 }
 
 impl Totals {
-    pub fn of(searched: &Searched<Vec<u32>>) -> Totals {
+    pub fn of(searched: &Searched<Vec<u32>>) -> Totals
+        ensures left { result.left ≡ length searched.now.left.items }
+        ensures depth { result.depth ≡ searched.now.depth }
+    {
         let left = searched.left.len() as u64;
         Totals {
             states: (searched.gone_on.len() as u64).saturating_add(left),
@@ -33,7 +38,9 @@ impl Totals {
     }
 
     /// Refuses a search that did not explore all.
-    pub fn test_all(self, findings: &Findings<'_>) -> Result<(), Fault> {
+    pub fn test_all(self, findings: &Findings<'_>) -> Result<(), Fault>
+        ensures { IfOk result (λ _. self.left ≡ 0) }
+    {
         let (left, calls) = (self.left, self.depth);
         if left > 0 {
             return Err(Fault::Exploration(ExplorationFault::Cut { left, calls }));

@@ -1,5 +1,5 @@
 -- When a search has left nothing out.
-use Rattle.std.specs.Prelude.{◌≡◌, ℕ, ◌+◌, ◌<◌, ◌≤◌, ◌⊎◌, List, [], ◌++◌}
+use Rattle.std.specs.Prelude.{◌≡◌, ℕ, ◌+◌, ◌-◌, ◌^◌, ◌<◌, ◌≤◌, ◌⊎◌, List, [], ◌++◌, length}
 use Rattle.std.specs.List.{Contains}
 use Rattle.state_search.specs.declared.key.Key.{Key}
 use Rattle.state_search.specs.declared.moves.Found.{Found}
@@ -68,3 +68,7 @@ pub record IsPart {S : Type 0} (begins : Reached S → Type 0) (expands : List (
 -- A search to depth `depth` is its only part.
 abbrev pub IsSearched : {S : Type 0} → (Reached S → Type 0) → (List (Found S) → List (Reached S) → Type 0) → List (Found S) → List (Found S) → ℕ → Type 0
 IsSearched begins expands gone_on left depth = IsPart begins expands gone_on left [] depth
+
+-- Why a search ends: it left none, or found more than it may, or can count no more moves.
+abbrev pub IsCut : {S : Type 0} → List (Found S) → List (Found S) → ℕ → ℕ → Type 0
+IsCut gone_on left depth most = (left ≡ []) ⊎ ((most < length gone_on + length left) ⊎ (depth ≡ 2 ^ 64 - 1))

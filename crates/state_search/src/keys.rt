@@ -1,6 +1,5 @@
 //! The keys of the states that were found.
-ghost use Rattle.std.specs.Prelude.{◌≡◌, ◌⊎◌, true, false, IfOk, OnOk};
-ghost use Rattle.std.specs.Bool.{OnFalse};
+ghost use Rattle.std.specs.Prelude.{◌≡◌, ◌⊎◌, true, not, IfOk, OnOk};
 ghost use Rattle.std.specs.HashSet.{IsEmpty};
 ghost use Rattle.state_search.specs.declared.key.Key.{Key};
 ghost use Rattle.state_search.specs.Keys.{has};
@@ -32,7 +31,7 @@ impl Keys {
 
     /// Adds a key that is not there yet, and says whether it was new.
     pub fn add(&mut self, key: Key) -> Result<bool, AllocError>
-        ensures known { IfOk result (λ is_new. OnFalse is_new (has self.old.set key ≡ true)) }
+        ensures new { IfOk result (λ is_new. is_new ≡ not (has self.old.set key)) }
         ensures there { OnOk result (has self.new.set key ≡ true) }
         ensures kept { OnOk result ((k : Key) → has self.old.set k ≡ true → has self.new.set k ≡ true) }
         ensures others { OnOk result ((k : Key) → has self.new.set k ≡ true → (has self.old.set k ≡ true) ⊎ (key ≡ k)) }

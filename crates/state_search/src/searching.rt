@@ -1,9 +1,9 @@
 //! The search, and parts of it.
-ghost use Rattle.std.specs.Prelude.{◌≡◌, ◌∷◌, [], ◌<◌, ◌^◌, ◌-◌, IfOk};
-ghost use Rattle.std.specs.Bool.{OnFalse};
+ghost use Rattle.std.specs.Prelude.{◌≡◌, ◌∷◌, [], ◌<◌, ◌+◌, ◌^◌, ◌-◌, IfOk};
+ghost use Rattle.std.specs.Bool.{OnFalse, OnTrue};
 ghost use Rattle.state_search.specs.Adding.{AreAdded};
 ghost use Rattle.state_search.specs.Going.{IsGoing};
-ghost use Rattle.state_search.specs.Searches.{IsPart, IsSearched};
+ghost use Rattle.state_search.specs.Searches.{IsCut, IsPart, IsSearched};
 
 use crate::keys::Keys;
 use crate::moves::{Found, Moves, Reached};
@@ -91,7 +91,8 @@ fn begin<M: Moves>(alloc: Global, moves: &mut M) -> Result<Going<M::State>, M::F
 impl<S: Drop> Going<S> {
     /// Whether no state is left, or as many are found as there may be.
     fn is_done(&self, most: u64) -> bool
-        ensures { OnFalse result (self.now.searched.depth < 2 ^ 64 - 1) }
+        ensures room { OnFalse result (self.now.searched.depth < 2 ^ 64 - 1) }
+        ensures done { OnTrue result (IsCut self.now.searched.gone_on.items self.now.searched.left.items self.now.searched.depth most) }
     {
         let searched = &self.searched;
         let found = (searched.gone_on.len() as u64).saturating_add(searched.left.len() as u64);
@@ -156,6 +157,7 @@ fn go_on<M: Moves, R: Threads + Sync>(
     requires room { going.searched.depth < 2 ^ 64 - 1 }
     requires going { IsGoing M.begins M.expands going.known.set going.searched.gone_on.items going.searched.left.items going.others.items going.searched.depth }
     ensures alone { IfOk result (λ next. next.others.items ≡ going.others.items) }
+    ensures deeper { IfOk result (λ next. next.searched.depth ≡ going.searched.depth + 1) }
     ensures going { IfOk result (λ next. IsGoing M.begins M.expands next.known.set next.searched.gone_on.items next.searched.left.items next.others.items next.searched.depth) }
 {
     let Going {
@@ -194,13 +196,11 @@ pub fn search<M: Moves, R: Threads + Sync>(
     moves: &mut M,
     most: u64,
 ) -> Result<Searched<M::State>, M::Fault>
-    ensures { IfOk result (λ found. IsSearched M.begins M.expands found.gone_on.items found.left.items found.depth) }
+    ensures searched { IfOk result (λ found. IsSearched M.begins M.expands found.gone_on.items found.left.items found.depth) }
+    ensures cut { IfOk result (λ found. IsCut found.gone_on.items found.left.items found.depth most) }
 {
     let mut going = begin(alloc, moves)?;
-    for _ in 0..u64::MAX {
-        if going.is_done(most) {
-            break;
-        }
+    while !going.is_done(most) {
         going = go_on(rt, alloc, moves, going)?;
     }
     let Going {
@@ -221,13 +221,11 @@ pub fn search_part<M: Moves, R: Threads + Sync>(
     most: u64,
     part: Part,
 ) -> Result<PartSearched<M::State>, M::Fault>
-    ensures { IfOk result (λ found. IsPart M.begins M.expands found.searched.gone_on.items found.searched.left.items found.others.items found.searched.depth) }
+    ensures part { IfOk result (λ found. IsPart M.begins M.expands found.searched.gone_on.items found.searched.left.items found.others.items found.searched.depth) }
+    ensures cut { IfOk result (λ found. IsCut found.searched.gone_on.items found.searched.left.items found.searched.depth most) }
 {
     let mut going = begin(alloc, moves)?;
-    for _ in 0..u64::MAX {
-        if going.is_done(most) {
-            break;
-        }
+    while !going.is_done(most) {
         going = leave_others::<M>(alloc, going, part)?;
         going = go_on(rt, alloc, moves, going)?;
     }

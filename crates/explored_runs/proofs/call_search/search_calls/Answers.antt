@@ -2,6 +2,6 @@
 use Rattle.explored_runs.proofs.Joining.{finds_by_keys}
 use Rattle.explored_runs.proofs.call_search.search_calls.Goals as goal
 
-pub returns-in-Ok : goal.returns-in-Ok
-returns-in-Ok g c =
-    finds_by_keys g.M.Moves.begins g.M.Moves.expands c.in-Ok.searched.gone_on.items c.in-Ok.searched.left.items c.in-Ok.searched.depth c.in-Ok.ensures
+pub returns-in-Ok-clause-finds : goal.returns-in-Ok-clause-finds
+returns-in-Ok-clause-finds g c =
+    finds_by_keys g.M.Moves.begins g.M.Moves.expands c.in-Ok.searched.gone_on.items c.in-Ok.searched.left.items c.in-Ok.searched.depth c.in-Ok.ensures.searched

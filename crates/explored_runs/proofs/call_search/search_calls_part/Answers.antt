@@ -2,7 +2,7 @@
 use Rattle.explored_runs.proofs.JoiningParts.{finds_its_part}
 use Rattle.explored_runs.proofs.call_search.search_calls_part.Goals as goal
 
-pub returns-in-Ok : goal.returns-in-Ok
-returns-in-Ok g c =
+pub returns-in-Ok-clause-finds : goal.returns-in-Ok-clause-finds
+returns-in-Ok-clause-finds g c =
     finds_its_part g.M.Moves.begins g.M.Moves.expands c.in-Ok.found.searched.gone_on.items c.in-Ok.found.searched.left.items c.in-Ok.found.others.items
-    c.in-Ok.found.searched.depth c.in-Ok.ensures
+    c.in-Ok.found.searched.depth c.in-Ok.ensures.part

@@ -1,8 +1,13 @@
 -- A state that was reached is added where its key was not known.
-use Rattle.std.proofs.Common.{◌≡◌, true, refl}
+use Rattle.std.proofs.Common.{arith, ◌≡◌, Bool, true, false, not, refl}
+use Rattle.std.proofs.lemmas.Grind.{common_steps}
 use Rattle.state_search.specs.Keys.{has}
 use Rattle.state_search.proofs.AddingStates.{adds-new, adds-none}
 use Rattle.state_search.proofs.searching.add_all.Goals as goal
+
+-- a key that is not new was there
+was_there : (is_new had : Bool) → is_new ≡ not had → is_new ≡ false → had ≡ true
+was_there is_new had says known = grind (arith, common_steps, says, known)
 
 pub loop-key-preserved-in-Continue-branch-2 : goal.loop-key-preserved-in-Continue-branch-2
 loop-key-preserved-in-Continue-branch-2 g c =
@@ -12,6 +17,6 @@ loop-key-preserved-in-Continue-branch-2 g c =
 
 pub loop-key-preserved : goal.loop-key-preserved
 loop-key-preserved g c =
-    let was : has c.loop-key.known.set c.in-Some.field-0.key ≡ true = rw c.if-is_new.false at c.in_ok-is_new.ensures.known in
+    let was = was_there c.in_ok-is_new.is_new (has c.loop-key.known.set c.in-Some.field-0.key) c.in_ok-is_new.ensures.new c.if-is_new.false in
     adds-none c.args.known.now.set c.loop-key.known.set c.add.new.self.set c.loop-key.yielded c.in-Some.field-0 c.loop-key.added.items c.args.moves
     c.loop-key.invariant was c.in_ok-is_new.ensures.there c.in_ok-is_new.ensures.kept c.in_ok-is_new.ensures.others

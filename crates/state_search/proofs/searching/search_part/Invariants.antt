@@ -1,7 +1,11 @@
 -- The part goes on.
+use Rattle.std.proofs.Common.{◌-◌, ◌^◌}
 use Rattle.state_search.specs.Going.{IsGoing}
 use Rattle.state_search.proofs.searching.search_part.Given as goal
 
-abbrev pub invariant-loop : goal.invariant-loop
-invariant-loop g l =
+abbrev pub invariant-loop-alloc : goal.invariant-loop-alloc
+invariant-loop-alloc g l =
     IsGoing g.M.Moves.begins g.M.Moves.expands l.going.known.set l.going.searched.gone_on.items l.going.searched.left.items l.going.others.items l.going.searched.depth
+
+abbrev pub decreases-loop-alloc : goal.decreases-loop-alloc
+decreases-loop-alloc g l = 2 ^ 64 - 1 - l.going.searched.depth

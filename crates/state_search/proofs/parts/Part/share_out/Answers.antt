@@ -1,5 +1,5 @@
 -- One more state is the part's own, or another's.
-use Rattle.std.proofs.Common.{◌≡◌, ◌∙◌, ◌++◌, ◌∷◌, [], List, ap, sym}
+use Rattle.std.proofs.Common.{◌∙◌, ◌++◌, ◌∷◌, [], List, ap, sym}
 use Rattle.std.proofs.lemmas.Bool.{eq-eqb, ne_eqb}
 use Rattle.state_search.specs.Going.{next_turn}
 use Rattle.state_search.specs.declared.moves.Found.{Found}
