@@ -18,7 +18,7 @@ use Rattle.kernel_model.specs.declared.answer.Refused.TheVariants as refused
 use Rattle.kernel_model.specs.declared.event.Event.{Event}
 use Rattle.kernel_step.specs.Represents.{kernel_of, KeepsRun}
 use Rattle.kernel_step.specs.Lending.{full_for_loan_of, is_fit, next_fit, IsLent, Lent}
-use Rattle.kernel_step.specs.Loaned.{loan_out}
+use Rattle.kernel_step.specs.Loaned.{loan_out, LendsTo}
 use Rattle.kernel_step.specs.Mirrors.{IsTask, AreTasks}
 use Rattle.kernel_step.specs.Seen.{Withholds}
 use Rattle.kernel_step.specs.Tasks.{machine_of, out_of, status_of, process_of, bare, lending_of, count_out, needed, unsettled}
@@ -108,25 +108,25 @@ lent-tasks w served tasks place quantum t u h there fit lent =
     }
 
 -- one loan more is out
-pub lent-more : (old new : List Task) (quantum served from : ℕ) (loan : Loan) → Lent quantum served from old new loan → count_out new ≡ count_out old + 1
-lent-more old new quantum served from loan lent =
+pub lent-more : (old new : List Task) (quantum served place : ℕ) (loan : Loan) → Lent quantum served place old new loan → count_out new ≡ count_out old + 1
+lent-more old new quantum served place loan lent =
     ap (λ (ts : List Task). count_out ts) lent.after
-    ∙ count_out-lent quantum old lent.place lent.task lent.later lent.there (fits quantum served lent.task lent.fit).here lent.lent.out
+    ∙ count_out-lent quantum old place lent.at.task lent.later lent.at.there (fits quantum served lent.at.task lent.at.fit).here lent.lent.out
 
-pub lent-core : (b : Boot) (history : List Event) (old new : List Task) (system : System) (quantum from : ℕ) (loan : Loan)
-    → KeepsRun b history old system → full_for_loan_of (length history) old ≡ false → Lent quantum system.served from old new loan → KeepsRun b history new system
-lent-core b history old new system quantum from loan h room lent =
-    let t : Task = lent.task in
+pub lent-core : (b : Boot) (history : List Event) (old new : List Task) (system : System) (quantum place : ℕ) (loan : Loan)
+    → KeepsRun b history old system → full_for_loan_of (length history) old ≡ false → Lent quantum system.served place old new loan → KeepsRun b history new system
+lent-core b history old new system quantum place loan h room lent =
+    let t : Task = lent.at.task in
     let u : Task = lent.later in
     let few : length history + 2 * count_out old ≤ 2 ^ 40 - 2 = ltb-false (2 ^ 40 - 2) (length history + 2 * count_out old) room in
-    let more : count_out (slice_set old lent.place u) ≡ count_out old + 1 =
-    count_out-lent quantum old lent.place t u lent.there (fits quantum system.served t lent.fit).here lent.lent.out in
-    let had : t.loans ≤ length history = few-here (length history) old lent.place t h.loans lent.there (fits quantum system.served t lent.fit).here in
+    let more : count_out (slice_set old place u) ≡ count_out old + 1 =
+    count_out-lent quantum old place t u lent.at.there (fits quantum system.served t lent.at.fit).here lent.lent.out in
+    let had : t.loans ≤ length history = few-here (length history) old place t h.loans lent.at.there (fits quantum system.served t lent.at.fit).here in
     let loans : u.loans ≡ t.loans + 1 = lent.lent.loans in
     let one : unsettled (out_of u) ≡ 1 = ap unsettled lent.lent.out in
     subst (λ (ts : List Task). KeepsRun b history ts system) (sym lent.after) (record {
       mirrors = record {
-        each = lent-tasks (run_of b history) system.served old lent.place quantum t u h.mirrors.each lent.there lent.fit lent.lent;
+        each = lent-tasks (run_of b history) system.served old place quantum t u h.mirrors.each lent.at.there lent.at.fit lent.lent;
         changes = h.mirrors.changes;
         tapes = h.mirrors.tapes;
         parts = h.mirrors.parts;
@@ -138,7 +138,7 @@ lent-core b history old new system quantum from loan h room lent =
       };
       footprints = h.footprints;
       room = omega arith;
-      loans = few-put (length history) old lent.place u (omega (arith, had, loans, one)) h.loans;
+      loans = few-put (length history) old place u (omega (arith, had, loans, one)) h.loans;
     })
 
 -- ---- the process that is picked
@@ -186,25 +186,35 @@ lending-lent quantum tasks place t u lent =
     ∙ ap (λ (n : ℕ). slice_set (map lending_of tasks) place (record { loans = n; out = out_of u })) lent.loans
     ∙ ap (λ (o : Option ℕ). slice_set (map lending_of tasks) place (record { loans = t.loans + 1; out = o })) lent.out
 
-pub loan-is : (b : Boot) (history : List Event) (old new : List Task) (system : System) (last quantum : ℕ) (loan : Loan)
-    → KeepsRun b history old system → Lent quantum system.served last old new loan
-    → IsNextLoan (kernel_of b history old last) (kernel_of b history new loan.pid) quantum (loan_out loan)
-loan-is b history old new system last quantum loan h lent =
+-- its number is the one after its place
+pub lent-number : (b : Boot) (history : List Event) (old new : List Task) (system : System) (quantum place : ℕ) (loan : Loan)
+    → KeepsRun b history old system → Lent quantum system.served place old new loan → loan.pid ≡ place + 1
+lent-number b history old new system quantum place loan h lent =
+    lent.given.process ∙ (h.mirrors.each.each place lent.at.task lent.at.there).number
+
+unrefused : (b : Boot) (history : List Event) (old : List Task) (last : ℕ) → full_for_loan_of (length history) old ≡ false
+    → loan_refusal (kernel_of b history old last) ≡ None
+unrefused b history old last room = ap (λ v. if v then Some refused.Budget else None) (full-is b history old last ∙ room)
+
+pub loan-is : (b : Boot) (history : List Event) (old new : List Task) (system : System) (last quantum place : ℕ) (loan : Loan)
+    → KeepsRun b history old system → full_for_loan_of (length history) old ≡ false → Lent quantum system.served place old new loan
+    → LendsTo (kernel_of b history old last) quantum (kernel_of b history new loan.pid) (loan_out loan)
+loan-is b history old new system last quantum place loan h room lent =
     let k : Kernel = kernel_of b history old last in
-    let t : Task = lent.task in
-    let of : IsProcessOf (run_of b history).sync.processes (suc lent.place) t = process-at b history old system lent.place t h lent.there in
-    let number : loan.pid ≡ suc lent.place = let n : t.pid ≡ lent.place + 1 = (h.mirrors.each.each lent.place t lent.there).number in
-    let p : loan.pid ≡ t.pid = lent.given.process in omega arith in
-    let loans : loan_count k (suc lent.place) ≡ t.loans = ap (λ (o : Option Lending). loans_in o) (lending-there old lent.place t lent.there) in
+    let t : Task = lent.at.task in
+    let of : IsProcessOf (run_of b history).sync.processes (suc place) t = process-at b history old system place t h lent.at.there in
+    let number : loan.pid ≡ suc place = let n : loan.pid ≡ place + 1 = lent-number b history old new system quantum place loan h lent in omega arith in
+    let loans : loan_count k (suc place) ≡ t.loans = ap (λ (o : Option Lending). loans_in o) (lending-there old place t lent.at.there) in
     let put : ℕ → Kernel = λ n. record {
       boot = k.boot;
       history = history;
-      last_lent = suc lent.place;
-      lendings = put_lending k.lendings (suc lent.place) (record { loans = n + 1; out = Some quantum });
+      last_lent = suc place;
+      lendings = put_lending k.lendings (suc place) (record { loans = n + 1; out = Some quantum });
     } in
     let lends : List Lending → ℕ → Kernel = λ ls p. record { boot = k.boot; history = history; lendings = ls; last_lent = p } in
     record {
-      picked = pick-is b history old system last quantum h ∙ ap (λ o. option_map (λ i. suc i) o) lent.next ∙ ap (λ p. Some p) (sym number);
+      room = unrefused b history old last room;
+      lendable = ap (λ p. is_lendable k quantum p) number ∙ lendable-is b history old system last quantum place t h lent.at.there ∙ lent.at.fit;
       number = lent.given.number ∙ ap (λ n. n + 1) (sym loans) ∙ ap (λ p. loan_count k p + 1) (sym number);
       asked = lent.given.quantum;
       began = ap (λ p. option_map (λ (q : Process). q.state) (process_in k p)) number
@@ -213,23 +223,28 @@ loan-is b history old new system last quantum loan h lent =
           ∙ ap (λ s. Some s) (sym lent.given.began);
       machine = loan.same;
       noted = ap (λ ts. lends (map lending_of ts) loan.pid) lent.after
-          ∙ ap (λ ls. lends ls loan.pid) (lending-lent quantum old lent.place t lent.later lent.lent)
-          ∙ ap (λ p. lends (put_lending k.lendings (suc lent.place) (record { loans = t.loans + 1; out = Some quantum })) p) number
+          ∙ ap (λ ls. lends ls loan.pid) (lending-lent quantum old place t lent.later lent.lent)
+          ∙ ap (λ p. lends (put_lending k.lendings (suc place) (record { loans = t.loans + 1; out = Some quantum })) p) number
           ∙ ap put (sym loans)
           ∙ ap (λ p. with_loan k p quantum) (sym number);
     }
 
 -- ---- what a loan comes to, at the kernel k
-unrefused : (b : Boot) (history : List Event) (old : List Task) (last : ℕ) → full_for_loan_of (length history) old ≡ false
-    → loan_refusal (kernel_of b history old last) ≡ None
-unrefused b history old last room = ap (λ v. if v then Some refused.Budget else None) (full-is b history old last ∙ room)
-
-pub lends-one : (b : Boot) (history : List Event) (old new : List Task) (system : System) (last quantum : ℕ) (loan : Loan) (k : Kernel)
-    → kernel_of b history old last ≡ k → KeepsRun b history old system → full_for_loan_of (length history) old ≡ false → Lent quantum system.served last old new loan
-    → (loan_refusal k ≡ None) × IsNextLoan k (kernel_of b history new loan.pid) quantum (loan_out loan)
-lends-one b history old new system last quantum loan k e h room lent =
-    subst (λ (v : Kernel). (loan_refusal v ≡ None) × IsNextLoan v (kernel_of b history new loan.pid) quantum (loan_out loan)) e
-    (unrefused b history old last room, loan-is b history old new system last quantum loan h lent)
+pub lends-one : (b : Boot) (history : List Event) (old : List Task) (system : System) (last quantum place : ℕ) (loan : Loan) (k new : Kernel)
+    → kernel_of b history old last ≡ k → KeepsRun b history old system → next_fit quantum system.served last old ≡ Some place → loan.pid ≡ place + 1
+    → LendsTo k quantum new (loan_out loan) → (loan_refusal k ≡ None) × IsNextLoan k new quantum (loan_out loan)
+lends-one b history old system last quantum place loan k new e h next number lent =
+    let same : suc place ≡ loan.pid = omega arith in (
+      lent.room,
+      record {
+        picked = ap (λ (v : Kernel). pick v quantum) (sym e) ∙ pick-is b history old system last quantum h ∙ ap (λ o. option_map (λ i. suc i) o) next ∙ ap (λ p. Some p) same;
+        number = lent.number;
+        asked = lent.asked;
+        began = lent.began;
+        machine = lent.machine;
+        noted = lent.noted;
+      },
+    )
 
 some-mapped : (o : Option ℕ) → is_some o ≡ true → is_some (option_map (λ i. suc i) o) ≡ true
 some-mapped None some = cc
@@ -254,13 +269,13 @@ lends-none b history old new system last quantum k e h room none same =
       ),
     )
 
-pub lends-wanting : (b : Boot) (history : List Event) (old new : List Task) (system : System) (last quantum : ℕ) (k : Kernel)
+pub lends-wanting : (b : Boot) (history : List Event) (old : List Task) (system : System) (last quantum : ℕ) (k new : Kernel)
     → kernel_of b history old last ≡ k → KeepsRun b history old system → full_for_loan_of (length history) old ≡ false
-    → is_some (next_fit quantum system.served last old) ≡ true → new ≡ old
-    → Refuses (loan_refusal k) refused.OutOfMemory × (refused.OutOfMemory ≡ refused.OutOfMemory → is_some (pick k quantum) ≡ true) × (kernel_of b history new last ≡ k)
-lends-wanting b history old new system last quantum k e h room some same =
-    subst (λ (v : Kernel). Refuses (loan_refusal v) refused.OutOfMemory × (refused.OutOfMemory ≡ refused.OutOfMemory → is_some (pick v quantum) ≡ true) × (kernel_of b history new last ≡ v)) e (
+    → is_some (next_fit quantum system.served last old) ≡ true → new ≡ k
+    → Refuses (loan_refusal k) refused.OutOfMemory × (refused.OutOfMemory ≡ refused.OutOfMemory → is_some (pick k quantum) ≡ true) × (new ≡ k)
+lends-wanting b history old system last quantum k new e h room some same =
+    subst (λ (v : Kernel). Refuses (loan_refusal v) refused.OutOfMemory × (refused.OutOfMemory ≡ refused.OutOfMemory → is_some (pick v quantum) ≡ true) × (new ≡ v)) e (
       subst (λ (o : Option Refused). Refuses o refused.OutOfMemory) (sym (unrefused b history old last room)) refl,
       λ _. some-is-picked b history old system last quantum h some,
-      ap (λ ts. kernel_of b history ts last) same,
+      same ∙ sym e,
     )

@@ -51,14 +51,16 @@ pub record IsNextLoanOf (n : ℕ) (t : Task) (loan : Loan) : Type 0 where
   pub quantum : loan.quantum ≡ n
   pub began : loan.began.value ≡ machine_of t
 
--- the next task was lent
-pub record Lent (quantum served from : ℕ) (old new : List Task) (loan : Loan) : Type 0 where
-  pub place : ℕ
+-- the task at this place fits
+pub record IsFitAt (quantum served : ℕ) (tasks : List Task) (place : ℕ) : Type 0 where
   pub task : Task
-  pub next : next_fit quantum served from old ≡ Some place
-  pub there : slice_get old place ≡ Some task
+  pub there : slice_get tasks place ≡ Some task
   pub fit : is_fit quantum served task ≡ true
-  pub given : IsNextLoanOf quantum task loan
+
+-- the task at this place, which fits, was lent
+pub record Lent (quantum served place : ℕ) (old new : List Task) (loan : Loan) : Type 0 where
+  pub at : IsFitAt quantum served old place
+  pub given : IsNextLoanOf quantum at.task loan
   pub later : Task
-  pub lent : IsLent quantum task later
+  pub lent : IsLent quantum at.task later
   pub after : new ≡ slice_set old place later

@@ -11,6 +11,7 @@ pub mod Known
 pub mod Mirrors
 pub mod Parts
 pub mod Ready
+pub mod Replicas
 pub mod Seen
 pub mod Settling
 pub mod Represents

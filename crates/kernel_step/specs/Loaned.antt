@@ -1,9 +1,10 @@
 -- What loans and their results stand for.
-use Rattle.std.specs.Prelude.{◌+◌, ◌≡◌, ◌≢◌, Option, Result, Ok, Err, IfOk, IfErr, OnOk, OnErr, option_map}
+use Rattle.std.specs.Prelude.{◌+◌, ◌≡◌, ◌≢◌, ℕ, true, Option, Some, None, Result, Ok, Err, IfOk, IfErr, OnOk, OnErr, MatchOption, option_map}
 use Rattle.machine_model.specs.States.{reached_at}
-use Rattle.kernel_model.specs.Answers.{Kernel, AllAccepted}
-use Rattle.kernel_model.specs.Loans.{LoanOut, LoanResult, IsOfLoan, returned, events_of, settled, settled_answer}
+use Rattle.kernel_model.specs.Answers.{Kernel, AllAccepted, process_of}
+use Rattle.kernel_model.specs.Loans.{LoanOut, LoanResult, IsOfLoan, is_lendable, loan_count, loan_refusal, with_loan, returned, events_of, settled, settled_answer}
 use Rattle.kernel_model.specs.Ran.{ran_by_turns}
+use Rattle.kernel_model.specs.State.{Process}
 use Rattle.kernel_model.specs.declared.answer.Answer.{Answer}
 use Rattle.kernel_model.specs.declared.answer.Refused.{Refused}
 use Rattle.kernel_model.specs.declared.answer.Refused.TheVariants.{Stranger, OutOfMemory}
@@ -36,3 +37,17 @@ pub record Settles (old : Kernel) (done : Done) (new : Kernel) (result : Result 
   pub own_only : IfErr result (λ r. r.why ≢ Stranger → (r.why ≡ OutOfMemory) × IsOfLoan old (loan_result done))
   pub back : IfErr result (λ r. r.done ≡ done)
   pub err : OnErr result (new ≡ old)
+
+-- the loan is the next one of its process, which is lendable, of its state as it now stands
+pub record LendsTo (old : Kernel) (quantum : ℕ) (new : Kernel) (loan : LoanOut) : Type 0 where
+  pub room : loan_refusal old ≡ None
+  pub lendable : is_lendable old quantum loan.process ≡ true
+  pub number : loan.number ≡ loan_count old loan.process + 1
+  pub asked : loan.quantum ≡ quantum
+  pub began : option_map (λ (p : Process). p.state) (process_of old loan.process) ≡ Some loan.began
+  pub machine : loan.machine ≡ loan.began
+  pub noted : new ≡ with_loan old loan.process quantum
+
+-- process p is lent again, where it is lendable; or nothing has changed
+abbrev pub LendsAgain : Kernel → ℕ → ℕ → Kernel → Option LoanOut → Type 0
+LendsAgain old p quantum new given = MatchOption given (new ≡ old) (λ loan. (loan.process ≡ p) × LendsTo old quantum new loan)

@@ -1,16 +1,18 @@
 //! Machines lent out, as a scheduler dispatches them.
-ghost use Rattle.std.specs.Prelude.{◌≡◌, ◌+◌, ◌*◌, ◌^◌, ◌<◌, ◌≤◌, None, length, take, drop, position, IfOk, IfErr, OnOk, OnErr};
+ghost use Rattle.std.specs.Prelude.{◌≡◌, ◌+◌, ◌*◌, ◌^◌, ◌<◌, ◌≤◌, None, false, length, take, drop, position, option_map, IfOk, IfErr, IfSome, OnSome, OnOk, OnErr};
 ghost use Rattle.kernel_model.specs.Loans.{Lends};
 ghost use Rattle.kernel_model.specs.World.{Boot};
 ghost use Rattle.kernel_step.specs.Represents.{Represents, kernel_in};
 ghost use Rattle.kernel_model.specs.declared.answer.Refused.TheVariants.{OutOfMemory};
-ghost use Rattle.kernel_step.specs.Lending.{full_for_loan_of, is_fit, next_fit, IsLent, IsNextLoanOf};
-ghost use Rattle.kernel_step.specs.Loaned.{lent_out};
+ghost use Rattle.kernel_step.specs.Lending.{full_for_loan_of, is_fit, next_fit, IsFitAt, IsLent, IsNextLoanOf};
+ghost use Rattle.kernel_step.specs.Loaned.{loan_out, lent_out, LendsTo, LendsAgain};
 ghost use Rattle.kernel_step.specs.Tasks.{machine_of, out_of, count_out};
+ghost use Rattle.kernel_step.specs.Tests.{IsPlaceOf};
 
 use crate::loan::Loan;
 use crate::running::Running;
 use crate::task::{LIMIT, Task};
+use crate::tasks::place_of;
 use crate::whereabouts::Whereabouts;
 use kernel_model::Refused;
 use std::alloc::Global;
@@ -59,8 +61,8 @@ fn next_lendable(tasks: &[Task], from: usize, served: u64, quantum: u32) -> Opti
     }
 }
 
-/// Lends a process: its machine leaves, to be copied by whoever runs it. The state from which it runs stays, which the loan shares.
-/// Where memory runs out nothing has changed.
+/// Lends a process: its machine leaves, and the state from which it runs stays, which the loan shares. Where memory runs out nothing
+/// has changed.
 fn lend_task(alloc: Global, task: &mut Task, quantum: u32) -> Result<Loan, Refused>
     requires here { out_of task.old ≡ None }
     requires room { (machine_of task.old).count + quantum < 2 ^ 40 }
@@ -88,7 +90,7 @@ fn lend_task(alloc: Global, task: &mut Task, quantum: u32) -> Result<Loan, Refus
         number,
         quantum,
         began,
-        machine,
+        machine: machine.into_machine(),
     })
 }
 
@@ -109,6 +111,23 @@ impl Running {
         next_lendable(&self.tasks, from, self.system.served, quantum)
     }
 
+    /// Lends the process at this place. Where memory runs out nothing has changed.
+    fn lend_at(&mut self, place: usize, quantum: u32) -> Result<Loan, Refused>
+        requires kept { (b : Boot) × Represents b self.old }
+        requires room { full_for_loan_of (length self.old.history.items) self.old.tasks.items ≡ false }
+        requires fit { IsFitAt quantum self.old.system.served self.old.tasks.items place }
+        ensures stands { (b : Boot) → Represents b self.old → Represents b self.new }
+        ensures pid { IfOk result (λ loan. (b : Boot) → Represents b self.old → loan.pid ≡ place + 1) }
+        ensures lends { IfOk result (λ loan. (b : Boot) → Represents b self.old → LendsTo (kernel_in b self.old) quantum (kernel_in b self.new) (loan_out loan)) }
+        ensures cause { IfErr result (λ why. why ≡ OutOfMemory) }
+        ensures same { OnErr result ((b : Boot) → kernel_in b self.new ≡ kernel_in b self.old) }
+    {
+        let loan = lend_task(self.system.alloc, &mut self.tasks[place], quantum)?;
+        self.last_lent = loan.pid;
+        self.out += 1;
+        Ok(loan)
+    }
+
     /// As `Core::lend`. The clauses speak of every boot of which these are the parts.
     pub fn lend(&mut self, quantum: u32) -> Result<Option<Loan>, Refused>
         requires { (b : Boot) × Represents b self.old }
@@ -121,9 +140,39 @@ impl Running {
         let Some(place) = self.next_lendable(quantum) else {
             return Ok(None);
         };
-        let loan = lend_task(self.system.alloc, &mut self.tasks[place], quantum)?;
-        self.last_lent = loan.pid;
-        self.out += 1;
-        Ok(Some(loan))
+        Ok(Some(self.lend_at(place, quantum)?))
+    }
+
+    /// Lends this process, where it is lendable, whichever was lent last. None where it is not, and where the history or the memory has
+    /// no room for a loan. The clauses speak of every boot of which these are the parts.
+    pub fn lend_again(&mut self, pid: u32, quantum: u32) -> Option<Loan>
+        requires { (b : Boot) × Represents b self.old }
+        ensures stands { (b : Boot) → Represents b self.old → Represents b self.new }
+        ensures lends { (b : Boot) → Represents b self.old → LendsAgain (kernel_in b self.old) pid quantum (kernel_in b self.new) (option_map loan_out result) }
+    {
+        let place = self.lendable_place(pid, quantum)?;
+        match self.lend_at(place, quantum) {
+            Ok(loan) => Some(loan),
+            Err(_) => None,
+        }
+    }
+
+    /// The place of a process that may be lent for a quantum, where the history has room for its two events.
+    fn lendable_place(&self, pid: u32, quantum: u32) -> Option<usize>
+        requires kept { self.now.out ≡ count_out self.now.tasks.items }
+        requires room { length self.now.history.items + 2 * count_out self.now.tasks.items ≤ 2 ^ 40 }
+        ensures place { IfSome result (λ place. IsPlaceOf self.now.tasks.items pid place) }
+        ensures room { OnSome result (full_for_loan_of (length self.now.history.items) self.now.tasks.items ≡ false) }
+        ensures fit { IfSome result (λ place. IsFitAt quantum self.now.system.served self.now.tasks.items place) }
+    {
+        if self.is_full_for_loan() {
+            return None;
+        }
+        let place = place_of(&self.tasks, pid)?;
+        if is_lendable(&self.tasks[place], self.system.served, quantum) {
+            Some(place)
+        } else {
+            None
+        }
     }
 }

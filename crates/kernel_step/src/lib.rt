@@ -11,6 +11,7 @@ mod finishing;
 mod lend;
 mod loan;
 mod plan;
+mod replicated;
 mod replies;
 mod room;
 mod running;

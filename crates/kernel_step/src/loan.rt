@@ -8,7 +8,8 @@ use machine_model::Stop;
 use std::sync::Arc;
 
 /// A machine that is lent out (dispatched), to run at most `quantum` instructions. `number` is the loan's number among those of the
-/// process, from 1. `began` is the state from which it runs, shared with the kernel. The machine is copied from that once it runs.
+/// process, from 1. `began` is the state from which it runs, shared with the kernel. A machine without a replica is copied
+/// from that once it runs.
 #[derive(Drop)]
 pub struct Loan {
     pub pid: u32,

@@ -9,19 +9,20 @@ ghost use Rattle.kernel_model.specs.declared.request.Verdict.TheVariants.{Replie
 ghost use Rattle.kernel_step.specs.Entering.{item_of, in_image_by, MayBeTold, IsTold, IsChild, MakesTask};
 ghost use Rattle.kernel_step.specs.Ready.{TaskMayBeTold, ChildMayBeTold};
 
+use crate::replicated::ReplicatedMachine;
 use crate::task::Task;
 use crate::whereabouts::Whereabouts;
 use calls::Verdict;
 use commit_deps::Mark;
 use held_output::zero_reply;
 use kernel_model::Outcome;
-use machine::{Machine, SharedMachine};
+use machine::Machine;
 use machine_model::Reply;
 use std::alloc::Global;
 
 /// A machine goes on after the reply to its call. If the reply has an image, it goes on as `next`, which was entered from its
 /// state.
-fn go_on(machine: &mut SharedMachine, reply: &Reply, next: Option<Machine>)
+fn go_on(machine: &mut ReplicatedMachine, reply: &Reply, next: Option<Machine>)
     requires told { MayBeTold machine.old (Told reply.now) }
     requires budget { machine.old.count < 2 ^ 40 }
     requires next { next ≡ in_image_by machine.old (Told reply.now) }

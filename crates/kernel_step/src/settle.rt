@@ -15,6 +15,7 @@ use crate::enter::join;
 use crate::finishing::carry_out;
 use crate::loan::{Done, Rejected};
 use crate::plan::{Caller, EnterPlan};
+use crate::replicated::ReplicatedMachine;
 use crate::room::prepare;
 use crate::running::Running;
 use crate::system::System;
@@ -26,12 +27,9 @@ use disk_model::{checkpoints_fit, made_files_change};
 use footprints::footprints_grow;
 use held_output::Trace;
 use kernel_model::{Answer, Event, Refused, tables_keep_their_limits};
-use machine::{Machine, SharedMachine};
 use machine_model::Stop;
 use pipes::{ends_grow_by_one, steps_are_shown};
 use std::alloc::AllocError;
-use std::mem;
-use std::sync::Arc;
 
 /// Whether a result is of the loan that a task is out on. Where it is known that it began from the state which the task keeps, if
 /// the numbers agree, the two states are not compared.
@@ -49,17 +47,21 @@ fn is_of_loan(task: &Task, done: &Done, is_known: bool) -> bool
     }
 }
 
-/// The process is back with this machine. The pages of the state with which it was lent become room for its next loan; `began` is
-/// the loan's share of that state.
-fn come_back(task: &mut Task, machine: SharedMachine, began: Arc<Machine>)
-    ensures back { IsBack machine task.old task.new }
+/// The process is back with the machine of this result. The state with which it was lent, which the task no longer shares, becomes
+/// the machine's replica, or room for a copy.
+fn come_back(task: &mut Task, done: Done)
+    ensures back { IsBack done.machine task.old task.new }
     ensures trace { task.new.trace ≡ task.old.trace }
 {
-    drop(began);
-    let left = mem::replace(&mut task.whereabouts, Whereabouts::Here(machine));
-    if let Whereabouts::Out { began, .. } = left {
-        task.whereabouts.reuse(began);
-    }
+    let Done {
+        quantum,
+        began,
+        machine,
+        count,
+        ..
+    } = done;
+    task.whereabouts = Whereabouts::Here(ReplicatedMachine::new(machine));
+    task.whereabouts.replicate(began, quantum, count);
 }
 
 /// As `prepare`, of a result whose machine stands at this call or trap.
@@ -111,16 +113,10 @@ fn settle_enter(
             done,
         });
     };
-    let Done {
-        began,
-        machine,
-        count,
-        stop,
-        ..
-    } = done;
+    let (count, stop) = (done.count, done.stop);
     note_own(&mut system.dependencies, pid);
     history.push(Event::Turn { pid, n: count }).unwrap();
-    come_back(task, machine, began);
+    come_back(task, done);
     let (outcome, child) = carry_out(history, system, task, entering);
     let answer = Answer::Settled {
         count,
@@ -191,16 +187,9 @@ impl Running {
                 done,
             });
         }
-        let Done {
-            pid,
-            began,
-            machine,
-            count,
-            stop,
-            ..
-        } = done;
+        let (pid, count, stop) = (done.pid, done.count, done.stop);
         note_own(&mut self.system.dependencies, pid);
-        come_back(&mut self.tasks[place], machine, began);
+        come_back(&mut self.tasks[place], done);
         self.out -= 1;
         self.history.push(Event::Turn { pid, n: count }).unwrap();
         self.ran += u64::from(count);

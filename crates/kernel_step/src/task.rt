@@ -4,6 +4,7 @@ ghost use Rattle.machine_model.specs.States.{stopped_at};
 ghost use Rattle.held_output.specs.Withheld.{nothing};
 ghost use Rattle.kernel_model.specs.Answers.{turn_refusal, enter_refusal};
 
+use crate::replicated::ReplicatedMachine;
 use crate::whereabouts::Whereabouts;
 use held_output::Trace;
 use kernel_model::{Refused, Standing};
@@ -68,7 +69,7 @@ impl Task {
         let machine = SharedMachine::new(alloc, machine)?;
         Ok(Task {
             pid,
-            whereabouts: Whereabouts::Here(machine),
+            whereabouts: Whereabouts::Here(ReplicatedMachine::new(machine)),
             trace,
             waited: None,
             loans: 0,

@@ -1,14 +1,16 @@
 //! Where a process's machine is.
 ghost use Rattle.std.specs.Prelude.{◌≡◌, is_some};
+ghost use Rattle.machine_model.specs.States.{run};
 
-use machine::{Machine, SharedMachine};
+use crate::replicated::ReplicatedMachine;
+use machine::Machine;
 use std::sync::Arc;
 
 /// Where a process's machine is: in the kernel, or with its borrower.
 #[derive(Drop)]
 pub enum Whereabouts {
     /// In the kernel.
-    Here(SharedMachine),
+    Here(ReplicatedMachine),
     /// Out on loan, to run at most `quantum` instructions. `began` is the state with which it was lent; the loan shares it.
     Out { began: Arc<Machine>, quantum: u32 },
 }
@@ -26,12 +28,13 @@ impl Whereabouts {
         }
     }
 
-    /// Keeps the pages of the state with which the machine was lent as room for its next loan, where it is here.
-    pub fn reuse(&mut self, began: Arc<Machine>)
+    /// As `ReplicatedMachine::replicate`, where the machine is here.
+    pub fn replicate(&mut self, began: Arc<Machine>, quantum: u32, count: u32)
+        requires { (run quantum began.value).state ≡ state_in self.old }
         ensures { self.new ≡ self.old }
     {
         if let Whereabouts::Here(machine) = self {
-            machine.reuse(began);
+            machine.replicate(began, quantum, count);
         }
     }
 

@@ -1,5 +1,5 @@
 -- The machine that is looked at is the result's.
-use Rattle.std.proofs.Common.{◌≡◌, ◌∙◌, sym, ap, subst}
+use Rattle.std.proofs.Common.{◌∙◌, sym, ap, subst}
 use Rattle.std.specs.Prelude.{IfOk}
 use Rattle.machine_model.specs.States.{State, stopped_at}
 use Rattle.kernel_step.specs.Ready.{MayEnter, IsPrepared}

@@ -1,5 +1,5 @@
 -- A run that the limit did not stop stands where it stopped.
-use Rattle.std.proofs.Common.{◌≡◌, sym}
+use Rattle.std.proofs.Common.{sym}
 use Rattle.machine_model.specs.States.{reached_at}
 use Rattle.machine.proofs.Limits.{reached_at-is_run}
 use Rattle.kernel_step.specs.declared.loan.Done.{Done}
