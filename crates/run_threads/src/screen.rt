@@ -13,6 +13,9 @@ use std::alloc::{AllocError, Global};
 use std::io::Write;
 use std::sync::{Mutex, Wait};
 
+/// How many bytes of a terminal are copied under the lock at most, while workers work.
+const LONGEST_PART: usize = 65536;
+
 /// A writer, and what went out to it.
 #[derive(Drop)]
 pub struct Screen<'o, O> {
@@ -37,29 +40,34 @@ impl<'o, O: Write> Screen<'o, O> {
         self.out.flush().map_err(|_| RunFault::Output)
     }
 
-    /// The bytes that are shown and were not written yet, copied under the lock.
-    fn more<N: Naming, R: Wait>(
+    /// Adds bytes that are shown and were not written yet, copied under the lock.
+    fn add_part<N: Naming, R: Wait>(
         &mut self,
         rt: &R,
         alloc: Global,
         bench: &Mutex<Bench<'_, N>>,
-    ) -> Result<Vec<u8>, AllocError> {
+        text: &mut Vec<u8>,
+    ) -> Result<(), AllocError> {
         let bench = bench.lock(rt);
-        self.transcript.more(alloc, bench.core())
+        self.transcript
+            .add_more(alloc, bench.core(), LONGEST_PART, text)
     }
 
-    /// Writes the bytes that are shown and were not written yet. The lock is free meanwhile. False where there were no such bytes.
+    /// Writes bytes that are shown and were not written yet, by way of a buffer. The lock is free meanwhile. False where there were no
+    /// such bytes.
     fn refresh<N: Naming, R: Wait>(
         &mut self,
         rt: &R,
         alloc: Global,
         bench: &Mutex<Bench<'_, N>>,
+        buffer: &mut Vec<u8>,
     ) -> Result<bool, RunFault> {
-        let bytes = self.more(rt, alloc, bench)?;
-        if bytes.is_empty() {
+        buffer.clear();
+        self.add_part(rt, alloc, bench, buffer)?;
+        if buffer.is_empty() {
             return Ok(false);
         }
-        self.write(bytes.as_slice())?;
+        self.write(buffer.as_slice())?;
         Ok(true)
     }
 
@@ -73,9 +81,10 @@ impl<'o, O: Write> Screen<'o, O> {
         watch: &Watch,
     ) {
         let mut rest = Backoff::new();
+        let mut buffer = Vec::new(alloc);
         for _ in rt.forever() {
             let is_over = watch.is_over();
-            match self.refresh(rt, alloc, bench) {
+            match self.refresh(rt, alloc, bench, &mut buffer) {
                 Ok(true) => rest.end(),
                 Ok(false) if is_over => return,
                 Ok(false) => rest.take(rt),
@@ -90,7 +99,9 @@ impl<'o, O: Write> Screen<'o, O> {
 
     /// Writes what was not written yet of what the run's core shows at its end.
     pub fn finish(&mut self, alloc: Global, core: &Core) -> Result<(), RunFault> {
-        let bytes = self.transcript.more(alloc, core)?;
-        self.write(bytes.as_slice())
+        let mut text = Vec::new(alloc);
+        self.transcript
+            .add_more(alloc, core, usize::MAX, &mut text)?;
+        self.write(text.as_slice())
     }
 }

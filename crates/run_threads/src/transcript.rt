@@ -32,20 +32,23 @@ pub enum Transcript {
     All(AllTerminals),
 }
 
-/// A copy of the bytes after the first `taken`.
-fn copy_after(alloc: Global, shown: &[u8], taken: usize) -> Result<Vec<u8>, AllocError> {
-    match shown.get(taken..) {
-        Some(bytes) => Vec::from_slice(alloc, bytes),
-        None => Ok(Vec::new(alloc)),
-    }
+/// The bytes after the first `taken`, at most `limit`.
+fn part(shown: &[u8], taken: usize, limit: usize) -> &[u8] {
+    let rest = shown.get(taken..).unwrap_or_default();
+    rest.get(..limit).unwrap_or(rest)
 }
 
 impl OneTerminal {
-    /// The bytes that the terminal shows and that were not taken.
-    fn more(&mut self, alloc: Global, core: &Core) -> Result<Vec<u8>, AllocError> {
-        let bytes = copy_after(alloc, core.shown(self.terminal), self.taken)?;
+    /// Adds the bytes that the terminal shows and that were not taken, at most `limit`.
+    fn add_more(
+        &mut self,
+        core: &Core,
+        limit: usize,
+        text: &mut Vec<u8>,
+    ) -> Result<(), AllocError> {
+        let bytes = part(core.shown(self.terminal), self.taken, limit);
         self.taken = self.taken.saturating_add(bytes.len());
-        Ok(bytes)
+        text.extend_from_slice(bytes)
     }
 }
 
@@ -77,19 +80,20 @@ impl AllTerminals {
         text.extend_from_slice(line.as_bytes())
     }
 
-    /// Adds the bytes that a terminal shows, but for those that were taken.
+    /// Adds the bytes that a terminal shows and that were not taken, at most `limit`.
     fn add(
         &mut self,
         alloc: Global,
         terminal: u32,
         shown: &[u8],
+        limit: usize,
         text: &mut Vec<u8>,
     ) -> Result<(), AllocError> {
         let Some(taken) = self.taken.get_mut(terminal as usize) else {
             return Ok(());
         };
-        let bytes = shown.get(*taken..).unwrap_or_default();
-        *taken = shown.len();
+        let bytes = part(shown, *taken, limit);
+        *taken = taken.saturating_add(bytes.len());
         let Some(&last) = bytes.last() else {
             return Ok(());
         };
@@ -98,13 +102,18 @@ impl AllTerminals {
         text.extend_from_slice(bytes)
     }
 
-    /// The bytes that the terminals show and that were not taken, by rising number of the terminal.
-    fn more(&mut self, alloc: Global, core: &Core) -> Result<Vec<u8>, AllocError> {
-        let mut text = Vec::new(alloc);
+    /// Adds the bytes that the terminals show and that were not taken, by rising number of the terminal.
+    fn add_more(
+        &mut self,
+        alloc: Global,
+        core: &Core,
+        limit: usize,
+        text: &mut Vec<u8>,
+    ) -> Result<(), AllocError> {
         for terminal in 0..TERMINALS as u32 {
-            self.add(alloc, terminal, core.shown(terminal), &mut text)?;
+            self.add(alloc, terminal, core.shown(terminal), limit, text)?;
         }
-        Ok(text)
+        Ok(())
     }
 }
 
@@ -119,12 +128,18 @@ impl Transcript {
         }
     }
 
-    /// Takes the bytes that are shown and were not taken before: they are to be written out next. Not to be called again after
-    /// memory ran out.
-    pub fn more(&mut self, alloc: Global, core: &Core) -> Result<Vec<u8>, AllocError> {
+    /// Takes bytes that are shown and were not taken before, of no terminal more than `limit`, and adds them to the text: they are to
+    /// be written out next. Not to be called again after memory ran out.
+    pub fn add_more(
+        &mut self,
+        alloc: Global,
+        core: &Core,
+        limit: usize,
+        text: &mut Vec<u8>,
+    ) -> Result<(), AllocError> {
         match self {
-            Transcript::One(one) => one.more(alloc, core),
-            Transcript::All(all) => all.more(alloc, core),
+            Transcript::One(one) => one.add_more(core, limit, text),
+            Transcript::All(all) => all.add_more(alloc, core, limit, text),
         }
     }
 }
