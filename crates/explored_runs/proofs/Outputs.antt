@@ -1,10 +1,9 @@
 -- A call that writes to a terminal is a write, by a descriptor that stands for it.
-use Rattle.std.proofs.Common.{◌≡◌, ◌∙◌, ℕ, zero, suc, ◌+◌, ◌==◌, ◌||◌, ◌&&◌, not, nat_lt, nat_le, Bool, true, false, List, [], ◌∷◌, length, take, drop, slice_get, slice_index, Option, Some, None, IfSome, is_some, refl, sym, ap, subst}
-use Rattle.std.specs.Prelude.{if◌then◌else◌, ◌%◌, option_map}
+use Rattle.std.proofs.Common.{◌≡◌, ◌∙◌, ℕ, ◌+◌, ◌==◌, ◌||◌, ◌&&◌, not, nat_lt, nat_le, Bool, true, false, List, length, take, drop, slice_get, slice_index, Option, Some, None, is_some, refl, sym, ap, subst}
+use Rattle.std.specs.Prelude.{if◌then◌else◌}
 use Rattle.std.specs.List.{list_all}
 use Rattle.std.specs.Str.{bytes_eq}
 use Rattle.std.proofs.lemmas.Bool.{eq-eqb}
-use Rattle.std.proofs.lemmas.Option.{slice_get-map}
 use Rattle.memory_model.specs.Memory.{Memory}
 use Rattle.disk_model.specs.declared.change.NamedFile.{NamedFile}
 use Rattle.disk_model.specs.Files.{is_name_byte}
@@ -16,7 +15,7 @@ use Rattle.machine_model.specs.States.{stopped_at}
 use Rattle.image_model.specs.declared.fault.ElfFault.{ElfFault}
 use Rattle.image_model.specs.Checks.{first_fault}
 use Rattle.kernel_model.specs.Requests.{most_bytes, request_by, request_of}
-use Rattle.kernel_model.specs.Rows.{CallEffect, looking_at, Directory, directory, number_named, is_bad_length, row_seek, row_unlink, unlink_named, unlink_file, row_rename, rename_read, rename_file, row_exec, exec_named, exec_file, exec_found, exec_image, EndedChild, row, row_write, may_write, write_read, write_to, write_pipe, row_read, may_read, read_from, read_file, read_tape, read_pipe, row_close, row_open, open_named, open_free, open_file, row_pipe, pipe_free, row_fork, row_wait, wait_ended, first_ended, free_descriptor, free_after, descriptor_at, most_pipes, most_processes, pipe_size}
+use Rattle.kernel_model.specs.Rows.{CallEffect, looking_at, Directory, directory, number_named, is_bad_length, row_seek, row_unlink, unlink_named, unlink_file, row_rename, rename_read, rename_file, row_exec, exec_named, exec_file, exec_found, exec_image, EndedChild, row, row_write, may_write, write_read, write_to, write_pipe, row_read, may_read, read_from, read_file, read_tape, read_pipe, row_close, row_open, open_named, open_free, open_file, row_pipe, pipe_free, row_wait, wait_ended, first_ended, free_descriptor, free_after, descriptor_at, most_pipes, most_processes, pipe_size}
 use Rattle.kernel_model.specs.State.{SyncState, Process, Shared, PipeState, TapeState, process_at, shared, unread}
 use Rattle.kernel_model.specs.Steps.{after_effect, after_effect_if, after_enter, effect_at, impossible}
 use Rattle.kernel_model.specs.declared.descriptor.Descriptor.{Descriptor}

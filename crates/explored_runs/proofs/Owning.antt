@@ -1,6 +1,6 @@
 -- What the search takes as a private call is one.
-use Rattle.std.proofs.Common.{arith, ◌≡◌, ◌∙◌, ◌++◌, ◌∷◌, [], ◌==◌, ◌<◌, ◌≤◌, ◌||◌, ◌&&◌, ℕ, zero, suc, List, map, length, slice_get, Bool, true, false, not, Option, Some, None, IfSome, is_some, refl, sym, ap, subst, inl, inr}
-use Rattle.std.specs.Prelude.{if◌then◌else◌, option_map}
+use Rattle.std.proofs.Common.{arith, ◌≡◌, ◌∙◌, ◌∷◌, [], ◌==◌, ◌≤◌, ◌&&◌, ℕ, zero, suc, List, map, length, slice_get, Bool, true, false, not, Option, Some, None, IfSome, is_some, refl, sym, ap, subst}
+use Rattle.std.specs.Prelude.{option_map}
 use Rattle.std.specs.List.{AllByRecursion, list_all, list_any}
 use Rattle.std.proofs.lemmas.Bool.{eq-eqb, false≢true, ltb-true, or_left, or_right, or_parts, and_parts}
 use Rattle.std.proofs.lemmas.Option.{slice_get-map, slice_get_within}
@@ -16,10 +16,10 @@ use Rattle.kernel_model.specs.declared.event.Event.TheVariants.{Enter}
 use Rattle.kernel_model.proofs.Meets.{same_self}
 use Rattle.kernel_laws.proofs.Frames.{step_keeps_but}
 use Rattle.kernel_laws.proofs.Written.{step_reads}
-use Rattle.order_laws.specs.Moves.{Seen, Label, label_in, label_of, writes_some}
-use Rattle.order_laws.specs.Privacy.{Claim, IsClaimed, IsPrivate, LeavesAlone, is_claimed, stands_for_claimed}
+use Rattle.order_laws.specs.Moves.{Seen, label_in, label_of, writes_some}
+use Rattle.order_laws.specs.Privacy.{Claim, IsPrivate, LeavesAlone, is_claimed, stands_for_claimed}
 use Rattle.order_laws.proofs.Swapping.{at_one, not_written}
-use Rattle.processes.specs.Parts.{Part, part_of}
+use Rattle.processes.specs.Parts.{part_of}
 use Rattle.explored_runs.specs.Owning.{IsTaken, claim_of, has_claimed, is_terminal, may_be_own, meets_claim}
 
 -- each of these carriers is among them

@@ -7,7 +7,7 @@ use Rattle.machine_model.specs.States.{State}
 use Rattle.kernel_model.specs.Answers.{Kernel, now, process_of, with_event}
 use Rattle.kernel_model.specs.Entries.{Entry}
 use Rattle.kernel_model.specs.Rows.{descriptor_at}
-use Rattle.kernel_model.specs.State.{SyncState, Process, PipeState, process_at}
+use Rattle.kernel_model.specs.State.{SyncState, Process, process_at}
 use Rattle.kernel_model.specs.Steps.{after_enter, step}
 use Rattle.kernel_model.specs.World.{World, happens, sync_log}
 use Rattle.kernel_model.specs.declared.carrier.Carrier.{Carrier}

@@ -1,5 +1,5 @@
 -- The last footprint that is kept is that of the last Enter.
-use Rattle.std.proofs.Common.{arith, rules, ◌≡◌, ◌∙◌, ◌∷◌, ◌-◌, ℕ, List, length, get_or, sym, ap}
+use Rattle.std.proofs.Common.{rules, ◌≡◌, ◌∙◌, ◌∷◌, ◌-◌, ℕ, List, length, get_or, sym, ap}
 use Rattle.kernel_model.specs.declared.carrier.Carrier.{Carrier}
 use Rattle.kernel_model.specs.declared.carrier.Carrier.TheVariants.{Proc}
 use Rattle.footprints.specs.Kept.{no_footprint}
