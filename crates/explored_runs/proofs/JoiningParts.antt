@@ -1,6 +1,5 @@
 -- Parts of a search by keys are together a search as `order_laws` has it.
 use Rattle.std.proofs.Common.{arith, ◌≡◌, ◌∙◌, ◌++◌, ◌+◌, ◌≤◌, ℕ, List, inl, inr}
-use Rattle.std.specs.List.{Contains}
 use Rattle.kernel_model.specs.World.{Boot}
 use Rattle.order_laws.specs.Moves.{Seen, calls}
 use Rattle.order_laws.specs.Privacy.{IsPrivate}

@@ -1,3 +1,4 @@
 pub mod Booting
 pub mod CallSearches
+pub mod Owning
 pub mod Replays

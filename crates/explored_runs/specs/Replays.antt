@@ -8,6 +8,7 @@ use Rattle.kernel_model.specs.declared.answer.Refused.{Refused}
 use Rattle.kernel_model.specs.declared.answer.Refused.TheVariants as refused
 use Rattle.order_laws.specs.Moves.{Seen, calls, events, first_seen}
 use Rattle.order_laws.specs.Orders.{reached}
+use Rattle.order_laws.specs.Privacy.{IsPrivate}
 use Rattle.explored_runs.specs.CallSearches.{start}
 use Rattle.explored_runs.specs.declared.replay.Called.{Called}
 use Rattle.explored_runs.specs.declared.replay.Called.TheVariants.{Idle, Made, MadePrivately}
@@ -41,6 +42,12 @@ does_something Idle = false
 does_something Made = true
 does_something MadePrivately = true
 
+-- a call that is taken as private is so
+abbrev pub IsRightly : Called → Seen → ℕ → Type 0
+IsRightly Idle s p = Unit {0}
+IsRightly Made s p = Unit {0}
+IsRightly MadePrivately s p = IsPrivate s p
+
 -- ---- what comes after a run
 
 -- the call of process p does something
@@ -51,7 +58,7 @@ Works n s p = (calls n).works ((calls n).label s p) ≡ true
 abbrev pub IsTried : ℕ → Seen → List ℕ → ℕ → Tried → Type 0
 IsTried n s ps p tried.Idle = (calls n).works ((calls n).label s p) ≡ false
 IsTried n s ps p (tried.Made r) = Works n s p × (r.state.items ≡ ps ++ p ∷ [])
-IsTried n s ps p (tried.Private r) = Works n s p × (r.state.items ≡ ps ++ p ∷ [])
+IsTried n s ps p (tried.Private r) = IsPrivate s p × (r.state.items ≡ ps ++ p ∷ [])
 
 abbrev pub is_idle : Tried → Bool
 is_idle tried.Idle = true

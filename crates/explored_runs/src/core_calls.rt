@@ -1,6 +1,6 @@
 //! Calls of a core, as `order_laws` has them: an Enter, and a Turn of its process and of one that it makes.
 ghost use Rattle.std.specs.Prelude.{◌≡◌, [], true, length, IfOk, OnOk};
-ghost use Rattle.kernel_model.specs.Answers.{now};
+ghost use Rattle.kernel_model.specs.Answers.{now, with_event};
 ghost use Rattle.kernel_model.specs.Limits.{AreNumbered};
 ghost use Rattle.kernel_model.specs.declared.event.Event.TheVariants.{Turn, Enter};
 ghost use Rattle.order_laws.specs.Moves.{Seen, call_after, label_in, seen_after, writes_some};
@@ -50,6 +50,7 @@ pub fn run_on(core: &mut Core, pid: u32, n: u32) -> Result<(), Fault>
 pub fn enter(core: &mut Core, pid: u32) -> Result<bool, Fault>
     ensures seen { OnOk result (seen_of core.new ≡ seen_after (seen_of core.old) (Enter pid)) }
     ensures works { IfOk result (λ made. made ≡ writes_some (label_in (seen_of core.old) (Enter pid))) }
+    ensures made { IfOk result (λ made. made ≡ true → core.new ≡ with_event core.old (Enter pid)) }
     ensures boot { OnOk result (core.new.boot ≡ core.old.boot) }
 {
     match core.apply(Event::Enter { pid }) {

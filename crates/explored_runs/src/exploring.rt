@@ -254,8 +254,8 @@ pub fn explore_orders<R: Files + AllocGlobal + Threads + Sync, O: Write, E: Writ
 ) -> Result<(), Fault> {
     let alloc = rt.alloc();
     let findings = Findings::new(alloc, wanted.expected)?;
-    let lines = setup_lines(alloc, setup)?;
     let programs = Programs::of_setup(rt, setup)?;
+    let lines = setup_lines(alloc, setup)?;
     let runs = Runs {
         alloc,
         programs: &programs,

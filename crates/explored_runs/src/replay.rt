@@ -1,16 +1,17 @@
 //! A run that is replayed, call by call.
 ghost use Rattle.std.specs.Prelude.{◌≡◌, [], true, length, IfOk, OnOk};
-ghost use Rattle.kernel_model.specs.Answers.{now};
-ghost use Rattle.order_laws.specs.Moves.{calls};
+ghost use Rattle.kernel_model.specs.Answers.{Kernel, now, with_event};
+ghost use Rattle.kernel_model.specs.declared.event.Event.TheVariants.{Enter};
+ghost use Rattle.order_laws.specs.Moves.{calls, label_in, writes_some};
 ghost use Rattle.explored_runs.specs.CallSearches.{start};
-ghost use Rattle.explored_runs.specs.Replays.{does_something, seen_of};
+ghost use Rattle.explored_runs.specs.Owning.{GoesTo};
+ghost use Rattle.explored_runs.specs.Replays.{IsRightly, does_something, seen_of};
 
 use crate::core_calls::{enter, last_process, run_all, run_on_after};
 use crate::pipe_texts::PipeTexts;
-use crate::private::is_private;
+use crate::private::{MadeCall, is_private, last_reads, terminal_of};
 use faults::Fault;
 use kernel::Core;
-use kernel_model::TERMINALS;
 use std::alloc::Global;
 
 /// What came of a call.
@@ -22,27 +23,6 @@ pub enum Called {
     Made,
     /// It was made, and nobody else can tell when.
     MadePrivately,
-}
-
-/// How many bytes were written to each terminal.
-type Lengths = [usize; TERMINALS];
-
-fn lengths_of(core: &Core) -> Lengths {
-    let mut lengths = [0; TERMINALS];
-    for terminal in 0..TERMINALS as u32 {
-        lengths[terminal as usize] = core.written(terminal).len();
-    }
-    lengths
-}
-
-/// The terminal to which something was written since.
-fn written_since(core: &Core, before: &Lengths) -> Option<u32> {
-    for terminal in 0..TERMINALS as u32 {
-        if core.written(terminal).len() != before[terminal as usize] {
-            return Some(terminal);
-        }
-    }
-    None
 }
 
 /// A core whose processes run on after each call to where they stop next.
@@ -78,12 +58,18 @@ impl Replay {
         last_process(&self.core)
     }
 
-    /// What was just called, before its process runs on.
-    fn kind_of(&self, pid: u32, before: &Lengths) -> Called
-        ensures { does_something result ≡ true }
+    /// What was just called, before its process runs on. It may have written to this terminal.
+    fn kind_of(&self, pid: u32, terminal: Option<u32>) -> Called
+        ensures made { does_something result ≡ true }
+        ensures rightly { (k : Kernel) → self.now.core ≡ with_event k (Enter pid) → writes_some (label_in (seen_of k) (Enter pid)) ≡ true
+            → GoesTo terminal (label_in (seen_of k) (Enter pid)).output → IsRightly result (seen_of k) pid }
     {
-        let terminal = written_since(&self.core, before);
-        if is_private(&self.core, pid, terminal) {
+        let call = MadeCall {
+            owner: pid,
+            reads: last_reads(self.core.footprints()),
+            terminal,
+        };
+        if is_private(self.core.tables(), call) {
             Called::MadePrivately
         } else {
             Called::Made
@@ -94,16 +80,17 @@ impl Replay {
     pub fn call(&mut self, pid: u32) -> Result<Called, Fault>
         ensures moved { OnOk result (seen_of self.new.core ≡ (calls self.old.limit).go (seen_of self.old.core) pid) }
         ensures made { IfOk result (λ called. does_something called ≡ (calls self.old.limit).works ((calls self.old.limit).label (seen_of self.old.core) pid)) }
+        ensures rightly { IfOk result (λ called. IsRightly called (seen_of self.old.core) pid) }
         ensures boot { OnOk result (self.new.core.boot ≡ self.old.core.boot) }
         ensures limit { self.new.limit ≡ self.old.limit }
     {
         let last = self.last_process();
-        let lengths = lengths_of(&self.core);
+        let terminal = terminal_of(&self.core, pid);
         if !enter(&mut self.core, pid)? {
             return Ok(Called::Idle);
         }
         self.pipes.note(self.core.tables())?;
-        let called = self.kind_of(pid, &lengths);
+        let called = self.kind_of(pid, terminal);
         run_on_after(&mut self.core, pid, last, self.limit)?;
         Ok(called)
     }

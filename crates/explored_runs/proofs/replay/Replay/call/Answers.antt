@@ -18,3 +18,9 @@ returns-clause-moved c =
     let works = sym c.in_ok-enter.ensures.works ∙ c.if-not-branch.false in
     let before = c.last_process-last.ensures ∙ sym (ap (λ (u : SyncState). length u.processes) (seen_sync k)) in
     c.in_ok-run_on_after.ensures.called (seen_of k) c.in_ok-enter.ensures.seen (numbered k) works before
+
+pub returns-clause-rightly : goal.returns-clause-rightly
+returns-clause-rightly c =
+    let k = c.args.self.now.core in
+    let works = sym c.in_ok-enter.ensures.works ∙ c.if-not-branch.false in
+    c.kind_of-called.ensures.rightly k (c.in_ok-enter.ensures.made c.if-not-branch.false) works c.terminal_of-terminal.ensures
