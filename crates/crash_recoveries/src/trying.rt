@@ -41,6 +41,8 @@ pub struct Trier<'a, R> {
     boots: u64,
     /// The lines of the run so far.
     played: String,
+    /// What terminal 0 showed in the boots before.
+    shown: Vec<u8>,
     /// How many disks no crash left, since a group of changes comes to the disk at once.
     pub passed_over: u64,
     /// What crashes left that was not handed out yet.
@@ -56,6 +58,7 @@ impl<'a, R: Files + AllocGlobal> Trier<'a, R> {
             mirror: Mirror::new(),
             boots: 0,
             played: String::new(rt.alloc()),
+            shown: Vec::new(rt.alloc()),
             passed_over: 0,
             found: Vec::new(rt.alloc()),
         }
@@ -80,7 +83,7 @@ impl<'a, R: Files + AllocGlobal> Trier<'a, R> {
         }
         self.found.push(Crashes {
             moment: moment_of(self.boots, core),
-            promise: Promise::of(alloc, core)?,
+            promise: Promise::of(alloc, self.shown.as_slice(), core)?,
             left,
         })?;
         Ok(())
@@ -172,6 +175,7 @@ impl<R: Files + AllocGlobal> Visitor for Trier<'_, R> {
         self.try_crashes(&core)?;
         let digits = bytes_text(self.rt.alloc(), fill)?;
         writeln!(self.played, "crash {digits}")?;
+        self.shown.extend_from_slice(core.shown(0))?;
         self.boot(Some(core.halt(fill)))
     }
 }

@@ -85,6 +85,8 @@ pub struct WindowTrier<'a, R> {
     boots: u64,
     /// The lines of the run so far.
     played: String,
+    /// What terminal 0 showed in the boots before.
+    shown: Vec<u8>,
     /// The files since the last sync.
     window: Option<Window>,
     /// How many changes there were.
@@ -123,6 +125,7 @@ impl<'a, R: Files + AllocGlobal> WindowTrier<'a, R> {
             rule,
             boots: 0,
             played: String::new(rt.alloc()),
+            shown: Vec::new(rt.alloc()),
             window: None,
             changes: 0,
             is_sync: false,
@@ -161,7 +164,7 @@ impl<'a, R: Files + AllocGlobal> WindowTrier<'a, R> {
             self.closed.push(Closed {
                 moment: moment_of(self.boots, core),
                 window,
-                promise: Promise::printed(self.rt.alloc(), core)?,
+                promise: Promise::printed(self.rt.alloc(), self.shown.as_slice(), core)?,
             })?;
         }
         Ok(())
@@ -308,6 +311,7 @@ impl<R: Files + AllocGlobal> Visitor for WindowTrier<'_, R> {
         self.close(&core)?;
         let digits = bytes_text(self.rt.alloc(), fill)?;
         writeln!(self.played, "crash {digits}")?;
+        self.shown.extend_from_slice(core.shown(0))?;
         self.boot(Some(core.halt(fill)))
     }
 }
