@@ -2,7 +2,7 @@
 ghost use Rattle.std.specs.Prelude.{◌≡◌, true, IfSome};
 ghost use Rattle.disk_model.specs.Storage.{is_quiet};
 
-use crate::course::{Course, Playing};
+use crate::course::{Course, Playing, RunEnd};
 use crate::digests::digest_of_files;
 use crate::point::{CrashPlace, Left};
 use crate::promise::Promise;
@@ -271,7 +271,7 @@ impl<R: Files + AllocGlobal + Threads + Sync> WindowTrier<'_, R> {
     }
 
     /// Boots, and runs to the end, which is tried as a sync is. What crashes may leave is handed out after each step.
-    pub fn run<T: Taker>(&mut self, course: &Course, taker: &mut T) -> Result<Ending, Stop> {
+    pub fn run<T: Taker>(&mut self, course: &Course, taker: &mut T) -> Result<RunEnd, Stop> {
         let core = self.boot(None)?;
         let mut playing = Playing::begin(core, course);
         for _ in 0..u64::MAX {
@@ -282,10 +282,10 @@ impl<R: Files + AllocGlobal + Threads + Sync> WindowTrier<'_, R> {
             self.try_closed(taker)?;
             self.is_over = ending == Some(Ending::Over);
             if let Some(ending) = ending {
-                return Ok(ending);
+                return Ok(playing.end(ending));
             }
         }
-        Ok(Ending::Over)
+        Ok(playing.end(Ending::Over))
     }
 }
 
