@@ -38,7 +38,8 @@ impl From<Fault> for SubjectFault {
 impl From<LoadFault> for SubjectFault {
     fn from(fault: LoadFault) -> SubjectFault {
         match fault {
-            LoadFault::Refused(why) | LoadFault::Host(why) => SubjectFault::Refused(why),
+            LoadFault::Refused(why) => SubjectFault::Refused(why),
+            LoadFault::Host(_) => SubjectFault::Other(Fault::InputOutput),
             LoadFault::OutOfMemory => SubjectFault::Other(Fault::OutOfMemory),
         }
     }
