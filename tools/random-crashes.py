@@ -160,6 +160,8 @@ class Model:
         self.living = [File(it.name, it.content) for it in files]
         self.after, self.changes, self.committed = [files], [], 0
         self.events, self.stages, self.group, self.has_failed, self.is_gate_torn = 0, [], 0, False, False
+        # How many changes were cut, in how many groups.
+        self.cut_changes, self.groups = 0, 0
 
     def change(self, change):
         self.changes.append(change)
@@ -233,6 +235,7 @@ class Model:
             return False
         self.events += 1
         self.group = min(GROUP, len(self.changes) - self.committed)
+        self.cut_changes, self.groups = self.cut_changes + self.group, self.groups + 1
         self.stages = [[self.gate + 1 + i for i in range(0, self.body_size() + 5, PIECE)], [self.gate]]
         return True
 
@@ -280,12 +283,24 @@ class Case:
         # The same lines with the events of each drain in its place.
         self.events = list(self.lines)
         self.printed, self.outcomes, self.crashes, self.boot = [], set(), [], 1
+        self.between, self.uncut = 0, 0
         self.model = Model(self.programs, [], FIRST_GATE)
         self.try_crashes()
         for _ in range(rng.randint(5, 25)):
             self.add_line()
-        count = len(self.outcomes)
-        self.printed.append(f"{len(self.crashes)} crashes, {count} outcomes")
+        self.end()
+        sums = f"{len(self.crashes)} crashes, {len(self.outcomes)} outcomes"
+        if self.between:
+            sums += f"; {self.between} disks between changes of one group were not tried"
+        if self.uncut:
+            sums += f"; {self.uncut} disks after changes that were never cut were not tried"
+        self.printed.append(sums)
+
+    def end(self):
+        """Counts the disks that no crash of a boot leaves."""
+        model = self.model
+        self.between += model.cut_changes - model.groups
+        self.uncut += len(model.changes) - model.cut_changes
 
     def try_crashes(self):
         model = self.model
@@ -315,6 +330,7 @@ class Case:
                 self.event("cut", model.cut())
 
     def start_again(self):
+        self.end()
         fill = self.rng.choice((*FILLS, "017f", "0001"))
         self.lines.append(f"crash {fill}")
         self.events.append(f"crash {fill}")

@@ -26,6 +26,8 @@ DISK = 2 * 1024 * 1024
 # What may be refused: the variable of `refuse.c` with its other variables, the place of its count, and the end that stands for it.
 MEMORY = (5, b"bench: out of memory\n")
 HOST = (6, b"bench: input or output failed\n")
+# The end of `disk put` where the host refuses a write of the disk.
+DISK_FAILED = (4, b"bench: disk failed\n")
 # The status of `exec` for either.
 EXEC_REFUSED = 125
 REFUSALS = {
@@ -320,6 +322,8 @@ class Sweep:
         status_of_end, line = self.end
         if self.is_exec and status == EXEC_REFUSED:
             status_of_end = EXEC_REFUSED
+        if self.is_put and self.end == HOST and status == DISK_FAILED[0]:
+            status_of_end, line = DISK_FAILED
         is_told = out != out_wanted and out == out_wanted.replace(KEPT, NOT_KEPT)
         if status not in (status_of_end, status_wanted) or gone or not (is_told or out_wanted.startswith(out)):
             return False
@@ -360,6 +364,7 @@ class Sweep:
         # In a run by workers the number of growths differs from run to run.
         is_run = words[:1] == ["run"]
         self.is_exec = words[:1] == ["exec"]
+        self.is_put = words[:2] == ["disk", "put"]
         last = wanted[2] + (10 if is_run else 1)
         numbers = range(first, last + 1)
         kinds = collections.Counter()

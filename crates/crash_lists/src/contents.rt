@@ -1,9 +1,10 @@
 //! What a file may hold after a crash.
-ghost use Rattle.std.specs.Prelude.{◌≡◌, ◌<◌, ◌⊎◌, nat_lt, true, false};
+ghost use Rattle.std.specs.Prelude.{◌≡◌, ◌⊎◌};
 ghost use Rattle.crash_lists.specs.declared.model.CrashModel.TheVariants.{Ordered, Delayed, Posix};
 
+use crate::choices::{Choices, cell_bytes};
 use crate::model::CrashModel;
-use crate::window::{CELL, Window};
+use crate::window::Window;
 use std::alloc::{AllocError, Global};
 use std::collections::HashSet;
 
@@ -63,50 +64,7 @@ pub struct FileAt<'a> {
     pub model: CrashModel,
     pub number: u64,
     pub moment: usize,
-}
-
-/// The bytes of a cell; zeros past the end.
-fn cell_bytes(alloc: Global, bytes: &[u8], cell: usize) -> Result<Vec<u8>, AllocError> {
-    let begin = cell.saturating_mul(CELL).min(bytes.len());
-    let end = begin.saturating_add(CELL).min(bytes.len());
-    let mut held = Vec::with_capacity(alloc, CELL)?;
-    held.extend_from_slice(bytes.get(begin..end).unwrap_or(&[]))?;
-    for _ in held.len()..CELL {
-        held.push(0)?;
-    }
-    Ok(held)
-}
-
-/// Whether a change after a moment counts at another one.
-fn counts_at(change: usize, moment: usize) -> bool
-    ensures { result ≡ nat_lt change moment }
-{
-    change < moment
-}
-
-/// Whether a cell may be there or not, where the length of its file counts a change or not, by ordered and delayed: an emptying counts
-/// for both or for neither, and a write that makes the file longer has its bytes there.
-fn is_ordered(long: bool, there: bool, is_emptied: bool, is_lengthened: bool) -> bool
-    ensures emptied { result ≡ true → is_emptied ≡ true → long ≡ there }
-    ensures longer { result ≡ true → is_lengthened ≡ true → long ≡ true → there ≡ true }
-    ensures others { is_emptied ≡ false → is_lengthened ≡ false → result ≡ true }
-    ensures both { long ≡ there → result ≡ true }
-{
-    if is_emptied && long != there {
-        return false;
-    }
-    !long || there || !is_lengthened
-}
-
-/// Whether a cell may be there or not, where the length of its file counts an emptying or not, by posix: no bytes are lost by an emptying
-/// after which the length is not, unless the cell was written since.
-fn is_whole(long: bool, there: bool, is_emptied: bool, is_written: bool) -> bool
-    ensures lost { result ≡ true → is_emptied ≡ true → long ≡ false → there ≡ true → is_written ≡ true }
-    ensures others { is_emptied ≡ false → result ≡ true }
-    ensures written { is_written ≡ true → result ≡ true }
-    ensures both { long ≡ there → result ≡ true }
-{
-    !is_emptied || long || !there || is_written
+    pub choices: &'a Choices,
 }
 
 /// A file without bytes, whose length is apart or not.
@@ -150,48 +108,6 @@ fn extend(
 }
 
 impl FileAt<'_> {
-    /// Whether a write of a cell comes after a change and counts at a moment.
-    fn is_written_since(&self, change: usize, moment: usize, cell: usize) -> bool {
-        (change.saturating_add(1)..moment).any(|later| self
-            .window
-            .is_lengthened(self.number, later, cell))
-    }
-
-    /// Whether a cell may be as at a moment, where the length is as at another: by what one change asks of both.
-    fn allows(&self, change: usize, size: usize, moment: usize, cell: usize) -> bool {
-        let (long, there) = (counts_at(change, size), counts_at(change, moment));
-        let is_emptied = self.window.is_emptied(self.number, change);
-        if self.model == CrashModel::Posix {
-            let is_written = is_emptied && self.is_written_since(change, moment, cell);
-            return is_whole(long, there, is_emptied, is_written);
-        }
-        let is_lengthened = long && self.window.is_lengthened(self.number, change, cell);
-        is_ordered(long, there, is_emptied, is_lengthened)
-    }
-
-    /// Whether a cell may be as at a moment, where the length is as at another.
-    fn may_be(&self, size: usize, moment: usize, cell: usize) -> bool {
-        (0..self.window.changes()).all(|change| self.allows(change, size, moment, cell))
-    }
-
-    /// What a cell may hold, where the length is as at a moment; each once.
-    fn values(&self, alloc: Global, size: usize, cell: usize) -> Result<Vec<Vec<u8>>, AllocError> {
-        let mut values: Vec<Vec<u8>> = Vec::new(alloc);
-        for moment in 0..=self.window.changes() {
-            if self.may_be(size, moment, cell) {
-                let bytes = self.window.bytes_at(self.number, moment);
-                let value = cell_bytes(alloc, bytes, cell)?;
-                if !values
-                    .iter()
-                    .any(|other| other.as_slice() == value.as_slice())
-                {
-                    values.push(value)?;
-                }
-            }
-        }
-        Ok(values)
-    }
-
     /// The first moment as at which the length may be.
     fn first_size(&self) -> usize
         ensures ordered { self.now.model ≡ Ordered → result ≡ self.now.moment }
@@ -223,6 +139,26 @@ impl FileAt<'_> {
         }
     }
 
+    /// The values of a cell that may be as at these moments.
+    fn values(
+        &self,
+        alloc: Global,
+        cell: usize,
+        moments: &[usize],
+    ) -> Result<CellValues, AllocError> {
+        let mut values = Vec::new(alloc);
+        for moment in moments {
+            let bytes = self.window.bytes_at(self.number, *moment);
+            values.push(cell_bytes(alloc, bytes, cell)?)?;
+        }
+        let now = self.window.bytes_at(self.number, self.moment);
+        Ok(CellValues {
+            cell,
+            values,
+            here: cell_bytes(alloc, now, cell)?,
+        })
+    }
+
     /// What the file may hold where its length is as at a moment, with no more than so many cells apart. Whether some were left out.
     fn contents_of_size(
         &self,
@@ -234,19 +170,21 @@ impl FileAt<'_> {
         let length = self.window.bytes_at(self.number, size).len();
         let mut contents = Vec::new(alloc);
         let first = first_content(alloc, length != now.len())?;
-        let mut is_cut = first.count_apart() > most;
-        if !is_cut {
-            contents.push(first)?;
+        if first.count_apart() > most {
+            return Ok((contents, true));
         }
-        for cell in 0..length.div_ceil(CELL) {
-            let values = CellValues {
-                cell,
-                values: self.values(alloc, size, cell)?,
-                here: cell_bytes(alloc, now, cell)?,
-            };
+        contents.push(first)?;
+        let mut is_cut = false;
+        let mut cell = 0usize;
+        for moments in self.choices.of_size(size) {
+            if contents.is_empty() {
+                break;
+            }
+            let values = self.values(alloc, cell, moments.as_slice())?;
             let (longer, cuts) = extend(alloc, contents.as_slice(), &values, most)?;
             contents = longer;
             is_cut = is_cut || cuts;
+            cell = cell.saturating_add(1);
         }
         for content in contents.as_mut_slice() {
             content.bytes.truncate(length);

@@ -1,4 +1,5 @@
-//! `lists_near`: which files a crash may leave.
+//! `Enumeration`: which files a crash may leave.
+use crate::choices::Choices;
 use crate::contents::{ApartCell, Content, FileAt};
 use crate::directories::{Directory, directories_near};
 use crate::model::CrashModel;
@@ -123,57 +124,112 @@ impl Lists {
     }
 }
 
-/// The lists of one directory.
-fn lists_of(
-    alloc: Global,
-    window: &Window,
-    model: CrashModel,
-    moment: usize,
-    directory: &Directory,
-    most: u32,
-) -> Result<Lists, AllocError> {
-    let mut first = Vec::new(alloc);
-    first.push(Listed {
-        files: FileList::new(alloc),
-        apart: directory.apart,
-        told: told_of(alloc, window, moment, directory)?,
-    })?;
-    let mut lists = Lists {
-        lists: first,
-        is_cut: false,
-    };
+/// The names of a directory with the numbers of their files, in the order of names: no call tells another order.
+fn sorted(alloc: Global, directory: &Directory) -> Result<Vec<(&[u8], u64)>, AllocError> {
+    let mut named: Vec<(&[u8], u64)> = Vec::new(alloc);
     for cell in &directory.cells {
-        let file = FileAt {
-            window,
-            model,
-            number: cell.number.unwrap_or(0),
-            moment,
-        };
-        let (contents, is_cut) = file.contents(alloc, most)?;
-        lists = lists.with_each(alloc, cell.name.as_slice(), contents.as_slice(), most)?;
-        lists.is_cut = lists.is_cut || is_cut;
+        if let Some(number) = cell.number {
+            named.push((cell.name.as_slice(), number))?;
+        }
     }
-    Ok(lists)
+    named.sort_unstable();
+    Ok(named)
 }
 
-/// The files that a crash in a window may leave under a rule, where no more than so many cells are not as at a common moment: names
-/// that changed, lengths of files, and 512 bytes of a file. A list may come more than once.
-pub fn lists_near(
-    alloc: Global,
-    window: &Window,
+/// The files that a crash in a window may leave under a rule.
+#[derive(Drop)]
+pub struct Enumeration<'a> {
+    window: &'a Window,
     model: CrashModel,
-    moment: usize,
-    most: u32,
-) -> Result<Lists, AllocError> {
-    let (directories, is_cut) = directories_near(alloc, window, model, moment, most)?;
-    let mut all = Lists {
-        lists: Vec::new(alloc),
-        is_cut,
-    };
-    for directory in &directories {
-        let mut lists = lists_of(alloc, window, model, moment, directory, most)?;
-        all.lists.append(&mut lists.lists)?;
-        all.is_cut = all.is_cut || lists.is_cut;
+    /// Of each file that lives at some moment.
+    choices: Vec<Choices>,
+}
+
+impl<'a> Enumeration<'a> {
+    /// Finds what the cells of each file may hold.
+    pub fn new(
+        alloc: Global,
+        window: &'a Window,
+        model: CrashModel,
+    ) -> Result<Enumeration<'a>, AllocError> {
+        let mut choices: Vec<Choices> = Vec::new(alloc);
+        for moment in 0..=window.changes() {
+            if let Some(files) = window.files_at(moment) {
+                for place in 0..files.count() {
+                    let number = files.number(place);
+                    if !choices.iter().any(|file| file.number == number) {
+                        choices.push(Choices::of(alloc, window, model, number)?)?;
+                    }
+                }
+            }
+        }
+        Ok(Enumeration {
+            window,
+            model,
+            choices,
+        })
     }
-    Ok(all)
+
+    /// What the file of a number may hold near a common moment. Nothing where it never lives.
+    fn contents(
+        &self,
+        alloc: Global,
+        number: u64,
+        moment: usize,
+        most: u32,
+    ) -> Result<(Vec<Content>, bool), AllocError> {
+        let Some(choices) = self.choices.iter().find(|file| file.number == number) else {
+            return Ok((Vec::new(alloc), false));
+        };
+        let file = FileAt {
+            window: self.window,
+            model: self.model,
+            number,
+            moment,
+            choices,
+        };
+        file.contents(alloc, most)
+    }
+
+    /// The lists of one directory.
+    fn lists_of(
+        &self,
+        alloc: Global,
+        moment: usize,
+        directory: &Directory,
+        most: u32,
+    ) -> Result<Lists, AllocError> {
+        let mut first = Vec::new(alloc);
+        first.push(Listed {
+            files: FileList::new(alloc),
+            apart: directory.apart,
+            told: told_of(alloc, self.window, moment, directory)?,
+        })?;
+        let mut lists = Lists {
+            lists: first,
+            is_cut: false,
+        };
+        for (name, number) in sorted(alloc, directory)? {
+            let (contents, is_cut) = self.contents(alloc, number, moment, most)?;
+            lists = lists.with_each(alloc, name, contents.as_slice(), most)?;
+            lists.is_cut = lists.is_cut || is_cut;
+        }
+        Ok(lists)
+    }
+
+    /// The files that a crash may leave, where no more than so many cells are not as at a common moment: names that changed, lengths of
+    /// files, and 512 bytes of a file. A list may come more than once. Its files are in the order of their names.
+    pub fn near(&self, alloc: Global, moment: usize, most: u32) -> Result<Lists, AllocError> {
+        let (directories, is_cut) = directories_near(alloc, self.window, self.model, moment, most)?;
+        let mut all = Lists {
+            lists: Vec::new(alloc),
+            is_cut,
+        };
+        for directory in &directories {
+            let mut lists = self.lists_of(alloc, moment, directory, most)?;
+            all.lists.append(&mut lists.lists)?;
+            all.is_cut = all.is_cut || lists.is_cut;
+        }
+        Ok(all)
+    }
 }

@@ -6,6 +6,7 @@ use crate::crash::{FILLS, Fill, Moment, moment_of};
 use crate::expectations::expectations_of;
 use crate::findings::Findings;
 use crate::outcome::outcome_of;
+use crate::passed_over::PassedOver;
 use faults::Fault;
 use kernel::{Answer, Core, Event, SimDisk};
 use scripts::{Setup, Visitor, process_of};
@@ -29,6 +30,7 @@ pub struct Explorer<'r, 's, 'e, 'o, R, O> {
     /// How many boots there were.
     boots: u64,
     findings: Findings<'e>,
+    passed_over: PassedOver,
     out: &'o mut O,
 }
 
@@ -46,6 +48,7 @@ impl<'r, 's, 'e, 'o, R: Files + AllocGlobal, O: Write> Explorer<'r, 's, 'e, 'o, 
             setup,
             boots: 0,
             findings: Findings::new(rt.alloc(), expected),
+            passed_over: PassedOver::NONE,
             out,
         })
     }
@@ -55,10 +58,18 @@ impl<'r, 's, 'e, 'o, R: Files + AllocGlobal, O: Write> Explorer<'r, 's, 'e, 'o, 
         self.boot(None)
     }
 
-    /// Prints how many crashes and outcomes there were.
-    pub fn finish(self) -> Result<(), Fault> {
-        let Explorer { findings, out, .. } = self;
-        Ok(findings.print_sums(out)?)
+    /// Prints how many crashes and outcomes there were, and what was not tried up to this end.
+    pub fn finish(self, core: Option<&Core>) -> Result<(), Fault> {
+        let Explorer {
+            findings,
+            mut passed_over,
+            out,
+            ..
+        } = self;
+        if let Some(core) = core {
+            passed_over.end(core);
+        }
+        Ok(findings.print_sums(passed_over, out)?)
     }
 
     /// Finds what a crash with this fill would leave. The core itself goes on.
@@ -95,7 +106,8 @@ impl<R: Files + AllocGlobal, O: Write> Visitor for Explorer<'_, '_, '_, '_, R, O
     type Fault = Fault;
 
     /// Tries crashes after each event of the disk. No other event changes the disk or its writes in flight.
-    fn after(&mut self, core: &Core, event: Event, _answer: Answer) -> Result<(), Fault> {
+    fn after(&mut self, core: &Core, event: Event, answer: Answer) -> Result<(), Fault> {
+        self.passed_over.after(answer);
         match process_of(event) {
             Some(_) => Ok(()),
             None => self.try_crashes(core),
@@ -103,6 +115,7 @@ impl<R: Files + AllocGlobal, O: Write> Visitor for Explorer<'_, '_, '_, '_, R, O
     }
 
     fn crash(&mut self, core: Core, fill: &[u8]) -> Result<Core, Fault> {
+        self.passed_over.end(&core);
         self.boot(Some(core.halt(fill)))
     }
 }

@@ -14,6 +14,13 @@ pub enum Course {
     ToEnd { limit: u64 },
 }
 
+/// How a run ended, and its core then.
+#[derive(Drop)]
+pub struct RunEnd {
+    pub ending: Ending,
+    pub core: Option<Core>,
+}
+
 /// Turns up to so many instructions.
 fn turns_to(limit: u64) -> Turns {
     Turns::new(Order {
@@ -70,14 +77,14 @@ pub fn play_some(core: &mut Core, limit: u64, events: u64) -> Result<(), Fault> 
 }
 
 /// Runs a core that was just booted. Gives how the run ended.
-pub fn play<V: Visitor>(visitor: &mut V, core: Core, course: &Course) -> Result<Ending, V::Fault> {
+pub fn play<V: Visitor>(visitor: &mut V, core: Core, course: &Course) -> Result<RunEnd, V::Fault> {
     let mut playing = Playing::begin(core, course);
     for _ in 0..u64::MAX {
         if let Some(ending) = playing.step(visitor)? {
-            return Ok(ending);
+            return Ok(playing.end(ending));
         }
     }
-    Ok(Ending::Over)
+    Ok(playing.end(Ending::Over))
 }
 
 /// A run that goes on step by step.
@@ -104,6 +111,12 @@ impl<'a> Playing<'a> {
             turns: turns_to(limit),
             next: 0,
         }
+    }
+
+    /// The run, which ended so.
+    pub fn end(self, ending: Ending) -> RunEnd {
+        let Playing { core, .. } = self;
+        RunEnd { ending, core }
     }
 
     /// The core as it stands.

@@ -22,12 +22,17 @@ pub fn digest_of_bytes(alloc: Global, bytes: &[u8]) -> Result<String, AllocError
     digits_of(alloc, hasher)
 }
 
-/// The digest of files: of their names and bytes, in order of creation.
+/// The digest of files: of their names and bytes, in the order of names, since no call tells another order.
 pub fn digest_of_files(alloc: Global, files: &FileList) -> Result<String, AllocError> {
-    let mut hasher = Sha256::new();
+    let mut named: Vec<(&[u8], &[u8])> = Vec::with_capacity(alloc, files.count())?;
     for place in 0..files.count() {
-        add(&mut hasher, files.name(place));
-        add(&mut hasher, files.bytes(place));
+        named.push((files.name(place), files.bytes(place)))?;
+    }
+    named.sort_unstable();
+    let mut hasher = Sha256::new();
+    for (name, bytes) in named {
+        add(&mut hasher, name);
+        add(&mut hasher, bytes);
     }
     digits_of(alloc, hasher)
 }

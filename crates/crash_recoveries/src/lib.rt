@@ -31,7 +31,7 @@ mod trying;
 mod verdict;
 mod windows;
 
-pub use course::Course;
+pub use course::{Course, RunEnd};
 pub use crash_lists::CrashModel;
 pub use effort::{Effort, Part};
 pub use failure::Failure;
@@ -39,5 +39,5 @@ pub use listing::explore_by;
 pub use outcomes::explore;
 pub use recovery::{Recovery, RecoveryProgram};
 pub use saving::save;
-pub use verdict::{Subject, Trial, Verdict, try_recoveries};
+pub use verdict::{Subject, Tested, Trial, Verdict, try_recoveries};
 pub use windows::Rule;

@@ -1,12 +1,11 @@
 //! Prints what a crash may leave by another rule than bench's.
-use crate::course::Course;
+use crate::course::{Course, RunEnd};
 use crate::point::CrashPlace;
 use crate::promise::Promise;
 use crate::stop::Stop;
 use crate::taker::Taker;
 use crate::windows::{Rule, WindowTrier};
 use crash_outcomes::outcome_of;
-use exec_runs::Ending;
 use faults::Fault;
 use files::FileList;
 use scripts::Setup;
@@ -55,7 +54,7 @@ pub fn explore_by<R: Files + AllocGlobal + Threads + Sync, O: Write>(
     course: &Course,
     rule: Rule,
     out: &mut O,
-) -> Result<Ending, Fault> {
+) -> Result<RunEnd, Fault> {
     let mut lister = Lister {
         alloc: rt.alloc(),
         lines: HashSet::new(rt.alloc()),
@@ -63,10 +62,10 @@ pub fn explore_by<R: Files + AllocGlobal + Threads + Sync, O: Write>(
     };
     let mut trier = WindowTrier::new(rt, setup, rule);
     match trier.run(course, &mut lister) {
-        Ok(ending) => {
+        Ok(end) => {
             let (count, bound) = (lister.lines.len(), trier.bound());
             writeln!(lister.out, "{count} lists{bound}")?;
-            Ok(ending)
+            Ok(end)
         }
         Err(Stop::Fault(fault)) => Err(fault),
         Err(_) => Err(Fault::OutOfMemory),

@@ -1,7 +1,6 @@
 //! `explore`: what each crash of a run leaves.
-use crate::course::{Course, play};
+use crate::course::{Course, RunEnd, play};
 use crash_outcomes::Explorer;
-use exec_runs::Ending;
 use faults::Fault;
 use scripts::Setup;
 use std::io::Write;
@@ -20,10 +19,10 @@ pub fn explore<R: Files + AllocGlobal, O: Write>(
     course: &Course,
     expected: Option<&str>,
     out: &mut O,
-) -> Result<Ending, Fault> {
+) -> Result<RunEnd, Fault> {
     let mut explorer = Explorer::new(rt, setup, expected, out)?;
     let core = explorer.begin()?;
-    let ending = play(&mut explorer, core, course)?;
-    explorer.finish()?;
-    Ok(ending)
+    let end = play(&mut explorer, core, course)?;
+    explorer.finish(end.core.as_ref())?;
+    Ok(end)
 }

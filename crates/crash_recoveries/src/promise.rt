@@ -1,11 +1,13 @@
 //! What a run had promised when a crash came.
+ghost use Rattle.std.specs.Prelude.{◌≡◌, ◌++◌, IfOk};
+
 use crate::digests::digest_of_bytes;
 use byte_list::Bytes;
 use input_reading::MOST_TAPE_BYTES;
 use kernel::Core;
 use std::alloc::{AllocError, Global};
 
-/// What a run had promised on terminal 0.
+/// What a run had promised on terminal 0, in this boot and in those before.
 #[derive(Drop)]
 pub struct Promise {
     shown: Vec<u8>,
@@ -14,21 +16,23 @@ pub struct Promise {
 }
 
 impl Promise {
-    fn new(alloc: Global, shown: &[u8]) -> Result<Promise, AllocError> {
-        Ok(Promise {
-            shown: Vec::from_slice(alloc, shown)?,
-            digest: digest_of_bytes(alloc, shown)?,
-        })
+    fn new(alloc: Global, earlier: &[u8], now: &[u8]) -> Result<Promise, AllocError>
+        ensures { IfOk result (λ promise. promise.shown.items ≡ earlier.now ++ now.now) }
+    {
+        let mut shown = Vec::from_slice(alloc, earlier)?;
+        shown.extend_from_slice(now)?;
+        let digest = digest_of_bytes(alloc, shown.as_slice())?;
+        Ok(Promise { shown, digest })
     }
 
-    /// The promise of a run so far: what is shown.
-    pub fn of(alloc: Global, core: &Core) -> Result<Promise, AllocError> {
-        Promise::new(alloc, core.shown(0))
+    /// The promise of a run so far: what earlier boots showed, and what is shown.
+    pub fn of(alloc: Global, earlier: &[u8], core: &Core) -> Result<Promise, AllocError> {
+        Promise::new(alloc, earlier, core.shown(0))
     }
 
-    /// The promise of a run whose output waits for nothing: all that was printed.
-    pub fn printed(alloc: Global, core: &Core) -> Result<Promise, AllocError> {
-        Promise::new(alloc, core.written(0))
+    /// The promise of a run whose output waits for nothing: what earlier boots showed, and all that was printed.
+    pub fn printed(alloc: Global, earlier: &[u8], core: &Core) -> Result<Promise, AllocError> {
+        Promise::new(alloc, earlier, core.written(0))
     }
 
     /// The same, in memory of its own.
@@ -45,7 +49,9 @@ impl Promise {
     }
 
     /// The tape of a recovery.
-    pub fn tape(&self, alloc: Global) -> Result<Bytes, AllocError> {
+    pub fn tape(&self, alloc: Global) -> Result<Bytes, AllocError>
+        ensures { IfOk result (λ tape. tape ≡ self.now.shown.items) }
+    {
         Bytes::copy_of(alloc, self.shown.as_slice())
     }
 }

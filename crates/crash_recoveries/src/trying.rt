@@ -2,13 +2,13 @@
 ghost use Rattle.std.specs.Prelude.{◌≡◌, true, IfSome};
 ghost use Rattle.disk_model.specs.Storage.{is_quiet};
 
-use crate::course::{Course, Playing};
+use crate::course::{Course, Playing, RunEnd};
 use crate::mirror::{Mirror, differ_by_fill};
 use crate::point::{CrashPlace, Left};
 use crate::promise::Promise;
 use crate::stop::Stop;
 use crate::taker::Taker;
-use crash_outcomes::{FILLS, Fill, Moment, moment_of};
+use crash_outcomes::{FILLS, Fill, Moment, PassedOver, moment_of};
 use exec_runs::Ending;
 use files::FileTable;
 use kernel::{Answer, Core, Event, SimDisk};
@@ -41,8 +41,9 @@ pub struct Trier<'a, R> {
     boots: u64,
     /// The lines of the run so far.
     played: String,
-    /// How many disks no crash left, since a group of changes comes to the disk at once.
-    pub passed_over: u64,
+    /// What terminal 0 showed in the boots before.
+    shown: Vec<u8>,
+    pub passed_over: PassedOver,
     /// What crashes left that was not handed out yet.
     found: Vec<Crashes>,
 }
@@ -56,7 +57,8 @@ impl<'a, R: Files + AllocGlobal> Trier<'a, R> {
             mirror: Mirror::new(),
             boots: 0,
             played: String::new(rt.alloc()),
-            passed_over: 0,
+            shown: Vec::new(rt.alloc()),
+            passed_over: PassedOver::NONE,
             found: Vec::new(rt.alloc()),
         }
     }
@@ -80,7 +82,7 @@ impl<'a, R: Files + AllocGlobal> Trier<'a, R> {
         }
         self.found.push(Crashes {
             moment: moment_of(self.boots, core),
-            promise: Promise::of(alloc, core)?,
+            promise: Promise::of(alloc, self.shown.as_slice(), core)?,
             left,
         })?;
         Ok(())
@@ -97,11 +99,10 @@ impl<'a, R: Files + AllocGlobal> Trier<'a, R> {
         Ok(core)
     }
 
-    /// Counts the disks that lie between the changes of a group.
-    fn pass_over(&mut self, answer: Answer) {
-        if let Answer::Cut { changes, .. } = answer {
-            self.passed_over = self.passed_over.saturating_add(changes.saturating_sub(1));
-        }
+    /// Tries crashes where a run ends.
+    fn end(&mut self, core: &Core) -> Result<(), Stop> {
+        self.passed_over.end(core);
+        self.try_crashes(core)
     }
 }
 
@@ -133,20 +134,20 @@ impl<R: Files + AllocGlobal + Threads + Sync> Trier<'_, R> {
 
     /// Boots, and runs to the end; what crashes leave is handed out after each step. The last crash is tried at the end, where all is
     /// shown.
-    pub fn run<T: Taker>(&mut self, course: &Course, taker: &mut T) -> Result<Ending, Stop> {
+    pub fn run<T: Taker>(&mut self, course: &Course, taker: &mut T) -> Result<RunEnd, Stop> {
         let core = self.boot(None)?;
         let mut playing = Playing::begin(core, course);
         for _ in 0..u64::MAX {
             let ending = playing.step(self)?;
             if let (Some(_), Some(core)) = (ending, playing.core()) {
-                self.try_crashes(core)?;
+                self.end(core)?;
             }
             self.hand_out_all(taker)?;
             if let Some(ending) = ending {
-                return Ok(ending);
+                return Ok(playing.end(ending));
             }
         }
-        Ok(Ending::Over)
+        Ok(playing.end(Ending::Over))
     }
 }
 
@@ -161,7 +162,7 @@ impl<R: Files + AllocGlobal> Visitor for Trier<'_, R> {
     fn after(&mut self, core: &Core, event: Event, answer: Answer) -> Result<(), Stop> {
         let line = EventText(event);
         writeln!(self.played, "{line}")?;
-        self.pass_over(answer);
+        self.passed_over.after(answer);
         match process_of(event) {
             Some(_) => Ok(()),
             None => self.try_crashes(core),
@@ -169,9 +170,10 @@ impl<R: Files + AllocGlobal> Visitor for Trier<'_, R> {
     }
 
     fn crash(&mut self, core: Core, fill: &[u8]) -> Result<Core, Stop> {
-        self.try_crashes(&core)?;
+        self.end(&core)?;
         let digits = bytes_text(self.rt.alloc(), fill)?;
         writeln!(self.played, "crash {digits}")?;
+        self.shown.extend_from_slice(core.shown(0))?;
         self.boot(Some(core.halt(fill)))
     }
 }

@@ -3,7 +3,7 @@ ghost use Rattle.std.specs.Prelude.{◌≡◌, true, is_some, IfOk, Ok};
 ghost use Rattle.exec_runs.specs.declared.ending.Ending.TheVariants.{Over};
 ghost use Rattle.crash_recoveries.specs.Verdicts.{is_failed, is_kept};
 
-use crate::course::Course;
+use crate::course::{Course, RunEnd};
 use crate::effort::Effort;
 use crate::failure::Failure;
 use crate::recovery::Recovery;
@@ -12,9 +12,10 @@ use crate::taker::Taker;
 use crate::testing::Tester;
 use crate::trying::Trier;
 use crate::windows::{Bound, Rule, WindowTrier};
-use crash_outcomes::Moment;
+use crash_outcomes::{Moment, PassedOver};
 use exec_runs::Ending;
 use faults::Fault;
+use kernel::Core;
 use progress::Progress;
 use scripts::Setup;
 use std::alloc::{AllocError, Global};
@@ -53,19 +54,35 @@ pub enum Verdict {
 /// What is said of what was not tried.
 #[derive(Clone, Copy)]
 enum Untried {
-    /// So many disks between changes of one group.
-    Between(u64),
+    /// The disks that no crash left.
+    Passed(PassedOver),
     /// What is past this bound.
     Past(Bound),
+}
+
+/// What came of the recoveries, and the core of the run at its end, where it came there.
+#[derive(Drop)]
+pub struct Tested {
+    pub verdict: Verdict,
+    pub core: Option<Core>,
 }
 
 /// A run whose crashes were tried.
 #[derive(Drop)]
 struct TriedRun {
     done: Result<Ending, Stop>,
+    core: Option<Core>,
     /// Its lines.
     played: String,
     untried: Untried,
+}
+
+/// How a run ended, and its core then.
+fn parted(done: Result<RunEnd, Stop>) -> (Result<Ending, Stop>, Option<Core>) {
+    match done {
+        Ok(RunEnd { ending, core }) => (Ok(ending), core),
+        Err(stop) => (Err(stop), None),
+    }
 }
 
 fn run_by_bench<R: Files + AllocGlobal + Threads + Sync, T: Taker>(
@@ -75,10 +92,11 @@ fn run_by_bench<R: Files + AllocGlobal + Threads + Sync, T: Taker>(
 ) -> TriedRun {
     let Subject { setup, course } = subject;
     let mut trier = Trier::new(rt, setup);
-    let done = trier.run(course, taker);
-    let untried = Untried::Between(trier.passed_over);
+    let (done, core) = parted(trier.run(course, taker));
+    let untried = Untried::Passed(trier.passed_over);
     TriedRun {
         done,
+        core,
         played: trier.into_played(),
         untried,
     }
@@ -92,10 +110,11 @@ fn run_by_rule<R: Files + AllocGlobal + Threads + Sync, T: Taker>(
 ) -> TriedRun {
     let Subject { setup, course } = subject;
     let mut trier = WindowTrier::new(rt, setup, rule);
-    let done = trier.run(course, taker);
+    let (done, core) = parted(trier.run(course, taker));
     let untried = Untried::Past(trier.bound());
     TriedRun {
         done,
+        core,
         played: trier.into_played(),
         untried,
     }
@@ -131,18 +150,12 @@ fn print_sums<R: Files + AllocGlobal, E: Write, O: Write>(
     let (tally, disks) = (tester.tally(), tester.count_disks());
     let recoveries = tally.recoveries;
     match untried {
-        Untried::Between(passed_over) => {
+        Untried::Passed(passed_over) => {
             let crashes = tally.crashes;
             write!(
                 out,
-                "{crashes} crashes, {disks} disks, {recoveries} recoveries"
+                "{crashes} crashes, {disks} disks, {recoveries} recoveries{passed_over}"
             )?;
-            if passed_over > 0 {
-                write!(
-                    out,
-                    "; {passed_over} disks between changes of one group were not tried"
-                )?;
-            }
         }
         Untried::Past(bound) => {
             write!(out, "{disks} disks, {recoveries} recoveries")?;
@@ -195,7 +208,7 @@ pub fn try_recoveries<R: Files + AllocGlobal + Threads + Sync, O: Write, E: Writ
     trial: Trial,
     out: &mut O,
     err: &mut E,
-) -> Result<Verdict, Fault> {
+) -> Result<Tested, Fault> {
     let alloc = rt.alloc();
     let progress = Progress::new(rt, err, trial.effort.progress);
     let mut tester = Tester::new(rt, &recovery.program, trial.effort, progress);
@@ -211,5 +224,9 @@ pub fn try_recoveries<R: Files + AllocGlobal + Threads + Sync, O: Write, E: Writ
         failure.print(out)?;
     }
     print_sums(&tester, run.untried, trial.effort, out)?;
-    verdict_of(alloc, done, tester.into_failure(), run.played.as_str())
+    let verdict = verdict_of(alloc, done, tester.into_failure(), run.played.as_str())?;
+    Ok(Tested {
+        verdict,
+        core: run.core,
+    })
 }

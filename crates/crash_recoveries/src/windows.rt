@@ -2,22 +2,27 @@
 ghost use Rattle.std.specs.Prelude.{◌≡◌, true, IfSome};
 ghost use Rattle.disk_model.specs.Storage.{is_quiet};
 
-use crate::course::{Course, Playing};
+use crate::course::{Course, Playing, RunEnd};
+use crate::digests::digest_of_files;
 use crate::point::{CrashPlace, Left};
 use crate::promise::Promise;
 use crate::stop::Stop;
 use crate::taker::Taker;
 use call_forms::Call;
 use call_lines::call_at;
-use crash_lists::{CrashModel, Listed, Window, lists_near};
+use crash_lists::{CrashModel, Enumeration, Listed, Window};
 use crash_outcomes::{Moment, moment_of};
 use disk_model::MOST_FILES;
 use exec_runs::Ending;
 use kernel::{Answer, Core, Event, SimDisk};
 use scripts::{EventText, Setup, Visitor, bytes_text};
+use std::collections::HashSet;
 use std::fmt;
 use std::rt::Files;
 use std::thread::Threads;
+
+/// The most lists of one window that are tried. A list counts near each common moment.
+const MOST_LISTS: u64 = 1_000_000;
 
 /// A rule of what a crash may leave, and how far it is tried.
 #[derive(Clone, Copy)]
@@ -27,19 +32,31 @@ pub struct Rule {
     pub apart: u32,
 }
 
-/// Up to which bound all was tried.
+/// Up to which bound all was tried. It prints as the end of a line.
 #[derive(Clone, Copy)]
 pub struct Bound {
+    /// Whether the run came to its end, and all its windows were tried.
+    is_over: bool,
+    /// Whether a window has more lists than are tried.
+    is_full: bool,
     /// The most cells apart; None where no list has more.
     apart: Option<u32>,
     /// How many lists have more files than a disk.
-    too_many: u64,
+    too_many: usize,
 }
 
 impl fmt::Display for Bound {
     fn fmt<W: fmt::Write>(&self, f: &mut fmt::Formatter<W>) -> fmt::Result {
         match self.apart {
-            Some(apart) => write!(f, ", all with at most {apart} cells apart")?,
+            _ if !self.is_over => {}
+            _ if self.is_full => write!(
+                f,
+                ", not all: between two syncs the first {MOST_LISTS} alone were tried"
+            )?,
+            Some(apart) => write!(
+                f,
+                ", all with at most {apart} cells apart; those with more were not tried"
+            )?,
             None => write!(f, ", all")?,
         }
         let too_many = self.too_many;
@@ -68,6 +85,8 @@ pub struct WindowTrier<'a, R> {
     boots: u64,
     /// The lines of the run so far.
     played: String,
+    /// What terminal 0 showed in the boots before.
+    shown: Vec<u8>,
     /// The files since the last sync.
     window: Option<Window>,
     /// How many changes there were.
@@ -78,8 +97,12 @@ pub struct WindowTrier<'a, R> {
     closed: Vec<Closed>,
     /// Whether lists were left out, in which more cells are apart.
     is_cut: bool,
-    /// How many lists have more files than a disk.
-    too_many: u64,
+    is_over: bool,
+    /// How many lists of this window were tried.
+    lists: u64,
+    is_full: bool,
+    /// The digests of the lists that have more files than a disk.
+    too_many: HashSet<String>,
 }
 
 /// Whether a process stands at a sync, which it is to make.
@@ -102,24 +125,30 @@ impl<'a, R: Files + AllocGlobal> WindowTrier<'a, R> {
             rule,
             boots: 0,
             played: String::new(rt.alloc()),
+            shown: Vec::new(rt.alloc()),
             window: None,
             changes: 0,
             is_sync: false,
             closed: Vec::new(rt.alloc()),
             is_cut: false,
-            too_many: 0,
+            is_over: false,
+            lists: 0,
+            is_full: false,
+            too_many: HashSet::new(rt.alloc()),
         }
     }
 
     /// Up to which bound all was tried.
     pub fn bound(&self) -> Bound {
         Bound {
+            is_over: self.is_over,
+            is_full: self.is_full,
             apart: if self.is_cut {
                 Some(self.rule.apart)
             } else {
                 None
             },
-            too_many: self.too_many,
+            too_many: self.too_many.len(),
         }
     }
 
@@ -135,7 +164,7 @@ impl<'a, R: Files + AllocGlobal> WindowTrier<'a, R> {
             self.closed.push(Closed {
                 moment: moment_of(self.boots, core),
                 window,
-                promise: Promise::printed(self.rt.alloc(), core)?,
+                promise: Promise::printed(self.rt.alloc(), self.shown.as_slice(), core)?,
             })?;
         }
         Ok(())
@@ -178,8 +207,10 @@ impl<'a, R: Files + AllocGlobal> WindowTrier<'a, R> {
         listed: &Listed,
         taker: &mut T,
     ) -> Result<(), Stop> {
+        self.lists = self.lists.saturating_add(1);
         if listed.files.count() > MOST_FILES {
-            self.too_many = self.too_many.saturating_add(1);
+            let digest = digest_of_files(self.rt.alloc(), &listed.files)?;
+            self.too_many.insert(digest)?;
             return Ok(());
         }
         let place = CrashPlace {
@@ -195,13 +226,17 @@ impl<R: Files + AllocGlobal + Threads + Sync> WindowTrier<'_, R> {
     fn try_apart<T: Taker>(
         &mut self,
         closed: &Closed,
+        lists: &Enumeration<'_>,
         apart: u32,
         taker: &mut T,
     ) -> Result<bool, Stop> {
         let mut is_cut = false;
         for common in 0..=closed.window.changes() {
-            let alloc = self.rt.alloc();
-            let near = lists_near(alloc, &closed.window, self.rule.model, common, apart)?;
+            if self.lists >= MOST_LISTS {
+                self.is_full = true;
+                return Ok(false);
+            }
+            let near = lists.near(self.rt.alloc(), common, apart)?;
             is_cut = is_cut || near.is_cut;
             for listed in near.lists.iter().filter(|listed| listed.apart == apart) {
                 self.hand_out(closed, listed, taker)?;
@@ -213,8 +248,10 @@ impl<R: Files + AllocGlobal + Threads + Sync> WindowTrier<'_, R> {
 
     /// Hands out what a crash may leave in a window, by rising number of cells apart.
     fn try_window<T: Taker>(&mut self, closed: &Closed, taker: &mut T) -> Result<(), Stop> {
+        self.lists = 0;
+        let lists = Enumeration::new(self.rt.alloc(), &closed.window, self.rule.model)?;
         for apart in 0..=self.rule.apart {
-            let is_cut = self.try_apart(closed, apart, taker)?;
+            let is_cut = self.try_apart(closed, &lists, apart, taker)?;
             if !is_cut {
                 return Ok(());
             }
@@ -234,7 +271,7 @@ impl<R: Files + AllocGlobal + Threads + Sync> WindowTrier<'_, R> {
     }
 
     /// Boots, and runs to the end, which is tried as a sync is. What crashes may leave is handed out after each step.
-    pub fn run<T: Taker>(&mut self, course: &Course, taker: &mut T) -> Result<Ending, Stop> {
+    pub fn run<T: Taker>(&mut self, course: &Course, taker: &mut T) -> Result<RunEnd, Stop> {
         let core = self.boot(None)?;
         let mut playing = Playing::begin(core, course);
         for _ in 0..u64::MAX {
@@ -243,11 +280,12 @@ impl<R: Files + AllocGlobal + Threads + Sync> WindowTrier<'_, R> {
                 self.close(core)?;
             }
             self.try_closed(taker)?;
+            self.is_over = ending == Some(Ending::Over);
             if let Some(ending) = ending {
-                return Ok(ending);
+                return Ok(playing.end(ending));
             }
         }
-        Ok(Ending::Over)
+        Ok(playing.end(Ending::Over))
     }
 }
 
@@ -273,6 +311,7 @@ impl<R: Files + AllocGlobal> Visitor for WindowTrier<'_, R> {
         self.close(&core)?;
         let digits = bytes_text(self.rt.alloc(), fill)?;
         writeln!(self.played, "crash {digits}")?;
+        self.shown.extend_from_slice(core.shown(0))?;
         self.boot(Some(core.halt(fill)))
     }
 }

@@ -1,12 +1,14 @@
 //! The command `crashes`: crashes of a script, or of programs.
-use crate::crash_subject::{SubjectFault, program_in, subject_in};
+use crate::crash_subject::{CrashSubject, SubjectFault, program_in, subject_in};
 use command_line::{CrashOptions, ModelName};
 use crash_recoveries::{
-    Course, CrashModel, Effort, Failure, Part, Recovery, Rule, Subject, Trial, Verdict, explore,
-    explore_by, save, try_recoveries,
+    Course, CrashModel, Effort, Failure, Part, Recovery, Rule, RunEnd, Subject, Tested, Trial,
+    Verdict, explore, explore_by, save, try_recoveries,
 };
+use exec_reports::{print_ending, status_of_run};
 use exec_runs::Ending;
 use faults::{Fault, write_line};
+use kernel::Core;
 use scripts::Setup;
 use std::fs;
 use std::io::{Read, Write};
@@ -61,14 +63,33 @@ fn tell_cut<E: Write>(options: &CrashOptions<'_>, err: &mut E) -> Result<u8, Fau
     Ok(NOT_ALL)
 }
 
+/// Says how the programs ended, if they did not end well, and gives the exit status: that of their run. How those of a script end is
+/// the script's affair.
+fn tell_programs<E: Write>(
+    subject: &mut CrashSubject,
+    core: Option<&Core>,
+    err: &mut E,
+) -> Result<u8, Fault> {
+    let (Some(core), Course::ToEnd { .. }) = (core, &subject.course) else {
+        return Ok(0);
+    };
+    subject.family.forget_executed(core);
+    print_ending(core, &subject.family, Ending::Over, err)?;
+    let status = status_of_run(core, Ending::Over);
+    if status != 0 {
+        write_line(err, format_args!("bench: run failed: status {status}"))?;
+    }
+    Ok(status)
+}
+
 /// Prints what each crash leaves, or compares it with what is expected. Gives how the run ended.
 fn explore_to_end<R: Files + AllocGlobal + Threads + Sync, O: Write>(
     rt: &R,
     options: &CrashOptions<'_>,
-    setup: &mut Setup,
-    course: &Course,
+    subject: &mut CrashSubject,
     out: &mut O,
-) -> Result<Ending, Fault> {
+) -> Result<RunEnd, Fault> {
+    let (setup, course) = (&mut subject.setup, &subject.course);
     if let Some(rule) = rule_of(options) {
         return explore_by(rt, setup, course, rule, out);
     }
@@ -79,21 +100,19 @@ fn explore_to_end<R: Files + AllocGlobal + Threads + Sync, O: Write>(
     explore(rt, setup, course, Some(expected.as_str()), out)
 }
 
-/// Explores, and says whether the run was cut.
+/// Explores, and says how the run ended.
 fn explore_in<R: Files + AllocGlobal + Threads + Sync, O: Write, E: Write>(
     rt: &R,
     options: &CrashOptions<'_>,
-    setup: &mut Setup,
-    course: &Course,
+    subject: &mut CrashSubject,
     out: &mut O,
     err: &mut E,
 ) -> Result<u8, Fault> {
-    match explore_to_end(rt, options, setup, course, out)? {
-        Ending::Over => Ok(0),
-        Ending::Limit { .. } | Ending::Full { .. } => {
-            out.flush()?;
-            tell_cut(options, err)
-        }
+    let RunEnd { ending, core } = explore_to_end(rt, options, subject, out)?;
+    out.flush()?;
+    match ending {
+        Ending::Over => tell_programs(subject, core.as_ref(), err),
+        Ending::Limit { .. } | Ending::Full { .. } => tell_cut(options, err),
     }
 }
 
@@ -120,23 +139,22 @@ fn recover_in<R: Files + AllocGlobal + Threads + Sync, O: Write, E: Write>(
     rt: &R,
     options: &CrashOptions<'_>,
     path: &str,
-    setup: &mut Setup,
-    course: &Course,
+    subject: &mut CrashSubject,
     out: &mut O,
     err: &mut E,
 ) -> Result<u8, SubjectFault> {
     let program = program_in(rt, path)?;
     let mut recovery = Recovery::new(rt.alloc(), program, options.limit, options.nested)?;
-    let subject = Subject {
-        setup: &mut *setup,
-        course,
+    let run = Subject {
+        setup: &mut subject.setup,
+        course: &subject.course,
     };
-    let verdict = try_recoveries(rt, subject, &recovery, trial_of(options), out, err)?;
+    let Tested { verdict, core } = try_recoveries(rt, run, &recovery, trial_of(options), out, err)?;
     out.flush()?;
     match verdict {
-        Verdict::Kept => Ok(0),
+        Verdict::Kept => Ok(tell_programs(subject, core.as_ref(), err)?),
         Verdict::Failed(failure, played) => {
-            let failed = (failure, played);
+            let (setup, failed) = (&subject.setup, (failure, played));
             Ok(end_failed(rt, options, setup, &mut recovery, failed, err)?)
         }
         Verdict::Cut => Ok(tell_cut(options, err)?),
@@ -157,16 +175,16 @@ fn try_subject<R: Files + AllocGlobal + Threads + Sync, I: Read, O: Write, E: Wr
     out: &mut O,
     err: &mut E,
 ) -> Result<u8, SubjectFault> {
-    let (mut setup, course) = subject_in(rt, options, input)?;
+    let mut subject = subject_in(rt, options, input)?;
     match options.recover {
-        Some(path) => recover_in(rt, options, path, &mut setup, &course, out, err),
-        None => Ok(explore_in(rt, options, &mut setup, &course, out, err)?),
+        Some(path) => recover_in(rt, options, path, &mut subject, out, err),
+        None => Ok(explore_in(rt, options, &mut subject, out, err)?),
     }
 }
 
 /// Tries the crashes of a script, or of programs. All files are read first: the script or the programs and their tapes, and then what is
-/// expected, or the recovery. Gives the exit status. A line says why a program is refused, why a recovery failed, and what was not
-/// tried.
+/// expected, or the recovery. Gives the exit status. A line says why a program is refused, why a recovery failed, what was not
+/// tried, and how programs ended that did not end well.
 pub fn try_crashes<R: Files + AllocGlobal + Threads + Sync, I: Read, O: Write, E: Write>(
     rt: &R,
     options: &CrashOptions<'_>,

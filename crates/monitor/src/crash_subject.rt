@@ -2,6 +2,7 @@
 use command_line::CrashOptions;
 use crash_recoveries::Course;
 use exec_files::{LoadFault, LoadedProgram, load};
+use exec_reports::Family;
 use faults::Fault;
 use input_reading::bytes_in;
 use run_files::tapes_in;
@@ -10,6 +11,15 @@ use std::alloc::{AllocError, AllocFailed, Global};
 use std::io::Read;
 use std::rt::Files;
 use std::{fs, io};
+
+/// What is run, and how, with what is known of its instructions.
+#[derive(Drop)]
+pub struct CrashSubject {
+    pub setup: Setup,
+    pub course: Course,
+    /// Of no program where a script is run.
+    pub family: Family,
+}
 
 /// Why no crash is tried.
 #[derive(Drop)]
@@ -28,7 +38,8 @@ impl From<Fault> for SubjectFault {
 impl From<LoadFault> for SubjectFault {
     fn from(fault: LoadFault) -> SubjectFault {
         match fault {
-            LoadFault::Refused(why) | LoadFault::Host(why) => SubjectFault::Refused(why),
+            LoadFault::Refused(why) => SubjectFault::Refused(why),
+            LoadFault::Host(_) => SubjectFault::Other(Fault::InputOutput),
             LoadFault::OutOfMemory => SubjectFault::Other(Fault::OutOfMemory),
         }
     }
@@ -74,17 +85,19 @@ fn script_text<R: Files + AllocGlobal>(rt: &R, path: &str) -> Result<Option<Stri
     }
 }
 
-/// What programs set up, with the tapes that are given.
-fn programs_setup<R: Files + AllocGlobal, I: Read>(
+/// Programs that are run to their end, with the tapes that are given.
+fn programs_in<R: Files + AllocGlobal, I: Read>(
     rt: &R,
     options: &CrashOptions<'_>,
     input: &mut I,
-) -> Result<Setup, SubjectFault> {
+) -> Result<CrashSubject, SubjectFault> {
     let alloc = rt.alloc();
     let mut setup = Setup::new(alloc);
+    let mut programs = Vec::new(alloc);
     for path in options.programs.as_slice() {
         let program = program_in(rt, path)?;
         setup.push_binary(elf32::write(alloc, &program.image)?)?;
+        programs.push(program)?;
     }
     let mut number = 0u32;
     for tape in tapes_in(rt, options.tapes.as_slice(), input)? {
@@ -93,7 +106,37 @@ fn programs_setup<R: Files + AllocGlobal, I: Read>(
         }
         number = number.saturating_add(1);
     }
-    Ok(setup)
+    Ok(CrashSubject {
+        setup,
+        course: to_end(options),
+        family: Family::new(alloc, programs)?,
+    })
+}
+
+/// To the end, or to the limit.
+fn to_end(options: &CrashOptions<'_>) -> Course {
+    Course::ToEnd {
+        limit: options.limit,
+    }
+}
+
+/// A script. One of set-up lines alone is run to its end.
+fn script_of(
+    alloc: Global,
+    options: &CrashOptions<'_>,
+    text: &str,
+) -> Result<CrashSubject, SubjectFault> {
+    let (setup, steps) = Script::parse(alloc, text)?.into_parts();
+    let course = if steps.is_empty() {
+        to_end(options)
+    } else {
+        Course::Steps(steps)
+    };
+    Ok(CrashSubject {
+        setup,
+        course,
+        family: Family::new(alloc, Vec::new(alloc))?,
+    })
 }
 
 /// Refuses tapes beside a script.
@@ -115,19 +158,12 @@ pub fn subject_in<R: Files + AllocGlobal, I: Read>(
     rt: &R,
     options: &CrashOptions<'_>,
     input: &mut I,
-) -> Result<(Setup, Course), SubjectFault> {
+) -> Result<CrashSubject, SubjectFault> {
     if let [path] = options.programs.as_slice()
         && let Some(text) = script_text(rt, path)?
     {
         test_no_tapes(rt.alloc(), options, path)?;
-        let (setup, steps) = Script::parse(rt.alloc(), text.as_str())?.into_parts();
-        return Ok((setup, Course::Steps(steps)));
+        return script_of(rt.alloc(), options, text.as_str());
     }
-    let setup = programs_setup(rt, options, input)?;
-    Ok((
-        setup,
-        Course::ToEnd {
-            limit: options.limit,
-        },
-    ))
+    programs_in(rt, options, input)
 }

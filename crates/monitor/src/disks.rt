@@ -25,13 +25,16 @@ fn end_copy<E: Write>(copied: Result<(), CopyFault>, err: &mut E) -> Result<u8, 
     }
 }
 
-/// Says which of two disks cannot be read, and why, and gives the status.
+/// Says which of two disks cannot be read, and why, and gives the status. For want of memory it says nothing.
 fn refuse_disk<R: AllocGlobal, E: Write>(
     rt: &R,
     path: &str,
     fault: Fault,
     err: &mut E,
 ) -> Result<u8, Fault> {
+    if fault.status() == Fault::OutOfMemory.status() {
+        return Err(fault);
+    }
     let text = format!(in rt.alloc(); "{fault}")?;
     let why = text.as_str();
     let why = why.strip_prefix("bench: ").unwrap_or(why);
