@@ -1,5 +1,6 @@
 //! Two logs, side by side.
-use crate::difference::Difference;
+use crate::difference::{Difference, Side};
+use crate::line::Line;
 use crate::reading::Log;
 use crate::registers::Registers;
 use std::alloc::Global;
@@ -9,8 +10,8 @@ use std::io::BufRead;
 /// What came of a comparison.
 #[derive(Clone, Copy)]
 pub enum Compared {
-    /// One of the logs has no instruction.
-    NoLog,
+    /// This one of the logs has no instruction.
+    NoLog(Side),
     /// The logs are equal, of so many instructions.
     Equal(u64),
     Different(Difference),
@@ -18,18 +19,28 @@ pub enum Compared {
 
 /// What two logs come to that are equal up to this difference.
 fn different(difference: Difference) -> Compared {
-    if difference.number == 1 && difference.is_an_end() {
-        Compared::NoLog
-    } else {
-        Compared::Different(difference)
+    match difference.ended() {
+        Some(side) if difference.number == 1 => Compared::NoLog(side),
+        _ => Compared::Different(difference),
     }
 }
 
 /// What two logs come to that are equal, and have so many instructions.
 fn equal(count: u64) -> Compared {
     match count {
-        0 => Compared::NoLog,
+        0 => Compared::NoLog(Side::First),
         count => Compared::Equal(count),
+    }
+}
+
+/// The log that could not be read, and why.
+pub type Unread = (Side, io::Error);
+
+/// The next instruction of a log.
+fn next_of<R: BufRead + Drop>(side: Side, log: &mut Log<R>) -> Result<Option<Line>, Unread> {
+    match log.next() {
+        Ok(line) => Ok(line),
+        Err(error) => Err((side, error)),
     }
 }
 
@@ -38,12 +49,13 @@ pub fn compare<A: BufRead + Drop, B: BufRead + Drop>(
     alloc: Global,
     first: A,
     second: B,
-) -> io::Result<Compared> {
+) -> Result<Compared, Unread> {
     let mut first = Log::new(alloc, first);
     let mut second = Log::new(alloc, second);
     let mut registers = Registers::new();
     for number in 1..u64::MAX {
-        let (a, b) = (first.next()?, second.next()?);
+        let a = next_of(Side::First, &mut first)?;
+        let b = next_of(Side::Second, &mut second)?;
         if a != b {
             return Ok(different(Difference {
                 number,

@@ -5,6 +5,13 @@ use formats::decode;
 use std::io;
 use std::io::Write;
 
+/// One of two logs.
+#[derive(Clone, Copy)]
+pub enum Side {
+    First,
+    Second,
+}
+
 /// The first difference of two logs.
 #[derive(Clone, Copy)]
 pub struct Difference {
@@ -36,9 +43,13 @@ fn print_instruction<O: Write>(line: Line, out: &mut O) -> io::Result<()> {
 }
 
 impl Difference {
-    /// Whether one of the logs ends there.
-    pub fn is_an_end(&self) -> bool {
-        self.first.is_none() || self.second.is_none()
+    /// The log that ends there, if one does.
+    pub fn ended(&self) -> Option<Side> {
+        match (self.first, self.second) {
+            (None, _) => Some(Side::First),
+            (_, None) => Some(Side::Second),
+            _ => None,
+        }
     }
 
     /// Prints the difference; the logs by these names.

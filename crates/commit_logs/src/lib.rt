@@ -13,6 +13,6 @@ mod registers;
 mod stepping;
 
 pub use comparing::{Compared, compare};
-pub use difference::Difference;
+pub use difference::{Difference, Side};
 pub use line::{Access, Line, Written};
 pub use stepping::{write_call, write_steps};

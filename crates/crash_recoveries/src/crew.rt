@@ -55,7 +55,7 @@ fn share_of(alloc: Global, work: Work<'_>, first: usize, step: usize) -> Share {
 impl Share {
     /// What came of the next recovery of the share.
     fn take(&mut self) -> Result<Ran, Fault> {
-        match (self.ran.pop(), self.fault) {
+        match (self.ran.pop(), self.fault.take()) {
             (Some(ran), _) => Ok(ran),
             (None, Some(fault)) => Err(fault),
             (None, None) => Err(Fault::OutOfMemory),

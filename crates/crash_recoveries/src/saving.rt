@@ -3,10 +3,9 @@ use crate::course::play_some;
 use crate::failure::Failure;
 use crate::point::Left;
 use crate::recovery::RecoveryProgram;
-use faults::Fault;
+use faults::{Fault, at_path};
 use kernel::Event;
 use scripts::{EventText, Setup, write_setup};
-use std::alloc::AllocError;
 use std::fs;
 use std::io::Write;
 use std::rt::Files;
@@ -58,8 +57,19 @@ fn recovery_script<R: Files + AllocGlobal>(
     Ok(script)
 }
 
-fn path_in<R: AllocGlobal>(rt: &R, folder: &str, name: &str) -> Result<String, AllocError> {
-    format!(in rt.alloc(); "{folder}/{name}")
+/// Writes a script into a folder.
+fn write<R: Files + AllocGlobal>(
+    rt: &R,
+    folder: &str,
+    name: &str,
+    script: &[u8],
+) -> Result<(), Fault> {
+    let path = format!(in rt.alloc(); "{folder}/{name}")?;
+    at_path(
+        rt.alloc(),
+        path.as_str(),
+        fs::write(rt, path.as_str(), script),
+    )
 }
 
 /// Writes two scripts into a folder: `run.script`, the run up to the crash, of which the lines are given; and `recovery.script`, which
@@ -73,10 +83,7 @@ pub fn save<R: Files + AllocGlobal>(
     played: &str,
 ) -> Result<(), Fault> {
     let script = run_script(rt, setup, failure, played)?;
-    let path = path_in(rt, folder, "run.script")?;
-    fs::write(rt, path.as_str(), script.as_slice())?;
+    write(rt, folder, "run.script", script.as_slice())?;
     let script = recovery_script(rt, program, failure)?;
-    let path = path_in(rt, folder, "recovery.script")?;
-    fs::write(rt, path.as_str(), script.as_slice())?;
-    Ok(())
+    write(rt, folder, "recovery.script", script.as_slice())
 }

@@ -5,7 +5,7 @@ use std::alloc::{AllocError, AllocFailed};
 use std::io;
 
 /// Why no more crashes are tried before the run is over.
-#[derive(Clone, Copy, Drop)]
+#[derive(Drop)]
 pub enum Stop {
     Fault(Fault),
     /// A recovery failed.

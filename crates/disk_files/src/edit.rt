@@ -4,9 +4,9 @@ ghost use Rattle.std.specs.List.{AllByRecursion};
 ghost use Rattle.disk_model.specs.declared.change.Change.TheVariants.{Create, Write};
 ghost use Rattle.disk_model.specs.Files.{IsFormed, IsMade, IsName, MayCome, changed};
 
-use crate::fault::{CopyFault, CopyRefusal};
 use byte_list::Bytes;
 use disk_model::{Change, LONGEST_FILE, LONGEST_FILE_WRITE, MOST_FILES, made_files_change};
+use faults::{CopyRefusal, Fault, Refusal};
 use files::FileList;
 use std::alloc::{AllocError, Global};
 
@@ -49,7 +49,7 @@ fn begin(
     changes: &mut Vec<Change>,
     files: &mut FileList,
     name: &[u8],
-) -> Result<u16, CopyFault>
+) -> Result<u16, Fault>
     requires name { IsName name.now }
     requires noted { AllByRecursion IsFormed changes.old.items }
     requires made { IsMade files.old }
@@ -62,7 +62,7 @@ fn begin(
         return Ok(file);
     }
     if !may_create(files, name) {
-        return Err(CopyFault::Refused(CopyRefusal::TooMany));
+        return Err(Fault::from(Refusal::Copy(CopyRefusal::TooMany)));
     }
     let file = two_bytes(files.count());
     make(changes, files, Change::Create(Bytes::copy_of(alloc, name)?))?;
@@ -88,7 +88,7 @@ fn write(
     files: &mut FileList,
     file: u16,
     bytes: &[u8],
-) -> Result<(), CopyFault>
+) -> Result<(), Fault>
     requires noted { AllByRecursion IsFormed changes.old.items }
     requires made { IsMade files.old }
     ensures noted { OnOk result (AllByRecursion IsFormed changes.new.items) }
@@ -97,7 +97,7 @@ fn write(
     let mut offset = 0u32;
     for part in bytes.chunks(LONGEST_FILE_WRITE as usize) {
         if !may_write(files, file, offset, part) {
-            return Err(CopyFault::Refused(CopyRefusal::TooLong));
+            return Err(Fault::from(Refusal::Copy(CopyRefusal::TooLong)));
         }
         let bytes = Bytes::copy_of(alloc, part)?;
         make(
@@ -120,7 +120,7 @@ pub fn changes_putting(
     files: &mut FileList,
     name: &[u8],
     bytes: &[u8],
-) -> Result<Vec<Change>, CopyFault>
+) -> Result<Vec<Change>, Fault>
     requires name { IsName name.now }
     requires made { IsMade files.old }
     ensures formed { IfOk result (λ changes. AllByRecursion IsFormed changes.items) }

@@ -5,12 +5,10 @@
 
 mod comparing;
 mod edit;
-mod fault;
 mod names;
 mod putting;
 mod reading;
 
 pub use comparing::print_differences;
-pub use fault::{CopyFault, CopyRefusal};
 pub use putting::put_file;
 pub use reading::{cat_file, files_on};

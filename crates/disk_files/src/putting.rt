@@ -2,17 +2,21 @@
 ghost use Rattle.disk_model.specs.Files.{IsName};
 
 use crate::edit::changes_putting;
-use crate::fault::{CopyFault, CopyRefusal};
 use crate::names::is_name;
 use disk_model::{LONGEST_FILE, held_files_are_made};
 use durable_disk::{DiskFile, store};
-use faults::Fault;
+use faults::{CopyRefusal, Fault, Refusal, Role, at_path};
 use files::FileTable;
-use group_commit::Committer;
+use group_commit::{CommitRefusal, Committer};
 use host_files::{DiskLock, open_durable};
 use input_reading::bytes_in;
 use std::fs::{self, File};
 use std::rt::Files;
+
+/// On a disk on which nothing is in flight, a cut of few changes is refused for want of memory alone.
+fn no_room(_refusal: CommitRefusal) -> Fault {
+    Fault::OutOfMemory
+}
 
 /// Stores what is in flight in a file, stage by stage, until nothing is. DiskFailed where the host refuses a call. `writes` is how
 /// many writes there are, and so no fewer than stages.
@@ -20,15 +24,15 @@ fn store_stages<F: DiskFile>(
     file: &mut F,
     committer: &mut Committer,
     writes: u64,
-) -> Result<(), CopyFault> {
+) -> Result<(), Fault> {
     for _ in 0..writes {
         let count = committer.writes_in_flight().len();
         if count > 0 && !store(file, committer.writes_in_flight()) {
-            return Err(CopyFault::Other(Fault::DiskFailed));
+            return Err(Fault::from(Refusal::DiskFailed));
         }
         for _ in 0..count {
             if let Some(at) = committer.in_flight() {
-                committer.completed(at)?;
+                committer.completed(at).map_err(no_room)?;
             }
         }
     }
@@ -41,7 +45,7 @@ fn put<R: Files<File = File> + AllocGlobal>(
     path: &str,
     name: &[u8],
     bytes: &[u8],
-) -> Result<(), CopyFault>
+) -> Result<(), Fault>
     requires { IsName name.now }
 {
     held_files_are_made();
@@ -52,7 +56,9 @@ fn put<R: Files<File = File> + AllocGlobal>(
     let changes = changes_putting(alloc, &mut files, name, bytes)?;
     let files = FileTable::numbered(alloc, files)?;
     let mut committer = Committer::new(alloc, device, gate);
-    let (_changes, writes) = committer.cut(alloc, changes.as_slice(), &files)?;
+    let (_changes, writes) = committer
+        .cut(alloc, changes.as_slice(), &files)
+        .map_err(no_room)?;
     store_stages(&mut file, &mut committer, writes)
 }
 
@@ -62,10 +68,10 @@ fn put_or_undo<R: Files<File = File> + AllocGlobal>(
     path: &str,
     name: &[u8],
     bytes: &[u8],
-) -> Result<(), CopyFault>
+) -> Result<(), Fault>
     requires { IsName name.now }
 {
-    let was_there = fs::exists(rt, path)?;
+    let was_there = at_path(rt.alloc(), path, fs::exists(rt, path))?;
     let done = put(rt, path, name, bytes);
     if done.is_err() && !was_there {
         let _ = fs::remove_file(rt, path);
@@ -81,17 +87,20 @@ pub fn put_file<R: Files<File = File> + AllocGlobal>(
     path: &str,
     name: &str,
     from: &str,
-) -> Result<(), CopyFault> {
-    let name = name.as_bytes();
+) -> Result<(), Fault> {
+    let (alloc, name) = (rt.alloc(), name.as_bytes());
     if !is_name(name) {
-        return Err(CopyFault::Refused(CopyRefusal::BadName));
+        return Err(Fault::from(Refusal::Copy(CopyRefusal::BadName)));
     }
-    let bytes = bytes_in(rt, from, LONGEST_FILE as usize)?;
+    let bytes = at_path(alloc, from, bytes_in(rt, from, LONGEST_FILE as usize))?;
     if bytes.len() > LONGEST_FILE as usize {
-        return Err(CopyFault::Refused(CopyRefusal::TooLong));
+        return Err(Fault::from(Refusal::Copy(CopyRefusal::TooLong)).at(alloc, from));
     }
     let lock = DiskLock::take(rt, path)?;
     let done = put_or_undo(rt, path, name, bytes.as_slice());
     lock.release(rt);
-    done
+    match done {
+        Ok(()) => Ok(()),
+        Err(fault) => Err(fault.of(alloc, Role::Disk, path)),
+    }
 }

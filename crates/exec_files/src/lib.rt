@@ -5,7 +5,6 @@
 
 mod code_lines;
 mod cursor;
-mod fault;
 mod functions;
 mod loading;
 mod parts;
@@ -13,7 +12,6 @@ mod program;
 mod sections;
 mod unit_headers;
 
-pub use fault::LoadFault;
-pub use loading::{host_fault, load, load_places};
+pub use loading::{host_fault, load, load_places, program_of, refused};
 pub use parts::{Part, PartName, WordText};
 pub use program::{LoadedProgram, Names, PlaceText, Places};

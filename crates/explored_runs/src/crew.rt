@@ -42,7 +42,7 @@ fn share_of(runs: &Runs<'_>, level: &[Found<Vec<u32>>], first: usize, step: usiz
 impl Share {
     /// What comes after the next state of the share.
     fn take(&mut self) -> Result<After, Fault> {
-        match (self.answers.pop(), self.fault) {
+        match (self.answers.pop(), self.fault.take()) {
             (Some(after), _) => Ok(after),
             (None, Some(fault)) => Err(fault),
             (None, None) => Err(Fault::OutOfMemory),

@@ -14,8 +14,7 @@ pub fn expectations_of(alloc: Global, text: &str) -> Result<Vec<&str>, Fault> {
     for line in text.split('\n') {
         lines.push(line)?;
         if !may_stand(line) {
-            let line = lines.len();
-            return Err(Fault::Expectation(ExpectationFault::Refused { line }));
+            return Err(ExpectationFault::of_line(alloc, lines.len(), line));
         }
     }
     Ok(lines)

@@ -11,7 +11,7 @@ use crate::runs::{After, Runs};
 use crate::saved::{script_of, setup_lines};
 use crate::summed::Summed;
 use crate::totals::Totals;
-use faults::Fault;
+use faults::{Fault, at_path};
 use progress::{Progress, ProgressCount};
 use scripts::{Setup, write_setup};
 use state_search::{Found, Key, Moves, Part, Reached};
@@ -111,8 +111,8 @@ impl<R: Files + AllocGlobal, O: Write, E: Write> Exploring<'_, '_, '_, '_, '_, R
         let replay = self.runs.replay(calls)?;
         let script = script_of(alloc, self.setup.as_slice(), &replay)?;
         let path = script_path(alloc, folder, number)?;
-        fs::write(self.rt, path.as_str(), script.as_slice())?;
-        Ok(())
+        let written = fs::write(self.rt, path.as_str(), script.as_slice());
+        at_path(alloc, path.as_str(), written)
     }
 
     /// Prints an outcome that is new.

@@ -75,7 +75,7 @@ impl<'a> Findings<'a> {
         if self.is_expected(outcome.text.as_str()) {
             return Ok(());
         }
-        Err(Fault::Exploration(ExplorationFault::NotExpected { outcome: number }))
+        Err(Fault::from(ExplorationFault::NotExpected { outcome: number }))
     }
 
     /// The first outcome in which a process runs on, by its number.

@@ -6,7 +6,7 @@ use crate::part_fault::{MergeFault, PartFault, refused};
 use crate::part_file::PartHead;
 use crate::part_reading::{PartFile, PartState};
 use crate::totals::Totals;
-use faults::Fault;
+use faults::{Fault, at_path};
 use std::alloc::{AllocError, Global};
 use std::fs;
 use std::io::Write;
@@ -116,7 +116,7 @@ fn read_all<R: Files + AllocGlobal>(rt: &R, paths: &[&str]) -> Result<Merging, M
     let alloc = rt.alloc();
     let mut merging = Merging::new(alloc);
     for (place, path) in paths.iter().enumerate() {
-        let bytes = fs::read(rt, *path)?;
+        let bytes = at_path(alloc, path, fs::read(rt, *path))?;
         let added = match PartFile::parse(alloc, bytes.as_slice()) {
             Ok(file) => merging.add(file),
             Err(why) => Err(why),

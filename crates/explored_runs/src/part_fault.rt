@@ -50,7 +50,7 @@ impl fmt::Display for PartFault {
 }
 
 /// Why parts are not merged.
-#[derive(Clone, Copy)]
+#[derive(Drop)]
 pub enum MergeFault {
     /// The file of this place, from 0, is refused.
     File { place: usize, why: PartFault },

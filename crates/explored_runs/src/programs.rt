@@ -12,7 +12,7 @@ use input_reading::MOST_TAPE_BYTES;
 use kernel::{Core, Program, SimDisk};
 use kernel_model::{MOST_PROGRAMS, TAPES};
 use machine_model::Image;
-use scripts::{Setup, Terminal, boot_fault};
+use scripts::{Setup, Terminal, boot_fault, no_program};
 use std::alloc::{AllocError, Global};
 use std::rt::Files;
 
@@ -140,7 +140,7 @@ impl Programs {
         let programs = copies_of(alloc, self.given.as_slice())?;
         let tapes = tape_copies(alloc, self.tapes.as_slice())?;
         if programs.is_empty() || programs.len() > MOST_PROGRAMS || tapes.len() > TAPES {
-            return Err(Fault::Script { line: 1 });
+            return Err(no_program());
         }
         let device = device_of(alloc, &self.disk)?;
         match Core::boot(alloc, device, programs, tapes) {

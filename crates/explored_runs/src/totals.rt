@@ -43,10 +43,10 @@ impl Totals {
     {
         let (left, calls) = (self.left, self.depth);
         if left > 0 {
-            return Err(Fault::Exploration(ExplorationFault::Cut { left, calls }));
+            return Err(Fault::from(ExplorationFault::Cut { left, calls }));
         }
         match findings.runs_on() {
-            Some(outcome) => Err(Fault::Exploration(ExplorationFault::RunsOn { outcome })),
+            Some(outcome) => Err(Fault::from(ExplorationFault::RunsOn { outcome })),
             None => Ok(()),
         }
     }

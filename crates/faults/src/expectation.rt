@@ -1,4 +1,8 @@
 //! Expected outcomes of crashes, refused.
+use crate::fault::Fault;
+use crate::reason::Why;
+use crate::refusal::Refusal;
+use std::alloc::Global;
 use thiserror::Error;
 
 /// A line of the expectations that has no form, or an outcome that is not among them.
@@ -20,6 +24,13 @@ pub enum ExpectationFault {
 }
 
 impl ExpectationFault {
+    /// The fault of a line that has no form.
+    pub fn of_line(alloc: Global, line: usize, text: &str) -> Fault {
+        let refused = ExpectationFault::Refused { line };
+        let why = Why::line(alloc, line, text, "has no form");
+        Fault::new(Refusal::Expectation(refused), why)
+    }
+
     /// The exit status: 2 for a line, 7 for a crash.
     pub fn status(&self) -> u8 {
         match self {

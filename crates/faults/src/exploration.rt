@@ -23,4 +23,15 @@ impl ExplorationFault {
             ExplorationFault::Cut { .. } | ExplorationFault::RunsOn { .. } => 8,
         }
     }
+
+    /// The reason.
+    pub fn why(&self) -> &'static str {
+        match self {
+            ExplorationFault::NotExpected { .. } => "it has no line that is this outcome",
+            ExplorationFault::Cut { .. } => "more states were found than --most-states",
+            ExplorationFault::RunsOn { .. } => {
+                "it ran as many instructions as --limit says, and came to no call"
+            }
+        }
+    }
 }

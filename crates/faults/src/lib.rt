@@ -1,13 +1,19 @@
-//! Why the program `bench` ends early, whatever its command, as an exit status and a line. Read `Fault` first. It stands on no kernel, so
-//! that what explains a fault does not either. Only safety is proved.
+//! Why the program `bench` ends early, whatever its command: an exit status, a line, the file and the reason. A fault carries them from
+//! where it happens, so that nothing is read again to tell it. Read `Fault` first. Only safety is proved.
 #![tactic(auto)]
 
+mod copy_refusal;
 mod expectation;
 mod exploration;
 mod fault;
+mod reason;
+mod refusal;
 mod whole_line;
 
+pub use copy_refusal::CopyRefusal;
 pub use expectation::ExpectationFault;
 pub use exploration::ExplorationFault;
-pub use fault::Fault;
+pub use fault::{Fault, at_path};
+pub use reason::{Reason, Why};
+pub use refusal::{Refusal, Role};
 pub use whole_line::write_line;

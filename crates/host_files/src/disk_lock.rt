@@ -1,5 +1,7 @@
 //! The lock by which one run at a time has a disk's file.
-use crate::fault::FileFault;
+use crate::disk_file::{beside_fault, no_path};
+use faults::{Fault, Refusal};
+use std::alloc::Global;
 use std::fs::{self, File, OpenOptions, TryLockError};
 use std::io;
 use std::os::unix::fs::MetadataExt;
@@ -14,12 +16,17 @@ pub struct DiskLock {
 }
 
 /// Locks an open file. DiskInUse where another open of it is locked.
-pub fn lock_file(file: &File) -> Result<(), FileFault> {
+pub fn lock_file(file: &File) -> Result<(), Fault> {
     match file.try_lock() {
         Ok(()) => Ok(()),
-        Err(TryLockError::WouldBlock) => Err(FileFault::DiskInUse),
-        Err(TryLockError::Error(error)) => Err(FileFault::from(error)),
+        Err(TryLockError::WouldBlock) => Err(Fault::from(Refusal::DiskInUse)),
+        Err(TryLockError::Error(error)) => Err(Fault::from(error)),
     }
+}
+
+/// Makes the file of a lock, where it is not there, and opens it.
+fn open_lock<R: Files>(rt: &R, path: &str) -> io::Result<R::File> {
+    OpenOptions::new().write(true).create(true).open(rt, path)
 }
 
 /// Whether a path leads to this open file. A link at the path itself is not followed.
@@ -29,26 +36,34 @@ fn leads_to<R: Files>(rt: &R, path: &str, file: &File) -> io::Result<bool> {
     Ok(there.dev() == open.dev() && there.ino() == open.ino())
 }
 
+/// The fault of a disk's file that a run has.
+fn in_use(alloc: Global, path: &str) -> Fault {
+    Fault::from(Refusal::DiskInUse).at(alloc, path)
+}
+
 impl DiskLock {
     /// Locks the path of a disk's file. DiskInUse where a run has it. InputOutput where the file beside it cannot be made, and where
     /// the path is empty, which no file has.
     pub fn take<R: Files<File = File> + AllocGlobal>(
         rt: &R,
         path: &str,
-    ) -> Result<DiskLock, FileFault> {
+    ) -> Result<DiskLock, Fault> {
         if path.is_empty() {
-            return Err(FileFault::InputOutput);
+            return Err(no_path());
         }
-        let path = format!(in rt.alloc(); "{path}.lck")?;
-        let file = OpenOptions::new()
-            .write(true)
-            .create(true)
-            .open(rt, path.as_str())?;
-        lock_file(&file)?;
-        match leads_to(rt, path.as_str(), &file) {
-            Ok(true) => Ok(DiskLock { path, file }),
+        let alloc = rt.alloc();
+        let beside = format!(in alloc; "{path}.lck")?;
+        let file = match open_lock(rt, beside.as_str()) {
+            Ok(file) => file,
+            Err(error) => return Err(beside_fault(alloc, path, ".lck", "made and locked", error)),
+        };
+        if let Err(fault) = lock_file(&file) {
+            return Err(fault.at(alloc, path));
+        }
+        match leads_to(rt, beside.as_str(), &file) {
+            Ok(true) => Ok(DiskLock { path: beside, file }),
             // The run that had it has just removed it.
-            _ => Err(FileFault::DiskInUse),
+            _ => Err(in_use(alloc, path)),
         }
     }
 

@@ -2,13 +2,14 @@
 ghost use Rattle.std.specs.Prelude.{◌≡◌, true, IfOk};
 ghost use Rattle.disk_model.specs.Storage.{is_quiet};
 
-use crate::disk_file::{disk_in, keep, zeros};
+use crate::disk_file::{disk_of, keep, zeros};
 use crate::disk_lock::lock_file;
-use crate::fault::FileFault;
 use durable_disk::HostFile;
-use simdisk::SimDisk;
+use faults::{Fault, at_path};
+use simdisk::{SIZE, SimDisk};
+use std::alloc::Global;
 use std::fs::{self, File, OpenOptions};
-use std::io;
+use std::io::{self, Read};
 use std::rt::Files;
 
 /// Has the host keep the name of a file: syncs the folder in which it stands, where no link is left in its path.
@@ -21,16 +22,29 @@ fn sync_folder<R: Files<File = File> + AllocGlobal>(rt: &R, path: &str) -> io::R
 }
 
 /// Opens the file of a disk. Where there is none, a file of zeros is made first. The file is then locked, until it is closed.
-fn open_or_make<R: Files<File = File> + AllocGlobal>(
-    rt: &R,
-    path: &str,
-) -> Result<File, FileFault> {
-    if !fs::exists(rt, path)? {
+fn open_or_make<R: Files<File = File> + AllocGlobal>(rt: &R, path: &str) -> Result<File, Fault> {
+    if !at_path(rt.alloc(), path, fs::exists(rt, path))? {
         keep(rt, path, &zeros(rt.alloc())?)?;
     }
-    let file = OpenOptions::new().read(true).write(true).open(rt, path)?;
-    lock_file(&file)?;
-    Ok(file)
+    let opened = OpenOptions::new().read(true).write(true).open(rt, path);
+    let file = at_path(rt.alloc(), path, opened)?;
+    match lock_file(&file) {
+        Ok(()) => Ok(file),
+        Err(fault) => Err(fault.at(rt.alloc(), path)),
+    }
+}
+
+/// The bytes of an open file, but at most one more than a disk has.
+fn bytes_of(alloc: Global, file: &mut File) -> io::Result<Vec<u8>> {
+    let mut bytes = Vec::new(alloc);
+    file.take(SIZE as u64 + 1).read_to_end(&mut bytes)?;
+    Ok(bytes)
+}
+
+/// Syncs the bytes of a file, and its name.
+fn sync<R: Files<File = File> + AllocGlobal>(rt: &R, path: &str, file: &File) -> io::Result<()> {
+    file.sync_all()?;
+    sync_folder(rt, path)
 }
 
 /// The file at this path, open, and the disk that it holds. Where there is none, a file of zeros is made first, by way of a file
@@ -40,12 +54,13 @@ fn open_or_make<R: Files<File = File> + AllocGlobal>(
 pub fn open_durable<R: Files<File = File> + AllocGlobal>(
     rt: &R,
     path: &str,
-) -> Result<(HostFile, SimDisk), FileFault>
+) -> Result<(HostFile, SimDisk), Fault>
     ensures { IfOk result (λ opened. is_quiet opened.1 ≡ true) }
 {
-    let file = open_or_make(rt, path)?;
-    let device = disk_in(rt, path)?;
-    file.sync_all()?;
-    sync_folder(rt, path)?;
+    let alloc = rt.alloc();
+    let mut file = open_or_make(rt, path)?;
+    let bytes = at_path(alloc, path, bytes_of(alloc, &mut file))?;
+    let device = disk_of(alloc, path, &bytes)?;
+    at_path(alloc, path, sync(rt, path, &file))?;
     Ok((HostFile::new(file), device))
 }

@@ -1,5 +1,6 @@
 //! Files of the host, by their paths: sources are assembled and checked, images made of executables and listed, traces read, disks
-//! read and kept. Read `FileFault` first, which says why one is refused. Only safety is proved, and that the disk with which a run
+//! read and kept. What is refused is refused
+//! with its path and the reason. Only safety is proved, and that the disk with which a run
 //! begins is quiet.
 #![tactic(auto)]
 
@@ -8,7 +9,8 @@ mod debugging;
 mod disk_file;
 mod disk_lock;
 mod durable_file;
-mod fault;
+mod fields;
+mod image_reason;
 mod linked;
 mod list;
 mod reading;
@@ -16,13 +18,12 @@ mod same_file;
 mod source;
 mod trace;
 
-pub use checking::{check_file, source_reason};
-pub use debugging::{replies_in, source_lines_in};
+pub use checking::check_file;
+pub use debugging::{replies_in, source_lines, source_lines_in};
 pub use disk_file::{disk_in, disk_or_zeros, keep, test_place, zeros};
 pub use disk_lock::DiskLock;
 pub use durable_file::open_durable;
-pub use fault::FileFault;
 pub use linked::image_file;
 pub use list::list_file;
-pub use reading::image_in;
-pub use source::{MOST_SOURCE_BYTES, assemble_file, symbols_file};
+pub use reading::{image_bytes_in, image_in, image_of_bytes, image_of_file, text_in, text_of_file};
+pub use source::{assemble_file, source_text, symbols_file};

@@ -1,8 +1,8 @@
 //! `image_file`: makes an image of an executable that a stock linker wrote (`bench image`).
 use crate::disk_file::write_whole;
-use crate::fault::FileFault;
 use crate::same_file::is_same_file;
 use elf32::{MOST_LINKED_BYTES, image_of};
+use faults::{Fault, Refusal, at_path};
 use input_reading::bytes_in;
 use machine_model::{Image, Segment};
 use std::fs;
@@ -20,7 +20,7 @@ fn page_count(segment: &Segment) -> u64 {
 }
 
 /// Prints how many segments and pages an image has, and where it begins.
-fn print_size<O: Write>(image: &Image, out: &mut O) -> Result<(), FileFault> {
+fn print_size<O: Write>(image: &Image, out: &mut O) -> Result<(), Fault> {
     let segments = image.segments().len();
     let mut pages: u64 = 0;
     for segment in image.segments() {
@@ -32,9 +32,9 @@ fn print_size<O: Write>(image: &Image, out: &mut O) -> Result<(), FileFault> {
 }
 
 /// Writes an image to a file, whole. A device or a link that stands at the path is written to, and stays.
-fn write_image<R: Files + AllocGlobal>(rt: &R, path: &str, bytes: &[u8]) -> Result<(), FileFault> {
+fn write_image<R: Files + AllocGlobal>(rt: &R, path: &str, bytes: &[u8]) -> Result<(), Fault> {
     match fs::symlink_metadata(rt, path) {
-        Ok(there) if !there.is_file() => Ok(fs::write(rt, path, bytes)?),
+        Ok(there) if !there.is_file() => at_path(rt.alloc(), path, fs::write(rt, path, bytes)),
         _ => write_whole(rt, path, bytes),
     }
 }
@@ -46,13 +46,17 @@ pub fn image_file<R: Files + AllocGlobal, O: Write>(
     linked: &str,
     image: &str,
     out: &mut O,
-) -> Result<(), FileFault> {
-    let bytes = bytes_in(rt, linked, MOST_LINKED_BYTES)?;
-    let program = image_of(rt.alloc(), &bytes)?;
+) -> Result<(), Fault> {
+    let alloc = rt.alloc();
+    let bytes = at_path(alloc, linked, bytes_in(rt, linked, MOST_LINKED_BYTES))?;
+    let program = match image_of(alloc, &bytes) {
+        Ok(program) => program,
+        Err(fault) => return Err(Fault::from(fault).at(alloc, linked)),
+    };
     if is_same_file(rt, linked, image)? {
-        return Err(FileFault::SameFile);
+        return Err(Fault::from(Refusal::SameFile).at(alloc, image));
     }
-    let file = elf32::write(rt.alloc(), &program)?;
+    let file = elf32::write(alloc, &program)?;
     write_image(rt, image, &file)?;
     print_size(&program, out)
 }

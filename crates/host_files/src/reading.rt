@@ -1,11 +1,78 @@
-//! `image_in`: reads the image in a file of the host.
-use crate::fault::FileFault;
+//! `image_in`: reads the image in a file of the host. `text_in`: a text.
+use crate::image_reason::image_reason;
+use elf32::ElfFault;
+use faults::{Fault, Refusal, Why, at_path};
 use input_reading::image_file_in;
 use machine_model::Image;
+use std::alloc::Global;
+use std::fs;
 use std::rt::Files;
 
+/// The first bytes of an ELF file.
+const ELF_BEGIN: &[u8] = b"\x7fELF";
+
+/// Why bytes are no text that are text up to a place.
+fn why_no_text(bytes: &[u8], after: usize) -> Why {
+    if bytes.starts_with(ELF_BEGIN) {
+        return Why::Text("it is an ELF file, as an image or an executable, and no text");
+    }
+    Why::Byte(after)
+}
+
+/// The fault of a file of these bytes that are no text.
+pub fn no_text(alloc: Global, path: &str, bytes: &[u8], after: usize) -> Fault {
+    let why = why_no_text(bytes, after);
+    Fault::new(Refusal::InputOutput, Some(why)).at(alloc, path)
+}
+
+/// The text of the bytes of a file.
+pub fn text_of_file<'b>(alloc: Global, path: &str, bytes: &'b [u8]) -> Result<&'b str, Fault> {
+    match str::from_utf8(bytes) {
+        Ok(text) => Ok(text),
+        Err(error) => Err(no_text(alloc, path, bytes, error.valid_up_to())),
+    }
+}
+
+/// The text in a file, which is read whole.
+pub fn text_in<R: Files + AllocGlobal>(rt: &R, path: &str) -> Result<String, Fault> {
+    let bytes = at_path(rt.alloc(), path, fs::read(rt, path))?;
+    let text = text_of_file(rt.alloc(), path, bytes.as_slice())?;
+    Ok(String::from_str(rt.alloc(), text)?)
+}
+
+/// The bytes of an image's file, as far as they are needed to read it.
+pub fn image_bytes_in<R: Files + AllocGlobal>(rt: &R, path: &str) -> Result<Vec<u8>, Fault> {
+    at_path(rt.alloc(), path, image_file_in(rt, path))
+}
+
+/// The fault of bytes that are no image; with which field is wrong, and of a file of this name what makes an image of it.
+fn image_fault(alloc: Global, name: &str, bytes: &[u8], fault: ElfFault) -> Fault {
+    if matches!(fault, ElfFault::OutOfMemory) {
+        return Fault::OutOfMemory;
+    }
+    let number = fault.number();
+    let why = Why::said(image_reason(alloc, name, bytes, fault));
+    Fault::new(Refusal::Image { number, fault }, why)
+}
+
+/// The image of these bytes, of a file that is not named.
+pub fn image_of_bytes(alloc: Global, bytes: &[u8]) -> Result<Image, Fault> {
+    match elf32::parse(alloc, bytes) {
+        Ok(image) => Ok(image),
+        Err(fault) => Err(image_fault(alloc, "", bytes, fault)),
+    }
+}
+
+/// The image of the bytes of the file at a path.
+pub fn image_of_file(alloc: Global, path: &str, bytes: &[u8]) -> Result<Image, Fault> {
+    match elf32::parse(alloc, bytes) {
+        Ok(image) => Ok(image),
+        Err(fault) => Err(image_fault(alloc, path, bytes, fault).at(alloc, path)),
+    }
+}
+
 /// The image in a file, as `elf32::parse` reads it.
-pub fn image_in<R: Files + AllocGlobal>(rt: &R, path: &str) -> Result<Image, FileFault> {
-    let file = image_file_in(rt, path)?;
-    Ok(elf32::parse(rt.alloc(), &file)?)
+pub fn image_in<R: Files + AllocGlobal>(rt: &R, path: &str) -> Result<Image, Fault> {
+    let bytes = image_bytes_in(rt, path)?;
+    image_of_file(rt.alloc(), path, bytes.as_slice())
 }

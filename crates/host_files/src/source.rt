@@ -1,17 +1,19 @@
 //! Assembles a source to a file: an image (`bench asm`), or symbols for gdb (`bench symbols`).
-use crate::fault::FileFault;
+use crate::reading::no_text;
 use crate::same_file::is_same_file;
 use assembler::{AsmFault, Cause, assemble};
 use debug_info::{SymbolFile, symbol_file};
+use faults::{Fault, Refusal, Why, at_path};
 use input_reading::bytes_in;
 use machine_model::{Image, Segment};
+use source_checks::advice;
 use std::alloc::Global;
 use std::fs;
 use std::io::Write;
 use std::rt::Files;
 
 /// The longest source that is assembled, in bytes.
-pub const MOST_SOURCE_BYTES: usize = 1_048_576;
+const MOST_SOURCE_BYTES: usize = 1_048_576;
 
 /// What a source is made to: the bytes of a file, and the line that is printed.
 struct Assembled {
@@ -36,50 +38,85 @@ fn size_of(segment: Option<&Segment>) -> usize {
 }
 
 /// The line with the sizes of text and data, and the entry.
-fn line_of(alloc: Global, image: &Image) -> Result<String, FileFault> {
+fn line_of(alloc: Global, image: &Image) -> Result<String, Fault> {
     let text = size_of(image.segments().first());
     let data = size_of(image.segments().get(1));
     let entry = image.entry();
     Ok(format!(in alloc; "{text} text bytes, {data} data bytes, entry {entry:08x}")?)
 }
 
-fn assemble_source(alloc: Global, source: &str) -> Result<Assembled, FileFault> {
-    let (image, _listing) = assemble(alloc, source)?;
+/// The fault of the source of a file, with what cures it.
+pub fn source_fault(alloc: Global, path: &str, source: &str, fault: AsmFault) -> Fault {
+    if fault.why == Cause::OutOfMemory {
+        return Fault::OutOfMemory;
+    }
+    let number = fault.why.number();
+    let why = Why::said(advice(alloc, source, fault));
+    Fault::new(Refusal::Source { number, fault }, why).at(alloc, path)
+}
+
+fn assemble_source(alloc: Global, path: &str, source: &str) -> Result<Assembled, Fault> {
+    let image = match assemble(alloc, source) {
+        Ok((image, _listing)) => image,
+        Err(fault) => return Err(source_fault(alloc, path, source, fault)),
+    };
     Ok(Assembled {
         line: line_of(alloc, &image)?,
         file: elf32::write(alloc, &image)?,
     })
 }
 
-/// The bytes of a source's file as text, or of its beginning where it is too long. There the last character may be cut short.
-pub fn text_of(bytes: &[u8]) -> Result<&str, FileFault> {
+/// The bytes of the source in a file. One that is too long is read one byte past the longest, and no further.
+pub fn source_in<R: Files + AllocGlobal>(rt: &R, path: &str) -> Result<Vec<u8>, Fault> {
+    at_path(rt.alloc(), path, bytes_in(rt, path, MOST_SOURCE_BYTES))
+}
+
+/// The bytes of a source's file as text, or of its beginning where it is too long. There the last character may be cut short: then the
+/// source's fault is given.
+pub fn text_of<'b>(
+    alloc: Global,
+    path: &str,
+    bytes: &'b [u8],
+) -> Result<Result<&'b str, AsmFault>, Fault> {
     match str::from_utf8(bytes) {
-        Ok(source) => Ok(source),
+        Ok(source) => Ok(Ok(source)),
         Err(error) if bytes.len() > MOST_SOURCE_BYTES && error.error_len().is_none() => {
-            Err(FileFault::from(AsmFault::whole(Cause::TooLarge)))
+            Ok(Err(AsmFault::whole(Cause::TooLarge)))
         }
-        Err(_) => Err(FileFault::InputOutput),
+        Err(error) => Err(no_text(alloc, path, bytes, error.valid_up_to())),
     }
 }
 
-/// The text of the source in a file. A source that is too long is read one byte past the longest, and no further.
-pub fn source_text<R: Files + AllocGlobal>(rt: &R, path: &str) -> Result<String, FileFault> {
-    let bytes = bytes_in(rt, path, MOST_SOURCE_BYTES)?;
-    Ok(String::from_str(rt.alloc(), text_of(&bytes)?)?)
+/// The text of the bytes of the source at a path.
+fn source_of<'b>(alloc: Global, path: &str, bytes: &'b [u8]) -> Result<&'b str, Fault> {
+    match text_of(alloc, path, bytes)? {
+        Ok(source) => Ok(source),
+        Err(fault) => Err(source_fault(alloc, path, "", fault)),
+    }
+}
+
+/// The text of the source in a file.
+pub fn source_text<R: Files + AllocGlobal>(rt: &R, path: &str) -> Result<String, Fault> {
+    let bytes = source_in(rt, path)?;
+    Ok(String::from_str(rt.alloc(), source_of(rt.alloc(), path, &bytes)?)?)
 }
 
 /// Writes to a file what a source was made to, and prints the line. Where both paths lead to one file nothing is written.
-fn write_assembled<R: Files, O: Write>(
+fn write_assembled<R: Files + AllocGlobal, O: Write>(
     rt: &R,
     assembled: &Assembled,
     source: &str,
     path: &str,
     out: &mut O,
-) -> Result<(), FileFault> {
+) -> Result<(), Fault> {
     if is_same_file(rt, source, path)? {
-        return Err(FileFault::OwnSource);
+        return Err(Fault::from(Refusal::OwnSource).at(rt.alloc(), path));
     }
-    fs::write(rt, path, assembled.file.as_slice())?;
+    at_path(
+        rt.alloc(),
+        path,
+        fs::write(rt, path, assembled.file.as_slice()),
+    )?;
     let line = assembled.line.as_str();
     writeln!(out, "{line}")?;
     Ok(())
@@ -92,14 +129,18 @@ pub fn assemble_file<R: Files + AllocGlobal, O: Write>(
     source: &str,
     image: &str,
     out: &mut O,
-) -> Result<(), FileFault> {
-    let bytes = bytes_in(rt, source, MOST_SOURCE_BYTES)?;
-    let assembled = assemble_source(rt.alloc(), text_of(&bytes)?)?;
+) -> Result<(), Fault> {
+    let alloc = rt.alloc();
+    let bytes = source_in(rt, source)?;
+    let assembled = assemble_source(alloc, source, source_of(alloc, source, &bytes)?)?;
     write_assembled(rt, &assembled, source, image, out)
 }
 
-fn symbols_of(alloc: Global, source: &str, path: &str) -> Result<Assembled, FileFault> {
-    let symbols = symbol_file(alloc, source, path)?;
+fn symbols_of(alloc: Global, source: &str, path: &str) -> Result<Assembled, Fault> {
+    let symbols = match symbol_file(alloc, source, path) {
+        Ok(symbols) => symbols,
+        Err(fault) => return Err(source_fault(alloc, path, source, fault)),
+    };
     let (labels, words) = (symbols.labels, symbols.words);
     let SymbolFile {
         bytes,
@@ -119,8 +160,9 @@ pub fn symbols_file<R: Files + AllocGlobal, O: Write>(
     source: &str,
     symbols: &str,
     out: &mut O,
-) -> Result<(), FileFault> {
-    let bytes = bytes_in(rt, source, MOST_SOURCE_BYTES)?;
-    let written = symbols_of(rt.alloc(), text_of(&bytes)?, source)?;
+) -> Result<(), Fault> {
+    let alloc = rt.alloc();
+    let bytes = source_in(rt, source)?;
+    let written = symbols_of(alloc, source_of(alloc, source, &bytes)?, source)?;
     write_assembled(rt, &written, source, symbols, out)
 }

@@ -1,7 +1,7 @@
 //! `read_trace`: reads a trace, the replies that a debugged program's calls take.
-use crate::fault::FileFault;
 use byte_list::Bytes;
 use elf32::{ElfFault, parse};
+use faults::{Fault, Refusal, Why};
 use input_reading::{bytes_of, hexadecimal};
 use machine_model::Reply;
 use std::alloc::{AllocError, Global};
@@ -60,29 +60,26 @@ fn reply_of(alloc: Global, line: &str) -> Result<Option<Reply>, AllocError> {
     }
 }
 
-fn push_reply(
-    alloc: Global,
-    replies: &mut Vec<Reply>,
-    line: &str,
-    number: usize,
-) -> Result<(), FileFault> {
-    match reply_of(alloc, line)? {
-        Some(reply) => Ok(replies.push(reply)?),
-        None => Err(FileFault::Trace { line: number }),
-    }
+/// The fault of a line that is no reply.
+fn line_fault(alloc: Global, number: usize, line: &str) -> Fault {
+    let why = Why::line(alloc, number, line, "is no reply");
+    Fault::new(Refusal::Trace { line: number }, why)
 }
 
-/// Reads a trace, a line for each reply. `A0 -` and `A0 AT HEX` are replies of a number, without and with bytes. `00000000 image
+/// Reads the trace of the file at a path, a line for each reply. `A0 -` and `A0 AT HEX` are replies of a number, without and with bytes. `00000000 image
 /// HEX` is the reply of a call which entered a program, with the bytes of the program's file. A0 and AT are eight hexadecimal
 /// digits; HEX is pairs of such digits, or `-` for no bytes. Lines are counted from 1 and end at a line feed. Empty lines and those
 /// that begin with `#` are skipped. Refused is the first line that has no such form, or whose file is no image; or OutOfMemory.
-pub fn read_trace(alloc: Global, text: &str) -> Result<Vec<Reply>, FileFault> {
+pub fn read_trace(alloc: Global, path: &str, text: &str) -> Result<Vec<Reply>, Fault> {
     let mut replies = Vec::new(alloc);
     let mut number = 0usize;
     for line in text.split('\n') {
         number = number.saturating_add(1);
         if !line.is_empty() && !line.starts_with('#') {
-            push_reply(alloc, &mut replies, line, number)?;
+            match reply_of(alloc, line)? {
+                Some(reply) => replies.push(reply)?,
+                None => return Err(line_fault(alloc, number, line).at(alloc, path)),
+            }
         }
     }
     Ok(replies)

@@ -1,5 +1,6 @@
 //! The command `crashes`: crashes of a script, or of programs.
-use crate::crash_subject::{CrashSubject, SubjectFault, program_in, subject_in};
+use crate::crash_subject::{CrashSubject, program_in, subject_in};
+use crate::script_files::of_files;
 use command_line::{CrashOptions, ModelName};
 use crash_recoveries::{
     Course, CrashModel, Effort, Failure, Part, Recovery, Rule, RunEnd, Subject, Tested, Trial,
@@ -8,15 +9,12 @@ use crash_recoveries::{
 use exec_reports::{print_ending, status_of_run};
 use exec_runs::Ending;
 use faults::{Fault, write_line};
+use host_files::text_in;
 use kernel::Core;
 use scripts::Setup;
-use std::fs;
 use std::io::{Read, Write};
 use std::rt::Files;
 use std::thread::Threads;
-
-/// The exit status where a program is refused.
-const REFUSED: u8 = 2;
 
 /// The exit status where a recovery failed.
 const FAILED: u8 = 7;
@@ -96,7 +94,7 @@ fn explore_to_end<R: Files + AllocGlobal + Threads + Sync, O: Write>(
     let Some(path) = options.expect else {
         return explore(rt, setup, course, None, out);
     };
-    let expected = fs::read_to_string(rt, path)?;
+    let expected = text_in(rt, path)?;
     explore(rt, setup, course, Some(expected.as_str()), out)
 }
 
@@ -142,7 +140,7 @@ fn recover_in<R: Files + AllocGlobal + Threads + Sync, O: Write, E: Write>(
     subject: &mut CrashSubject,
     out: &mut O,
     err: &mut E,
-) -> Result<u8, SubjectFault> {
+) -> Result<u8, Fault> {
     let program = program_in(rt, path)?;
     let mut recovery = Recovery::new(rt.alloc(), program, options.limit, options.nested)?;
     let run = Subject {
@@ -152,12 +150,12 @@ fn recover_in<R: Files + AllocGlobal + Threads + Sync, O: Write, E: Write>(
     let Tested { verdict, core } = try_recoveries(rt, run, &recovery, trial_of(options), out, err)?;
     out.flush()?;
     match verdict {
-        Verdict::Kept => Ok(tell_programs(subject, core.as_ref(), err)?),
+        Verdict::Kept => tell_programs(subject, core.as_ref(), err),
         Verdict::Failed(failure, played) => {
             let (setup, failed) = (&subject.setup, (failure, played));
-            Ok(end_failed(rt, options, setup, &mut recovery, failed, err)?)
+            end_failed(rt, options, setup, &mut recovery, failed, err)
         }
-        Verdict::Cut => Ok(tell_cut(options, err)?),
+        Verdict::Cut => tell_cut(options, err),
         Verdict::TooLong => {
             write_line(
                 err,
@@ -168,23 +166,9 @@ fn recover_in<R: Files + AllocGlobal + Threads + Sync, O: Write, E: Write>(
     }
 }
 
-fn try_subject<R: Files + AllocGlobal + Threads + Sync, I: Read, O: Write, E: Write>(
-    rt: &R,
-    options: &CrashOptions<'_>,
-    input: &mut I,
-    out: &mut O,
-    err: &mut E,
-) -> Result<u8, SubjectFault> {
-    let mut subject = subject_in(rt, options, input)?;
-    match options.recover {
-        Some(path) => recover_in(rt, options, path, &mut subject, out, err),
-        None => Ok(explore_in(rt, options, &mut subject, out, err)?),
-    }
-}
-
 /// Tries the crashes of a script, or of programs. All files are read first: the script or the programs and their tapes, and then what is
-/// expected, or the recovery. Gives the exit status. A line says why a program is refused, why a recovery failed, what was not
-/// tried, and how programs ended that did not end well.
+/// expected, or the recovery. Gives the exit status. A line says why a recovery failed, what was not tried, and how programs ended that
+/// did not end well.
 pub fn try_crashes<R: Files + AllocGlobal + Threads + Sync, I: Read, O: Write, E: Write>(
     rt: &R,
     options: &CrashOptions<'_>,
@@ -192,13 +176,10 @@ pub fn try_crashes<R: Files + AllocGlobal + Threads + Sync, I: Read, O: Write, E
     out: &mut O,
     err: &mut E,
 ) -> Result<u8, Fault> {
-    match try_subject(rt, options, input, out, err) {
-        Ok(status) => Ok(status),
-        Err(SubjectFault::Other(fault)) => Err(fault),
-        Err(SubjectFault::Refused(why)) => {
-            let why = why.as_str();
-            write_line(err, format_args!("bench: {why}"))?;
-            Ok(REFUSED)
-        }
-    }
+    let mut subject = subject_in(rt, options, input)?;
+    let done = match options.recover {
+        Some(path) => recover_in(rt, options, path, &mut subject, out, err),
+        None => explore_in(rt, options, &mut subject, out, err),
+    };
+    of_files(rt, options.programs.as_slice(), options.expect, done)
 }

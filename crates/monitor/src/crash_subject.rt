@@ -1,16 +1,19 @@
 //! What `crashes` runs: a script, or programs.
+use crate::script_files::of_script;
 use command_line::CrashOptions;
 use crash_recoveries::Course;
-use exec_files::{LoadFault, LoadedProgram, load};
+use elf32::MOST_LINKED_BYTES;
+use exec_files::{LoadedProgram, program_of, refused};
 use exec_reports::Family;
-use faults::Fault;
+use faults::{Fault, at_path};
+use host_files::text_of_file;
 use input_reading::bytes_in;
 use run_files::tapes_in;
 use scripts::{Script, Setup, is_script};
-use std::alloc::{AllocError, AllocFailed, Global};
+use std::alloc::Global;
+use std::fs;
 use std::io::Read;
 use std::rt::Files;
-use std::{fs, io};
 
 /// What is run, and how, with what is known of its instructions.
 #[derive(Drop)]
@@ -21,84 +24,40 @@ pub struct CrashSubject {
     pub family: Family,
 }
 
-/// Why no crash is tried.
-#[derive(Drop)]
-pub enum SubjectFault {
-    /// A file that is refused: the text of a line, which begins with its path.
-    Refused(String),
-    Other(Fault),
-}
-
-impl From<Fault> for SubjectFault {
-    fn from(fault: Fault) -> SubjectFault {
-        SubjectFault::Other(fault)
-    }
-}
-
-impl From<LoadFault> for SubjectFault {
-    fn from(fault: LoadFault) -> SubjectFault {
-        match fault {
-            LoadFault::Refused(why) => SubjectFault::Refused(why),
-            LoadFault::Host(_) => SubjectFault::Other(Fault::InputOutput),
-            LoadFault::OutOfMemory => SubjectFault::Other(Fault::OutOfMemory),
-        }
-    }
-}
-
-impl From<AllocError> for SubjectFault {
-    fn from(_error: AllocError) -> SubjectFault {
-        SubjectFault::Other(Fault::OutOfMemory)
-    }
-}
-
-impl<T: Drop> From<AllocFailed<T>> for SubjectFault {
-    fn from(_failed: AllocFailed<T>) -> SubjectFault {
-        SubjectFault::Other(Fault::OutOfMemory)
-    }
-}
-
-impl From<io::Error> for SubjectFault {
-    fn from(error: io::Error) -> SubjectFault {
-        SubjectFault::Other(Fault::from(error))
-    }
-}
-
 /// The program in a file. That the file cannot be read is a fault as of any other.
-pub fn program_in<R: Files + AllocGlobal>(
-    rt: &R,
-    path: &str,
-) -> Result<LoadedProgram, SubjectFault> {
-    let _beginning = bytes_in(rt, path, 1)?;
-    Ok(load(rt, path)?)
+pub fn program_in<R: Files + AllocGlobal>(rt: &R, path: &str) -> Result<LoadedProgram, Fault> {
+    let file = at_path(rt.alloc(), path, bytes_in(rt, path, MOST_LINKED_BYTES))?;
+    program_of(rt.alloc(), path, file.as_slice())
 }
 
-/// The text of a file, if it is meant as a script. What begins as an image or an executable does is none.
-fn script_text<R: Files + AllocGlobal>(rt: &R, path: &str) -> Result<Option<String>, Fault> {
-    let bytes = fs::read(rt, path)?;
-    if bytes.as_slice().starts_with(b"\x7fELF") {
+/// The text of the bytes of a file, if it is meant as a script. What begins as an image or an executable does is none.
+fn script_text<'b>(alloc: Global, path: &str, bytes: &'b [u8]) -> Result<Option<&'b str>, Fault> {
+    if bytes.starts_with(b"\x7fELF") {
         return Ok(None);
     }
-    match str::from_utf8(bytes.as_slice()) {
-        Ok(text) if is_script(text) => Ok(Some(String::from_str(rt.alloc(), text)?)),
-        Ok(_) => Ok(None),
-        Err(_) => Err(Fault::InputOutput),
-    }
+    let text = text_of_file(alloc, path, bytes)?;
+    Ok(if is_script(text) { Some(text) } else { None })
 }
 
-/// Programs that are run to their end, with the tapes that are given.
-fn programs_in<R: Files + AllocGlobal, I: Read>(
+/// Adds a program to those that are set up, and to those whose instructions are known.
+fn push_program(
+    alloc: Global,
+    setup: &mut Setup,
+    programs: &mut Vec<LoadedProgram>,
+    program: LoadedProgram,
+) -> Result<(), Fault> {
+    setup.push_binary(elf32::write(alloc, &program.image)?)?;
+    programs.push(program)?;
+    Ok(())
+}
+
+/// Adds the tapes that are given.
+fn push_tapes<R: Files + AllocGlobal, I: Read>(
     rt: &R,
     options: &CrashOptions<'_>,
+    setup: &mut Setup,
     input: &mut I,
-) -> Result<CrashSubject, SubjectFault> {
-    let alloc = rt.alloc();
-    let mut setup = Setup::new(alloc);
-    let mut programs = Vec::new(alloc);
-    for path in options.programs.as_slice() {
-        let program = program_in(rt, path)?;
-        setup.push_binary(elf32::write(alloc, &program.image)?)?;
-        programs.push(program)?;
-    }
+) -> Result<(), Fault> {
     let mut number = 0u32;
     for tape in tapes_in(rt, options.tapes.as_slice(), input)? {
         if !tape.as_slice().is_empty() {
@@ -106,11 +65,33 @@ fn programs_in<R: Files + AllocGlobal, I: Read>(
         }
         number = number.saturating_add(1);
     }
-    Ok(CrashSubject {
-        setup,
-        course: to_end(options),
-        family: Family::new(alloc, programs)?,
-    })
+    Ok(())
+}
+
+/// Refuses tapes beside a script.
+fn test_no_tapes(alloc: Global, options: &CrashOptions<'_>, path: &str) -> Result<(), Fault> {
+    if options.tapes.as_slice().iter().all(|tape| tape.is_none()) {
+        return Ok(());
+    }
+    Err(refused(
+        alloc,
+        path,
+        "a script has tapes of its own; --tape is for programs",
+    ))
+}
+
+/// The script of these bytes of a file, if they are one.
+fn script_of(
+    alloc: Global,
+    options: &CrashOptions<'_>,
+    path: &str,
+    bytes: &[u8],
+) -> Result<Option<Script>, Fault> {
+    let Some(text) = script_text(alloc, path, bytes)? else {
+        return Ok(None);
+    };
+    test_no_tapes(alloc, options, path)?;
+    Ok(Some(Script::parse(alloc, text)?))
 }
 
 /// To the end, or to the limit.
@@ -121,12 +102,12 @@ fn to_end(options: &CrashOptions<'_>) -> Course {
 }
 
 /// A script. One of set-up lines alone is run to its end.
-fn script_of(
+fn subject_of_script(
     alloc: Global,
     options: &CrashOptions<'_>,
-    text: &str,
-) -> Result<CrashSubject, SubjectFault> {
-    let (setup, steps) = Script::parse(alloc, text)?.into_parts();
+    script: Script,
+) -> Result<CrashSubject, Fault> {
+    let (setup, steps) = script.into_parts();
     let course = if steps.is_empty() {
         to_end(options)
     } else {
@@ -139,31 +120,32 @@ fn script_of(
     })
 }
 
-/// Refuses tapes beside a script.
-fn test_no_tapes(
-    alloc: Global,
-    options: &CrashOptions<'_>,
-    path: &str,
-) -> Result<(), SubjectFault> {
-    if options.tapes.as_slice().iter().all(|tape| tape.is_none()) {
-        return Ok(());
-    }
-    Err(SubjectFault::Refused(format!(in alloc;
-        "{path}: a script has tapes of its own; --tape is for programs"
-    )?))
-}
-
-/// What is run, and how: the script or the programs of the options.
+/// What is run, and how: the script or the programs of the options. Each file is read once.
 pub fn subject_in<R: Files + AllocGlobal, I: Read>(
     rt: &R,
     options: &CrashOptions<'_>,
     input: &mut I,
-) -> Result<CrashSubject, SubjectFault> {
-    if let [path] = options.programs.as_slice()
-        && let Some(text) = script_text(rt, path)?
-    {
-        test_no_tapes(rt.alloc(), options, path)?;
-        return script_of(rt.alloc(), options, text.as_str());
+) -> Result<CrashSubject, Fault> {
+    let alloc = rt.alloc();
+    let mut setup = Setup::new(alloc);
+    let mut programs = Vec::new(alloc);
+    if let [path] = options.programs.as_slice() {
+        let bytes = at_path(alloc, path, fs::read(rt, *path))?;
+        let script = script_of(alloc, options, path, bytes.as_slice());
+        if let Some(script) = of_script(rt, path, script)? {
+            return subject_of_script(alloc, options, script);
+        }
+        let program = program_of(alloc, path, bytes.as_slice())?;
+        push_program(alloc, &mut setup, &mut programs, program)?;
+    } else {
+        for path in options.programs.as_slice() {
+            push_program(alloc, &mut setup, &mut programs, program_in(rt, path)?)?;
+        }
     }
-    programs_in(rt, options, input)
+    push_tapes(rt, options, &mut setup, input)?;
+    Ok(CrashSubject {
+        setup,
+        course: to_end(options),
+        family: Family::new(alloc, programs)?,
+    })
 }

@@ -1,45 +1,26 @@
 //! The command `disk`: lists a disk, copies a file from it or onto it, or compares two.
 use command_line::DiskTask;
-use disk_files::{CopyFault, cat_file, files_on, print_differences, put_file};
+use disk_files::{cat_file, files_on, print_differences, put_file};
 use faults::{Fault, write_line};
+use files::FileTable;
 use run_files::list_files;
 use std::fs::File;
 use std::io::Write;
 use std::rt::Files;
 
-/// The exit status where a file is refused.
-const REFUSED: u8 = 2;
-
 /// The exit status where two disks differ.
 const DIFFERENT: u8 = 7;
 
-/// The exit status of a copy. A line says why a file is refused.
-fn end_copy<E: Write>(copied: Result<(), CopyFault>, err: &mut E) -> Result<u8, Fault> {
-    match copied {
-        Ok(()) => Ok(0),
-        Err(CopyFault::Other(fault)) => Err(fault),
-        Err(CopyFault::Refused(why)) => {
-            write_line(err, format_args!("bench: file refused: {why}"))?;
-            Ok(REFUSED)
-        }
+/// The files on one of two disks. The line of its refusal says which of them it is.
+fn files_of<R: Files + AllocGlobal>(rt: &R, path: &str) -> Result<FileTable, Fault> {
+    match files_on(rt, path) {
+        Err(Fault::Refused { refusal, reason }) => Err(Fault::Told {
+            text: format!(in rt.alloc(); "{path}: {refusal}")?,
+            status: refusal.status(),
+            reason,
+        }),
+        files => files,
     }
-}
-
-/// Says which of two disks cannot be read, and why, and gives the status. For want of memory it says nothing.
-fn refuse_disk<R: AllocGlobal, E: Write>(
-    rt: &R,
-    path: &str,
-    fault: Fault,
-    err: &mut E,
-) -> Result<u8, Fault> {
-    if fault.status() == Fault::OutOfMemory.status() {
-        return Err(fault);
-    }
-    let text = format!(in rt.alloc(); "{fault}")?;
-    let why = text.as_str();
-    let why = why.strip_prefix("bench: ").unwrap_or(why);
-    write_line(err, format_args!("bench: {path}: {why}"))?;
-    Ok(fault.status())
 }
 
 /// Prints in which files two disks differ, or how many there are where they differ in none.
@@ -50,14 +31,7 @@ fn diff_disks<R: Files + AllocGlobal, O: Write, E: Write>(
     out: &mut O,
     err: &mut E,
 ) -> Result<u8, Fault> {
-    let one = match files_on(rt, first) {
-        Ok(files) => files,
-        Err(fault) => return refuse_disk(rt, first, fault, err),
-    };
-    let other = match files_on(rt, second) {
-        Ok(files) => files,
-        Err(fault) => return refuse_disk(rt, second, fault, err),
-    };
+    let (one, other) = (files_of(rt, first)?, files_of(rt, second)?);
     let count = print_differences(one.list(), other.list(), out)?;
     if count == 0 {
         let files = one.count();
@@ -77,12 +51,10 @@ pub fn use_disk<R: Files<File = File> + AllocGlobal, O: Write, E: Write>(
     err: &mut E,
 ) -> Result<u8, Fault> {
     match task {
-        DiskTask::List(disk) => {
-            list_files(rt, disk, out)?;
-            Ok(0)
-        }
-        DiskTask::Cat { disk, name } => end_copy(cat_file(rt, disk, name, out), err),
-        DiskTask::Put { disk, name, from } => end_copy(put_file(rt, disk, name, from), err),
-        DiskTask::Diff { first, second } => diff_disks(rt, first, second, out, err),
+        DiskTask::List(disk) => list_files(rt, disk, out)?,
+        DiskTask::Cat { disk, name } => cat_file(rt, disk, name, out)?,
+        DiskTask::Put { disk, name, from } => put_file(rt, disk, name, from)?,
+        DiskTask::Diff { first, second } => return diff_disks(rt, first, second, out, err),
     }
+    Ok(0)
 }

@@ -1,6 +1,7 @@
 //! The files that `exec` writes. Each is opened before the run begins, so that no long run is lost at its end.
 use command_line::ExecOptions;
-use exec_files::{LoadFault, host_fault};
+use exec_files::{host_fault, refused};
+use faults::Fault;
 use std::alloc::{AllocError, Global};
 use std::fs::{self, File};
 use std::os::unix::fs::MetadataExt;
@@ -62,7 +63,7 @@ impl<'a> Taken<'a> {
     }
 
     /// Refuses a path that leads to a file of the run.
-    fn test<R: Files + AllocGlobal>(&self, rt: &R, path: &str) -> Result<(), LoadFault> {
+    fn test<R: Files + AllocGlobal>(&self, rt: &R, path: &str) -> Result<(), Fault> {
         for (place, other) in self.paths.as_slice().iter().enumerate() {
             if lead_to_one(rt, path, *other) {
                 let why = if place < self.read {
@@ -70,7 +71,7 @@ impl<'a> Taken<'a> {
                 } else {
                     "the run would write two things to this file; name another for one of them"
                 };
-                return Err(LoadFault::Refused(format!(in rt.alloc(); "{path}: {why}")?));
+                return Err(refused(rt.alloc(), path, why));
             }
         }
         Ok(())
@@ -81,7 +82,7 @@ impl<'a> Taken<'a> {
         &mut self,
         rt: &R,
         path: Option<&'a str>,
-    ) -> Result<Option<File>, LoadFault> {
+    ) -> Result<Option<File>, Fault> {
         let Some(path) = path else {
             return Ok(None);
         };
@@ -109,7 +110,7 @@ impl Outputs {
     pub fn open<R: Files<File = File> + AllocGlobal>(
         rt: &R,
         options: &ExecOptions<'_>,
-    ) -> Result<Outputs, LoadFault> {
+    ) -> Result<Outputs, Fault> {
         let mut taken = Taken::new(rt.alloc(), options)?;
         Ok(Outputs {
             record: taken.open(rt, options.record)?,

@@ -4,7 +4,7 @@ ghost use Rattle.std.specs.List.{AllByRecursion};
 ghost use Rattle.kernel_model.specs.World.{most_programs, terminal_count};
 
 use byte_list::Bytes;
-use exec_files::{LoadFault, LoadedProgram, load};
+use exec_files::{LoadedProgram, load};
 use faults::Fault;
 use kernel::Program;
 use std::alloc::Global;
@@ -14,7 +14,7 @@ use std::rt::Files;
 pub fn programs_in<R: Files + AllocGlobal>(
     rt: &R,
     paths: &[&str],
-) -> Result<(Vec<Program>, Vec<LoadedProgram>), LoadFault>
+) -> Result<(Vec<Program>, Vec<LoadedProgram>), Fault>
     requires few { length paths.now ≤ most_programs }
     ensures len { IfOk result (λ both. length both.0.items ≡ length paths.now) }
     ensures terminals { IfOk result (λ both. AllByRecursion (λ p. p.terminal < terminal_count) both.0.items) }

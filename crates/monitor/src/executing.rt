@@ -1,17 +1,14 @@
 //! Runs of programs for people.
-use crate::exec_fault::ExecFault;
 use crate::exec_outputs::Outputs;
 use crate::executables::{copies_of, programs_in};
 use crate::execution::Execution;
 use crate::observing::Watching;
-use command_line::{ExecOptions, Task};
-use exec_files::LoadFault;
+use command_line::ExecOptions;
 use exec_reports::Family;
-use explanations::explain;
 use faults::{Fault, write_line};
-use run_files::{Setup, boot_on, tapes_in};
+use run_files::{Setup, boot_on, of_disk, tapes_in};
 use std::fs::File;
-use std::io::{Read, Write};
+use std::io::{self, Read, Write};
 use std::rt::Files;
 use std::sync::Wait;
 use std::thread::Threads;
@@ -24,7 +21,7 @@ fn prepare<'a, R: Files<File = File> + AllocGlobal, I: Read>(
     rt: &'a R,
     options: &'a ExecOptions<'a>,
     input: &mut I,
-) -> Result<(Execution<'a, R>, Setup), ExecFault> {
+) -> Result<(Execution<'a, R>, Setup), Fault> {
     let (programs, loaded) = programs_in(rt, options.run.images.as_slice())?;
     let tapes = tapes_in(rt, options.run.tapes.as_slice(), input)?;
     let family = Family::new(rt.alloc(), loaded)?;
@@ -44,56 +41,21 @@ fn try_execute<
     I: Read,
     O: Write,
     E: Write,
->(
-    rt: &R,
-    options: &ExecOptions<'_>,
-    input: &mut I,
-    out: &mut O,
-    err: &mut E,
-) -> Result<u8, ExecFault> {
+>(rt: &R, options: &ExecOptions<'_>, input: &mut I, out: &mut O, err: &mut E) -> Result<u8, Fault> {
     let (mut execution, (core, lock, file)) = prepare(rt, options, input)?;
     let done = execution.run_to_end((core, file), out, err);
     if let Some(lock) = lock {
         lock.release(rt);
     }
-    done
+    of_disk(rt.alloc(), options.run.disk, done)
 }
 
-/// Prints the reason of a fault, or the fault where none is found.
-fn print_fault<R: Files<File = File> + AllocGlobal, E: Write>(
-    rt: &R,
-    task: &Task<'_>,
-    fault: Fault,
-    err: &mut E,
-) -> Result<(), Fault> {
-    let mut reason: Vec<u8> = Vec::new(rt.alloc());
-    if fault.status() != Fault::OutOfMemory.status() {
-        // Where there is no memory for the reason, the fault is told.
-        let _ = explain(rt, task, fault, &mut reason);
-    }
-    if reason.is_empty() {
-        write_line(err, fault)?;
-    } else {
-        err.write_all(reason.as_slice())?;
+/// Prints the reason of a fault, or the fault where none is known. Want of memory is told as it is.
+fn print_fault<E: Write>(fault: &Fault, err: &mut E) -> io::Result<()> {
+    if matches!(fault, Fault::OutOfMemory) || !fault.explain(err)? {
+        write_line(err, format_args!("{fault}"))?;
     }
     Ok(())
-}
-
-fn print_refusal<R: Files<File = File> + AllocGlobal, E: Write>(
-    rt: &R,
-    task: &Task<'_>,
-    fault: &ExecFault,
-    err: &mut E,
-) -> Result<(), Fault> {
-    match fault {
-        ExecFault::File(LoadFault::Refused(why) | LoadFault::Host(why)) => {
-            let why = why.as_str();
-            write_line(err, format_args!("bench: {why}"))?;
-            Ok(())
-        }
-        ExecFault::File(LoadFault::OutOfMemory) => print_fault(rt, task, Fault::OutOfMemory, err),
-        ExecFault::Other(fault) => print_fault(rt, task, *fault, err),
-    }
 }
 
 /// Runs programs to their end, as `run_images` does, but by turns unless threads are asked for. Gives the exit status: that of the first
@@ -103,20 +65,13 @@ pub fn execute<
     I: Read,
     O: Write,
     E: Write,
->(
-    rt: &R,
-    task: &Task<'_>,
-    options: &ExecOptions<'_>,
-    input: &mut I,
-    out: &mut O,
-    err: &mut E,
-) -> u8 {
+>(rt: &R, options: &ExecOptions<'_>, input: &mut I, out: &mut O, err: &mut E) -> u8 {
     match try_execute(rt, options, input, out, err) {
         Ok(status) => status,
         Err(fault) => {
             let _ = out.flush();
             // Where the line cannot be written either, the status still tells.
-            let _ = print_refusal(rt, task, &fault, err);
+            let _ = print_fault(&fault, err);
             REFUSED
         }
     }

@@ -1,5 +1,4 @@
 //! Runs of programs for people, from a core to the exit status.
-use crate::exec_fault::ExecFault;
 use crate::exec_keeping::write_records;
 use crate::exec_outputs::Outputs;
 use crate::fault::of_run;
@@ -13,7 +12,7 @@ use exec_records::{EndedRun, Recorded, write_json};
 use exec_reports::{print_ending, status_of_run};
 use exec_runs::{Ending, Order, Turns};
 use executor::{Run, RunFault};
-use faults::Fault;
+use faults::{Fault, Refusal};
 use kernel::{Answer, Core, Event};
 use run_files::keep_disk;
 use std::fs::File;
@@ -55,12 +54,20 @@ fn applied(core: &mut Core, event: Event) -> Result<Answer, Fault> {
 
 impl<R: Files<File = File> + AllocGlobal + Threads + Wait + Sync> Execution<'_, R> {
     /// Opens the files that the run is to write.
-    fn open_outputs(&mut self) -> Result<(), ExecFault> {
+    fn open_outputs(&mut self) -> Result<(), Fault> {
         self.outputs = Outputs::open(self.rt, self.options)?;
         if let Some(file) = self.outputs.log.take() {
             self.watching.log_to(self.options.logged, file)?;
         }
         Ok(())
+    }
+
+    /// What came of watching, which writes no file but the log.
+    fn of_log(&self, watched: Result<(), Fault>) -> Result<(), Fault> {
+        match (watched, self.options.log) {
+            (Err(fault), Some(path)) => Err(fault.at(self.rt.alloc(), path)),
+            (watched, _) => watched,
+        }
     }
 
     /// Runs a core by turns to its end, and writes what terminals show as soon as they show it.
@@ -79,12 +86,15 @@ impl<R: Files<File = File> + AllocGlobal + Threads + Wait + Sync> Execution<'_, 
             let Some(event) = turns.next(core) else {
                 break;
             };
-            self.watching.before(core, event)?;
+            let watched = self.watching.before(core, event);
+            self.of_log(watched)?;
             let answer = applied(core, event)?;
             showing.refresh(self.watching.alloc, core)?;
-            self.watching.after(core, answer, err)?;
+            let watched = self.watching.after(core, answer, err);
+            self.of_log(watched)?;
         }
-        self.watching.finish()?;
+        let watched = self.watching.finish();
+        self.of_log(watched)?;
         Ok(turns.ending())
     }
 
@@ -114,7 +124,7 @@ impl<R: Files<File = File> + AllocGlobal + Threads + Wait + Sync> Execution<'_, 
             family: &self.watching.family,
             tapes: self.tapes.as_slice(),
         };
-        write_records(self.rt, &mut self.outputs, recorded)
+        write_records(self.rt, self.options, &mut self.outputs, recorded)
     }
 
     /// Writes the run as an object of JSON, if that is asked for, and what has not gone out.
@@ -154,7 +164,7 @@ impl<R: Files<File = File> + AllocGlobal + Threads + Wait + Sync> Execution<'_, 
         }
         told?;
         if has_failed {
-            return Err(Fault::DiskFailed);
+            return Err(Fault::from(Refusal::DiskFailed));
         }
         Ok(status)
     }
@@ -165,7 +175,7 @@ impl<R: Files<File = File> + AllocGlobal + Threads + Wait + Sync> Execution<'_, 
         booted: Booted,
         out: &mut O,
         err: &mut E,
-    ) -> Result<u8, ExecFault> {
+    ) -> Result<u8, Fault> {
         self.open_outputs()?;
         let (core, ending) = self.run_whole(booted, out, err)?;
         let kept = self.write_records(&core);

@@ -1,8 +1,9 @@
 //! All orders of the calls of programs in files of the host.
+use crate::script_files::{of_files, of_script};
 use command_line::ExploreOptions;
 use explored_runs::{Limits, MergeFault, Part, Wanted, explore_orders, merge_parts};
-use faults::{Fault, write_line};
-use input_reading::bytes_in;
+use faults::{Fault, at_path, write_line};
+use host_files::{text_in, text_of_file};
 use scripts::{Script, Setup};
 use std::alloc::{AllocError, Global};
 use std::fs;
@@ -10,17 +11,8 @@ use std::io::Write;
 use std::rt::Files;
 use std::thread::Threads;
 
-/// How many bytes tell an image from a script.
-const FIRST_BYTES: usize = 4;
-
 /// The status where a part is refused, or missing.
 const REFUSED: u8 = 2;
-
-/// Whether a file begins as that of an image does, and no script.
-fn is_image<R: Files + AllocGlobal>(rt: &R, path: &str) -> Result<bool, Fault> {
-    let beginning = bytes_in(rt, path, FIRST_BYTES)?;
-    Ok(matches!(beginning.as_slice(), [0x7F, b'E', b'L', b'F', ..]))
-}
 
 /// What images set up.
 fn images_setup(alloc: Global, paths: &[&str]) -> Result<Setup, AllocError> {
@@ -31,23 +23,35 @@ fn images_setup(alloc: Global, paths: &[&str]) -> Result<Setup, AllocError> {
     Ok(setup)
 }
 
-/// What a script sets up. It is read whole.
-fn script_setup<R: Files + AllocGlobal>(rt: &R, path: &str) -> Result<Setup, Fault> {
-    let text = fs::read_to_string(rt, path)?;
-    Ok(Script::parse(rt.alloc(), text.as_str())?.into_setup())
+/// What a file sets up that is read whole: an image, which begins as ELF files do, or a script.
+fn file_setup<R: Files + AllocGlobal>(rt: &R, path: &str) -> Result<Setup, Fault> {
+    let alloc = rt.alloc();
+    let bytes = at_path(alloc, path, fs::read(rt, path))?;
+    if bytes.as_slice().starts_with(b"\x7fELF") {
+        let mut setup = Setup::new(alloc);
+        setup.push_binary(bytes)?;
+        return Ok(setup);
+    }
+    let text = text_of_file(alloc, path, bytes.as_slice())?;
+    let script = of_script(rt, path, Script::parse(alloc, text))?;
+    Ok(script.into_setup())
 }
 
 /// What programs set up: images, or a script alone.
 fn setup_of<R: Files + AllocGlobal>(rt: &R, paths: &[&str]) -> Result<Setup, Fault> {
     match paths {
-        [path] if !is_image(rt, path)? => script_setup(rt, path),
+        [path] => file_setup(rt, path),
         _ => Ok(images_setup(rt.alloc(), paths)?),
     }
 }
 
-fn text_in<R: Files + AllocGlobal>(rt: &R, path: Option<&str>) -> Result<Option<String>, Fault> {
-    match path {
-        Some(path) => Ok(Some(fs::read_to_string(rt, path)?)),
+/// The outcomes that are expected, if any are.
+fn expected_in<R: Files + AllocGlobal>(
+    rt: &R,
+    options: &ExploreOptions<'_>,
+) -> Result<Option<String>, Fault> {
+    match options.expect {
+        Some(path) => Ok(Some(text_in(rt, path)?)),
         None => Ok(None),
     }
 }
@@ -65,22 +69,23 @@ fn limits_of(options: &ExploreOptions<'_>) -> Limits {
     }
 }
 
-/// Finds all outcomes of programs, or explores a part. The script or the beginning of an image is read first, and then what is expected, if
-/// anything is.
+/// Finds all outcomes of programs, or explores a part, and gives the exit status. A file that may be a script is read first, and then what
+/// is expected, if anything is.
 fn explore_in<R: Files + AllocGlobal + Threads + Sync, O: Write, E: Write>(
     rt: &R,
     options: &ExploreOptions<'_>,
     out: &mut O,
     err: &mut E,
-) -> Result<(), Fault> {
+) -> Result<u8, Fault> {
     let mut setup = setup_of(rt, options.programs.as_slice())?;
-    let expected = text_in(rt, options.expect)?;
+    let expected = expected_in(rt, options)?;
     let wanted = Wanted {
         expected: expected.as_ref().map(|text| text.as_str()),
         folder: options.save,
         progress: options.progress,
     };
-    explore_orders(rt, &mut setup, limits_of(options), wanted, out, err)
+    explore_orders(rt, &mut setup, limits_of(options), wanted, out, err)?;
+    Ok(0)
 }
 
 /// Says which part is refused, or missing.
@@ -107,7 +112,7 @@ fn merge_in<R: Files + AllocGlobal, O: Write, E: Write>(
     err: &mut E,
 ) -> Result<u8, Fault> {
     let paths = options.programs.as_slice();
-    let expected = text_in(rt, options.expect)?;
+    let expected = expected_in(rt, options)?;
     match merge_parts(rt, paths, expected.as_ref().map(|text| text.as_str()), out) {
         Ok(()) => Ok(0),
         Err(fault) => tell_part(paths, fault, err),
@@ -121,9 +126,10 @@ pub fn explore_programs<R: Files + AllocGlobal + Threads + Sync, O: Write, E: Wr
     out: &mut O,
     err: &mut E,
 ) -> Result<u8, Fault> {
-    if options.merge {
-        return merge_in(rt, options, out, err);
-    }
-    explore_in(rt, options, out, err)?;
-    Ok(0)
+    let done = if options.merge {
+        merge_in(rt, options, out, err)
+    } else {
+        explore_in(rt, options, out, err)
+    };
+    of_files(rt, options.programs.as_slice(), options.expect, done)
 }

@@ -4,7 +4,7 @@ use crate::fault::of_session;
 use command_line::GdbOptions;
 use faults::Fault;
 use gdb_session::{Keeper, Session, converse};
-use host_files::{DiskLock, FileFault, image_in, keep, replies_in};
+use host_files::{DiskLock, image_in, keep, replies_in};
 use machine_model::Image;
 use simdisk::SimDisk;
 use std::alloc::Global;
@@ -27,7 +27,7 @@ fn keep_locked<R: Files<File = File> + AllocGlobal>(
     rt: &R,
     path: &str,
     disk: &SimDisk,
-) -> Result<(), FileFault> {
+) -> Result<(), Fault> {
     let lock = DiskLock::take(rt, path)?;
     let kept = keep(rt, path, disk);
     lock.release(rt);
@@ -41,7 +41,7 @@ impl<R: Files<File = File> + AllocGlobal> Keeper for DiskFile<'_, R> {
         };
         match keep_locked(self.rt, path, disk) {
             Ok(()) => "the disk is kept",
-            Err(FileFault::DiskInUse) => "another run has the disk's file",
+            Err(fault) if fault.is_in_use() => "another run has the disk's file",
             Err(_) => "the disk cannot be kept in its file",
         }
     }

@@ -6,7 +6,6 @@ mod crash_files;
 mod crash_subject;
 mod debugging;
 mod disks;
-mod exec_fault;
 mod exec_keeping;
 mod exec_outputs;
 mod executables;

@@ -1,16 +1,10 @@
 //! Logs of instructions in files of the host, side by side.
-use commit_logs::{Compared, Difference, compare};
-use exec_files::{LoadFault, PlaceText, Places, load_places};
-use faults::{Fault, write_line};
-use host_files::FileFault;
+use commit_logs::{Compared, Difference, Side, compare};
+use exec_files::{PlaceText, Places, load_places};
+use faults::{Fault, Refusal, at_path};
 use std::fs::OpenOptions;
 use std::io::{self, BufReader, Write};
 use std::rt::Files;
-
-/// The statuses where a program is refused, and where the host does not give its file.
-const REFUSED: u8 = 2;
-
-const NOT_GIVEN: u8 = 6;
 
 /// The files of two logs, and that of the program whose logs they are, if it is named.
 #[derive(Clone, Copy)]
@@ -20,11 +14,21 @@ pub struct LogPaths<'a> {
     pub source: Option<&'a str>,
 }
 
+impl<'a> LogPaths<'a> {
+    /// The path of one of the logs.
+    fn of(self, side: Side) -> &'a str {
+        match side {
+            Side::First => self.first,
+            Side::Second => self.second,
+        }
+    }
+}
+
 /// A log that is read a line at a time, however long it is.
 fn log_in<R: Files + AllocGlobal>(rt: &R, path: &str) -> Result<BufReader<R::File>, Fault> {
     let mut options = OpenOptions::new();
     options.read(true);
-    let file = options.open(rt, path)?;
+    let file = at_path(rt.alloc(), path, options.open(rt, path))?;
     Ok(BufReader::new(rt.alloc(), file)?)
 }
 
@@ -68,12 +72,14 @@ fn diff_logs<R: Files + AllocGlobal, O: Write>(
     places: Option<&Places>,
     out: &mut O,
 ) -> Result<(), Fault> {
-    match compare(
-        rt.alloc(),
-        log_in(rt, paths.first)?,
-        log_in(rt, paths.second)?,
-    )? {
-        Compared::NoLog => Err(Fault::File(FileFault::Log)),
+    let alloc = rt.alloc();
+    let (first, second) = (log_in(rt, paths.first)?, log_in(rt, paths.second)?);
+    let compared = match compare(alloc, first, second) {
+        Ok(compared) => compared,
+        Err((side, error)) => return Err(Fault::from(error).at(alloc, paths.of(side))),
+    };
+    match compared {
+        Compared::NoLog(side) => Err(Fault::from(Refusal::Log).at(alloc, paths.of(side))),
         Compared::Equal(count) => {
             writeln!(out, "equal, {count} instructions")?;
             Ok(())
@@ -87,32 +93,15 @@ fn diff_logs<R: Files + AllocGlobal, O: Write>(
     }
 }
 
-/// Says why a program is not read, and gives the status.
-fn refuse<E: Write>(fault: &LoadFault, err: &mut E) -> Result<u8, Fault> {
-    let (why, status) = match fault {
-        LoadFault::Refused(why) => (why.as_str(), REFUSED),
-        LoadFault::Host(why) => (why.as_str(), NOT_GIVEN),
-        LoadFault::OutOfMemory => return Err(Fault::OutOfMemory),
-    };
-    write_line(err, format_args!("bench: {why}"))?;
-    Ok(status)
-}
-
 /// Prints where the logs in two files differ first, and is refused then; or how many instructions they have. A file no line of which
-/// says an instruction is refused too. Gives the status; a program that is not read has a line on `err`.
-pub fn diff_files<R: Files + AllocGlobal, O: Write, E: Write>(
+/// says an instruction is refused too.
+pub fn diff_files<R: Files + AllocGlobal, O: Write>(
     rt: &R,
     paths: LogPaths<'_>,
     out: &mut O,
-    err: &mut E,
-) -> Result<u8, Fault> {
-    let Some(source) = paths.source else {
-        diff_logs(rt, paths, None, out)?;
-        return Ok(0);
-    };
-    match load_places(rt, source) {
-        Ok(places) => diff_logs(rt, paths, Some(&places), out)?,
-        Err(fault) => return refuse(&fault, err),
+) -> Result<(), Fault> {
+    match paths.source {
+        Some(source) => diff_logs(rt, paths, Some(&load_places(rt, source)?), out),
+        None => diff_logs(rt, paths, None, out),
     }
-    Ok(0)
 }

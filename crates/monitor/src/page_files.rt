@@ -1,9 +1,9 @@
 //! Pages of runs.
-use crate::script_files::script_in;
+use crate::script_files::{of_script, script_in};
 use exec_files::{LoadedProgram, Names, Places};
 use exec_reports::Family;
-use faults::Fault;
-use host_files::{FileFault, source_lines_in};
+use faults::{Fault, Refusal};
+use host_files::{source_lines, source_text};
 use run_page::{PagedScript, write_json, write_page};
 use scripts::Setup;
 use std::io::Write;
@@ -52,18 +52,18 @@ impl Known {
         setup: &mut Setup,
         path: &str,
     ) -> Result<(), Fault> {
+        let alloc = rt.alloc();
+        let source = source_text(rt, path)?;
         let mut is_known = false;
         for (program, place) in setup.programs.iter_mut().zip(self.booted.iter_mut()) {
             let image = program.source.image(rt)?;
-            let lines = match source_lines_in(rt, Some(path), &image) {
-                Ok(Some(lines)) => lines,
-                Ok(None) | Err(FileFault::OtherImage) => continue,
-                Err(fault) => return Err(Fault::from(fault)),
+            let Some(lines) = source_lines(alloc, path, source.as_str(), &image)? else {
+                continue;
             };
             *place = Some(self.programs.len());
             is_known = true;
             let places = Places {
-                path: String::from_str(rt.alloc(), name_in(path))?,
+                path: String::from_str(alloc, name_in(path))?,
                 names: Names::Source(lines),
             };
             self.programs.push(LoadedProgram { image, places })?;
@@ -71,7 +71,7 @@ impl Known {
         if is_known {
             Ok(())
         } else {
-            Err(Fault::from(FileFault::OtherImage))
+            Err(Fault::from(Refusal::OtherImage).at(alloc, path))
         }
     }
 
@@ -93,15 +93,17 @@ pub fn page_file<R: Files + AllocGlobal, O: Write>(
     let mut script = script_in(rt, path)?;
     let mut known = Known::none(rt, &script.setup)?;
     for source in sources {
-        known.read(rt, &mut script.setup, source)?;
+        of_script(rt, path, known.read(rt, &mut script.setup, source))?;
     }
     let paged = PagedScript {
         name: name_in(path),
         script,
         family: known.into_family(rt)?,
     };
-    if json {
-        return write_json(rt, paged, out);
-    }
-    write_page(rt, paged, out)
+    let written = if json {
+        write_json(rt, paged, out)
+    } else {
+        write_page(rt, paged, out)
+    };
+    of_script(rt, path, written)
 }

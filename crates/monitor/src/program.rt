@@ -12,7 +12,6 @@ use crate::script_files::{picture_file, replay_cone_file, replay_file, replay_in
 use clap::Error;
 use clap::error::ErrorKind;
 use command_line::{Arguments, Task, parse};
-use explanations::explain;
 use faults::{Fault, write_line};
 use host_files::{assemble_file, check_file, image_file, list_file, symbols_file};
 use std::fs::File;
@@ -41,15 +40,11 @@ fn perform<
         } => page_file(rt, script, sources.as_slice(), *json, out),
         Task::Explore(options) => return explore_programs(rt, options, out, err),
         Task::Crashes(options) => return try_crashes(rt, options, input, out, err),
-        Task::Assemble { source, image } => assemble_file(rt, source, image, out).map_err(
-            Fault::File,
-        ),
-        Task::Check(path) => check_file(rt, path, out).map_err(Fault::File),
-        Task::Image { linked, image } => image_file(rt, linked, image, out).map_err(Fault::File),
-        Task::Symbols { source, symbols } => symbols_file(rt, source, symbols, out).map_err(
-            Fault::File,
-        ),
-        Task::List(path) => list_file(rt, path, out).map_err(Fault::File),
+        Task::Assemble { source, image } => assemble_file(rt, source, image, out),
+        Task::Check(path) => check_file(rt, path, out),
+        Task::Image { linked, image } => image_file(rt, linked, image, out),
+        Task::Symbols { source, symbols } => symbols_file(rt, source, symbols, out),
+        Task::List(path) => list_file(rt, path, out),
         Task::Debug {
             image,
             trace,
@@ -68,10 +63,10 @@ fn perform<
                 second: *second,
                 source: *source,
             };
-            return diff_files(rt, paths, out, err);
+            diff_files(rt, paths, out)
         }
         Task::Run(options) => return run_images(rt, options, asked.explain, input, out, err),
-        Task::Exec(options) => return Ok(execute(rt, &asked.task, options, input, out, err)),
+        Task::Exec(options) => return Ok(execute(rt, options, input, out, err)),
     };
     done?;
     Ok(0)
@@ -94,31 +89,19 @@ fn run<
     Ok(status)
 }
 
-/// The end of a task. Writes a fault's line, and with `--explain` another line that says why. Gives the exit status.
-fn end_asked<R: Files<File = File> + AllocGlobal, E: Write>(
-    rt: &R,
-    asked: &Arguments<'_>,
-    done: Result<u8, Fault>,
-    err: &mut E,
-) -> u8 {
-    let fault = match done {
-        Ok(status) => return status,
-        Err(fault) => fault,
-    };
-    let status = end(fault, err);
-    if asked.explain {
-        // As with the line before it, the status tells where this one cannot be written.
-        let _ = explain(rt, &asked.task, fault, err);
+/// The end of a task that a fault cut short: writes the fault's line, and with `--explain` another line with the file and the reason. Gives
+/// the fault's status.
+fn end_asked<E: Write>(fault: &Fault, explain: bool, err: &mut E) -> u8 {
+    // Where a line cannot be written either, the status still tells.
+    let _ = write_line(err, format_args!("{fault}"));
+    if explain {
+        let _ = fault.explain(err);
     }
-    status
+    fault.status()
 }
 
-/// The end of a task that a fault cut short: writes the fault's line, and gives the fault's status.
 fn end<E: Write>(fault: Fault, err: &mut E) -> u8 {
-    let status = fault.status();
-    // Where the line cannot be written either, the status still tells.
-    let _ = write_line(err, fault);
-    status
+    end_asked(&fault, false, err)
 }
 
 fn print_help<O: Write>(help: &Error, out: &mut O) -> Result<(), Fault> {
@@ -168,10 +151,10 @@ fn obey<
 >(rt: &R, words: &[String], input: &mut I, out: &mut O, err: &mut E) -> u8 {
     match parse(rt.alloc(), words) {
         Err(error) => end_usage(words, &error, out, err),
-        Ok(asked) => {
-            let done = run(rt, &asked, input, out, err);
-            end_asked(rt, &asked, done, err)
-        }
+        Ok(asked) => match run(rt, &asked, input, out, err) {
+            Ok(status) => status,
+            Err(fault) => end_asked(&fault, asked.explain, err),
+        },
     }
 }
 

@@ -3,9 +3,9 @@ use crate::fault::of_run;
 use command_line::{RunNumbers, RunOptions};
 use durable_disk::HostFile;
 use executor::{Run, Settings};
-use faults::Fault;
+use faults::{Fault, Refusal};
 use kernel::Core;
-use run_files::{boot, keep_disk, print_processes, status_of};
+use run_files::{boot, keep_disk, of_disk, print_processes, status_of};
 use std::fs::File;
 use std::io::{Read, Write};
 use std::rt::Files;
@@ -60,7 +60,7 @@ fn run_to_end<R: Files<File = File> + AllocGlobal + Threads + Wait + Sync, O: Wr
     }
     told?;
     if has_failed {
-        return Err(Fault::DiskFailed);
+        return Err(Fault::from(Refusal::DiskFailed));
     }
     Ok(status)
 }
@@ -88,5 +88,5 @@ pub fn run_images<
     if let Some(lock) = lock {
         lock.release(rt);
     }
-    done
+    of_disk(rt.alloc(), options.disk, done)
 }

@@ -1,15 +1,45 @@
 //! The commands that read a script: `replay` and `picture`. Each script is read whole before anything runs.
-use faults::Fault;
+use faults::{Fault, Role};
+use host_files::text_in;
 use pictured_runs::picture;
 use scripts::{Script, replay, replay_cone};
-use std::io::{Read, Write};
+use std::io::{self, Read, Write};
 use std::rt::Files;
-use std::{fs, io};
+
+/// What came of the script in a file. A fault of the script has the file's path then.
+pub fn of_script<R: AllocGlobal, T: Drop>(
+    rt: &R,
+    path: &str,
+    done: Result<T, Fault>,
+) -> Result<T, Fault> {
+    match done {
+        Ok(done) => Ok(done),
+        Err(fault) => Err(fault.of(rt.alloc(), Role::Script, path)),
+    }
+}
+
+/// What came of programs, or of a script alone, and of what is expected in a file. A fault of the script or of what is expected has the
+/// file's path then.
+pub fn of_files<R: AllocGlobal>(
+    rt: &R,
+    programs: &[&str],
+    expected: Option<&str>,
+    done: Result<u8, Fault>,
+) -> Result<u8, Fault> {
+    let done = match programs {
+        [path] => of_script(rt, path, done),
+        _ => done,
+    };
+    match (done, expected) {
+        (Err(fault), Some(path)) => Err(fault.of(rt.alloc(), Role::Expectations, path)),
+        (done, _) => done,
+    }
+}
 
 /// The script in a file.
 pub fn script_in<R: Files + AllocGlobal>(rt: &R, path: &str) -> Result<Script, Fault> {
-    let text = fs::read_to_string(rt, path)?;
-    Script::parse(rt.alloc(), text.as_str())
+    let text = text_in(rt, path)?;
+    of_script(rt, path, Script::parse(rt.alloc(), text.as_str()))
 }
 
 /// Replays the script on the input.
@@ -28,7 +58,7 @@ pub fn replay_file<R: Files + AllocGlobal, O: Write>(
     path: &str,
     out: &mut O,
 ) -> Result<(), Fault> {
-    replay(rt, script_in(rt, path)?, out)
+    of_script(rt, path, replay(rt, script_in(rt, path)?, out))
 }
 
 /// Replays the script in a file without printing, and prints the cone of the event of this number.
@@ -38,7 +68,8 @@ pub fn replay_cone_file<R: Files + AllocGlobal, O: Write>(
     event: u64,
     out: &mut O,
 ) -> Result<(), Fault> {
-    replay_cone(rt, script_in(rt, path)?, event, out)
+    let script = script_in(rt, path)?;
+    of_script(rt, path, replay_cone(rt, script, event, out))
 }
 
 /// Draws the run of the script in a file, and in it the cone of an event, if a number is given.
@@ -48,5 +79,6 @@ pub fn picture_file<R: Files + AllocGlobal, O: Write>(
     cone: Option<u64>,
     out: &mut O,
 ) -> Result<(), Fault> {
-    picture(rt, script_in(rt, path)?, cone, out)
+    let script = script_in(rt, path)?;
+    of_script(rt, path, picture(rt, script, cone, out))
 }

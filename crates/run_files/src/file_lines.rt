@@ -12,6 +12,8 @@ pub fn list_files<R: Files + AllocGlobal, O: Write>(
     out: &mut O,
 ) -> Result<(), Fault> {
     let device = disk_in(rt, path)?;
-    let files = journal::recover(rt.alloc(), &device)?;
-    Ok(write_files(files.list(), out)?)
+    match journal::recover(rt.alloc(), &device) {
+        Ok(files) => Ok(write_files(files.list(), out)?),
+        Err(fault) => Err(Fault::from(fault).at(rt.alloc(), path)),
+    }
 }

@@ -10,4 +10,4 @@ mod setup;
 pub use exit_status::status_of;
 pub use file_lines::list_files;
 pub use process_lines::print_processes;
-pub use setup::{Setup, boot, boot_live, boot_on, keep_disk, tapes_in};
+pub use setup::{Setup, boot, boot_live, boot_on, keep_disk, of_disk, tapes_in};

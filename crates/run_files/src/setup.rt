@@ -7,10 +7,8 @@ ghost use Rattle.kernel_model.specs.World.{most_programs, tape_count, terminal_c
 use byte_list::Bytes;
 use command_line::{LiveOptions, RunOptions};
 use durable_disk::HostFile;
-use faults::Fault;
-use host_files::{
-    DiskLock, FileFault, disk_or_zeros, image_in, keep, open_durable, test_place, zeros,
-};
+use faults::{Fault, Refusal, Role, Why, at_path};
+use host_files::{DiskLock, disk_or_zeros, image_in, keep, open_durable, test_place, zeros};
 use input_reading::{MOST_TAPE_BYTES, bytes_in};
 use kernel::{Core, Program, SimDisk};
 use machine_model::Image;
@@ -29,25 +27,31 @@ fn tape_bytes<I: Read>(alloc: Global, input: &mut I) -> io::Result<Vec<u8>> {
     Ok(bytes)
 }
 
-/// A tape of these bytes. InputOutput where there are more bytes than a tape may have.
-fn tape_of(bytes: Vec<u8>) -> Result<Bytes, Fault> {
+/// A tape of the bytes that were read of a file. InputOutput where there are more than a tape may have.
+fn tape_of(alloc: Global, path: &str, read: io::Result<Vec<u8>>) -> Result<Bytes, Fault> {
+    let bytes = at_path(alloc, path, read)?;
     if bytes.len() > MOST_TAPE_BYTES {
-        return Err(Fault::InputOutput);
+        let why = Why::Text("a tape has at most 65536 bytes, and this file has more");
+        return Err(Fault::new(Refusal::InputOutput, Some(why)).at(alloc, path));
     }
     Ok(Bytes::new(bytes))
 }
 
-/// The tape in a file; by `-` what is left of the input. InputOutput where there is more than a tape may have.
+/// The tape in a file.
+fn tape_at<R: Files + AllocGlobal>(rt: &R, path: &str) -> Result<Bytes, Fault> {
+    tape_of(rt.alloc(), path, bytes_in(rt, path, MOST_TAPE_BYTES))
+}
+
+/// The tape in a file; by `-` what is left of the input.
 fn tape_in<R: Files + AllocGlobal, I: Read>(
     rt: &R,
     path: &str,
     input: &mut I,
 ) -> Result<Bytes, Fault> {
-    let bytes = match path {
-        "-" => tape_bytes(rt.alloc(), input)?,
-        path => bytes_in(rt, path, MOST_TAPE_BYTES)?,
-    };
-    tape_of(bytes)
+    match path {
+        "-" => tape_of(rt.alloc(), "standard input", tape_bytes(rt.alloc(), input)),
+        path => tape_at(rt, path),
+    }
 }
 
 /// The tapes of a run, in order; one without a file is empty.
@@ -121,12 +125,12 @@ fn test_disk<R: Files + AllocGlobal>(rt: &R, path: &str) -> Result<(), Fault> {
 }
 
 /// Why a disk is refused whose file cannot be locked: the disk's own first fault, if it has one.
-fn refusal_at<R: Files + AllocGlobal>(rt: &R, path: &str, fault: FileFault) -> Fault {
-    if matches!(fault, FileFault::DiskInUse) {
-        return Fault::from(fault);
+fn refusal_at<R: Files + AllocGlobal>(rt: &R, path: &str, fault: Fault) -> Fault {
+    if fault.is_in_use() {
+        return fault;
     }
     match test_disk(rt, path) {
-        Ok(()) => Fault::from(fault),
+        Ok(()) => fault,
         Err(first) => first,
     }
 }
@@ -146,13 +150,15 @@ fn setup_at<R: Files<File = File> + AllocGlobal>(
 {
     let lock = match DiskLock::take(rt, path) {
         Ok(lock) => lock,
-        Err(fault) => return Err(refusal_at(rt, path, fault)),
+        Err(fault) => {
+            return Err(refusal_at(rt, path, fault).of(rt.alloc(), Role::Disk, path));
+        }
     };
     match core_at(rt, path, is_durable, programs, tapes) {
         Ok((core, file)) => Ok((core, Some(lock), file)),
         Err(fault) => {
             lock.release(rt);
-            Err(fault)
+            Err(fault.of(rt.alloc(), Role::Disk, path))
         }
     }
 }
@@ -207,10 +213,7 @@ fn session_tapes<R: Files + AllocGlobal>(rt: &R, path: Option<&str>) -> Result<V
 {
     let alloc = rt.alloc();
     match path {
-        Some(path) => {
-            let tape = tape_of(bytes_in(rt, path, MOST_TAPE_BYTES)?)?;
-            Ok(vec![in alloc; tape]?)
-        }
+        Some(path) => Ok(vec![in alloc; tape_at(rt, path)?]?),
         None => Ok(Vec::new(alloc)),
     }
 }
@@ -224,6 +227,18 @@ fn images_of(alloc: Global, programs: &[Program]) -> Result<Vec<Image>, Fault> {
     Ok(images)
 }
 
+/// What came of a disk. A fault of the disk has the path of its file then, if there is one.
+pub fn of_disk<T: Drop>(
+    alloc: Global,
+    path: Option<&str>,
+    done: Result<T, Fault>,
+) -> Result<T, Fault> {
+    match (done, path) {
+        (Err(fault), Some(path)) => Err(fault.of(alloc, Role::Disk, path)),
+        (done, _) => done,
+    }
+}
+
 /// Boots the core of a session with the debugger, and gives the images too. Reads all as `boot` does, and writes nothing.
 pub fn boot_live<R: Files + AllocGlobal>(
     rt: &R,
@@ -233,8 +248,8 @@ pub fn boot_live<R: Files + AllocGlobal>(
     let programs = programs_in(rt, options.images.as_slice())?;
     let images = images_of(rt.alloc(), programs.as_slice())?;
     let device = device_in(rt, options.disk)?;
-    let core = Core::boot(rt.alloc(), device, programs, tapes).map_err(boot_fault)?;
-    Ok((core, images))
+    let booted = Core::boot(rt.alloc(), device, programs, tapes).map_err(boot_fault);
+    Ok((of_disk(rt.alloc(), options.disk, booted)?, images))
 }
 
 /// Halts the core, and keeps the disk that it leaves, if it is to be kept.

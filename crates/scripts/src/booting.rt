@@ -7,10 +7,9 @@ ghost use Rattle.kernel_model.specs.World.{terminal_count, tape_count};
 use crate::disk_with::disk_with;
 use crate::setup::{ScriptProgram, ScriptTape, Setup, Source, tape_numbered};
 use byte_list::Bytes;
-use faults::Fault;
+use faults::{Fault, Refusal, Why};
 use files::FileList;
-use host_files::FileFault;
-use input_reading::image_file_in;
+use host_files::{image_bytes_in, image_of_bytes, image_of_file};
 use kernel::{BootFault, Core, Program, SimDisk};
 use kernel_model::{MOST_PROGRAMS, TAPES};
 use machine_model::Image;
@@ -19,16 +18,16 @@ use std::rt::Files;
 
 impl Source {
     /// The program's image. A file that holds it is read once.
-    pub fn image<R: Files + AllocGlobal>(&mut self, rt: &R) -> Result<Image, FileFault> {
+    pub fn image<R: Files + AllocGlobal>(&mut self, rt: &R) -> Result<Image, Fault> {
         match self {
             Source::Words(words) => Ok(Image::from_text(rt.alloc(), words.as_slice())?),
             Source::Path(path) => {
-                let file = image_file_in(rt, path.as_str())?;
-                let image = elf32::parse(rt.alloc(), file.as_slice())?;
+                let file = image_bytes_in(rt, path.as_str())?;
+                let image = image_of_file(rt.alloc(), path.as_str(), file.as_slice())?;
                 *self = Source::File(file);
                 Ok(image)
             }
-            Source::File(file) => Ok(elf32::parse(rt.alloc(), file.as_slice())?),
+            Source::File(file) => image_of_bytes(rt.alloc(), file.as_slice()),
         }
     }
 }
@@ -80,7 +79,7 @@ fn tapes_of(alloc: Global, tapes: &[ScriptTape]) -> Result<Vec<Bytes>, AllocErro
 }
 
 /// The disk that a crash left, or else one that holds these files.
-fn disk_of(alloc: Global, left: Option<SimDisk>, files: &FileList) -> Result<SimDisk, FileFault>
+fn disk_of(alloc: Global, left: Option<SimDisk>, files: &FileList) -> Result<SimDisk, Fault>
     requires { IfSome left (λ device. is_quiet device ≡ true) }
     ensures { IfOk result (λ device. is_quiet device ≡ true) }
 {
@@ -98,6 +97,14 @@ pub fn boot_fault(fault: BootFault) -> Fault {
     }
 }
 
+/// Why a script that sets up no program, or more than may be, is refused.
+pub fn no_program() -> Fault {
+    Fault::new(
+        Refusal::Script { line: 1 },
+        Some(Why::Text("it sets up no program")),
+    )
+}
+
 impl Setup {
     /// Boots what a script sets up, on the disk that a crash left, or on one with the files that it sets up. A script that sets up no program is refused
     /// at line 1; one that was read sets up no more than eight.
@@ -110,7 +117,7 @@ impl Setup {
     {
         let programs = programs_of(rt, self.programs.as_mut_slice())?;
         if programs.is_empty() || programs.len() > MOST_PROGRAMS {
-            return Err(Fault::Script { line: 1 });
+            return Err(no_program());
         }
         let device = disk_of(rt.alloc(), left, &self.files)?;
         let tapes = tapes_of(rt.alloc(), self.tapes.as_slice())?;

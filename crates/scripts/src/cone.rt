@@ -5,7 +5,7 @@ use crate::script::Script;
 use crate::start::Start;
 use crate::steps::{Step, process_of};
 use crate::texts::EventText;
-use faults::Fault;
+use faults::{Fault, Refusal};
 use kernel::{ConeFault, Core, Event};
 use kernel_model::TERMINALS;
 use machine_model::Reply;
@@ -14,12 +14,12 @@ use std::io;
 use std::io::Write;
 use std::rt::Files;
 
-/// The numbers of the events in the cone of event number `event`, in order. `Fault::Event`: there is no such event, or it is a Cut,
+/// The numbers of the events in the cone of event number `event`, in order. `Refusal::Event`: there is no such event, or it is a Cut,
 /// a Complete or a Fail.
 pub fn cone_numbers(core: &Core, event: u64) -> Result<Vec<u64>, Fault> {
     match core.cone(event) {
         Ok(numbers) => Ok(numbers),
-        Err(ConeFault::NoEvent) => Err(Fault::Event { event }),
+        Err(ConeFault::NoEvent) => Err(Fault::from(Refusal::Event { event })),
         Err(ConeFault::OutOfMemory) => Err(Fault::OutOfMemory),
     }
 }
@@ -167,7 +167,7 @@ fn cone_of<R: Files + AllocGlobal>(
 ///   terminal; `ended S`, where its process ended by it. This is the difference between the run of the cone and the same run
 ///   without the event, each with all its changes committed.
 ///
-/// `Fault::Event`: there is no such event, or it is a Cut, a Complete or a Fail.
+/// `Refusal::Event`: there is no such event, or it is a Cut, a Complete or a Fail.
 pub fn replay_cone<R: Files + AllocGlobal, O: Write>(
     rt: &R,
     mut script: Script,

@@ -3,8 +3,9 @@ ghost use Rattle.std.specs.Prelude.{◌≡◌, true, IfOk};
 ghost use Rattle.disk_model.specs.Storage.{is_quiet};
 
 use disk_model::LONGEST_FILE_WRITE;
+use faults::{Fault, Refusal};
 use files::FileList;
-use host_files::{FileFault, zeros};
+use host_files::zeros;
 use journal::first_gate;
 use simdisk::{DiskRefusal, SimDisk};
 use std::alloc::{AllocError, Global};
@@ -78,7 +79,7 @@ fn write_record(device: &mut SimDisk, body: &[u8]) -> Result<(), DiskRefusal> {
 
 /// A disk that holds these files, in one record. They are files that a disk may hold: else a boot on it is refused. OutOfMemory is the
 /// only fault of such files.
-pub fn disk_with(alloc: Global, files: &FileList) -> Result<SimDisk, FileFault>
+pub fn disk_with(alloc: Global, files: &FileList) -> Result<SimDisk, Fault>
     ensures { IfOk result (λ device. is_quiet device ≡ true) }
 {
     let mut device = zeros(alloc)?;
@@ -89,6 +90,6 @@ pub fn disk_with(alloc: Global, files: &FileList) -> Result<SimDisk, FileFault>
     if device.quiet() {
         Ok(device)
     } else {
-        Err(FileFault::InputOutput)
+        Err(Fault::from(Refusal::InputOutput))
     }
 }

@@ -20,7 +20,7 @@ mod steps;
 mod texts;
 mod words;
 
-pub use booting::boot_fault;
+pub use booting::{boot_fault, no_program};
 pub use cone::{cone_events, cone_numbers, replay_cone};
 pub use file_lines::write_files;
 pub use playing::{LineAnswer, Visitor, play_all};

@@ -1,7 +1,7 @@
 //! A script, read whole: its set-up lines first, and then its steps.
 use crate::setup::{Setup, SetupLine};
 use crate::steps::{Step, is_step_name, step_of};
-use faults::Fault;
+use faults::{Fault, Refusal, Why};
 use std::alloc::{AllocError, Global};
 
 /// Whether a line adds nothing to a script: it is empty, or a comment.
@@ -33,6 +33,12 @@ impl Drop for Script {
             steps: _steps,
         } = self;
     }
+}
+
+/// The fault of a line that has no form, or may not stand where it stands.
+fn line_fault(alloc: Global, line: usize, text: &str) -> Fault {
+    let why = Why::line(alloc, line, text, "has no form, or may not stand there");
+    Fault::new(Refusal::Script { line }, why)
 }
 
 impl Script {
@@ -74,7 +80,7 @@ impl Script {
         for text in text.split('\n') {
             line = line.saturating_add(1);
             if !self.read(alloc, text)? {
-                return Err(Fault::Script { line });
+                return Err(line_fault(alloc, line, text));
             }
         }
         Ok(())

@@ -135,7 +135,7 @@ fn file_header(alloc: Global, file: &[u8]) -> Result<String, AllocError> {
             "{fault}; of what a linker wrote bench image makes an image first"
         ),
         Some(fault) => format!(in alloc; "{fault}"),
-        None => String::from_str(alloc, "its header is another than it was"),
+        None => String::from_str(alloc, "its header is faulty"),
     }
 }
 
@@ -272,14 +272,15 @@ pub fn image_reason(
     path: &str,
     file: &[u8],
     fault: ElfFault,
-) -> Result<Option<String>, AllocError> {
-    let said = match fault {
-        ElfFault::Short | ElfFault::BadMagic => beginning(alloc, path, file)?,
-        ElfFault::BadIdent | ElfFault::BadKind | ElfFault::BadHeader => file_header(alloc, file)?,
-        ElfFault::ShortTable => short_table(alloc, file)?,
-        ElfFault::BadEntry => entry(alloc, file)?,
-        ElfFault::OutOfMemory => return Ok(None),
-        fault => return table(alloc, file, fault),
-    };
-    Ok(Some(said))
+) -> Result<String, AllocError> {
+    match fault {
+        ElfFault::Short | ElfFault::BadMagic => beginning(alloc, path, file),
+        ElfFault::BadIdent | ElfFault::BadKind | ElfFault::BadHeader => file_header(alloc, file),
+        ElfFault::ShortTable => short_table(alloc, file),
+        ElfFault::BadEntry => entry(alloc, file),
+        fault => match table(alloc, file, fault)? {
+            Some(said) => Ok(said),
+            None => format!(in alloc; "{fault}"),
+        },
+    }
 }

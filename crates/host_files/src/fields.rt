@@ -1,18 +1,9 @@
 //! The fields of an image's headers, each with what is wanted of it.
 use std::fmt;
 
-/// A field that has to lie in a range, whatever the others are: its name, where it begins in its header, how many bytes it has (1, 2
-/// or 4), the least and the most that it may be, and what the wanted number stands for, which is empty where it is a number alone.
-type Field = (&'static str, usize, usize, u32, u32, &'static str);
-
-/// What `e_phoff` stands for.
-const AT_ONCE: &str = "program headers directly after the header";
-
-/// What `e_flags` stands for.
-const NO_FLAGS: &str = "no compressed instructions and no floating point";
-
-/// What `p_flags` stands for.
-const RIGHTS: &str = "rights to execute, write and read as 1, 2 and 4";
+/// A field that has to lie in a range, whatever the others are: its name, where it begins in its header, how many bytes it has, the least
+/// and the greatest value, and what the wanted number stands for, which is empty where it is a number alone.
+pub type Field = (&'static str, usize, usize, u32, u32, &'static str);
 
 /// The fields of a file header, in the order in which they are tested.
 pub static FILE_HEADER: [Field; 24] = [
@@ -31,12 +22,26 @@ pub static FILE_HEADER: [Field; 24] = [
     ("e_type", 16, 2, 2, 2, "an executable file"),
     ("e_machine", 18, 2, 243, 243, "RISC-V"),
     ("e_version", 20, 4, 1, 1, ""),
-    ("e_phoff", 28, 4, 52, 52, AT_ONCE),
+    (
+        "e_phoff",
+        28,
+        4,
+        52,
+        52,
+        "program headers directly after the header",
+    ),
     ("e_ehsize", 40, 2, 52, 52, ""),
     ("e_phentsize", 42, 2, 32, 32, ""),
     ("e_phnum", 44, 2, 1, 4, "program headers"),
     ("e_shoff", 32, 4, 0, 0, "no sections"),
-    ("e_flags", 36, 4, 0, 0, NO_FLAGS),
+    (
+        "e_flags",
+        36,
+        4,
+        0,
+        0,
+        "no compressed instructions and no floating point",
+    ),
     ("e_shentsize", 46, 2, 0, 0, "no sections"),
     ("e_shnum", 48, 2, 0, 0, "no sections"),
     ("e_shstrndx", 50, 2, 0, 0, "no sections"),
@@ -46,7 +51,14 @@ pub static FILE_HEADER: [Field; 24] = [
 pub static PROGRAM_HEADER: [Field; 4] = [
     ("p_type", 0, 4, 1, 1, "a segment that is loaded"),
     ("p_align", 28, 4, 4096, 4096, "a page"),
-    ("p_flags", 24, 4, 1, 7, RIGHTS),
+    (
+        "p_flags",
+        24,
+        4,
+        1,
+        7,
+        "rights to execute, write and read as 1, 2 and 4",
+    ),
     ("p_memsz", 20, 4, 1, u32::MAX, ""),
 ];
 
@@ -72,10 +84,8 @@ pub fn faulty_field(fields: &[Field], header: &[u8]) -> Option<FaultyField> {
         let (_, at, size, least, most, _) = *field;
         let value = value_at(header, at, size)?;
         if value < least || value > most {
-            return Some(FaultyField {
-                field: *field,
-                value,
-            });
+            let field = *field;
+            return Some(FaultyField { field, value });
         }
     }
     None
