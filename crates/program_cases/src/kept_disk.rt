@@ -110,11 +110,11 @@ fn check_durable_link<R: Files<File = File> + AllocGlobal + Threads + Wait + Syn
 
 /// The lines where no file is to blame.
 const NO_FILE: &str = "bench: input or output failed
-bench: standard input could not be read as text, standard output not be written, or a file system is full
+bench: standard input could not be read as text, or standard output not be written
 ";
 
-/// A session writes no disk. So where its output fails, and the reason is looked for, the file beside the disk stays as it is: another
-/// run may be writing it.
+/// A session writes no disk. So where its output fails, and the reason is told, the file beside the disk stays as it is: another run may
+/// be writing it.
 fn check_session<R: Files<File = File> + AllocGlobal + Threads + Wait + Sync>(
     rt: &R,
 ) -> Result<(), Error> {
