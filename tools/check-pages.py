@@ -4,7 +4,7 @@
     check-pages [--comments] [FILE..]
 
 A page is README.md, CHANGES.md or a file docs/*.md. Of each it finds links to files that are not there, links to anchors that no
-heading has, and sentences of more than 35 words. Of the pages that show the commands it also finds blocks ```text that no case of
+heading has, pictures .svg that no case prints, and sentences of more than 35 words. Of the pages that show the commands it also finds blocks ```text that no case of
 crates/test_runner/data/*.sessions has, and no example: what is shown there is what the merge gate compares. A form, with words that stand
 for others, is in a plain block. A block that begins with `$ ./bench` shows commands, each with all that it prints and says. Of the map in docs/ARCHITECTURE.md it finds rows that are not by crates.txt: another group, or another
 list of direct dependencies. Of README.md and docs/DEFINITIONS.md it finds wrong numbers of lines of definitions. It finds a VERSION that the program does not print. With --comments it also
@@ -319,6 +319,8 @@ class Pages:
             return f"a link through a symbolic link, which GitHub does not follow, {target}"
         if anchor and not self.has_anchor(path, anchor):
             return f"a link to an anchor that is not there, {target}"
+        if path.endswith(".svg") and not is_in_cases([line for _, line in numbered_lines(path)[:-1]], content_of(CASES)):
+            return f"a picture that no case prints, {target}"
         return None
 
     def findings(self, page):
