@@ -4,14 +4,19 @@
     random-orders.py [RUNS] [SEED] [JOBS]
 
 A program (500 where no number is given) makes a pipe, forks one or two children, or none beside a second program, and each process then
-makes a few calls: on two files, the pipe, the terminal and its children. Each interleaving of their calls is a script that `bench
-replay` runs. A call that waits is passed over there, and tried again at the end, until no process goes on: so each order in which
-the calls may come is among them. What the terminals show, how the processes ended or that they wait, and the files with their lengths
-are the outcomes. `bench explore` has to print just these.
+makes a few calls: on two files, which may be there before, the pipe, the terminal and its children. Each interleaving of their calls is
+a script that `bench replay` runs. A call that waits is passed over there, and tried again at the end, until no process goes on: so each
+order in which the calls may come is among them. What the terminals show, with which statuses the processes ended or that they wait, and
+the files with their bytes are the outcomes. `bench explore` has to print just these, each with the fewest calls that lead to it.
+
+A status is that which `replay --cone` tells of the event by which a process ended; it is asked once for each trace of a process. The
+bytes are what one more program writes after a crash that follows the order. It ends at once where its tape is empty, as it is for
+`explore`.
 
 BENCH names the program, or else it is ./bench of this repository. The last line says how many programs, orders and outcomes were
 compared. At the first difference the script is printed, with what came of it, and the status is 1."""
 import concurrent.futures
+import hashlib
 import itertools
 import os
 import random
@@ -21,7 +26,7 @@ import tempfile
 
 sys.dont_write_bytecode = True
 sys.path.insert(0, os.path.dirname(os.path.realpath(__file__)))
-from cone_model.machine import A0, A1, A2, A7, ECALL, S0, TEXT, branch, jump, li, load, move
+from cone_model.machine import A0, A1, A2, A7, EBREAK, ECALL, S0, S1, TEXT, branch, jump, li, load, move
 
 TOP = os.path.realpath(f"{os.path.dirname(os.path.realpath(__file__))}/..")
 BENCH = os.environ.get("BENCH", f"{TOP}/bench")
@@ -30,6 +35,8 @@ T0 = 5
 EXIT, WRITE, READ, OPEN, CLOSE, PIPE, FORK, WAIT, GETPID, UNLINK, RENAME = 1, 2, 3, 4, 5, 6, 7, 8, 9, 12, 13
 NAMES, LIMIT, MOST_ORDERS = (b"f", b"g"), 1000, 3000
 DATA = b"fgxyz"
+# Terminals, and that of the program that writes what the files hold. How many calls it makes then, and where its tape is empty.
+TERMINALS, READER, READER_CALLS, READER_ENDS = 8, 7, 8, 2
 
 
 # Programs: words, made of calls. Data stand at the front, behind a jump.
@@ -78,7 +85,13 @@ def body_of(rng, most, has_pipe, is_parent):
     while count < most:
         step, calls = random_call(rng, has_pipe, is_parent)
         words, count = words + step, count + calls
-    return words + call(EXIT, rng.randrange(3)), count + 1
+    return words + rng.choice((call(EXIT, rng.randrange(3)), call(EXIT, [A0]), EBREAK)), count + 1
+
+
+def with_data(words):
+    data = DATA + bytes(-len(DATA) % 4)
+    pool = [int.from_bytes(data[k:k + 4], "little") for k in range(0, len(data), 4)]
+    return jump(4 * len(pool) + 4) + pool + words
 
 
 def program_of(rng, children, most):
@@ -100,9 +113,7 @@ def program_of(rng, children, most):
         words += branch(0, A0, 4 * (places[k + 1] - len(words)))
     for body, _ in bodies:
         words += body
-    data = DATA + bytes(-len(DATA) % 4)
-    pool = [int.from_bytes(data[k:k + 4], "little") for k in range(0, len(data), 4)]
-    return jump(4 * len(pool) + 4) + pool + words, [before + bodies[0][1], *(count for _, count in bodies[1:])]
+    return with_data(words), [before + bodies[0][1], *(count for _, count in bodies[1:])]
 
 
 def random_programs(rng):
@@ -112,6 +123,20 @@ def random_programs(rng):
         return [words], counts
     programs = [program_of(rng, 0, 4) for _ in range(rng.randint(2, 3))]
     return [words for words, _ in programs], [counts[0] for _, counts in programs]
+
+
+def random_files(rng):
+    """Returns lines for the files that are there before."""
+    return [f"file {name.decode()} {rng.randbytes(rng.randint(1, 3)).hex()}" for name in NAMES if rng.random() < 0.5]
+
+
+def reader_words():
+    """Returns the words of the program that writes what the files hold, or ends at once where its tape is empty."""
+    words = []
+    for name in NAMES:
+        words += call(OPEN, address_of(name), 1, 0) + move(S0, A0) + call(READ, [S0], BUFFER, 1024)
+        words += move(S1, A0) + call(WRITE, 1, BUFFER, [S1])
+    return with_data(call(READ, 0, BUFFER, 1) + branch(0, A0, 4 * len(words) + 4) + words + call(EXIT, 0))
 
 
 # Orders
@@ -135,58 +160,96 @@ def orders_of(counts):
     return number, go(tuple(counts))
 
 
-def setup_of(programs):
-    return [f"program {k} " + " ".join(f"{word:08x}" for word in words) for k, words in enumerate(programs)]
+class Orders:
+    """Programs, and the orders of their calls. The program that writes what the files hold is the last."""
+
+    def __init__(self, programs, counts, files, folder):
+        self.folder, self.reader = folder, len(programs) + 1
+        self.pids = [pid for pid in range(1, len(counts) + 2) if pid != self.reader]
+        self.setup = [f"program {k} " + " ".join(f"{word:08x}" for word in words) for k, words in enumerate(programs)]
+        self.setup.append(f"program {READER} " + " ".join(f"{word:08x}" for word in reader_words()))
+        self.setup += files
+        self.statuses = {}
+
+    def bench(self, words, lines):
+        """Runs a command on a script of these lines."""
+        path = f"{self.folder}/script"
+        with open(path, "w") as file:
+            file.write("\n".join([*self.setup, *lines]) + "\n")
+        return subprocess.run([BENCH, *words, path], capture_output=True, text=True)
+
+    def printed(self, words, lines):
+        ran = self.bench(words, lines)
+        ran.check_returncode()
+        return ran.stdout.splitlines()
+
+    def status(self, pid, trace, event, lines):
+        """Returns the status with which a process ended by an event."""
+        if (pid, trace) not in self.statuses:
+            last = self.printed(["replay", "--cone", str(event)], lines)[-1]
+            self.statuses[pid, trace] = last.removeprefix("ended ")
+        return self.statuses[pid, trace]
+
+    def replayed(self, order):
+        """Returns the outcome of an order, and how many calls it has."""
+        pids = [self.pids[place - 1] for place in order]
+        turns = [f"turn {pid} {LIMIT}" for pid in self.pids]
+        run = [*turns]
+        for pid in (*pids, *self.pids * len(order)):
+            run += [f"enter {pid}", *turns]
+        ask = ["drain", *(f"shown {it}" for it in range(TERMINALS)), *(f"trace {pid}" for pid in self.pids)]
+        look = ["crash -", "files", *[f"turn {self.reader} {LIMIT}", f"enter {self.reader}"] * READER_CALLS, f"shown {READER}"]
+        tape = f"tape {self.reader - 1} 00"
+        said = self.printed(["replay"], [tape, *run, *ask, *look])
+        answers, shown, rest = said[:len(run)], said[len(run) + 1:len(run) + 1 + TERMINALS], said[len(run) + 1 + TERMINALS:]
+        # Refused events have no number.
+        ended, event, calls = {}, 0, 0
+        for line, answer in zip(run, answers):
+            event += not answer.startswith("refused")
+            calls += answer in ("entered", "ended")
+            if answer == "ended":
+                ended[int(line.split(" ")[1])] = event
+        ends = []
+        for pid in self.pids:
+            length = int(rest[0].split(" ")[2]) + 1
+            trace, rest = tuple(rest[:length]), rest[length:]
+            ends.append(f"{pid}:" + (self.status(pid, trace, ended[pid], [tape, *run]) if pid in ended else "waits"))
+        return (tuple(ends), tuple(shown), files_of(rest)), calls
+
+    def explored(self):
+        """Returns the outcomes that `bench explore` prints, each with how many calls it has."""
+        ran = self.bench(["explore"], [])
+        if ran.returncode:
+            raise AssertionError(f"status {ran.returncode}: {ran.stderr}")
+        found = {}
+        for line in ran.stdout.splitlines()[:-1]:
+            words = line.split(" ")
+            ends, shown, files = (words.index(it) for it in ("ends", "shown", "files"))
+            texts = dict(it.split(":") for it in words[shown + 1:files] if it != "-")
+            if f"{self.reader}:0" not in words[ends:shown]:
+                raise AssertionError(line)
+            outcome = (
+                tuple(it.split("-")[0] for it in words[ends + 1:shown] if not it.startswith(f"{self.reader}:")),
+                tuple(f"shown {it} {texts.get(str(it), '-')}" for it in range(TERMINALS)),
+                tuple(it for it in words[files + 1:] if it != "-"),
+            )
+            calls = int(words[3]) - READER_ENDS
+            found[outcome] = min(calls, found.get(outcome, calls))
+        return found
 
 
-def outcome_of(said, processes):
-    """Returns the outcome that the lines of a replay tell."""
-    lines = said.splitlines()
-    shown = tuple(line for line in lines if line.startswith("shown "))
-    files = tuple(lines[lines.index("crashed") + 2:])
-    drained = next(k for k, line in enumerate(lines) if line.startswith("drained"))
-    ends = tuple("waits" if line == "waits" else "ended" for line in lines[drained - processes:drained])
-    return shown, files, ends
-
-
-def replayed(setup, order, processes, folder):
-    """Returns the outcome of an order."""
-    lines = list(setup)
-    everybody = range(1, processes + 1)
-    lines += [f"turn {pid} {LIMIT}" for pid in everybody]
-    for pid in (*order, *itertools.chain.from_iterable([everybody] * len(order))):
-        lines += [f"enter {pid}"] + [f"turn {each} {LIMIT}" for each in everybody]
-    lines += [f"enter {pid}" for pid in everybody]
-    lines += ["drain"] + [f"shown {terminal}" for terminal in range(8)] + ["crash -", "files"]
-    path = f"{folder}/order.script"
-    with open(path, "w") as file:
-        file.write("\n".join(lines) + "\n")
-    ran = subprocess.run([BENCH, "replay", path], capture_output=True, text=True, check=True)
-    return outcome_of(ran.stdout, processes)
-
-
-def explored(setup, processes, folder):
-    """Returns the outcomes that `bench explore` prints."""
-    path = f"{folder}/explored.script"
-    with open(path, "w") as file:
-        file.write("\n".join(setup) + "\n")
-    ran = subprocess.run([BENCH, "explore", path], capture_output=True, text=True)
-    if ran.returncode:
-        raise AssertionError(f"status {ran.returncode}: {ran.stderr}")
-    found = []
-    for line in ran.stdout.splitlines():
-        if not line.startswith("outcome "):
-            continue
-        words = line.split(" ")
-        ends = words[words.index("ends") + 1:words.index("shown")]
-        texts = dict(word.split(":") for word in words[words.index("shown") + 1:words.index("files")] if word != "-")
-        files = [word.rsplit(":", 2) for word in words[words.index("files") + 1:] if word != "-"]
-        found.append((
-            tuple(f"shown {terminal} {texts.get(str(terminal), '-')}" for terminal in range(8)),
-            tuple(f"{name} {length}" for name, length, _ in files),
-            tuple("waits" if "waits" in end else "ended" for end in ends),
-        ))
-    return set(found)
+def files_of(said):
+    """Returns the files after a crash, with their digests, as `explore` prints them."""
+    count = int(said[1].split(" ")[1])
+    lengths = dict(line.split(" ") for line in said[2:2 + count])
+    written = bytes.fromhex(said[-1].split(" ")[2].replace("-", ""))
+    digests = {}
+    for name in (it.decode() for it in NAMES):
+        length = int(lengths.get(name, 0))
+        digests[name], written = hashlib.sha256(written[:length]).hexdigest()[:16], written[length:]
+    if written:
+        raise AssertionError(said)
+    return tuple(f"{name}:{length}:{digests[name]}" for name, length in lengths.items())
 
 
 def compare(seed):
@@ -197,13 +260,16 @@ def compare(seed):
         number, orders = orders_of(counts)
         if number <= MOST_ORDERS:
             break
-    setup, processes = setup_of(programs), len(counts)
     with tempfile.TemporaryDirectory(dir="/dev/shm" if os.path.isdir("/dev/shm") else None) as folder:
-        wanted = {replayed(setup, order, processes, folder) for order in orders}
-        found = explored(setup, processes, folder)
+        it, wanted = Orders(programs, counts, random_files(rng), folder), {}
+        for outcome, calls in map(it.replayed, orders):
+            wanted[outcome] = min(calls, wanted.get(outcome, calls))
+        found = it.explored()
     if wanted == found:
         return number, len(found), None
-    return number, len(found), "\n".join([f"seed {seed}", *setup, f"only by replay: {wanted - found}", f"only by explore: {found - wanted}"])
+    apart = [f"{who}: {outcome} {calls}" for who, these, others in (("replay", wanted, found), ("explore", found, wanted))
+             for outcome, calls in these.items() if others.get(outcome) != calls]
+    return number, len(found), "\n".join([f"seed {seed}", *it.setup, *apart])
 
 
 def main():
