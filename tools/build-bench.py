@@ -1,9 +1,9 @@
 #!/usr/bin/env python3
 """Proves the crates below the program `bench`, builds the program, and becomes it, with the words given.
 
-`rt ci` proves them, in a copy that has no must-fail edits. It keeps each crate that it has proved beside the toolchain, for this
-user of this machine. So the merge gate takes what was proved here, and the other way round, and a run that is interrupted loses only
-the crates that were just being proved.
+`rt ci` proves them, in a copy that has no must-fail edits. That of some kits keeps each crate that it has proved beside the toolchain,
+for this user of this machine. Then the merge gate takes what was proved here, and the other way round, and a run that is interrupted
+loses only the crates that were just being proved. That of others keeps nothing, which is said at the beginning.
 
 BENCH_JOBS says how many processors are used: all of them if it is not set, or fewer where memory is short."""
 import fcntl
@@ -25,6 +25,8 @@ from crate_copies import TOP, copy_crates, crates_below
 PROGRAM = "bench"
 INTERRUPTS = (signal.SIGINT, signal.SIGTERM, signal.SIGHUP)
 PROVED = re.compile(r"rt: (\w+) proved")
+# The folder, beside the toolchain's, in which `rt` keeps what is proved.
+STORE = "rattle-kept"
 KEPT = re.compile(r"rt: (\w+) is kept: ")
 REFUSED = re.compile(r"rt: (\w+) NOT PROVED")
 NOTE = re.compile(r"rt: (note: .*)")
@@ -57,13 +59,26 @@ def jobs():
 
 
 def store():
-    """Returns the folder beside the toolchain in which `rt` keeps what is proved."""
+    """Returns the folder beside the toolchain in which `rt` keeps what is proved, where it keeps anything."""
     page = subprocess.run(["rt", "doc"], stdin=subprocess.DEVNULL, stdout=subprocess.PIPE, text=True).stdout.strip()
-    return f"{os.path.dirname(os.path.dirname(page))}/rattle-kept"
+    return f"{os.path.dirname(os.path.dirname(page))}/{STORE}"
+
+
+def keeps():
+    """Returns whether `rt` is of a kit that keeps what is proved: then it names the folder in which it does."""
+    rt = os.path.realpath(shutil.which("rt"))
+    for it in (rt, f"{os.path.dirname(rt)}/rtlib.py"):
+        if os.path.isfile(it):
+            with open(it, encoding="utf-8", errors="replace") as file:
+                if STORE in file.read():
+                    return True
+    return False
 
 
 def what_is_kept():
     """Says what a later run finds of this one."""
+    if not keeps():
+        return "NOTHING IS KEPT of a run that does not come to its end, since the rt of this kit keeps nothing"
     at = store()
     if os.access(at if os.path.isdir(at) else os.path.dirname(at), os.W_OK):
         return "what is proved is kept"

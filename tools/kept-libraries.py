@@ -44,6 +44,8 @@ def give(kept, crate):
 
 def main():
     rt = rt_module()
+    if not hasattr(rt, "Kept"):
+        sys.exit("kept-libraries: the rt of this kit keeps no libraries")
     os.chdir(TOP)
     rt.rtlib.Crate, rt.Crate.allowed = rt.Crate, rt.handles_of(TOP)
     crates = [it for it in rt.rtlib.crates_below(TOP) if not it.is_program]

@@ -16,6 +16,9 @@ use std::sync::{Mutex, Wait};
 /// How many bytes of a terminal are copied under the lock at most, while workers work.
 const LONGEST_PART: usize = 65536;
 
+/// The longest wait for more to be shown, where something is shown at each look, in pauses of 100 microseconds.
+const GATHER_PAUSES: u32 = 10;
+
 /// A writer, and what went out to it.
 #[derive(Drop)]
 pub struct Screen<'o, O> {
@@ -53,26 +56,25 @@ impl<'o, O: Write> Screen<'o, O> {
             .add_more(alloc, bench.core(), LONGEST_PART, text)
     }
 
-    /// Writes bytes that are shown and were not written yet, by way of a buffer. The lock is free meanwhile. False where there were no
-    /// such bytes.
+    /// Writes bytes that are shown and were not written yet, by way of a buffer, and returns how many. The lock is free meanwhile.
     fn refresh<N: Naming, R: Wait>(
         &mut self,
         rt: &R,
         alloc: Global,
         bench: &Mutex<Bench<'_, N>>,
         buffer: &mut Vec<u8>,
-    ) -> Result<bool, RunFault> {
+    ) -> Result<usize, RunFault> {
         buffer.clear();
         self.add_part(rt, alloc, bench, buffer)?;
-        if buffer.is_empty() {
-            return Ok(false);
+        if !buffer.is_empty() {
+            self.write(buffer.as_slice())?;
         }
-        self.write(buffer.as_slice())?;
-        Ok(true)
+        Ok(buffer.len())
     }
 
-    /// Writes what is shown, until no worker works any more, and waits (`Backoff`) where nothing new is shown. A fault, of the
-    /// output or for want of memory, is kept, and makes the workers stop.
+    /// Writes what is shown, until no worker works any more, and waits (`Backoff`) where nothing new is shown. While a little is shown at
+    /// each look, the looks grow rarer, up to a millisecond apart: each takes the lock. A fault, of the output or for want of memory, is
+    /// kept, and makes the workers stop.
     pub fn serve<N: Naming, R: Wait>(
         &mut self,
         rt: &R,
@@ -81,13 +83,22 @@ impl<'o, O: Write> Screen<'o, O> {
         watch: &Watch,
     ) {
         let mut rest = Backoff::new();
+        let mut gather = Backoff::up_to(GATHER_PAUSES);
         let mut buffer = Vec::new(alloc);
         for _ in rt.forever() {
             let is_over = watch.is_over();
             match self.refresh(rt, alloc, bench, &mut buffer) {
-                Ok(true) => rest.end(),
-                Ok(false) if is_over => return,
-                Ok(false) => rest.take(rt),
+                Ok(0) if is_over => return,
+                Ok(0) => {
+                    gather.end();
+                    rest.take(rt);
+                }
+                Ok(written) => {
+                    rest.end();
+                    if written < LONGEST_PART && !is_over {
+                        gather.take(rt);
+                    }
+                }
                 Err(fault) => {
                     watch.note(rt, fault);
                     bench.lock(rt).stop();
