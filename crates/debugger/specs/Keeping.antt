@@ -38,15 +38,15 @@ pub record Keeps (program : Program) (replies : List Reply) (place : Place) (kep
   pub room : 64 ≤ breaks.capacity
   pub bound : place.taken ≤ length replies
 
--- What states that are kept count as, in bytes: 1,024 for each, and 4,096 for each page that was copied for one. There is one at each
--- count that is a multiple of 1,024, up to the present count and perhaps beyond, and none has more pages than there are, 2^20.
+-- What states that are kept count as, in bytes: 1,024 for each, and 384 for each block of 256 bytes that was copied for one. There is one
+-- at each count that is a multiple of 1,024, up to the present count and perhaps beyond, and none has more blocks than there are, 2^24.
 pub record CountsKept (count bytes : ℕ) : Type 0 where
   pub states : ℕ
-  pub pages : ℕ
-  pub bytes_are : bytes ≡ 1024 * states + 4096 * pages
+  pub blocks : ℕ
+  pub bytes_are : bytes ≡ 1024 * states + 384 * blocks
   pub enough : count < 1024 * states
   pub few : states ≤ 2 ^ 30 + 1
-  pub within : pages ≤ 2 ^ 20 * states
+  pub within : blocks ≤ 2 ^ 24 * states
 
 -- A session went on by at most max instructions, at least one where nothing keeps it from going on.
 pub record Advances (old : Session) (max : ℕ) (halt : Option Halt) (new : Session) : Type 0 where

@@ -30,8 +30,8 @@ pub const MOST_INSTRUCTIONS: u64 = 1 << 40;
 /// The places at counts that are multiples of this are kept.
 pub(crate) const SPAN: u64 = 1024;
 
-/// The most pages that a state has: those of all addresses.
-const MOST_PAGES: u64 = 1 << 20;
+/// The most blocks of 256 bytes that a state has: those of all addresses.
+const MOST_BLOCKS: u64 = 1 << 24;
 
 /// The most breakpoints that are set at a time.
 const MOST_BREAKS: usize = 64;
@@ -45,10 +45,10 @@ pub struct Debugger {
     replies: Vec<Reply>,
     place: Place,
     /// The places at the counts that are multiples of 1,024, in order: all up to the present one, and those beyond that were
-    /// reached before a rewind. Each shares with the one before it the pages that did not change.
+    /// reached before a rewind. Each shares with the one before it what did not change.
     kept: Vec<KeptPlace>,
-    /// How many pages were copied for them.
-    kept_pages: u64,
+    /// How many blocks of 256 bytes were copied for them.
+    kept_blocks: u64,
     breaks: Slab<u32>,
     reran: u64,
 }
@@ -61,7 +61,7 @@ impl Drop for Debugger {
             replies: _replies,
             place: _place,
             kept: _kept,
-            kept_pages: _,
+            kept_blocks: _,
             breaks: _breaks,
             reran: _,
         } = self;
@@ -93,7 +93,7 @@ impl Debugger {
             taken: 0,
         };
         let first = place.keep(alloc, None)?;
-        let kept_pages = first.own_pages();
+        let kept_blocks = first.own_blocks();
         let kept = vec![in alloc; first]?;
         let breaks = Slab::with_capacity(alloc, MOST_BREAKS)?;
         Ok(Debugger {
@@ -102,7 +102,7 @@ impl Debugger {
             replies,
             place,
             kept,
-            kept_pages,
+            kept_blocks,
             breaks,
             reran: 0,
         })
@@ -231,17 +231,17 @@ impl Debugger {
         self.place.next_access(self.replies.as_slice())
     }
 
-    /// How many bytes the kept states hold, for whoever is to end a run before it fills the host. It counts 1,024 for each state. It
-    /// counts 4,096 for each page that was copied for one, since it was not the same in the state kept before. That is counted as
-    /// states are kept, and only grows. The clause says that it is such a sum, and how many states and pages there are at least and
+    /// How many bytes the kept states hold, for whoever is to end a run before it fills the host. It counts 1,024 for each state, and 384
+    /// for each block of 256 bytes that was copied for one, since it was not the same in the state kept before. That is counted as
+    /// states are kept, and only grows. The clause says that it is such a sum, and how many states and blocks there are at least and
     /// at most; no clause says what is shared.
     pub fn kept_bytes(&self) -> u64
         ensures least { 1024 * (self.now.count / 1024 + 1) ≤ result }
         ensures counts { CountsKept self.now.count result }
     {
         let states = self.kept.len() as u64;
-        let pages = self.kept_pages.min(MOST_PAGES * states);
-        1024 * states + 4096 * pages
+        let blocks = self.kept_blocks.min(MOST_BLOCKS * states);
+        1024 * states + 384 * blocks
     }
 
     pub(crate) fn count(&self) -> u64
@@ -310,9 +310,9 @@ impl Debugger {
             }
             let next = self.place.next(self.alloc, self.replies.as_slice())?;
             let kept = next.keep(self.alloc, self.kept.last())?;
-            let pages = kept.own_pages();
+            let blocks = kept.own_blocks();
             self.kept.push(kept)?;
-            self.kept_pages = self.kept_pages.saturating_add(pages);
+            self.kept_blocks = self.kept_blocks.saturating_add(blocks);
             self.place = next;
             return Ok(None);
         }

@@ -6,7 +6,7 @@ use machine::KeptMachine;
 use std::alloc::{AllocError, Global};
 use std::marker::Model;
 
-/// A place as it was. It shares with the one that was kept before it each page whose bytes did not change.
+/// A place as it was. It shares with the one that was kept before it each block of 256 bytes that did not change.
 pub struct KeptPlace {
     machine: KeptMachine,
     taken: usize,
@@ -55,8 +55,8 @@ impl KeptPlace {
         })
     }
 
-    /// How many pages it holds that nothing else does: right after it was kept, those that were copied for it.
-    pub fn own_pages(&self) -> u64 {
-        self.machine.own_pages() as u64
+    /// How many blocks of 256 bytes it holds that nothing else does: right after it was kept, those that were copied for it.
+    pub fn own_blocks(&self) -> u64 {
+        self.machine.own_blocks() as u64
     }
 }

@@ -93,9 +93,9 @@ impl KeptMachine {
         self.count
     }
 
-    /// How many pages it holds that nothing else does. Right after it was kept these are the pages that were copied for it. A
-    /// measure of memory, of which no clause says anything.
-    pub fn own_pages(&self) -> usize {
-        self.space.own_pages()
+    /// How many blocks of 256 bytes it holds that nothing else does. Right after it was kept these are the blocks that were copied for
+    /// it. A measure of memory, of which no clause says anything.
+    pub fn own_blocks(&self) -> usize {
+        self.space.own_blocks()
     }
 }

@@ -62,9 +62,9 @@ impl KeptSpace {
         })
     }
 
-    /// How many of its pages nothing else holds. Right after it was kept these are the pages that were copied for it; the others it
-    /// shares. A measure of memory, of which no clause says anything.
-    pub fn own_pages(&self) -> usize {
-        self.own.own_pages()
+    /// How many blocks of 256 bytes it holds that nothing else does. Right after it was kept these are the blocks that were copied for
+    /// it; the others it shares. A measure of memory, of which no clause says anything.
+    pub fn own_blocks(&self) -> usize {
+        self.own.own_blocks()
     }
 }

@@ -2,7 +2,8 @@
 ghost use Rattle.std.specs.Prelude.{◌≡◌, IfOk, map};
 ghost use Rattle.std.specs.List.{flat_map};
 
-use crate::part::{Part, are_same_words};
+use crate::kept_page::{KeptPage, kept_page};
+use crate::part::Part;
 use std::alloc::{AllocError, Global};
 use std::marker::Model;
 use std::sync::Arc;
@@ -15,7 +16,7 @@ pub struct KeptPart {
     first: u32,
     read: bool,
     execute: bool,
-    pages: Vec<Arc<Vec<[u8; 4]>>>,
+    pages: Vec<Arc<KeptPage>>,
 }
 
 impl Drop for KeptPart {
@@ -36,9 +37,9 @@ impl Model for KeptPart {
 
     ghost Value = { Pages };
 
-    ghost view = { λ p. record { first = p.first; read = p.read; execute = p.execute; words = flat_map (λ a. a.value.items) p.pages.items } };
+    ghost view = { λ p. record { first = p.first; read = p.read; execute = p.execute; words = flat_map (λ a. a.value) p.pages.items } };
 
-    ghost invariant = { λ p. p.first + length (flat_map (λ a. a.value.items) p.pages.items) ≤ 2 ^ 30 };
+    ghost invariant = { λ p. p.first + length (flat_map (λ a. a.value) p.pages.items) ≤ 2 ^ 30 };
 }
 
 impl Part {
@@ -46,7 +47,7 @@ impl Part {
     pub fn keep(&self, alloc: Global, before: Option<&KeptPart>) -> Result<KeptPart, AllocError>
         ensures { IfOk result (λ k. k ≡ self.now) }
     {
-        let before: &[Arc<Vec<[u8; 4]>>] = match before {
+        let before: &[Arc<KeptPage>] = match before {
             Some(part) => part.pages.as_slice(),
             None => &[],
         };
@@ -74,12 +75,12 @@ impl KeptPart {
 }
 
 impl KeptPart {
-    /// How many of its pages nothing else holds. Right after it was kept these are the pages that were copied for it.
-    pub fn own_pages(&self) -> usize {
+    /// How many of its blocks nothing else holds. Right after it was kept these are the blocks that were copied for it.
+    pub fn own_blocks(&self) -> usize {
         let mut count: usize = 0;
         for page in &self.pages {
             if Arc::strong_count(page) == 1 {
-                count = count.saturating_add(1);
+                count = count.saturating_add(page.own_blocks());
             }
         }
         count
@@ -89,9 +90,9 @@ impl KeptPart {
 fn kept_pages(
     alloc: Global,
     words: &[[u8; 4]],
-    before: &[Arc<Vec<[u8; 4]>>],
-) -> Result<Vec<Arc<Vec<[u8; 4]>>>, AllocError>
-    ensures { IfOk result (λ v. flat_map (λ a. a.value.items) v.items ≡ words.now) }
+    before: &[Arc<KeptPage>],
+) -> Result<Vec<Arc<KeptPage>>, AllocError>
+    ensures { IfOk result (λ v. flat_map (λ a. a.value) v.items ≡ words.now) }
 {
     let mut pages = Vec::with_capacity(alloc, words.len().div_ceil(PAGE))?;
     for (i, page) in words.chunks(PAGE).enumerate() {
@@ -100,26 +101,12 @@ fn kept_pages(
     Ok(pages)
 }
 
-/// The words of a page: shared with the one that was kept before, where they are the same.
-fn kept_page(
-    alloc: Global,
-    words: &[[u8; 4]],
-    before: Option<&Arc<Vec<[u8; 4]>>>,
-) -> Result<Arc<Vec<[u8; 4]>>, AllocError>
-    ensures { IfOk result (λ a. a.value.items ≡ words.now) }
-{
-    match before {
-        Some(page) if are_same_words(page.as_slice(), words) => Arc::try_clone(page),
-        _ => Ok(Arc::new(alloc, Vec::from_slice(alloc, words)?)?),
-    }
-}
-
-fn words_of(alloc: Global, pages: &[Arc<Vec<[u8; 4]>>]) -> Result<Vec<[u8; 4]>, AllocError>
-    ensures { IfOk result (λ v. v.items ≡ flat_map (λ a. a.value.items) pages.now) }
+fn words_of(alloc: Global, pages: &[Arc<KeptPage>]) -> Result<Vec<[u8; 4]>, AllocError>
+    ensures { IfOk result (λ v. v.items ≡ flat_map (λ a. a.value) pages.now) }
 {
     let mut words = Vec::with_capacity(alloc, pages.len().saturating_mul(PAGE))?;
     for page in pages {
-        words.extend_from_slice(page.as_slice())?;
+        page.append_to(&mut words)?;
     }
     Ok(words)
 }

@@ -66,11 +66,14 @@ impl KeptParts {
 }
 
 impl KeptParts {
-    /// How many of their pages nothing else holds.
-    pub fn own_pages(&self) -> usize {
-        let mut count = self.near.own_pages().saturating_add(self.next.own_pages());
+    /// How many of their blocks nothing else holds.
+    pub fn own_blocks(&self) -> usize {
+        let mut count = self
+            .near
+            .own_blocks()
+            .saturating_add(self.next.own_blocks());
         for part in &self.more {
-            count = count.saturating_add(part.own_pages());
+            count = count.saturating_add(part.own_blocks());
         }
         count
     }

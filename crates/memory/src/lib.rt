@@ -9,6 +9,7 @@ mod comparing;
 mod copying;
 mod fault;
 mod kept;
+mod kept_page;
 mod kept_part;
 mod kept_parts;
 mod near;

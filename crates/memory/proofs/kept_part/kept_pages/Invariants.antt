@@ -5,4 +5,4 @@ use Rattle.std.specs.Slice.Iter.{chunks_rest}
 use Rattle.memory.proofs.kept_part.kept_pages.Given as goal
 
 abbrev pub invariant-loop-i : goal.invariant-loop-i
-invariant-loop-i l = flat_map (λ a. a.value.items) l.pages.items ++ chunks_rest l.i-iterator.iter ≡ l.words
+invariant-loop-i l = flat_map (λ a. a.value) l.pages.items ++ chunks_rest l.i-iterator.iter ≡ l.words

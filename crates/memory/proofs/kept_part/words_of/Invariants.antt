@@ -4,4 +4,4 @@ use Rattle.std.specs.List.{flat_map}
 use Rattle.memory.proofs.kept_part.words_of.Given as goal
 
 abbrev pub invariant-loop-page : goal.invariant-loop-page
-invariant-loop-page l = l.words.items ≡ flat_map (λ a. a.value.items) (take l.page-index l.pages)
+invariant-loop-page l = l.words.items ≡ flat_map (λ a. a.value) (take l.page-index l.pages)

@@ -10,10 +10,10 @@ returns-clause-counts c =
     let same : c.self.inside.place.machine.count ≡ c.args.self.now.count = ap (λ (s : Session). s.count) c.self.view_is in
     let enough : c.self.inside.place.machine.count < 1024 * length c.self.inside.kept.items = c.self.invariant.enough in
     let few : length c.self.inside.kept.items ≤ 2 ^ 30 + 1 = c.self.invariant.few in
-    let most = c.min-pages.ensures in
+    let most = c.min-blocks.ensures in
     record {
       states = c.len-states.result;
-      pages = c.min-pages.result;
+      blocks = c.min-blocks.result;
       bytes_are = omega arith;
       enough = omega (arith, size, len, same, enough);
       few = omega (arith, size, len, few);

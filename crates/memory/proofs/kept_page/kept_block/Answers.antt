@@ -1,5 +1,5 @@
 use Rattle.std.proofs.Common.{rules}
-use Rattle.memory.proofs.kept_part.kept_page.Goals as goal
+use Rattle.memory.proofs.kept_page.kept_block.Goals as goal
 
 -- Without an answer this would be proved too; with one, an edit that breaks it is refused sooner.
 pub returns-in-Some : goal.returns-in-Some
