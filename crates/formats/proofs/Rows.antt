@@ -28,26 +28,26 @@ unfolding instr_of
 at_row w o f g is_o is_f is_g = rw (← is_o, ← is_f, ← is_g) refl
 
 -- each operator is found by its bits
-register-found : (x : Arithmetic) → found registers (register_row x).funct3 (register_row x).funct7 ≡ Some x
-register-found x = elim x [ Add ↦ refl | Sub ↦ refl | Sll ↦ refl | Slt ↦ refl | Sltu ↦ refl | Xor ↦ refl | Srl ↦ refl | Sra ↦ refl | Or ↦ refl | And ↦ refl | Mul ↦ refl | Mulh ↦ refl | Mulhsu ↦ refl | Mulhu ↦ refl | Div ↦ refl | Divu ↦ refl | Rem ↦ refl | Remu ↦ refl ]
+register-found : (x : Arithmetic) → found (with_bits register_row registers) (register_row x).funct3 (register_row x).funct7 ≡ Some x
+register-found x = elim x as (λ (x : Arithmetic). found (with_bits register_row registers) (register_row x).funct3 (register_row x).funct7 ≡ Some x) [ Add ↦ refl | Sub ↦ refl | Sll ↦ refl | Slt ↦ refl | Sltu ↦ refl | Xor ↦ refl | Srl ↦ refl | Sra ↦ refl | Or ↦ refl | And ↦ refl | Mul ↦ refl | Mulh ↦ refl | Mulhsu ↦ refl | Mulhu ↦ refl | Div ↦ refl | Divu ↦ refl | Rem ↦ refl | Remu ↦ refl ]
 
-load-found : (x : LoadOperator) → found loads (load_row x).funct3 0 ≡ Some x
-load-found x = elim x [ Lb ↦ refl | Lh ↦ refl | Lw ↦ refl | Lbu ↦ refl | Lhu ↦ refl ]
+load-found : (x : LoadOperator) → found (with_bits load_row loads) (load_row x).funct3 0 ≡ Some x
+load-found x = elim x as (λ (x : LoadOperator). found (with_bits load_row loads) (load_row x).funct3 0 ≡ Some x) [ Lb ↦ refl | Lh ↦ refl | Lw ↦ refl | Lbu ↦ refl | Lhu ↦ refl ]
 
-store-found : (x : Width) → found stores (store_row x).funct3 0 ≡ Some x
-store-found x = elim x [ width.Byte ↦ refl | width.Half ↦ refl | width.Word ↦ refl ]
+store-found : (x : Width) → found (with_bits store_row stores) (store_row x).funct3 0 ≡ Some x
+store-found x = elim x as (λ (x : Width). found (with_bits store_row stores) (store_row x).funct3 0 ≡ Some x) [ width.Byte ↦ refl | width.Half ↦ refl | width.Word ↦ refl ]
 
-branch-found : (x : Condition) → found branches (branch_row x).funct3 0 ≡ Some x
-branch-found x = elim x [ Equal ↦ refl | NotEqual ↦ refl | Less ↦ refl | NotLess ↦ refl | Below ↦ refl | NotBelow ↦ refl ]
+branch-found : (x : Condition) → found (with_bits branch_row branches) (branch_row x).funct3 0 ≡ Some x
+branch-found x = elim x as (λ (x : Condition). found (with_bits branch_row branches) (branch_row x).funct3 0 ≡ Some x) [ Equal ↦ refl | NotEqual ↦ refl | Less ↦ refl | NotLess ↦ refl | Below ↦ refl | NotBelow ↦ refl ]
 
 -- and those of opcode 0010011 by theirs
 immediate-found : (w g : ℕ) (x : ImmediateOperator) → row_of w 0b0010011 (immediate_row x).funct3 g ≡ Some (instr.Immediate x (rd_of w) (rs1_of w) (immediate_i w))
 unfolding row_of immediate_of
-immediate-found w g x = elim x [ Addi ↦ refl | Slti ↦ refl | Sltiu ↦ refl | Xori ↦ refl | Ori ↦ refl | Andi ↦ refl ]
+immediate-found w g x = elim x as (λ (x : ImmediateOperator). row_of w 0b0010011 (immediate_row x).funct3 g ≡ Some (instr.Immediate x (rd_of w) (rs1_of w) (immediate_i w))) [ Addi ↦ refl | Slti ↦ refl | Sltiu ↦ refl | Xori ↦ refl | Ori ↦ refl | Andi ↦ refl ]
 
 shift-found : (w : ℕ) (x : ShiftOperator) → row_of w 0b0010011 (shift_row x).funct3 (shift_row x).funct7 ≡ Some (instr.Shift x (rd_of w) (rs1_of w) (rs2_of w))
 unfolding row_of shift_of
-shift-found w x = elim x [ Slli ↦ refl | Srli ↦ refl | Srai ↦ refl ]
+shift-found w x = elim x as (λ (x : ShiftOperator). row_of w 0b0010011 (shift_row x).funct3 (shift_row x).funct7 ≡ Some (instr.Shift x (rd_of w) (rs1_of w) (rs2_of w))) [ Slli ↦ refl | Srli ↦ refl | Srai ↦ refl ]
 
 -- a word that means an instruction has it in the table
 pub means-instr_of : (w : ℕ) (i : Instr) → Means w i → instr_of w ≡ Some i
@@ -56,12 +56,12 @@ means-instr_of w (instr.Lui rd imm) (o, a, b) = rw (a, b) (at_row w 0b0110111 _ 
 means-instr_of w (instr.Auipc rd imm) (o, a, b) = rw (a, b) (at_row w 0b0010111 _ _ o refl refl)
 means-instr_of w (instr.Jal rd offset) (o, a, b) = rw (a, b) (at_row w 0b1101111 _ _ o refl refl)
 means-instr_of w (instr.Jalr rd rs1 imm) (o, f, a, b, c) = rw (a, b, c) (at_row w 0b1100111 0b000 _ o f refl)
-means-instr_of w (instr.Branch x rs1 rs2 offset) (o, f, a, b, c) = rw (a, b, c) (at_row w 0b1100011 (branch_row x).funct3 _ o f refl ∙ ap (option_map (λ x. instr.Branch x (rs1_of w) (rs2_of w) (immediate_b w))) (branch-found x))
-means-instr_of w (instr.Load x rd rs1 imm) (o, f, a, b, c) = rw (a, b, c) (at_row w 0b0000011 (load_row x).funct3 _ o f refl ∙ ap (option_map (λ x. instr.Load x (rd_of w) (rs1_of w) (immediate_i w))) (load-found x))
-means-instr_of w (instr.Store x rs1 rs2 imm) (o, f, a, b, c) = rw (a, b, c) (at_row w 0b0100011 (store_row x).funct3 _ o f refl ∙ ap (option_map (λ x. instr.Store x (rs1_of w) (rs2_of w) (immediate_s w))) (store-found x))
+means-instr_of w (instr.Branch x rs1 rs2 offset) (o, f, a, b, c) = rw (a, b, c) (at_row w 0b1100011 (branch_row x).funct3 _ o f refl ∙ ap (option_map (λ (x : Condition). instr.Branch x (rs1_of w) (rs2_of w) (immediate_b w))) (branch-found x))
+means-instr_of w (instr.Load x rd rs1 imm) (o, f, a, b, c) = rw (a, b, c) (at_row w 0b0000011 (load_row x).funct3 _ o f refl ∙ ap (option_map (λ (x : LoadOperator). instr.Load x (rd_of w) (rs1_of w) (immediate_i w))) (load-found x))
+means-instr_of w (instr.Store x rs1 rs2 imm) (o, f, a, b, c) = rw (a, b, c) (at_row w 0b0100011 (store_row x).funct3 _ o f refl ∙ ap (option_map (λ (x : Width). instr.Store x (rs1_of w) (rs2_of w) (immediate_s w))) (store-found x))
 means-instr_of w (instr.Immediate x rd rs1 imm) (o, f, a, b, c) = rw (a, b, c) (at_row w 0b0010011 (immediate_row x).funct3 _ o f refl ∙ immediate-found w _ x)
 means-instr_of w (instr.Shift x rd rs1 amount) (o, f, g, a, b, c) = rw (a, b, c) (at_row w 0b0010011 (shift_row x).funct3 (shift_row x).funct7 o f g ∙ shift-found w x)
-means-instr_of w (instr.Register x rd rs1 rs2) (o, f, g, a, b, c) = rw (a, b, c) (at_row w 0b0110011 (register_row x).funct3 (register_row x).funct7 o f g ∙ ap (option_map (λ x. instr.Register x (rd_of w) (rs1_of w) (rs2_of w))) (register-found x))
+means-instr_of w (instr.Register x rd rs1 rs2) (o, f, g, a, b, c) = rw (a, b, c) (at_row w 0b0110011 (register_row x).funct3 (register_row x).funct7 o f g ∙ ap (option_map (λ (x : Arithmetic). instr.Register x (rd_of w) (rs1_of w) (rs2_of w))) (register-found x))
 means-instr_of w instr.Fence (o, f) = at_row w 0b0001111 0b000 _ o f refl
 means-instr_of w instr.FenceI (o, f) = at_row w 0b0001111 0b001 _ o f refl
 means-instr_of w instr.Ecall e = let P : ℕ → Type 0 = λ w. instr_of w ≡ Some instr.Ecall in subst P (sym e) (at_row 0x00000073 _ _ _ refl refl refl)
@@ -81,8 +81,8 @@ same : (w : ℕ) (i j : Instr) → Means w i → Some i ≡ Some j → Means w j
 same w i j m e = let same : i ≡ j = cc in let P : Instr → Type 0 = λ i. Means w i in subst P same m
 
 -- an illegal word has no row
-none : (P : Type 0) (i : Instr) → None ≡ Some i → P
-none P i e = absurd (cc)
+none : {X : Type 0} (P : Type 0) (x : X) → None ≡ Some x → P
+none P x e = absurd (cc)
 
 both : (a b : Bool) → (a && b) ≡ true → (a ≡ true) × (b ≡ true)
 both true b e = (refl, e)
@@ -90,7 +90,7 @@ both false b e = cc
 
 -- an operator that is found has these bits
 found-bits : {X : Type 0} (row : X → Row) (xs : List X) (f g : ℕ) (x : X) → found (with_bits row xs) f g ≡ Some x → ((row x).funct3 ≡ f) × ((row x).funct7 ≡ g)
-found-bits {X} row [] f g x e = absurd (cc)
+found-bits {X} row [] f g x = none _ x
 found-bits {X} row (y ∷ xs) f g x =
     elim (((row y).funct3 == f) && ((row y).funct7 == g)) as (λ b. (((row y).funct3 == f) && ((row y).funct7 == g)) ≡ b → (if b then Some y else found (with_bits row xs) f g) ≡ Some x → ((row x).funct3 ≡ f) × ((row x).funct7 ≡ g)) [
       | true ↦ λ is e.
@@ -111,7 +111,7 @@ by_found {X} P row xs f g make i meant =
 
 shift-means : (w : ℕ) (i : Instr) → opcode w ≡ 0b0010011 → shift_of (funct3 w) (funct7 w) (rd_of w) (rs1_of w) (rs2_of w) ≡ Some i → Means w i
 unfolding shift_of
-shift-means w i o = by_found _ shift_row _ (funct3 w) (funct7 w) _ i (λ x f g. same w (instr.Shift x _ _ _) i (o, f, g, refl, refl, refl))
+shift-means w i o = by_found _ shift_row shifts (funct3 w) (funct7 w) (λ (x : ShiftOperator). instr.Shift x (rd_of w) (rs1_of w) (rs2_of w)) i (λ x f g. same w (instr.Shift x _ _ _) i (o, f, g, refl, refl, refl))
 
 -- what a word has in the table is what it means
 pub instr_of-means : (w : ℕ) (i : Instr) → instr_of w ≡ Some i → Means w i
@@ -121,14 +121,14 @@ instr_of-means w i =
     by_test _ (opcode w) 0b0010111 _ _ i (λ o. same w (instr.Auipc _ _) i (o, refl, refl)) (
     by_test _ (opcode w) 0b1101111 _ _ i (λ o. same w (instr.Jal _ _) i (o, refl, refl)) (
     by_test _ (opcode w) 0b1100111 _ _ i (λ o. by_test _ (funct3 w) 0b000 _ _ i (λ f. same w (instr.Jalr _ _ _) i (o, f, refl, refl, refl)) (none _ i)) (
-    by_test _ (opcode w) 0b1100011 _ _ i (λ o. by_found _ branch_row _ (funct3 w) 0 _ i (λ x f g. same w (instr.Branch x _ _ _) i (o, f, refl, refl, refl))) (
-    by_test _ (opcode w) 0b0000011 _ _ i (λ o. by_found _ load_row _ (funct3 w) 0 _ i (λ x f g. same w (instr.Load x _ _ _) i (o, f, refl, refl, refl))) (
-    by_test _ (opcode w) 0b0100011 _ _ i (λ o. by_found _ store_row _ (funct3 w) 0 _ i (λ x f g. same w (instr.Store x _ _ _) i (o, f, refl, refl, refl))) (
+    by_test _ (opcode w) 0b1100011 _ _ i (λ o. by_found _ branch_row branches (funct3 w) 0 (λ (x : Condition). instr.Branch x (rs1_of w) (rs2_of w) (immediate_b w)) i (λ x f g. same w (instr.Branch x _ _ _) i (o, f, refl, refl, refl))) (
+    by_test _ (opcode w) 0b0000011 _ _ i (λ o. by_found _ load_row loads (funct3 w) 0 (λ (x : LoadOperator). instr.Load x (rd_of w) (rs1_of w) (immediate_i w)) i (λ x f g. same w (instr.Load x _ _ _) i (o, f, refl, refl, refl))) (
+    by_test _ (opcode w) 0b0100011 _ _ i (λ o. by_found _ store_row stores (funct3 w) 0 (λ (x : Width). instr.Store x (rs1_of w) (rs2_of w) (immediate_s w)) i (λ x f g. same w (instr.Store x _ _ _) i (o, f, refl, refl, refl))) (
     by_test _ (opcode w) 0b0010011 _ _ i (λ o.
     by_test _ (funct3 w) 0b001 _ _ i (λ _. shift-means w i o) (
     by_test _ (funct3 w) 0b101 _ _ i (λ _. shift-means w i o) (
-    by_found _ immediate_row _ (funct3 w) 0 _ i (λ x f g. same w (instr.Immediate x _ _ _) i (o, f, refl, refl, refl))))) (
-    by_test _ (opcode w) 0b0110011 _ _ i (λ o. by_found _ register_row _ (funct3 w) (funct7 w) _ i (λ x f g. same w (instr.Register x _ _ _) i (o, f, g, refl, refl, refl))) (
+    by_found _ immediate_row immediates (funct3 w) 0 (λ (x : ImmediateOperator). instr.Immediate x (rd_of w) (rs1_of w) (immediate_i w)) i (λ x f g. same w (instr.Immediate x _ _ _) i (o, f, refl, refl, refl))))) (
+    by_test _ (opcode w) 0b0110011 _ _ i (λ o. by_found _ register_row registers (funct3 w) (funct7 w) (λ (x : Arithmetic). instr.Register x (rd_of w) (rs1_of w) (rs2_of w)) i (λ x f g. same w (instr.Register x _ _ _) i (o, f, g, refl, refl, refl))) (
     by_test _ (opcode w) 0b0001111 _ _ i (λ o. by_test _ (funct3 w) 0b000 _ _ i (λ f. same w instr.Fence i (o, f)) (by_test _ (funct3 w) 0b001 _ _ i (λ f. same w instr.FenceI i (o, f)) (none _ i))) (
     by_test _ w 0x00000073 _ _ i (λ e. same w instr.Ecall i e) (
     by_test _ w 0x00100073 _ _ i (λ e. same w instr.Ebreak i e) (
